@@ -1,0 +1,66 @@
+ghost use Rattle.std.specs.Prelude.{◌≡◌};
+
+use sessions::Request;
+use std::alloc::AllocError;
+use std::marker::Model;
+
+/// The requests of a batch, in its order.
+#[derive(Debug, Drop)]
+pub struct Requests {
+    requests: Vec<Request>,
+}
+
+impl Model for Requests {
+    ghost use Rattle.std.specs.Prelude.{List};
+    ghost use Rattle.sessions.specs.declared.request.Request.{Request};
+
+    ghost Value = { List Request };
+
+    ghost view = { λ a. a.requests.items };
+}
+
+impl Requests {
+    pub fn new(requests: Vec<Request>) -> Requests
+        ensures { result ≡ requests.items }
+    {
+        Requests { requests }
+    }
+
+    pub fn as_slice(&self) -> &[Request]
+        ensures { result.now ≡ self.now }
+    {
+        self.requests.as_slice()
+    }
+}
+
+impl Clone for Requests {
+    ghost is_clone = { λ requests copy. copy ≡ requests };
+
+    fn clone(&self) -> Result<Requests, AllocError> {
+        Ok(Requests {
+            requests: self.requests.clone()?,
+        })
+    }
+}
+
+/// Requests that are executed together.
+#[derive(Debug, Drop)]
+pub struct Batch {
+    pub epoch: u64,
+    pub n: u64,
+    pub moment: u32,
+    pub requests: Requests,
+}
+
+impl Clone for Batch {
+    ghost is_clone = { λ batch copy. copy ≡ batch };
+
+    fn clone(&self) -> Result<Batch, AllocError> {
+        Ok(Batch {
+            epoch: self.epoch,
+            n: self.n,
+            moment: self.moment,
+            requests: self.requests.clone()?,
+        })
+    }
+}

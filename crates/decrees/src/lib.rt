@@ -1,0 +1,13 @@
+//! What verifiers decide, and the letters that they send.
+#![tactic(auto)]
+
+use token::Token;
+
+/// What the verifiers decide for one place.
+#[derive(Clone, Copy, Debug, PartialEq, Eq)]
+pub enum Decree {
+    /// The state after batch `n` is the one with this token.
+    Commit { n: u64, token: Token },
+    /// What was executed since the last Commit is undone, and the next epoch begins.
+    Rollback,
+}

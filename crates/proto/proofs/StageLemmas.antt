@@ -1,0 +1,121 @@
+-- What a step of a reader gives.
+use Rattle.std.proofs.Common.{◌≡◌, ℕ, zero, suc, ◌+◌, ◌-◌, ◌<◌, ◌≤◌, Bool, true, false, List, [], ◌∷◌, ◌++◌, length, take, drop, replicate, min, Some, None, Option, refl, sym, ap, ◌∙◌, arith, if◌then◌else◌, cond, Result, Ok, Err, OnOk}
+use Rattle.std.specs.Prelude.{nat_lt}
+use Rattle.std.proofs.lemmas.List.{take_all, append_assoc, append-nil, take_more, drop_at, take_at, length-append, length-take, drop_all}
+use Rattle.std.proofs.lemmas.Bool.Decides.{nat_tests}
+use Rattle.proto.specs.Line.{meaning}
+use Rattle.proto.specs.Grammar.{next_turn, turn_of_line, block_turn, line_limit, block_limit}
+use Rattle.proto.specs.Reader.{kept_of, blanked}
+use Rattle.proto.specs.Stage.{HasNoNewline, InLine, InBlock, StepGives, Takes, Cuts}
+use Rattle.proto.specs.declared.stage.Stage.{Stage}
+use Rattle.proto.specs.declared.turn.Turn.{Turn}
+use Rattle.proto.specs.declared.line.Header.{Header}
+use Rattle.proto.specs.declared.line.Line.TheVariants.{Whole, Opens}
+use Rattle.proto.proofs.GrammarLemmas.{next_line, next_none, kept_plain, kept_line}
+use Rattle.proto.proofs.BlockLemmas.{zeros, more_dropped, held_after, next_more, kept_more, next_done}
+
+only_line : (line block : List ℕ) (d : ℕ) → InLine line block d → line ++ (zeros d ++ block) ≡ line
+only_line line block d i = rw (i.none_dropped, i.no_block) (append-nil line)
+
+abbrev stage : List ℕ → Option Header → List ℕ → ℕ → Stage
+stage line header block d = record { line = line; header = header; block = block; dropped = d }
+
+-- what follows from a call's Ok
+pub on_ok : {T E : Type 0} (r : Result T E) (P Q : Type 0) → (P → Q) → OnOk r P → OnOk r Q
+on_ok (Ok x) P Q f h = f h
+on_ok (Err e) P Q f h = tt
+
+-- a step that takes all of the piece
+pub takes_gives : (bytes piece : List ℕ) (new : Stage) → 0 < length piece → Takes bytes piece new → StepGives bytes piece None (length piece) new
+takes_gives bytes piece new some t =
+    let all : take (length piece) piece ≡ piece = take_all (length piece) piece (omega arith) in (
+      some,
+      omega arith,
+      ap (λ p. next_turn (bytes ++ p)) all ∙ t.0,
+      t.1 ∙ sym (ap (λ p. kept_of (bytes ++ p)) all),
+      λ more. absurd (omega arith),
+    )
+
+module _ (line block : List ℕ) (d : ℕ) (i : InLine line block d) (piece : List ℕ) where
+  pub open_takes : (header : Option Header) (new : List ℕ) → HasNoNewline (line ++ piece) → length (line ++ piece) < line_limit → new ≡ line ++ piece
+      → Takes (line ++ (zeros d ++ block)) piece (stage new header block d)
+  open_takes header new h l e =
+      let all : (line ++ (zeros d ++ block)) ++ piece ≡ line ++ piece = ap (λ ys. ys ++ piece) (only_line line block d i) in
+      let kept : new ++ (zeros d ++ block) ≡ new = rw (i.none_dropped, i.no_block) (append-nil new) in
+      (ap next_turn all ∙ next_none (line ++ piece) h l, kept ∙ e ∙ sym (ap kept_of all ∙ kept_plain (line ++ piece) h))
+
+  pub open_gives : (header : Option Header) (new : List ℕ) → 0 < length piece → HasNoNewline (line ++ piece) → length (line ++ piece) < line_limit → new ≡ line ++ piece
+      → StepGives (line ++ (zeros d ++ block)) piece None (length piece) (stage new header block d)
+  open_gives header new some h l e = takes_gives (line ++ (zeros d ++ block)) piece (stage new header block d) some (open_takes header new h l e)
+
+  -- the line with its end in the piece
+  cut_line : (at : ℕ) → piece ≡ take at piece ++ 10 ∷ drop (at + 1) piece → (line ++ (zeros d ++ block)) ++ piece ≡ (line ++ take at piece) ++ 10 ∷ drop (at + 1) piece
+  cut_line at e = ap (λ ys. ys ++ piece) (only_line line block d i) ∙ ap (λ ys. line ++ ys) e ∙ sym (append_assoc line (take at piece) (10 ∷ drop (at + 1) piece))
+
+  pub whole_gives : (header : Option Header) (at : ℕ) (turn : Turn) → at < length piece → HasNoNewline (line ++ take at piece) → length (line ++ take at piece) < line_limit
+      → piece ≡ take at piece ++ 10 ∷ drop (at + 1) piece → meaning (line ++ take at piece) ≡ Whole turn
+      → StepGives (line ++ (zeros d ++ block)) piece (Some turn) (at + 1) (stage [] header block d)
+  whole_gives header at turn there h l e is = (
+    omega arith,
+    omega arith,
+    ap next_turn (cut_line at e) ∙ next_line (line ++ take at piece) (drop (at + 1) piece) h l ∙ ap (λ m. turn_of_line m (drop (at + 1) piece)) is,
+    rw (i.none_dropped, i.no_block) refl,
+  )
+
+  pub opens_gives : (at : ℕ) (header : Header) (new : List ℕ) → at < length piece → HasNoNewline (line ++ take at piece) → length (line ++ take at piece) < line_limit
+      → piece ≡ take at piece ++ 10 ∷ drop (at + 1) piece → meaning (line ++ take at piece) ≡ Opens header → new ≡ (line ++ take at piece) ++ 10 ∷ []
+      → StepGives (line ++ (zeros d ++ block)) piece None (at + 1) (stage new (Some header) block d)
+  opens_gives at header new there h l e is made =
+      let front : take (at + 1) piece ≡ take at piece ++ 10 ∷ [] = up_to at there e in
+      let all : (line ++ (zeros d ++ block)) ++ take (at + 1) piece ≡ (line ++ take at piece) ++ 10 ∷ [] =
+      ap (λ ys. ys ++ take (at + 1) piece) (only_line line block d i) ∙ ap (λ ys. line ++ ys) front ∙ sym (append_assoc line (take at piece) (10 ∷ [])) in
+      let mine : new ++ (zeros d ++ block) ≡ (line ++ take at piece) ++ 10 ∷ [] = rw (i.none_dropped, i.no_block) (append-nil new ∙ made) in (
+        omega arith,
+        omega arith,
+        ap next_turn all ∙ next_line (line ++ take at piece) [] h l ∙ ap (λ m. turn_of_line m []) is ∙ none_yet header.size,
+        mine ∙ sym (ap kept_of all ∙ kept_line (line ++ take at piece) [] h l ∙ ap (λ m. blanked m (line ++ take at piece) []) is ∙ same_blank header.size),
+        λ more. mine ∙ sym all,
+      )
+    where
+      up_to : (at : ℕ) → at < length piece → piece ≡ take at piece ++ 10 ∷ drop (at + 1) piece → take (at + 1) piece ≡ take at piece ++ 10 ∷ []
+      up_to at there e = ap (take (at + 1)) (e ∙ sym (append_assoc (take at piece) (10 ∷ []) (drop (at + 1) piece)))
+          ∙ take_at (take at piece ++ 10 ∷ []) (drop (at + 1) piece) (at + 1) (length-append (take at piece) (10 ∷ []) ∙ rw (length-take at piece) (grind (arith, nat_tests)))
+
+      none_yet : (size : ℕ) → turn_of_line (Opens header) [] ≡ None
+      none_yet size = grind (arith, nat_tests)
+
+      same_blank : (size : ℕ) → blanked (Opens header) (line ++ take at piece) [] ≡ (line ++ take at piece) ++ 10 ∷ []
+      same_blank size = by (nat_lt block_limit header.size)
+        where
+          text : List ℕ
+          text = line ++ take at piece
+
+          least : min header.size 0 ≡ 0
+          least = grind (arith, nat_tests)
+
+          by : (big : Bool) → (if big then text ++ 10 ∷ (zeros (min header.size 0) ++ drop header.size []) else text ++ 10 ∷ []) ≡ text ++ 10 ∷ []
+          by true = rw (least, drop_all {X = ℕ} header.size [] (omega arith)) refl
+          by false = refl
+
+-- so many bytes are only counted
+abbrev pub skipped : Header → ℕ → ℕ → ℕ
+skipped h d n = if nat_lt block_limit h.size then min (h.size - d) n else 0
+
+module _ (h : Header) (line block : List ℕ) (d : ℕ) (b : InBlock h line block d) where
+  pub more_takes : (piece : List ℕ) → d + length block + length piece < h.size + 2
+      → Takes (line ++ (zeros d ++ block)) piece (stage line (Some h) (block ++ drop (skipped h d (length piece)) piece) (d + skipped h d (length piece)))
+  more_takes piece l = (next_more h line block d b piece l, sym (kept_more h line block d b piece))
+
+module _ (h : Header) (line block : List ℕ) (d : ℕ) (b : InBlock h line block d) (piece : List ℕ) (n : ℕ) (within : n ≤ length piece) where
+  counted : more_dropped h d (take n piece) ≡ skipped h d n
+  counted = ap (λ k. if nat_lt block_limit h.size then min (h.size - d) k else 0) (length-take n piece ∙ grind (arith, nat_tests))
+
+  pub done_gives : (turn : Turn) (held : List ℕ) → 0 < n → d + length block + n ≡ h.size + 2
+      → held ≡ block ++ drop (skipped h d n) (take n piece) → turn ≡ block_turn h (take (length held - 2) held) (drop (length held - 2) held)
+      → StepGives (line ++ (zeros d ++ block)) piece (Some turn) n (stage [] None [] 0)
+  done_gives turn held some exact same is = (
+    some,
+    within,
+    next_done h line block d b piece n exact within ∙ rw (counted, sym same, sym is) refl,
+    refl,
+  )

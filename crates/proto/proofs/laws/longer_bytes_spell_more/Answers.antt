@@ -1,0 +1,5 @@
+use Rattle.proto.proofs.SpellsLemmas.{spells_longer}
+use Rattle.proto.proofs.laws.longer_bytes_spell_more.Goals as goal
+
+pub returns : goal.returns
+returns c = spells_longer

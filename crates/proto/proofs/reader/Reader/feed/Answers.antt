@@ -1,0 +1,23 @@
+use Rattle.std.proofs.Common.{◌≡◌, ◌≤◌, ◌++◌, length, sym, ap, ◌∙◌, rules, subst}
+use Rattle.proto.specs.Reader.{Reads}
+use Rattle.proto.specs.Stage.{IsStage, bytes_of, reading}
+use Rattle.proto.specs.declared.stage.Stage.{Stage}
+use Rattle.proto.proofs.ReaderLemmas.{closed_keeps, held_within}
+use Rattle.proto.proofs.reader.Reader.feed.Goals as goal
+
+pub read_piece-requires : goal.read_piece-requires
+read_piece-requires c =
+    let same : c.in_ok-stage.stage ≡ c.self.inside.stage = search rules in
+    subst IsStage (sym same) c.self.invariant.0
+
+pub returns-in_err-turns-clause-held : goal.returns-in_err-turns-clause-held
+returns-in_err-turns-clause-held c = subst (λ r. r.held ≤ 67586) c.self.view_is (held_within c.self.inside.stage c.self.invariant.0)
+
+pub invariant_of-self-2 : goal.invariant_of-self-2
+invariant_of-self-2 c = (c.in_ok-turns.ensures.stage, λ closed. closed_keeps _ c.in_ok-turns.turns.items _ c.in_ok-turns.ensures.reads closed)
+
+pub returns-clause-turns : goal.returns-clause-turns
+returns-clause-turns c = λ is_open.
+    let same : c.in_ok-stage.stage ≡ c.self.inside.stage = search rules in
+    let kept : bytes_of c.in_ok-stage.stage ≡ c.args.self.now.kept = ap bytes_of same ∙ ap (λ r. r.kept) c.self.view_is in
+    subst (λ k. Reads (k ++ c.args.piece.now) c.in_ok-turns.turns.items (reading c.read_piece.new.stage c.in_ok-turns.closed)) kept c.in_ok-turns.ensures.reads

@@ -1,0 +1,97 @@
+-- The inside of a reader.
+use Rattle.std.specs.Prelude.{◌≡◌, ℕ, ◌+◌, ◌-◌, ◌<◌, ◌≤◌, List, [], ◌∷◌, ◌++◌, length, take, drop, replicate, Bool, true, false, nat_lt, Option, Some, None}
+use Rattle.std.specs.List.{list_any}
+use Rattle.proto.specs.Line.{meaning}
+use Rattle.proto.specs.Grammar.{next_turn, is_newline, line_limit, block_limit}
+use Rattle.proto.specs.Reader.{kept_of, Reading}
+use Rattle.proto.specs.declared.turn.Turn.{Turn}
+use Rattle.proto.specs.declared.turn.Turn.TheVariants.{Ask, Say, Close}
+use Rattle.proto.specs.declared.turn.Notice.TheVariants.{LineTooLong}
+use Rattle.proto.specs.declared.stage.Cut.{Cut}
+use Rattle.proto.specs.declared.stage.Cut.TheVariants.{End, TooLong, Open}
+use Rattle.proto.specs.declared.line.Header.{Header}
+use Rattle.proto.specs.declared.line.Line.TheVariants.{Opens}
+use Rattle.proto.specs.declared.stage.Stage.{Stage}
+
+abbrev pub HasNoNewline : List ℕ → Type 0
+HasNoNewline bytes = list_any is_newline bytes ≡ false
+
+-- a correct storage line stands, and part of its block
+pub record InBlock (h : Header) (line block : List ℕ) (dropped : ℕ) : Type 0 where
+  pub text : List ℕ
+  pub line_is : line ≡ text ++ 10 ∷ []
+  pub one_line : HasNoNewline text
+  pub short : length text < line_limit
+  pub opens : meaning text ≡ Opens h
+  pub partial : dropped + length block < h.size + 2
+  pub within : dropped ≤ h.size
+  pub kept : nat_lt block_limit h.size ≡ false → dropped ≡ 0
+  pub blank : nat_lt block_limit h.size ≡ true → 0 < length block → dropped ≡ h.size
+
+-- part of a line stands
+pub record InLine (line block : List ℕ) (dropped : ℕ) : Type 0 where
+  pub one_line : HasNoNewline line
+  pub short : length line < line_limit
+  pub no_block : block ≡ []
+  pub none_dropped : dropped ≡ 0
+
+abbrev pub IsStageOf : Option Header → List ℕ → List ℕ → ℕ → Type 0
+IsStageOf None line block dropped = InLine line block dropped
+IsStageOf (Some h) line block dropped = InBlock h line block dropped
+
+abbrev pub IsStage : Stage → Type 0
+IsStage s = IsStageOf s.header s.line s.block s.dropped
+
+-- the bytes that it stands for
+abbrev pub bytes_of : Stage → List ℕ
+bytes_of s = s.line ++ (replicate s.dropped 0 ++ s.block)
+
+-- All of the piece was taken in, and no turn ended.
+abbrev pub Takes : List ℕ → List ℕ → Stage → Type 0
+Takes bytes piece new = (next_turn (bytes ++ piece) ≡ None) × (bytes_of new ≡ kept_of (bytes ++ piece))
+
+-- neither the line nor the block ends in the piece
+abbrev pub GoesOn : Option Header → List ℕ → List ℕ → ℕ → List ℕ → Type 0
+GoesOn None line block dropped piece = HasNoNewline (line ++ piece) × (length (line ++ piece) < line_limit)
+GoesOn (Some h) line block dropped piece = dropped + length block + length piece < h.size + 2
+
+-- the block and its end are there with the piece, if a block stands
+abbrev pub BlockEnds : Option Header → List ℕ → ℕ → List ℕ → Type 0
+BlockEnds None block dropped piece = Unit {0}
+BlockEnds (Some h) block dropped piece = h.size + 2 ≤ dropped + length block + length piece
+
+-- A step took n bytes of the piece, and gave this turn, or none so far. Where it gave none and more is there, it dropped nothing.
+abbrev pub StepGives : List ℕ → List ℕ → Option Turn → ℕ → Stage → Type 0
+StepGives bytes piece None n new = (0 < n) × (n ≤ length piece) × (next_turn (bytes ++ take n piece) ≡ None) × (bytes_of new ≡ kept_of (bytes ++ take n piece))
+    × (n < length piece → bytes_of new ≡ bytes ++ take n piece)
+StepGives bytes piece (Some turn) n new = (0 < n) × (n ≤ length piece) × (next_turn (bytes ++ piece) ≡ Some (turn, drop n piece)) × (bytes_of new ≡ [])
+
+-- the first newline of the bytes, if there is one
+abbrev pub FindsNewline : List ℕ → Option ℕ → Type 0
+FindsNewline bytes None = HasNoNewline bytes
+FindsNewline bytes (Some at) = (at < length bytes) × HasNoNewline (take at bytes) × (bytes ≡ take at bytes ++ 10 ∷ drop (at + 1) bytes)
+
+-- how a line goes on in a piece
+abbrev pub Cuts : List ℕ → List ℕ → Cut → Type 0
+Cuts line piece (End at) = (at < length piece) × HasNoNewline (line ++ take at piece) × (length (line ++ take at piece) < line_limit) × (piece ≡ take at piece ++ 10 ∷ drop (at + 1) piece)
+Cuts line piece (TooLong n) = (0 < n) × (n ≤ length piece) × (next_turn (line ++ piece) ≡ Some (Close LineTooLong, drop n piece))
+Cuts line piece Open = HasNoNewline (line ++ piece) × (length (line ++ piece) < line_limit)
+
+-- The bytes begin with these turns, of which none closes, and then this stands.
+abbrev pub SoFar : List ℕ → List Turn → List ℕ → Type 0
+SoFar bytes [] left = bytes ≡ left
+SoFar bytes (Close notice ∷ turns) left = ⊥
+SoFar bytes (turn ∷ turns) left = (after : List ℕ) × (next_turn bytes ≡ Some (turn, after)) × SoFar after turns left
+
+-- the reader over a stage
+abbrev pub reading : Stage → Bool → Reading
+reading s closed = record { kept = bytes_of s; closed = closed; held = length s.line + length s.block }
+
+-- What is known while a piece is read: the bytes begin with the turns, and then these are left, and what is not read yet.
+pub record IsReading (bytes : List ℕ) (turns : List Turn) (s : Stage) (unread : List ℕ) : Type 0 where
+  pub left : List ℕ
+  pub so_far : SoFar bytes turns (left ++ unread)
+  pub none : next_turn left ≡ None
+  pub kept : bytes_of s ≡ kept_of left
+  pub same : 0 < length unread → bytes_of s ≡ left
+  pub stage : IsStage s

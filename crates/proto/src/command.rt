@@ -1,0 +1,134 @@
+ghost use Rattle.std.specs.Prelude.{◌≡◌};
+ghost use Rattle.proto.specs.Update.{key_of_update};
+
+use crate::block::Block;
+use crate::key::{Key, Keys};
+use std::alloc::AllocError;
+
+/// Which storage line it is.
+#[derive(Clone, Copy, Debug, PartialEq, Eq)]
+pub enum StoreVerb {
+    Set,
+    Add,
+    Replace,
+    Append,
+    Prepend,
+}
+
+/// A command that changes one key.
+#[derive(Debug, Drop)]
+pub enum Update {
+    Store {
+        verb: StoreVerb,
+        key: Key,
+        flags: u32,
+        exptime: i32,
+        block: Block,
+    },
+    Cas {
+        key: Key,
+        flags: u32,
+        exptime: i32,
+        block: Block,
+        unique: u64,
+    },
+    Delete {
+        key: Key,
+    },
+    Touch {
+        key: Key,
+        exptime: i32,
+    },
+    Incr {
+        key: Key,
+        delta: u64,
+    },
+    Decr {
+        key: Key,
+        delta: u64,
+    },
+}
+
+/// What a client asks.
+#[derive(Debug, Drop)]
+pub enum Command {
+    Get(Keys),
+    /// With the unique of each item.
+    Gets(Keys),
+    Update(Update),
+}
+
+impl Update {
+    pub fn key(&self) -> &Key
+        ensures { result.now ≡ key_of_update self.now }
+    {
+        match self {
+            Update::Store { key, .. } => key,
+            Update::Cas { key, .. } => key,
+            Update::Delete { key } => key,
+            Update::Touch { key, .. } => key,
+            Update::Incr { key, .. } => key,
+            Update::Decr { key, .. } => key,
+        }
+    }
+}
+
+impl Clone for Update {
+    ghost is_clone = { λ update copy. copy ≡ update };
+
+    fn clone(&self) -> Result<Update, AllocError> {
+        Ok(match self {
+            Update::Store {
+                verb,
+                key,
+                flags,
+                exptime,
+                block,
+            } => Update::Store {
+                verb: *verb,
+                key: key.clone()?,
+                flags: *flags,
+                exptime: *exptime,
+                block: block.clone()?,
+            },
+            Update::Cas {
+                key,
+                flags,
+                exptime,
+                block,
+                unique,
+            } => Update::Cas {
+                key: key.clone()?,
+                flags: *flags,
+                exptime: *exptime,
+                block: block.clone()?,
+                unique: *unique,
+            },
+            Update::Delete { key } => Update::Delete { key: key.clone()? },
+            Update::Touch { key, exptime } => Update::Touch {
+                key: key.clone()?,
+                exptime: *exptime,
+            },
+            Update::Incr { key, delta } => Update::Incr {
+                key: key.clone()?,
+                delta: *delta,
+            },
+            Update::Decr { key, delta } => Update::Decr {
+                key: key.clone()?,
+                delta: *delta,
+            },
+        })
+    }
+}
+
+impl Clone for Command {
+    ghost is_clone = { λ command copy. copy ≡ command };
+
+    fn clone(&self) -> Result<Command, AllocError> {
+        Ok(match self {
+            Command::Get(keys) => Command::Get(keys.clone()?),
+            Command::Gets(keys) => Command::Gets(keys.clone()?),
+            Command::Update(update) => Command::Update(update.clone()?),
+        })
+    }
+}

@@ -1,0 +1,36 @@
+//! The text protocol of memcached (protocol.txt): keys, commands, replies, and what a client's
+//! stream of bytes asks, turn by turn.
+//!
+//! It stands on `memchr` (line ends), `itoa` (decimals) and `thiserror` (`Fault`). The layer above
+//! uses `Reader::feed`: the turns given so far are those that the bytes fed so far spell, however
+//! they were cut.
+#![tactic(auto)]
+
+mod block;
+mod command;
+mod fault;
+mod key;
+mod laws;
+mod line;
+mod meaning;
+mod number;
+mod reader;
+mod reply;
+mod stage;
+mod turn;
+mod writing;
+
+pub use block::Block;
+pub use command::{Command, StoreVerb, Update};
+pub use fault::Fault;
+pub use key::{Key, Keys, is_key_text};
+pub use laws::{longer_bytes_spell_more, one_list_is_spelled, pieces_add_up};
+pub use line::{Header, Kind, Line, Name};
+pub use number::number_in;
+pub use reader::Reader;
+pub use reply::{Found, Reply, Values};
+pub use turn::{Notice, Turn};
+pub use writing::write_reply;
+
+#[cfg(test)]
+mod tests;

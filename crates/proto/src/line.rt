@@ -1,0 +1,66 @@
+//! What a line asks by itself.
+
+ghost use Rattle.std.specs.Prelude.{◌≡◌};
+
+use crate::command::StoreVerb;
+use crate::key::Key;
+use crate::turn::Turn;
+use std::alloc::AllocError;
+
+/// The line of a storage command: its block follows.
+#[derive(Debug, Drop)]
+pub struct Header {
+    pub kind: Kind,
+    pub key: Key,
+    pub flags: u32,
+    pub exptime: i32,
+    pub size: u32,
+    pub quiet: bool,
+}
+
+/// The command of a storage line.
+#[derive(Clone, Copy, Debug, PartialEq, Eq)]
+pub enum Kind {
+    Plain(StoreVerb),
+    /// With the unique that is asked for.
+    Cas(u64),
+}
+
+/// What a line is.
+#[derive(Debug, Drop)]
+pub enum Line {
+    /// A turn by itself.
+    Whole(Turn),
+    /// A correct storage line.
+    Opens(Header),
+}
+
+/// The names of commands.
+#[derive(Clone, Copy, Debug, PartialEq, Eq)]
+pub enum Name {
+    Store(StoreVerb),
+    Cas,
+    Get,
+    Gets,
+    Delete,
+    Touch,
+    Incr,
+    Decr,
+    Version,
+    Quit,
+}
+
+impl Clone for Header {
+    ghost is_clone = { λ header copy. copy ≡ header };
+
+    fn clone(&self) -> Result<Header, AllocError> {
+        Ok(Header {
+            kind: self.kind,
+            key: self.key.clone()?,
+            flags: self.flags,
+            exptime: self.exptime,
+            size: self.size,
+            quiet: self.quiet,
+        })
+    }
+}

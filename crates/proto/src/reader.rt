@@ -1,0 +1,95 @@
+//! A client's stream, piece by piece.
+
+ghost use Rattle.std.specs.Prelude.{◌≡◌, ◌≤◌, ◌+◌, ◌++◌, [], true, false, IfOk, OnOk, OnErr};
+ghost use Rattle.proto.specs.Reader.{Reads, Reading};
+ghost use Rattle.proto.specs.Stage.{IsStage, bytes_of, reading};
+
+use crate::stage::Stage;
+use crate::turn::Turn;
+use std::alloc::{AllocError, Global};
+use std::marker::Model;
+
+/// Reads a client's stream. It keeps what came of the next turn: at most 65,536 + 2,050 bytes. The
+/// bytes of a block above the limit are only counted.
+#[derive(Debug, Drop)]
+pub struct Reader {
+    stage: Stage,
+    closed: bool,
+}
+
+impl Model for Reader {
+    ghost use Rattle.std.specs.Prelude.{◌≡◌, [], true};
+    ghost use Rattle.proto.specs.Reader.{Reading};
+
+    ghost Value = { Reading };
+
+    ghost use Rattle.proto.specs.Stage.{IsStage, bytes_of, reading};
+
+    ghost view = { λ a. reading a.stage a.closed };
+
+    ghost invariant = { λ a. IsStage a.stage × (a.closed ≡ true → bytes_of a.stage ≡ []) };
+}
+
+/// Reads all of the piece, or up to a Close: the turns, and whether the last one closes.
+fn read_piece(
+    alloc: Global,
+    stage: &mut Stage,
+    piece: &[u8],
+) -> Result<(Vec<Turn>, bool), AllocError>
+    requires { IsStage stage.old }
+    ensures reads { IfOk result (λ r. Reads (bytes_of stage.old ++ piece.now) r.0.items (reading stage.new r.1)) }
+    ensures stage { OnOk result (IsStage stage.new) }
+{
+    let mut turns = Vec::new(alloc);
+    let mut unread = piece;
+    while !unread.is_empty() {
+        let (turn, n) = stage.step(alloc, unread)?;
+        let (_, after) = unread.split_at(n);
+        unread = after;
+        if let Some(turn) = turn {
+            let last = turn.is_close();
+            turns.push(turn)?;
+            if last {
+                return Ok((turns, true));
+            }
+        }
+    }
+    Ok((turns, false))
+}
+
+impl Reader {
+    pub fn new(alloc: Global) -> Reader
+        ensures kept { result.kept ≡ [] }
+        ensures open { result.closed ≡ false }
+    {
+        Reader {
+            stage: Stage::new(alloc),
+            closed: false,
+        }
+    }
+
+    /// The turns that the next piece of the stream ends, in order. After a Close there are none,
+    /// whatever comes. The only error is want of memory, and it changes nothing.
+    ///
+    /// A piece in which no turn ends is added in place, and what was kept is copied only where one
+    /// does, so the cost is linear in the bytes, however they are cut.
+    pub fn feed(&mut self, alloc: Global, piece: &[u8]) -> Result<Vec<Turn>, AllocError>
+        ensures turns { IfOk result (λ turns. self.old.closed ≡ false → Reads (self.old.kept ++ piece.now) turns.items self.new) }
+        ensures closed { IfOk result (λ turns. self.old.closed ≡ true → (turns.items ≡ []) × (self.new ≡ self.old)) }
+        ensures held { self.new.held ≤ 65536 + 2050 }
+        ensures err { OnErr result (self.new ≡ self.old) }
+    {
+        if self.closed {
+            return Ok(Vec::new(alloc));
+        }
+        if self.stage.goes_on(piece) {
+            self.stage.extend(piece)?;
+            return Ok(Vec::new(alloc));
+        }
+        let mut stage = self.stage.clone()?;
+        let (turns, closed) = read_piece(alloc, &mut stage, piece)?;
+        self.stage = stage;
+        self.closed = closed;
+        Ok(turns)
+    }
+}

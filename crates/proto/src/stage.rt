@@ -1,0 +1,267 @@
+//! What stands of the turn that comes next.
+
+ghost use Rattle.std.specs.Prelude.{◌≡◌, ◌≤◌, ◌<◌, ◌+◌, ◌-◌, ◌^◌, ◌++◌, ◌∷◌, [], length, take, drop, IfOk, OnOk, OnErr, None, IsSome, min, nat_lt, if◌then◌else◌};
+ghost use Rattle.std.specs.Bool.{OnTrue, OnFalse};
+ghost use Rattle.proto.specs.Grammar.{block_turn, filled, line_limit, block_limit};
+ghost use Rattle.proto.specs.Stage.{HasNoNewline, InLine, InBlock, IsStage, bytes_of, StepGives, Takes, GoesOn, BlockEnds, FindsNewline, Cuts};
+
+use crate::block::Block;
+use crate::command::{Command, Update};
+use crate::line::{Header, Kind, Line};
+use crate::meaning::line_meaning;
+use crate::turn::{Notice, Turn};
+use memchr::memchr;
+use std::alloc::{AllocError, Global};
+use std::mem;
+
+const LINE_LIMIT: usize = 2048;
+
+const BLOCK_LIMIT: usize = 65536;
+
+/// A line, or a storage line and part of its block.
+#[derive(Debug, Drop)]
+pub struct Stage {
+    pub line: Block,
+    pub header: Option<Header>,
+    pub block: Block,
+    /// How many bytes of the block are only counted.
+    pub dropped: usize,
+}
+
+/// How a line goes on in a piece.
+#[derive(Debug, Drop)]
+enum Cut {
+    /// The place of its newline.
+    End(usize),
+    /// It is too long, with so many bytes of the piece.
+    TooLong(usize),
+    Open,
+}
+
+fn newline_in(bytes: &[u8]) -> Option<usize>
+    ensures { FindsNewline bytes.now result }
+{
+    memchr(10, bytes)
+}
+
+fn cut_of(line: &[u8], piece: &[u8]) -> Cut
+    requires one_line { HasNoNewline line.now }
+    requires short { length line.now < line_limit }
+    requires some { 0 < length piece.now }
+    ensures { Cuts line.now piece.now result }
+{
+    let room = LINE_LIMIT - line.len();
+    if piece.len() < room {
+        return match newline_in(piece) {
+            Some(at) => Cut::End(at),
+            None => Cut::Open,
+        };
+    }
+    let (window, _) = piece.split_at(room);
+    match newline_in(window) {
+        Some(at) => Cut::End(at),
+        None => Cut::TooLong(room),
+    }
+}
+
+fn fill(header: Header, block: Block) -> Command
+    ensures { result ≡ filled header block }
+{
+    let Header {
+        kind,
+        key,
+        flags,
+        exptime,
+        size: _,
+        quiet: _,
+    } = header;
+    match kind {
+        Kind::Plain(verb) => Command::Update(Update::Store {
+            verb,
+            key,
+            flags,
+            exptime,
+            block,
+        }),
+        Kind::Cas(unique) => Command::Update(Update::Cas {
+            key,
+            flags,
+            exptime,
+            block,
+            unique,
+        }),
+    }
+}
+
+/// The turn of a storage line, from its block and the two bytes after it.
+fn end_turn(header: Header, mut held: Block) -> Turn
+    requires { 2 ≤ length held }
+    ensures { result ≡ block_turn header (take (length held - 2) held) (drop (length held - 2) held) }
+{
+    let size = held.len() - 2;
+    let (_, end) = held.as_slice().split_at(size);
+    if end != b"\r\n".as_slice() {
+        return Turn::Close(Notice::BadChunk);
+    }
+    if header.size as usize > BLOCK_LIMIT {
+        return Turn::Say(Notice::TooLarge);
+    }
+    let quiet = header.quiet;
+    held.truncate(size);
+    Turn::Ask(fill(header, held), quiet)
+}
+
+/// How many of the next bytes of a block are only counted.
+fn skip_of(header: &Header, dropped: usize, n: usize) -> usize
+    requires { dropped ≤ header.now.size }
+    ensures skip { result ≡ (if nat_lt block_limit header.now.size then min (header.now.size - dropped) n else 0) }
+    ensures fits { dropped + result < 2 ^ 32 }
+{
+    let size = header.size as usize;
+    if size > BLOCK_LIMIT {
+        (size - dropped).min(n)
+    } else {
+        0
+    }
+}
+
+impl Stage {
+    pub fn new(alloc: Global) -> Stage
+        ensures stage { IsStage result }
+        ensures empty { bytes_of result ≡ [] }
+    {
+        Stage {
+            line: Block::new(Vec::new(alloc)),
+            header: None,
+            block: Block::new(Vec::new(alloc)),
+            dropped: 0,
+        }
+    }
+
+    /// Whether neither the line nor the block ends in the piece.
+    pub fn goes_on(&self, piece: &[u8]) -> bool
+        requires { IsStage self.now }
+        ensures goes { OnTrue result (GoesOn self.now.header self.now.line self.now.block self.now.dropped piece.now) }
+        ensures ends { OnFalse result (BlockEnds self.now.header self.now.block self.now.dropped piece.now) }
+    {
+        match &self.header {
+            None => { piece.len() < LINE_LIMIT - self.line.len() && newline_in(piece).is_none() }
+            Some(header) => {
+                let need = header.size as usize + 2 - self.dropped - self.block.len();
+                piece.len() < need
+            }
+        }
+    }
+
+    /// Adds a piece in which neither the line nor the block ends. An `Err` changes nothing.
+    pub fn extend(&mut self, piece: &[u8]) -> Result<(), AllocError>
+        requires stage { IsStage self.old }
+        requires goes_on { GoesOn self.old.header self.old.line self.old.block self.old.dropped piece.now }
+        ensures takes { OnOk result (Takes (bytes_of self.old) piece.now self.new) }
+        ensures stage { IsStage self.new }
+        ensures err { OnErr result (self.new ≡ self.old) }
+    {
+        match &self.header {
+            None => self.line.extend(piece),
+            Some(header) => {
+                let skip = skip_of(header, self.dropped, piece.len());
+                let (_, keep) = piece.split_at(skip);
+                self.block.extend(keep)?;
+                self.dropped += skip;
+                Ok(())
+            }
+        }
+    }
+
+    fn step_line(
+        &mut self,
+        alloc: Global,
+        piece: &[u8],
+    ) -> Result<(Option<Turn>, usize), AllocError>
+        requires none { self.old.header ≡ None }
+        requires line { InLine self.old.line self.old.block self.old.dropped }
+        requires some { 0 < length piece.now }
+        ensures gives { IfOk result (λ r. StepGives (bytes_of self.old) piece.now r.0 r.1 self.new) }
+        ensures stage { OnOk result (IsStage self.new) }
+    {
+        match cut_of(self.line.as_slice(), piece) {
+            Cut::Open => {
+                self.line.extend(piece)?;
+                Ok((None, piece.len()))
+            }
+            Cut::TooLong(n) => {
+                self.line.clear();
+                Ok((Some(Turn::Close(Notice::LineTooLong)), n))
+            }
+            Cut::End(at) => {
+                let (front, _) = piece.split_at(at);
+                self.line.extend(front)?;
+                match line_meaning(alloc, self.line.as_slice())? {
+                    Line::Whole(turn) => {
+                        self.line.clear();
+                        Ok((Some(turn), at + 1))
+                    }
+                    Line::Opens(header) => {
+                        self.line.extend(b"\n".as_slice())?;
+                        self.header = Some(header);
+                        Ok((None, at + 1))
+                    }
+                }
+            }
+        }
+    }
+
+    /// Takes the end of the block, and gives its turn.
+    fn end_block(
+        &mut self,
+        alloc: Global,
+        header: Header,
+        piece: &[u8],
+    ) -> Result<(Option<Turn>, usize), AllocError>
+        requires none { self.old.header ≡ None }
+        requires inside { InBlock header self.old.line self.old.block self.old.dropped }
+        requires ends { header.size + 2 ≤ self.old.dropped + length self.old.block + length piece.now }
+        ensures gives { IfOk result (λ r. StepGives (bytes_of self.old) piece.now r.0 r.1 self.new) }
+        ensures stage { OnOk result (IsStage self.new) }
+    {
+        let n = header.size as usize + 2 - self.dropped - self.block.len();
+        let (front, _) = piece.split_at(n);
+        let skip = skip_of(&header, self.dropped, n);
+        let (_, keep) = front.split_at(skip);
+        self.block.extend(keep)?;
+        let held = mem::replace(&mut self.block, Block::new(Vec::new(alloc)));
+        self.line.clear();
+        self.dropped = 0;
+        Ok((Some(end_turn(header, held)), n))
+    }
+
+    /// Takes some bytes of the piece, at most to the end of a turn.
+    pub fn step(&mut self, alloc: Global, piece: &[u8]) -> Result<(Option<Turn>, usize), AllocError>
+        requires stage { IsStage self.old }
+        requires some { 0 < length piece.now }
+        ensures gives { IfOk result (λ r. StepGives (bytes_of self.old) piece.now r.0 r.1 self.new) }
+        ensures stage { OnOk result (IsStage self.new) }
+    {
+        if self.header.is_some() && self.goes_on(piece) {
+            self.extend(piece)?;
+            return Ok((None, piece.len()));
+        }
+        match self.header.take() {
+            None => self.step_line(alloc, piece),
+            Some(header) => self.end_block(alloc, header, piece),
+        }
+    }
+}
+
+impl Clone for Stage {
+    ghost is_clone = { λ stage copy. copy ≡ stage };
+
+    fn clone(&self) -> Result<Stage, AllocError> {
+        Ok(Stage {
+            line: self.line.clone()?,
+            header: self.header.clone()?,
+            block: self.block.clone()?,
+            dropped: self.dropped,
+        })
+    }
+}
