@@ -1,0 +1,10 @@
+use Rattle.std.proofs.Common.{sym, ap, ◌∙◌, subst}
+use Rattle.pages.specs.Joined.{ArePages, joined}
+use Rattle.pages.proofs.JoinedLemmas.{joined-empty}
+use Rattle.pages.proofs.pages.Pages.new.Goals as goal
+
+pub invariant_of-result : goal.invariant_of-result
+invariant_of-result c = subst ArePages (sym c.in_ok-empty_pages.ensures) joined-empty.0
+
+pub returns : goal.returns
+returns c = ap joined c.in_ok-empty_pages.ensures ∙ joined-empty.1

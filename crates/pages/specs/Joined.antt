@@ -1,0 +1,22 @@
+-- Pages, each of its own keys alone, and the map that they are together.
+use Rattle.std.specs.Prelude.{◌≡◌, ◌≢◌, ℕ, ◌+◌, List, [], ◌∷◌, length, None}
+use Rattle.std.specs.List.{flat_map}
+use Rattle.std.specs.FinMap.{entries, from_entries, get}
+use Rattle.items.specs.Map.{Items}
+use Rattle.pages.specs.Page.{page_number, page_count}
+
+-- only keys of page p stand in it
+abbrev pub IsOwn : ℕ → Items → Type 0
+IsOwn p m = (key : List ℕ) → page_number key ≢ p → get m key ≡ None
+
+-- each page, from page p on, has its own keys alone
+abbrev pub AreOwn : ℕ → List Items → Type 0
+AreOwn p [] = Unit {0}
+AreOwn p (m ∷ pages) = IsOwn p m × AreOwn (p + 1) pages
+
+abbrev pub ArePages : List Items → Type 0
+ArePages pages = (length pages ≡ page_count) × AreOwn 0 pages
+
+-- the map of all pages
+abbrev pub joined : List Items → Items
+joined pages = from_entries (flat_map entries pages)
