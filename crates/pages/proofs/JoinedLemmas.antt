@@ -14,7 +14,7 @@ use Rattle.std.proofs.lemmas.Map.Entries.{option_filter}
 use Rattle.std.proofs.Math.Nat.{mod-lt, eq-or-lt_of_le}
 use Rattle.items.specs.declared.item.Item.{Item}
 use Rattle.items.specs.Map.{Items, by_bytes, alive, is_alive}
-use Rattle.items.proofs.MapLemmas.{get-alive}
+use Rattle.items.proofs.AliveLemmas.{get-alive}
 use Rattle.pages.specs.Page.{page_number, page_entries, page_count}
 use Rattle.pages.specs.Joined.{IsOwn, AreOwn, ArePages, joined}
 

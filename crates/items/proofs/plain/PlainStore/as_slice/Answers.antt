@@ -1,7 +1,7 @@
 use Rattle.std.proofs.Common.{sym, ap, ◌∙◌}
 use Rattle.std.specs.FinMap.{entries, entries-from_sorted}
 use Rattle.items.specs.Map.{by_bytes}
-use Rattle.items.proofs.MapLemmas.{as_t}
+use Rattle.proto.proofs.MapLemmas.{as_t}
 use Rattle.items.proofs.plain.PlainStore.as_slice.Goals as goal
 
 pub returns : goal.returns
