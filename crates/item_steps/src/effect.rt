@@ -1,11 +1,12 @@
-ghost use Rattle.std.specs.Prelude.{◌≡◌, IfOk, OnOk, OnErr, ◌++◌, Some};
+ghost use Rattle.std.specs.Prelude.{◌≡◌, ℕ, IfOk, IfErr, OnOk, OnErr, ◌++◌, Some};
 ghost use Rattle.std.specs.Option.{option_copied};
-ghost use Rattle.item_steps.specs.Effect.{effect, updated, stored, joined, counted, number_of, kept};
+ghost use Rattle.item_steps.specs.Effect.{effect, updated, stored, joined, swapped, touched, recounted, counted, number_of, kept, new_item};
+ghost use Rattle.item_steps.specs.declared.step.Place.{Place};
 
 use crate::number::{decimal_block, number_in};
 use crate::step::{Answer, Place, Step};
 use items::{Item, Store, due_at};
-use proto::{Block, Reply, StoreVerb, Update};
+use proto::{BLOCK_LIMIT, Block, Reply, StoreVerb, Update};
 use std::alloc::{AllocError, Global};
 
 /// What an update does to the item of its key.
@@ -60,6 +61,17 @@ fn keep(item: Item, moment: u32) -> Change
     }
 }
 
+fn item_of(place: Place, flags: u32, exptime: i32, block: &Block) -> Result<Item, AllocError>
+    ensures { IfOk result (λ item. item ≡ new_item place flags exptime block.now) }
+{
+    Ok(Item {
+        block: block.clone()?,
+        flags,
+        due: due_at(exptime, place.moment),
+        unique: place.stamp,
+    })
+}
+
 #[tactic(auto, unfolding(crate::specs::Effect::updated))]
 fn update_item(
     alloc: Global,
@@ -76,65 +88,139 @@ fn update_item(
             exptime,
             block,
             ..
-        } => {
-            let item = Item {
-                block: block.clone()?,
-                flags: *flags,
-                due: due_at(*exptime, place.moment),
-                unique: place.stamp,
-            };
-            store_item(*verb, item, place, old)
-        }
+        } => store_item(alloc, *verb, *flags, *exptime, block, place, old),
         Update::Cas {
             flags,
             exptime,
             block,
             unique,
             ..
-        } => match old {
-            None => Ok((Change::Leave, Reply::NotFound)),
-            Some(old) => {
-                if old.unique != *unique {
-                    return Ok((Change::Leave, Reply::Exists));
-                }
-                let item = Item {
-                    block: block.clone()?,
-                    flags: *flags,
-                    due: due_at(*exptime, place.moment),
-                    unique: place.stamp,
-                };
-                Ok((keep(item, place.moment), Reply::Stored))
+        } => swap_item(*unique, *flags, *exptime, block, place, old),
+        Update::Delete { .. } => Ok(match old {
+            None => (Change::Leave, Reply::NotFound),
+            Some(_) => (Change::Remove, Reply::Deleted),
+        }),
+        Update::Touch { exptime, .. } => touch_item(*exptime, place, old),
+        Update::Incr { delta, .. } => match old_number(old) {
+            Err(reply) => Ok((Change::Leave, reply)),
+            Ok((old, n)) => count_item(alloc, old, place, n.wrapping_add(*delta)),
+        },
+        Update::Decr { delta, .. } => match old_number(old) {
+            Err(reply) => Ok((Change::Leave, reply)),
+            Ok((old, n)) => count_item(alloc, old, place, n.saturating_sub(*delta)),
+        },
+    }
+}
+
+fn store_item(
+    alloc: Global,
+    verb: StoreVerb,
+    flags: u32,
+    exptime: i32,
+    block: &Block,
+    place: Place,
+    old: Option<&Item>,
+) -> Result<(Change, Reply), AllocError>
+    ensures { IfOk result (λ done. done
+        ≡ stored verb (new_item place flags exptime block.now) place block.now (option_copied old.entry)) }
+{
+    match (verb, old) {
+        (StoreVerb::Set, _) | (StoreVerb::Add, None) | (StoreVerb::Replace, Some(_)) => {
+            let item = item_of(place, flags, exptime, block)?;
+            Ok((keep(item, place.moment), Reply::Stored))
+        }
+        (StoreVerb::Append, Some(old)) => {
+            join_items(alloc, old, place, old.block.as_slice(), block.as_slice())
+        }
+        (StoreVerb::Prepend, Some(old)) => {
+            join_items(alloc, old, place, block.as_slice(), old.block.as_slice())
+        }
+        (StoreVerb::Add, Some(_))
+        | (StoreVerb::Replace, None)
+        | (StoreVerb::Append, None)
+        | (StoreVerb::Prepend, None) => Ok((Change::Leave, Reply::NotStored)),
+    }
+}
+
+fn join_items(
+    alloc: Global,
+    old: &Item,
+    place: Place,
+    front: &[u8],
+    back: &[u8],
+) -> Result<(Change, Reply), AllocError>
+    ensures { IfOk result (λ done. done ≡ joined place old.now (front.now ++ back.now)) }
+{
+    if front.len() > BLOCK_LIMIT || back.len() > BLOCK_LIMIT - front.len() {
+        return Ok((Change::Leave, Reply::TooLarge));
+    }
+    let mut block = Vec::with_capacity(alloc, front.len() + back.len())?;
+    block.extend_from_slice(front)?;
+    block.extend_from_slice(back)?;
+    let item = Item {
+        block: Block::new(block),
+        flags: old.flags,
+        due: old.due,
+        unique: place.stamp,
+    };
+    Ok((Change::Put(item), Reply::Stored))
+}
+
+fn swap_item(
+    unique: u64,
+    flags: u32,
+    exptime: i32,
+    block: &Block,
+    place: Place,
+    old: Option<&Item>,
+) -> Result<(Change, Reply), AllocError>
+    ensures { IfOk result (λ done. done
+        ≡ swapped unique (new_item place flags exptime block.now) place (option_copied old.entry)) }
+{
+    match old {
+        None => Ok((Change::Leave, Reply::NotFound)),
+        Some(old) => {
+            if old.unique != unique {
+                return Ok((Change::Leave, Reply::Exists));
             }
-        },
-        Update::Delete { .. } => match old {
-            None => Ok((Change::Leave, Reply::NotFound)),
-            Some(_) => Ok((Change::Remove, Reply::Deleted)),
-        },
-        Update::Touch { exptime, .. } => match old {
-            None => Ok((Change::Leave, Reply::NotFound)),
-            Some(old) => {
-                let item = Item {
-                    block: old.block.clone()?,
-                    flags: old.flags,
-                    due: due_at(*exptime, place.moment),
-                    unique: old.unique,
-                };
-                Ok((keep(item, place.moment), Reply::Touched))
-            }
-        },
-        Update::Incr { delta, .. } => match old {
-            None => Ok((Change::Leave, Reply::NotFound)),
-            Some(old) => match number_in(old.block.as_slice()) {
-                None => Ok((Change::Leave, Reply::NotNumber)),
-                Some(n) => count_item(alloc, old, place, n.wrapping_add(*delta)),
-            },
-        },
-        Update::Decr { delta, .. } => match old {
-            None => Ok((Change::Leave, Reply::NotFound)),
-            Some(old) => match number_in(old.block.as_slice()) {
-                None => Ok((Change::Leave, Reply::NotNumber)),
-                Some(n) => count_item(alloc, old, place, n.saturating_sub(*delta)),
-            },
+            let item = item_of(place, flags, exptime, block)?;
+            Ok((keep(item, place.moment), Reply::Stored))
+        }
+    }
+}
+
+fn touch_item(
+    exptime: i32,
+    place: Place,
+    old: Option<&Item>,
+) -> Result<(Change, Reply), AllocError>
+    ensures { IfOk result (λ done. done ≡ touched exptime place (option_copied old.entry)) }
+{
+    match old {
+        None => Ok((Change::Leave, Reply::NotFound)),
+        Some(old) => {
+            let item = Item {
+                block: old.block.clone()?,
+                flags: old.flags,
+                due: due_at(exptime, place.moment),
+                unique: old.unique,
+            };
+            Ok((keep(item, place.moment), Reply::Touched))
+        }
+    }
+}
+
+/// The item that stands with its number, or the reply where there is none.
+fn old_number(old: Option<&Item>) -> Result<(&Item, u64), Reply>
+    ensures found { IfOk result (λ r. (option_copied old.entry ≡ Some r.0.now) × (number_of r.0.now.block ≡ Some r.1)) }
+    ensures missing { IfErr result (λ reply. (f : ℕ → ℕ) (place : Place)
+        → recounted f place (option_copied old.entry) ≡ (Change.Leave, reply)) }
+{
+    match old {
+        None => Err(Reply::NotFound),
+        Some(old) => match number_in(old.block.as_slice()) {
+            None => Err(Reply::NotNumber),
+            Some(n) => Ok((old, n)),
         },
     }
 }
@@ -154,53 +240,4 @@ fn count_item(
         unique: place.stamp,
     };
     Ok((Change::Put(item), Reply::Number(value)))
-}
-
-fn store_item(
-    verb: StoreVerb,
-    item: Item,
-    place: Place,
-    old: Option<&Item>,
-) -> Result<(Change, Reply), AllocError>
-    ensures { IfOk result (λ done. done ≡ stored verb item place item.block (option_copied old.entry)) }
-{
-    match (verb, old) {
-        (StoreVerb::Set, _) => Ok((keep(item, place.moment), Reply::Stored)),
-        (StoreVerb::Add, None) => Ok((keep(item, place.moment), Reply::Stored)),
-        (StoreVerb::Replace, Some(_)) => Ok((keep(item, place.moment), Reply::Stored)),
-        (StoreVerb::Append, Some(old)) => {
-            join_items(old, place, old.block.as_slice(), item.block.as_slice())
-        }
-        (StoreVerb::Prepend, Some(old)) => {
-            join_items(old, place, item.block.as_slice(), old.block.as_slice())
-        }
-        (StoreVerb::Add, Some(_)) => Ok((Change::Leave, Reply::NotStored)),
-        (StoreVerb::Replace, None) => Ok((Change::Leave, Reply::NotStored)),
-        (StoreVerb::Append, None) => Ok((Change::Leave, Reply::NotStored)),
-        (StoreVerb::Prepend, None) => Ok((Change::Leave, Reply::NotStored)),
-    }
-}
-
-fn join_items(
-    old: &Item,
-    place: Place,
-    front: &[u8],
-    back: &[u8],
-) -> Result<(Change, Reply), AllocError>
-    ensures { IfOk result (λ done. done ≡ joined place old.now (front.now ++ back.now)) }
-{
-    if front.len() > 65536 || back.len() > 65536 - front.len() {
-        return Ok((Change::Leave, Reply::TooLarge));
-    }
-    let mut block = old.block.clone()?.into_vec();
-    block.clear();
-    block.extend_from_slice(front)?;
-    block.extend_from_slice(back)?;
-    let item = Item {
-        block: Block::new(block),
-        flags: old.flags,
-        due: old.due,
-        unique: place.stamp,
-    };
-    Ok((Change::Put(item), Reply::Stored))
 }

@@ -3,6 +3,9 @@ ghost use Rattle.std.specs.Prelude.{◌≡◌, ◌++◌, [], length, take, IfOk,
 use std::alloc::{AllocError, Global};
 use std::marker::Model;
 
+/// How many bytes of data an item has at most.
+pub const BLOCK_LIMIT: usize = 65536;
+
 /// The data of an item, or the block of a storage line: plain bytes.
 #[derive(Debug, Drop)]
 pub struct Block {

@@ -20,7 +20,7 @@ mod stage;
 mod turn;
 mod writing;
 
-pub use block::Block;
+pub use block::{BLOCK_LIMIT, Block};
 pub use command::{Command, StoreVerb, Update};
 pub use fault::Fault;
 pub use key::{Key, Keys, is_key_text};

@@ -5,7 +5,7 @@ ghost use Rattle.std.specs.Bool.{OnTrue, OnFalse};
 ghost use Rattle.proto.specs.Grammar.{block_turn, filled, line_limit, block_limit};
 ghost use Rattle.proto.specs.Stage.{HasNoNewline, InLine, InBlock, IsStage, bytes_of, StepGives, Takes, GoesOn, BlockEnds, FindsNewline, Cuts};
 
-use crate::block::Block;
+use crate::block::{BLOCK_LIMIT, Block};
 use crate::command::{Command, Update};
 use crate::line::{Header, Kind, Line};
 use crate::meaning::line_meaning;
@@ -14,9 +14,8 @@ use memchr::memchr;
 use std::alloc::{AllocError, Global};
 use std::mem;
 
+/// How many bytes a line has at most, with its newline.
 const LINE_LIMIT: usize = 2048;
-
-const BLOCK_LIMIT: usize = 65536;
 
 /// A line, or a storage line and part of its block.
 #[derive(Debug, Drop)]
