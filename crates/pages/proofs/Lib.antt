@@ -1,2 +1,1 @@
 pub mod JoinedLemmas
-pub mod ListLemmas

@@ -16,12 +16,6 @@ use Rattle.item_steps.specs.declared.step.Answer.{Answer}
 use Rattle.item_steps.specs.declared.group.Task.{Task}
 use Rattle.round.specs.Round.{RoundState, SeatState, IsSeatOf, StepMade, fits, next_step, made, steps_of_group, place_of_group}
 
--- a list of one member
-pub only_member : {X : Type 0} (xs : List X) (x : X) → length xs ≤ 1 → 1 ≤ length xs → x ≡ get_or xs 0 x → xs ≡ x ∷ []
-only_member [] x most least e = absurd (omega arith)
-only_member (y ∷ []) x most least e = ap (λ z. z ∷ []) (sym e)
-only_member (y ∷ z ∷ xs) x most least e = absurd (omega arith)
-
 pub same_place_any : (place : ℕ) (task : Task) → task.place ≡ place → list_any (λ t. t.place == place) (task ∷ []) ≡ true
 same_place_any place task e = rw (test task.place place e) refl
   where
@@ -98,10 +92,3 @@ one_task base group callers h = let parts = and_parts _ _ (and_parts _ _ h).0 in
   where
     at_most : (n : ℕ) → nat_le n 1 ≡ true → n ≤ 1
     at_most n e = grind (arith, nat_tests)
-
--- the last of a list of one
-pub last_of_one : {X : Type 0} (xs : List X) (x y : X) → x ∷ [] ≡ xs ++ y ∷ [] → x ≡ y
-last_of_one [] x y e = cc
-last_of_one (z ∷ xs) x y e =
-    let longer : 1 ≡ suc (length (xs ++ y ∷ [])) = ap length e in
-    absurd (omega (arith, longer, length_push xs y))

@@ -1,6 +1,6 @@
 use Rattle.std.proofs.Common.{◌≡◌, ◌<◌, length, get_or, set, sym, ap, ◌∙◌, arith}
 use Rattle.items.specs.Map.{alive, Items}
-use Rattle.pages.proofs.ListLemmas.{next-same, next-changed}
+use Rattle.proto.proofs.ListLemmas.{next-same, next-changed}
 use Rattle.pages.proofs.JoinedLemmas.{no_items}
 use Rattle.pages.proofs.pages.retain_alive.Goals as goal
 

@@ -4,7 +4,8 @@ use Rattle.std.specs.List.{list_any}
 use Rattle.std.proofs.lemmas.Bool.Decides.{nat_tests}
 use Rattle.std.proofs.lemmas.Option.{slice_get_past}
 use Rattle.round.specs.Round.{steps_of_group}
-use Rattle.round.proofs.RoundLemmas.{only_member, same_place_any}
+use Rattle.proto.proofs.ListLemmas.{only_member}
+use Rattle.round.proofs.RoundLemmas.{same_place_any}
 use Rattle.round.proofs.round.next_of.Goals as goal
 
 pub returns-in-None-clause-not_open : goal.returns-in-None-clause-not_open

@@ -4,7 +4,8 @@ use Rattle.item_steps.specs.declared.step.Answer.{Answer}
 use Rattle.item_steps.specs.declared.group.Task.{Task}
 use Rattle.item_steps.specs.Schedule.{GroupRuns}
 use Rattle.round.specs.Round.{RoundState, SeatState, IsSeatOf}
-use Rattle.round.proofs.RoundLemmas.{all_made, one_task, last_of_one}
+use Rattle.proto.proofs.ListLemmas.{last_of_one}
+use Rattle.round.proofs.RoundLemmas.{all_made, one_task}
 use Rattle.round.proofs.round.Round.close.Goals as goal
 
 pub returns-clause-runs : goal.returns-clause-runs

@@ -1,5 +1,19 @@
--- A list whose members are changed one after the other.
-use Rattle.std.proofs.Common.{◌≡◌, ℕ, zero, suc, ◌+◌, ◌<◌, List, [], ◌∷◌, ◌++◌, map, length, take, drop, get_or, set, replicate, refl, sym, ap, ◌∙◌, arith}
+-- Lists of one member, and lists whose members are changed one after the other.
+use Rattle.std.proofs.Common.{◌≡◌, ℕ, zero, suc, ◌+◌, ◌<◌, ◌≤◌, List, [], ◌∷◌, ◌++◌, map, length, take, drop, get_or, set, replicate, refl, sym, ap, ◌∙◌, arith}
+use Rattle.std.proofs.lemmas.List.{length_push}
+
+-- a list of one member
+pub only_member : {X : Type 0} (xs : List X) (x : X) → length xs ≤ 1 → 1 ≤ length xs → x ≡ get_or xs 0 x → xs ≡ x ∷ []
+only_member [] x most least e = absurd (omega arith)
+only_member (y ∷ []) x most least e = ap (λ z. z ∷ []) (sym e)
+only_member (y ∷ z ∷ xs) x most least e = absurd (omega arith)
+
+-- the last of a list of one
+pub last_of_one : {X : Type 0} (xs : List X) (x y : X) → x ∷ [] ≡ xs ++ y ∷ [] → x ≡ y
+last_of_one [] x y e = cc
+last_of_one (z ∷ xs) x y e =
+    let longer : 1 ≡ suc (length (xs ++ y ∷ [])) = ap length e in
+    absurd (omega (arith, longer, length_push xs y))
 
 one_more : (i : ℕ) → suc i + 1 ≡ suc (i + 1)
 one_more i = omega arith

@@ -1,0 +1,30 @@
+use proto::Fault;
+use std::alloc::AllocError;
+use std::io;
+use thiserror::Error;
+
+/// Why `first` ended early.
+#[derive(Debug, Drop, Error)]
+pub enum FirstFault {
+    /// A refusal of this server's own.
+    #[error("{0}")]
+    Own(Fault),
+    /// A read failed.
+    #[error("{0}")]
+    Read(io::Error),
+    /// A write failed.
+    #[error("{0}")]
+    Write(io::Error),
+}
+
+impl From<Fault> for FirstFault {
+    fn from(fault: Fault) -> FirstFault {
+        FirstFault::Own(fault)
+    }
+}
+
+impl From<AllocError> for FirstFault {
+    fn from(_e: AllocError) -> FirstFault {
+        FirstFault::Own(Fault::NoMemory)
+    }
+}
