@@ -12,3 +12,6 @@ mod single;
 
 pub use fault::FirstFault;
 pub use single::first;
+
+#[cfg(test)]
+mod tests;

@@ -1,0 +1,33 @@
+/* Loaded before the C library: refuses the growth of memory with the number in REFUSE, counted from
+   1, and says so on standard error. */
+#define _GNU_SOURCE
+#include <dlfcn.h>
+#include <stdlib.h>
+#include <unistd.h>
+
+static long calls;
+
+static int refused(void) {
+    static long wanted;
+    if (wanted == 0) {
+        const char *text = getenv("REFUSE");
+        wanted = text ? atol(text) : -1;
+    }
+    if (++calls != wanted)
+        return 0;
+    return write(2, "refused\n", 8) == 8;
+}
+
+void *malloc(size_t size) {
+    static void *(*real)(size_t);
+    if (!real)
+        real = (void *(*)(size_t))dlsym(RTLD_NEXT, "malloc");
+    return refused() ? NULL : real(size);
+}
+
+void *realloc(void *old, size_t size) {
+    static void *(*real)(void *, size_t);
+    if (!real)
+        real = (void *(*)(void *, size_t))dlsym(RTLD_NEXT, "realloc");
+    return refused() ? NULL : real(old, size);
+}
