@@ -1,6 +1,6 @@
 ghost use Rattle.std.specs.Prelude.{◌≡◌, ℕ, IfOk, IfErr, OnOk, OnErr, ◌++◌, Some};
 ghost use Rattle.std.specs.Option.{option_copied};
-ghost use Rattle.item_steps.specs.Effect.{effect, updated, stored, joined, swapped, touched, recounted, counted, number_of, kept, new_item};
+ghost use Rattle.item_steps.specs.Effect.{effect, updated, stored, joined, swapped, touched, recounted, counted, number_of, kept, new_item, changed_item};
 ghost use Rattle.item_steps.specs.declared.step.Place.{Place};
 
 use crate::number::{decimal_block, number_in};
@@ -64,12 +64,25 @@ fn keep(item: Item, moment: u32) -> Change
 fn item_of(place: Place, flags: u32, exptime: i32, block: &Block) -> Result<Item, AllocError>
     ensures { IfOk result (λ item. item ≡ new_item place flags exptime block.now) }
 {
+    let unique = place.stamp;
     Ok(Item {
         block: block.clone()?,
         flags,
         due: due_at(exptime, place.moment),
-        unique: place.stamp,
+        unique,
     })
+}
+
+/// The item with other data; flags and due time stay.
+fn changed_item(old: &Item, place: Place, block: Block) -> Item
+    ensures { result ≡ changed_item place old.now block }
+{
+    Item {
+        block,
+        flags: old.flags,
+        due: old.due,
+        unique: place.stamp,
+    }
 }
 
 #[tactic(auto, unfolding(crate::specs::Effect::updated))]
@@ -157,12 +170,7 @@ fn join_items(
     let mut block = Vec::with_capacity(alloc, front.len() + back.len())?;
     block.extend_from_slice(front)?;
     block.extend_from_slice(back)?;
-    let item = Item {
-        block: Block::new(block),
-        flags: old.flags,
-        due: old.due,
-        unique: place.stamp,
-    };
+    let item = changed_item(old, place, Block::new(block));
     Ok((Change::Put(item), Reply::Stored))
 }
 
@@ -189,11 +197,7 @@ fn swap_item(
     }
 }
 
-fn touch_item(
-    exptime: i32,
-    place: Place,
-    old: Option<&Item>,
-) -> Result<(Change, Reply), AllocError>
+fn touch_item(exptime: i32, place: Place, old: Option<&Item>) -> Result<(Change, Reply), AllocError>
     ensures { IfOk result (λ done. done ≡ touched exptime place (option_copied old.entry)) }
 {
     match old {
@@ -233,11 +237,6 @@ fn count_item(
 ) -> Result<(Change, Reply), AllocError>
     ensures { IfOk result (λ done. done ≡ counted (λ _. value) place old.now (Some value)) }
 {
-    let item = Item {
-        block: decimal_block(alloc, value)?,
-        flags: old.flags,
-        due: old.due,
-        unique: place.stamp,
-    };
+    let item = changed_item(old, place, decimal_block(alloc, value)?);
     Ok((Change::Put(item), Reply::Number(value)))
 }

@@ -53,6 +53,13 @@ impl Block {
         self.bytes.clear();
     }
 
+    /// Makes room for so many more bytes.
+    pub fn reserve(&mut self, more: usize) -> Result<(), AllocError>
+        ensures { self.new ≡ self.old }
+    {
+        self.bytes.reserve(more)
+    }
+
     /// Keeps the first `size` bytes.
     pub fn truncate(&mut self, size: usize)
         ensures { self.new ≡ take size self.old }

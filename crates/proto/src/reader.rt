@@ -86,7 +86,7 @@ impl Reader {
             self.stage.extend(piece)?;
             return Ok(Vec::new(alloc));
         }
-        let mut stage = self.stage.clone()?;
+        let mut stage = self.stage.copy(alloc)?;
         let (turns, closed) = read_piece(alloc, &mut stage, piece)?;
         self.stage = stage;
         self.closed = closed;

@@ -124,6 +124,12 @@ fn skip_of(header: &Header, dropped: usize, n: usize) -> usize
     }
 }
 
+/// How many bytes of a block, with the two after it, are held at most.
+fn room_of(header: &Header) -> usize {
+    let size = header.size as usize;
+    if size > BLOCK_LIMIT { 2 } else { size + 2 }
+}
+
 impl Stage {
     pub fn new(alloc: Global) -> Stage
         ensures stage { IsStage result }
@@ -135,6 +141,24 @@ impl Stage {
             block: Block::new(Vec::new(alloc)),
             dropped: 0,
         }
+    }
+
+    /// A copy with room for the rest of the block.
+    pub fn copy(&self, alloc: Global) -> Result<Stage, AllocError>
+        ensures { IfOk result (λ copy. copy ≡ self.now) }
+    {
+        let room = match &self.header {
+            None => 0,
+            Some(header) => room_of(header),
+        };
+        let mut block = Block::new(Vec::with_capacity(alloc, room)?);
+        block.extend(self.block.as_slice())?;
+        Ok(Stage {
+            line: self.line.clone()?,
+            header: self.header.clone()?,
+            block,
+            dropped: self.dropped,
+        })
     }
 
     /// Whether neither the line nor the block ends in the piece.
@@ -201,6 +225,7 @@ impl Stage {
                         Ok((Some(turn), at + 1))
                     }
                     Line::Opens(header) => {
+                        self.block.reserve(room_of(&header))?;
                         self.line.extend(b"\n".as_slice())?;
                         self.header = Some(header);
                         Ok((None, at + 1))
@@ -249,18 +274,5 @@ impl Stage {
             None => self.step_line(alloc, piece),
             Some(header) => self.end_block(alloc, header, piece),
         }
-    }
-}
-
-impl Clone for Stage {
-    ghost is_clone = { λ stage copy. copy ≡ stage };
-
-    fn clone(&self) -> Result<Stage, AllocError> {
-        Ok(Stage {
-            line: self.line.clone()?,
-            header: self.header.clone()?,
-            block: self.block.clone()?,
-            dropped: self.dropped,
-        })
     }
 }
