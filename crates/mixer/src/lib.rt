@@ -13,3 +13,6 @@ mod conflict;
 mod groups;
 
 pub use groups::mix;
+
+#[cfg(test)]
+mod tests;
