@@ -1,8 +1,14 @@
-ghost use Rattle.std.specs.Prelude.{◌≡◌};
+ghost use Rattle.std.specs.Prelude.{◌≡◌, ◌↔◌, [], length, IsTrue};
 
 use sessions::Request;
 use std::alloc::AllocError;
 use std::marker::Model;
+
+/// The most requests that a batch has.
+pub const MOST_REQUESTS: usize = 64;
+
+/// The greatest number of a batch: the stamps of its requests, 64 times the number and more, fit.
+pub const GREATEST_NUMBER: u64 = (1 << 58) - 1;
 
 /// The requests of a batch, in its order.
 #[derive(Debug, Drop)]
@@ -30,6 +36,18 @@ impl Requests {
         ensures { result.now ≡ self.now }
     {
         self.requests.as_slice()
+    }
+
+    pub fn len(&self) -> usize
+        ensures { result ≡ length self.now }
+    {
+        self.requests.len()
+    }
+
+    pub fn is_empty(&self) -> bool
+        ensures { IsTrue result ↔ (self.now ≡ []) }
+    {
+        self.requests.is_empty()
     }
 }
 

@@ -81,6 +81,7 @@ impl Sessions {
 
     /// Whether the request is the next of its client: its number is 1 above the last kept, or 1
     /// where none is kept. After the number 2^64 - 1 a client has no next request.
+    #[tactic(auto, using(crate::proofs::FreshLemmas::checked_is))]
     pub fn fresh(&self, request: &Request) -> bool
         ensures { result ≡ is_next self.now request.now }
     {

@@ -1,0 +1,3 @@
+pub mod OneEachLemmas
+pub mod PartLemmas
+pub mod HeldLemmas

@@ -1,0 +1,121 @@
+use crate::batch::{Batch, GREATEST_NUMBER, MOST_REQUESTS, Requests};
+use crate::held::{add_request, part};
+use indexmap::IndexMap;
+use proto::Fault;
+use sessions::{Request, Sessions};
+use std::alloc::{AllocError, Global};
+use std::marker::Model;
+use std::mem;
+
+/// The requests that wait for a batch: at most one a client, in the order of arrival.
+#[derive(Debug, Drop)]
+pub struct Gather {
+    held: IndexMap<u16, Request>,
+}
+
+impl Model for Gather {
+    ghost use Rattle.std.specs.Prelude.{List, ◌≡◌};
+    ghost use Rattle.std.specs.Map.{values_of};
+    ghost use Rattle.sessions.specs.declared.request.Request.{Request};
+    ghost use Rattle.batches.specs.Waiting.{keyed};
+
+    ghost Value = { List Request };
+
+    ghost view = { λ g. values_of g.held.entries };
+
+    ghost invariant = { λ g. g.held.entries ≡ keyed (values_of g.held.entries) };
+}
+
+impl Gather {
+    ghost use Rattle.std.specs.Prelude.{◌≡◌, ◌≤◌, ◌<◌, ◌↔◌, [], length, IsTrue, IfOk, IfErr, IfSome, OnOk, OnErr};
+    ghost use Rattle.batches.specs.Waiting.{IsOneEach, added};
+    ghost use Rattle.batches.specs.Cut.{taken, left, batch_of, Fits};
+
+    pub fn new(alloc: Global) -> Gather
+        ensures { result ≡ [] }
+    {
+        Gather {
+            held: IndexMap::new(alloc),
+        }
+    }
+
+    /// How many requests wait.
+    pub fn len(&self) -> usize
+        ensures len { result ≡ length self.now }
+        ensures one_each { IsOneEach self.now }
+    {
+        self.held.len()
+    }
+
+    pub fn is_empty(&self) -> bool
+        ensures { IsTrue result ↔ (self.now ≡ []) }
+    {
+        self.held.is_empty()
+    }
+
+    /// A request comes. Where the client's request that waits has the same number or a higher one,
+    /// it is ignored; a later one takes its place and goes last. Where memory is wanting nothing
+    /// changes.
+    pub fn add(&mut self, request: Request) -> Result<(), AllocError>
+        ensures ok { OnOk result (self.new ≡ added request self.old) }
+        ensures err { OnErr result (self.new ≡ self.old) }
+    {
+        add_request(&mut self.held, request)
+    }
+
+    /// Takes the first 64 requests that are the next of their clients into a batch, and drops those
+    /// that ran already. The others wait on, in their order. There is no batch where none is next;
+    /// those that ran are dropped all the same.
+    ///
+    /// `Full` comes exactly where `n` is above `GREATEST_NUMBER`. After it and after `NoMemory`
+    /// nothing has changed.
+    pub fn cut(
+        &mut self,
+        alloc: Global,
+        epoch: u64,
+        n: u64,
+        moment: u32,
+        sessions: &Sessions,
+    ) -> Result<Option<Batch>, Fault>
+        requires { 1 ≤ n }
+        ensures batch { IfOk result (λ batch. batch
+            ≡ batch_of epoch n moment (taken MOST_REQUESTS sessions.now self.old)) }
+        ensures left { OnOk result (self.new ≡ left MOST_REQUESTS sessions.now self.old) }
+        ensures fits { IfOk result (λ batch. IfSome batch
+            (λ b. Fits MOST_REQUESTS sessions.now b.requests)) }
+
+        ensures full { (result ≡ Err Fault.Full) ↔ (GREATEST_NUMBER < n) }
+        ensures no_memory { n ≤ GREATEST_NUMBER → IfErr result (λ fault. fault ≡ Fault.NoMemory) }
+        ensures err { OnErr result (self.new ≡ self.old) }
+    {
+        if n > GREATEST_NUMBER {
+            return Err(Fault::Full);
+        }
+        let requests = self.take_fresh(alloc, sessions)?;
+        if requests.is_empty() {
+            return Ok(None);
+        }
+        Ok(Some(Batch {
+            epoch,
+            n,
+            moment,
+            requests: Requests::new(requests),
+        }))
+    }
+
+    fn take_fresh(&mut self, alloc: Global, sessions: &Sessions) -> Result<Vec<Request>, AllocError>
+        ensures taken { IfOk result (λ requests. requests.items
+            ≡ taken MOST_REQUESTS sessions.now self.old) }
+        ensures left { OnOk result (self.new ≡ left MOST_REQUESTS sessions.now self.old) }
+        ensures fits { IfOk result (λ requests. Fits MOST_REQUESTS sessions.now requests.items) }
+        ensures err { OnErr result (self.new ≡ self.old) }
+    {
+        let len = self.held.len();
+        let mut taken = Vec::with_capacity(alloc, len.min(MOST_REQUESTS))?;
+        let mut left = IndexMap::with_capacity(alloc, len)?;
+        let held = mem::replace(&mut self.held, IndexMap::new(alloc));
+        part(held, sessions, &mut taken, &mut left);
+        self.held = left;
+        Ok(taken)
+    }
+}
