@@ -1,2 +1,4 @@
 pub mod Values
 pub mod Texts
+pub mod Rows
+pub mod Updates

@@ -1,6 +1,7 @@
 -- Fronts of lists.
 use Rattle.std.proofs.Common.{◌≡◌, ◌≢◌, ℕ, suc, ◌+◌, ◌<◌, ◌≤◌, ◌⊎◌, Bool, true, false, List, [], ◌∷◌, ◌++◌, length, refl, sym, ◌∙◌, ap, inl, inr, arith, append_assoc}
-use Rattle.std.specs.Prelude.{◌&&◌}
+use Rattle.std.specs.Prelude.{◌&&◌, nat_eq}
+use Rattle.std.proofs.lemmas.Bool.{eq-eqb}
 use Rattle.wire.specs.Number.{only_if}
 
 -- lists of one length at the front of one text are one list
@@ -41,3 +42,11 @@ both_ways false true x y v w r s p q e =
 pub both_true : (a b : Bool) → a && b ≡ true → (a ≡ true) × (b ≡ true)
 both_true true b e = (refl, e)
 both_true false b e = absurd (cc e)
+
+-- a test that computes to a fact
+abbrev pub Passes : Bool → Type 0
+Passes true = Unit {0}
+Passes false = ⊥
+
+pub same_numbers : (a b : ℕ) → a ≡ b → Passes (nat_eq a b)
+same_numbers a b e = rw (eq-eqb a b e) tt

@@ -1,4 +1,4 @@
-ghost use Rattle.std.specs.Prelude.{◌≡◌, ◌++◌, ◌∷◌, ◌<◌, List, ℕ, length, IfOk, IfErr, IsNone, ⊤};
+ghost use Rattle.std.specs.Prelude.{◌≡◌, ◌++◌, [], ◌∷◌, ◌<◌, List, ℕ, length, IfOk, IfErr, IsNone, ⊤};
 ghost use Rattle.proto.specs.declared.fault.Fault.TheVariants.{BadRecord};
 ghost use Rattle.wire.specs.Record.{NoMark};
 
@@ -24,5 +24,16 @@ pub fn take_mark(bytes: &[u8], mark: u8) -> Result<&[u8], Fault>
     match bytes {
         [first, rest @ ..] if *first == mark => Ok(rest),
         _ => Err(Fault::BadRecord),
+    }
+}
+
+/// The first byte, and the bytes after it.
+pub fn take_first(bytes: &[u8]) -> Result<(u8, &[u8]), Fault>
+    ensures ok { IfOk result (λ r. bytes.now ≡ r.0 ∷ r.1.now) }
+    ensures err { IfErr result (λ e. (e ≡ BadRecord) × (bytes.now ≡ [])) }
+{
+    match bytes {
+        [first, rest @ ..] => Ok((*first, rest)),
+        [] => Err(Fault::BadRecord),
     }
 }

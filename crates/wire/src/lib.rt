@@ -6,17 +6,23 @@
 #![tactic(auto)]
 
 mod block;
+mod command;
 mod fixed;
 mod front;
+mod item;
 mod key;
 mod listed;
 mod numbers;
 mod option;
 mod pair;
 mod record;
+mod reply;
 mod sink;
+mod token;
+mod update;
 
 pub use front::{take_bytes, take_mark};
 pub use listed::{Listed, put_count, put_list};
 pub use record::{Record, digest, read, write};
 pub use sink::Sink;
+pub use token::{InnerText, TokenText};
