@@ -1,6 +1,8 @@
 -- Items and pages.
-use Rattle.std.specs.Prelude.{ℕ, List, ◌∷◌, ◌++◌}
+use Rattle.std.specs.Prelude.{ℕ, List, ◌∷◌, ◌++◌, IsTrue}
 use Rattle.std.specs.Int.{w32, w64}
+use Rattle.std.specs.FinMap.{is_sorted}
+use Rattle.items.specs.Map.{by_bytes}
 use Rattle.items.specs.declared.item.Item.{Item}
 use Rattle.wire.specs.Number.{num}
 use Rattle.wire.specs.Field.{option_text, list_text, bytes_text, BlockFits, ListFits}
@@ -21,3 +23,8 @@ page_text entries = 0 ∷ list_text entry_text entries
 
 abbrev pub PageFits : List (List ℕ × Item) → Type 0
 PageFits = ListFits (λ entry. ItemFits entry.1)
+
+-- a page whose keys strictly rise
+pub record EntriesFit (entries : List (List ℕ × Item)) : Type 0 where
+  pub page : PageFits entries
+  pub rising : IsTrue (is_sorted by_bytes entries)

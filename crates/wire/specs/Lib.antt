@@ -17,3 +17,5 @@ pub mod ItemLaws
 pub mod TokenLaws
 pub mod ReplyLaws
 pub mod CommandLaws
+pub mod BatchLaws
+pub mod SessionLaws

@@ -5,6 +5,7 @@
 //! of one that fits, and `write` and `digest`, which spell by the same `Record::put`.
 #![tactic(auto)]
 
+mod batch;
 mod block;
 mod command;
 mod fixed;
@@ -14,15 +15,19 @@ mod key;
 mod listed;
 mod numbers;
 mod option;
+mod page;
 mod pair;
 mod record;
 mod reply;
+mod request;
+mod session;
 mod sink;
 mod token;
 mod update;
 
 pub use front::{take_bytes, take_mark};
 pub use listed::{Listed, put_count, put_list};
+pub use page::{Entries, put_page};
 pub use record::{Record, digest, read, write};
 pub use sink::Sink;
 pub use token::{InnerText, TokenText};
