@@ -100,3 +100,7 @@ list_of_values fits spelling bytes rest count small e (Err f) h = Refused-weaker
       let both = (num_prefix_free w32 wide32).apart count (length xs) rest (flat_map spelling xs ++ after) (sym e ∙ (same ∙ append_assoc (num w32 (length xs)) (flat_map spelling xs) after)) in
       none.none xs after (record { is = sym both.0; each = g.each }) both.1;
 }) h
+
+-- values that are spelled alike are one
+pub told_apart : {X : Type 0} {spelling : X → List ℕ} → IsPrefixFree spelling → (v w : X) → spelling v ≡ spelling w → v ≡ w
+told_apart free v w e = (free.apart v w [] [] (ap (λ (t : List ℕ). t ++ []) e)).0

@@ -12,6 +12,10 @@ Puts holds text old new = (m : List ℕ) → holds old m → holds new (m ++ tex
 pub record IsPrefixFree {X : Type 0} (spelling : X → List ℕ) : Type 0 where
   pub apart : (v w : X) (r s : List ℕ) → spelling v ++ r ≡ spelling w ++ s → (v ≡ w) × (r ≡ s)
 
+-- values that are spelled alike are one value, whatever values they are
+abbrev pub OneValue : {X : Type 0} → (X → List ℕ) → Type 0
+OneValue {X} spelling = (v w : X) → spelling v ≡ spelling w → v ≡ w
+
 -- the bytes do not begin with this mark
 abbrev pub NoMark : ℕ → List ℕ → Type 0
 NoMark mark bytes = (rest : List ℕ) → bytes ≡ mark ∷ rest → ⊥

@@ -12,6 +12,7 @@ mod fixed;
 mod front;
 mod item;
 mod key;
+mod laws;
 mod listed;
 mod numbers;
 mod option;
@@ -26,8 +27,16 @@ mod token;
 mod update;
 
 pub use front::{take_bytes, take_mark};
+pub use laws::{
+    batches_are_told_apart, commands_are_told_apart, inner_nodes_are_told_apart,
+    items_are_told_apart, pages_are_told_apart, replies_are_told_apart, requests_are_told_apart,
+    sessions_are_told_apart, tokens_are_told_apart,
+};
 pub use listed::{Listed, put_count, put_list};
 pub use page::{Entries, put_page};
 pub use record::{Record, digest, read, write};
 pub use sink::Sink;
 pub use token::{InnerText, TokenText};
+
+#[cfg(test)]
+mod tests;
