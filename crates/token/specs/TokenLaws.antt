@@ -1,6 +1,5 @@
 -- No token is spelled at the front of another.
-use Rattle.std.proofs.Common.{◌≡◌, ℕ, List, refl}
-use Rattle.token.specs.declared.Token.{Token}
+use Rattle.std.proofs.Common.{refl}
 use Rattle.wire.specs.Record.{IsPrefixFree}
 use Rattle.wire.specs.KeyLaws.{fixed_prefix_free}
 use Rattle.wire.specs.RowLaws.{made_of}

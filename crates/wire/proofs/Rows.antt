@@ -2,7 +2,7 @@
 use Rattle.std.proofs.Common.{◌≡◌, ℕ, List, ◌∷◌, ◌++◌, sym, ◌∙◌, ap, subst, Option, Some, None}
 use Rattle.std.specs.Prelude.{IfSome}
 use Rattle.proto.specs.declared.fault.Fault.{Fault}
-use Rattle.wire.specs.Record.{IsPrefixFree, NoFront, NoMark, Refused}
+use Rattle.wire.specs.Record.{IsPrefixFree, NoFront, Refused}
 use Rattle.wire.specs.FrontLaws.{tail_of}
 use Rattle.wire.proofs.Values.{Refused-weaker}
 

@@ -1,6 +1,6 @@
 -- Sessions that bytes do not spell.
-use Rattle.std.proofs.Common.{◌≡◌, ℕ, ◌<◌, ◌≤◌, List, ◌∷◌, ◌++◌, Bool, true, false, length, get_or, refl, sym, ◌∙◌, ap, subst, arith}
-use Rattle.std.specs.Prelude.{All, nat_le}
+use Rattle.std.proofs.Common.{◌≡◌, ℕ, List, ◌∷◌, ◌++◌, true, false, refl, sym, ◌∙◌, ap}
+use Rattle.std.specs.Prelude.{nat_le}
 use Rattle.std.specs.List.{list_all}
 use Rattle.std.specs.Ordering.{nat_cmp}
 use Rattle.std.specs.FinMap.{FinMap, entries, is_sorted, entries_sorted}

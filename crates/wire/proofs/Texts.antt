@@ -1,11 +1,11 @@
 -- Why a text does not stand at the front of bytes.
-use Rattle.std.proofs.Common.{◌≡◌, ℕ, suc, ◌+◌, ◌^◌, ◌<◌, ◌≤◌, Bool, true, false, List, [], ◌∷◌, ◌++◌, length, get_or, refl, sym, ◌∙◌, ap, arith, append_assoc}
+use Rattle.std.proofs.Common.{◌≡◌, ℕ, ◌+◌, ◌<◌, ◌≤◌, true, false, List, ◌++◌, length, get_or, sym, ◌∙◌, ap, arith, append_assoc}
 use Rattle.std.specs.Int.{w8, w32}
 use Rattle.std.proofs.lemmas.List.{length-append}
 use Rattle.proto.specs.declared.fault.Fault.{Fault}
 use Rattle.proto.specs.Key.{is_key}
-use Rattle.wire.specs.Record.{IsPrefixFree, NoFront, Refused}
-use Rattle.wire.specs.Number.{num, fixed}
+use Rattle.wire.specs.Record.{NoFront, Refused}
+use Rattle.wire.specs.Number.{num}
 use Rattle.wire.specs.Field.{list_text, bytes_text, BlockFits, ListFits}
 use Rattle.wire.specs.Key.{key_text, keys_text}
 use Rattle.wire.specs.FrontLaws.{split_at}

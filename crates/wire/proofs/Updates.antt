@@ -1,10 +1,10 @@
 -- Where the fields of an update do not stand, no update stands behind its mark.
-use Rattle.std.proofs.Common.{◌≡◌, ℕ, List, ◌∷◌, ◌++◌, ℤ, refl, sym, ◌∙◌, ap}
+use Rattle.std.proofs.Common.{◌≡◌, ℕ, List, ◌∷◌, ◌++◌, ℤ, sym, ◌∙◌}
 use Rattle.std.specs.Prelude.{nat_eq}
 use Rattle.proto.specs.declared.fault.Fault.{Fault}
 use Rattle.proto.specs.declared.command.StoreVerb.{StoreVerb}
 use Rattle.proto.specs.declared.command.Update.{Update}
-use Rattle.proto.specs.declared.command.Update.TheVariants.{Store, Cas, Delete, Touch, Incr, Decr}
+use Rattle.proto.specs.declared.command.Update.TheVariants.{Store, Cas, Touch, Incr, Decr}
 use Rattle.wire.specs.Record.{NoFront, Refused}
 use Rattle.wire.specs.Field.{BlockFits}
 use Rattle.wire.specs.Command.{verb_mark, update_text, UpdateFits}

@@ -1,6 +1,5 @@
 -- No batch is spelled at the front of another.
-use Rattle.std.proofs.Common.{◌≡◌, ℕ, List, refl}
-use Rattle.batches.specs.declared.batch.Batch.{Batch}
+use Rattle.std.proofs.Common.{refl}
 use Rattle.wire.specs.Record.{IsPrefixFree}
 use Rattle.wire.specs.Batch.{batch_text}
 use Rattle.wire.specs.Command.{request_text}

@@ -1,5 +1,5 @@
 -- Commands and requests.
-use Rattle.std.specs.Prelude.{ℕ, ◌≤◌, List, [], ◌∷◌, ◌++◌}
+use Rattle.std.specs.Prelude.{ℕ, ◌≤◌, List, ◌∷◌, ◌++◌}
 use Rattle.std.specs.Int.{w16, w32, w64}
 use Rattle.proto.specs.declared.command.StoreVerb.{StoreVerb}
 use Rattle.proto.specs.declared.command.StoreVerb.TheVariants.{Set, Add, Replace, Append, Prepend}

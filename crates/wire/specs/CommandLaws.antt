@@ -1,18 +1,17 @@
 -- No command is spelled at the front of another, nor a request.
-use Rattle.std.proofs.Common.{◌≡◌, ℕ, zero, suc, ◌-◌, ◌<◌, ◌≤◌, ℤ, List, ◌∷◌, ◌++◌, Bool, true, false, refl, sym, ◌∙◌, ap, arith}
+use Rattle.std.proofs.Common.{◌≡◌, ℕ, ◌≤◌, ℤ, List, ◌∷◌, ◌++◌, refl, sym, ◌∙◌, ap, arith}
 use Rattle.std.specs.Prelude.{nat_eq, nat_lt, if◌then◌else◌}
-use Rattle.std.specs.Int.{w16, w32, w64}
+use Rattle.std.specs.Int.{w32, w64}
 use Rattle.proto.specs.declared.command.StoreVerb.{StoreVerb}
 use Rattle.proto.specs.declared.command.StoreVerb.TheVariants.{Set, Add, Replace, Append, Prepend}
 use Rattle.proto.specs.declared.command.Update.{Update}
 use Rattle.proto.specs.declared.command.Update.TheVariants.{Store, Cas, Delete, Touch, Incr, Decr}
 use Rattle.proto.specs.declared.command.Command.{Command}
 use Rattle.proto.specs.declared.command.Command.TheVariants as command
-use Rattle.sessions.specs.declared.request.Request.{Request}
 use Rattle.wire.specs.Record.{IsPrefixFree}
 use Rattle.wire.specs.Number.{num, num_signed}
 use Rattle.wire.specs.Field.{bytes_text}
-use Rattle.wire.specs.Key.{key_text, keys_text}
+use Rattle.wire.specs.Key.{key_text}
 use Rattle.wire.specs.Command.{verb_mark, update_text, command_text, request_text}
 use Rattle.wire.specs.FrontLaws.{tail_of, head_of, Passes, same_numbers}
 use Rattle.wire.specs.NumberLaws.{num_signed_prefix_free}

@@ -1,7 +1,6 @@
 -- No item is spelled at the front of another, nor a page.
-use Rattle.std.proofs.Common.{◌≡◌, ℕ, List, refl}
-use Rattle.std.specs.Int.{w32, w64}
-use Rattle.items.specs.declared.item.Item.{Item}
+use Rattle.std.proofs.Common.{refl}
+use Rattle.std.specs.Int.{w64}
 use Rattle.wire.specs.Record.{IsPrefixFree}
 use Rattle.wire.specs.Number.{num}
 use Rattle.wire.specs.Item.{item_text, entry_text, page_text}

@@ -1,5 +1,5 @@
 -- Keys in records.
-use Rattle.std.specs.Prelude.{ℕ, List, ◌∷◌, ◌++◌, length, Bool, ◌&&◌, nat_le}
+use Rattle.std.specs.Prelude.{ℕ, List, ◌∷◌, ◌++◌, length, ◌&&◌, nat_le}
 use Rattle.std.specs.Int.{w8}
 use Rattle.proto.specs.Key.{is_key}
 use Rattle.wire.specs.Number.{only_if, num}

@@ -8,7 +8,7 @@ use Rattle.std.proofs.lemmas.Bool.{cases_Bool, cases_lt}
 use Rattle.std.proofs.lemmas.List.{take_all, take-append-drop, length-append, length-take, get_or-take, get_or_past}
 use Rattle.wire.specs.Record.{IsPrefixFree, NoFront}
 use Rattle.wire.specs.Number.{only_if, num, num_signed, as_unsigned}
-use Rattle.wire.specs.FrontLaws.{split_at, head_of, BothWays, both_ways, has, lacks}
+use Rattle.wire.specs.FrontLaws.{split_at, head_of, both_ways, has, lacks}
 
 -- what std's bytes of a width keep to
 pub record IsWide (w : Width) : Type 0 where

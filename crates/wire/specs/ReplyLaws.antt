@@ -1,8 +1,7 @@
 -- No reply is spelled at the front of another.
-use Rattle.std.proofs.Common.{◌≡◌, ℕ, List, ◌∷◌, ◌++◌, Bool, true, refl, sym, ◌∙◌, ap}
+use Rattle.std.proofs.Common.{◌≡◌, ℕ, List, ◌++◌, refl, sym, ◌∙◌, ap}
 use Rattle.std.specs.Prelude.{nat_eq}
-use Rattle.std.specs.Int.{w32, w64}
-use Rattle.proto.specs.declared.reply.Found.{Found}
+use Rattle.std.specs.Int.{w64}
 use Rattle.proto.specs.declared.reply.Reply.{Reply}
 use Rattle.proto.specs.declared.reply.Reply.TheVariants as reply
 use Rattle.wire.specs.Record.{IsPrefixFree}

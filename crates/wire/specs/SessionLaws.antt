@@ -1,5 +1,5 @@
 -- No sessions are spelled at the front of others.
-use Rattle.std.proofs.Common.{◌≡◌, ℕ, List, refl}
+use Rattle.std.proofs.Common.{◌≡◌, refl}
 use Rattle.std.specs.Ordering.{nat_cmp}
 use Rattle.std.specs.FinMap.{FinMap, entries, from_sorted, same_entries_map, entries-from_sorted, entries_sorted}
 use Rattle.sessions.specs.declared.sessions.Kept.{Kept}

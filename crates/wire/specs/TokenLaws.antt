@@ -1,7 +1,5 @@
 -- No text of a token is spelled at the front of another.
-use Rattle.std.proofs.Common.{◌≡◌, ℕ, List, ◌++◌, refl}
-use Rattle.wire.specs.declared.token.InnerText.{InnerText}
-use Rattle.wire.specs.declared.token.TokenText.{TokenText}
+use Rattle.std.proofs.Common.{refl}
 use Rattle.wire.specs.Record.{IsPrefixFree}
 use Rattle.wire.specs.Number.{fixed}
 use Rattle.wire.specs.Token.{inner_text, token_text}

@@ -26,7 +26,7 @@ mod sink;
 mod token;
 mod update;
 
-pub use front::{take_bytes, take_mark};
+pub use front::{take_bytes, take_first, take_mark};
 pub use laws::{
     batches_are_told_apart, commands_are_told_apart, inner_nodes_are_told_apart,
     items_are_told_apart, pages_are_told_apart, replies_are_told_apart, requests_are_told_apart,

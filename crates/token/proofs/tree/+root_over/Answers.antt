@@ -1,5 +1,4 @@
-use Rattle.std.proofs.Common.{rules, arith, ◌≡◌, ◌∙◌, ◌++◌, ◌∷◌, [], ap, sym, length, List, ℕ}
-use Rattle.std.proofs.lemmas.List.{take-append-drop}
+use Rattle.std.proofs.Common.{arith, ◌∙◌, ◌∷◌, [], ap, sym, length, List, ℕ}
 use Rattle.token.proofs.Levels.{half, over_halves}
 use Rattle.token.proofs.tree.+root_over.Goals as goal
 

@@ -1,4 +1,4 @@
-use Rattle.std.proofs.Common.{rules, arith, refl, ◌≡◌, ◌≤◌, ◌∙◌, ap, ◌∷◌, ◌++◌, List, ℕ, length}
+use Rattle.std.proofs.Common.{rules, arith, refl, ◌≤◌, ◌∙◌, ap, ◌∷◌, List, ℕ, length}
 use Rattle.std.proofs.lemmas.Result.{err_from_is_err_and}
 use Rattle.wire.specs.Batch.{batch_text, BatchFits}
 use Rattle.wire.specs.BatchLaws.{batch_prefix_free}

@@ -1,4 +1,3 @@
-use Rattle.std.proofs.Common.{◌∙◌}
 use Rattle.std.proofs.lemmas.Result.{err_from_is_err_and}
 use Rattle.wire.proofs.Texts.{over_limit, cut_off}
 use Rattle.wire.proofs.block.BlockRecord.take.Goals as goal

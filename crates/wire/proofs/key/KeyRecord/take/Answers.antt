@@ -3,7 +3,6 @@ use Rattle.std.specs.Int.{w8}
 use Rattle.std.proofs.lemmas.Result.{err_from_is_err_and}
 use Rattle.proto.specs.Key.{is_key}
 use Rattle.wire.specs.Number.{num}
-use Rattle.wire.specs.Key.{key_text}
 use Rattle.wire.specs.KeyLaws.{key_text-is}
 use Rattle.wire.proofs.Texts.{no_key_size, key_cut_off, not_a_key}
 use Rattle.wire.proofs.key.KeyRecord.take.Goals as goal

@@ -1,4 +1,4 @@
-use Rattle.std.proofs.Common.{rules, arith, ◌≡◌}
+use Rattle.std.proofs.Common.{◌≡◌}
 use Rattle.wire.specs.Field.{list_text}
 use Rattle.wire.specs.Key.{key_text, keys_text}
 use Rattle.wire.specs.KeyLaws.{keys_text-is}

@@ -1,4 +1,4 @@
-use Rattle.std.proofs.Common.{arith, rules, ◌≡◌, ◌∙◌, sym, subst, List, ℕ}
+use Rattle.std.proofs.Common.{rules, ◌≡◌, ◌∙◌, sym, subst, List, ℕ}
 use Rattle.std.specs.Prelude.{OnOk}
 use Rattle.std.specs.Int.{w32, to_be_bytes, cast_unsigned}
 use Rattle.wire.specs.Record.{Puts}

@@ -1,5 +1,5 @@
-use Rattle.std.proofs.Common.{arith, rules, ◌≡◌}
-use Rattle.std.specs.Int.{w32, from_be_bytes, cast_signed}
+use Rattle.std.proofs.Common.{arith}
+use Rattle.std.specs.Int.{w32}
 use Rattle.std.proofs.lemmas.Int.{to_z-of_z}
 use Rattle.wire.specs.NumberLaws.{short_of_signed, signed_at}
 use Rattle.wire.proofs.numbers.I32Record.take.Goals as goal

@@ -1,12 +1,12 @@
-use Rattle.std.proofs.Common.{rules, ◌≡◌, ◌∙◌, ap, ◌∷◌, ◌++◌, List, ℕ, sym, refl, false, true, subst}
+use Rattle.std.proofs.Common.{rules, ◌≡◌, ◌∙◌, ap, ◌∷◌, ◌++◌, List, ℕ, sym, false, true}
 use Rattle.std.specs.Prelude.{nat_le}
 use Rattle.std.specs.List.{list_all}
 use Rattle.std.specs.Ordering.{nat_cmp}
 use Rattle.std.specs.FinMap.{is_sorted, entries}
 use Rattle.std.proofs.lemmas.Result.{err_from_is_err_and}
 use Rattle.sessions.specs.declared.sessions.Kept.{Kept}
-use Rattle.wire.specs.Field.{list_text, ListFits}
-use Rattle.wire.specs.Session.{session_text, sessions_text, SessionFits}
+use Rattle.wire.specs.Field.{list_text}
+use Rattle.wire.specs.Session.{session_text, sessions_text}
 use Rattle.wire.proofs.SessionLemmas.{no_sessions, not_rising, not_clients, are_sessions}
 use Rattle.wire.proofs.session.SessionsRecord.take.Goals as goal
 
