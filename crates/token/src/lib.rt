@@ -1,6 +1,61 @@
-//! Tokens: the digests by which states are known.
+//! Tokens: the digests by which states are known, and the digests that they are made from.
+//!
+//! It stands on `wire`, whose texts it digests, and on `sha2`. The layers above use `Token::new` and
+//! the digests beside it: each is the word `digest` of the text of its arguments. No call takes memory,
+//! and no layer above computes with SHA-256.
 #![tactic(auto)]
+
+mod digests;
+mod record;
+mod tree;
+
+pub use digests::{batch_digest, page_digest, sessions_digest};
+pub use tree::{inner_digest, root};
+use wire::{TokenText, digest};
 
 /// The digest by which a state is known.
 #[derive(Clone, Copy, Debug, PartialEq, Eq)]
 pub struct Token(pub [u8; 32]);
+
+impl Token {
+    ghost use Rattle.std.specs.Prelude.{◌≡◌};
+    ghost use Rattle.wire.specs.Token.{token_text};
+    ghost use Rattle.token.specs.Digest.{digest as digest_of};
+
+    /// The token of the state that has this number, epoch and moment: of the token of the state
+    /// before it, and of the digests of the batch that led to it, of its pages (their root) and of
+    /// its sessions.
+    #[tactic(auto, unfolding(crate::specs::Digest::digest))]
+    pub fn new(
+        previous: &Token,
+        n: u64,
+        epoch: u64,
+        moment: u32,
+        batch: &[u8; 32],
+        root: &[u8; 32],
+        sessions: &[u8; 32],
+    ) -> Token
+        ensures { result.0 ≡ digest_of (token_text (record {
+          previous = previous.now.0;
+          n = n;
+          epoch = epoch;
+          moment = moment;
+          batch = batch.now;
+          root = root.now;
+          sessions = sessions.now;
+        })) }
+    {
+        Token(digest(&TokenText {
+            previous: previous.0,
+            n,
+            epoch,
+            moment,
+            batch: *batch,
+            root: *root,
+            sessions: *sessions,
+        }))
+    }
+}
+
+#[cfg(test)]
+mod tests;

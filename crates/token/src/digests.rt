@@ -1,0 +1,43 @@
+ghost use Rattle.std.specs.Prelude.{◌≡◌};
+ghost use Rattle.wire.specs.Item.{page_text, PageFits};
+ghost use Rattle.wire.specs.Batch.{batch_text, BatchFits};
+ghost use Rattle.wire.specs.Session.{sessions_text, SessionsFit};
+ghost use Rattle.token.specs.Digest.{digest as digest_of};
+
+use batches::Batch;
+use items::Item;
+use proto::Key;
+use sessions::Sessions;
+use sha2::{Digest, Sha256};
+use wire::{digest, put_page};
+
+/// The digest of a page that has these entries.
+#[tactic(auto, unfolding(crate::specs::Digest::digest))]
+pub fn page_digest(entries: &[(Key, Item)]) -> [u8; 32]
+    requires { PageFits entries.now }
+    ensures { result ≡ digest_of (page_text entries.now) }
+{
+    let mut hasher = Sha256::new();
+    match put_page(entries, &mut hasher) {
+        Ok(()) => hasher.finalize(),
+        Err(never) => match never {},
+    }
+}
+
+/// The digest of a batch.
+#[tactic(auto, unfolding(crate::specs::Digest::digest))]
+pub fn batch_digest(batch: &Batch) -> [u8; 32]
+    requires { BatchFits batch.now }
+    ensures { result ≡ digest_of (batch_text batch.now) }
+{
+    digest(batch)
+}
+
+/// The digest of what is kept of all clients.
+#[tactic(auto, unfolding(crate::specs::Digest::digest))]
+pub fn sessions_digest(sessions: &Sessions) -> [u8; 32]
+    requires { SessionsFit sessions.now }
+    ensures { result ≡ digest_of (sessions_text sessions.now) }
+{
+    digest(sessions)
+}

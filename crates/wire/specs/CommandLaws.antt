@@ -1,0 +1,200 @@
+-- No command is spelled at the front of another, nor a request.
+use Rattle.std.proofs.Common.{◌≡◌, ℕ, ◌≤◌, ℤ, List, ◌∷◌, ◌++◌, refl, sym, ◌∙◌, ap, arith}
+use Rattle.std.specs.Prelude.{nat_eq, nat_lt, if◌then◌else◌}
+use Rattle.std.specs.Int.{w32, w64}
+use Rattle.proto.specs.declared.command.StoreVerb.{StoreVerb}
+use Rattle.proto.specs.declared.command.StoreVerb.TheVariants.{Set, Add, Replace, Append, Prepend}
+use Rattle.proto.specs.declared.command.Update.{Update}
+use Rattle.proto.specs.declared.command.Update.TheVariants.{Store, Cas, Delete, Touch, Incr, Decr}
+use Rattle.proto.specs.declared.command.Command.{Command}
+use Rattle.proto.specs.declared.command.Command.TheVariants as command
+use Rattle.wire.specs.Record.{IsPrefixFree}
+use Rattle.wire.specs.Number.{num, num_signed}
+use Rattle.wire.specs.Field.{bytes_text}
+use Rattle.wire.specs.Key.{key_text}
+use Rattle.wire.specs.Command.{verb_mark, update_text, command_text, request_text}
+use Rattle.wire.specs.FrontLaws.{tail_of, head_of, Passes, same_numbers}
+use Rattle.wire.specs.NumberLaws.{num_signed_prefix_free}
+use Rattle.wire.specs.FieldLaws.{bytes_prefix_free}
+use Rattle.wire.specs.KeyLaws.{key_prefix_free, keys_prefix_free}
+use Rattle.wire.specs.RowLaws.{u16_free, u32_free, u64_free, followed, made_of}
+
+-- the fields of a storage line
+abbrev pub store_row : ((List ℕ × ℕ) × ℤ) × List ℕ → List ℕ
+store_row p = key_text p.0.0.0 ++ num w32 p.0.0.1 ++ num_signed p.0.1 ++ bytes_text p.1
+
+store_free : IsPrefixFree store_row
+store_free = followed (followed (followed key_prefix_free u32_free) num_signed_prefix_free) bytes_prefix_free
+
+abbrev pub cas_row : (((List ℕ × ℕ) × ℤ) × List ℕ) × ℕ → List ℕ
+cas_row p = store_row p.0 ++ num w64 p.1
+
+cas_free : IsPrefixFree cas_row
+cas_free = followed store_free u64_free
+
+abbrev pub touch_row : List ℕ × ℤ → List ℕ
+touch_row p = key_text p.0 ++ num_signed p.1
+
+touch_free : IsPrefixFree touch_row
+touch_free = followed key_prefix_free num_signed_prefix_free
+
+abbrev pub count_row : List ℕ × ℕ → List ℕ
+count_row p = key_text p.0 ++ num w64 p.1
+
+count_free : IsPrefixFree count_row
+count_free = followed key_prefix_free u64_free
+
+-- the mark of an update
+abbrev pub mark_of : Update → ℕ
+mark_of (Store verb _ _ _ _) = verb_mark verb
+mark_of (Cas _ _ _ _ _) = 7
+mark_of (Delete _) = 8
+mark_of (Touch _ _) = 9
+mark_of (Incr _ _) = 10
+mark_of (Decr _ _) = 11
+
+pub head_is : (u : Update) (rest : List ℕ) → head_of (update_text u ++ rest) ≡ mark_of u
+head_is (Store _ _ _ _ _) rest = refl
+head_is (Cas _ _ _ _ _) rest = refl
+head_is (Delete _) rest = refl
+head_is (Touch _ _) rest = refl
+head_is (Incr _ _) rest = refl
+head_is (Decr _ _) rest = refl
+
+pub verb_low : (v : StoreVerb) → 2 ≤ verb_mark v
+verb_low Set = omega arith
+verb_low Add = omega arith
+verb_low Replace = omega arith
+verb_low Append = omega arith
+verb_low Prepend = omega arith
+
+pub verb_high : (v : StoreVerb) → verb_mark v ≤ 6
+verb_high Set = omega arith
+verb_high Add = omega arith
+verb_high Replace = omega arith
+verb_high Append = omega arith
+verb_high Prepend = omega arith
+
+pub mark_low : (u : Update) → 2 ≤ mark_of u
+mark_low (Store verb _ _ _ _) = verb_low verb
+mark_low (Cas _ _ _ _ _) = omega arith
+mark_low (Delete _) = omega arith
+mark_low (Touch _ _) = omega arith
+mark_low (Incr _ _) = omega arith
+mark_low (Decr _ _) = omega arith
+
+verb_alike : (v w : StoreVerb) → Passes (nat_eq (verb_mark v) (verb_mark w)) → v ≡ w
+verb_alike Set Set h = refl
+verb_alike Add Add h = refl
+verb_alike Replace Replace h = refl
+verb_alike Append Append h = refl
+verb_alike Prepend Prepend h = refl
+verb_alike _ _ h = absurd h
+
+-- which kind of update it is, by its mark
+pub kind_at : ℕ → ℕ
+kind_at mark = if nat_lt mark 7 then 6 else mark
+
+abbrev pub kind_of : Update → ℕ
+kind_of (Store _ _ _ _ _) = 6
+kind_of (Cas _ _ _ _ _) = 7
+kind_of (Delete _) = 8
+kind_of (Touch _ _) = 9
+kind_of (Incr _ _) = 10
+kind_of (Decr _ _) = 11
+
+pub verb_kind : (v : StoreVerb) → kind_at (verb_mark v) ≡ 6
+unfolding kind_at
+verb_kind Set = refl
+verb_kind Add = refl
+verb_kind Replace = refl
+verb_kind Append = refl
+verb_kind Prepend = refl
+
+pub kind_is : (u : Update) → kind_at (mark_of u) ≡ kind_of u
+unfolding kind_at
+kind_is (Store verb _ _ _ _) = verb_kind verb
+kind_is (Cas _ _ _ _ _) = refl
+kind_is (Delete _) = refl
+kind_is (Touch _ _) = refl
+kind_is (Incr _ _) = refl
+kind_is (Decr _ _) = refl
+
+update_alike : (v w : Update) (r s : List ℕ) → Passes (nat_eq (kind_of v) (kind_of w)) → mark_of v ≡ mark_of w → update_text v ++ r ≡ update_text w ++ s → (v ≡ w) × (r ≡ s)
+update_alike (Store verb key flags exptime block) (Store verb' key' flags' exptime' block') r s h m e =
+    let verbs = verb_alike verb verb' (same_numbers (verb_mark verb) (verb_mark verb') m) in
+    let both = store_free.apart (((key, flags), exptime), block) (((key', flags'), exptime'), block') r s (tail_of (verb_mark verb) (verb_mark verb') _ _ e) in
+    ((λ i. Store (verbs i) (both.0 i).0.0.0 (both.0 i).0.0.1 (both.0 i).0.1 (both.0 i).1), both.1)
+update_alike (Cas key flags exptime block unique) (Cas key' flags' exptime' block' unique') r s h m e =
+    let both = cas_free.apart ((((key, flags), exptime), block), unique) ((((key', flags'), exptime'), block'), unique') r s (tail_of 7 7 _ _ e) in
+    ((λ i. Cas (both.0 i).0.0.0.0 (both.0 i).0.0.0.1 (both.0 i).0.0.1 (both.0 i).0.1 (both.0 i).1), both.1)
+update_alike (Delete key) (Delete key') r s h m e =
+    let both = key_prefix_free.apart key key' r s (tail_of 8 8 _ _ e) in
+    (ap Delete both.0, both.1)
+update_alike (Touch key exptime) (Touch key' exptime') r s h m e =
+    let both = touch_free.apart (key, exptime) (key', exptime') r s (tail_of 9 9 _ _ e) in
+    ((λ i. Touch (both.0 i).0 (both.0 i).1), both.1)
+update_alike (Incr key delta) (Incr key' delta') r s h m e =
+    let both = count_free.apart (key, delta) (key', delta') r s (tail_of 10 10 _ _ e) in
+    ((λ i. Incr (both.0 i).0 (both.0 i).1), both.1)
+update_alike (Decr key delta) (Decr key' delta') r s h m e =
+    let both = count_free.apart (key, delta) (key', delta') r s (tail_of 11 11 _ _ e) in
+    ((λ i. Decr (both.0 i).0 (both.0 i).1), both.1)
+update_alike _ _ r s h m e = absurd h
+
+pub update_prefix_free : IsPrefixFree update_text
+update_prefix_free = record {
+  apart = λ v w r s e.
+      let marks = sym (head_is v r) ∙ (ap head_of e ∙ head_is w s) in
+      let kinds = sym (kind_is v) ∙ (ap kind_at marks ∙ kind_is w) in
+      update_alike v w r s (same_numbers (kind_of v) (kind_of w) kinds) marks e;
+}
+
+command_apart : (v w : Command) (r s : List ℕ) → command_text v ++ r ≡ command_text w ++ s → (v ≡ w) × (r ≡ s)
+command_apart (command.Get x) (command.Get y) r s e =
+    let both = keys_prefix_free.apart x y r s (tail_of 0 0 _ _ e) in
+    (ap command.Get both.0, both.1)
+command_apart (command.Gets x) (command.Gets y) r s e =
+    let both = keys_prefix_free.apart x y r s (tail_of 1 1 _ _ e) in
+    (ap command.Gets both.0, both.1)
+command_apart (command.Update u) (command.Update v) r s e =
+    let both = update_prefix_free.apart u v r s e in
+    (ap command.Update both.0, both.1)
+command_apart (command.Get x) (command.Gets y) r s e = absurd (let h : 0 ≡ 1 = ap head_of e in omega arith)
+command_apart (command.Gets x) (command.Get y) r s e = absurd (let h : 1 ≡ 0 = ap head_of e in omega arith)
+command_apart (command.Get x) (command.Update v) r s e = absurd (let h : 0 ≡ mark_of v = ap head_of e ∙ head_is v s in omega (arith, mark_low v))
+command_apart (command.Gets x) (command.Update v) r s e = absurd (let h : 1 ≡ mark_of v = ap head_of e ∙ head_is v s in omega (arith, mark_low v))
+command_apart (command.Update u) (command.Get y) r s e = absurd (let h : mark_of u ≡ 0 = sym (head_is u r) ∙ ap head_of e in omega (arith, mark_low u))
+command_apart (command.Update u) (command.Gets y) r s e = absurd (let h : mark_of u ≡ 1 = sym (head_is u r) ∙ ap head_of e in omega (arith, mark_low u))
+
+pub command_prefix_free : IsPrefixFree command_text
+command_prefix_free = record { apart = command_apart }
+
+pub request_prefix_free : IsPrefixFree request_text
+request_prefix_free = made_of
+    (followed (followed u16_free u64_free) command_prefix_free)
+    request_text
+    (λ r. ((r.client, r.number), r.command))
+    (λ p. record { client = p.0.0; number = p.0.1; command = p.1 })
+    (λ r. refl)
+    (λ r. refl)
+
+-- an update whose text begins with this mark is of its kind
+pub kind_behind : (mark : ℕ) (bytes : List ℕ) (u : Update) (rest : List ℕ) → mark ∷ bytes ≡ update_text u ++ rest → kind_at mark ≡ kind_of u
+kind_behind mark bytes u rest e = ap kind_at (ap head_of e ∙ head_is u rest) ∙ kind_is u
+
+pub kind-7 : kind_at 7 ≡ 7
+unfolding kind_at
+kind-7 = refl
+
+pub kind-9 : kind_at 9 ≡ 9
+unfolding kind_at
+kind-9 = refl
+
+pub kind-10 : kind_at 10 ≡ 10
+unfolding kind_at
+kind-10 = refl
+
+pub kind-11 : kind_at 11 ≡ 11
+unfolding kind_at
+kind-11 = refl

@@ -1,0 +1,72 @@
+-- No reply is spelled at the front of another.
+use Rattle.std.proofs.Common.{◌≡◌, ℕ, List, ◌++◌, refl, sym, ◌∙◌, ap}
+use Rattle.std.specs.Prelude.{nat_eq}
+use Rattle.std.specs.Int.{w64}
+use Rattle.proto.specs.declared.reply.Reply.{Reply}
+use Rattle.proto.specs.declared.reply.Reply.TheVariants as reply
+use Rattle.wire.specs.Record.{IsPrefixFree}
+use Rattle.wire.specs.Number.{num}
+use Rattle.wire.specs.Reply.{found_text, values_text, reply_text}
+use Rattle.wire.specs.FrontLaws.{tail_of, head_of, Passes, same_numbers}
+use Rattle.wire.specs.FieldLaws.{option_prefix_free, list_prefix_free, bytes_prefix_free}
+use Rattle.wire.specs.KeyLaws.{key_prefix_free}
+use Rattle.wire.specs.RowLaws.{u32_free, u64_free, followed, made_of}
+
+pub found_prefix_free : IsPrefixFree found_text
+found_prefix_free = made_of
+    (followed (followed (followed key_prefix_free u32_free) bytes_prefix_free) (option_prefix_free (num w64) u64_free))
+    found_text
+    (λ f. (((f.key, f.flags), f.block), f.unique))
+    (λ p. record { key = p.0.0.0; flags = p.0.0.1; block = p.0.1; unique = p.1 })
+    (λ f. refl)
+    (λ f. refl)
+
+pub values_prefix_free : IsPrefixFree values_text
+values_prefix_free = list_prefix_free found_text found_prefix_free
+
+-- the mark of a reply
+abbrev pub mark_of : Reply → ℕ
+mark_of reply.Stored = 0
+mark_of reply.NotStored = 1
+mark_of reply.Exists = 2
+mark_of reply.NotFound = 3
+mark_of reply.Deleted = 4
+mark_of reply.Touched = 5
+mark_of (reply.Number _) = 6
+mark_of (reply.Values _) = 7
+mark_of reply.TooLarge = 8
+mark_of reply.NotNumber = 9
+
+pub head_is : (r : Reply) (rest : List ℕ) → head_of (reply_text r ++ rest) ≡ mark_of r
+head_is reply.Stored rest = refl
+head_is reply.NotStored rest = refl
+head_is reply.Exists rest = refl
+head_is reply.NotFound rest = refl
+head_is reply.Deleted rest = refl
+head_is reply.Touched rest = refl
+head_is (reply.Number x) rest = refl
+head_is (reply.Values x) rest = refl
+head_is reply.TooLarge rest = refl
+head_is reply.NotNumber rest = refl
+
+reply_alike : (v w : Reply) (r s : List ℕ) → Passes (nat_eq (mark_of v) (mark_of w)) → reply_text v ++ r ≡ reply_text w ++ s → (v ≡ w) × (r ≡ s)
+reply_alike reply.Stored reply.Stored r s h e = (refl, tail_of 0 0 r s e)
+reply_alike reply.NotStored reply.NotStored r s h e = (refl, tail_of 1 1 r s e)
+reply_alike reply.Exists reply.Exists r s h e = (refl, tail_of 2 2 r s e)
+reply_alike reply.NotFound reply.NotFound r s h e = (refl, tail_of 3 3 r s e)
+reply_alike reply.Deleted reply.Deleted r s h e = (refl, tail_of 4 4 r s e)
+reply_alike reply.Touched reply.Touched r s h e = (refl, tail_of 5 5 r s e)
+reply_alike (reply.Number n) (reply.Number m) r s h e =
+    let both = u64_free.apart n m r s (tail_of 6 6 (num w64 n ++ r) (num w64 m ++ s) e) in
+    (ap reply.Number both.0, both.1)
+reply_alike (reply.Values x) (reply.Values y) r s h e =
+    let both = values_prefix_free.apart x y r s (tail_of 7 7 (values_text x ++ r) (values_text y ++ s) e) in
+    (ap reply.Values both.0, both.1)
+reply_alike reply.TooLarge reply.TooLarge r s h e = (refl, tail_of 8 8 r s e)
+reply_alike reply.NotNumber reply.NotNumber r s h e = (refl, tail_of 9 9 r s e)
+reply_alike _ _ r s h e = absurd h
+
+pub reply_prefix_free : IsPrefixFree reply_text
+reply_prefix_free = record {
+  apart = λ v w r s e. reply_alike v w r s (same_numbers (mark_of v) (mark_of w) (sym (head_is v r) ∙ (ap head_of e ∙ head_is w s))) e;
+}

@@ -1,0 +1,30 @@
+-- What is kept of each client.
+use Rattle.std.specs.Prelude.{ℕ, ◌≤◌, List, ◌∷◌, ◌++◌}
+use Rattle.std.specs.Int.{w16, w64}
+use Rattle.std.specs.Ordering.{nat_cmp}
+use Rattle.std.specs.FinMap.{FinMap, entries}
+use Rattle.sessions.specs.declared.sessions.Kept.{Kept}
+use Rattle.wire.specs.Number.{num}
+use Rattle.wire.specs.Field.{list_text, ListFits}
+use Rattle.wire.specs.Reply.{reply_text, ReplyFits}
+
+abbrev pub kept_text : Kept → List ℕ
+kept_text kept = num w64 kept.number ++ reply_text kept.reply
+
+pub record KeptFits (kept : Kept) : Type 0 where
+  pub number : 1 ≤ kept.number
+  pub reply : ReplyFits kept.reply
+
+abbrev pub session_text : ℕ × Kept → List ℕ
+session_text session = num w16 session.0 ++ kept_text session.1
+
+pub record SessionFits (session : ℕ × Kept) : Type 0 where
+  pub client : 1 ≤ session.0
+  pub kept : KeptFits session.1
+
+-- by rising clients
+unfoldable pub sessions_text : FinMap nat_cmp Kept → List ℕ
+sessions_text sessions = 3 ∷ list_text session_text (entries sessions)
+
+abbrev pub SessionsFit : FinMap nat_cmp Kept → Type 0
+SessionsFit sessions = ListFits SessionFits (entries sessions)
