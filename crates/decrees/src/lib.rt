@@ -8,10 +8,17 @@
 
 mod ballot;
 mod decree;
+mod log;
 mod node;
 mod standing;
+mod votes;
 
 pub use ballot::Ballot;
 pub use decree::Decree;
+pub use log::Log;
 pub use node::{Letter, Node};
 pub use standing::Standing;
+pub use votes::{Verdict, VoteKey};
+
+#[cfg(test)]
+mod tests;
