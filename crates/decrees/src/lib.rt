@@ -18,7 +18,7 @@ pub use decree::Decree;
 pub use log::Log;
 pub use node::{Letter, Node};
 pub use standing::Standing;
-pub use votes::{Verdict, VoteKey};
+pub use votes::{Verdict, VoteKey, Votes};
 
 #[cfg(test)]
 mod tests;
