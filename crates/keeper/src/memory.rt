@@ -10,7 +10,7 @@ use std::marker::Model;
 #[derive(Drop)]
 pub struct MemKeeper {
     alloc: Global,
-    record: Option<Vec<u8>>,
+    saved: Option<Vec<u8>>,
     failures: u64,
     fails_next: bool,
 }
@@ -21,7 +21,7 @@ impl Model for MemKeeper {
 
     ghost Value = { Kept };
 
-    ghost view = { λ k. record { saved = option_map (λ bytes. bytes.items) k.record; failures = k.failures; fails_next = k.fails_next } };
+    ghost view = { λ k. record { saved = option_map (λ bytes. bytes.items) k.saved; failures = k.failures; fails_next = k.fails_next } };
 }
 
 impl MemKeeper {
@@ -31,7 +31,7 @@ impl MemKeeper {
     {
         MemKeeper {
             alloc,
-            record: None,
+            saved: None,
             failures: 0,
             fails_next: false,
         }
@@ -64,7 +64,7 @@ impl Keeper for MemKeeper {
         }
         match Vec::from_slice(self.alloc, bytes) {
             Ok(copy) => {
-                self.record = Some(copy);
+                self.saved = Some(copy);
                 Ok(())
             }
             Err(_) => {
@@ -75,7 +75,7 @@ impl Keeper for MemKeeper {
     }
 
     fn load(&self) -> Option<&[u8]> {
-        self.record.as_ref().map(|bytes| bytes.as_slice())
+        self.saved.as_ref().map(|bytes| bytes.as_slice())
     }
 
     fn failures(&self) -> u64 {

@@ -1,0 +1,2 @@
+mod LetterLemmas
+mod Rows

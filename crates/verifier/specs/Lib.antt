@@ -1,0 +1,4 @@
+pub mod Tally
+pub mod State
+pub mod Lines
+pub mod Step
