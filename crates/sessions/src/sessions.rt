@@ -1,9 +1,9 @@
 ghost use Rattle.std.specs.Prelude.{◌≡◌};
-ghost use Rattle.std.specs.FinMap as map;
 
+use crate::entries::{find_entry, put_entry};
+use crate::request::Request;
 use proto::Reply;
 use std::alloc::{AllocError, Global};
-use std::collections::BTreeMap;
 use std::marker::Model;
 
 /// The number of a client's last request that ran, and its reply.
@@ -27,10 +27,11 @@ impl Clone for Kept {
 /// The last reply of each client.
 #[derive(Debug, Drop)]
 pub struct Sessions {
-    kept: BTreeMap<u16, Kept>,
+    entries: Vec<(u16, Kept)>,
 }
 
 impl Model for Sessions {
+    ghost use Rattle.std.specs.Prelude.{IsTrue};
     ghost use Rattle.std.specs.Coded.{coded_ℕ};
     ghost use Rattle.std.specs.FinMap as map;
     ghost use Rattle.std.specs.Ordering.{nat_cmp};
@@ -41,5 +42,90 @@ impl Model for Sessions {
 
     ghost coded = { map.code coded_ℕ last.the_row.coded };
 
-    ghost view = { λ a. map.from_entries a.kept.entries };
+    ghost view = { λ a. map.from_sorted a.entries.items };
+
+    ghost invariant = { λ a. IsTrue (map.is_sorted nat_cmp a.entries.items) };
+}
+
+impl Sessions {
+    ghost use Rattle.std.specs.Prelude.{◌≡◌, IsTrue, OnOk, OnErr, MatchOption, option_copied};
+    ghost use Rattle.std.specs.Ordering.{nat_cmp};
+    ghost use Rattle.std.specs.FinMap as map;
+    ghost use Rattle.sessions.specs.Fresh.{is_next};
+
+    /// Sessions of no client.
+    pub fn new(alloc: Global) -> Sessions
+        ensures { result ≡ map.empty }
+    {
+        Sessions {
+            entries: Vec::new(alloc),
+        }
+    }
+
+    /// Sessions of these clients, which rise strictly: what `entries` gave, put together again.
+    pub fn of_sorted(entries: Vec<(u16, Kept)>) -> Sessions
+        requires { IsTrue (map.is_sorted nat_cmp entries.items) }
+        ensures sessions { result ≡ map.from_sorted entries.items }
+        ensures entries { map.entries result ≡ entries.items }
+    {
+        Sessions { entries }
+    }
+
+    /// What is kept of each client, by rising clients.
+    pub fn entries(&self) -> &[(u16, Kept)]
+        ensures entries { result.now ≡ map.entries self.now }
+        ensures sorted { IsTrue (map.is_sorted nat_cmp result.now) }
+    {
+        self.entries.as_slice()
+    }
+
+    /// Whether the request is the next of its client: its number is 1 above the last kept, or 1
+    /// where none is kept. After the number 2^64 - 1 a client has no next request.
+    pub fn fresh(&self, request: &Request) -> bool
+        ensures { result ≡ is_next self.now request.now }
+    {
+        match self.last(request.client) {
+            None => request.number == 1,
+            Some(kept) => request.number.checked_sub(1) == Some(kept.number),
+        }
+    }
+
+    /// Keeps the reply of a request that ran, in place of what was kept of its client. Where
+    /// memory is wanting nothing changes.
+    pub fn keep(&mut self, request: &Request, reply: Reply) -> Result<(), AllocError>
+        ensures ok { OnOk result (self.new
+            ≡ map.insert self.old request.now.client (record { number = request.now.number; reply = reply })) }
+        ensures err { OnErr result (self.new ≡ self.old) }
+    {
+        let kept = Kept {
+            number: request.number,
+            reply,
+        };
+        put_entry(&mut self.entries, request.client, kept)
+    }
+
+    /// The number and the reply of the client's last request that ran, if one did.
+    pub fn kept(&self, client: u16) -> Option<(u64, &Reply)>
+        ensures { MatchOption result (map.get self.now client ≡ None)
+            (λ k. map.get self.now client ≡ Some (record { number = k.0; reply = k.1.now })) }
+    {
+        let kept = self.last(client)?;
+        Some((kept.number, &kept.reply))
+    }
+
+    fn last(&self, client: u16) -> Option<&Kept>
+        ensures { option_copied result ≡ map.get self.now client }
+    {
+        find_entry(&self.entries, client)
+    }
+}
+
+impl Clone for Sessions {
+    ghost is_clone = { λ sessions copy. copy ≡ sessions };
+
+    fn clone(&self) -> Result<Sessions, AllocError> {
+        Ok(Sessions {
+            entries: self.entries.clone()?,
+        })
+    }
 }

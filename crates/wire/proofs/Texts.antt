@@ -1,0 +1,86 @@
+-- Why a text does not stand at the front of bytes.
+use Rattle.std.proofs.Common.{◌≡◌, ℕ, suc, ◌+◌, ◌^◌, ◌<◌, ◌≤◌, Bool, true, false, List, [], ◌∷◌, ◌++◌, length, get_or, refl, sym, ◌∙◌, ap, arith, append_assoc}
+use Rattle.std.specs.Int.{w8, w32}
+use Rattle.std.proofs.lemmas.List.{length-append}
+use Rattle.proto.specs.declared.fault.Fault.{Fault}
+use Rattle.proto.specs.Key.{is_key}
+use Rattle.wire.specs.Record.{IsPrefixFree, NoFront, Refused}
+use Rattle.wire.specs.Number.{num, fixed}
+use Rattle.wire.specs.Field.{list_text, bytes_text, BlockFits, ListFits}
+use Rattle.wire.specs.Key.{key_text, keys_text}
+use Rattle.wire.specs.FrontLaws.{split_at}
+use Rattle.wire.specs.NumberLaws.{num_prefix_free, wide8, wide32}
+use Rattle.wire.specs.FieldLaws.{list_prefix_free}
+use Rattle.wire.specs.KeyLaws.{key_at_front, key_prefix_free, keys_at_front}
+use Rattle.wire.proofs.Values.{Refused-weaker}
+
+abbrev AreBytes : List ℕ → Type 0
+AreBytes bytes = (i : ℕ) → get_or bytes i 0 < 256
+
+-- the length that was read is that of the text
+sizes : (size : ℕ) (bytes rest text after : List ℕ) → bytes ≡ num w32 size ++ rest → bytes ≡ bytes_text text ++ after → (size ≡ length text) × (rest ≡ text ++ after)
+sizes size bytes rest text after e same =
+    (num_prefix_free w32 wide32).apart size (length text) rest (text ++ after) (sym e ∙ (same ∙ append_assoc (num w32 (length text)) text after))
+
+pub over_limit : (size : ℕ) (bytes rest : List ℕ) → bytes ≡ num w32 size ++ rest → 65536 < size → NoFront BlockFits bytes_text bytes
+over_limit size bytes rest e above = record {
+  none = λ text after f same. let both = sizes size bytes rest text after e same in omega (arith, both.0, f.size);
+}
+
+pub cut_off : {fits : List ℕ → Type 0} (size : ℕ) (bytes rest : List ℕ) → bytes ≡ num w32 size ++ rest → length rest < size → NoFront fits bytes_text bytes
+cut_off size bytes rest e short = record {
+  none = λ text after f same.
+      let both = sizes size bytes rest text after e same in
+      let len : length rest ≡ length text + length after = ap length both.1 ∙ length-append text after in
+      omega (arith, both.0);
+}
+
+pub no_key_size : (fits : List ℕ → Type 0) {of : ℕ → Type 0} (bytes : List ℕ) → AreBytes bytes → ((n : ℕ) → of n) → (e : Fault)
+    → Refused e (NoFront of (num w8) bytes) → Refused e (NoFront fits key_text bytes)
+no_key_size fits {of} bytes are_bytes all e = Refused-weaker e (λ (none : NoFront of (num w8) bytes). record {
+  none = λ key after f same. none.none (length key) (key ++ after) (all (length key)) (key_at_front key bytes after are_bytes same).1;
+})
+
+key_sizes : (size : ℕ) (bytes rest key after : List ℕ) → AreBytes bytes → bytes ≡ num w8 size ++ rest → bytes ≡ key_text key ++ after
+    → (is_key key ≡ true) × (size ≡ length key) × (rest ≡ key ++ after)
+key_sizes size bytes rest key after are_bytes e same =
+    let front = key_at_front key bytes after are_bytes same in
+    let both = (num_prefix_free w8 wide8).apart size (length key) rest (key ++ after) (sym e ∙ front.1) in
+    (front.0, both.0, both.1)
+
+pub key_cut_off : {fits : List ℕ → Type 0} (size : ℕ) (bytes rest : List ℕ) → AreBytes bytes → bytes ≡ num w8 size ++ rest → length rest < size → NoFront fits key_text bytes
+key_cut_off size bytes rest are_bytes e short = record {
+  none = λ key after f same.
+      let all = key_sizes size bytes rest key after are_bytes e same in
+      let len : length rest ≡ length key + length after = ap length all.2 ∙ length-append key after in
+      omega (arith, all.1);
+}
+
+pub not_a_key : {fits : List ℕ → Type 0} (size : ℕ) (bytes rest text others : List ℕ) → AreBytes bytes → bytes ≡ num w8 size ++ rest → length text ≡ size → rest ≡ text ++ others
+    → is_key text ≡ false → NoFront fits key_text bytes
+not_a_key size bytes rest text others are_bytes e len parts not = record {
+  none = λ key after f same.
+      let all = key_sizes size bytes rest key after are_bytes e same in
+      let both = split_at text key others after (len ∙ all.1) (sym parts ∙ all.2) in
+      let a : is_key key ≡ true = all.0 in
+      let b : is_key key ≡ false = ap is_key (sym both.0) ∙ not in
+      absurd (cc (a, b));
+}
+
+pub no_keys : (fits : List (List ℕ) → Type 0) {of : List ℕ → Type 0} (bytes : List ℕ) → AreBytes bytes → ((key : List ℕ) → of key) → (e : Fault)
+    → Refused e (NoFront (ListFits of) (list_text key_text) bytes) → Refused e (NoFront fits keys_text bytes)
+no_keys fits {of} bytes are_bytes all e = Refused-weaker e (λ (none : NoFront (ListFits of) (list_text key_text) bytes). record {
+  none = λ keys after f same.
+      let front = keys_at_front keys bytes after are_bytes same in
+      none.none keys after (record { count = omega (arith, front.1); each = λ k d lt. all _ }) front.2;
+})
+
+pub not_so_many : {fits : List (List ℕ) → Type 0} (bytes rest : List ℕ) (keys : List (List ℕ)) → AreBytes bytes → bytes ≡ list_text key_text keys ++ rest
+    → (1 ≤ length keys → length keys ≤ 64 → ⊥) → NoFront fits keys_text bytes
+not_so_many bytes rest keys are_bytes e wrong = record {
+  none = λ others after f same.
+      let front = keys_at_front others bytes after are_bytes same in
+      let both = (list_prefix_free key_text key_prefix_free).apart keys others rest after (sym e ∙ front.2) in
+      let len : length keys ≡ length others = ap length both.0 in
+      wrong (omega (arith, front.0)) (omega (arith, front.1));
+}

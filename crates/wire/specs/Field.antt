@@ -1,0 +1,31 @@
+-- The fields of records.
+use Rattle.std.specs.Prelude.{◌≡◌, ℕ, ◌<◌, ◌≤◌, ◌^◌, List, [], ◌∷◌, ◌++◌, length, Option, Some, None, flat_map, All}
+use Rattle.std.specs.Int.{w32}
+use Rattle.wire.specs.Number.{num}
+
+-- 0, or 1 and the value
+abbrev pub option_text : {X : Type 0} → (X → List ℕ) → Option X → List ℕ
+option_text spelling None = 0 ∷ []
+option_text spelling (Some x) = 1 ∷ spelling x
+
+-- a count, and so many values
+abbrev pub list_text : {X : Type 0} → (X → List ℕ) → List X → List ℕ
+list_text spelling xs = num w32 (length xs) ++ flat_map spelling xs
+
+-- a length, and so many bytes
+abbrev pub bytes_text : List ℕ → List ℕ
+bytes_text text = num w32 (length text) ++ text
+
+-- a list whose count has a field, of values that fit
+pub record ListFits {X : Type 0} (fits : X → Type 0) (xs : List X) : Type 0 where
+  pub count : length xs < 2 ^ 32
+  pub each : All fits xs
+
+-- so many values that fit
+pub record CountFits {X : Type 0} (count : ℕ) (fits : X → Type 0) (xs : List X) : Type 0 where
+  pub is : length xs ≡ count
+  pub each : All fits xs
+
+-- at most 64 KiB of data
+pub record BlockFits (text : List ℕ) : Type 0 where
+  pub size : length text ≤ 65536

@@ -1,0 +1,37 @@
+-- What it is to write a record and to read one.
+use Rattle.std.specs.Prelude.{◌≡◌, ℕ, List, ◌∷◌, ◌++◌, Result, Ok, Err}
+use Rattle.std.specs.Borrow.{Bor}
+use Rattle.proto.specs.declared.fault.Fault.{Fault}
+use Rattle.proto.specs.declared.fault.Fault.TheVariants.{NoMemory, BadRecord}
+
+-- a text was added to what a sink holds
+abbrev pub Puts : {S : Type 0} → (S → List ℕ → Type 0) → List ℕ → S → S → Type 0
+Puts holds text old new = (m : List ℕ) → holds old m → holds new (m ++ text)
+
+-- no spelling is the front of another value's
+pub record IsPrefixFree {X : Type 0} (spelling : X → List ℕ) : Type 0 where
+  pub apart : (v w : X) (r s : List ℕ) → spelling v ++ r ≡ spelling w ++ s → (v ≡ w) × (r ≡ s)
+
+-- the bytes do not begin with this mark
+abbrev pub NoMark : ℕ → List ℕ → Type 0
+NoMark mark bytes = (rest : List ℕ) → bytes ≡ mark ∷ rest → ⊥
+
+-- the bytes do not begin with the spelling of a value that fits
+pub record NoFront {X : Type 0} (fits : X → Type 0) (spelling : X → List ℕ) (bytes : List ℕ) : Type 0 where
+  pub none : (v : X) (rest : List ℕ) → fits v → bytes ≡ spelling v ++ rest → ⊥
+
+-- a reader fails for want of memory, or else for this cause alone
+abbrev pub Refused : Fault → Type 0 → Type 0
+Refused NoMemory cause = Unit {0}
+Refused BadRecord cause = cause
+Refused _ cause = ⊥
+
+-- the value at the front of the bytes, and the bytes after it
+abbrev pub Takes : {X : Type 0} → (X → Type 0) → (X → List ℕ) → List ℕ → Result (X × Bor (List ℕ)) Fault → Type 0
+Takes fits spelling bytes (Ok r) = fits r.0 × (bytes ≡ spelling r.0 ++ r.1.now)
+Takes fits spelling bytes (Err e) = Refused e (NoFront fits spelling bytes)
+
+-- the value that all of the bytes spell
+abbrev pub Reads : {X : Type 0} → (X → Type 0) → (X → List ℕ) → List ℕ → Result X Fault → Type 0
+Reads fits spelling bytes (Ok v) = fits v × (bytes ≡ spelling v)
+Reads {X} fits spelling bytes (Err e) = Refused e ((v : X) → fits v → bytes ≡ spelling v → ⊥)
