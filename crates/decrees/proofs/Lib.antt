@@ -1,1 +1,2 @@
 mod VoteLemmas
+mod RecordLemmas
