@@ -28,13 +28,13 @@ vote_of votes key = lookup (key_eq key) votes
 abbrev pub votes_with : List Vote → VoteKey → Token → List Vote
 votes_with votes key token = if is_some (vote_of votes key) then votes else votes ++ (key, token) ∷ []
 
--- the vote is of the standing epoch or a later one, for a number above the standing one
-abbrev pub is_open : Standing → Vote → Bool
-is_open s vote = nat_le s.epoch vote.0.epoch && nat_lt s.n vote.0.n
+-- a vote of this name is of the standing epoch or a later one, for a number above the standing one
+abbrev pub is_open : Standing → VoteKey → Bool
+is_open s key = nat_le s.epoch key.epoch && nat_lt s.n key.n
 
 -- the votes that are left where this stands
 abbrev pub open_votes : Standing → List Vote → List Vote
-open_votes s votes = filter (is_open s) votes
+open_votes s votes = filter (λ vote. is_open s vote.0) votes
 
 -- a vote of the executor for the next number, in the standing epoch and over the standing token
 abbrev pub next_key : Standing → ℕ → VoteKey

@@ -1,2 +1,3 @@
 mod LetterLemmas
+mod ViewLemmas
 mod Rows

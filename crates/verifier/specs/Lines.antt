@@ -59,7 +59,7 @@ vote_key executor epoch n previous = record { epoch = epoch; n = n; executor = e
 
 abbrev pub on_token : ℕ → ℕ → State → ℕ → ℕ → ℕ → Token → Token → Outcome
 on_token u id s executor epoch n previous token =
-    if is_open (standing s.log) (vote_key executor epoch n previous, token)
+    if is_open (standing s.log) (vote_key executor epoch n previous)
     then try_to_propose u id (record s { votes = votes_with s.votes (vote_key executor epoch n previous) token }) false []
     else stays s
 

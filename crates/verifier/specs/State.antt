@@ -99,11 +99,11 @@ first_state u id = record { view = 0; log = []; accepted = None; leads = id == 0
 abbrev pub is_led_by : ℕ → ℕ → ℕ → Bool
 is_led_by u id view = (view % members u) == id
 
--- the least view above this one that the verifier leads, looked for among so many and the one after them
-abbrev pub led_above : ℕ → ℕ → ℕ → ℕ → ℕ
-led_above u id view zero = view + 1
-led_above u id view (suc n) = if is_led_by u id (view + 1) then view + 1 else led_above u id (view + 1) n
+-- the first view from this one on that the verifier leads, looked for among so many and the one after them
+abbrev pub led_from : ℕ → ℕ → ℕ → ℕ → ℕ
+led_from u id view zero = view
+led_from u id view (suc n) = if is_led_by u id view then view else led_from u id (view + 1) n
 
 -- the least view above this one that the verifier leads
 abbrev pub next_led : ℕ → ℕ → ℕ → ℕ
-next_led u id view = led_above u id view (2 * u)
+next_led u id view = led_from u id (view + 1) (2 * u)

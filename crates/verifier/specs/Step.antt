@@ -44,7 +44,7 @@ step u id s (input.Letter l) = received u id s l.from l.body
 step u id s input.Suspect = suspected u id s
 
 abbrev pub fits_executor : State → ℕ → Ballot → Bool
-fits_executor s e (Token epoch n previous token) = is_open (standing s.log) (vote_key e epoch n previous, token)
+fits_executor s e (Token epoch n previous token) = is_open (standing s.log) (vote_key e epoch n previous)
 fits_executor s e (Ask place) = nat_lt 0 place
 fits_executor s e (Accept view place d) = false
 fits_executor s e (Accepted view place d) = false

@@ -7,6 +7,7 @@
 
 mod input;
 mod letters;
+mod memory;
 mod tally;
 
 pub use input::Input;
