@@ -1,4 +1,4 @@
-ghost use Rattle.std.specs.Prelude.{◌≡◌, ◌<◌, ◌≤◌, ◌^◌, ◌↔◌, ◌⊎◌, [], ◌∷◌, ◌++◌, length, IsTrue, OnOk, OnErr, IfErr, Err, not};
+ghost use Rattle.std.specs.Prelude.{◌≡◌, ◌<◌, ◌≤◌, ◌^◌, ◌↔◌, ◌⊎◌, [], ◌∷◌, ◌++◌, length, IsTrue, OnOk, OnErr, IfOk, IfErr, Err, not, vec_len};
 ghost use Rattle.decrees.specs.Standing.{standing as standing_of, is_next as next, decree_at, is_log};
 
 use crate::decree::Decree;
@@ -41,6 +41,25 @@ impl Log {
         }
     }
 
+    /// The log of these decrees, which takes no memory. BadRecord: one of them is a Commit of
+    /// another number than the one after what stands before it.
+    pub fn restored(decrees: Vec<Decree>) -> Result<Log, Fault>
+        requires { vec_len decrees < 2 ^ 32 }
+        ensures ok { IfOk result (λ log. log ≡ decrees.items) }
+        ensures valid { OnOk result (IsTrue (is_log decrees.items)) }
+        ensures bad { IfErr result (λ fault. fault ≡ Fault.BadRecord) }
+        ensures invalid { OnErr result (IsTrue (not (is_log decrees.items))) }
+    {
+        let mut standing = Standing::first();
+        for decree in decrees.as_slice() {
+            if !standing.is_next(decree) {
+                return Err(Fault::BadRecord);
+            }
+            standing = standing.after(decree);
+        }
+        Ok(Log { decrees, standing })
+    }
+
     /// How many decrees are known.
     pub fn known(&self) -> u64
         ensures known { result ≡ length self.now }
@@ -59,7 +78,8 @@ impl Log {
 
     /// The decrees in order.
     pub fn as_slice(&self) -> &[Decree]
-        ensures { result.now ≡ self.now }
+        ensures decrees { result.now ≡ self.now }
+        ensures few { length self.now < 2 ^ 32 }
     {
         self.decrees.as_slice()
     }

@@ -2,3 +2,5 @@ pub mod Tally
 pub mod State
 pub mod Lines
 pub mod Step
+pub mod Record
+pub mod Row

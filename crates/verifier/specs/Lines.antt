@@ -81,9 +81,13 @@ on_change id s from view =
 abbrev pub asked_if_behind : ℕ → State → ℕ → ℕ → List (Letter Ballot)
 asked_if_behind id s from count = if nat_lt (length s.log) count then letter id (Verifier from) (Ask (length s.log + 1)) ∷ [] else []
 
+-- the promise is to this lead, and the first of its sender
+abbrev pub is_awaited : State → ℕ → ℕ → Bool
+is_awaited s from view = s.leads && ((view == s.view) && not (has_promised s.promises from))
+
 abbrev pub on_promise : ℕ → ℕ → State → ℕ → ℕ → ℕ → Option (ℕ × Decree) → Outcome
 on_promise u id s from view count accepted =
-    if s.leads && ((view == s.view) && not (has_promised s.promises from))
+    if is_awaited s from view
     then try_to_propose u id (record s { promises = promises_with s.promises (record { from = from; known = count; accepted = accepted }) }) false (asked_if_behind id s from count)
     else stays s
 
@@ -91,6 +95,10 @@ on_promise u id s from view count accepted =
 abbrev pub told : ℕ → Node → ℕ → Option Decree → List (Letter Ballot)
 told id to place None = []
 told id to place (Some d) = letter id to (Decided place d) ∷ []
+
+-- the proposal is of no lower view, and of no place whose Commit would have another number
+abbrev pub is_acceptable : State → ℕ → ℕ → Decree → Bool
+is_acceptable s view place d = nat_lt 0 place && (nat_le s.view view && (not (place == next_place s) || is_next (standing s.log) d))
 
 abbrev pub on_accept : ℕ → ℕ → State → ℕ → ℕ → ℕ → Decree → Outcome
 on_accept u id s from view place d =
@@ -114,6 +122,10 @@ on_accepted u id s from view place d =
     then try_to_propose u id (learn s d) true (to_others u id (Decided place d) ++ to_executors u id (Decided place d))
     else stays (with_tally s from view d))
     else stays s
+
+-- the decree may come next, or is of a later place
+abbrev pub is_news : State → ℕ → Decree → Bool
+is_news s place d = is_fitting s place d || nat_lt (next_place s) place
 
 abbrev pub on_decided : ℕ → ℕ → State → ℕ → ℕ → Decree → Outcome
 on_decided u id s from place d =

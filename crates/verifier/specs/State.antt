@@ -9,6 +9,7 @@ use Rattle.decrees.specs.declared.node.Node.TheVariants.{Executor, Verifier}
 use Rattle.decrees.specs.Count.{members}
 use Rattle.decrees.specs.Votes.{Vote}
 use Rattle.view_change.specs.declared.promises.Promise.{Promise}
+use Rattle.view_change.specs.Promises.{promises_with}
 use Rattle.verifier.specs.declared.tally.Tallied.{Tallied}
 
 -- The first three are saved, so they stand for the record too. The rest is lost at a crash.
@@ -89,7 +90,7 @@ down s = record { view = s.view; log = s.log; accepted = s.accepted; leads = fal
 -- promises of all, that know nothing and have accepted nothing
 abbrev pub first_promises : ℕ → List Promise
 first_promises zero = []
-first_promises (suc v) = first_promises v ++ record { from = v; known = 0; accepted = None } ∷ []
+first_promises (suc v) = promises_with (first_promises v) (record { from = v; known = 0; accepted = None })
 
 -- a new verifier; the first one leads view 0
 abbrev pub first_state : ℕ → ℕ → State

@@ -7,11 +7,10 @@ use Rattle.decrees.specs.declared.node.Node.{Node}
 use Rattle.decrees.specs.declared.node.Node.TheVariants.{Client, Executor, Verifier}
 use Rattle.decrees.specs.Standing.{standing}
 use Rattle.decrees.specs.Votes.{is_open}
-use Rattle.view_change.specs.Promises.{has_promised}
 use Rattle.verifier.specs.declared.input.Input.{Input}
 use Rattle.verifier.specs.declared.input.Input.TheVariants as input
 use Rattle.verifier.specs.State.{State, Outcome, next_place, stays}
-use Rattle.verifier.specs.Lines.{suspected, on_token, on_change, on_promise, on_accept, on_accepted, on_decided, on_ask, is_fitting, vote_key}
+use Rattle.verifier.specs.Lines.{suspected, on_token, on_change, on_promise, on_accept, on_accepted, on_decided, on_ask, is_fitting, is_acceptable, is_news, is_awaited, vote_key}
 
 -- with a letter of an executor
 abbrev pub of_executor : ℕ → ℕ → State → ℕ → Ballot → Outcome
@@ -54,12 +53,12 @@ fits_executor s e (Promise view count accepted) = false
 
 abbrev pub fits_verifier : State → ℕ → Ballot → Bool
 fits_verifier s v (Token epoch n previous token) = false
-fits_verifier s v (Accept view place d) = nat_lt 0 place && (nat_le s.view view && ((if place == next_place s then is_fitting s place d else true)))
+fits_verifier s v (Accept view place d) = is_acceptable s view place d
 fits_verifier s v (Accepted view place d) = is_fitting s place d
-fits_verifier s v (Decided place d) = is_fitting s place d || nat_lt (next_place s) place
+fits_verifier s v (Decided place d) = is_news s place d
 fits_verifier s v (Ask place) = nat_lt 0 place
 fits_verifier s v (Change view) = nat_le s.view view
-fits_verifier s v (Promise view count accepted) = s.leads && ((view == s.view) && not (has_promised s.promises v))
+fits_verifier s v (Promise view count accepted) = is_awaited s v view
 
 -- the letter fits a line: a letter that fits none changes nothing
 abbrev pub fits_letter : State → Node → Ballot → Bool

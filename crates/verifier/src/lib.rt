@@ -8,6 +8,7 @@
 mod input;
 mod letters;
 mod memory;
+mod record;
 mod tally;
 
 pub use input::Input;

@@ -4,9 +4,9 @@
 ghost use Rattle.std.specs.Prelude.{◌≡◌, ◌+◌, ◌^◌, ◌<◌, ◌≤◌, ◌⊎◌, List, IfOk, IfErr, OnOk, IsTrue, IsOk, IfSome, IfNone, ◌==◌, ◌&&◌, false, length, None, Some, [], ◌∷◌, ◌++◌, not};
 ghost use Rattle.decrees.specs.Standing.{standing, is_next, decree_at};
 ghost use Rattle.decrees.specs.Votes.{verdict, is_open};
-ghost use Rattle.view_change.specs.Promises.{choice, has_promised};
+ghost use Rattle.view_change.specs.Promises.{choice};
 ghost use Rattle.verifier.specs.State.{State, Outcome, in_view as entered, is_led_by, next_led, next_place, says as saying};
-ghost use Rattle.verifier.specs.Lines.{learn as learned, by_verdict, proposal as proposal_of, try_to_propose as trying, on_token as token_line, on_change as change_line, on_promise as promise_line, on_accept as accept_line, on_accepted as accepted_line, on_decided as decided_line, on_ask as ask_line, suspected as suspect_line, restarted as restart_line, asked_if_behind as asked, told as telling, is_fitting as fitting};
+ghost use Rattle.verifier.specs.Lines.{learn as learned, by_verdict, proposal as proposal_of, try_to_propose as trying, on_token as token_line, on_change as change_line, on_promise as promise_line, on_accept as accept_line, on_accepted as accepted_line, on_decided as decided_line, on_ask as ask_line, suspected as suspect_line, restarted as restart_line, asked_if_behind as asked, told as telling, is_fitting as fitting, is_awaited, is_acceptable, is_news};
 
 use crate::letters::{decided, one, to_others, to_others_and_executors, to_verifiers};
 use crate::tally::{Tallied, Tally};
@@ -248,7 +248,7 @@ impl Memory {
     ) -> Result<Answer, AllocError>
         requires { u < 4 }
         ensures done { IfOk result (λ answer. record { state = self.new; saves = answer.saves; letters = answer.letters.items } ≡ promise_line u id self.old promise.from view promise.known promise.accepted) }
-        ensures fits_none { IsTrue (not (self.old.leads && ((view == self.old.view) && not (has_promised self.old.promises promise.from)))) → IsOk result }
+        ensures fits_none { IsTrue (not (is_awaited self.old promise.from view)) → IsOk result }
     {
         if !self.leads || view != self.view || self.promises.has(promise.from) {
             return Ok(nothing(alloc));
@@ -280,7 +280,8 @@ impl Memory {
         decree: Decree,
     ) -> Result<Answer, AllocError>
         requires { u < 4 }
-        ensures { IfOk result (λ answer. record { state = self.new; saves = answer.saves; letters = answer.letters.items } ≡ accept_line u id self.old from view place decree) }
+        ensures done { IfOk result (λ answer. record { state = self.new; saves = answer.saves; letters = answer.letters.items } ≡ accept_line u id self.old from view place decree) }
+        ensures fits_none { IsTrue (not (is_acceptable self.old view place decree)) → IsOk result }
     {
         let next = self.next_place();
         if place == 0 || view < self.view {
@@ -358,6 +359,7 @@ impl Memory {
     ) -> Result<Answer, Fault>
         requires { u < 4 }
         ensures done { IfOk result (λ answer. record { state = self.new; saves = answer.saves; letters = answer.letters.items } ≡ decided_line u id self.old from place decree) }
+        ensures fits_none { IsTrue (not (is_news self.old place decree)) → IsOk result }
         ensures err { IfErr result (λ fault. fault ≡ Fault.NoMemory) }
     {
         let next = self.next_place();
