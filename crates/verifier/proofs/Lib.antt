@@ -1,3 +1,4 @@
 mod LetterLemmas
 mod ViewLemmas
+mod RowLemmas
 mod Rows

@@ -4,3 +4,4 @@ pub mod Lines
 pub mod Step
 pub mod Record
 pub mod Row
+pub mod Seat

@@ -9,6 +9,9 @@ mod input;
 mod letters;
 mod memory;
 mod record;
+mod step;
 mod tally;
+mod verifier;
 
+pub use crate::verifier::Verifier;
 pub use input::Input;

@@ -5,10 +5,13 @@ ghost use Rattle.std.specs.Prelude.{◌≡◌, ◌+◌, ◌^◌, ◌<◌, ◌≤
 ghost use Rattle.decrees.specs.Standing.{standing, is_next, decree_at};
 ghost use Rattle.decrees.specs.Votes.{verdict, is_open};
 ghost use Rattle.view_change.specs.Promises.{choice};
-ghost use Rattle.verifier.specs.State.{State, Outcome, in_view as entered, is_led_by, next_led, next_place, says as saying};
+ghost use Rattle.verifier.specs.State.{State, Outcome, in_view as entered, is_led_by, next_led, next_place, says as saying, first_state, first_promises, down};
+ghost use Rattle.verifier.specs.Record.{record_text};
+ghost use Rattle.decrees.specs.Count.{members};
 ghost use Rattle.verifier.specs.Lines.{learn as learned, by_verdict, proposal as proposal_of, try_to_propose as trying, on_token as token_line, on_change as change_line, on_promise as promise_line, on_accept as accept_line, on_accepted as accepted_line, on_decided as decided_line, on_ask as ask_line, suspected as suspect_line, restarted as restart_line, asked_if_behind as asked, told as telling, is_fitting as fitting, is_awaited, is_acceptable, is_news};
 
 use crate::letters::{decided, one, to_others, to_others_and_executors, to_verifiers};
+use crate::record::MARKS;
 use crate::tally::{Tallied, Tally};
 use decrees::{Ballot, Decree, Letter, Log, Node, Verdict, VoteKey, Votes};
 use proto::Fault;
@@ -16,6 +19,7 @@ use std::alloc::{AllocError, Global};
 use std::marker::Model;
 use token::Token;
 use view_change::{Choice, Promise, Promises};
+use wire::{Record, put_list};
 
 /// What a step leaves to be done: whether the record has to be saved, and the letters that leave
 /// after that.
@@ -48,6 +52,70 @@ impl Model for Memory {
 }
 
 impl Memory {
+    /// A new verifier. The first one leads view 0, with promises of all.
+    pub fn first(alloc: Global, u: u8, id: u8) -> Result<Memory, AllocError>
+        requires { u < 4 }
+        ensures { IfOk result (λ memory. memory ≡ first_state u id) }
+    {
+        let leads = id == 0;
+        let promises = if leads {
+            first_promises_of(alloc, u)?
+        } else {
+            Promises::new(alloc)
+        };
+        Ok(Memory {
+            leads,
+            promises,
+            ..Memory::restored(alloc, 0, None, Log::new(alloc))
+        })
+    }
+
+    /// A verifier that goes on from its record.
+    pub fn restored(alloc: Global, view: u64, accepted: Option<(u64, Decree)>, log: Log) -> Memory
+        ensures fresh { result ≡ down result }
+        ensures view { result.view ≡ view }
+        ensures accepted { result.accepted ≡ accepted }
+        ensures log { result.log ≡ log }
+    {
+        Memory {
+            view,
+            log,
+            accepted,
+            leads: false,
+            proposed: false,
+            doubt: false,
+            promises: Promises::new(alloc),
+            tally: Tally::new(alloc),
+            votes: Votes::new(alloc),
+        }
+    }
+
+    /// The record.
+    pub fn record(&self, alloc: Global, u: u8, id: u8) -> Result<Vec<u8>, AllocError>
+        ensures { IfOk result (λ text. text.items ≡ record_text u id self.now) }
+    {
+        let mut text = Vec::new(alloc);
+        text.extend_from_slice(&MARKS)?;
+        id.put(&mut text)?;
+        u.put(&mut text)?;
+        self.view.put(&mut text)?;
+        self.accepted.put(&mut text)?;
+        put_list(self.log.as_slice(), &mut text)?;
+        Ok(text)
+    }
+
+    pub fn view(&self) -> u64
+        ensures { result ≡ self.now.view }
+    {
+        self.view
+    }
+
+    pub fn known(&self) -> u64
+        ensures { result ≡ length self.now.log }
+    {
+        self.log.known()
+    }
+
     fn next_place(&self) -> u64
         ensures value { result ≡ next_place self.now }
         ensures few { result < 2 ^ 33 }
@@ -407,7 +475,22 @@ impl Memory {
     }
 }
 
-fn nothing(alloc: Global) -> Answer
+fn first_promises_of(alloc: Global, u: u8) -> Result<Promises, AllocError>
+    requires { u < 4 }
+    ensures { IfOk result (λ promises. promises ≡ first_promises (members u)) }
+{
+    let mut promises = Promises::new(alloc);
+    for from in 0..2 * u + 1 {
+        promises.add(Promise {
+            from,
+            known: 0,
+            accepted: None,
+        })?;
+    }
+    Ok(promises)
+}
+
+pub fn nothing(alloc: Global) -> Answer
     ensures saves { result.saves ≡ false }
     ensures letters { result.letters.items ≡ [] }
 {
