@@ -5,3 +5,4 @@ pub mod Step
 pub mod Record
 pub mod Row
 pub mod Seat
+pub mod Lent

@@ -86,6 +86,13 @@ impl<K: Keeper> Model for Verifier<K> {
 }
 
 impl<K: Keeper> Verifier<K> {
+    ghost use Rattle.std.specs.Prelude.{◌≡◌, ◌*◌, ◌-◌, ◌^◌, ◌<◌, ◌≤◌, ◌⊎◌, Some, None, IfOk, IfErr, IsOk, OnErr, OnOk, Err, IsTrue, not, length, true, []};
+    ghost use Rattle.std.specs.Borrow.{sem};
+    ghost use Rattle.verifier.specs.Step.{fits};
+    ghost use Rattle.verifier.specs.Lines.{restarted};
+    ghost use Rattle.verifier.specs.Seat.{Seat, Opens, IsUnreadable, handled, outcome, IsAtLimit};
+    ghost use Rattle.verifier.specs.Lent.{LendsKeeper};
+
     /// Opens the verifier `id` of `2u + 1`. Where the keeper has no record it is new, and its first
     /// record is saved. Else it goes on from its record, and asks the others for what it does not
     /// know. BadRecord: the record is not one of this verifier. Stopped: the first save failed, or
@@ -234,6 +241,15 @@ impl<K: Keeper> Verifier<K> {
         ensures { result ≡ length self.now.state.log }
     {
         self.memory.known()
+    }
+
+    /// Lends the keeper.
+    pub fn keeper(&mut self) -> &mut K
+        ensures* writes_back { sem 𝓛 (LendsKeeper K.row K.Keeper self.entry result) }
+        ensures saved { K.saved result.now ≡ self.old.saved }
+        ensures failed { K.failed result.now ≡ self.old.failures }
+    {
+        &mut self.keeper
     }
 
     /// Ends it, and gives its keeper back.
