@@ -1,13 +1,25 @@
-//! What verifiers decide, and the letters that they send.
+//! What the verifiers decide, the letters that they send for it, and what a list of decisions
+//! stands for.
+//!
+//! It stands on `token`, `wire` (records), `proto` (`Fault`) and `indexmap` (votes, in the order of their arrival). The
+//! layer above uses `Log::standing` and `Votes::verdict`: what stands is a function of the decrees,
+//! and the verdict is a function of that and the votes.
 #![tactic(auto)]
 
-use token::Token;
+mod ballot;
+mod decree;
+mod log;
+mod node;
+mod record;
+mod standing;
+mod votes;
 
-/// What the verifiers decide for one place.
-#[derive(Clone, Copy, Debug, PartialEq, Eq)]
-pub enum Decree {
-    /// The state after batch `n` is the one with this token.
-    Commit { n: u64, token: Token },
-    /// What was executed since the last Commit is undone, and the next epoch begins.
-    Rollback,
-}
+pub use ballot::Ballot;
+pub use decree::Decree;
+pub use log::Log;
+pub use node::{Letter, Node};
+pub use standing::Standing;
+pub use votes::{Verdict, VoteKey, Votes};
+
+#[cfg(test)]
+mod tests;

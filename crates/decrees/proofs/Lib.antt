@@ -1,0 +1,3 @@
+mod VoteLemmas
+mod LogLemmas
+mod RecordLemmas

@@ -1,0 +1,5 @@
+pub mod Count
+pub mod Standing
+pub mod Votes
+pub mod Record
+pub mod RecordLaws

@@ -1,0 +1,43 @@
+-- What a list of decrees stands for.
+use Rattle.std.specs.Prelude.{◌≡◌, ℕ, ◌+◌, ◌-◌, ◌^◌, ◌<◌, ◌≤◌, ◌==◌, ◌&&◌, Bool, true, List, [], ◌∷◌, length, slice_get, fold, replicate, Option, None, if◌then◌else◌}
+use Rattle.token.specs.declared.Token.{Token}
+use Rattle.decrees.specs.declared.decree.Decree.{Decree}
+use Rattle.decrees.specs.declared.decree.Decree.TheVariants.{Commit, Rollback}
+use Rattle.decrees.specs.declared.standing.Standing.{Standing}
+
+-- before any decree
+abbrev pub first_standing : Standing
+first_standing = record { n = 0; token = record { 0 = replicate 32 0 }; epoch = 1; start = 1 }
+
+-- one decree more
+abbrev pub standing_after : Standing → Decree → Standing
+standing_after s (Commit n token) = record { n = n; token = token; epoch = s.epoch; start = s.start }
+standing_after s Rollback = record { n = s.n; token = s.token; epoch = s.epoch + 1; start = s.n + 1 }
+
+abbrev pub standing : List Decree → Standing
+standing log = fold standing_after first_standing log
+
+-- the decree may come next: a Commit is of the number after the standing one
+abbrev pub is_next : Standing → Decree → Bool
+is_next s (Commit n token) = n == (s.n + 1)
+is_next s Rollback = true
+
+-- each decree could come next where it stands
+abbrev pub is_log_from : Standing → List Decree → Bool
+is_log_from s [] = true
+is_log_from s (d ∷ ds) = is_next s d && is_log_from (standing_after s d) ds
+
+abbrev pub is_log : List Decree → Bool
+is_log log = is_log_from first_standing log
+
+-- the decree of a place, from 1
+abbrev pub decree_at : List Decree → ℕ → Option Decree
+decree_at log place = if place == 0 then None else slice_get log (place - 1)
+
+-- what a log keeps beside its decrees is what they stand for, and its numbers count them
+pub record Keeps (log : List Decree) (kept : Standing) : Type 0 where
+  pub is_standing : kept ≡ standing log
+  pub begun : 1 ≤ kept.epoch
+  pub counted : kept.n + kept.epoch ≡ length log + 1
+  pub from_next : kept.start ≤ kept.n + 1
+  pub few : length log < 2 ^ 32

@@ -1,0 +1,40 @@
+ghost use Rattle.std.specs.Prelude.{◌≡◌, ⊤};
+ghost use Rattle.decrees.specs.Record.{decree_text};
+ghost use Rattle.decrees.specs.RecordLaws.{decree_prefix_free};
+
+use crate::decree::Decree;
+use proto::Fault;
+use std::alloc::Global;
+use token::Token;
+use wire::{Record, Sink};
+
+/// A mark, and of a Commit the number and the token.
+impl Record for Decree {
+    ghost fits = { λ _. ⊤ };
+
+    ghost spelling = { decree_text };
+
+    fn put<S: Sink>(&self, sink: &mut S) -> Result<(), S::Refusal> {
+        match self {
+            Decree::Rollback => sink.put(&[0u8]),
+            Decree::Commit { n, token } => {
+                sink.put(&[1u8])?;
+                n.put(sink)?;
+                token.0.put(sink)
+            }
+        }
+    }
+
+    fn take<'b>(alloc: Global, bytes: &'b [u8]) -> Result<(Decree, &'b [u8]), Fault> {
+        let (commit, rest) = <Option<(u64, [u8; 32])> as Record>::take(alloc, bytes)?;
+        match commit {
+            None => Ok((Decree::Rollback, rest)),
+            Some(commit) => {
+                let token = Token(commit.1);
+                Ok((Decree::Commit { n: commit.0, token }, rest))
+            }
+        }
+    }
+
+    ghost prefix_free = { decree_prefix_free };
+}

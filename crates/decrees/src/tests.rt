@@ -1,0 +1,120 @@
+use super::*;
+use proto::Fault;
+use std::alloc::Global;
+use std::test::Fail;
+use token::Token;
+
+const NONE: Token = Token([0; 32]);
+
+fn token(byte: u8) -> Token {
+    Token([byte; 32])
+}
+
+/// The verdict where the executors from 0 on have these tokens for the first number.
+fn verdict(alloc: Global, u: u8, tokens: &[u8]) -> Result<Verdict, Fail>
+    requires { u < 4 }
+{
+    let mut votes = Votes::new(alloc);
+    let mut executor = 0;
+    for byte in tokens {
+        let key = VoteKey {
+            epoch: 1,
+            n: 1,
+            executor,
+            previous: NONE.0,
+        };
+        votes.add(key, token(*byte))?;
+        votes.add(key, token(99))?;
+        executor = executor.wrapping_add(1);
+    }
+    Ok(votes.verdict(&Standing::first(), u))
+}
+
+#[test]
+fn verdicts(rt: HostRuntime) -> Result<(), Fail> {
+    let commit = Verdict::Commit(token(7));
+    assert_eq!(rt; verdict(rt.alloc(), 0, &[])?, Verdict::Wait);
+    assert_eq!(rt; verdict(rt.alloc(), 0, &[7])?, commit);
+    assert_eq!(rt; verdict(rt.alloc(), 1, &[7, 7])?, commit);
+    assert_eq!(rt; verdict(rt.alloc(), 1, &[7, 8])?, Verdict::Wait);
+    assert_eq!(rt; verdict(rt.alloc(), 1, &[7, 8, 9])?, Verdict::Hopeless);
+    assert_eq!(rt; verdict(rt.alloc(), 2, &[7, 7, 8, 8])?, Verdict::Wait);
+    assert_eq!(rt;
+        verdict(rt.alloc(), 2, &[7, 7, 8, 8, 9])?,
+        Verdict::Hopeless
+    );
+    assert_eq!(rt; verdict(rt.alloc(), 2, &[6, 7, 8, 9])?, Verdict::Hopeless);
+    assert_eq!(rt;
+        verdict(rt.alloc(), 3, &[7, 7, 8, 8, 9, 9])?,
+        Verdict::Hopeless
+    );
+    Ok(())
+}
+
+#[test]
+fn votes_that_do_not_count(rt: HostRuntime) -> Result<(), Fail> {
+    let mut votes = Votes::new(rt.alloc());
+    let key = VoteKey {
+        epoch: 1,
+        n: 1,
+        executor: 0,
+        previous: NONE.0,
+    };
+    votes.add(VoteKey { epoch: 2, ..key }, token(7))?;
+    votes.add(VoteKey { n: 2, ..key }, token(7))?;
+    votes.add(
+        VoteKey {
+            previous: [1; 32],
+            ..key
+        },
+        token(7),
+    )?;
+    votes.add(VoteKey { executor: 1, ..key }, token(7))?;
+    assert_eq!(rt; votes.verdict(&Standing::first(), 0), Verdict::Wait);
+    votes.drop_old(&Standing {
+        n: 1,
+        token: token(7),
+        epoch: 2,
+        start: 1,
+    });
+    votes.add(key, token(7))?;
+    assert_eq!(rt;
+        votes.verdict(&Standing::first(), 0),
+        Verdict::Commit(token(7))
+    );
+    Ok(())
+}
+
+#[test]
+fn a_log_and_what_it_stands_for(rt: HostRuntime) -> Result<(), Fail> {
+    let mut log = Log::new(rt.alloc());
+    let first = Decree::Commit {
+        n: 1,
+        token: token(5),
+    };
+    assert_eq!(rt;
+        log.learn(Decree::Commit {
+            n: 2,
+            token: token(5)
+        }),
+        Err(Fault::BadRecord)
+    );
+    assert_eq!(rt; log.learn(Decree::Rollback), Ok(()));
+    assert_eq!(rt; log.learn(first), Ok(()));
+    assert_eq!(rt; log.learn(first), Err(Fault::BadRecord));
+    assert_eq!(rt; log.learn(Decree::Rollback), Ok(()));
+    assert_eq!(rt; log.known(), 3);
+    assert_eq!(rt; log.decree(0), None);
+    assert_eq!(rt; log.decree(2), Some(first));
+    assert_eq!(rt; log.decree(4), None);
+    assert_eq!(rt;
+        log.standing(),
+        Standing {
+            n: 1,
+            token: token(5),
+            epoch: 3,
+            start: 2
+        }
+    );
+    Ok(())
+}

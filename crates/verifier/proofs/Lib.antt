@@ -1,0 +1,4 @@
+mod LetterLemmas
+mod ViewLemmas
+mod RowLemmas
+mod Rows

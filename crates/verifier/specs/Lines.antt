@@ -1,0 +1,144 @@
+-- What a verifier does with each input, line by line.
+use Rattle.std.specs.Prelude.{ℕ, ◌+◌, ◌-◌, ◌==◌, ◌&&◌, ◌||◌, Bool, true, false, not, List, [], ◌∷◌, ◌++◌, length, take, drop, Option, None, Some, nat_lt, nat_le, if◌then◌else◌}
+use Rattle.token.specs.declared.Token.{Token}
+use Rattle.decrees.specs.declared.decree.Decree.{Decree}
+use Rattle.decrees.specs.declared.decree.Decree.TheVariants as decree
+use Rattle.decrees.specs.declared.ballot.Ballot.TheVariants.{Accept, Accepted, Decided, Ask, Change, Promise}
+use Rattle.decrees.specs.declared.ballot.Ballot.{Ballot}
+use Rattle.decrees.specs.declared.node.Letter.{Letter}
+use Rattle.decrees.specs.declared.node.Node.{Node}
+use Rattle.decrees.specs.declared.node.Node.TheVariants.{Verifier}
+use Rattle.decrees.specs.declared.votes.Verdict.{Verdict}
+use Rattle.decrees.specs.declared.votes.Verdict.TheVariants as verdict_variant
+use Rattle.decrees.specs.declared.votes.VoteKey.{VoteKey}
+use Rattle.decrees.specs.Standing.{standing, is_next, decree_at}
+use Rattle.decrees.specs.Votes.{is_open, open_votes, votes_with, verdict}
+use Rattle.view_change.specs.declared.promises.Choice.{Choice}
+use Rattle.view_change.specs.declared.promises.Choice.TheVariants as choice_variant
+use Rattle.view_change.specs.Promises.{has_promised, promises_with, choice}
+use Rattle.verifier.specs.Tally.{tally_with, is_accepted}
+use Rattle.verifier.specs.State.{State, Outcome, next_place, letter, to_verifiers, to_others, to_executors, decided_from, stays, says, in_view, down, is_led_by, next_led}
+
+-- one decree more is known
+abbrev pub learn : State → Decree → State
+learn s d = record s { log = s.log ++ d ∷ []; accepted = None; proposed = false; tally = []; votes = open_votes (standing (s.log ++ d ∷ [])) s.votes }
+
+-- what the verdict leaves to a leader that is free to propose
+abbrev pub by_verdict : ℕ → Bool → Verdict → Option Decree
+by_verdict n doubt (verdict_variant.Commit token) = Some (decree.Commit n token)
+by_verdict n doubt verdict_variant.Hopeless = Some decree.Rollback
+by_verdict n doubt verdict_variant.Wait = if doubt then Some decree.Rollback else None
+
+abbrev pub by_choice : Choice → Option Decree → Option Decree
+by_choice choice_variant.Wait fresh = None
+by_choice (choice_variant.Must d) fresh = Some d
+by_choice choice_variant.Free fresh = fresh
+
+-- what it may propose for the next place: what was accepted, else a Commit by the votes, else a Rollback
+abbrev pub proposal : ℕ → State → Option Decree
+proposal u s =
+    if s.leads && not s.proposed
+    then by_choice (choice u (length s.log) s.promises) (by_verdict ((standing s.log).n + 1) s.doubt (verdict u (standing s.log) s.votes))
+    else None
+
+abbrev pub proposing : ℕ → ℕ → State → Bool → List (Letter Ballot) → Option Decree → Outcome
+proposing u id s saves first None = record { state = s; saves = saves; letters = first }
+proposing u id s saves first (Some d) =
+    record {
+      state = record s { proposed = true; doubt = false };
+      saves = saves;
+      letters = first ++ to_verifiers u id (Accept s.view (length s.log + 1) d);
+    }
+
+-- a step that leaves this state and these letters, and then tries to propose
+abbrev pub try_to_propose : ℕ → ℕ → State → Bool → List (Letter Ballot) → Outcome
+try_to_propose u id s saves first = proposing u id s saves first (proposal u s)
+
+abbrev pub vote_key : ℕ → ℕ → ℕ → Token → VoteKey
+vote_key executor epoch n previous = record { epoch = epoch; n = n; executor = executor; previous = previous.0 }
+
+abbrev pub on_token : ℕ → ℕ → State → ℕ → ℕ → ℕ → Token → Token → Outcome
+on_token u id s executor epoch n previous token =
+    if is_open (standing s.log) (vote_key executor epoch n previous)
+    then try_to_propose u id (record s { votes = votes_with s.votes (vote_key executor epoch n previous) token }) false []
+    else stays s
+
+abbrev pub suspected : ℕ → ℕ → State → Outcome
+suspected u id s =
+    let view = next_led u id s.view in
+    record {
+      state = record s { view = view; leads = is_led_by u id view; proposed = false; doubt = true; promises = [] };
+      saves = true;
+      letters = to_verifiers u id (Change view);
+    }
+
+abbrev pub on_change : ℕ → State → ℕ → ℕ → Outcome
+on_change id s from view =
+    if nat_lt view s.view then stays s
+    else record { state = in_view s view; saves = nat_lt s.view view; letters = letter id (Verifier from) (Promise view (length s.log) s.accepted) ∷ [] }
+
+-- asks for what it does not know, where the sender knows more
+abbrev pub asked_if_behind : ℕ → State → ℕ → ℕ → List (Letter Ballot)
+asked_if_behind id s from count = if nat_lt (length s.log) count then letter id (Verifier from) (Ask (length s.log + 1)) ∷ [] else []
+
+-- the promise is to this lead, and the first of its sender
+abbrev pub is_awaited : State → ℕ → ℕ → Bool
+is_awaited s from view = s.leads && ((view == s.view) && not (has_promised s.promises from))
+
+abbrev pub on_promise : ℕ → ℕ → State → ℕ → ℕ → ℕ → Option (ℕ × Decree) → Outcome
+on_promise u id s from view count accepted =
+    if is_awaited s from view
+    then try_to_propose u id (record s { promises = promises_with s.promises (record { from = from; known = count; accepted = accepted }) }) false (asked_if_behind id s from count)
+    else stays s
+
+-- the decree of a place, if it is known
+abbrev pub told : ℕ → Node → ℕ → Option Decree → List (Letter Ballot)
+told id to place None = []
+told id to place (Some d) = letter id to (Decided place d) ∷ []
+
+-- the proposal is of no lower view, and of no place whose Commit would have another number
+abbrev pub is_acceptable : State → ℕ → ℕ → Decree → Bool
+is_acceptable s view place d = nat_lt 0 place && (nat_le s.view view && (not (place == next_place s) || is_next (standing s.log) d))
+
+abbrev pub on_accept : ℕ → ℕ → State → ℕ → ℕ → ℕ → Decree → Outcome
+on_accept u id s from view place d =
+    if (place == 0) || nat_lt view s.view then stays s
+    else if nat_lt (next_place s) place then says id s (Verifier from) (Ask (next_place s))
+    else if nat_lt place (next_place s) then record { state = s; saves = false; letters = told id (Verifier from) place (decree_at s.log place) }
+    else if is_next (standing s.log) d then record { state = record (in_view s view) { accepted = Some (view, d) }; saves = true; letters = to_verifiers u id (Accepted view place d) }
+    else stays s
+
+-- the decree is of the next place and may come next
+abbrev pub is_fitting : State → ℕ → Decree → Bool
+is_fitting s place d = (place == next_place s) && is_next (standing s.log) d
+
+abbrev pub with_tally : State → ℕ → ℕ → Decree → State
+with_tally s from view d = record s { tally = tally_with s.tally (record { from = from; view = view; decree = d }) }
+
+abbrev pub on_accepted : ℕ → ℕ → State → ℕ → ℕ → ℕ → Decree → Outcome
+on_accepted u id s from view place d =
+    if is_fitting s place d
+    then (if is_accepted u (with_tally s from view d).tally view d
+    then try_to_propose u id (learn s d) true (to_others u id (Decided place d) ++ to_executors u id (Decided place d))
+    else stays (with_tally s from view d))
+    else stays s
+
+-- the decree may come next, or is of a later place
+abbrev pub is_news : State → ℕ → Decree → Bool
+is_news s place d = is_fitting s place d || nat_lt (next_place s) place
+
+abbrev pub on_decided : ℕ → ℕ → State → ℕ → ℕ → Decree → Outcome
+on_decided u id s from place d =
+    if is_fitting s place d then try_to_propose u id (learn s d) true []
+    else if nat_lt (next_place s) place then says id s (Verifier from) (Ask (next_place s))
+    else stays s
+
+-- at most 16 decrees are told at once
+abbrev pub on_ask : ℕ → State → Node → ℕ → Outcome
+on_ask id s from place =
+    if place == 0 then stays s
+    else record { state = s; saves = false; letters = decided_from id from place (take 16 (drop (place - 1) s.log)) }
+
+-- what a verifier does that goes on from its record
+abbrev pub restarted : ℕ → ℕ → State → Outcome
+restarted u id s = record { state = down s; saves = false; letters = to_others u id (Ask (next_place s)) }

@@ -1,0 +1,111 @@
+//! Which line an input fits.
+
+ghost use Rattle.std.specs.Prelude.{◌≡◌, ◌^◌, ◌<◌, ◌≤◌, ◌⊎◌, IfOk, IfErr, IsOk, IsTrue, not};
+ghost use Rattle.verifier.specs.State.{State, Outcome};
+ghost use Rattle.verifier.specs.Step.{of_executor as executor_step, of_verifier as verifier_step, step as whole_step, fits, fits_executor, fits_verifier};
+
+use crate::input::Input;
+use crate::memory::{Answer, Memory, nothing};
+use crate::tally::Tallied;
+use decrees::{Ballot, Node, VoteKey};
+use proto::Fault;
+use std::alloc::Global;
+use view_change::Promise;
+
+impl Memory {
+    /// Does what the input asks for. Stopped: its view would rise above the greatest number.
+    pub fn step(&mut self, alloc: Global, u: u8, id: u8, input: Input) -> Result<Answer, Fault>
+        requires { u < 4 }
+        ensures done { IfOk result (λ answer. record { state = self.new; saves = answer.saves; letters = answer.letters.items } ≡ whole_step u id self.old input) }
+        ensures fits_none { IsTrue (not (fits self.old input)) → IsOk result }
+        ensures err { IfErr result (λ fault. (fault ≡ Fault.NoMemory) ⊎ ((fault ≡ Fault.Stopped) × (2 ^ 64 ≤ (whole_step u id self.old input).state.view))) }
+    {
+        match input {
+            Input::Suspect => self.suspected(alloc, u, id),
+            Input::Letter(letter) => match letter.from {
+                Node::Client(_) => Ok(nothing(alloc)),
+                Node::Executor(from) => self.of_executor(alloc, u, id, from, letter.body),
+                Node::Verifier(from) => self.of_verifier(alloc, u, id, from, letter.body),
+            },
+        }
+    }
+
+    fn of_executor(
+        &mut self,
+        alloc: Global,
+        u: u8,
+        id: u8,
+        from: u8,
+        body: Ballot,
+    ) -> Result<Answer, Fault>
+        requires { u < 4 }
+        ensures done { IfOk result (λ answer. record { state = self.new; saves = answer.saves; letters = answer.letters.items } ≡ executor_step u id self.old from body) }
+        ensures fits_none { IsTrue (not (fits_executor self.old from body)) → IsOk result }
+        ensures err { IfErr result (λ fault. fault ≡ Fault.NoMemory) }
+    {
+        match body {
+            Ballot::Token {
+                epoch,
+                n,
+                previous,
+                token,
+            } => {
+                let previous = previous.0;
+                let key = VoteKey {
+                    epoch,
+                    n,
+                    executor: from,
+                    previous,
+                };
+                Ok(self.on_token(alloc, u, id, key, token)?)
+            }
+            Ballot::Ask { place } => Ok(self.on_ask(alloc, id, Node::Executor(from), place)?),
+            _ => Ok(nothing(alloc)),
+        }
+    }
+
+    fn of_verifier(
+        &mut self,
+        alloc: Global,
+        u: u8,
+        id: u8,
+        from: u8,
+        body: Ballot,
+    ) -> Result<Answer, Fault>
+        requires { u < 4 }
+        ensures done { IfOk result (λ answer. record { state = self.new; saves = answer.saves; letters = answer.letters.items } ≡ verifier_step u id self.old from body) }
+        ensures fits_none { IsTrue (not (fits_verifier self.old from body)) → IsOk result }
+        ensures err { IfErr result (λ fault. fault ≡ Fault.NoMemory) }
+    {
+        match body {
+            Ballot::Token { .. } => Ok(nothing(alloc)),
+            Ballot::Accept {
+                view,
+                place,
+                decree,
+            } => Ok(self.on_accept(alloc, u, id, from, view, place, decree)?),
+            Ballot::Accepted {
+                view,
+                place,
+                decree,
+            } => self.on_accepted(alloc, u, id, place, Tallied { from, view, decree }),
+            Ballot::Decided { place, decree } => {
+                self.on_decided(alloc, u, id, from, place, decree)
+            }
+            Ballot::Ask { place } => Ok(self.on_ask(alloc, id, Node::Verifier(from), place)?),
+            Ballot::Change { view } => Ok(self.on_change(alloc, id, from, view)?),
+            Ballot::Promise {
+                view,
+                known,
+                accepted,
+            } => {
+                let promise = Promise {
+                    from,
+                    known,
+                    accepted,
+                };
+                Ok(self.on_promise(alloc, u, id, view, promise)?)
+            }
+        }
+    }
+}

@@ -1,0 +1,263 @@
+ghost use Rattle.std.specs.Prelude.{◌≡◌, ◌*◌, ◌-◌, ◌^◌, ◌<◌, ◌≤◌, ◌⊎◌, Some, None, IfOk, IfErr, IsOk, OnErr, OnOk, Err, IsTrue, not, length, true, []};
+ghost use Rattle.verifier.specs.Step.{fits};
+ghost use Rattle.verifier.specs.Record.{record_text, IsRecord};
+ghost use Rattle.verifier.specs.State.{State};
+ghost use Rattle.verifier.specs.Lines.{restarted};
+ghost use Rattle.verifier.specs.Seat.{Seat, Opens, IsUnreadable, Stored, handled, outcome, IsAtLimit};
+ghost use Rattle.wire.specs.Record.{Refused};
+
+use crate::input::Input;
+use crate::memory::Memory;
+use crate::record::read_row;
+use decrees::{Ballot, Letter, Log};
+use keeper::Keeper;
+use proto::Fault;
+use std::alloc::Global;
+use std::marker::Model;
+
+/// The memory of the verifier whose record these bytes are.
+fn restore(alloc: Global, u: u8, id: u8, bytes: &[u8]) -> Result<Memory, Fault>
+    ensures ok { IfOk result (IsRecord u id bytes.now) }
+    ensures err { IfErr result (λ fault. Refused fault ((s : State) → IsRecord u id bytes.now s → ⊥)) }
+{
+    let (((numbers, view), accepted), decrees) = read_row(alloc, bytes)?;
+    if numbers.0 != id || numbers.1 != u {
+        return Err(Fault::BadRecord);
+    }
+    let log = Log::restored(decrees.into_vec())?;
+    Ok(Memory::restored(alloc, view, accepted, log))
+}
+
+/// What the keeper's record gives, if it has one.
+fn stored<K: Keeper>(alloc: Global, u: u8, id: u8, keeper: &K) -> Option<Result<Memory, Fault>>
+    ensures { Stored u id (K.saved keeper.now) result }
+{
+    match keeper.load() {
+        None => None,
+        Some(bytes) => Some(restore(alloc, u, id, bytes)),
+    }
+}
+
+/// Saves the record of this memory. Where a failure could not be counted it is Stopped at once.
+fn save<K: Keeper>(
+    alloc: Global,
+    u: u8,
+    id: u8,
+    memory: &Memory,
+    keeper: &mut K,
+) -> Result<(), Fault>
+    ensures saved { OnOk result (K.saved keeper.new ≡ Some (record_text u id memory.now)) }
+    ensures none_failed { OnOk result (K.failed keeper.new ≡ K.failed keeper.old) }
+    ensures old { OnErr result (K.saved keeper.new ≡ K.saved keeper.old) }
+    ensures no_memory { result ≡ Err Fault.NoMemory → K.failed keeper.new ≡ K.failed keeper.old }
+    ensures stopped { result ≡ Err Fault.Stopped → (K.failed keeper.old < K.failed keeper.new) ⊎ (K.failed keeper.old ≡ 2 ^ 64 - 1) }
+    ensures only { IfErr result (λ fault. (fault ≡ Fault.NoMemory) ⊎ (fault ≡ Fault.Stopped)) }
+    ensures counted { K.failed keeper.old ≤ K.failed keeper.new }
+{
+    let record = memory.record(alloc, u, id)?;
+    if keeper.failures() == u64::MAX {
+        return Err(Fault::Stopped);
+    }
+    match keeper.save(&record) {
+        Ok(()) => Ok(()),
+        Err(_) => Err(Fault::Stopped),
+    }
+}
+
+/// A verifier. It is ended by `end`, which gives its keeper back.
+#[derive(Drop)]
+pub struct Verifier<K: Keeper> {
+    id: u8,
+    u: u8,
+    memory: Memory,
+    stopped: bool,
+    keeper: K,
+}
+
+impl<K: Keeper> Model for Verifier<K> {
+    ghost use Rattle.std.specs.Prelude.{◌<◌, ◌≤◌, ◌*◌, not};
+    ghost use Rattle.verifier.specs.Seat.{Seat};
+
+    ghost Value = { Seat };
+
+    ghost view = { λ v. record { id = v.id; u = v.u; state = v.memory; up = not v.stopped; saved = K.saved v.keeper; failures = K.failed v.keeper } };
+
+    ghost invariant = { λ v. v.u < 4 };
+}
+
+impl<K: Keeper> Verifier<K> {
+    ghost use Rattle.std.specs.Prelude.{◌≡◌, ◌*◌, ◌-◌, ◌^◌, ◌<◌, ◌≤◌, ◌⊎◌, Some, None, IfOk, IfErr, IsOk, OnErr, OnOk, Err, IsTrue, not, length, true, []};
+    ghost use Rattle.std.specs.Borrow.{sem};
+    ghost use Rattle.verifier.specs.Step.{fits};
+    ghost use Rattle.verifier.specs.Lines.{restarted};
+    ghost use Rattle.verifier.specs.Seat.{Seat, Opens, IsUnreadable, handled, outcome, IsAtLimit};
+    ghost use Rattle.verifier.specs.Lent.{LendsKeeper};
+
+    /// Opens the verifier `id` of `2u + 1`. Where the keeper has no record it is new, and its first
+    /// record is saved. Else it goes on from its record, and asks the others for what it does not
+    /// know. BadRecord: the record is not one of this verifier. Stopped: the first save failed, or
+    /// its failure could not be counted. A refused call hands the keeper back, with the record as
+    /// before.
+    pub fn open(
+        alloc: Global,
+        id: u8,
+        u: u8,
+        keeper: K,
+    ) -> Result<(Verifier<K>, Vec<Letter<Ballot>>), (Fault, K)>
+        requires few { u < 4 }
+        requires member { id ≤ 2 * u }
+        ensures opened { IfOk result (λ opened. Opens u id (K.saved keeper) (K.failed keeper) opened.0 opened.1.items) }
+        ensures unreadable { IfErr result (λ refused. refused.0 ≡ Fault.BadRecord → IsUnreadable u id (K.saved keeper)) }
+        ensures stopped { IfErr result (λ refused. refused.0 ≡ Fault.Stopped → (K.failed keeper < K.failed refused.1) ⊎ (K.failed keeper ≡ 2 ^ 64 - 1)) }
+        ensures saved { IfErr result (λ refused. K.saved refused.1 ≡ K.saved keeper) }
+    {
+        match stored(alloc, u, id, &keeper) {
+            None => Verifier::begin(alloc, id, u, keeper),
+            Some(Ok(memory)) => Verifier::go_on(alloc, id, u, memory, keeper),
+            Some(Err(fault)) => Err((fault, keeper)),
+        }
+    }
+
+    fn begin(
+        alloc: Global,
+        id: u8,
+        u: u8,
+        mut keeper: K,
+    ) -> Result<(Verifier<K>, Vec<Letter<Ballot>>), (Fault, K)>
+        requires few { u < 4 }
+        requires no_record { K.saved keeper ≡ None }
+        ensures opened { IfOk result (λ opened. Opens u id None (K.failed keeper) opened.0 opened.1.items) }
+        ensures only { IfErr result (λ refused. (refused.0 ≡ Fault.NoMemory) ⊎ (refused.0 ≡ Fault.Stopped)) }
+        ensures stopped { IfErr result (λ refused. refused.0 ≡ Fault.Stopped → (K.failed keeper < K.failed refused.1) ⊎ (K.failed keeper ≡ 2 ^ 64 - 1)) }
+        ensures saved { IfErr result (λ refused. K.saved refused.1 ≡ K.saved keeper) }
+    {
+        let Ok(memory) = Memory::first(alloc, u, id) else {
+            return Err((Fault::NoMemory, keeper));
+        };
+        match save(alloc, u, id, &memory, &mut keeper) {
+            Err(fault) => Err((fault, keeper)),
+            Ok(()) => {
+                let verifier = Verifier {
+                    id,
+                    u,
+                    memory,
+                    stopped: false,
+                    keeper,
+                };
+                Ok((verifier, Vec::new(alloc)))
+            }
+        }
+    }
+
+    fn go_on(
+        alloc: Global,
+        id: u8,
+        u: u8,
+        memory: Memory,
+        keeper: K,
+    ) -> Result<(Verifier<K>, Vec<Letter<Ballot>>), (Fault, K)>
+        requires few { u < 4 }
+        ensures opened { IfOk result (λ opened. (opened.0 ≡ record { id = id; u = u; state = memory; up = true; saved = K.saved keeper; failures = K.failed keeper }) × (opened.1.items ≡ (restarted u id memory).letters)) }
+        ensures only { IfErr result (λ refused. (refused.0 ≡ Fault.NoMemory) × (refused.1 ≡ keeper)) }
+    {
+        match memory.restarted(alloc, u, id) {
+            Err(_) => Err((Fault::NoMemory, keeper)),
+            Ok(letters) => {
+                let verifier = Verifier {
+                    id,
+                    u,
+                    memory,
+                    stopped: false,
+                    keeper,
+                };
+                Ok((verifier, letters))
+            }
+        }
+    }
+
+    fn answer(&mut self, alloc: Global, input: Input) -> Result<Vec<Letter<Ballot>>, Fault>
+        ensures done { IfOk result (λ letters. self.new ≡ handled self.old input) }
+        ensures letters { IfOk result (λ letters. letters.items ≡ (outcome self.old input).letters) }
+        ensures fits_none { IsTrue (not (fits self.old.state input)) → IsOk result }
+        ensures same { OnErr result ((self.new.id ≡ self.old.id) × (self.new.u ≡ self.old.u)) }
+        ensures old_record { OnErr result (self.new.saved ≡ self.old.saved) }
+        ensures no_memory { result ≡ Err Fault.NoMemory → self.new.failures ≡ self.old.failures }
+        ensures stopped { result ≡ Err Fault.Stopped → (self.old.failures < self.new.failures) ⊎ IsAtLimit self.old input }
+        ensures only { IfErr result (λ fault. (fault ≡ Fault.NoMemory) ⊎ (fault ≡ Fault.Stopped)) }
+    {
+        let answer = self.memory.step(alloc, self.u, self.id, input)?;
+        if answer.saves {
+            save(alloc, self.u, self.id, &self.memory, &mut self.keeper)?;
+        }
+        Ok(answer.letters)
+    }
+
+    /// Does the step of the input, and gives its letters in order. What has to be saved is saved
+    /// before they leave. An input that fits no line of the step changes nothing.
+    ///
+    /// After an error the verifier is stopped for good, and its record is the old one. Stopped: it
+    /// was stopped before, or a save failed, or a counter is at its limit; NoMemory: memory was
+    /// wanting in this call.
+    pub fn handle(&mut self, alloc: Global, input: Input) -> Result<Vec<Letter<Ballot>>, Fault>
+        ensures done { IfOk result (λ letters. self.new ≡ handled self.old input) }
+        ensures letters { IfOk result (λ letters. letters.items ≡ (outcome self.old input).letters) }
+        ensures fits_none { IsTrue self.old.up → IsTrue (not (fits self.old.state input)) → IsOk result }
+
+        // After an error.
+        ensures ends { OnErr result (IsTrue (not self.new.up)) }
+        ensures same { OnErr result ((self.new.id ≡ self.old.id) × (self.new.u ≡ self.old.u)) }
+        ensures old_record { OnErr result (self.new.saved ≡ self.old.saved) }
+
+        // When each comes.
+        ensures stopped_before { IsTrue (not self.old.up) → result ≡ Err Fault.Stopped }
+        ensures save_failed { self.old.failures < self.new.failures → result ≡ Err Fault.Stopped }
+        ensures stopped { result ≡ Err Fault.Stopped → IsTrue (not self.old.up) ⊎ (self.old.failures < self.new.failures) ⊎ IsAtLimit self.old input }
+        ensures only { IfErr result (λ fault. (fault ≡ Fault.NoMemory) ⊎ (fault ≡ Fault.Stopped)) }
+    {
+        if self.stopped {
+            return Err(Fault::Stopped);
+        }
+        let answer = self.answer(alloc, input);
+        self.stopped = answer.is_err();
+        answer
+    }
+
+    /// Whether it was not stopped.
+    pub fn is_up(&self) -> bool
+        ensures { result ≡ self.now.up }
+    {
+        !self.stopped
+    }
+
+    /// Its view.
+    pub fn view(&self) -> u64
+        ensures { result ≡ self.now.state.view }
+    {
+        self.memory.view()
+    }
+
+    /// How many decrees it knows.
+    pub fn known(&self) -> u64
+        ensures { result ≡ length self.now.state.log }
+    {
+        self.memory.known()
+    }
+
+    /// Lends the keeper.
+    pub fn keeper(&mut self) -> &mut K
+        ensures* writes_back { sem 𝓛 (LendsKeeper K.row K.Keeper self.entry result) }
+        ensures saved { K.saved result.now ≡ self.old.saved }
+        ensures failed { K.failed result.now ≡ self.old.failures }
+    {
+        &mut self.keeper
+    }
+
+    /// Ends it, and gives its keeper back.
+    pub fn end(self) -> K
+        ensures saved { K.saved result ≡ self.saved }
+        ensures failed { K.failed result ≡ self.failures }
+    {
+        let Verifier { keeper, .. } = self;
+        keeper
+    }
+}
