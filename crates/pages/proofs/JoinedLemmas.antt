@@ -210,7 +210,7 @@ joined-alive pages moment a =
     let still : ArePages (map (λ m. alive m moment) pages) = (length-map pages (λ m. alive m moment) ∙ a.0, are_alive 0 pages moment a.1) in (
       still,
       all_keys _ _ (λ q. joined_at (map (λ m. alive m moment) pages) q still ∙ ap (λ m. get m q) (alive_at pages moment (page_number q))
-      ∙ get-alive (get_or pages (page_number q) empty) moment q ∙ ap (option_filter (is_alive moment)) (sym (joined_at pages q a)) ∙ sym (get-alive (joined pages) moment q)),
+          ∙ get-alive (get_or pages (page_number q) empty) moment q ∙ ap (option_filter (is_alive moment)) (sym (joined_at pages q a)) ∙ sym (get-alive (joined pages) moment q)),
     )
 
 -- a page's entries are those of the whole whose keys have its number
