@@ -5,5 +5,5 @@ use Rattle.decrees.proofs.log.Log.restored.Given as goal
 abbrev pub invariant-loop-decree : goal.invariant-loop-decree
 invariant-loop-decree l = record {
   keeps : Keeps (take l.decree-index l.decree-items) l.standing;
-  left : is_log l.decree-items ≡ is_log_from l.standing (drop l.decree-index l.decree-items)
+  left : is_log l.decree-items ≡ is_log_from l.standing (drop l.decree-index l.decree-items);
 }
