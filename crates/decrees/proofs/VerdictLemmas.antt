@@ -1,13 +1,12 @@
 -- A token that is backed has its executors.
-use Rattle.std.proofs.Common.{◌≡◌, ℕ, zero, suc, Bool, true, false, List, Option, Some, None, refl, ap, sym, ◌∙◌, subst, IsTrue, is_some}
+use Rattle.std.proofs.Common.{◌≡◌, ℕ, zero, suc, Bool, true, false, List, Option, Some, None, refl, sym, subst, IsTrue, is_some}
 use Rattle.std.specs.Prelude.{nat_lt, if◌then◌else◌}
 use Rattle.std.specs.Option.{option_map_or}
 use Rattle.token.specs.declared.Token.{Token}
 use Rattle.decrees.specs.declared.standing.Standing.{Standing}
-use Rattle.decrees.specs.declared.votes.Verdict.{Verdict}
 use Rattle.decrees.specs.declared.votes.Verdict.TheVariants.{Commit, Hopeless, Wait}
 use Rattle.decrees.specs.Count.{members}
-use Rattle.decrees.specs.Votes.{Vote, verdict, support, heard, backed, backed_below, is_hopeless}
+use Rattle.decrees.specs.Votes.{Vote, support, heard, backed, backed_below, is_hopeless}
 use Rattle.decrees.specs.Laws.{CommitIsBacked}
 
 module _ (u : ℕ) (s : Standing) (votes : List Vote) where
