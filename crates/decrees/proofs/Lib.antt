@@ -1,3 +1,4 @@
 mod VoteLemmas
 mod LogLemmas
 mod RecordLemmas
+mod VerdictLemmas

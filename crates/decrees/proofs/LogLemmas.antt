@@ -1,5 +1,5 @@
 -- One decree more of a log that is restored.
-use Rattle.std.proofs.Common.{◌≡◌, ℕ, ◌+◌, ◌<◌, Bool, true, List, [], ◌∷◌, ◌++◌, length, take, drop, get_or, refl, sym, ap, ◌∙◌, subst, arith, rules, ◌^◌, add-one, drop-cons}
+use Rattle.std.proofs.Common.{◌≡◌, ℕ, ◌+◌, ◌<◌, true, List, [], ◌∷◌, ◌++◌, length, take, drop, get_or, sym, ap, ◌∙◌, subst, arith, ◌^◌}
 use Rattle.std.specs.Prelude.{◌&&◌}
 use Rattle.std.proofs.lemmas.List.{take_more, drop_more, length-append, length-take-le}
 use Rattle.std.proofs.lemmas.List.Sums.{fold_push}
@@ -7,7 +7,7 @@ use Rattle.std.proofs.lemmas.Bool.Decides.{nat_tests}
 use Rattle.decrees.specs.declared.decree.Decree.{Decree}
 use Rattle.decrees.specs.declared.decree.Decree.TheVariants.{Commit, Rollback}
 use Rattle.decrees.specs.declared.standing.Standing.{Standing}
-use Rattle.decrees.specs.Standing.{Keeps, first_standing, standing, standing_after, is_next, is_log, is_log_from}
+use Rattle.decrees.specs.Standing.{Keeps, first_standing, standing_after, is_next, is_log_from}
 
 pub Keeps-learn : (log : List Decree) (s : Standing) (d : Decree) → Keeps log s → is_next s d ≡ true → length log + 1 < 2 ^ 32 → Keeps (log ++ d ∷ []) (standing_after s d)
 Keeps-learn log s (Commit n token) k e few =

@@ -1,6 +1,5 @@
 -- A vote of a new name in a map of votes.
 use Rattle.std.proofs.Common.{◌≡◌, false, List, [], ◌∷◌, ◌++◌, Option, None, Some, is_some, refl, ap, sym, ◌∙◌, if◌then◌else◌}
-use Rattle.std.specs.Map.{lookup}
 use Rattle.token.specs.declared.Token.{Token}
 use Rattle.decrees.specs.declared.votes.VoteKey.{VoteKey}
 use Rattle.decrees.specs.Votes.{Vote, vote_of, votes_with, key_eq}

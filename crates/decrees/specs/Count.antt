@@ -1,5 +1,5 @@
 -- How many of a set of nodes pass a test. Senders are counted, and not what they sent.
-use Rattle.std.specs.Prelude.{ℕ, zero, suc, ◌+◌, ◌*◌, ◌<◌, Bool, true, false, if◌then◌else◌, nat_lt}
+use Rattle.std.specs.Prelude.{ℕ, zero, suc, ◌+◌, ◌*◌, Bool, if◌then◌else◌, nat_lt}
 
 -- how many numbers below the bound pass the test
 abbrev pub count_below : (ℕ → Bool) → ℕ → ℕ

@@ -1,5 +1,6 @@
 pub mod Count
 pub mod Standing
 pub mod Votes
+pub mod Laws
 pub mod Record
 pub mod RecordLaws

@@ -1,5 +1,5 @@
 -- Texts of decrees are told apart.
-use Rattle.std.proofs.Common.{◌≡◌, ℕ, List, ◌∷◌, ◌++◌, refl}
+use Rattle.std.proofs.Common.{◌≡◌, ℕ, List, ◌++◌, refl}
 use Rattle.std.specs.Int.{w64}
 use Rattle.wire.specs.Record.{IsPrefixFree}
 use Rattle.wire.specs.Number.{num, fixed}

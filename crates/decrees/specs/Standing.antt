@@ -1,6 +1,5 @@
 -- What a list of decrees stands for.
 use Rattle.std.specs.Prelude.{◌≡◌, ℕ, ◌+◌, ◌-◌, ◌^◌, ◌<◌, ◌≤◌, ◌==◌, ◌&&◌, Bool, true, List, [], ◌∷◌, length, slice_get, fold, replicate, Option, None, if◌then◌else◌}
-use Rattle.token.specs.declared.Token.{Token}
 use Rattle.decrees.specs.declared.decree.Decree.{Decree}
 use Rattle.decrees.specs.declared.decree.Decree.TheVariants.{Commit, Rollback}
 use Rattle.decrees.specs.declared.standing.Standing.{Standing}

@@ -8,6 +8,7 @@
 
 mod ballot;
 mod decree;
+mod laws;
 mod log;
 mod node;
 mod record;
@@ -16,6 +17,7 @@ mod votes;
 
 pub use ballot::Ballot;
 pub use decree::Decree;
+pub use laws::commit_is_backed;
 pub use log::Log;
 pub use node::{Letter, Node};
 pub use standing::Standing;

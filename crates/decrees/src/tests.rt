@@ -1,10 +1,20 @@
+ghost use Rattle.std.specs.Prelude.{◌<◌};
+
 use super::*;
 use proto::Fault;
 use std::alloc::Global;
 use std::test::Fail;
 use token::Token;
 
-const NONE: Token = Token([0; 32]);
+fn key(epoch: u64, n: u64, executor: u8) -> VoteKey {
+    let previous = [0; 32];
+    VoteKey {
+        epoch,
+        n,
+        executor,
+        previous,
+    }
+}
 
 fn token(byte: u8) -> Token {
     Token([byte; 32])
@@ -17,14 +27,8 @@ fn verdict(alloc: Global, u: u8, tokens: &[u8]) -> Result<Verdict, Fail>
     let mut votes = Votes::new(alloc);
     let mut executor = 0;
     for byte in tokens {
-        let key = VoteKey {
-            epoch: 1,
-            n: 1,
-            executor,
-            previous: NONE.0,
-        };
-        votes.add(key, token(*byte))?;
-        votes.add(key, token(99))?;
+        votes.add(key(1, 1, executor), token(*byte))?;
+        votes.add(key(1, 1, executor), token(99))?;
         executor = executor.wrapping_add(1);
     }
     Ok(votes.verdict(&Standing::first(), u))
@@ -54,22 +58,9 @@ fn verdicts(rt: HostRuntime) -> Result<(), Fail> {
 #[test]
 fn votes_that_do_not_count(rt: HostRuntime) -> Result<(), Fail> {
     let mut votes = Votes::new(rt.alloc());
-    let key = VoteKey {
-        epoch: 1,
-        n: 1,
-        executor: 0,
-        previous: NONE.0,
-    };
-    votes.add(VoteKey { epoch: 2, ..key }, token(7))?;
-    votes.add(VoteKey { n: 2, ..key }, token(7))?;
-    votes.add(
-        VoteKey {
-            previous: [1; 32],
-            ..key
-        },
-        token(7),
-    )?;
-    votes.add(VoteKey { executor: 1, ..key }, token(7))?;
+    votes.add(key(2, 1, 0), token(7))?;
+    votes.add(key(1, 2, 0), token(7))?;
+    votes.add(key(1, 1, 1), token(7))?;
     assert_eq!(rt; votes.verdict(&Standing::first(), 0), Verdict::Wait);
     votes.drop_old(&Standing {
         n: 1,
@@ -77,7 +68,7 @@ fn votes_that_do_not_count(rt: HostRuntime) -> Result<(), Fail> {
         epoch: 2,
         start: 1,
     });
-    votes.add(key, token(7))?;
+    votes.add(key(1, 1, 0), token(7))?;
     assert_eq!(rt;
         votes.verdict(&Standing::first(), 0),
         Verdict::Commit(token(7))

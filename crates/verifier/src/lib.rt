@@ -15,3 +15,6 @@ mod verifier;
 
 pub use crate::verifier::Verifier;
 pub use input::Input;
+
+#[cfg(test)]
+mod tests;
