@@ -1,4 +1,5 @@
-ghost use Rattle.std.specs.Prelude.{◌≡◌, ◌++◌, [], length, take, IfOk, OnOk, OnErr, IsTrue, ◌↔◌};
+ghost use Rattle.std.specs.Prelude.{◌≡◌, ◌≤◌, [], length, IfOk, IsTrue, ◌↔◌};
+ghost use Rattle.proto.specs.Block.{block_limit};
 
 use std::alloc::{AllocError, Global};
 use std::marker::Model;
@@ -6,28 +7,33 @@ use std::marker::Model;
 /// How many bytes of data an item has at most.
 pub const BLOCK_LIMIT: usize = 65536;
 
-/// The data of an item, or the block of a storage line: plain bytes.
+/// The data of an item, or the block of a storage line: at most `BLOCK_LIMIT` bytes.
 #[derive(Debug, Drop)]
 pub struct Block {
     bytes: Vec<u8>,
 }
 
 impl Model for Block {
-    ghost use Rattle.std.specs.Prelude.{List, ℕ};
+    ghost use Rattle.std.specs.Prelude.{List, ℕ, ◌≤◌, length};
+    ghost use Rattle.proto.specs.Block.{block_limit};
 
     ghost Value = { List ℕ };
 
     ghost view = { λ a. a.bytes.items };
+
+    ghost invariant = { λ a. length a.bytes.items ≤ block_limit };
 }
 
 impl Block {
     pub fn new(bytes: Vec<u8>) -> Block
+        requires { length bytes.items ≤ block_limit }
         ensures { result ≡ bytes.items }
     {
         Block { bytes }
     }
 
     pub fn from_slice(alloc: Global, bytes: &[u8]) -> Result<Block, AllocError>
+        requires { length bytes.now ≤ block_limit }
         ensures { IfOk result (λ block. block ≡ bytes.now) }
     {
         Ok(Block {
@@ -36,43 +42,17 @@ impl Block {
     }
 
     pub fn as_slice(&self) -> &[u8]
-        ensures { result.now ≡ self.now }
+        ensures bytes { result.now ≡ self.now }
+        ensures limit { length self.now ≤ block_limit }
     {
         self.bytes.as_slice()
     }
 
     pub fn into_vec(self) -> Vec<u8>
-        ensures { result.items ≡ self }
+        ensures bytes { result.items ≡ self }
+        ensures limit { length self ≤ block_limit }
     {
         self.bytes
-    }
-
-    pub fn clear(&mut self)
-        ensures { self.new ≡ [] }
-    {
-        self.bytes.clear();
-    }
-
-    /// Makes room for so many more bytes.
-    pub fn reserve(&mut self, more: usize) -> Result<(), AllocError>
-        ensures { self.new ≡ self.old }
-    {
-        self.bytes.reserve(more)
-    }
-
-    /// Keeps the first `size` bytes.
-    pub fn truncate(&mut self, size: usize)
-        ensures { self.new ≡ take size self.old }
-    {
-        self.bytes.truncate(size);
-    }
-
-    /// Adds bytes at the end.
-    pub fn extend(&mut self, bytes: &[u8]) -> Result<(), AllocError>
-        ensures ok { OnOk result (self.new ≡ self.old ++ bytes.now) }
-        ensures err { OnErr result (self.new ≡ self.old) }
-    {
-        self.bytes.extend_from_slice(bytes)
     }
 
     pub fn is_empty(&self) -> bool
@@ -82,7 +62,8 @@ impl Block {
     }
 
     pub fn len(&self) -> usize
-        ensures { result ≡ length self.now }
+        ensures len { result ≡ length self.now }
+        ensures limit { result ≤ block_limit }
     {
         self.bytes.len()
     }

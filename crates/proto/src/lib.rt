@@ -9,6 +9,7 @@
 mod block;
 mod command;
 mod fault;
+mod held;
 mod key;
 mod laws;
 mod line;

@@ -2,11 +2,13 @@
 
 ghost use Rattle.std.specs.Prelude.{◌≡◌, ◌≤◌, ◌<◌, ◌+◌, ◌-◌, ◌^◌, ◌++◌, ◌∷◌, [], length, take, drop, IfOk, OnOk, OnErr, None, IsSome, min, nat_lt, if◌then◌else◌};
 ghost use Rattle.std.specs.Bool.{OnTrue, OnFalse};
-ghost use Rattle.proto.specs.Grammar.{block_turn, filled, line_limit, block_limit};
+ghost use Rattle.proto.specs.Block.{block_limit};
+ghost use Rattle.proto.specs.Grammar.{block_turn, filled, line_limit};
 ghost use Rattle.proto.specs.Stage.{HasNoNewline, InLine, InBlock, IsStage, bytes_of, StepGives, Takes, GoesOn, BlockEnds, FindsNewline, Cuts};
 
 use crate::block::{BLOCK_LIMIT, Block};
 use crate::command::{Command, Update};
+use crate::held::Held;
 use crate::line::{Header, Kind, Line};
 use crate::meaning::line_meaning;
 use crate::turn::{Notice, Turn};
@@ -20,9 +22,9 @@ const LINE_LIMIT: usize = 2048;
 /// A line, or a storage line and part of its block.
 #[derive(Debug, Drop)]
 pub struct Stage {
-    pub line: Block,
+    pub line: Held,
     pub header: Option<Header>,
-    pub block: Block,
+    pub block: Held,
     /// How many bytes of the block are only counted.
     pub dropped: usize,
 }
@@ -93,8 +95,9 @@ fn fill(header: Header, block: Block) -> Command
 }
 
 /// The turn of a storage line, from its block and the two bytes after it.
-fn end_turn(header: Header, mut held: Block) -> Turn
-    requires { 2 ≤ length held }
+fn end_turn(header: Header, mut held: Held) -> Turn
+    requires ended { 2 ≤ length held }
+    requires held { length held ≤ header.size + 2 }
     ensures { result ≡ block_turn header (take (length held - 2) held) (drop (length held - 2) held) }
 {
     let size = held.len() - 2;
@@ -107,7 +110,7 @@ fn end_turn(header: Header, mut held: Block) -> Turn
     }
     let quiet = header.quiet;
     held.truncate(size);
-    Turn::Ask(fill(header, held), quiet)
+    Turn::Ask(fill(header, Block::new(held.into_vec())), quiet)
 }
 
 /// How many of the next bytes of a block are only counted.
@@ -136,9 +139,9 @@ impl Stage {
         ensures empty { bytes_of result ≡ [] }
     {
         Stage {
-            line: Block::new(Vec::new(alloc)),
+            line: Held::new(Vec::new(alloc)),
             header: None,
-            block: Block::new(Vec::new(alloc)),
+            block: Held::new(Vec::new(alloc)),
             dropped: 0,
         }
     }
@@ -151,7 +154,7 @@ impl Stage {
             None => 0,
             Some(header) => room_of(header),
         };
-        let mut block = Block::new(Vec::with_capacity(alloc, room)?);
+        let mut block = Held::new(Vec::with_capacity(alloc, room)?);
         block.extend(self.block.as_slice())?;
         Ok(Stage {
             line: self.line.clone()?,
@@ -253,7 +256,7 @@ impl Stage {
         let skip = skip_of(&header, self.dropped, n);
         let (_, keep) = front.split_at(skip);
         self.block.extend(keep)?;
-        let held = mem::replace(&mut self.block, Block::new(Vec::new(alloc)));
+        let held = mem::replace(&mut self.block, Held::new(Vec::new(alloc)));
         self.line.clear();
         self.dropped = 0;
         Ok((Some(end_turn(header, held)), n))

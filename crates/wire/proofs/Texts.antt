@@ -4,35 +4,47 @@ use Rattle.std.specs.Int.{w8, w32}
 use Rattle.std.proofs.lemmas.List.{length-append}
 use Rattle.proto.specs.declared.fault.Fault.{Fault}
 use Rattle.proto.specs.Key.{is_key}
+use Rattle.proto.specs.Block.{block_limit}
 use Rattle.wire.specs.Record.{NoFront, Refused}
 use Rattle.wire.specs.Number.{num}
-use Rattle.wire.specs.Field.{list_text, bytes_text, BlockFits, ListFits}
+use Rattle.wire.specs.Field.{list_text, ListFits}
+use Rattle.wire.specs.Block.{block_text}
 use Rattle.wire.specs.Key.{key_text, keys_text}
 use Rattle.wire.specs.FrontLaws.{split_at}
 use Rattle.wire.specs.NumberLaws.{num_prefix_free, wide8, wide32}
 use Rattle.wire.specs.FieldLaws.{list_prefix_free}
+use Rattle.wire.specs.BlockLaws.{block_at_front}
 use Rattle.wire.specs.KeyLaws.{key_at_front, key_prefix_free, keys_at_front}
 use Rattle.wire.proofs.Values.{Refused-weaker}
 
 abbrev AreBytes : List ℕ → Type 0
 AreBytes bytes = (i : ℕ) → get_or bytes i 0 < 256
 
--- the length that was read is that of the text
-sizes : (size : ℕ) (bytes rest text after : List ℕ) → bytes ≡ num w32 size ++ rest → bytes ≡ bytes_text text ++ after → (size ≡ length text) × (rest ≡ text ++ after)
-sizes size bytes rest text after e same =
-    (num_prefix_free w32 wide32).apart size (length text) rest (text ++ after) (sym e ∙ (same ∙ append_assoc (num w32 (length text)) text after))
+-- the length that was read is that of the text, and within the limit
+block_sizes : (size : ℕ) (bytes rest text after : List ℕ) → AreBytes bytes → bytes ≡ num w32 size ++ rest → bytes ≡ block_text text ++ after
+    → (length text ≤ block_limit) × (size ≡ length text) × (rest ≡ text ++ after)
+block_sizes size bytes rest text after are_bytes e same =
+    let front = block_at_front text bytes after are_bytes same in
+    let both = (num_prefix_free w32 wide32).apart size (length text) rest (text ++ after) (sym e ∙ front.1) in
+    (front.0, both.0, both.1)
 
-pub over_limit : (size : ℕ) (bytes rest : List ℕ) → bytes ≡ num w32 size ++ rest → 65536 < size → NoFront BlockFits bytes_text bytes
-over_limit size bytes rest e above = record {
-  none = λ text after f same. let both = sizes size bytes rest text after e same in omega (arith, both.0, f.size);
+pub no_block_size : (fits : List ℕ → Type 0) {of : ℕ → Type 0} (bytes : List ℕ) → AreBytes bytes → ((n : ℕ) → of n) → (e : Fault)
+    → Refused e (NoFront of (num w32) bytes) → Refused e (NoFront fits block_text bytes)
+no_block_size fits {of} bytes are_bytes all e = Refused-weaker e (λ (none : NoFront of (num w32) bytes). record {
+  none = λ text after f same. none.none (length text) (text ++ after) (all (length text)) (block_at_front text bytes after are_bytes same).1;
+})
+
+pub over_limit : {fits : List ℕ → Type 0} (size : ℕ) (bytes rest : List ℕ) → AreBytes bytes → bytes ≡ num w32 size ++ rest → block_limit < size → NoFront fits block_text bytes
+over_limit size bytes rest are_bytes e above = record {
+  none = λ text after f same. let all = block_sizes size bytes rest text after are_bytes e same in omega (arith, all.0, all.1);
 }
 
-pub cut_off : {fits : List ℕ → Type 0} (size : ℕ) (bytes rest : List ℕ) → bytes ≡ num w32 size ++ rest → length rest < size → NoFront fits bytes_text bytes
-cut_off size bytes rest e short = record {
+pub cut_off : {fits : List ℕ → Type 0} (size : ℕ) (bytes rest : List ℕ) → AreBytes bytes → bytes ≡ num w32 size ++ rest → length rest < size → NoFront fits block_text bytes
+cut_off size bytes rest are_bytes e short = record {
   none = λ text after f same.
-      let both = sizes size bytes rest text after e same in
-      let len : length rest ≡ length text + length after = ap length both.1 ∙ length-append text after in
-      omega (arith, both.0);
+      let all = block_sizes size bytes rest text after are_bytes e same in
+      let len : length rest ≡ length text + length after = ap length all.2 ∙ length-append text after in
+      omega (arith, all.1);
 }
 
 pub no_key_size : (fits : List ℕ → Type 0) {of : ℕ → Type 0} (bytes : List ℕ) → AreBytes bytes → ((n : ℕ) → of n) → (e : Fault)

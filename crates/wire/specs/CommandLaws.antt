@@ -10,21 +10,21 @@ use Rattle.proto.specs.declared.command.Command.{Command}
 use Rattle.proto.specs.declared.command.Command.TheVariants as command
 use Rattle.wire.specs.Record.{IsPrefixFree}
 use Rattle.wire.specs.Number.{num, num_signed}
-use Rattle.wire.specs.Field.{bytes_text}
+use Rattle.wire.specs.Block.{block_text}
 use Rattle.wire.specs.Key.{key_text}
 use Rattle.wire.specs.Command.{verb_mark, update_text, command_text, request_text}
 use Rattle.wire.specs.FrontLaws.{tail_of, head_of, Passes, same_numbers}
 use Rattle.wire.specs.NumberLaws.{num_signed_prefix_free}
-use Rattle.wire.specs.FieldLaws.{bytes_prefix_free}
+use Rattle.wire.specs.BlockLaws.{block_prefix_free}
 use Rattle.wire.specs.KeyLaws.{key_prefix_free, keys_prefix_free}
 use Rattle.wire.specs.RowLaws.{u16_free, u32_free, u64_free, followed, made_of}
 
 -- the fields of a storage line
 abbrev pub store_row : ((List ℕ × ℕ) × ℤ) × List ℕ → List ℕ
-store_row p = key_text p.0.0.0 ++ num w32 p.0.0.1 ++ num_signed p.0.1 ++ bytes_text p.1
+store_row p = key_text p.0.0.0 ++ num w32 p.0.0.1 ++ num_signed p.0.1 ++ block_text p.1
 
 store_free : IsPrefixFree store_row
-store_free = followed (followed (followed key_prefix_free u32_free) num_signed_prefix_free) bytes_prefix_free
+store_free = followed (followed (followed key_prefix_free u32_free) num_signed_prefix_free) block_prefix_free
 
 abbrev pub cas_row : (((List ℕ × ℕ) × ℤ) × List ℕ) × ℕ → List ℕ
 cas_row p = store_row p.0 ++ num w64 p.1

@@ -12,10 +12,6 @@ option_text spelling (Some x) = 1 ∷ spelling x
 abbrev pub list_text : {X : Type 0} → (X → List ℕ) → List X → List ℕ
 list_text spelling xs = num w32 (length xs) ++ flat_map spelling xs
 
--- a length, and so many bytes
-abbrev pub bytes_text : List ℕ → List ℕ
-bytes_text text = num w32 (length text) ++ text
-
 -- a list whose count has a field, of values that fit
 pub record ListFits {X : Type 0} (fits : X → Type 0) (xs : List X) : Type 0 where
   pub count : length xs < 2 ^ 32
@@ -25,7 +21,3 @@ pub record ListFits {X : Type 0} (fits : X → Type 0) (xs : List X) : Type 0 wh
 pub record CountFits {X : Type 0} (count : ℕ) (fits : X → Type 0) (xs : List X) : Type 0 where
   pub is : length xs ≡ count
   pub each : All fits xs
-
--- at most 64 KiB of data
-pub record BlockFits (text : List ℕ) : Type 0 where
-  pub size : length text ≤ 65536

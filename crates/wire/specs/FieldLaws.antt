@@ -5,8 +5,8 @@ use Rattle.std.specs.Int.{w32}
 use Rattle.std.proofs.lemmas.List.Concat.{flat_map-cons}
 use Rattle.wire.specs.Record.{IsPrefixFree}
 use Rattle.wire.specs.Number.{num}
-use Rattle.wire.specs.Field.{option_text, list_text, bytes_text}
-use Rattle.wire.specs.FrontLaws.{split_at, tail_of}
+use Rattle.wire.specs.Field.{option_text, list_text}
+use Rattle.wire.specs.FrontLaws.{tail_of}
 use Rattle.wire.specs.NumberLaws.{num_prefix_free, wide32}
 
 module _ {X : Type 0} (spelling : X → List ℕ) (free : IsPrefixFree spelling) where
@@ -49,11 +49,3 @@ module _ {X Y : Type 0} (first : X → List ℕ) (second : Y → List ℕ) (a : 
 
   pub pair_prefix_free : IsPrefixFree {X = X × Y} (λ p. first p.0 ++ second p.1)
   pair_prefix_free = record { apart = pair_apart }
-
-bytes_apart : (xs ys r s : List ℕ) → bytes_text xs ++ r ≡ bytes_text ys ++ s → (xs ≡ ys) × (r ≡ s)
-bytes_apart xs ys r s e =
-    let count = (num_prefix_free w32 wide32).apart (length xs) (length ys) _ _ (sym (append_assoc (num w32 (length xs)) xs r) ∙ (e ∙ append_assoc (num w32 (length ys)) ys s)) in
-    split_at xs ys r s count.0 count.1
-
-pub bytes_prefix_free : IsPrefixFree bytes_text
-bytes_prefix_free = record { apart = bytes_apart }

@@ -1,6 +1,7 @@
 pub mod Record
 pub mod Number
 pub mod Field
+pub mod Block
 pub mod Key
 pub mod Item
 pub mod Reply
@@ -12,6 +13,7 @@ pub mod FrontLaws
 pub mod NumberLaws
 pub mod FieldLaws
 pub mod KeyLaws
+pub mod BlockLaws
 pub mod RowLaws
 pub mod ItemLaws
 pub mod TokenLaws

@@ -8,6 +8,10 @@ use Rattle.proto.specs.declared.fault.Fault.TheVariants.{NoMemory, BadRecord}
 abbrev pub Puts : {S : Type 0} → (S → List ℕ → Type 0) → List ℕ → S → S → Type 0
 Puts holds text old new = (m : List ℕ) → holds old m → holds new (m ++ text)
 
+-- a value whose type keeps all its limits
+abbrev pub Always : {X : Type 0} → X → Type 0
+Always x = Unit {0}
+
 -- no spelling is the front of another value's
 pub record IsPrefixFree {X : Type 0} (spelling : X → List ℕ) : Type 0 where
   pub apart : (v w : X) (r s : List ℕ) → spelling v ++ r ≡ spelling w ++ s → (v ≡ w) × (r ≡ s)

@@ -5,19 +5,16 @@ use Rattle.proto.specs.declared.reply.Found.{Found}
 use Rattle.proto.specs.declared.reply.Reply.{Reply}
 use Rattle.proto.specs.declared.reply.Reply.TheVariants as reply
 use Rattle.wire.specs.Number.{num}
-use Rattle.wire.specs.Field.{option_text, list_text, bytes_text, BlockFits}
+use Rattle.wire.specs.Field.{option_text, list_text}
+use Rattle.wire.specs.Block.{block_text}
 use Rattle.wire.specs.Key.{key_text}
 
 abbrev pub found_text : Found → List ℕ
-found_text f = key_text f.key ++ num w32 f.flags ++ bytes_text f.block ++ option_text (num w64) f.unique
-
-abbrev pub FoundFits : Found → Type 0
-FoundFits f = BlockFits f.block
+found_text f = key_text f.key ++ num w32 f.flags ++ block_text f.block ++ option_text (num w64) f.unique
 
 -- at most 64 items that a get found
-pub record ValuesFit (found : List Found) : Type 0 where
-  pub count : length found ≤ 64
-  pub each : All FoundFits found
+abbrev pub ValuesFit : List Found → Type 0
+ValuesFit found = length found ≤ 64
 
 abbrev pub values_text : List Found → List ℕ
 values_text = list_text found_text

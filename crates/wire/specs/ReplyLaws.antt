@@ -8,13 +8,14 @@ use Rattle.wire.specs.Record.{IsPrefixFree}
 use Rattle.wire.specs.Number.{num}
 use Rattle.wire.specs.Reply.{found_text, values_text, reply_text}
 use Rattle.wire.specs.FrontLaws.{tail_of, head_of, Passes, same_numbers}
-use Rattle.wire.specs.FieldLaws.{option_prefix_free, list_prefix_free, bytes_prefix_free}
+use Rattle.wire.specs.FieldLaws.{option_prefix_free, list_prefix_free}
+use Rattle.wire.specs.BlockLaws.{block_prefix_free}
 use Rattle.wire.specs.KeyLaws.{key_prefix_free}
 use Rattle.wire.specs.RowLaws.{u32_free, u64_free, followed, made_of}
 
 pub found_prefix_free : IsPrefixFree found_text
 found_prefix_free = made_of
-    (followed (followed (followed key_prefix_free u32_free) bytes_prefix_free) (option_prefix_free (num w64) u64_free))
+    (followed (followed (followed key_prefix_free u32_free) block_prefix_free) (option_prefix_free (num w64) u64_free))
     found_text
     (λ f. (((f.key, f.flags), f.block), f.unique))
     (λ p. record { key = p.0.0.0; flags = p.0.0.1; block = p.0.1; unique = p.1 })

@@ -1,35 +1,44 @@
-ghost use Rattle.std.specs.Prelude.{◌≡◌, ◌≤◌, length};
-ghost use Rattle.wire.specs.Field.{bytes_text, BlockFits};
-ghost use Rattle.wire.specs.FieldLaws.{bytes_prefix_free};
+ghost use Rattle.std.specs.Prelude.{◌≡◌, ◌≤◌, ◌++◌, length, OnOk};
+ghost use Rattle.std.specs.Int.{w32};
+ghost use Rattle.proto.specs.Block.{block_limit};
+ghost use Rattle.wire.specs.Record.{Always, Puts};
+ghost use Rattle.wire.specs.Number.{num};
+ghost use Rattle.wire.specs.Block.{block_text};
+ghost use Rattle.wire.specs.BlockLaws.{block_prefix_free};
 
 use crate::front::take_bytes;
 use crate::listed::put_count;
 use crate::record::Record;
 use crate::sink::Sink;
-use proto::{Block, Fault};
+use proto::{BLOCK_LIMIT, Block, Fault};
 use std::alloc::Global;
 
-/// The greatest size of an item's data.
-const MOST_DATA: u32 = 65536;
+/// Writes a length, and the bytes.
+fn put_bytes<S: Sink>(bytes: &[u8], sink: &mut S) -> Result<(), S::Refusal>
+    requires { length bytes.now ≤ block_limit }
+    ensures { OnOk result (Puts S.holds (num w32 (length bytes.now) ++ bytes.now) sink.old sink.new) }
+{
+    put_count(bytes.len(), sink)?;
+    sink.put(bytes)
+}
 
 impl Record for Block {
-    ghost fits = { BlockFits };
+    ghost fits = { Always };
 
-    ghost spelling = { bytes_text };
+    ghost spelling = { block_text };
 
     fn put<S: Sink>(&self, sink: &mut S) -> Result<(), S::Refusal> {
-        put_count(self.len(), sink)?;
-        sink.put(self.as_slice())
+        put_bytes(self.as_slice(), sink)
     }
 
     fn take<'b>(alloc: Global, bytes: &'b [u8]) -> Result<(Block, &'b [u8]), Fault> {
         let (size, rest) = u32::take(alloc, bytes)?;
-        if MOST_DATA < size {
+        if BLOCK_LIMIT < size as usize {
             return Err(Fault::BadRecord);
         }
         let (text, rest) = take_bytes(rest, size as usize)?;
         Ok((Block::from_slice(alloc, text)?, rest))
     }
 
-    ghost prefix_free = { bytes_prefix_free };
+    ghost prefix_free = { block_prefix_free };
 }

@@ -1,6 +1,6 @@
 ghost use Rattle.std.specs.Prelude.{◌≡◌, ◌≤◌, ◌∷◌};
-ghost use Rattle.wire.specs.Record.{Takes};
-ghost use Rattle.wire.specs.Command.{command_text, CommandFits};
+ghost use Rattle.wire.specs.Record.{Always, Takes};
+ghost use Rattle.wire.specs.Command.{command_text};
 ghost use Rattle.wire.specs.CommandLaws.{command_prefix_free};
 
 use crate::front::take_first;
@@ -11,14 +11,14 @@ use proto::{Command, Fault, Keys};
 use std::alloc::Global;
 
 fn take_get(alloc: Global, bytes: &[u8]) -> Result<(Command, &[u8]), Fault>
-    ensures { Takes CommandFits command_text (0 ∷ bytes.now) result }
+    ensures { Takes Always command_text (0 ∷ bytes.now) result }
 {
     let (keys, rest) = Keys::take(alloc, bytes)?;
     Ok((Command::Get(keys), rest))
 }
 
 fn take_gets(alloc: Global, bytes: &[u8]) -> Result<(Command, &[u8]), Fault>
-    ensures { Takes CommandFits command_text (1 ∷ bytes.now) result }
+    ensures { Takes Always command_text (1 ∷ bytes.now) result }
 {
     let (keys, rest) = Keys::take(alloc, bytes)?;
     Ok((Command::Gets(keys), rest))
@@ -26,7 +26,7 @@ fn take_gets(alloc: Global, bytes: &[u8]) -> Result<(Command, &[u8]), Fault>
 
 fn take_update(alloc: Global, mark: u8, bytes: &[u8]) -> Result<(Command, &[u8]), Fault>
     requires { 2 ≤ mark }
-    ensures { Takes CommandFits command_text (mark ∷ bytes.now) result }
+    ensures { Takes Always command_text (mark ∷ bytes.now) result }
 {
     let (update, rest) = update::take_marked(alloc, mark, bytes)?;
     Ok((Command::Update(update), rest))
@@ -34,7 +34,7 @@ fn take_update(alloc: Global, mark: u8, bytes: &[u8]) -> Result<(Command, &[u8])
 
 /// The command behind this mark.
 fn take_marked(alloc: Global, mark: u8, bytes: &[u8]) -> Result<(Command, &[u8]), Fault>
-    ensures { Takes CommandFits command_text (mark ∷ bytes.now) result }
+    ensures { Takes Always command_text (mark ∷ bytes.now) result }
 {
     match mark {
         0 => take_get(alloc, bytes),
@@ -44,7 +44,7 @@ fn take_marked(alloc: Global, mark: u8, bytes: &[u8]) -> Result<(Command, &[u8])
 }
 
 impl Record for Command {
-    ghost fits = { CommandFits };
+    ghost fits = { Always };
 
     ghost spelling = { command_text };
 

@@ -1,5 +1,6 @@
 ghost use Rattle.std.specs.Prelude.{◌≡◌};
-ghost use Rattle.wire.specs.Item.{item_text, ItemFits};
+ghost use Rattle.wire.specs.Record.{Always};
+ghost use Rattle.wire.specs.Item.{item_text};
 ghost use Rattle.wire.specs.ItemLaws.{item_prefix_free};
 
 use crate::record::Record;
@@ -9,7 +10,7 @@ use proto::{Block, Fault};
 use std::alloc::Global;
 
 impl Record for Item {
-    ghost fits = { ItemFits };
+    ghost fits = { Always };
 
     ghost spelling = { item_text };
 

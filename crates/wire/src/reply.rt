@@ -1,6 +1,6 @@
 ghost use Rattle.std.specs.Prelude.{◌≡◌, ◌∷◌};
-ghost use Rattle.wire.specs.Record.{Takes};
-ghost use Rattle.wire.specs.Reply.{found_text, FoundFits, values_text, ValuesFit, reply_text, ReplyFits};
+ghost use Rattle.wire.specs.Record.{Always, Takes};
+ghost use Rattle.wire.specs.Reply.{found_text, values_text, ValuesFit, reply_text, ReplyFits};
 ghost use Rattle.wire.specs.ReplyLaws.{found_prefix_free, values_prefix_free, reply_prefix_free};
 
 use crate::front::take_first;
@@ -11,7 +11,7 @@ use proto::{Block, Fault, Found, Key, Reply, Values};
 use std::alloc::Global;
 
 impl Record for Found {
-    ghost fits = { FoundFits };
+    ghost fits = { Always };
 
     ghost spelling = { found_text };
 

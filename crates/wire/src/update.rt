@@ -1,11 +1,11 @@
 ghost use Rattle.std.specs.Prelude.{◌≡◌, ◌∷◌, ◌++◌, OnOk};
 ghost use Rattle.std.specs.Int.{w32};
 ghost use Rattle.proto.specs.declared.command.StoreVerb.TheVariants.{Set, Add, Replace, Append, Prepend};
-ghost use Rattle.wire.specs.Record.{Takes, Puts};
+ghost use Rattle.wire.specs.Record.{Always, Takes, Puts};
 ghost use Rattle.wire.specs.Number.{num, num_signed};
-ghost use Rattle.wire.specs.Field.{bytes_text, BlockFits};
+ghost use Rattle.wire.specs.Block.{block_text};
 ghost use Rattle.wire.specs.Key.{key_text};
-ghost use Rattle.wire.specs.Command.{verb_mark, update_text, UpdateFits};
+ghost use Rattle.wire.specs.Command.{verb_mark, update_text};
 ghost use Rattle.wire.specs.CommandLaws.{update_prefix_free};
 
 use crate::front::take_first;
@@ -34,9 +34,8 @@ fn put_store<S: Sink>(
     block: &Block,
     sink: &mut S,
 ) -> Result<(), S::Refusal>
-    requires { BlockFits block.now }
     ensures { OnOk result (Puts S.holds
-        (key_text key.now ++ num w32 flags ++ num_signed exptime ++ bytes_text block.now)
+        (key_text key.now ++ num w32 flags ++ num_signed exptime ++ block_text block.now)
         sink.old sink.new) }
 {
     key.put(sink)?;
@@ -46,7 +45,7 @@ fn put_store<S: Sink>(
 }
 
 fn take_store(alloc: Global, verb: StoreVerb, bytes: &[u8]) -> Result<(Update, &[u8]), Fault>
-    ensures { Takes UpdateFits update_text (verb_mark verb ∷ bytes.now) result }
+    ensures { Takes Always update_text (verb_mark verb ∷ bytes.now) result }
 {
     let (row, rest) = <(((Key, u32), i32), Block)>::take(alloc, bytes)?;
     let (((key, flags), exptime), block) = row;
@@ -61,7 +60,7 @@ fn take_store(alloc: Global, verb: StoreVerb, bytes: &[u8]) -> Result<(Update, &
 }
 
 fn take_cas(alloc: Global, bytes: &[u8]) -> Result<(Update, &[u8]), Fault>
-    ensures { Takes UpdateFits update_text (7 ∷ bytes.now) result }
+    ensures { Takes Always update_text (7 ∷ bytes.now) result }
 {
     let (row, rest) = <((((Key, u32), i32), Block), u64)>::take(alloc, bytes)?;
     let ((((key, flags), exptime), block), unique) = row;
@@ -76,14 +75,14 @@ fn take_cas(alloc: Global, bytes: &[u8]) -> Result<(Update, &[u8]), Fault>
 }
 
 fn take_delete(alloc: Global, bytes: &[u8]) -> Result<(Update, &[u8]), Fault>
-    ensures { Takes UpdateFits update_text (8 ∷ bytes.now) result }
+    ensures { Takes Always update_text (8 ∷ bytes.now) result }
 {
     let (key, rest) = Key::take(alloc, bytes)?;
     Ok((Update::Delete { key }, rest))
 }
 
 fn take_touch(alloc: Global, bytes: &[u8]) -> Result<(Update, &[u8]), Fault>
-    ensures { Takes UpdateFits update_text (9 ∷ bytes.now) result }
+    ensures { Takes Always update_text (9 ∷ bytes.now) result }
 {
     let (row, rest) = <(Key, i32)>::take(alloc, bytes)?;
     let (key, exptime) = row;
@@ -91,7 +90,7 @@ fn take_touch(alloc: Global, bytes: &[u8]) -> Result<(Update, &[u8]), Fault>
 }
 
 fn take_incr(alloc: Global, bytes: &[u8]) -> Result<(Update, &[u8]), Fault>
-    ensures { Takes UpdateFits update_text (10 ∷ bytes.now) result }
+    ensures { Takes Always update_text (10 ∷ bytes.now) result }
 {
     let (row, rest) = <(Key, u64)>::take(alloc, bytes)?;
     let (key, delta) = row;
@@ -99,7 +98,7 @@ fn take_incr(alloc: Global, bytes: &[u8]) -> Result<(Update, &[u8]), Fault>
 }
 
 fn take_decr(alloc: Global, bytes: &[u8]) -> Result<(Update, &[u8]), Fault>
-    ensures { Takes UpdateFits update_text (11 ∷ bytes.now) result }
+    ensures { Takes Always update_text (11 ∷ bytes.now) result }
 {
     let (row, rest) = <(Key, u64)>::take(alloc, bytes)?;
     let (key, delta) = row;
@@ -108,7 +107,7 @@ fn take_decr(alloc: Global, bytes: &[u8]) -> Result<(Update, &[u8]), Fault>
 
 /// The update behind this mark.
 pub fn take_marked(alloc: Global, mark: u8, bytes: &[u8]) -> Result<(Update, &[u8]), Fault>
-    ensures { Takes UpdateFits update_text (mark ∷ bytes.now) result }
+    ensures { Takes Always update_text (mark ∷ bytes.now) result }
 {
     match mark {
         2 => take_store(alloc, StoreVerb::Set, bytes),
@@ -126,7 +125,7 @@ pub fn take_marked(alloc: Global, mark: u8, bytes: &[u8]) -> Result<(Update, &[u
 }
 
 impl Record for Update {
-    ghost fits = { UpdateFits };
+    ghost fits = { Always };
 
     ghost spelling = { update_text };
 

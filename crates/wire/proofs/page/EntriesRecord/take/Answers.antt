@@ -12,7 +12,7 @@ unfolding page_text
 returns-in_err-listed c =
     let p = err_from_is_err_and c.from_residual-in_err-listed.result c.from_residual-in_err-listed.ensures.1 in
     rw (p.1, p.2) (no_marked_row EntriesFit page_text _ _ (λ es. es) 0 c.args.bytes.now c.in_ok-rest.rest.now c.in_ok-rest.ensures.ok
-    (λ es f. record { count = f.page.count; each = λ k d lt. (tt, f.page.each k d lt) }) (λ es. refl) c.in_err-listed.field-0.0 c.in_err-listed.ensures)
+    (λ es f. record { count = f.page; each = λ k d lt. (tt, tt) }) (λ es. refl) c.in_err-listed.field-0.0 c.in_err-listed.ensures)
 
 pub returns-then-not-is_rising : goal.returns-then-not-is_rising
 unfolding page_text

@@ -9,7 +9,7 @@ pub returns-in_err-row : goal.returns-in_err-row
 returns-in_err-row c =
     let p = err_from_is_err_and c.from_residual.result c.from_residual.ensures.1 in
     rw (p.1, p.2) (no_row RequestFits request_text _ _ (λ r. ((r.client, r.number), r.command)) c.args.bytes.now
-    (λ r f. ((tt, tt), f.command)) (λ r. refl) c.in_err-row.field-0.0 c.in_err-row.ensures)
+    (λ r f. ((tt, tt), tt)) (λ r. refl) c.in_err-row.field-0.0 c.in_err-row.ensures)
 
 pub returns-then-request-eq0 : goal.returns-then-request-eq0
 returns-then-request-eq0 c =
