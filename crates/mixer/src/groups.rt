@@ -1,7 +1,7 @@
 ghost use Rattle.std.specs.Prelude.{◌≡◌, ◌<◌, ◌≤◌, ◌^◌, length, All, IfOk};
 ghost use Rattle.std.specs.List.{range_with_len, zip};
 ghost use Rattle.std.specs.List.Sorted.{IsPermutation};
-ghost use Rattle.mixer.specs.Groups.{commands_of, number_after as after, numbers_of as numbers_in, count_of as count_in, members, task_of as task_in, tasks_from, groups_of, places_in};
+ghost use Rattle.mixer.specs.Groups.{commands_of, number_after as after, numbers_of, count_of as count_in, members, task_of as task_in, tasks_from, groups_of, places_in};
 
 use crate::conflict::conflict;
 use item_steps::{Group, Steps, Task, steps_of};
@@ -18,7 +18,7 @@ pub fn mix(alloc: Global, requests: &[Request]) -> Result<Vec<Group>, AllocError
     ensures each_place_once { IfOk result (λ groups.
         IsPermutation (range_with_len 0 (length requests.now)) (places_in groups.items)) }
 {
-    let numbers = numbers_of(alloc, requests)?;
+    let numbers = group_numbers(alloc, requests)?;
     let count = count_of(&numbers);
     let mut groups = Vec::with_capacity(alloc, count)?;
     for number in 0..count {
@@ -27,9 +27,9 @@ pub fn mix(alloc: Global, requests: &[Request]) -> Result<Vec<Group>, AllocError
     Ok(groups)
 }
 
-/// The number of each request's group.
-fn numbers_of(alloc: Global, requests: &[Request]) -> Result<Vec<usize>, AllocError>
-    ensures numbers { IfOk result (λ numbers. numbers.items ≡ numbers_in requests.now) }
+/// The number of the group in which each request runs, in batch order: see `mix`.
+pub fn group_numbers(alloc: Global, requests: &[Request]) -> Result<Vec<usize>, AllocError>
+    ensures numbers { IfOk result (λ numbers. numbers.items ≡ numbers_of requests.now) }
     ensures one_each { IfOk result (λ numbers. length numbers.items ≡ length requests.now) }
     ensures small { IfOk result (λ numbers. All (λ n. n < length requests.now) numbers.items) }
 {

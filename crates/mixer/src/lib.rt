@@ -12,7 +12,7 @@
 mod conflict;
 mod groups;
 
-pub use groups::mix;
+pub use groups::{group_numbers, mix};
 
 #[cfg(test)]
 mod tests;

@@ -1,7 +1,7 @@
 use Rattle.std.proofs.Common.{◌≡◌, ◌<◌, ◌++◌, All, length, take, drop}
 use Rattle.std.specs.List.{zip}
 use Rattle.mixer.specs.Groups.{commands_of, numbers_from, numbers_of}
-use Rattle.mixer.proofs.groups.numbers_of.Given as goal
+use Rattle.mixer.proofs.groups.group_numbers.Given as goal
 
 abbrev pub invariant-loop-i : goal.invariant-loop-i
 invariant-loop-i l =

@@ -2,7 +2,7 @@ use Rattle.std.proofs.Common.{◌≡◌, ◌∙◌, ◌++◌, ◌∷◌, [], ap,
 use Rattle.std.specs.List.{zip}
 use Rattle.mixer.specs.Groups.{commands_of, number_after}
 use Rattle.mixer.proofs.GroupLemmas.{numbers_more, below_next}
-use Rattle.mixer.proofs.groups.numbers_of.Goals as goal
+use Rattle.mixer.proofs.groups.group_numbers.Goals as goal
 
 pub loop-i-preserved : goal.loop-i-preserved
 loop-i-preserved c =

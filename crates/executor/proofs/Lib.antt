@@ -1,0 +1,6 @@
+pub mod StateLemmas
+pub mod OrderLemmas
+pub mod PartialLemmas
+pub mod RoundLemmas
+pub mod WorkedLemmas
+pub mod KeptLemmas

@@ -1,0 +1,5 @@
+pub mod State
+pub mod Fresh
+pub mod Round
+pub mod Running
+pub mod Work

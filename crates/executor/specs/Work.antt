@@ -1,0 +1,153 @@
+-- A batch that is being executed.
+use Rattle.std.specs.Prelude.{◌≡◌, ℕ, ◌+◌, ◌*◌, ◌<◌, ◌≤◌, List, [], ◌∷◌, ◌++◌, map, length, All, Bool, IsTrue, not, ◌||◌, ◌==◌, nat_le, Option, Some, None, slice_get, slice_set, slice_index, if◌then◌else◌, refl}
+use Rattle.std.specs.List.{list_all, zip, flat_map}
+use Rattle.std.specs.Coded.{Coded, code_by, coded×, coded_list, coded_ℕ, coded_bool}
+use Rattle.items.specs.Map.{Items, alive}
+use Rattle.item_steps.specs.Effect.{effect}
+use Rattle.item_steps.specs.Steps.{steps, reply}
+use Rattle.item_steps.specs.Schedule.{stamped}
+use Rattle.item_steps.specs.declared.step.Place.{Place}
+use Rattle.item_steps.specs.declared.step.Step.{Step}
+use Rattle.sessions.specs.declared.request.Request.{Request}
+use Rattle.batches.specs.declared.batch.Batch.{Batch}
+use Rattle.wire.specs.Batch.{batch_text, BatchFits}
+use Rattle.token.specs.Digest.{digest}
+use Rattle.executor.specs.declared.answered.Answered.{Answered}
+use Rattle.executor.specs.Running.{Running}
+use Rattle.executor.specs.State.{StateView, with_token}
+use Rattle.executor.specs.Fresh.{Runner}
+use Rattle.executor.specs.Round.{runners, moment_of, first_place, group_of, kept_after}
+
+-- What was done of a batch so far: the items now, the requests that run, and the group that runs now.
+pub record Progress : Type 0 where
+  pub items : Items
+  pub running : List Running
+  pub group : ℕ
+
+-- a request that has not yet made a step
+abbrev pub begun : Batch → Bool → Runner → Running
+begun batch ordered r = record { place = r.0; group = group_of batch ordered r; steps = steps r.1.command; answers = [] }
+
+-- the same, where the numbers of the groups are given
+abbrev pub begun_in : Bool → List ℕ → Runner → Running
+begun_in ordered numbers r = record { place = r.0; group = if ordered then r.0 else slice_index numbers r.0; steps = steps r.1.command; answers = [] }
+
+-- the requests that run, before the first step
+abbrev pub all_begun : StateView → Batch → Bool → List Running
+all_begun base batch ordered = map (begun batch ordered) (runners base batch)
+
+-- the step that comes next, if one is left
+abbrev pub next_step : Running → Option Step
+next_step r = slice_get r.steps (length r.answers)
+
+abbrev pub is_done : Running → Bool
+is_done r = nat_le (length r.steps) (length r.answers)
+
+-- no request of the group has a step left
+abbrev pub is_group_done : Progress → Bool
+is_group_done w = list_all (λ r. not (r.group == w.group) || is_done r) w.running
+
+-- before the first step, in this group: what is due is dropped
+abbrev pub started : StateView → Batch → Bool → ℕ → Progress
+started base batch ordered group = record { items = alive base.items (moment_of base batch); running = all_begun base batch ordered; group = group }
+
+-- no request runs in a group below this one
+abbrev pub IsFirst : List Running → ℕ → Type 0
+IsFirst running group = All (λ r. group ≤ r.group) running
+
+-- the least group above this one in which a request runs
+pub record IsNext (running : List Running) (group next : ℕ) : Type 0 where
+  pub above : group < next
+  pub index : ℕ
+  pub request : Running
+  pub there : slice_get running index ≡ Some request
+  pub its : request.group ≡ next
+  pub least : All (λ r. group < r.group → next ≤ r.group) running
+
+-- no request runs in a group above this one
+abbrev pub IsLast : List Running → ℕ → Type 0
+IsLast running group = All (λ r. r.group ≤ group) running
+
+-- The next step of the request at the place was made; the group's first place is that of place 0.
+pub record StepMade (first : Place) (w : Progress) (place : ℕ) (now : Progress) : Type 0 where
+  pub index : ℕ
+  pub request : Running
+  pub step : Step
+  pub there : slice_get w.running index ≡ Some request
+  pub its : request.place ≡ place
+  pub in_group : request.group ≡ w.group
+  pub next : next_step request ≡ Some step
+  pub now_is : let e = effect w.items step (stamped first place) in
+      now ≡ record { items = e.0; running = slice_set w.running index (record request { answers = request.answers ++ e.1 ∷ [] }); group = w.group }
+
+-- The next step of a request was made on the items, at this place.
+pub record StepDone (r : Running) (m : Items) (place : Place) (now : Running) (after : Items) : Type 0 where
+  pub step : Step
+  pub next : next_step r ≡ Some step
+  pub items : after ≡ (effect m step place).0
+  pub noted : now ≡ record r { answers = r.answers ++ (effect m step place).1 ∷ [] }
+
+-- the group that runs has no step at the place
+abbrev pub HasNoStep : Progress → ℕ → Type 0
+HasNoStep w place = All (λ r. r.place ≡ place → r.group ≡ w.group → next_step r ≡ None) w.running
+
+-- What comes of a batch that was begun over its base, by steps and by ends of groups.
+pub data Worked (base : StateView) (batch : Batch) (ordered : Bool) : Progress → Type 0 where
+  began : (group : ℕ) → IsFirst (all_begun base batch ordered) group → Worked base batch ordered (started base batch ordered group)
+  stepped : (w now : Progress) (place : ℕ) → Worked base batch ordered w → StepMade (first_place base batch) w place now → Worked base batch ordered now
+  moved : (w : Progress) (group : ℕ) → Worked base batch ordered w → IsTrue (is_group_done w) → IsNext w.running w.group group → Worked base batch ordered (record { items = w.items; running = w.running; group = group })
+
+-- what is answered to a request that made its steps
+abbrev pub replied : Runner → Running → Answered
+replied runner r = record { place = runner.0; client = runner.1.client; number = runner.1.number; reply = reply runner.1.command r.answers }
+
+-- where it is the request at the place, if there is one
+abbrev pub replied_to : Running → Option Request → List Answered
+replied_to r None = []
+replied_to r (Some request) = replied (r.place, request) r ∷ []
+
+-- what is answered to each request that ran
+abbrev pub replies_of : StateView → Batch → List Running → List Answered
+replies_of base batch running = map (λ both. replied both.0 both.1) (zip (runners base batch) running)
+
+-- the same from the requests of the batch, looked up by place
+abbrev pub replied_at : List Request → Running → List Answered
+replied_at requests r = replied_to r (slice_get requests r.place)
+
+abbrev pub replies_to : List Request → List Running → List Answered
+replies_to requests running = flat_map (replied_at requests) running
+
+-- the state that the work made
+abbrev pub made : StateView → Batch → Progress → StateView
+made base batch w = with_token (record {
+  number = batch.n;
+  previous = base.token;
+  epoch = batch.epoch;
+  batch = digest (batch_text batch);
+  moment = moment_of base batch;
+  token = base.token;
+  sessions = kept_after base.sessions (replies_of base batch w.running);
+  items = w.items;
+})
+
+-- Work: a batch over its base, whether each request is a group by itself, and what was done so far.
+pub record WorkView : Type 0 where
+  pub base : StateView
+  pub batch : Batch
+  pub ordered : Bool
+  pub progress : Progress
+
+-- What all work keeps: it was begun over its base with the base's next batch, and went on by steps and ends of groups.
+pub record IsWork (w : WorkView) : Type 0 where
+  pub worked : Worked w.base w.batch w.ordered w.progress
+  pub fits : BatchFits w.batch
+  pub next : w.batch.n ≡ w.base.number + 1
+
+-- work is told apart by what it holds
+abbrev pub work_code : Coded StateView → Coded Batch → Coded Items → Coded Running → Coded WorkView
+work_code state batch items running =
+    code_by (((((StateView × Batch) × Bool) × Items) × List Running) × ℕ)
+      (coded× (coded× (coded× (coded× (coded× state batch) coded_bool) items) (coded_list running)) coded_ℕ)
+      (λ w. (((((w.base, w.batch), w.ordered), w.progress.items), w.progress.running), w.progress.group))
+      (λ p. record { base = p.0.0.0.0.0; batch = p.0.0.0.0.1; ordered = p.0.0.0.1; progress = record { items = p.0.0.1; running = p.0.1; group = p.1 } })
+      (λ _. refl)

@@ -1,0 +1,16 @@
+//! Executes batches first, and has them committed or undone later: a batch makes a tentative state
+//! whose replies nobody sees, with the token that stands for it.
+//!
+//! It stands on `pages`, `mixer`, `wire`, `token` and `decrees`. The layer above uses `Work::finish`:
+//! what is done is a round of the base and the batch, with its token; and `Tentative::commit`, which
+//! shows the replies by the decree of that token alone.
+#![tactic(auto)]
+
+mod answered;
+mod begin;
+mod kept;
+mod running;
+mod state;
+
+pub use answered::Answered;
+pub use state::State;

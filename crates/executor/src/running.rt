@@ -1,0 +1,85 @@
+//! The requests of a batch that run.
+
+ghost use Rattle.std.specs.Prelude.{◌≡◌, ◌≤◌, ◌<◌, ◌++◌, ◌∷◌, [], ◌==◌, ◌&&◌, ◌↔◌, true, false, None, Some, IfOk, IfSome, OnOk, OnErr, IfNone, IsTrue, length, take, slice_get, slice_index, All, not, nat_lt, if◌then◌else◌};
+ghost use Rattle.std.specs.List.{list_any};
+ghost use Rattle.mixer.specs.Groups.{numbers_of};
+ghost use Rattle.executor.specs.Fresh.{runs};
+ghost use Rattle.executor.specs.Work.{is_done, StepDone};
+
+use item_steps::{Answer, Place, Steps, apply};
+use mixer::group_numbers;
+use pages::Pages;
+use sessions::{Request, Sessions};
+use std::alloc::{AllocError, Global};
+use std::marker::Model;
+
+/// A request that runs: its place in the batch, the group that it is in, its steps, and the answers
+/// to those that were made.
+#[derive(Debug, Drop)]
+pub struct Running {
+    place: u32,
+    group: usize,
+    steps: Steps,
+    answers: Vec<Answer>,
+}
+
+impl Model for Running {
+    ghost use Rattle.executor.specs.Running.{Running};
+
+    ghost Value = { Running };
+
+    ghost view = { λ r. record { place = r.place; group = r.group; steps = r.steps; answers = r.answers.items } };
+}
+
+impl Running {
+    /// The request before its first step.
+    pub fn new(alloc: Global, place: u32, group: usize, steps: Steps) -> Running
+        ensures { result ≡ record { place = place; group = group; steps = steps; answers = [] } }
+    {
+        Running {
+            place,
+            group,
+            steps,
+            answers: Vec::new(alloc),
+        }
+    }
+
+    pub fn place(&self) -> u32
+        ensures { result ≡ self.now.place }
+    {
+        self.place
+    }
+
+    pub fn group(&self) -> usize
+        ensures { result ≡ self.now.group }
+    {
+        self.group
+    }
+
+    pub fn answers(&self) -> &[Answer]
+        ensures { result.now ≡ self.now.answers }
+    {
+        self.answers.as_slice()
+    }
+
+    /// Whether no step is left.
+    pub fn is_done(&self) -> bool
+        ensures { result ≡ is_done self.now }
+    {
+        self.steps.as_slice().len() <= self.answers.len()
+    }
+
+    /// Makes the next step on the pages, and notes its answer. Where memory is wanting nothing changes.
+    pub fn step(&mut self, alloc: Global, pages: &mut Pages, at: Place) -> Result<(), AllocError>
+        requires { is_done self.old ≡ false }
+        ensures ok { OnOk result (StepDone self.old pages.old at self.new pages.new) }
+        ensures err { OnErr result ((pages.new ≡ pages.old) × (self.new ≡ self.old)) }
+    {
+        self.answers.reserve(1)?;
+        let answer = apply(alloc, pages, &self.steps.as_slice()[self.answers.len()], at)?;
+        if self.answers.push(answer).is_err() {
+            unreachable!();
+        }
+        Ok(())
+    }
+}
