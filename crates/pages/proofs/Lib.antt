@@ -1,1 +1,5 @@
+pub mod KeyLemmas
 pub mod JoinedLemmas
+pub mod PartLemmas
+pub mod StateLemmas
+pub mod PageLemmas
