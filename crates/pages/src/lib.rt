@@ -24,3 +24,5 @@ pub use page::Page;
 pub use pages::Pages;
 pub use snapshot::Snapshot;
 
+#[cfg(test)]
+mod tests;
