@@ -56,10 +56,7 @@ impl Page {
     pub fn new(alloc: Global) -> Result<Page, AllocError>
         ensures { IfOk result (λ page. page ≡ record { items = map.empty; digest = None }) }
     {
-        Ok(Page {
-            store: Arc::new(alloc, PlainStore::new(alloc))?,
-            digest: None,
-        })
+        Page::of_store(alloc, PlainStore::new(alloc))
     }
 
     /// A page of these entries. The only error is want of memory.
@@ -67,7 +64,13 @@ impl Page {
         requires { PageFits entries }
         ensures { IfOk result (λ page. page ≡ record { items = map.from_sorted entries; digest = None }) }
     {
-        let store = PlainStore::from_sorted(entries.into_vec());
+        Page::of_store(alloc, PlainStore::from_sorted(entries.into_vec()))
+    }
+
+    fn of_store(alloc: Global, store: PlainStore) -> Result<Page, AllocError>
+        requires { PageFits (map.entries store) }
+        ensures { IfOk result (λ page. page ≡ record { items = store; digest = None }) }
+    {
         Ok(Page {
             store: Arc::new(alloc, store)?,
             digest: None,
@@ -95,7 +98,7 @@ impl Page {
         ensures { self.new ≡ refreshed self.old }
     {
         if self.digest.is_none() {
-            self.digest = Some(page_digest(self.store.as_slice()));
+            self.digest = Some(page_digest(self.entries()));
         }
     }
 
@@ -103,7 +106,7 @@ impl Page {
     fn has_room(&self, key: &Key) -> bool
         ensures { IsTrue result → (item : item_type.Item) → PageFits (map.entries (map.insert self.now.items key.now item)) }
     {
-        self.entries().len() < MOST_ENTRIES || self.store.get(key).is_some()
+        self.entries().len() < MOST_ENTRIES || self.get(key).is_some()
     }
 }
 
@@ -144,7 +147,7 @@ impl Store for Page {
         ensures same { map.get self.old.items key.now ≡ None → self.new ≡ self.old }
         ensures err { OnErr result (self.new ≡ self.old) }
     {
-        if self.store.get(key).is_some() {
+        if self.get(key).is_some() {
             Arc::make_mut(&mut self.store)?.remove(key)?;
             self.digest = None;
         }

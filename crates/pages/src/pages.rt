@@ -92,7 +92,8 @@ impl Pages {
     pub fn part(self) -> Vec<Page>
         ensures { items_of result.items ≡ parts self }
     {
-        self.pages
+        let Pages { pages: parts } = self;
+        parts
     }
 
     /// Keeps the pages as they are now. A digest is made new for each page that was written since

@@ -1,8 +1,6 @@
 use Rattle.std.proofs.Common.{ap, ◌∙◌, subst, arith, length, inl, inr}
 use Rattle.std.specs.FinMap.{get}
-use Rattle.items.specs.Map.{Items}
 use Rattle.wire.specs.Item.{PageFits}
-use Rattle.pages.specs.Page.{PageState}
 use Rattle.pages.proofs.PageLemmas.{fits-insert, found-is}
 use Rattle.pages.proofs.page.Page.has_room.Goals as goal
 
@@ -13,6 +11,5 @@ returns-then-entries-lt-MOST_ENTRIES c = λ few item.
 
 pub returns-else-entries-lt-MOST_ENTRIES : goal.returns-else-entries-lt-MOST_ENTRIES
 returns-else-entries-lt-MOST_ENTRIES c = λ there item.
-    let same = c.deref.ensures ∙ ap (λ (page : PageState). page.items) c.self.view_is in
     fits-insert c.args.self.now.items c.args.key.now item (subst PageFits c.entries.ensures.entries c.entries.ensures.fit)
-    (inr (found-is c.get.result (get c.args.self.now.items c.args.key.now) c.is_some.result (c.get.ensures ∙ ap (λ (m : Items). get m c.args.key.now) same) c.is_some.ensures ∙ there))
+    (inr (found-is c.get.result (get c.args.self.now.items c.args.key.now) c.is_some.result c.get.ensures c.is_some.ensures ∙ there))

@@ -1,7 +1,9 @@
-use Rattle.std.proofs.Common.{◌∙◌}
-use Rattle.pages.proofs.JoinedLemmas.{no_items}
-use Rattle.pages.proofs.PageLemmas.{page-written, fits-empty}
+use Rattle.std.proofs.Common.{sym, subst}
+use Rattle.std.specs.FinMap.{entries}
+use Rattle.items.specs.Map.{Items}
+use Rattle.wire.specs.Item.{PageFits}
+use Rattle.pages.proofs.PageLemmas.{fits-empty}
 use Rattle.pages.proofs.page.Page.new.Goals as goal
 
-pub invariant_of-result : goal.invariant_of-result
-invariant_of-result c = page-written _ no_items (c.in_ok-new.ensures.ok ∙ c.new.ensures) fits-empty
+pub of_store-requires : goal.of_store-requires
+of_store-requires c = subst (λ (m : Items). PageFits (entries m)) (sym c.new.ensures) fits-empty

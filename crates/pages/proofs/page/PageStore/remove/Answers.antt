@@ -1,8 +1,6 @@
-use Rattle.std.proofs.Common.{◌≡◌, sym, ap, ◌∙◌, rules}
+use Rattle.std.proofs.Common.{◌≡◌, sym, ◌∙◌, rules}
 use Rattle.std.specs.Arc.{arc_value}
 use Rattle.std.specs.FinMap.{get, remove}
-use Rattle.items.specs.Map.{Items}
-use Rattle.pages.specs.Page.{PageState}
 use Rattle.pages.proofs.PageLemmas.{page-written, fits-remove, remove-absent, found-is, none-found}
 use Rattle.pages.proofs.page.PageStore.remove.Goals as goal
 
@@ -14,6 +12,5 @@ invariant_of-self-then-is_some c =
 
 pub returns-else-is_some-clause-ok : goal.returns-else-is_some-clause-ok
 returns-else-is_some-clause-ok c =
-    let same = c.deref.ensures ∙ ap (λ (page : PageState). page.items) c.self.view_is in
     sym (remove-absent c.args.self.now.items c.args.key.now (none-found _
-    (found-is c.get.result (get c.args.self.now.items c.args.key.now) c.is_some.result (c.get.ensures ∙ ap (λ (m : Items). get m c.args.key.now) same) c.is_some.ensures ∙ c.if-is_some.false)))
+    (found-is c.get.result (get c.args.self.now.items c.args.key.now) c.is_some.result c.get.ensures c.is_some.ensures ∙ c.if-is_some.false)))
