@@ -1,4 +1,5 @@
-ghost use Rattle.std.specs.Prelude.{◌≡◌, ◌++◌, IfOk, OnOk, length};
+ghost use Rattle.std.specs.Prelude.{◌≡◌, ◌≤◌, ◌++◌, IfOk, OnOk, length};
+ghost use Rattle.proto.specs.Limits.{values_limit};
 ghost use Rattle.item_steps.specs.Steps.{steps, reads, reply, value, values, found};
 
 use items::Item;
@@ -72,7 +73,8 @@ fn values_of(
     keys: &[Key],
     answers: &[Answer],
 ) -> Result<Values, AllocError>
-    requires { length answers.now ≡ length keys.now }
+    requires one_each { length answers.now ≡ length keys.now }
+    requires few { length keys.now ≤ values_limit }
     ensures { IfOk result (λ list. list ≡ values with_unique keys.now answers.now) }
 {
     let mut list = Vec::new(alloc);

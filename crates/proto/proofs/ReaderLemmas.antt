@@ -4,7 +4,7 @@ use Rattle.std.specs.Prelude.{nat_lt}
 use Rattle.std.proofs.lemmas.List.{take_all, append_assoc, append-nil, take-append-drop, drop_all, length-append, length-drop}
 use Rattle.std.proofs.lemmas.Bool.Decides.{nat_tests}
 use Rattle.proto.specs.Line.{meaning}
-use Rattle.proto.specs.Block.{block_limit}
+use Rattle.proto.specs.Limits.{block_limit}
 use Rattle.proto.specs.Grammar.{next_turn, is_close, line_limit}
 use Rattle.proto.specs.Reader.{kept_of, Reading, Reads}
 use Rattle.proto.specs.Stage.{HasNoNewline, InLine, InBlock, IsStage, IsStageOf, StepGives, SoFar, IsReading, bytes_of, reading}

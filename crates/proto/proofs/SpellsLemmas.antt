@@ -7,7 +7,7 @@ use Rattle.std.proofs.lemmas.List.{take_all, append_assoc, append-nil, drop_all,
 use Rattle.std.proofs.lemmas.Bool.Decides.{nat_tests}
 use Rattle.std.proofs.lemmas.Bool.{cases_lt}
 use Rattle.proto.specs.Line.{meaning}
-use Rattle.proto.specs.Block.{block_limit}
+use Rattle.proto.specs.Limits.{block_limit}
 use Rattle.proto.specs.Grammar.{next_turn, first_line, is_newline, turn_of_line, block_turn, filled, Spells, line_limit}
 use Rattle.proto.specs.Reader.{kept_of, blanked, Reading, Reads}
 use Rattle.proto.specs.Stage.{HasNoNewline}

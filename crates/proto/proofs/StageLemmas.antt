@@ -4,7 +4,7 @@ use Rattle.std.specs.Prelude.{nat_lt}
 use Rattle.std.proofs.lemmas.List.{take_all, append_assoc, append-nil, take_more, drop_at, take_at, length-append, length-take, drop_all}
 use Rattle.std.proofs.lemmas.Bool.Decides.{nat_tests}
 use Rattle.proto.specs.Line.{meaning}
-use Rattle.proto.specs.Block.{block_limit}
+use Rattle.proto.specs.Limits.{block_limit}
 use Rattle.proto.specs.Grammar.{next_turn, turn_of_line, block_turn, line_limit}
 use Rattle.proto.specs.Reader.{kept_of, blanked}
 use Rattle.proto.specs.Stage.{HasNoNewline, InLine, InBlock, StepGives, Takes, Cuts}

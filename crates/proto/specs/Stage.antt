@@ -2,7 +2,7 @@
 use Rattle.std.specs.Prelude.{◌≡◌, ℕ, ◌+◌, ◌-◌, ◌<◌, ◌≤◌, List, [], ◌∷◌, ◌++◌, length, take, drop, replicate, Bool, true, false, nat_lt, Option, Some, None}
 use Rattle.std.specs.List.{list_any}
 use Rattle.proto.specs.Line.{meaning}
-use Rattle.proto.specs.Block.{block_limit}
+use Rattle.proto.specs.Limits.{block_limit}
 use Rattle.proto.specs.Grammar.{next_turn, is_newline, line_limit}
 use Rattle.proto.specs.Reader.{kept_of, Reading}
 use Rattle.proto.specs.declared.turn.Turn.{Turn}

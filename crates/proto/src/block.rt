@@ -1,5 +1,5 @@
 ghost use Rattle.std.specs.Prelude.{◌≡◌, ◌≤◌, [], length, IfOk, IsTrue, ◌↔◌};
-ghost use Rattle.proto.specs.Block.{block_limit};
+ghost use Rattle.proto.specs.Limits.{block_limit};
 
 use std::alloc::{AllocError, Global};
 use std::marker::Model;
@@ -15,7 +15,7 @@ pub struct Block {
 
 impl Model for Block {
     ghost use Rattle.std.specs.Prelude.{List, ℕ, ◌≤◌, length};
-    ghost use Rattle.proto.specs.Block.{block_limit};
+    ghost use Rattle.proto.specs.Limits.{block_limit};
 
     ghost Value = { List ℕ };
 

@@ -1,4 +1,5 @@
-ghost use Rattle.std.specs.Prelude.{◌≡◌};
+ghost use Rattle.std.specs.Prelude.{◌≡◌, ◌≤◌, length};
+ghost use Rattle.proto.specs.Limits.{values_limit};
 
 use crate::block::Block;
 use crate::key::Key;
@@ -14,30 +15,35 @@ pub struct Found {
     pub unique: Option<u64>,
 }
 
-/// What a line of `get` found, in the order of its keys.
+/// What a line of `get` found, in the order of its keys: at most as many items as it has keys, 64.
 #[derive(Debug, Drop)]
 pub struct Values {
     found: Vec<Found>,
 }
 
 impl Model for Values {
-    ghost use Rattle.std.specs.Prelude.{List};
+    ghost use Rattle.std.specs.Prelude.{List, ◌≤◌, length};
+    ghost use Rattle.proto.specs.Limits.{values_limit};
     ghost use Rattle.proto.specs.declared.reply.Found.{Found};
 
     ghost Value = { List Found };
 
     ghost view = { λ a. a.found.items };
+
+    ghost invariant = { λ a. length a.found.items ≤ values_limit };
 }
 
 impl Values {
     pub fn new(found: Vec<Found>) -> Values
+        requires { length found.items ≤ values_limit }
         ensures { result ≡ found.items }
     {
         Values { found }
     }
 
     pub fn as_slice(&self) -> &[Found]
-        ensures { result.now ≡ self.now }
+        ensures found { result.now ≡ self.now }
+        ensures limit { length self.now ≤ values_limit }
     {
         self.found.as_slice()
     }

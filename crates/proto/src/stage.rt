@@ -2,7 +2,7 @@
 
 ghost use Rattle.std.specs.Prelude.{◌≡◌, ◌≤◌, ◌<◌, ◌+◌, ◌-◌, ◌^◌, ◌++◌, ◌∷◌, [], length, take, drop, IfOk, OnOk, OnErr, None, IsSome, min, nat_lt, if◌then◌else◌};
 ghost use Rattle.std.specs.Bool.{OnTrue, OnFalse};
-ghost use Rattle.proto.specs.Block.{block_limit};
+ghost use Rattle.proto.specs.Limits.{block_limit};
 ghost use Rattle.proto.specs.Grammar.{block_turn, filled, line_limit};
 ghost use Rattle.proto.specs.Stage.{HasNoNewline, InLine, InBlock, IsStage, bytes_of, StepGives, Takes, GoesOn, BlockEnds, FindsNewline, Cuts};
 

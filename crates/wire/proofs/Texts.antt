@@ -4,12 +4,15 @@ use Rattle.std.specs.Int.{w8, w32}
 use Rattle.std.proofs.lemmas.List.{length-append}
 use Rattle.proto.specs.declared.fault.Fault.{Fault}
 use Rattle.proto.specs.Key.{is_key}
-use Rattle.proto.specs.Block.{block_limit}
+use Rattle.proto.specs.declared.reply.Found.{Found}
+use Rattle.proto.specs.Limits.{block_limit, values_limit}
 use Rattle.wire.specs.Record.{NoFront, Refused}
 use Rattle.wire.specs.Number.{num}
 use Rattle.wire.specs.Field.{list_text, ListFits}
 use Rattle.wire.specs.Block.{block_text}
 use Rattle.wire.specs.Key.{key_text, keys_text}
+use Rattle.wire.specs.Reply.{found_text, values_text}
+use Rattle.wire.specs.ReplyLaws.{values_at_front, found_prefix_free}
 use Rattle.wire.specs.FrontLaws.{split_at}
 use Rattle.wire.specs.NumberLaws.{num_prefix_free, wide8, wide32}
 use Rattle.wire.specs.FieldLaws.{list_prefix_free}
@@ -95,4 +98,22 @@ not_so_many bytes rest keys are_bytes e wrong = record {
       let both = (list_prefix_free key_text key_prefix_free).apart keys others rest after (sym e ∙ front.2) in
       let len : length keys ≡ length others = ap length both.0 in
       wrong (omega (arith, front.0)) (omega (arith, front.1));
+}
+
+pub no_values : (fits : List Found → Type 0) {of : Found → Type 0} (bytes : List ℕ) → AreBytes bytes → ((found : Found) → of found) → (e : Fault)
+    → Refused e (NoFront (ListFits of) (list_text found_text) bytes) → Refused e (NoFront fits values_text bytes)
+no_values fits {of} bytes are_bytes all e = Refused-weaker e (λ (none : NoFront (ListFits of) (list_text found_text) bytes). record {
+  none = λ found after f same.
+      let front = values_at_front found bytes after are_bytes same in
+      none.none found after (record { count = omega (arith, front.0); each = λ k d lt. all _ }) front.1;
+})
+
+pub too_many_values : {fits : List Found → Type 0} (bytes rest : List ℕ) (found : List Found) → AreBytes bytes → bytes ≡ list_text found_text found ++ rest
+    → values_limit < length found → NoFront fits values_text bytes
+too_many_values bytes rest found are_bytes e many = record {
+  none = λ others after f same.
+      let front = values_at_front others bytes after are_bytes same in
+      let both = (list_prefix_free found_text found_prefix_free).apart found others rest after (sym e ∙ front.1) in
+      let len : length found ≡ length others = ap length both.0 in
+      omega (arith, front.0);
 }

@@ -1,7 +1,7 @@
 -- The data of items in records.
 use Rattle.std.specs.Prelude.{ℕ, List, ◌∷◌, ◌++◌, length, nat_le}
 use Rattle.std.specs.Int.{w32}
-use Rattle.proto.specs.Block.{block_limit}
+use Rattle.proto.specs.Limits.{block_limit}
 use Rattle.wire.specs.Number.{num, only_if}
 
 -- a length, and so many bytes; a list above the limit has no such text

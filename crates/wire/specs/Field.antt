@@ -1,7 +1,7 @@
 -- The fields of records.
-use Rattle.std.specs.Prelude.{◌≡◌, ℕ, ◌<◌, ◌≤◌, ◌^◌, List, [], ◌∷◌, ◌++◌, length, Option, Some, None, flat_map, All}
+use Rattle.std.specs.Prelude.{◌≡◌, ℕ, ◌<◌, ◌≤◌, ◌^◌, List, [], ◌∷◌, ◌++◌, length, Bool, Option, Some, None, flat_map, All}
 use Rattle.std.specs.Int.{w32}
-use Rattle.wire.specs.Number.{num}
+use Rattle.wire.specs.Number.{num, only_if}
 
 -- 0, or 1 and the value
 abbrev pub option_text : {X : Type 0} → (X → List ℕ) → Option X → List ℕ
@@ -11,6 +11,10 @@ option_text spelling (Some x) = 1 ∷ spelling x
 -- a count, and so many values
 abbrev pub list_text : {X : Type 0} → (X → List ℕ) → List X → List ℕ
 list_text spelling xs = num w32 (length xs) ++ flat_map spelling xs
+
+-- such a list where it is allowed; another has no such text
+abbrev pub limited_text : {X : Type 0} → (List X → Bool) → (X → List ℕ) → List X → List ℕ
+limited_text may spelling xs = only_if (may xs) (list_text spelling xs) (list_text spelling xs)
 
 -- a list whose count has a field, of values that fit
 pub record ListFits {X : Type 0} (fits : X → Type 0) (xs : List X) : Type 0 where

@@ -9,10 +9,10 @@ use Rattle.proto.specs.Key.{is_key, is_key_byte}
 use Rattle.wire.specs.Record.{IsPrefixFree, NoFront}
 use Rattle.wire.specs.Number.{only_if, num, fixed, is_byte}
 use Rattle.wire.specs.Field.{list_text}
-use Rattle.wire.specs.Key.{key_text, keys_text}
+use Rattle.wire.specs.Key.{key_text, keys_text, are_few_keys}
 use Rattle.wire.specs.FrontLaws.{split_at, tail_of, head_of, both_ways, has, lacks, both_true}
 use Rattle.wire.specs.NumberLaws.{num_prefix_free, num-is, num-byte, wide8, are_bytes-take}
-use Rattle.wire.specs.FieldLaws.{list_prefix_free}
+use Rattle.wire.specs.LimitedLaws.{limited_prefix_free, limited_at_front}
 
 -- a key has at most 250 bytes
 pub key_length : (key : List ℕ) → is_key key ≡ true → length key ≤ 250
@@ -57,19 +57,12 @@ pub key_text-is : (key : List ℕ) → is_key key ≡ true → key_text key ≡ 
 unfolding key_text
 key_text-is key h = rw h refl
 
-keys_head : (keys : List (List ℕ)) (rest : List ℕ) → nat_le 1 (length keys) && nat_le (length keys) 64 ≡ true → head_of (list_text key_text keys ++ rest) < 256
-keys_head keys rest h =
-    let few = leb-true (length keys) 64 (both_true (nat_le 1 (length keys)) (nat_le (length keys) 64) h).1 in
-    rw (num-is w32 (length keys) (omega arith)) (omega arith)
+few_keys : (keys : List (List ℕ)) → are_few_keys keys ≡ true → length keys ≤ 64
+few_keys keys h = leb-true (length keys) 64 (both_true (nat_le 1 (length keys)) (nat_le (length keys) 64) h).1
 
 keys_apart : (xs ys : List (List ℕ)) (r s : List ℕ) → keys_text xs ++ r ≡ keys_text ys ++ s → (xs ≡ ys) × (r ≡ s)
 unfolding keys_text
-keys_apart xs ys r s e =
-    elim (both_ways (nat_le 1 (length xs) && nat_le (length xs) 64) (nat_le 1 (length ys) && nat_le (length ys) 64)
-    (list_text key_text xs) (list_text key_text ys) (list_text key_text xs) (list_text key_text ys) r s (keys_head xs r) (keys_head ys s) e) [
-      | has a b same ↦ (list_prefix_free key_text key_prefix_free).apart xs ys r s same
-      | lacks a b same ↦ (list_prefix_free key_text key_prefix_free).apart xs ys r s same
-    ]
+keys_apart xs ys r s e = (limited_prefix_free are_few_keys few_keys key_text key_prefix_free).apart xs ys r s e
 
 pub keys_prefix_free : IsPrefixFree keys_text
 keys_prefix_free = record { apart = keys_apart }
@@ -79,15 +72,9 @@ pub keys_at_front : (keys : List (List ℕ)) (bytes rest : List ℕ) → ((i : �
     → (1 ≤ length keys) × (length keys ≤ 64) × (bytes ≡ list_text key_text keys ++ rest)
 unfolding keys_text
 keys_at_front keys bytes rest are_bytes e =
-    elim (cases_Bool (nat_le 1 (length keys) && nat_le (length keys) 64)) [
-      | inl valid ↦
-          let both = both_true (nat_le 1 (length keys)) (nat_le (length keys) 64) valid in
-          (leb-true _ _ both.0, leb-true _ _ both.1, e ∙ ap (λ (b : Bool). only_if b (list_text key_text keys) (list_text key_text keys) ++ rest) valid)
-      | inr not ↦
-          let same : bytes ≡ 256 ∷ (list_text key_text keys ++ rest) = e ∙ ap (λ (b : Bool). only_if b (list_text key_text keys) (list_text key_text keys) ++ rest) not in
-          let head : get_or bytes 0 0 ≡ 256 = ap (λ (x : List ℕ). get_or x 0 0) same in
-          absurd (omega (arith, are_bytes 0))
-    ]
+    let front = limited_at_front are_few_keys key_text keys bytes rest are_bytes e in
+    let both = both_true (nat_le 1 (length keys)) (nat_le (length keys) 64) front.0 in
+    (leb-true _ _ both.0, leb-true _ _ both.1, front.1)
 
 pub keys_text-is : (keys : List (List ℕ)) → 1 ≤ length keys → length keys ≤ 64 → keys_text keys ≡ list_text key_text keys
 unfolding keys_text

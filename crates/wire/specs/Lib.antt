@@ -14,6 +14,7 @@ pub mod NumberLaws
 pub mod FieldLaws
 pub mod KeyLaws
 pub mod BlockLaws
+pub mod LimitedLaws
 pub mod RowLaws
 pub mod ItemLaws
 pub mod TokenLaws

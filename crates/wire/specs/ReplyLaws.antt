@@ -1,14 +1,19 @@
 -- No reply is spelled at the front of another.
-use Rattle.std.proofs.Common.{◌≡◌, ℕ, List, ◌++◌, refl, sym, ◌∙◌, ap}
+use Rattle.std.proofs.Common.{◌≡◌, ℕ, ◌<◌, ◌≤◌, true, List, ◌++◌, length, get_or, refl, sym, ◌∙◌, ap}
+use Rattle.std.proofs.lemmas.Bool.{leb-true, le-leb}
+use Rattle.proto.specs.Limits.{values_limit}
+use Rattle.proto.specs.declared.reply.Found.{Found}
 use Rattle.std.specs.Prelude.{nat_eq}
 use Rattle.std.specs.Int.{w64}
 use Rattle.proto.specs.declared.reply.Reply.{Reply}
 use Rattle.proto.specs.declared.reply.Reply.TheVariants as reply
 use Rattle.wire.specs.Record.{IsPrefixFree}
 use Rattle.wire.specs.Number.{num}
-use Rattle.wire.specs.Reply.{found_text, values_text, reply_text}
+use Rattle.wire.specs.Field.{list_text}
+use Rattle.wire.specs.Reply.{found_text, values_text, are_few, reply_text}
+use Rattle.wire.specs.LimitedLaws.{limited_prefix_free, limited_at_front}
 use Rattle.wire.specs.FrontLaws.{tail_of, head_of, Passes, same_numbers}
-use Rattle.wire.specs.FieldLaws.{option_prefix_free, list_prefix_free}
+use Rattle.wire.specs.FieldLaws.{option_prefix_free}
 use Rattle.wire.specs.BlockLaws.{block_prefix_free}
 use Rattle.wire.specs.KeyLaws.{key_prefix_free}
 use Rattle.wire.specs.RowLaws.{u32_free, u64_free, followed, made_of}
@@ -22,8 +27,27 @@ found_prefix_free = made_of
     (λ f. refl)
     (λ f. refl)
 
+few_values : (found : List Found) → are_few found ≡ true → length found ≤ 64
+few_values found h = leb-true (length found) values_limit h
+
+values_apart : (xs ys : List Found) (r s : List ℕ) → values_text xs ++ r ≡ values_text ys ++ s → (xs ≡ ys) × (r ≡ s)
+unfolding values_text
+values_apart xs ys r s e = (limited_prefix_free are_few few_values found_text found_prefix_free).apart xs ys r s e
+
 pub values_prefix_free : IsPrefixFree values_text
-values_prefix_free = list_prefix_free found_text found_prefix_free
+values_prefix_free = record { apart = values_apart }
+
+-- at most 64 items stand at the front of bytes
+pub values_at_front : (found : List Found) (bytes rest : List ℕ) → ((i : ℕ) → get_or bytes i 0 < 256) → bytes ≡ values_text found ++ rest
+    → (length found ≤ values_limit) × (bytes ≡ list_text found_text found ++ rest)
+unfolding values_text
+values_at_front found bytes rest are_bytes e =
+    let front = limited_at_front are_few found_text found bytes rest are_bytes e in
+    (leb-true _ _ front.0, front.1)
+
+pub values_text-is : (found : List Found) → length found ≤ values_limit → values_text found ≡ list_text found_text found
+unfolding values_text
+values_text-is found few = rw (le-leb _ _ few) refl
 
 -- the mark of a reply
 abbrev pub mark_of : Reply → ℕ

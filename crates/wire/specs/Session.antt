@@ -6,14 +6,13 @@ use Rattle.std.specs.FinMap.{FinMap, entries}
 use Rattle.sessions.specs.declared.sessions.Kept.{Kept}
 use Rattle.wire.specs.Number.{num}
 use Rattle.wire.specs.Field.{list_text, ListFits}
-use Rattle.wire.specs.Reply.{reply_text, ReplyFits}
+use Rattle.wire.specs.Reply.{reply_text}
 
 abbrev pub kept_text : Kept → List ℕ
 kept_text kept = num w64 kept.number ++ reply_text kept.reply
 
 pub record KeptFits (kept : Kept) : Type 0 where
   pub number : 1 ≤ kept.number
-  pub reply : ReplyFits kept.reply
 
 abbrev pub session_text : ℕ × Kept → List ℕ
 session_text session = num w16 session.0 ++ kept_text session.1

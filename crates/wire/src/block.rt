@@ -1,6 +1,6 @@
 ghost use Rattle.std.specs.Prelude.{◌≡◌, ◌≤◌, ◌++◌, length, OnOk};
 ghost use Rattle.std.specs.Int.{w32};
-ghost use Rattle.proto.specs.Block.{block_limit};
+ghost use Rattle.proto.specs.Limits.{block_limit};
 ghost use Rattle.wire.specs.Record.{Always, Puts};
 ghost use Rattle.wire.specs.Number.{num};
 ghost use Rattle.wire.specs.Block.{block_text};

@@ -1,6 +1,6 @@
 ghost use Rattle.std.specs.Prelude.{◌≡◌, ◌∷◌};
 ghost use Rattle.wire.specs.Record.{Always, Takes};
-ghost use Rattle.wire.specs.Reply.{found_text, values_text, ValuesFit, reply_text, ReplyFits};
+ghost use Rattle.wire.specs.Reply.{found_text, values_text, reply_text};
 ghost use Rattle.wire.specs.ReplyLaws.{found_prefix_free, values_prefix_free, reply_prefix_free};
 
 use crate::front::take_first;
@@ -9,6 +9,9 @@ use crate::record::Record;
 use crate::sink::Sink;
 use proto::{Block, Fault, Found, Key, Reply, Values};
 use std::alloc::Global;
+
+/// How many items a reply has at most.
+const MOST_VALUES: usize = 64;
 
 impl Record for Found {
     ghost fits = { Always };
@@ -38,7 +41,7 @@ impl Record for Found {
 }
 
 impl Record for Values {
-    ghost fits = { ValuesFit };
+    ghost fits = { Always };
 
     ghost spelling = { values_text };
 
@@ -49,7 +52,7 @@ impl Record for Values {
     fn take<'b>(alloc: Global, bytes: &'b [u8]) -> Result<(Values, &'b [u8]), Fault> {
         let (listed, rest) = Listed::<Found>::take(alloc, bytes)?;
         let found = listed.into_vec();
-        if 64 < found.len() {
+        if MOST_VALUES < found.len() {
             return Err(Fault::BadRecord);
         }
         Ok((Values::new(found), rest))
@@ -59,14 +62,14 @@ impl Record for Values {
 }
 
 fn take_number(alloc: Global, bytes: &[u8]) -> Result<(Reply, &[u8]), Fault>
-    ensures { Takes ReplyFits reply_text (6 ∷ bytes.now) result }
+    ensures { Takes Always reply_text (6 ∷ bytes.now) result }
 {
     let (number, rest) = u64::take(alloc, bytes)?;
     Ok((Reply::Number(number), rest))
 }
 
 fn take_values(alloc: Global, bytes: &[u8]) -> Result<(Reply, &[u8]), Fault>
-    ensures { Takes ReplyFits reply_text (7 ∷ bytes.now) result }
+    ensures { Takes Always reply_text (7 ∷ bytes.now) result }
 {
     let (values, rest) = Values::take(alloc, bytes)?;
     Ok((Reply::Values(values), rest))
@@ -74,7 +77,7 @@ fn take_values(alloc: Global, bytes: &[u8]) -> Result<(Reply, &[u8]), Fault>
 
 /// The reply behind this mark.
 fn take_marked(alloc: Global, mark: u8, bytes: &[u8]) -> Result<(Reply, &[u8]), Fault>
-    ensures { Takes ReplyFits reply_text (mark ∷ bytes.now) result }
+    ensures { Takes Always reply_text (mark ∷ bytes.now) result }
 {
     match mark {
         0 => Ok((Reply::Stored, bytes)),
@@ -92,7 +95,7 @@ fn take_marked(alloc: Global, mark: u8, bytes: &[u8]) -> Result<(Reply, &[u8]), 
 }
 
 impl Record for Reply {
-    ghost fits = { ReplyFits };
+    ghost fits = { Always };
 
     ghost spelling = { reply_text };
 

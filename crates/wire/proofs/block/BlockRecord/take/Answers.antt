@@ -1,7 +1,7 @@
 use Rattle.std.proofs.Common.{rules, arith, ◌≡◌, ◌≤◌, ◌++◌, ◌∙◌, sym, ap, length, append_assoc, List, ℕ}
 use Rattle.std.specs.Int.{w32}
 use Rattle.std.proofs.lemmas.Result.{err_from_is_err_and}
-use Rattle.proto.specs.Block.{block_limit}
+use Rattle.proto.specs.Limits.{block_limit}
 use Rattle.wire.specs.Record.{Always}
 use Rattle.wire.specs.Number.{num}
 use Rattle.wire.specs.BlockLaws.{block_text-is}

@@ -9,7 +9,7 @@ pub returns-in_err-row : goal.returns-in_err-row
 returns-in_err-row c =
     let p = err_from_is_err_and c.from_residual.result c.from_residual.ensures.1 in
     rw (p.1, p.2) (no_row KeptFits kept_text _ _ (λ kept. (kept.number, kept.reply)) c.args.bytes.now
-    (λ kept f. (tt, f.reply)) (λ kept. refl) c.in_err-row.field-0.0 c.in_err-row.ensures)
+    (λ kept f. (tt, tt)) (λ kept. refl) c.in_err-row.field-0.0 c.in_err-row.ensures)
 
 pub returns-then-kept-eq0 : goal.returns-then-kept-eq0
 returns-then-kept-eq0 c =
