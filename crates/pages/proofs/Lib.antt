@@ -3,3 +3,4 @@ pub mod JoinedLemmas
 pub mod PartLemmas
 pub mod StateLemmas
 pub mod PageLemmas
+pub mod OwnLemmas

@@ -1,9 +1,9 @@
 -- A page as a part of the whole map.
-use Rattle.std.proofs.Common.{◌≡◌, ◌≢◌, ℕ, zero, suc, ◌+◌, Bool, true, false, cond, List, [], ◌∷◌, map, length, get_or, Some, None, refl, sym, ap, ◌∙◌, arith}
+use Rattle.std.proofs.Common.{◌≡◌, ◌≢◌, ℕ, zero, suc, ◌+◌, Bool, true, false, cond, List, map, get_or, None, refl, sym, ap, ◌∙◌, arith}
 use Rattle.std.specs.Prelude.{T, ◌==◌}
 use Rattle.std.specs.List.{range_with_len}
 use Rattle.std.specs.Ordering.{is_eq}
-use Rattle.std.specs.FinMap.{empty, entries, entries_sorted, is_sorted, get, get-entries, get-from_sorted, entries-from_sorted}
+use Rattle.std.specs.FinMap.{entries, entries_sorted, is_sorted, get, get-entries, get-from_sorted, entries-from_sorted}
 use Rattle.std.specs.FinMap.Entries.{is_sorted-where_key, find-where_key}
 use Rattle.std.proofs.lemmas.Bool.Decides.{nat_tests}
 use Rattle.std.proofs.lemmas.List.FromFn.{length-map-range_with_len, get_or-map-range_with_len, fill_by_all}

@@ -1,12 +1,14 @@
-ghost use Rattle.std.specs.Prelude.{◌≡◌, None, IfOk, IfSome, OnOk, OnErr, IsTrue};
+ghost use Rattle.std.specs.Prelude.{◌≡◌, ◌==◌, ◌↔◌, None, IfOk, IfSome, OnOk, OnErr, IsTrue};
 ghost use Rattle.std.specs.Option.{option_copied};
 ghost use Rattle.std.specs.List.{list_all};
 ghost use Rattle.std.specs.FinMap as map;
 ghost use Rattle.items.specs.Map.{alive, is_alive};
 ghost use Rattle.items.specs.declared.item.Item as item_type;
 ghost use Rattle.wire.specs.Item.{PageFits};
-ghost use Rattle.pages.specs.Page.{items_digest, refreshed};
+ghost use Rattle.pages.specs.Page.{page_number, items_digest, refreshed};
+ghost use Rattle.pages.specs.Joined.{IsOwn};
 
+use crate::number::page_of;
 use items::{Item, PlainStore, Store};
 use proto::Key;
 use std::alloc::{AllocError, Global};
@@ -51,6 +53,13 @@ fn all_alive(entries: &[(Key, Item)], moment: u32) -> bool
     entries.iter().all(|entry| entry.1.is_alive(moment))
 }
 
+/// Whether each key stands in the page of this number.
+fn all_of_page(entries: &[(Key, Item)], number: usize) -> bool
+    ensures { result ≡ list_all (λ entry. page_number entry.0 == number) entries.now }
+{
+    entries.iter().all(|entry| page_of(&entry.0) == number)
+}
+
 impl Page {
     /// A page without items. The only error is want of memory.
     pub fn new(alloc: Global) -> Result<Page, AllocError>
@@ -83,6 +92,13 @@ impl Page {
         ensures fit { PageFits result.now }
     {
         self.store.as_slice()
+    }
+
+    /// Whether the page has keys of this number alone, as page `number` of a store has.
+    pub fn is_own(&self, number: usize) -> bool
+        ensures { IsTrue result ↔ IsOwn number self.now.items }
+    {
+        all_of_page(self.entries(), number)
     }
 
     /// The digest that is kept: none where it is to be made new.

@@ -1,7 +1,6 @@
-use Rattle.std.proofs.Common.{List, [], ◌∷◌, ◌++◌, ap, ◌∙◌}
+use Rattle.std.proofs.Common.{[], ◌∷◌, ◌++◌, ap, ◌∙◌}
 use Rattle.std.proofs.lemmas.List.{map_push}
 use Rattle.proto.proofs.ListLemmas.{replicate-push}
-use Rattle.items.specs.Map.{Items}
 use Rattle.pages.specs.Page.{PageState}
 use Rattle.pages.specs.Joined.{items_of}
 use Rattle.pages.proofs.JoinedLemmas.{no_items}

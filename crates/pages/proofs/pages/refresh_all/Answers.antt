@@ -1,4 +1,4 @@
-use Rattle.std.proofs.Common.{◌≡◌, ◌<◌, List, length, get_or, set, sym, ap, ◌∙◌, arith}
+use Rattle.std.proofs.Common.{◌≡◌, ◌<◌, List, length, get_or, set, ap, ◌∙◌, arith}
 use Rattle.proto.proofs.ListLemmas.{next-same, next-changed}
 use Rattle.pages.specs.Page.{PageState, refreshed}
 use Rattle.pages.proofs.pages.refresh_all.Goals as goal

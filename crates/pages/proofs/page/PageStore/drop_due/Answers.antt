@@ -2,8 +2,7 @@ use Rattle.std.proofs.Common.{◌≡◌, true, false, sym, ap, ◌∙◌, rules}
 use Rattle.std.specs.Arc.{arc_value}
 use Rattle.std.specs.List.{list_all}
 use Rattle.items.specs.Map.{alive, is_alive}
-use Rattle.pages.specs.Page.{PageState}
-use Rattle.pages.proofs.PageLemmas.{page-written, fits-alive, alive-all, all-alive, copied-either}
+use Rattle.pages.proofs.PageLemmas.{page-written, fits-alive, alive-all, all-alive}
 use Rattle.pages.proofs.page.PageStore.drop_due.Goals as goal
 
 pub invariant_of-self-then-not-all_alive : goal.invariant_of-self-then-not-all_alive
