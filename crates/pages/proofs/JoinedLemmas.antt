@@ -1,13 +1,10 @@
 -- What the map of all pages answers, and what an edit of one page does to it.
-use Rattle.std.proofs.Common.{◌≡◌, ◌≢◌, ℕ, zero, suc, ◌+◌, ◌-◌, ◌<◌, ◌≤◌, Bool, true, false, cond, List, [], ◌∷◌, ◌++◌, map, length, replicate, get_or, set, Some, None, Option, refl, sym, ap, ◌∙◌, arith, subst, ◌⊎◌, inl, inr, Result, Ok, Err, OnOk, OnErr}
-use Rattle.std.specs.Prelude.{filter, ◌==◌, sum, ◌%◌}
+use Rattle.std.proofs.Common.{◌≡◌, ◌≢◌, ℕ, zero, suc, ◌+◌, ◌-◌, ◌<◌, ◌≤◌, Bool, true, false, cond, List, [], ◌∷◌, ◌++◌, map, length, replicate, get_or, set, Some, None, Option, refl, sym, ap, ◌∙◌, arith, subst, inl, inr}
+use Rattle.std.specs.Prelude.{◌==◌, sum}
 use Rattle.std.specs.List.{flat_map}
-use Rattle.std.specs.Ordering.{eq_by_cmp, is_eq}
-use Rattle.std.specs.declared.cmp.Ordering.{Ordering}
-use Rattle.std.specs.declared.cmp.Ordering.TheVariants.{Less, Equal, Greater}
+use Rattle.std.specs.Ordering.{eq_by_cmp}
 use Rattle.std.specs.Cmp.Lexicographic.{nat_list_cmp_total}
-use Rattle.std.specs.FinMap.{FinMap, find, empty, entries, entries_sorted, from_entries, from_sorted, insert, remove, get, get-empty, get-entries, get-insert, get-remove, get-from_entries, get-from_sorted, entries-from_sorted, same_map, nat_cmp-IsAntisymmetric, slice_cmp-IsAntisymmetric}
-use Rattle.std.specs.FinMap.Entries.{where_key, is_sorted-where_key, find-where_key}
+use Rattle.std.specs.FinMap.{find, empty, entries, insert, remove, get, get-empty, get-entries, get-insert, get-remove, get-from_entries}
 use Rattle.std.proofs.lemmas.Bool.Decides.{nat_tests}
 use Rattle.std.proofs.lemmas.List.{get_or-set_same, get_or-set_other, length-set, length-map, length-replicate}
 use Rattle.std.proofs.lemmas.Map.Entries.{option_filter}
@@ -15,8 +12,9 @@ use Rattle.std.proofs.Math.Nat.{mod-lt, eq-or-lt_of_le}
 use Rattle.items.specs.declared.item.Item.{Item}
 use Rattle.items.specs.Map.{Items, by_bytes, alive, is_alive}
 use Rattle.items.proofs.AliveLemmas.{get-alive}
-use Rattle.pages.specs.Page.{page_number, page_entries, page_count}
+use Rattle.pages.specs.Page.{page_number, page_count}
 use Rattle.pages.specs.Joined.{IsOwn, AreOwn, ArePages, joined}
+use Rattle.pages.proofs.KeyLemmas.{same_key, other_key, all_keys}
 
 -- the first value, or else the second
 abbrev pub or_else : Option Item → Option Item → Option Item
@@ -65,21 +63,6 @@ pub joined_at : (pages : List Items) (q : List ℕ) → ArePages pages → get (
 joined_at pages q a =
     let same : page_number q - 0 ≡ page_number q = omega arith in
     from_page 0 pages q a.1 (omega arith) ∙ ap (λ k. get (get_or pages k empty) q) same
-
-same_key : (q k : List ℕ) → eq_by_cmp by_bytes q k ≡ true → q ≡ k
-same_key q k h = slice_cmp-IsAntisymmetric nat_cmp-IsAntisymmetric q k (tied (by_bytes q k) h)
-  where
-    tied : (r : Ordering) → is_eq r ≡ true → r ≡ Equal
-    tied Less h = absurd (let e : false ≡ true = h in cc)
-    tied Equal h = refl
-    tied Greater h = absurd (let e : false ≡ true = h in cc)
-
-other_key : (q k : List ℕ) → page_number q ≢ page_number k → eq_by_cmp by_bytes q k ≡ false
-other_key q k apart = by (eq_by_cmp by_bytes q k) refl
-  where
-    by : (b : Bool) → eq_by_cmp by_bytes q k ≡ b → eq_by_cmp by_bytes q k ≡ false
-    by true e = absurd (apart (ap page_number (same_key q k e)))
-    by false e = e
 
 pub own-empty : (p : ℕ) → IsOwn p empty
 own-empty p q apart = get-empty by_bytes q
@@ -131,9 +114,6 @@ own-page pages i a =
 pub page_number-lt : (q : List ℕ) → page_number q < page_count
 page_number-lt q = mod-lt (sum q) (omega arith)
 
-all_keys : (m n : Items) → ((q : List ℕ) → get m q ≡ get n q) → m ≡ n
-all_keys m n is = same_map nat_list_cmp_total (slice_cmp-IsAntisymmetric nat_cmp-IsAntisymmetric) m n is
-
 -- what stands at a key of pages of which one was changed
 at_set : (pages : List Items) (i : ℕ) (m : Items) (q : List ℕ) → ArePages pages → IsOwn i m → i < page_count
     → get (joined (set pages i m)) q ≡ cond (page_number q == i) (get m q) (get (joined pages) q)
@@ -148,7 +128,7 @@ at_set pages i m q a own l = joined_at (set pages i m) q (pages-set pages i m a 
         let other : page_number q ≢ i = grind (arith, nat_tests) in
         ap (λ x. get x q) (get_or-set_other pages i (page_number q) m empty other) ∙ sym (joined_at pages q a)
 
-same_number : (n : ℕ) → (n == n) ≡ true
+pub same_number : (n : ℕ) → (n == n) ≡ true
 same_number n = grind (arith, nat_tests)
 
 module _ (pages : List Items) (a : ArePages pages) (k : List ℕ) where
@@ -213,26 +193,6 @@ joined-alive pages moment a =
           ∙ get-alive (get_or pages (page_number q) empty) moment q ∙ ap (option_filter (is_alive moment)) (sym (joined_at pages q a)) ∙ sym (get-alive (joined pages) moment q)),
     )
 
--- a page's entries are those of the whole whose keys have its number
-pub page-entries : (pages : List Items) (i : ℕ) → ArePages pages → entries (get_or pages i empty) ≡ page_entries (joined pages) i
-page-entries pages i a =
-    let own_keys = λ (q : List ℕ). page_number q == i in
-    let sorted = is_sorted-where_key by_bytes own_keys (entries (joined pages)) (entries_sorted (joined pages)) in
-    ap entries (all_keys (get_or pages i empty) (from_sorted (page_entries (joined pages) i)) (λ q.
-    sym (get-from_sorted by_bytes (page_entries (joined pages) i) q sorted
-    ∙ find-where_key by_bytes own_keys q (λ x t. ap own_keys (sym (same_key q x (ap is_eq t)))) (entries (joined pages))
-    ∙ ap (λ x. cond (page_number q == i) x None) (sym (get-entries (joined pages) q) ∙ joined_at pages q a)
-    ∙ at q (page_number q == i) refl)))
-    ∙ entries-from_sorted by_bytes (page_entries (joined pages) i) sorted
-  where
-    at : (q : List ℕ) (b : Bool) → (page_number q == i) ≡ b → cond b (get (get_or pages (page_number q) empty) q) None ≡ get (get_or pages i empty) q
-    at q true e =
-        let here : page_number q ≡ i = grind (arith, nat_tests) in
-        ap (λ n. get (get_or pages n empty) q) here
-    at q false e =
-        let other : page_number q ≢ i = grind (arith, nat_tests) in
-        sym (own-page pages i a q other)
-
 abbrev pub no_items : Items
 no_items = empty
 
@@ -250,14 +210,3 @@ joined-empty =
     at zero i = refl
     at (suc n) zero = refl
     at (suc n) (suc i) = at n i
-
--- an edit of one page, which may be refused
-pub edit-pages : {E : Type 0} (r : Result (Unit {0}) E) (pages : List Items) (i n : ℕ) (new after whole : Items) → ArePages pages → i ≡ n
-    → OnOk r (new ≡ after) → OnErr r (new ≡ get_or pages n no_items) → ArePages (set pages n after) × (joined (set pages n after) ≡ whole)
-    → ArePages (set pages i new) × OnOk r (joined (set pages i new) ≡ whole)
-edit-pages (Ok x) pages i n new after whole a at ok err done =
-    let same : set pages i new ≡ set pages n after = λ j. set pages (at j) (ok j) in
-    (subst ArePages (sym same) done.0, ap joined same ∙ done.1)
-edit-pages (Err e) pages i n new after whole a at ok err done =
-    let same : set pages i new ≡ set pages n (get_or pages n no_items) = λ j. set pages (at j) (err j) in
-    (subst ArePages (sym same) (pages-set pages n (get_or pages n no_items) a (own-page pages n a)), tt)

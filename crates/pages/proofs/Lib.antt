@@ -1,1 +1,6 @@
+pub mod KeyLemmas
 pub mod JoinedLemmas
+pub mod PartLemmas
+pub mod StateLemmas
+pub mod PageLemmas
+pub mod OwnLemmas

@@ -1,9 +1,9 @@
 -- Pages, each of its own keys alone, and the map that they are together.
-use Rattle.std.specs.Prelude.{◌≡◌, ◌≢◌, ℕ, ◌+◌, List, [], ◌∷◌, length, None}
+use Rattle.std.specs.Prelude.{◌≡◌, ◌≢◌, ℕ, ◌+◌, List, [], ◌∷◌, map, length, None, IsSome, All}
 use Rattle.std.specs.List.{flat_map}
 use Rattle.std.specs.FinMap.{entries, from_entries, get}
 use Rattle.items.specs.Map.{Items}
-use Rattle.pages.specs.Page.{page_number, page_count}
+use Rattle.pages.specs.Page.{PageState, page_number, page_count, page_items, of_each}
 
 -- only keys of page p stand in it
 abbrev pub IsOwn : ℕ → Items → Type 0
@@ -20,3 +20,16 @@ ArePages pages = (length pages ≡ page_count) × AreOwn 0 pages
 -- the map of all pages
 abbrev pub joined : List Items → Items
 joined pages = from_entries (flat_map entries pages)
+
+-- the pages of a map
+abbrev pub parts : Items → List Items
+parts m = of_each (page_items m)
+
+-- what the pages contain, whatever is kept of their digests
+abbrev pub items_of : List PageState → List Items
+items_of pages = map (λ page. page.items) pages
+
+-- Pages of which each digest is kept.
+pub record AreSealed (pages : List PageState) : Type 0 where
+  pub are : ArePages (items_of pages)
+  pub digests : All (λ page. IsSome page.digest) pages

@@ -1,8 +1,12 @@
--- The page of a key, and the page's part of a map.
-use Rattle.std.specs.Prelude.{ℕ, List, sum, filter, ◌%◌, ◌==◌}
-use Rattle.std.specs.FinMap.{entries}
+-- The page of a key, the page's part of a map, and what is kept of a page.
+use Rattle.std.specs.Prelude.{◌≡◌, ℕ, List, Option, Some, IfSome, map, sum, filter, ◌%◌, ◌==◌, refl}
+use Rattle.std.specs.Coded.{Coded, code_by, coded×, coded_option, coded_list, coded_ℕ}
+use Rattle.std.specs.List.{range_with_len}
+use Rattle.std.specs.FinMap.{entries, from_sorted}
 use Rattle.items.specs.declared.item.Item.{Item}
 use Rattle.items.specs.Map.{Items}
+use Rattle.wire.specs.Item.{page_text, PageFits}
+use Rattle.token.specs.Digest.{digest}
 
 abbrev pub page_count : ℕ
 page_count = 64
@@ -14,3 +18,37 @@ page_number key = sum key % page_count
 -- the entries of page p, in the order of their keys
 abbrev pub page_entries : Items → ℕ → List (List ℕ × Item)
 page_entries m p = filter (λ e. page_number e.0 == p) (entries m)
+
+-- and the map of them
+abbrev pub page_items : Items → ℕ → Items
+page_items m p = from_sorted (page_entries m p)
+
+-- the digest of page p, from scratch
+abbrev pub page_digest : Items → ℕ → List ℕ
+page_digest m p = digest (page_text (page_entries m p))
+
+-- something of each page, by number
+abbrev pub of_each : {X : Type 0} → (ℕ → X) → List X
+of_each of_page = map of_page (range_with_len 0 page_count)
+
+-- What is kept of a page: its items, and their digest where it was made since the last write.
+pub record PageState : Type 0 where
+  pub items : Items
+  pub digest : Option (List ℕ)
+
+-- a page is told apart by its items and what is kept of their digest
+abbrev pub page_code : Coded Items → Coded PageState
+page_code items = code_by (Items × Option (List ℕ)) (coded× items (coded_option (coded_list coded_ℕ))) (λ a. (a.items, a.digest)) (λ p. record { items = p.0; digest = p.1 }) (λ _. refl)
+
+-- the digest of the items, from scratch
+abbrev pub items_digest : Items → List ℕ
+items_digest m = digest (page_text (entries m))
+
+-- a page whose digest was made new
+abbrev pub refreshed : PageState → PageState
+refreshed page = record { items = page.items; digest = Some (items_digest page.items) }
+
+-- Each page has a text, and where a digest is kept it is that of the items now.
+pub record IsPage (page : PageState) : Type 0 where
+  pub fits : PageFits (entries page.items)
+  pub from_scratch : IfSome page.digest (λ kept. kept ≡ items_digest page.items)

@@ -1,20 +1,22 @@
-ghost use Rattle.std.specs.Prelude.{◌≡◌, ◌≤◌, ◌<◌, IfOk, OnOk, OnErr, length, map as map_list, replicate, sum};
+ghost use Rattle.std.specs.Prelude.{◌≡◌, ◌<◌, IfOk, map as map_list, replicate};
 ghost use Rattle.std.specs.FinMap as map;
 ghost use Rattle.items.specs.Map.{alive};
-ghost use Rattle.pages.specs.Page.{page_number, page_entries, page_count};
+ghost use Rattle.wire.specs.Item.{PageFits};
+ghost use Rattle.pages.specs.Page.{page_entries, page_count, refreshed};
+ghost use Rattle.pages.specs.Joined.{ArePages, joined, parts, items_of};
 
-use items::{Item, PlainStore, Store};
+use crate::number::{PAGES, page_of};
+use crate::page::Page;
+use crate::snapshot::Snapshot;
+use items::{Item, Store};
 use proto::Key;
 use std::alloc::{AllocError, Global};
 use std::marker::Model;
 
-/// How many pages a store has.
-pub const PAGES: usize = 64;
-
 /// A store of 64 pages, each in the order of its keys.
 #[derive(Debug, Drop)]
 pub struct Pages {
-    pages: Vec<PlainStore>,
+    pages: Vec<Page>,
 }
 
 impl Model for Pages {
@@ -22,48 +24,48 @@ impl Model for Pages {
     ghost use Rattle.std.specs.FinMap as map;
     ghost use Rattle.items.specs.Map.{Items};
     ghost use Rattle.items.specs.contracts.item.Item as item;
-    ghost use Rattle.pages.specs.Joined.{ArePages, joined};
+    ghost use Rattle.pages.specs.Joined.{ArePages, joined, items_of};
 
     ghost Value = { Items };
 
     ghost coded = { map.code (coded_list coded_ℕ) item.the_row.coded };
 
-    ghost view = { λ a. joined a.pages.items };
+    ghost view = { λ a. joined (items_of a.pages.items) };
 
-    ghost invariant = { λ a. ArePages a.pages.items };
+    ghost invariant = { λ a. ArePages (items_of a.pages.items) };
 }
 
-fn byte_sum(bytes: &[u8]) -> u32
-    requires { length bytes.now ≤ 250 }
-    ensures { result ≡ sum bytes.now }
+/// As many pages without items as a store has, with one digest made for all of them.
+fn empty_pages(alloc: Global) -> Result<Vec<Page>, AllocError>
+    ensures { IfOk result (λ pages. items_of pages.items ≡ replicate page_count map.empty) }
 {
-    bytes.iter().map(|b| u32::from(*b)).sum()
-}
-
-/// The number of the page in which the key stands.
-pub fn page_of(key: &Key) -> usize
-    ensures number { result ≡ page_number key.now }
-    ensures small { result < page_count }
-{
-    byte_sum(key.as_slice()) as usize % PAGES
-}
-
-fn empty_pages(alloc: Global) -> Result<Vec<PlainStore>, AllocError>
-    ensures { IfOk result (λ pages. pages.items ≡ replicate page_count map.empty) }
-{
+    let mut empty = Page::new(alloc)?;
+    empty.refresh();
     let mut pages = Vec::with_capacity(alloc, PAGES)?;
     for made in 0..PAGES {
-        pages.push(PlainStore::new(alloc))?;
+        pages.push(empty.clone()?)?;
     }
     Ok(pages)
 }
 
-/// Drops from each page what is due at the moment or before it.
-fn retain_alive(pages: &mut Vec<PlainStore>, moment: u32)
-    ensures { pages.new.items ≡ map_list (λ page. alive page moment) pages.old.items }
+/// The same pages without what is due at the moment or before it. A page of which nothing is due
+/// stays shared.
+fn without_due(pages: &Vec<Page>, moment: u32) -> Result<Vec<Page>, AllocError>
+    ensures { IfOk result (λ after. items_of after.items ≡ map_list (λ page. alive page moment) (items_of pages.now.items)) }
+{
+    let mut after = pages.clone()?;
+    for page in after.iter_mut() {
+        page.drop_due(moment)?;
+    }
+    Ok(after)
+}
+
+/// Makes each digest new that is not kept.
+fn refresh_all(pages: &mut Vec<Page>)
+    ensures { pages.new.items ≡ map_list refreshed pages.old.items }
 {
     for page in pages.iter_mut() {
-        page.retain_alive(moment);
+        page.refresh();
     }
 }
 
@@ -77,12 +79,40 @@ impl Pages {
         })
     }
 
-    /// The entries of a page, in the order of their keys.
+    /// The 64 pages that these are together, in the order of their numbers. Page `p` has only keys
+    /// of number `p`.
+    pub fn join(pages: Vec<Page>) -> Pages
+        requires { ArePages (items_of pages.items) }
+        ensures { result ≡ joined (items_of pages.items) }
+    {
+        Pages { pages }
+    }
+
+    /// The 64 pages, in the order of their numbers.
+    pub fn part(self) -> Vec<Page>
+        ensures { items_of result.items ≡ parts self }
+    {
+        let Pages { pages: parts } = self;
+        parts
+    }
+
+    /// Keeps the pages as they are now. A digest is made new for each page that was written since
+    /// the pages were last sealed, and for no other. This takes no memory.
+    pub fn seal(self) -> Snapshot
+        ensures { result ≡ self }
+    {
+        let Pages { mut pages } = self;
+        refresh_all(&mut pages);
+        Snapshot::of_sealed(pages)
+    }
+
+    /// The entries of a page, in the order of their keys. A page's text can be written of them.
     pub fn page(&self, number: usize) -> &[(Key, Item)]
         requires { number < page_count }
-        ensures { result.now ≡ page_entries self.now number }
+        ensures entries { result.now ≡ page_entries self.now number }
+        ensures fit { PageFits result.now }
     {
-        self.pages[number].as_slice()
+        self.pages[number].entries()
     }
 }
 
@@ -93,6 +123,7 @@ impl Store for Pages {
         self.pages[page_of(key)].get(key)
     }
 
+    /// Refused, as for want of memory, where it would be a page's entry above 2^32 - 1.
     fn put(&mut self, key: Key, item: Item) -> Result<(), AllocError> {
         let page = &mut self.pages[page_of(&key)];
         page.put(key, item)
@@ -104,7 +135,7 @@ impl Store for Pages {
     }
 
     fn drop_due(&mut self, moment: u32) -> Result<(), AllocError> {
-        retain_alive(&mut self.pages, moment);
+        self.pages = without_due(&self.pages, moment)?;
         Ok(())
     }
 }

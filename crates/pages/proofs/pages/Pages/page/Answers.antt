@@ -1,12 +1,10 @@
-use Rattle.std.proofs.Common.{ap, ◌∙◌, arith}
-use Rattle.std.specs.FinMap.{entries}
-use Rattle.std.proofs.lemmas.List.{get_or_read}
+use Rattle.std.proofs.Common.{ap, ◌∙◌}
+use Rattle.items.specs.Map.{Items}
 use Rattle.pages.specs.Page.{page_entries}
-use Rattle.pages.proofs.JoinedLemmas.{page-entries, no_items}
+use Rattle.pages.proofs.StateLemmas.{page-at}
 use Rattle.pages.proofs.pages.Pages.page.Goals as goal
 
-pub returns : goal.returns
-returns c =
-    let page = get_or_read c.self.inside.pages.items c.args.number c.index.result.now (omega (arith, c.requires, c.self.invariant.0)) c.index.ensures no_items in
-    c.as_slice.ensures ∙ ap entries page ∙ page-entries c.self.inside.pages.items c.args.number c.self.invariant
-    ∙ ap (λ m. page_entries m c.args.number) c.self.view_is
+pub returns-clause-entries : goal.returns-clause-entries
+returns-clause-entries c =
+    c.entries.ensures.entries ∙ page-at c.self.inside.pages.items c.args.number c.index.result.now c.self.invariant c.requires c.index.ensures
+    ∙ ap (λ (m : Items). page_entries m c.args.number) c.self.view_is

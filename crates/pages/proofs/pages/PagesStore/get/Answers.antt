@@ -1,11 +1,14 @@
-use Rattle.std.proofs.Common.{get_or, sym, ap, ◌∙◌, arith}
+use Rattle.std.proofs.Common.{sym, ap, ◌∙◌}
 use Rattle.std.specs.FinMap.{get}
-use Rattle.std.proofs.lemmas.List.{get_or_read}
-use Rattle.pages.proofs.JoinedLemmas.{joined_at, no_items}
+use Rattle.items.specs.Map.{Items}
+use Rattle.pages.specs.Joined.{items_of}
+use Rattle.pages.proofs.JoinedLemmas.{joined_at}
+use Rattle.pages.proofs.StateLemmas.{items-read}
 use Rattle.pages.proofs.pages.PagesStore.get.Goals as goal
 
 pub returns : goal.returns
 returns c =
-    let page = get_or_read c.self.inside.pages.items c.page_of.result c.index.result.now (omega (arith, c.page_of.ensures.small, c.self.invariant.0)) c.index.ensures no_items in
-    c.get.ensures ∙ ap (λ m. get m c.args.key.now) (page ∙ ap (λ i. get_or c.self.inside.pages.items i no_items) c.page_of.ensures.number)
-    ∙ sym (joined_at c.self.inside.pages.items c.args.key.now c.self.invariant) ∙ ap (λ m. get m c.args.key.now) c.self.view_is
+    let pages = c.self.inside.pages.items in
+    c.get.ensures
+    ∙ ap (λ (m : Items). get m c.args.key.now) (items-read pages c.page_of.result _ c.index.result.now c.self.invariant c.page_of.ensures.number c.page_of.ensures.small c.index.ensures)
+    ∙ sym (joined_at (items_of pages) c.args.key.now c.self.invariant) ∙ ap (λ (m : Items). get m c.args.key.now) c.self.view_is

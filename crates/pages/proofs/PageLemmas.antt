@@ -1,0 +1,114 @@
+-- What the text of a page asks of its items, and edits that leave the items as they are.
+use Rattle.std.proofs.Common.{◌≡◌, ℕ, suc, ◌+◌, ◌-◌, ◌<◌, ◌≤◌, ◌^◌, ◌⊎◌, inl, inr, Bool, true, false, cond, not, List, [], ◌∷◌, length, Some, None, Option, refl, sym, ap, ◌∙◌, arith, subst}
+use Rattle.std.specs.Prelude.{filter}
+use Rattle.std.specs.Option.{is_some, option_copied}
+use Rattle.std.specs.Borrow.{Bor}
+use Rattle.std.specs.List.{list_all}
+use Rattle.std.specs.Ordering.{eq_by_cmp}
+use Rattle.std.specs.Cmp.Lexicographic.{nat_list_cmp_total}
+use Rattle.std.specs.FinMap.{entries, entries_sorted, from_sorted, insert, remove, get, get-remove, len-entries, len-empty, len-insert, entries-from_sorted, nat_cmp-IsAntisymmetric, slice_cmp-IsAntisymmetric}
+use Rattle.std.specs.FinMap.Entries.{where_key}
+use Rattle.std.proofs.lemmas.Bool.{and_parts, and_from}
+use Rattle.proto.proofs.MapLemmas.{as_t, from_t, from_sorted_is, map_remove, sorted_filter, sorted_without}
+use Rattle.items.specs.declared.item.Item.{Item}
+use Rattle.items.specs.Map.{Items, by_bytes, alive, is_alive}
+use Rattle.wire.specs.Item.{PageFits}
+use Rattle.pages.specs.Page.{IsPage}
+use Rattle.pages.proofs.KeyLemmas.{same_key, all_keys}
+use Rattle.pages.proofs.JoinedLemmas.{no_items}
+
+length_filter : {X : Type 0} (p : X → Bool) (xs : List X) → length (filter p xs) ≤ length xs
+length_filter p [] = omega arith
+length_filter p (x ∷ xs) = elim (p x) as (λ b. length (cond b (x ∷ filter p xs) (filter p xs)) ≤ suc (length xs)) [
+  | true ↦ omega (arith, length_filter p xs)
+  | false ↦ omega (arith, length_filter p xs)
+]
+
+fits-filter : (p : List ℕ × Item → Bool) (es : List (List ℕ × Item)) → PageFits es → PageFits (filter p es)
+fits-filter p es fits = omega (arith, fits, length_filter p es)
+
+-- the map of a map's entries
+same_map_of : (m : Items) → from_sorted (entries m) ≡ m
+same_map_of m = from_sorted_is (entries m) m refl (from_t _ (entries_sorted m))
+
+entries-remove : (m : Items) (k : List ℕ) → entries (remove m k) ≡ where_key by_bytes (λ x. not (eq_by_cmp by_bytes k x)) (entries m)
+entries-remove m k =
+    let sorted = from_t _ (entries_sorted m) in
+    ap entries (sym (map_remove nat_list_cmp_total (slice_cmp-IsAntisymmetric nat_cmp-IsAntisymmetric) k (entries m) sorted ∙ ap (λ n. remove n k) (same_map_of m)))
+    ∙ entries-from_sorted by_bytes _ (as_t _ (sorted_without nat_list_cmp_total (λ x. not (eq_by_cmp by_bytes k x)) (entries m) sorted))
+
+entries-alive : (m : Items) (moment : ℕ) → entries (alive m moment) ≡ filter (λ e. is_alive moment e.1) (entries m)
+entries-alive m moment = entries-from_sorted by_bytes _ (as_t _ (sorted_filter by_bytes (λ e. is_alive moment e.1) (entries m) (from_t _ (entries_sorted m))))
+
+-- no items
+pub fits-empty : PageFits (entries no_items)
+fits-empty = let none : length (entries no_items) ≡ 0 = sym (len-entries no_items) ∙ len-empty by_bytes Item in omega (arith, none)
+
+length-insert : (m : Items) (k : List ℕ) (v : Item) → length (entries (insert m k v)) ≡ cond (is_some (get m k)) (length (entries m)) (length (entries m) + 1)
+length-insert m k v = sym (len-entries (insert m k v)) ∙ len-insert nat_list_cmp_total m k v ∙ ap (λ n. cond (is_some (get m k)) n (n + 1)) (len-entries m)
+
+-- an item for which there is room, or that stands in the place of another
+pub fits-insert : (m : Items) (k : List ℕ) (v : Item) → PageFits (entries m) → (length (entries m) < 2 ^ 32 - 1) ⊎ (is_some (get m k) ≡ true) → PageFits (entries (insert m k v))
+fits-insert m k v fits (inl few) = by (is_some (get m k)) refl
+  where
+    by : (b : Bool) → is_some (get m k) ≡ b → PageFits (entries (insert m k v))
+    by true e = omega (arith, fits, length-insert m k v ∙ ap (λ b. cond b (length (entries m)) (length (entries m) + 1)) e)
+    by false e = omega (arith, few, length-insert m k v ∙ ap (λ b. cond b (length (entries m)) (length (entries m) + 1)) e)
+fits-insert m k v fits (inr there) = omega (arith, fits, length-insert m k v ∙ ap (λ b. cond b (length (entries m)) (length (entries m) + 1)) there)
+
+pub fits-remove : (m : Items) (k : List ℕ) → PageFits (entries m) → PageFits (entries (remove m k))
+fits-remove m k fits = subst PageFits (sym (entries-remove m k)) (fits-filter _ (entries m) fits)
+
+pub fits-alive : (m : Items) (moment : ℕ) → PageFits (entries m) → PageFits (entries (alive m moment))
+fits-alive m moment fits = subst PageFits (sym (entries-alive m moment)) (fits-filter _ (entries m) fits)
+
+-- what is not there cannot be removed
+pub remove-absent : (m : Items) (k : List ℕ) → get m k ≡ None → remove m k ≡ m
+remove-absent m k none = all_keys _ _ (λ q. get-remove nat_list_cmp_total m k q ∙ by q (eq_by_cmp by_bytes q k) refl)
+  where
+    by : (q : List ℕ) (b : Bool) → eq_by_cmp by_bytes q k ≡ b → cond b None (get m q) ≡ get m q
+    by q true e = sym (ap (get m) (same_key q k e) ∙ none)
+    by q false e = refl
+
+filter_all : {X : Type 0} (p : X → Bool) (xs : List X) → list_all p xs ≡ true → filter p xs ≡ xs
+filter_all p [] h = refl
+filter_all p (x ∷ xs) h =
+    let both = and_parts _ _ h in
+    ap (λ b. cond b (x ∷ filter p xs) (filter p xs)) both.0 ∙ ap (λ ys. x ∷ ys) (filter_all p xs both.1)
+
+all_filtered : {X : Type 0} (p : X → Bool) (xs : List X) → list_all p (filter p xs) ≡ true
+all_filtered p [] = refl
+all_filtered p (x ∷ xs) = elim (p x) as (λ b. p x ≡ b → list_all p (cond b (x ∷ filter p xs) (filter p xs)) ≡ true) [
+  | true ↦ λ e. and_from _ _ e (all_filtered p xs)
+  | false ↦ λ e. all_filtered p xs
+] refl
+
+-- where all are alive nothing is dropped
+pub alive-all : (m : Items) (moment : ℕ) → list_all (λ e. is_alive moment e.1) (entries m) ≡ true → alive m moment ≡ m
+alive-all m moment all = ap from_sorted (filter_all _ (entries m) all) ∙ same_map_of m
+
+-- and where nothing is dropped all are alive
+pub all-alive : (m : Items) (moment : ℕ) → alive m moment ≡ m → list_all (λ e. is_alive moment e.1) (entries m) ≡ true
+all-alive m moment same =
+    ap (list_all (λ e. is_alive moment e.1)) (sym (ap entries same) ∙ entries-alive m moment) ∙ all_filtered _ (entries m)
+
+-- a page whose digest is to be made new
+pub page-written : (m n : Items) → m ≡ n → PageFits (entries n) → IsPage (record { items = m; digest = None })
+page-written m n same fits = record { fits = subst (λ (k : Items). PageFits (entries k)) (sym same) fits; from_scratch = tt }
+
+-- a value that was handed over, or else copied
+pub copied-either : {A : Type 0} (x y : A) → (x ≡ y) ⊎ (x ≡ y) → x ≡ y
+copied-either x y (inl e) = e
+copied-either x y (inr e) = e
+
+is_some-copied : {A : Type 0} (r : Option (Bor A)) → is_some (option_copied r) ≡ is_some r
+is_some-copied None = refl
+is_some-copied (Some x) = refl
+
+-- whether something was found
+pub found-is : {A : Type 0} (r : Option (Bor A)) (o : Option A) (b : Bool) → option_copied r ≡ o → b ≡ is_some r → is_some o ≡ b
+found-is r o b e is = ap is_some (sym e) ∙ is_some-copied r ∙ sym is
+
+pub none-found : {A : Type 0} (o : Option A) → is_some o ≡ false → o ≡ None
+none-found None e = refl
+none-found (Some x) e = absurd (let no : true ≡ false = e in cc)

@@ -1,0 +1,90 @@
+-- Pages with what is kept of their digests: what they contain, and an edit of one of them.
+use Rattle.std.proofs.Common.{◌≡◌, ℕ, zero, suc, ◌+◌, ◌<◌, ◌≤◌, List, [], ◌∷◌, ◌++◌, map, length, take, drop, get_or, set, Option, IsSome, Result, Ok, Err, OnOk, OnErr, refl, sym, ap, ◌∙◌, arith, subst}
+use Rattle.std.specs.FinMap.{entries}
+use Rattle.std.proofs.lemmas.List.{map-set, get_or-map, length-map}
+use Rattle.proto.proofs.ListLemmas.{next-same, next-changed}
+use Rattle.items.specs.Map.{Items}
+use Rattle.pages.specs.Page.{PageState, page_count, page_entries, refreshed}
+use Rattle.pages.specs.Joined.{ArePages, AreSealed, joined, items_of}
+use Rattle.pages.proofs.JoinedLemmas.{no_items, pages-set, own-page}
+use Rattle.pages.proofs.PartLemmas.{page-entries}
+
+pub items-set : (pages : List PageState) (i : ℕ) (page : PageState) → items_of (set pages i page) ≡ set (items_of pages) i page.items
+items-set pages i page = map-set (λ (a : PageState). a.items) pages i page
+
+-- there are as many as a store has
+pub length-states : (pages : List PageState) → ArePages (items_of pages) → length pages ≡ page_count
+length-states pages a = sym (length-map pages (λ (a : PageState). a.items)) ∙ a.0
+
+-- the items of a page that was read
+pub items-at : (pages : List PageState) (i : ℕ) (page : PageState) → i < length pages → page ≡ get_or pages i page → page.items ≡ get_or (items_of pages) i no_items
+items-at pages i page l e = ap (λ (a : PageState). a.items) e ∙ sym (get_or-map (λ (a : PageState). a.items) pages i page no_items l)
+
+pub items-read : (pages : List PageState) (i n : ℕ) (page : PageState) → ArePages (items_of pages) → i ≡ n → i < page_count → page ≡ get_or pages i page
+    → page.items ≡ get_or (items_of pages) n no_items
+items-read pages i n page a at l read =
+    items-at pages i page (omega (arith, l, length-states pages a)) read ∙ ap (λ (k : ℕ). get_or (items_of pages) k no_items) at
+
+-- the entries of a page that was read
+pub page-at : (pages : List PageState) (i : ℕ) (page : PageState) → ArePages (items_of pages) → i < page_count → page ≡ get_or pages i page
+    → entries page.items ≡ page_entries (joined (items_of pages)) i
+page-at pages i page a l read =
+    ap entries (items-at pages i page (omega (arith, l, length-states pages a)) read) ∙ page-entries (items_of pages) i a
+
+-- after an edit of each page before i, and now of page i
+pub next-edited : (f : Items → Items) (all : List Items) (pages : List PageState) (i : ℕ) (page new : PageState)
+    → items_of pages ≡ map f (take i all) ++ drop i all → i < length pages → i < length all → page ≡ get_or pages i page → new.items ≡ f (get_or pages i page).items
+    → items_of (set pages i new) ≡ map f (take (i + 1) all) ++ drop (i + 1) all
+next-edited f all pages i page new so_far within more read is =
+    let at : page.items ≡ get_or all i no_items =
+    items-at pages i page within read ∙ ap (λ (ms : List Items). get_or ms i no_items) so_far ∙ next-same f all i no_items more in
+    items-set pages i new ∙ (λ j. set (so_far j) i ((is ∙ ap (λ (a : PageState). f a.items) (sym read) ∙ ap f at) j)) ∙ next-changed f all i no_items more
+
+-- after an edit of each page
+pub all-edited : (f : Items → Items) (all : List Items) (i : ℕ) → length all ≤ i → map f (take i all) ++ drop i all ≡ map f all
+all-edited f [] zero l = refl
+all-edited f [] (suc i) l = refl
+all-edited f (m ∷ all) zero l = absurd (omega arith)
+all-edited f (m ∷ all) (suc i) l = ap (λ (ms : List Items). f m ∷ ms) (all-edited f all i (omega arith))
+
+items-refreshed : (pages : List PageState) → items_of (map refreshed pages) ≡ items_of pages
+items-refreshed [] = refl
+items-refreshed (page ∷ pages) = ap (λ (ms : List Items). page.items ∷ ms) (items-refreshed pages)
+
+-- pages whose digests were made new contain what they did
+pub still-items : (pages new : List PageState) → new ≡ map refreshed pages → items_of new ≡ items_of pages
+still-items pages new is = ap items_of is ∙ items-refreshed pages
+
+-- and are sealed
+pub sealed-refreshed : (pages new : List PageState) → ArePages (items_of pages) → new ≡ map refreshed pages → AreSealed new
+sealed-refreshed pages new a is = subst AreSealed (sym is) (record {
+  are = subst ArePages (sym (items-refreshed pages)) a;
+  digests = λ k d l. subst (λ (o : PageState). IsSome o.digest) (sym (get_or-map refreshed pages k d d (omega (arith, l, length-map pages refreshed)))) refl;
+})
+
+-- the items of a page that was set
+pub ok-items : {E : Type 0} (r : Result (Unit {0}) E) (new : PageState) (m : Items) (digest : Option (List ℕ)) → OnOk r (new ≡ record { items = m; digest = digest }) → OnOk r (new.items ≡ m)
+ok-items (Ok x) new m digest ok = ap (λ (page : PageState). page.items) ok
+ok-items (Err e) new m digest ok = tt
+
+-- an edit of one page, which may be refused
+pub edit-page : {E : Type 0} (r : Result (Unit {0}) E) (pages : List PageState) (i n : ℕ) (old new : PageState) (edit : Items → Items) (whole : Items)
+    → ArePages (items_of pages) → i ≡ n → i < page_count → old ≡ get_or pages i old
+    → OnOk r (new.items ≡ edit old.items) → OnErr r (new ≡ old)
+    → ArePages (set (items_of pages) n (edit (get_or (items_of pages) n no_items))) × (joined (set (items_of pages) n (edit (get_or (items_of pages) n no_items))) ≡ whole)
+    → ArePages (items_of (set pages i new)) × OnOk r (joined (items_of (set pages i new)) ≡ whole)
+edit-page {E = E} r pages i n old new edit whole a at l read ok err done = by r ok err
+  where
+    here : old.items ≡ get_or (items_of pages) n no_items
+    here = items-read pages i n old a at l read
+
+    by : (r : Result (Unit {0}) E) → OnOk r (new.items ≡ edit old.items) → OnErr r (new ≡ old)
+        → ArePages (items_of (set pages i new)) × OnOk r (joined (items_of (set pages i new)) ≡ whole)
+    by (Ok x) ok err =
+        let same : items_of (set pages i new) ≡ set (items_of pages) n (edit (get_or (items_of pages) n no_items)) =
+        items-set pages i new ∙ (λ j. set (items_of pages) (at j) ((ok ∙ ap edit here) j)) in
+        (subst ArePages (sym same) done.0, ap joined same ∙ done.1)
+    by (Err e) ok err =
+        let same : items_of (set pages i new) ≡ set (items_of pages) n (get_or (items_of pages) n no_items) =
+        items-set pages i new ∙ (λ j. set (items_of pages) (at j) ((ap (λ (a : PageState). a.items) err ∙ here) j)) in
+        (subst ArePages (sym same) (pages-set (items_of pages) n (get_or (items_of pages) n no_items) a (own-page (items_of pages) n a)), tt)

@@ -1,0 +1,224 @@
+use super::*;
+use items::{Item, PlainStore, Store};
+use proto::{Block, Key, is_key_text};
+use rand_core::SeedableRng;
+use rand_core::utils::NextWord;
+use rand_pcg::Lcg64Xsh32;
+use sha2::{Digest, Sha256};
+use std::alloc::{AllocError, Global};
+use std::test::Fail;
+
+/// The key of these bytes, or else `k`.
+fn key(alloc: Global, bytes: &[u8]) -> Result<Key, AllocError> {
+    if is_key_text(bytes) {
+        return Ok(Key::new(Vec::from_slice(alloc, bytes)?));
+    }
+    Ok(Key::new(vec![in alloc; b'k']?))
+}
+
+/// One of 192 keys of two bytes, which stand on all pages.
+fn any_key(alloc: Global, words: &mut Lcg64Xsh32) -> Result<Key, AllocError> {
+    let word = words.next_word();
+    let first = [b'a', b'b', b'c'];
+    key(
+        alloc,
+        &[first[(word % 3) as usize], b'0' + (word / 8 % 64) as u8],
+    )
+}
+
+fn any_item(alloc: Global, words: &mut Lcg64Xsh32) -> Result<Item, AllocError> {
+    let word = words.next_word();
+    let bytes = word.to_be_bytes();
+    Ok(Item {
+        block: Block::from_slice(alloc, &bytes[..(word % 5) as usize])?,
+        flags: words.next_word(),
+        due: if word % 3 == 0 {
+            Some(u64::from(words.next_word() % 4000))
+        } else {
+            None
+        },
+        unique: u64::from(words.next_word()),
+    })
+}
+
+/// What one random step does to a store.
+#[derive(Drop)]
+enum Change {
+    Put(Key, Item),
+    Remove(Key),
+    Drop(u32),
+}
+
+fn any_change(alloc: Global, words: &mut Lcg64Xsh32) -> Result<Change, AllocError> {
+    let word = words.next_word() % 20;
+    Ok(if word < 14 {
+        Change::Put(any_key(alloc, words)?, any_item(alloc, words)?)
+    } else if word < 19 {
+        Change::Remove(any_key(alloc, words)?)
+    } else {
+        Change::Drop(words.next_word() % 1000)
+    })
+}
+
+fn make<S: Store>(store: &mut S, change: &Change) -> Result<(), AllocError> {
+    match change {
+        Change::Put(key, item) => store.put(key.clone()?, item.clone()?),
+        Change::Remove(key) => store.remove(key),
+        Change::Drop(moment) => store.drop_due(*moment),
+    }
+}
+
+/// A number's last bytes, the highest first.
+fn put_number(hasher: &mut Sha256, number: u64, width: usize) {
+    let bytes = number.to_be_bytes();
+    hasher.update(&bytes[8usize.saturating_sub(width)..]);
+}
+
+fn put_entry(hasher: &mut Sha256, key: &Key, item: &Item) {
+    put_number(hasher, key.as_slice().len() as u64, 1);
+    hasher.update(key.as_slice());
+    put_number(hasher, u64::from(item.flags), 4);
+    match item.due {
+        None => put_number(hasher, 0, 1),
+        Some(due) => {
+            put_number(hasher, 1, 1);
+            put_number(hasher, due, 8);
+        }
+    }
+    put_number(hasher, item.unique, 8);
+    put_number(hasher, item.block.as_slice().len() as u64, 4);
+    hasher.update(item.block.as_slice());
+}
+
+/// The digest of a page, from scratch: its text is spelled here.
+fn digest_of(entries: &[(Key, Item)], number: usize) -> [u8; 32] {
+    let count = entries
+        .iter()
+        .filter(|entry| page_of(&entry.0) == number)
+        .count();
+    let mut hasher = Sha256::new();
+    put_number(&mut hasher, 0, 1);
+    put_number(&mut hasher, count as u64, 4);
+    for entry in entries {
+        if page_of(&entry.0) == number {
+            put_entry(&mut hasher, &entry.0, &entry.1);
+        }
+    }
+    hasher.finalize()
+}
+
+/// Whether each digest and the root are those of the plain store, from scratch.
+fn agree(kept: &Snapshot, plain: &PlainStore) -> bool {
+    let mut digests = [[0u8; 32]; PAGES];
+    for number in 0..PAGES {
+        digests[number] = digest_of(plain.as_slice(), number);
+        if *kept.digest(number) != digests[number] {
+            return false;
+        }
+    }
+    kept.root() == token::root(&digests)
+}
+
+/// The state after a change, beside the one before it, which is kept.
+fn changed(
+    kept: &Snapshot,
+    plain: &PlainStore,
+    change: &Change,
+) -> Result<(Snapshot, PlainStore), AllocError> {
+    let mut pages = kept.share()?.open();
+    make(&mut pages, change)?;
+    let mut after = plain.clone()?;
+    make(&mut after, change)?;
+    Ok((pages.seal(), after))
+}
+
+#[test]
+fn pages_of_keys(rt: HostRuntime) -> Result<(), Fail> {
+    let rows: [(&[u8], usize); 9] = [
+        (b"a", 33),
+        (b"b", 34),
+        (b"c", 35),
+        (b"n", 46),
+        (b"x", 56),
+        (b"y", 57),
+        (b"C", 3),
+        (b"E", 5),
+        (b"ab", 3),
+    ];
+    for (bytes, number) in rows.iter() {
+        assert_eq!(rt; page_of(&key(rt.alloc(), *bytes)?), *number);
+    }
+    Ok(())
+}
+
+#[test]
+fn digests_of_pages(rt: HostRuntime) -> Result<(), Fail> {
+    // SHA-256 of 00 00000000, by another program.
+    let empty: [u8; 32] = [
+        0x88, 0x55, 0x50, 0x8a, 0xad, 0xe1, 0x6e, 0xc5, 0x73, 0xd2, 0x1e, 0x6a, 0x48, 0x5d, 0xfd,
+        0x0a, 0x76, 0x24, 0x08, 0x5c, 0x1a, 0x14, 0xb5, 0xec, 0xdd, 0x64, 0x85, 0xde, 0x0c, 0x68,
+        0x39, 0xa4,
+    ];
+    let kept = Pages::new(rt.alloc())?.seal();
+    assert_eq!(rt; kept.digest(33), &empty);
+    let mut pages = kept.share()?.open();
+    let item = Item {
+        block: Block::from_slice(rt.alloc(), b"5")?,
+        flags: 0,
+        due: None,
+        unique: 64,
+    };
+    pages.put(key(rt.alloc(), b"a")?, item)?;
+    // SHA-256 of 00 00000001 01 61 00000000 00 0000000000000040 00000001 35, by another program.
+    let one: [u8; 32] = [
+        0x73, 0xa7, 0x3c, 0x62, 0xab, 0x4e, 0x82, 0x0d, 0x79, 0x34, 0x33, 0xac, 0x48, 0x02, 0x54,
+        0x8e, 0x44, 0xfa, 0xf5, 0xc8, 0x78, 0x5e, 0xa2, 0x32, 0xe9, 0x7d, 0xc1, 0x0c, 0x1d, 0x4f,
+        0xdf, 0x19,
+    ];
+    let after = pages.seal();
+    assert_eq!(rt; after.digest(33), &one);
+    assert_eq!(rt; after.digest(34), &empty);
+    assert_eq!(rt; kept.digest(33), &empty);
+    assert_eq!(rt; kept.page(33).len(), 0);
+    assert_eq!(rt; after.page(33).len(), 1);
+    Ok(())
+}
+
+#[test]
+fn parted_pages_are_stores(rt: HostRuntime) -> Result<(), Fail> {
+    let mut pages = Pages::new(rt.alloc())?.part();
+    let item = any_item(rt.alloc(), &mut Lcg64Xsh32::seed_from_u64(3))?;
+    pages[33].put(key(rt.alloc(), b"a")?, item)?;
+    assert!(rt; pages[33].digest().is_none() && pages[34].digest().is_some());
+    pages[33].remove(&key(rt.alloc(), b"b")?)?;
+    assert!(rt; pages[33].get(&key(rt.alloc(), b"a")?).is_some());
+    Ok(())
+}
+
+#[test]
+fn random_steps_with_undo(rt: HostRuntime) -> Result<(), Fail> {
+    let alloc = rt.alloc();
+    let mut words = Lcg64Xsh32::seed_from_u64(20);
+    let mut states = vec![in alloc; (Pages::new(alloc)?.seal(), PlainStore::new(alloc))]?;
+    for tens in 0..100u32 {
+        for step in 0..10u32 {
+            let Some((kept, plain)) = states.last() else {
+                return Ok(());
+            };
+            let change = any_change(alloc, &mut words)?;
+            let next = changed(kept, plain, &change)?;
+            states.push(next)?;
+        }
+        let Some((kept, plain)) = states.last() else {
+            return Ok(());
+        };
+        assert!(rt; agree(kept, plain), "before undo {tens}");
+        let back = 1 + (words.next_word() % 9) as usize;
+        states.truncate(states.len().saturating_sub(back));
+        let Some((kept, plain)) = states.last() else {
+            return Ok(());
+        };
+        assert!(rt; agree(kept, plain), "after undo {tens}");
+    }
+    Ok(())
+}
