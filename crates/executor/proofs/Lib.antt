@@ -4,3 +4,4 @@ pub mod PartialLemmas
 pub mod RoundLemmas
 pub mod WorkedLemmas
 pub mod KeptLemmas
+pub mod GroupLemmas

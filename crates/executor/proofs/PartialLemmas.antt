@@ -3,7 +3,7 @@ use Rattle.std.proofs.Common.{◌≡◌, ◌≢◌, ℕ, zero, suc, ◌+◌, ◌
 use Rattle.std.specs.Prelude.{slice_get, slice_set, All, IsTrue, not, ◌||◌, ◌==◌, filter, if◌then◌else◌}
 use Rattle.std.specs.List.{AllByRecursion, range_with_len, list_all, zip}
 use Rattle.std.proofs.lemmas.List.{append-nil}
-use Rattle.std.proofs.lemmas.Option.{slice_get_within, get_or_from_slice_get}
+use Rattle.std.proofs.lemmas.Option.{slice_get_within, get_or_from_slice_get, slice_get-get_or}
 use Rattle.items.specs.Map.{Items, alive}
 use Rattle.item_steps.specs.Effect.{effect}
 use Rattle.item_steps.specs.Steps.{steps, reply}
@@ -25,6 +25,9 @@ Each {X} P xs = (i : ℕ) (x : X) → slice_get xs i ≡ Some x → P x
 
 pub each-of-all : {X : Type 0} (P : X → Type 0) (xs : List X) → All P xs → Each P xs
 each-of-all P xs all i x at = subst P (get_or_from_slice_get xs i x x at) (all i x (slice_get_within xs i x at))
+
+pub all-of-each : {X : Type 0} (P : X → Type 0) (xs : List X) → Each P xs → All P xs
+all-of-each P xs h i d l = h i (get_or xs i d) (slice_get-get_or xs i d l)
 
 -- the steps that a request of the group has made
 abbrev pub made_in : ℕ → Running → List Placed

@@ -3,7 +3,7 @@ use Rattle.std.proofs.Common.{◌≡◌, ◌≢◌, ℕ, zero, suc, ◌+◌, ◌
 use Rattle.std.specs.Prelude.{slice_get, slice_set, All, IsTrue, not, ◌||◌, ◌==◌, filter, if◌then◌else◌, nat_le}
 use Rattle.std.specs.List.{AllByRecursion, range_with_len, list_all, zip}
 use Rattle.std.proofs.lemmas.List.{append-nil, map-append, length_push, take_more, map-set, take_all}
-use Rattle.std.proofs.lemmas.Bool.{cases_Bool, leb-true, and_parts}
+use Rattle.std.proofs.lemmas.Bool.{cases_Bool, leb-true, and_parts, ltb-true, ltb-false, lt-ltb}
 use Rattle.std.proofs.lemmas.Bool.Decides.{nat_tests}
 use Rattle.std.proofs.lemmas.Option.{slice_get_within, get_or_from_slice_get, slice_get-get_or}
 use Rattle.items.specs.Map.{Items, alive}
@@ -19,9 +19,9 @@ use Rattle.executor.specs.State.{StateView}
 use Rattle.executor.specs.Fresh.{Runner, fresh}
 use Rattle.executor.specs.declared.answered.Answered.{Answered}
 use Rattle.executor.specs.Round.{runners, moment_of, first_place, group_of, steps_in, GroupsRun, answered, Round}
-use Rattle.executor.specs.Work.{Progress, begun, all_begun, next_step, is_done, is_group_done, started, IsFirst, IsNext, IsLast, StepMade, Worked, began, stepped, moved, replied, replies_of, made}
+use Rattle.executor.specs.Work.{Progress, begun, all_begun, next_step, is_done, is_group_done, started, comes_after, IsFirst, IsNext, IsLast, StepMade, Worked, began, stepped, moved, replied, replies_of, made}
 use Rattle.executor.proofs.OrderLemmas.{items_push, answers_push, order_push, set_same, set_other, get_set_same, get_set_other}
-use Rattle.executor.proofs.PartialLemmas.{Each, each-of-all, made_in, forget, first, groups_run, Partial}
+use Rattle.executor.proofs.PartialLemmas.{Each, each-of-all, all-of-each, made_in, forget, first, groups_run, Partial}
 use Rattle.executor.proofs.RoundLemmas.{groups_append, groups_empty, range_parts, range_at, all_empty, get_map, map_get, each_set, same_or_not, fresh_apart, answers_at-append, answers_at-own, answers_at-other, made_all, none_made, no_steps}
 
 module _ (base : StateView) (batch : Batch) (ordered : Bool) where
@@ -204,28 +204,32 @@ module _ (base : StateView) (batch : Batch) (ordered : Bool) where
         (ap (λ k. range_with_len 0 w.group ++ range_with_len k (suc (group - (w.group + 1)))) from ∙ sym (range_parts 0 w.group (suc (group - (w.group + 1)))) ∙ ap (range_with_len 0) count)
         (groups_append (λ g. map (steps_in batch ordered g) there) (first base batch ordered) (alive base.items (moment_of base batch)) p.start w.items (range_with_len 0 w.group) (w.group ∷ range_with_len (w.group + 1) (group - (w.group + 1))) p.earlier (answers_in (first base batch ordered) p.start p.order ++ []) p.groups one)
 
-  partial-moved : (w : Progress) (group : ℕ) → Partial base batch ordered w → IsTrue (is_group_done w) → IsNext w.running w.group group
+  partial-moved : (w : Progress) (group : ℕ) → Partial base batch ordered w → IsTrue (is_group_done w) → IsNext w.running (Some w.group) group
       → Partial base batch ordered (record { items = w.items; running = w.running; group = group })
   partial-moved w group p done next = record {
     same = p.same;
     start = w.items;
     earlier = answers_now w p;
     order = [];
-    groups = groups_to w p done group next.above (λ i r at l.
+    groups = groups_to w p done group above (λ i r at l.
         let x = running_of w p i r at in
-        omega (arith, x.2, each-of-all (λ (y : Running). w.group < y.group → group ≤ y.group) w.running next.least i x.0 x.1 (omega (arith, x.2, l))));
+        omega (arith, x.2, least i x.0 x.1 (omega (arith, x.2, l))));
     items = refl;
-    interleaves = none_made base batch ordered group w.running (λ i x at e. p.above i x at (omega (arith, e, next.above)));
+    interleaves = none_made base batch ordered group w.running (λ i x at e. p.above i x at (omega (arith, e, above)));
     answers = λ i x at. p.answers i x at ∙ ap (answers_at x.place) (answers_same w p ∙ sym (append-nil (answers_now w p)));
-    above = λ i x at l. p.above i x at (omega (arith, l, next.above));
+    above = λ i x at l. p.above i x at (omega (arith, l, above));
     below = λ i x at l. by_group i x at l (same_or_not x.group w.group);
     within = p.within;
     places = p.places;
   }
     where
+      above : w.group < group
+      above = ltb-true w.group group next.above
+      least : Each (λ (y : Running). w.group < y.group → group ≤ y.group) w.running
+      least i x at l = each-of-all (λ (y : Running). comes_after (Some w.group) y.group ≡ true → group ≤ y.group) w.running next.least i x at (lt-ltb w.group x.group l)
       by_group : (i : ℕ) (x : Running) → slice_get w.running i ≡ Some x → x.group < group → (x.group ≡ w.group) ⊎ (x.group ≢ w.group) → length x.steps ≤ length x.answers
       by_group i x at l (inl e) = group_is_done w done i x at e
-      by_group i x at l (inr d) = p.below i x at (under (each-of-all (λ (y : Running). w.group < y.group → group ≤ y.group) w.running next.least i x at))
+      by_group i x at l (inr d) = p.below i x at (under (least i x at))
         where
           under : (w.group < x.group → group ≤ x.group) → x.group < w.group
           under h = elim (below_or_not x.group w.group) [
@@ -260,18 +264,15 @@ module _ (base : StateView) (batch : Batch) (ordered : Bool) where
       let others = zip_replied answers rs running tail (λ i. h (suc i)) in
       (λ i. record { place = r.0; client = r.1.client; number = r.1.number; reply = reply r.1.command (own i) } ∷ others i)
 
-  all_of_each : {X : Type 0} (P : X → Type 0) (xs : List X) → Each P xs → All P xs
-  all_of_each P xs h i d l = h i (get_or xs i d) (slice_get-get_or xs i d l)
-
-  pub done_is_round : (w : Progress) → Worked base batch ordered w → IsTrue (is_group_done w) → IsLast w.running w.group
+  pub done_is_round : (w : Progress) → Worked base batch ordered w → IsTrue (is_group_done w) → IsLast w.running (Some w.group)
       → Round base batch ordered (made base batch w) (replies_of base batch w.running)
   done_is_round w worked done last =
       let p = worked-partial w worked in
       let low : Each (λ r. group_of batch ordered r < w.group + 1) there = λ i r at.
-        (let x = running_of w p i r at in omega (arith, x.2, each-of-all (λ (y : Running). y.group ≤ w.group) w.running last i x.0 x.1)) in
+        (let x = running_of w p i r at in omega (arith, x.2, ltb-false w.group x.0.group (each-of-all (λ (y : Running). comes_after (Some w.group) y.group ≡ false) w.running last i x.0 x.1))) in
       record {
         groups = w.group + 1;
-        all_run = all_of_each (λ r. group_of batch ordered r < w.group + 1) there low;
+        all_run = all-of-each (λ r. group_of batch ordered r < w.group + 1) there low;
         answers = answers_now w p;
         run = groups_to w p done (w.group + 1) (omega arith) (λ i r at l. absurd (omega (arith, l, low i r at)));
         replied = zip_replied (answers_now w p) there w.running p.same (λ i x at. p.answers i x at ∙ ap (answers_at x.place) (answers_same w p));
@@ -292,7 +293,7 @@ module _ (base : StateView) (batch : Batch) (ordered : Bool) where
       let worked : Worked base batch ordered w = began 0 (no_one (λ r. 0 ≤ r.group)) in
       let done : is_group_done w ≡ true = ap (list_all (λ r. not (r.group == 0) || is_done r)) none in
       let no_replies : replies_of base batch (all_begun base batch ordered) ≡ [] = ap (λ xs. map (λ both. replied both.0 both.1) (zip there xs)) none ∙ zip_nil there in
-      subst (λ (rs : List Answered). Round base batch ordered (made base batch w) rs) no_replies (done_is_round w worked done (no_one (λ r. r.group ≤ 0)))
+      subst (λ (rs : List Answered). Round base batch ordered (made base batch w) rs) no_replies (done_is_round w worked done (no_one (λ r. comes_after (Some 0) r.group ≡ false)))
     where
       zip_nil : (rs : List Runner) → map (λ (both : Runner × Running). replied both.0 both.1) (zip rs []) ≡ []
       zip_nil [] = refl

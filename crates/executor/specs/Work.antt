@@ -1,5 +1,5 @@
 -- A batch that is being executed.
-use Rattle.std.specs.Prelude.{◌≡◌, ℕ, ◌+◌, ◌*◌, ◌<◌, ◌≤◌, List, [], ◌∷◌, ◌++◌, map, length, All, Bool, IsTrue, not, ◌||◌, ◌==◌, nat_le, Option, Some, None, slice_get, slice_set, slice_index, if◌then◌else◌, refl}
+use Rattle.std.specs.Prelude.{◌≡◌, ℕ, ◌+◌, ◌*◌, ◌<◌, ◌≤◌, List, [], ◌∷◌, ◌++◌, map, length, min, All, Bool, true, false, IsTrue, not, ◌||◌, ◌==◌, nat_le, nat_lt, Option, Some, None, slice_get, slice_set, slice_index, if◌then◌else◌, refl}
 use Rattle.std.specs.List.{list_all, zip, flat_map}
 use Rattle.std.specs.Coded.{Coded, code_by, coded×, coded_list, coded_ℕ, coded_bool}
 use Rattle.items.specs.Map.{Items, alive}
@@ -55,18 +55,36 @@ started base batch ordered group = record { items = alive base.items (moment_of 
 abbrev pub IsFirst : List Running → ℕ → Type 0
 IsFirst running group = All (λ r. group ≤ r.group) running
 
--- the least group above this one in which a request runs
-pub record IsNext (running : List Running) (group next : ℕ) : Type 0 where
-  pub above : group < next
+-- whether the group comes after this one, or after none
+abbrev pub comes_after : Option ℕ → ℕ → Bool
+comes_after None group = true
+comes_after (Some last) group = nat_lt last group
+
+-- the first of the groups after this one in which a request runs
+pub record IsNext (running : List Running) (last : Option ℕ) (next : ℕ) : Type 0 where
   pub index : ℕ
   pub request : Running
   pub there : slice_get running index ≡ Some request
   pub its : request.group ≡ next
-  pub least : All (λ r. group < r.group → next ≤ r.group) running
+  pub above : comes_after last next ≡ true
+  pub least : All (λ r. comes_after last r.group ≡ true → next ≤ r.group) running
 
--- no request runs in a group above this one
-abbrev pub IsLast : List Running → ℕ → Type 0
-IsLast running group = All (λ r. r.group ≤ group) running
+-- the lesser of the least group that was found and this one, if this one comes after the last
+abbrev pub lesser_if : Bool → Option ℕ → ℕ → Option ℕ
+lesser_if false found group = found
+lesser_if true None group = Some group
+lesser_if true (Some least) group = Some (min least group)
+
+abbrev pub lesser : Option ℕ → Option ℕ → ℕ → Option ℕ
+lesser last found group = lesser_if (comes_after last group) found group
+
+abbrev pub least_of : Option ℕ → Option ℕ → List Running → Option ℕ
+least_of last found [] = found
+least_of last found (r ∷ rs) = least_of last (lesser last found r.group) rs
+
+-- no request runs in a group after this one
+abbrev pub IsLast : List Running → Option ℕ → Type 0
+IsLast running last = All (λ r. comes_after last r.group ≡ false) running
 
 -- The next step of the request at the place was made; the group's first place is that of place 0.
 pub record StepMade (first : Place) (w : Progress) (place : ℕ) (now : Progress) : Type 0 where
@@ -95,7 +113,7 @@ HasNoStep w place = All (λ r. r.place ≡ place → r.group ≡ w.group → nex
 pub data Worked (base : StateView) (batch : Batch) (ordered : Bool) : Progress → Type 0 where
   began : (group : ℕ) → IsFirst (all_begun base batch ordered) group → Worked base batch ordered (started base batch ordered group)
   stepped : (w now : Progress) (place : ℕ) → Worked base batch ordered w → StepMade (first_place base batch) w place now → Worked base batch ordered now
-  moved : (w : Progress) (group : ℕ) → Worked base batch ordered w → IsTrue (is_group_done w) → IsNext w.running w.group group → Worked base batch ordered (record { items = w.items; running = w.running; group = group })
+  moved : (w : Progress) (group : ℕ) → Worked base batch ordered w → IsTrue (is_group_done w) → IsNext w.running (Some w.group) group → Worked base batch ordered (record { items = w.items; running = w.running; group = group })
 
 -- what is answered to a request that made its steps
 abbrev pub replied : Runner → Running → Answered
@@ -136,6 +154,26 @@ pub record WorkView : Type 0 where
   pub batch : Batch
   pub ordered : Bool
   pub progress : Progress
+
+-- A tentative state: the state before it, the batch that led to it, and the replies to the requests that ran.
+pub record TentativeView : Type 0 where
+  pub before : StateView
+  pub batch : Batch
+  pub after : StateView
+  pub replies : List Answered
+
+-- what the work makes where nothing is left to do
+abbrev pub tentative_of : WorkView → TentativeView
+tentative_of w = record { before = w.base; batch = w.batch; after = made w.base w.batch w.progress; replies = replies_of w.base w.batch w.progress.running }
+
+-- tentative states are told apart by what they hold
+abbrev pub tentative_code : Coded StateView → Coded Batch → Coded Answered → Coded TentativeView
+tentative_code state batch answered =
+    code_by (((StateView × Batch) × StateView) × List Answered)
+      (coded× (coded× (coded× state batch) state) (coded_list answered))
+      (λ t. (((t.before, t.batch), t.after), t.replies))
+      (λ p. record { before = p.0.0.0; batch = p.0.0.1; after = p.0.1; replies = p.1 })
+      (λ _. refl)
 
 -- What all work keeps: it was begun over its base with the base's next batch, and went on by steps and ends of groups.
 pub record IsWork (w : WorkView) : Type 0 where

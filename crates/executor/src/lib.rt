@@ -8,6 +8,7 @@
 
 mod answered;
 mod begin;
+mod groups;
 mod kept;
 mod running;
 mod state;
