@@ -5,3 +5,5 @@ pub mod RoundLemmas
 pub mod WorkedLemmas
 pub mod KeptLemmas
 pub mod GroupLemmas
+pub mod DoneLemmas
+pub mod FitLemmas

@@ -164,7 +164,7 @@ module _ (base : StateView) (batch : Batch) (ordered : Bool) where
   each_of_list_all f (y ∷ xs) h zero x at = let e : y ≡ x = cc at in ap f (sym e) ∙ (and_parts (f y) (list_all f xs) h).0
   each_of_list_all f (y ∷ xs) h (suc i) x at = each_of_list_all f xs (and_parts (f y) (list_all f xs) h).1 i x at
 
-  group_is_done : (w : Progress) → IsTrue (is_group_done w) → Each (λ x. x.group ≡ w.group → length x.steps ≤ length x.answers) w.running
+  pub group_is_done : (w : Progress) → IsTrue (is_group_done w) → Each (λ x. x.group ≡ w.group → length x.steps ≤ length x.answers) w.running
   group_is_done w done i x at e = one (x.group == w.group) (test x.group w.group e) (each_of_list_all (λ r. not (r.group == w.group) || is_done r) w.running done i x at)
     where
       test : (m n : ℕ) → m ≡ n → (m == n) ≡ true

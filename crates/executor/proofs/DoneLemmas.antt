@@ -1,0 +1,80 @@
+-- Where all groups are done, each request has the answers that its reply is made of, and the sessions have a text.
+use Rattle.std.proofs.Common.{◌≡◌, ◌≢◌, ℕ, zero, suc, ◌+◌, ◌<◌, ◌≤◌, ◌^◌, Bool, true, false, List, [], ◌∷◌, ◌++◌, map, length, get_or, Some, None, Option, refl, sym, ap, ◌∙◌, arith, subst, ◌⊎◌, inl, inr, append_assoc}
+use Rattle.std.specs.Prelude.{slice_get, All, IsTrue, if◌then◌else◌, flat_map}
+use Rattle.std.specs.List.{zip}
+use Rattle.std.specs.Ordering.{nat_cmp}
+use Rattle.std.specs.FinMap.{FinMap, entries, entries-insert, insert, len-entries, len-insert, contains_key, put}
+use Rattle.std.proofs.lemmas.List.Concat.{flat_map-cons}
+use Rattle.std.proofs.lemmas.Bool.{ltb-false}
+use Rattle.std.proofs.lemmas.Bool.Decides.{nat_tests}
+use Rattle.std.proofs.lemmas.List.{length_push}
+use Rattle.item_steps.specs.Steps.{steps}
+use Rattle.sessions.specs.declared.request.Request.{Request}
+use Rattle.sessions.specs.declared.sessions.Kept.{Kept}
+use Rattle.sessions.specs.Fresh.{Replies}
+use Rattle.batches.specs.declared.batch.Batch.{Batch}
+use Rattle.executor.specs.declared.answered.Answered.{Answered}
+use Rattle.executor.specs.Running.{Running}
+use Rattle.executor.specs.State.{StateView}
+use Rattle.executor.specs.Fresh.{Runner, runs, fresh_after}
+use Rattle.executor.specs.Round.{runners, kept_after}
+use Rattle.executor.specs.Work.{Progress, begun, all_begun, is_group_done, comes_after, IsLast, Worked, replied, replied_to, replies_of, replies_to}
+use Rattle.executor.proofs.PartialLemmas.{Each, each-of-all, all-of-each, forget, Partial}
+use Rattle.executor.proofs.RoundLemmas.{get_map, map_get, same_or_not}
+use Rattle.executor.proofs.WorkedLemmas.{worked-partial, group_is_done}
+
+get_middle : (earlier later : List Request) (q : Request) → slice_get (earlier ++ q ∷ later) (length earlier) ≡ Some q
+get_middle [] later q = refl
+get_middle (e ∷ earlier) later q = get_middle earlier later q
+
+-- a request that runs stands at its place in the batch
+pub fresh_at : (s : Replies) (earlier later : List Request) (i : ℕ) (r : Runner) → slice_get (fresh_after s earlier later) i ≡ Some r → slice_get (earlier ++ later) r.0 ≡ Some r.1
+fresh_at s earlier [] i r at = absurd (cc at)
+fresh_at s earlier (q ∷ later) i r at = by (λ i at. subst (λ (all : List Request). slice_get all r.0 ≡ Some r.1) (append_assoc earlier (q ∷ []) later) (fresh_at s (earlier ++ q ∷ []) later i r at)) (runs s earlier q) i at
+  where
+    by : ((i : ℕ) → slice_get (fresh_after s (earlier ++ q ∷ []) later) i ≡ Some r → slice_get (earlier ++ q ∷ later) r.0 ≡ Some r.1)
+        → (b : Bool) (i : ℕ) → slice_get ((if b then (length earlier, q) ∷ [] else []) ++ fresh_after s (earlier ++ q ∷ []) later) i ≡ Some r → slice_get (earlier ++ q ∷ later) r.0 ≡ Some r.1
+    by others true zero at =
+        let e : ◌≡◌ {A = Runner} (length earlier, q) r = cc at in
+        subst (λ (o : Runner). slice_get (earlier ++ q ∷ later) o.0 ≡ Some o.1) e (get_middle earlier later q)
+    by others true (suc i) at = others i at
+    by others false i at = others i at
+
+module _ (base : StateView) (batch : Batch) (ordered : Bool) where
+  -- the replies by place are those of the requests that run
+  replies_by_place : (rs : List Runner) (running : List Running) → map forget running ≡ map (begun batch ordered) rs → Each (λ r. slice_get batch.requests r.0 ≡ Some r.1) rs
+      → replies_to batch.requests running ≡ map (λ both. replied both.0 both.1) (zip rs running)
+  replies_by_place [] [] e h = refl
+  replies_by_place [] (x ∷ running) e h = absurd (cc e)
+  replies_by_place (r ∷ rs) [] e h = absurd (cc e)
+  replies_by_place (r ∷ rs) (x ∷ running) e h =
+      let head : forget x ≡ begun batch ordered r = cc e in
+      let tail : map forget running ≡ map (begun batch ordered) rs = cc e in
+      let place : x.place ≡ r.0 = ap (λ (y : Running). y.place) head in
+      let found : slice_get batch.requests x.place ≡ Some r.1 = ap (slice_get batch.requests) place ∙ h 0 r refl in
+      let one : replied_to x (slice_get batch.requests x.place) ≡ replied r x ∷ [] = ap (replied_to x) found ∙ ap (λ k. replied (k, r.1) x ∷ []) place in
+      flat_map-cons (λ y. replied_to y (slice_get batch.requests y.place)) x running ∙ (λ i. one i ++ replies_by_place rs running tail (λ j. h (suc j)) i)
+
+  each_at : Each (λ (r : Runner). slice_get batch.requests r.0 ≡ Some r.1) (runners base batch)
+  each_at i r at = fresh_at base.sessions [] batch.requests i r at
+
+  module _ (w : Progress) (worked : Worked base batch ordered w) where
+    pub same_replies : replies_to batch.requests w.running ≡ replies_of base batch w.running
+    same_replies = replies_by_place (runners base batch) w.running (worked-partial base batch ordered w worked).same each_at
+
+    pub all_answered : IsTrue (is_group_done w) → IsLast w.running (Some w.group)
+        → All (λ r. (request : Request) → slice_get batch.requests r.place ≡ Some request → length r.answers ≡ length (steps request.command)) w.running
+    all_answered done last = all-of-each (λ r. (request : Request) → slice_get batch.requests r.place ≡ Some request → length r.answers ≡ length (steps request.command)) w.running (λ i x at request there.
+        let p = worked-partial base batch ordered w worked in
+        let r = get_map (begun batch ordered) (runners base batch) i (forget x) (ap (λ xs. slice_get xs i) (sym p.same) ∙ map_get forget w.running i x at) in
+        let place : x.place ≡ r.0.0 = ap (λ (y : Running). y.place) r.2 in
+        let own : ◌≡◌ {A = Option Request} (Some r.0.1) (Some request) = sym (each_at i r.0 r.1) ∙ ap (slice_get batch.requests) (sym place) ∙ there in
+        let is : r.0.1 ≡ request = cc own in
+        let same : x.steps ≡ steps request.command = ap (λ (y : Running). y.steps) r.2 ∙ ap (λ (q : Request). steps q.command) is in
+        let low = ltb-false w.group x.group (each-of-all (λ (y : Running). comes_after (Some w.group) y.group ≡ false) w.running last i x at) in
+        let long : length x.steps ≤ length x.answers = finished x.group w.group low (group_is_done base batch ordered w done i x at) (p.below i x at) (same_or_not x.group w.group) in
+        omega (arith, long, p.within i x at, ap length same))
+      where
+        finished : {P : Type 0} (m n : ℕ) → m ≤ n → (m ≡ n → P) → (m < n → P) → (m ≡ n) ⊎ (m ≢ n) → P
+        finished m n l a b (inl e) = a e
+        finished m n l a b (inr d) = b (grind (arith, nat_tests))
