@@ -175,6 +175,15 @@ tentative_code state batch answered =
       (λ p. record { before = p.0.0.0; batch = p.0.0.1; after = p.0.1; replies = p.1 })
       (λ _. refl)
 
+-- A committed state, and the replies of the batch that led to it.
+pub record CommittedView : Type 0 where
+  pub state : StateView
+  pub replies : List Answered
+
+abbrev pub committed_code : Coded StateView → Coded Answered → Coded CommittedView
+committed_code state answered =
+    code_by (StateView × List Answered) (coded× state (coded_list answered)) (λ c. (c.state, c.replies)) (λ p. record { state = p.0; replies = p.1 }) (λ _. refl)
+
 -- What all work keeps: it was begun over its base with the base's next batch, and went on by steps and ends of groups.
 pub record IsWork (w : WorkView) : Type 0 where
   pub worked : Worked w.base w.batch w.ordered w.progress

@@ -7,11 +7,15 @@
 #![tactic(auto)]
 
 mod answered;
+mod base;
 mod begin;
 mod groups;
 mod kept;
 mod running;
 mod state;
+mod tentative;
 
 pub use answered::Answered;
+pub use base::Base;
 pub use state::State;
+pub use tentative::{Committed, Tentative};

@@ -1,23 +1,28 @@
-ghost use Rattle.std.specs.Prelude.{◌≡◌, IfOk};
-ghost use Rattle.executor.specs.State.{first_state};
+ghost use Rattle.std.specs.Prelude.{◌≡◌, ◌<◌, ◌^◌, IfOk};
+ghost use Rattle.wire.specs.Batch.{batch_text, BatchFits};
+ghost use Rattle.wire.specs.Session.{SessionsFit};
+ghost use Rattle.token.specs.Digest.{digest};
+ghost use Rattle.executor.specs.State.{first_state, with_token};
+ghost use Rattle.executor.specs.Round.{moment_of};
 
+use batches::Batch;
 use pages::{Pages, Snapshot};
 use sessions::Sessions;
 use std::alloc::{AllocError, Global};
 use std::marker::Model;
-use token::Token;
+use token::{Token, batch_digest, sessions_digest};
 
 /// A state of the server: its items and sessions, and the token by which it is known.
 #[derive(Debug, Drop)]
 pub struct State {
-    pub number: u64,
-    pub previous: Token,
-    pub epoch: u64,
-    pub batch: [u8; 32],
-    pub moment: u32,
-    pub token: Token,
-    pub sessions: Sessions,
-    pub pages: Snapshot,
+    number: u64,
+    previous: Token,
+    epoch: u64,
+    batch: [u8; 32],
+    moment: u32,
+    token: Token,
+    sessions: Sessions,
+    pages: Snapshot,
 }
 
 impl Model for State {
@@ -60,6 +65,63 @@ impl State {
         })
     }
 
+    /// How many batches led to the state.
+    pub fn number(&self) -> u64
+        ensures number { result ≡ self.now.number }
+        ensures few { result < 2 ^ 58 }
+    {
+        self.number
+    }
+
+    /// The token of the state before it.
+    pub fn previous(&self) -> Token
+        ensures { result ≡ self.now.previous }
+    {
+        self.previous
+    }
+
+    /// The epoch of the batch that led to it.
+    pub fn epoch(&self) -> u64
+        ensures { result ≡ self.now.epoch }
+    {
+        self.epoch
+    }
+
+    /// The digest of the batch that led to it.
+    pub fn batch(&self) -> &[u8; 32]
+        ensures { result.now ≡ self.now.batch }
+    {
+        &self.batch
+    }
+
+    /// Its moment, in seconds.
+    pub fn moment(&self) -> u32
+        ensures { result ≡ self.now.moment }
+    {
+        self.moment
+    }
+
+    /// The token by which it is known.
+    pub fn token(&self) -> Token
+        ensures { result ≡ self.now.token }
+    {
+        self.token
+    }
+
+    /// What is kept of each client.
+    pub fn sessions(&self) -> &Sessions
+        ensures { result.now ≡ self.now.sessions }
+    {
+        &self.sessions
+    }
+
+    /// Its items.
+    pub fn pages(&self) -> &Snapshot
+        ensures { result.now ≡ self.now.items }
+    {
+        &self.pages
+    }
+
     /// The same state. Its pages are shared, and not copied.
     pub fn share(&self) -> Result<State, AllocError>
         ensures { IfOk result (λ state. state ≡ self.now) }
@@ -74,5 +136,43 @@ impl State {
             sessions: self.sessions.clone()?,
             pages: self.pages.share()?,
         })
+    }
+
+    /// The state that a batch makes of this one, with its token.
+    pub fn followed_by(&self, batch: &Batch, sessions: Sessions, pages: Snapshot) -> State
+        requires batch { BatchFits batch.now }
+        requires sessions { SessionsFit sessions }
+        ensures { result ≡ with_token (record {
+          number = batch.now.n;
+          previous = self.now.token;
+          epoch = batch.now.epoch;
+          batch = digest (batch_text batch.now);
+          moment = moment_of self.now batch.now;
+          token = self.now.token;
+          sessions = sessions;
+          items = pages;
+        }) }
+    {
+        let moment = batch.moment.max(self.moment);
+        let digest = batch_digest(batch);
+        let token = Token::new(
+            &self.token,
+            batch.n,
+            batch.epoch,
+            moment,
+            &digest,
+            &pages.root(),
+            &sessions_digest(&sessions),
+        );
+        State {
+            number: batch.n,
+            previous: self.token,
+            epoch: batch.epoch,
+            batch: digest,
+            moment,
+            token,
+            sessions,
+            pages,
+        }
     }
 }
