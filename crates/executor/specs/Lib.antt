@@ -3,3 +3,4 @@ pub mod Fresh
 pub mod Round
 pub mod Running
 pub mod Work
+pub mod Ends

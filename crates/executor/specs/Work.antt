@@ -1,5 +1,5 @@
 -- A batch that is being executed.
-use Rattle.std.specs.Prelude.{◌≡◌, ℕ, ◌+◌, ◌*◌, ◌<◌, ◌≤◌, List, [], ◌∷◌, ◌++◌, map, length, min, All, Bool, true, false, IsTrue, not, ◌||◌, ◌==◌, nat_le, nat_lt, Option, Some, None, slice_get, slice_set, slice_index, if◌then◌else◌, refl}
+use Rattle.std.specs.Prelude.{◌≡◌, ℕ, ◌+◌, ◌*◌, ◌<◌, ◌≤◌, List, [], ◌∷◌, ◌++◌, map, length, min, All, Bool, true, false, IsTrue, not, ◌||◌, ◌&&◌, ◌==◌, nat_le, nat_lt, Option, Some, None, slice_get, slice_set, slice_index, if◌then◌else◌, refl}
 use Rattle.std.specs.List.{list_all, zip, flat_map}
 use Rattle.std.specs.Coded.{Coded, code_by, coded×, coded_list, coded_ℕ, coded_bool}
 use Rattle.items.specs.Map.{Items, alive}
@@ -104,6 +104,10 @@ pub record StepDone (r : Running) (m : Items) (place : Place) (now : Running) (a
   pub next : next_step r ≡ Some step
   pub items : after ≡ (effect m step place).0
   pub noted : now ≡ record r { answers = r.answers ++ (effect m step place).1 ∷ [] }
+
+-- whether the request is the one at the place, in the group, and has a step left
+abbrev pub is_ready : ℕ → ℕ → Running → Bool
+is_ready group place r = (r.place == place) && ((r.group == group) && not (is_done r))
 
 -- the group that runs has no step at the place
 abbrev pub HasNoStep : Progress → ℕ → Type 0

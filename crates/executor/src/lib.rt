@@ -14,8 +14,10 @@ mod kept;
 mod running;
 mod state;
 mod tentative;
+mod work;
 
 pub use answered::Answered;
 pub use base::Base;
 pub use state::State;
 pub use tentative::{Committed, Tentative};
+pub use work::{Ended, Work};

@@ -4,7 +4,7 @@ ghost use Rattle.std.specs.Prelude.{◌≡◌, ◌≤◌, ◌<◌, ◌++◌, ◌
 ghost use Rattle.std.specs.List.{list_any};
 ghost use Rattle.mixer.specs.Groups.{numbers_of};
 ghost use Rattle.executor.specs.Fresh.{runs};
-ghost use Rattle.executor.specs.Work.{is_done, StepDone};
+ghost use Rattle.executor.specs.Work.{is_done, is_ready, StepDone};
 
 use item_steps::{Answer, Place, Steps, apply};
 use mixer::group_numbers;
@@ -67,6 +67,13 @@ impl Running {
         ensures { result ≡ is_done self.now }
     {
         self.steps.as_slice().len() <= self.answers.len()
+    }
+
+    /// Whether the request is the one at the place, in the group, and has a step left.
+    pub fn is_ready(&self, group: usize, place: u32) -> bool
+        ensures { result ≡ is_ready group place self.now }
+    {
+        self.place == place && self.group == group && !self.is_done()
     }
 
     /// Makes the next step on the pages, and notes its answer. Where memory is wanting nothing changes.
