@@ -111,7 +111,7 @@ is_ready group place r = (r.place == place) && ((r.group == group) && not (is_do
 
 -- the group that runs has no step at the place
 abbrev pub HasNoStep : Progress → ℕ → Type 0
-HasNoStep w place = All (λ r. r.place ≡ place → r.group ≡ w.group → next_step r ≡ None) w.running
+HasNoStep w place = list_all (λ r. not (is_ready w.group place r)) w.running ≡ true
 
 -- What comes of a batch that was begun over its base, by steps and by ends of groups.
 pub data Worked (base : StateView) (batch : Batch) (ordered : Bool) : Progress → Type 0 where

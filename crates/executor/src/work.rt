@@ -2,6 +2,7 @@ ghost use Rattle.std.specs.Prelude.{◌≡◌, ◌≤◌, ◌<◌, ◌+◌, ◌*
 ghost use Rattle.std.specs.List.{list_all};
 ghost use Rattle.std.specs.Bool.{OnTrue, OnFalse};
 ghost use Rattle.wire.specs.Batch.{BatchFits};
+ghost use Rattle.item_steps.specs.Schedule.{stamped};
 ghost use Rattle.executor.specs.Round.{first_place, moment_of};
 ghost use Rattle.executor.specs.Work.{StepMade, HasNoStep, tentative_of, is_group_done as group_done, IsLast, is_ready};
 ghost use Rattle.executor.specs.Ends.{Begins, Goes, DoneIsRound};
@@ -73,4 +74,36 @@ fn ready_at(running: &[Running], group: usize, place: u32) -> Option<usize>
         }
     }
     None
+}
+
+/// Where the request at the place runs. The stamps of a batch's requests begin at 64 times its number.
+fn place_of(base: &Base, batch: &Batch, place: u32) -> Place
+    requires number { batch.now.n < 2 ^ 58 }
+    requires place { place < 64 }
+    ensures { result ≡ stamped (first_place base.now.state batch.now) place }
+{
+    Place {
+        moment: batch.moment.max(base.state.moment()),
+        stamp: 64 * batch.n + u64::from(place),
+    }
+}
+
+impl Work {
+    /// Makes the next step of the request at the place, if it is in the group that runs and has one
+    /// left; else nothing changes, and the answer is false. Where memory is wanting nothing changes.
+    pub fn step(&mut self, alloc: Global, place: u32) -> Result<bool, AllocError>
+        ensures made { IfOk result (λ done. done ≡ true
+            → StepMade (first_place self.old.base self.old.batch) self.old.progress place self.new.progress) }
+        ensures others { self.new ≡ record self.old { progress = self.new.progress } }
+        ensures none { IfOk result (λ done. done ≡ false
+            → HasNoStep self.old.progress place × (self.new ≡ self.old)) }
+        ensures err { OnErr result (self.new ≡ self.old) }
+    {
+        let Some(i) = ready_at(&self.running, self.group, place) else {
+            return Ok(false);
+        };
+        let at = place_of(&self.base, &self.batch, place);
+        self.running[i].step(alloc, &mut self.pages, at)?;
+        Ok(true)
+    }
 }
