@@ -10,7 +10,7 @@ use Rattle.std.proofs.lemmas.Bool.Decides.{nat_tests}
 use Rattle.std.proofs.lemmas.List.{length_push}
 use Rattle.std.proofs.lemmas.Bool.{and_parts}
 use Rattle.std.proofs.lemmas.Option.{slice_get_within}
-use Rattle.items.specs.Map.{Items}
+use Rattle.items.specs.Map.{Items, alive}
 use Rattle.item_steps.specs.Schedule.{stamped}
 use Rattle.item_steps.specs.declared.step.Place.{Place}
 use Rattle.item_steps.specs.Steps.{steps}
@@ -20,13 +20,18 @@ use Rattle.sessions.specs.Fresh.{Replies}
 use Rattle.batches.specs.declared.batch.Batch.{Batch}
 use Rattle.executor.specs.declared.answered.Answered.{Answered}
 use Rattle.executor.specs.Running.{Running}
-use Rattle.executor.specs.State.{StateView}
+use Rattle.token.specs.Digest.{digest}
+use Rattle.executor.specs.State.{StateView, with_token}
 use Rattle.executor.specs.Fresh.{Runner, runs, fresh_after}
-use Rattle.executor.specs.Round.{runners, kept_after}
-use Rattle.executor.specs.Work.{Progress, begun, all_begun, is_group_done, comes_after, IsLast, Worked, replied, replied_to, replies_of, replies_to, is_done, is_ready, StepDone, StepMade}
+use Rattle.executor.specs.Round.{runners, kept_after, answered, moment_of, Round}
+use Rattle.executor.specs.Work.{Progress, begun, all_begun, is_group_done, comes_after, IsFirst, IsNext, IsLast, Worked, began, made, replied, replied_to, replies_of, replies_to, is_done, is_ready, StepDone, StepMade}
 use Rattle.executor.proofs.PartialLemmas.{Each, each-of-all, all-of-each, forget, Partial}
 use Rattle.executor.proofs.RoundLemmas.{get_map, map_get, same_or_not}
-use Rattle.executor.proofs.WorkedLemmas.{worked-partial, group_is_done}
+use Rattle.wire.specs.Batch.{BatchFits, batch_text}
+use Rattle.wire.specs.Command.{RequestFits}
+use Rattle.wire.specs.Session.{SessionFits, SessionsFit}
+use Rattle.executor.proofs.WorkedLemmas.{worked-partial, group_is_done, done_is_round}
+use Rattle.executor.proofs.FitLemmas.{AnswersFit, kept_fit}
 
 get_middle : (earlier later : List Request) (q : Request) → slice_get (earlier ++ q ∷ later) (length earlier) ≡ Some q
 get_middle [] later q = refl
@@ -141,3 +146,59 @@ found_ready running lent i group place same there ready = by (slice_get lent i) 
     by : (o : Option Running) → slice_get lent i ≡ o → IfSome o (λ r. is_ready group place r ≡ true) → (r : Running) × (slice_get running i ≡ Some r) × (is_ready group place r ≡ true) × (i < length running)
     by None e h = absurd (let past : length lent ≤ i = slice_get_none lent i e in omega (arith, past, there))
     by (Some r) e h = (r, ap (λ xs. slice_get xs i) (sym same) ∙ e, h, subst (λ (xs : List Running). i < length xs) same there)
+
+-- the sessions that keep the replies have a text
+pub sessions_fit_after : (base : StateView) (batch : Batch) (ordered : Bool) (w : Progress) → Worked base batch ordered w → IsTrue (is_group_done w) → IsLast w.running (Some w.group) → BatchFits batch → SessionsFit base.sessions
+    → (s : Replies) → s ≡ kept_after base.sessions (replies_to batch.requests w.running) → length (entries s) ≤ 65536 → SessionsFit s
+sessions_fit_after base batch ordered w worked done last fits sessions s same few =
+    let round = done_is_round base batch ordered w worked done last in
+    let one : Each AnswersFit (replies_of base batch w.running) = λ i a at.
+        (let r = get_map (answered round.answers) (runners base batch) i a (ap (λ xs. slice_get xs i) (sym round.replied) ∙ at) in
+        let fit = each-of-all RequestFits batch.requests fits.each r.0.0 r.0.1 (each_at base batch ordered i r.0 r.1) in
+        subst AnswersFit (sym r.2) (record { client = fit.client; number = fit.number })) in
+    let all : Each AnswersFit (replies_to batch.requests w.running) = subst (λ (rs : List Answered). Each AnswersFit rs) (sym (same_replies base batch ordered w worked)) one in
+    let each = kept_fit base.sessions (replies_to batch.requests w.running) (each-of-all SessionFits (entries base.sessions) sessions.each) all in
+    record {
+      count = omega (arith, few);
+      each = all-of-each SessionFits (entries s) (subst (λ (t : Replies). Each SessionFits (entries t)) (sym same) each);
+    }
+
+-- a group that comes first
+pub first_is : (running : List Running) (group : ℕ) → IsNext running None group → IsFirst running group
+first_is running group next k d l = next.least k d l refl
+
+-- where no request runs in any group, none runs
+pub none_run : (running : List Running) → IsLast running None → running ≡ []
+none_run [] last = refl
+none_run (x ∷ running) last = absurd (let e : true ≡ false = last 0 x (omega arith) in cc e)
+
+-- work in which no request runs is done
+pub none_done : (running : List Running) (items : Items) → running ≡ [] → is_group_done (record { items = items; running = running; group = 0 }) ≡ true
+none_done running items e = ap (λ xs. is_group_done (record { items = items; running = xs; group = 0 })) e
+
+pub none_first : (running : List Running) → running ≡ [] → IsFirst running 0
+none_first running e k d l = absurd (omega (arith, l, ap length e))
+
+pub none_last : (running : List Running) → running ≡ [] → IsLast running (Some 0)
+none_last running e k d l = absurd (omega (arith, l, ap length e))
+
+-- what drops what is due and begins all requests is work
+pub started_work : (base : StateView) (batch : Batch) (ordered : Bool) (group : ℕ) (items : Items) (running : List Running) → items ≡ alive base.items (moment_of base batch) → running ≡ all_begun base batch ordered → IsFirst running group
+    → Worked base batch ordered (record { items = items; running = running; group = group })
+started_work base batch ordered group items running same all first =
+    subst (λ (w : Progress). Worked base batch ordered w) (λ i. record { items = sym same i; running = sym all i; group = group })
+      (began group (subst (λ (rs : List Running). IsFirst rs group) all first))
+
+-- what is completed is a round
+pub completed : (base : StateView) (batch : Batch) (ordered : Bool) (w : Progress) → Worked base batch ordered w → IsTrue (is_group_done w) → IsLast w.running (Some w.group)
+    → (after : StateView) (replies : List Answered) → after ≡ made base batch w → replies ≡ replies_of base batch w.running → Round base batch ordered after replies
+completed base batch ordered w worked done last after replies e f =
+    subst (λ (s : StateView). Round base batch ordered s replies) (sym e) (subst (λ (rs : List Answered). Round base batch ordered (made base batch w) rs) (sym f) (done_is_round base batch ordered w worked done last))
+
+-- the state with its token, of sessions and items that are the work's
+pub made_of : (base : StateView) (batch : Batch) (sessions kept : Replies) (pages items : Items) → sessions ≡ kept → pages ≡ items
+    → ◌≡◌ {A = StateView}
+      (with_token (record { number = batch.n; previous = base.token; epoch = batch.epoch; batch = digest (batch_text batch); moment = moment_of base batch; token = base.token; sessions = sessions; items = pages }))
+      (with_token (record { number = batch.n; previous = base.token; epoch = batch.epoch; batch = digest (batch_text batch); moment = moment_of base batch; token = base.token; sessions = kept; items = items }))
+made_of base batch sessions kept pages items e f =
+    λ i. with_token (record { number = batch.n; previous = base.token; epoch = batch.epoch; batch = digest (batch_text batch); moment = moment_of base batch; token = base.token; sessions = e i; items = f i })

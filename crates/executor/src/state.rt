@@ -110,7 +110,8 @@ impl State {
 
     /// What is kept of each client.
     pub fn sessions(&self) -> &Sessions
-        ensures { result.now ≡ self.now.sessions }
+        ensures sessions { result.now ≡ self.now.sessions }
+        ensures fit { SessionsFit self.now.sessions }
     {
         &self.sessions
     }

@@ -3,8 +3,8 @@ ghost use Rattle.std.specs.List.{list_all};
 ghost use Rattle.std.specs.Bool.{OnTrue, OnFalse};
 ghost use Rattle.wire.specs.Batch.{BatchFits};
 ghost use Rattle.item_steps.specs.Schedule.{stamped};
-ghost use Rattle.executor.specs.Round.{first_place, moment_of};
-ghost use Rattle.executor.specs.Work.{StepMade, HasNoStep, tentative_of, is_group_done as group_done, IsLast, is_ready};
+ghost use Rattle.executor.specs.Round.{first_place, moment_of, Round};
+ghost use Rattle.executor.specs.Work.{StepMade, HasNoStep, tentative_of, is_group_done as group_done, IsFirst, IsNext, IsLast, is_ready, all_begun, started};
 ghost use Rattle.executor.specs.Ends.{Begins, Goes, DoneIsRound};
 
 use crate::base::Base;
@@ -89,6 +89,117 @@ fn place_of(base: &Base, batch: &Batch, place: u32) -> Place
 }
 
 impl Work {
+    /// The work before its first step, in this group: what is due is dropped.
+    fn started(
+        base: &Base,
+        batch: Batch,
+        ordered: bool,
+        running: Vec<Running>,
+        group: usize,
+    ) -> Result<Work, AllocError>
+        requires fits { BatchFits batch }
+        requires next { batch.n ≡ base.now.state.number + 1 }
+        requires running { running.items ≡ all_begun base.now.state batch ordered }
+        requires first { IsFirst running.items group }
+        ensures { IfOk result (λ work. work ≡ record {
+          base = base.now.state; batch = batch; ordered = ordered;
+          progress = started base.now.state batch ordered group;
+        }) }
+    {
+        let mut pages = base.state.pages().share()?.open();
+        pages.drop_due(batch.moment.max(base.state.moment()))?;
+        Ok(Work {
+            base: base.share()?,
+            batch,
+            ordered,
+            pages,
+            running,
+            group,
+        })
+    }
+
+    /// Begins a batch over its base: items that are due are dropped, and requests that do not run
+    /// and groups without requests are taken out. Where no request runs the batch is done at once.
+    /// An ordered batch runs each request by itself, in batch order.
+    ///
+    /// The batch has the number after the base's, and is within the limits of a record. The only
+    /// error is want of memory.
+    pub fn begin(
+        alloc: Global,
+        base: &Base,
+        batch: Batch,
+        ordered: bool,
+    ) -> Result<Ended, AllocError>
+        requires fits { BatchFits batch }
+        requires next { batch.n ≡ base.now.state.number + 1 }
+        ensures begins { IfOk result (λ ended. Begins base.now.state batch ordered ended) }
+        ensures round { IfOk result (λ ended. DoneIsRound base.now.state batch ordered ended) }
+    {
+        let running = begin_all(alloc, base.state.sessions(), &batch, ordered)?;
+        match next_group(&running, None) {
+            Some(group) => Ok(Ended::On(Work::started(
+                base, batch, ordered, running, group,
+            )?)),
+            None => {
+                let work = Work::started(base, batch, ordered, running, 0)?;
+                Ok(Ended::Done(work.complete(alloc)?))
+            }
+        }
+    }
+
+    /// Goes on to the next group where no step of this one is left, and ends after the last one.
+    /// Where a step is left the work stays as it was. The only error is want of memory.
+    pub fn finish(self, alloc: Global) -> Result<Ended, AllocError>
+        ensures goes { IfOk result (λ ended. Goes self ended) }
+        ensures round { IfOk result (λ ended. DoneIsRound self.base self.batch self.ordered ended) }
+    {
+        if !is_group_done(&self.running, self.group) {
+            return Ok(Ended::On(self));
+        }
+        match next_group(&self.running, Some(self.group)) {
+            Some(group) => Ok(Ended::On(self.moved_to(group))),
+            None => Ok(Ended::Done(self.complete(alloc)?)),
+        }
+    }
+
+    fn moved_to(mut self, group: usize) -> Work
+        requires done { IsTrue (group_done self.progress) }
+        requires next { IsNext self.progress.running (Some self.progress.group) group }
+        ensures { result ≡ record self { progress = record {
+          items = self.progress.items; running = self.progress.running; group = group;
+        } } }
+    {
+        self.group = group;
+        self
+    }
+
+    /// What the work made.
+    fn complete(self, alloc: Global) -> Result<Tentative, AllocError>
+        requires done { IsTrue (group_done self.progress) }
+        requires last { IsLast self.progress.running (Some self.progress.group) }
+        ensures tentative { IfOk result (λ tentative. tentative ≡ tentative_of self) }
+        ensures round { IfOk result (λ tentative. Round self.base self.batch self.ordered tentative.after tentative.replies) }
+    {
+        let Work {
+            base,
+            batch,
+            ordered: _,
+            pages,
+            running,
+            group: _,
+        } = self;
+        let mut sessions = base.state.sessions().clone()?;
+        let replies = answer_all(alloc, batch.requests.as_slice(), &running, &mut sessions)?;
+        are_few(sessions.entries());
+        let after = base.state.followed_by(&batch, sessions, pages.seal());
+        Ok(Tentative {
+            before: base,
+            batch,
+            after,
+            replies,
+        })
+    }
+
     /// Makes the next step of the request at the place, if it is in the group that runs and has one
     /// left; else nothing changes, and the answer is false. Where memory is wanting nothing changes.
     pub fn step(&mut self, alloc: Global, place: u32) -> Result<bool, AllocError>

@@ -6,8 +6,8 @@ use Rattle.executor.proofs.base.Base.cut.Goals as goal
 
 pub returns-clause-batch : goal.returns-clause-batch
 returns-clause-batch c =
-    subst (λ (s : Replies). IfOk c.cut.result (λ batch. batch ≡ batch_of c.args.epoch (c.args.self.now.state.number + 1) c.args.moment (taken MOST_REQUESTS s c.args.gather.now))) c.sessions.ensures
+    subst (λ (s : Replies). IfOk c.cut.result (λ batch. batch ≡ batch_of c.args.epoch (c.args.self.now.state.number + 1) c.args.moment (taken MOST_REQUESTS s c.args.gather.now))) c.sessions.ensures.sessions
     (subst (λ (n : ℕ). IfOk c.cut.result (λ batch. batch ≡ batch_of c.args.epoch (n + 1) c.args.moment (taken MOST_REQUESTS c.sessions.result.now c.args.gather.now))) c.number-number.ensures.number c.cut.ensures.batch)
 
 pub returns-clause-left : goal.returns-clause-left
-returns-clause-left c = subst (λ (s : Replies). OnOk c.cut.result (c.cut.new.self ≡ left MOST_REQUESTS s c.args.gather.now)) c.sessions.ensures c.cut.ensures.left
+returns-clause-left c = subst (λ (s : Replies). OnOk c.cut.result (c.cut.new.self ≡ left MOST_REQUESTS s c.args.gather.now)) c.sessions.ensures.sessions c.cut.ensures.left

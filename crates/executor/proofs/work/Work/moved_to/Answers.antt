@@ -1,0 +1,14 @@
+use Rattle.std.proofs.Common.{sym, subst, Some}
+use Rattle.std.specs.Prelude.{IsTrue}
+use Rattle.executor.specs.Work.{WorkView, Worked, moved, is_group_done, IsNext}
+use Rattle.executor.proofs.work.Work.moved_to.Goals as goal
+
+pub invariant_of-self : goal.invariant_of-self
+invariant_of-self c =
+    let done = subst (λ (v : WorkView). IsTrue (is_group_done v.progress)) (sym c.self.view_is) c.requires.done in
+    let next = subst (λ (v : WorkView). IsNext v.progress.running (Some v.progress.group) c.args.group) (sym c.self.view_is) c.requires.next in
+    record {
+      worked = moved (record { items = c.self.inside.pages; running = c.self.inside.running.items; group = c.self.inside.group }) c.args.group c.self.invariant.worked done next;
+      fits = c.self.invariant.fits;
+      next = c.self.invariant.next;
+    }

@@ -1,0 +1,21 @@
+use Rattle.std.proofs.Common.{◌≡◌, ℕ, ◌+◌, max, rules, sym, ap, ◌∙◌, subst}
+use Rattle.items.specs.Map.{Items, alive}
+use Rattle.executor.specs.State.{StateView}
+use Rattle.executor.specs.Round.{moment_of}
+use Rattle.executor.specs.Work.{Progress, Worked}
+use Rattle.executor.proofs.DoneLemmas.{started_work}
+use Rattle.executor.proofs.work.Work.started.Goals as goal
+
+pub invariant_of-result : goal.invariant_of-result
+invariant_of-result c =
+    let base_is : c.in_ok-share-2.field-0.state ≡ c.args.base.now.state = ap (λ b. b.state) c.in_ok-share-2.ensures in
+    let items : c.open-pages.result ≡ c.args.base.now.state.items = c.open-pages.ensures ∙ (c.in_ok-share.ensures ∙ c.pages.ensures) in
+    let greater : c.max.result ≡ max c.args.batch.moment c.moment.result = search rules in
+    let moment : c.max.result ≡ moment_of c.args.base.now.state c.args.batch = greater ∙ ap (λ m. max c.args.batch.moment m) c.moment.ensures in
+    let now : c.drop_due.new.self ≡ alive c.args.base.now.state.items (moment_of c.args.base.now.state c.args.batch) = c.in_ok-drop_due.ensures.ok ∙ (λ i. alive (items i) (moment i)) in
+    record {
+      worked = subst (λ (b : StateView). Worked b c.args.batch c.args.ordered (record { items = c.drop_due.new.self; running = c.args.running.items; group = c.args.group })) (sym base_is)
+          (started_work c.args.base.now.state c.args.batch c.args.ordered c.args.group c.drop_due.new.self c.args.running.items now c.requires.running c.requires.first);
+      fits = c.requires.fits;
+      next = c.requires.next ∙ ap (λ (b : StateView). b.number + 1) (sym base_is);
+    }
