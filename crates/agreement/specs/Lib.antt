@@ -1,0 +1,4 @@
+pub mod Letters
+pub mod Machine
+pub mod ChosenList
+pub mod Laws
