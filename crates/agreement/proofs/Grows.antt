@@ -20,16 +20,16 @@ Begins ls all = (new : Letters) × (all ≡ ls ++ new)
 same : (ls : Letters) → Begins ls ls
 same ls = ([], sym (append-nil ls))
 
-settled_grows : (m : Machine) (v : ℕ) (s : State) (o : Outcome) (luck : Luck) → Begins m.letters (settled m v s o luck).letters
-settled_grows m v s o Done = (o.letters, refl)
-settled_grows m v s o StopsBefore = same m.letters
-settled_grows m v s o StopsAfter = same m.letters
+settled_grows : (m : Machine) (v : ℕ) (saved : State) (o : Outcome) (luck : Luck) → Begins m.letters (settled m v saved o luck).letters
+settled_grows m v saved o Done = (o.letters, refl)
+settled_grows m v saved o StopsBefore = same m.letters
+settled_grows m v saved o StopsAfter = same m.letters
 
 given_grows : (u : ℕ) (m : Machine) (v : ℕ) (x : Input) (luck : Luck) (o : Option Slot) → Begins m.letters (given u m v x luck o).letters
 given_grows u m v x luck None = same m.letters
 given_grows u m v x luck (Some New) = same m.letters
-given_grows u m v x luck (Some (Stopped s)) = same m.letters
-given_grows u m v x luck (Some (Up s)) = settled_grows m v s (step u v s x) luck
+given_grows u m v x luck (Some (Stopped saved)) = same m.letters
+given_grows u m v x luck (Some (Up s saved)) = settled_grows m v saved (step u v s x) luck
 
 reached_node_grows : (u : ℕ) (m : Machine) (l : Letter Ballot) (luck : Luck) (to : Node) → Begins m.letters (reached_node u m l luck to).letters
 reached_node_grows u m l luck (Client c) = same m.letters
@@ -43,8 +43,8 @@ delivered_grows u m luck (Some l) = reached_node_grows u m l luck l.to
 crashed_grows : (m : Machine) (v : ℕ) (o : Option Slot) → Begins m.letters (crashed m v o).letters
 crashed_grows m v None = same m.letters
 crashed_grows m v (Some New) = same m.letters
-crashed_grows m v (Some (Stopped s)) = same m.letters
-crashed_grows m v (Some (Up s)) = same m.letters
+crashed_grows m v (Some (Stopped saved)) = same m.letters
+crashed_grows m v (Some (Up s saved)) = same m.letters
 
 opened_new_grows : (u : ℕ) (m : Machine) (v : ℕ) (luck : Luck) → Begins m.letters (opened_new u m v luck).letters
 opened_new_grows u m v Done = same m.letters
@@ -54,8 +54,8 @@ opened_new_grows u m v StopsAfter = same m.letters
 opened_grows : (u : ℕ) (m : Machine) (v : ℕ) (luck : Luck) (o : Option Slot) → Begins m.letters (opened u m v luck o).letters
 opened_grows u m v luck None = same m.letters
 opened_grows u m v luck (Some New) = opened_new_grows u m v luck
-opened_grows u m v luck (Some (Stopped s)) = settled_grows m v s (restarted u v s) luck
-opened_grows u m v luck (Some (Up s)) = same m.letters
+opened_grows u m v luck (Some (Stopped saved)) = settled_grows m v saved (restarted u v saved) luck
+opened_grows u m v luck (Some (Up s saved)) = same m.letters
 
 sent_by_grows : (m : Machine) (l : Letter Ballot) (from : Node) → Begins m.letters (sent_by m l from).letters
 sent_by_grows m l (Client c) = (l ∷ [], refl)

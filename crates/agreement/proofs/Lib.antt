@@ -11,6 +11,7 @@ pub mod Tokens
 pub mod Choice
 pub mod Steps
 pub mod Received
+pub mod Unsaved
 pub mod Machine
 pub mod Grows
 pub mod ChosenList

@@ -16,26 +16,41 @@ use Rattle.verifier.specs.State.{State, Outcome, first_promises, first_state, do
 use Rattle.verifier.specs.Lines.{restarted}
 use Rattle.verifier.specs.Step.{step}
 use Rattle.agreement.specs.Letters.{Letters, Sent, here, there}
-use Rattle.agreement.specs.Machine.{Slot, New, Up, Stopped, Machine, Luck, Done, StopsBefore, StopsAfter, Event, Deliver, Suspect, Crash, Restart, Send, placed, settled, given, reached_node, delivered, crashed, opened_new, opened, sent_by, happens, run, first_machine, reached}
+use Rattle.agreement.specs.Machine.{Slot, New, Up, Stopped, Machine, Luck, Done, StopsBefore, StopsAfter, Event, Deliver, Suspect, Crash, Restart, Send, placed, saved_after, settled, given, reached_node, delivered, crashed, opened_new, opened, sent_by, happens, run, first_machine, reached}
 use Rattle.agreement.proofs.Places.{at_within}
 use Rattle.agreement.proofs.Each.{Each, Each-push}
 use Rattle.agreement.proofs.Letters.{LettersOk}
 use Rattle.agreement.proofs.Stand.{Heard, Stand, OnlyFrom, Stand-of_other, Stand-down}
 use Rattle.agreement.proofs.Says.{PlainOf, LettersOk-plain, Stand-plain}
 use Rattle.agreement.proofs.Steps.{StepOk, restarted_ok}
+use Rattle.agreement.proofs.Unsaved.{KeepsRecord, step_keeps_record, restarted_keeps_record}
 use Rattle.agreement.proofs.Received.{MayCome, step_ok}
 
--- the state of a verifier, or that in which it would begin
-abbrev pub state_of : ℕ → ℕ → Slot → State
-state_of u v New = first_state u v
-state_of u v (Up s) = s
-state_of u v (Stopped s) = s
+-- what holds of a verifier: its state stands by its letters, or the first one, and its record is of its state
+abbrev pub SlotOk : ℕ → Letters → ℕ → Slot → Type 0
+SlotOk u ls v New = Stand u ls v (first_state u v)
+SlotOk u ls v (Up s saved) = Stand u ls v s × (saved ≡ down s)
+SlotOk u ls v (Stopped saved) = Stand u ls v saved × (saved ≡ down saved)
 
 -- what holds of every reached machine
 pub record Good (u : ℕ) (m : Machine) : Type 0 where
   pub count : length m.verifiers ≡ members u
   pub letters : LettersOk u m.letters
-  pub stands : (v : ℕ) (slot : Slot) → slice_get m.verifiers v ≡ Some slot → Stand u m.letters v (state_of u v slot)
+  pub stands : (v : ℕ) (slot : Slot) → slice_get m.verifiers v ≡ Some slot → SlotOk u m.letters v slot
+
+SlotOk-of_other : (u : ℕ) (ls new : Letters) (v x : ℕ) (slot : Slot) → OnlyFrom v new → x ≢ v → SlotOk u ls x slot → SlotOk u (ls ++ new) x slot
+SlotOk-of_other u ls new v x New only apart st = Stand-of_other new v x only apart st
+SlotOk-of_other u ls new v x (Up s saved) only apart st = (Stand-of_other new v x only apart st.0, st.1)
+SlotOk-of_other u ls new v x (Stopped saved) only apart st = (Stand-of_other new v x only apart st.0, st.1)
+
+SlotOk-plain : (u : ℕ) (ls new : Letters) (v x : ℕ) (slot : Slot) → PlainOf u ls v new → SlotOk u ls x slot → SlotOk u (ls ++ new) x slot
+SlotOk-plain u ls new v x New plain st = Stand-plain new plain st
+SlotOk-plain u ls new v x (Up s saved) plain st = (Stand-plain new plain st.0, st.1)
+SlotOk-plain u ls new v x (Stopped saved) plain st = (Stand-plain new plain st.0, st.1)
+
+-- a verifier that stops with the record of a state
+SlotOk-stopped : (u : ℕ) (ls : Letters) (v : ℕ) (saved s : State) → saved ≡ down s → Stand u ls v (down s) → SlotOk u ls v (Stopped saved)
+SlotOk-stopped u ls v saved s is st = (subst (Stand u ls v) (sym is) st, is ∙ ap down (sym is))
 
 get_set : (xs : List Slot) (v : ℕ) (n : Slot) (i : ℕ) (s : Slot) → slice_get (slice_set xs v n) i ≡ Some s → ((i ≡ v) × (s ≡ n)) ⊎ ((i ≢ v) × (slice_get xs i ≡ Some s))
 get_set [] v n i s e = absurd (cc)
@@ -45,39 +60,43 @@ get_set (x ∷ xs) (suc v) n zero s e = inr ((λ h. omega arith), e)
 get_set (x ∷ xs) (suc v) n (suc i) s e = ⊎_elim (λ p. inl (ap suc p.0, p.1)) (λ p. inr ((λ h. p.0 (omega (arith, h))), p.1)) (get_set xs v n i s e)
 
 -- one verifier is changed, with more letters of its own
-changed : {u : ℕ} {m : Machine} (v : ℕ) (n : Slot) (new : Letters) → Good u m → OnlyFrom v new → LettersOk u (m.letters ++ new) → Stand u (m.letters ++ new) v (state_of u v n) → Good u (record { verifiers = slice_set m.verifiers v n; letters = m.letters ++ new })
+changed : {u : ℕ} {m : Machine} (v : ℕ) (n : Slot) (new : Letters) → Good u m → OnlyFrom v new → LettersOk u (m.letters ++ new) → SlotOk u (m.letters ++ new) v n → Good u (record { verifiers = slice_set m.verifiers v n; letters = m.letters ++ new })
 changed {u} {m} v n new good only ok st = record {
   count = length-set m.verifiers v n ∙ good.count;
   letters = ok;
   stands = λ i s e. ⊎_elim
-      (λ (p : (i ≡ v) × (s ≡ n)). subst (λ (y : ℕ × Slot). Stand u (m.letters ++ new) y.0 (state_of u y.0 y.1)) (λ j. (sym p.0 j, sym p.1 j)) st)
-      (λ (p : (i ≢ v) × (slice_get m.verifiers i ≡ Some s)). Stand-of_other new v i only p.0 (good.stands i s p.1))
+      (λ (p : (i ≡ v) × (s ≡ n)). subst (λ (y : ℕ × Slot). SlotOk u (m.letters ++ new) y.0 y.1) (λ j. (sym p.0 j, sym p.1 j)) st)
+      (λ (p : (i ≢ v) × (slice_get m.verifiers i ≡ Some s)). SlotOk-of_other u m.letters new v i s only p.0 (good.stands i s p.1))
       (get_set m.verifiers v n i s e);
 }
 
 -- one verifier is changed, with no letter
-placed_ok : {u : ℕ} {m : Machine} (v : ℕ) (n : Slot) → Good u m → Stand u m.letters v (state_of u v n) → Good u (placed m v n)
+placed_ok : {u : ℕ} {m : Machine} (v : ℕ) (n : Slot) → Good u m → SlotOk u m.letters v n → Good u (placed m v n)
 placed_ok {u} {m} v n good st = record {
   count = length-set m.verifiers v n ∙ good.count;
   letters = good.letters;
   stands = λ i s e. ⊎_elim
-      (λ (p : (i ≡ v) × (s ≡ n)). subst (λ (y : ℕ × Slot). Stand u m.letters y.0 (state_of u y.0 y.1)) (λ j. (sym p.0 j, sym p.1 j)) st)
+      (λ (p : (i ≡ v) × (s ≡ n)). subst (λ (y : ℕ × Slot). SlotOk u m.letters y.0 y.1) (λ j. (sym p.0 j, sym p.1 j)) st)
       (λ (p : (i ≢ v) × (slice_get m.verifiers i ≡ Some s)). good.stands i s p.1)
       (get_set m.verifiers v n i s e);
 }
 
-settled_ok : {u : ℕ} {m : Machine} (v : ℕ) (s : State) (o : Outcome) (luck : Luck) → Good u m → Stand u m.letters v s → StepOk u m.letters v o → Good u (settled m v s o luck)
-settled_ok v s o Done good st ok = changed v (Up o.state) o.letters good ok.only ok.letters ok.stand
-settled_ok v s o StopsBefore good st ok = placed_ok v (Stopped (down s)) good (Stand-down st)
-settled_ok v s o StopsAfter good st ok = placed_ok v (Stopped (down o.state)) good ok.saved
+-- the record after a step is of the state after it
+saved_after-is : (s saved : State) (o : Outcome) → saved ≡ down s → KeepsRecord s o → saved_after saved o ≡ down o.state
+saved_after-is s saved o is keeps = cond_both o.saves (down o.state) saved (λ z. z ≡ down o.state) (λ _. refl) (λ unsaved. is ∙ sym (keeps unsaved))
+
+settled_ok : {u : ℕ} {m : Machine} (v : ℕ) (s saved : State) (o : Outcome) (luck : Luck) → Good u m → Stand u m.letters v s → saved ≡ down s → KeepsRecord s o → StepOk u m.letters v o → Good u (settled m v saved o luck)
+settled_ok v s saved o Done good st is keeps ok = changed v (Up o.state (saved_after saved o)) o.letters good ok.only ok.letters (ok.stand, saved_after-is s saved o is keeps)
+settled_ok {u} {m} v s saved o StopsBefore good st is keeps ok = placed_ok v (Stopped saved) good (SlotOk-stopped u m.letters v saved s is (Stand-down st))
+settled_ok {u} {m} v s saved o StopsAfter good st is keeps ok = placed_ok v (Stopped (saved_after saved o)) good (SlotOk-stopped u m.letters v (saved_after saved o) o.state (saved_after-is s saved o is keeps) ok.saved)
 
 given_ok : {u : ℕ} {m : Machine} (v : ℕ) (x : Input) (luck : Luck) (o : Option Slot) → Good u m → MayCome m.letters x → slice_get m.verifiers v ≡ o → Good u (given u m v x luck o)
 given_ok v x luck None good may e = good
 given_ok v x luck (Some New) good may e = good
-given_ok v x luck (Some (Stopped s)) good may e = good
-given_ok {u} {m} v x luck (Some (Up s)) good may e =
-    let st = good.stands v (Up s) e in
-    settled_ok v s (step u v s x) luck good st (step_ok x good.letters st may)
+given_ok v x luck (Some (Stopped saved)) good may e = good
+given_ok {u} {m} v x luck (Some (Up s saved)) good may e =
+    let st = good.stands v (Up s saved) e in
+    settled_ok v s saved (step u v s x) luck good st.0 st.1 (step_keeps_record u v s x) (step_ok x good.letters st.0 may)
 
 was_sent : (ls : Letters) (k : ℕ) (l : Letter Ballot) → slice_get ls k ≡ Some l → Sent ls l.from l.body
 was_sent [] k l e = absurd (cc)
@@ -96,28 +115,30 @@ delivered_ok {u} {m} k luck (Some l) good e = reached_node_ok l luck l.to good (
 crashed_ok : {u : ℕ} {m : Machine} (v : ℕ) (o : Option Slot) → Good u m → slice_get m.verifiers v ≡ o → Good u (crashed m v o)
 crashed_ok v None good e = good
 crashed_ok v (Some New) good e = good
-crashed_ok v (Some (Stopped s)) good e = good
-crashed_ok v (Some (Up s)) good e = placed_ok v (Stopped (down s)) good (Stand-down (good.stands v (Up s) e))
+crashed_ok v (Some (Stopped saved)) good e = good
+crashed_ok {u} {m} v (Some (Up s saved)) good e =
+    let st = good.stands v (Up s saved) e in
+    placed_ok v (Stopped saved) good (SlotOk-stopped u m.letters v saved s st.1 (Stand-down st.0))
 
 opened_new_ok : {u : ℕ} {m : Machine} (v : ℕ) (luck : Luck) → Good u m → Stand u m.letters v (first_state u v) → Good u (opened_new u m v luck)
-opened_new_ok {u} v Done good st = placed_ok v (Up (first_state u v)) good st
+opened_new_ok {u} v Done good st = placed_ok v (Up (first_state u v) (down (first_state u v))) good (st, refl)
 opened_new_ok v StopsBefore good st = good
-opened_new_ok {u} v StopsAfter good st = placed_ok v (Stopped (down (first_state u v))) good (Stand-down st)
+opened_new_ok {u} {m} v StopsAfter good st = placed_ok v (Stopped (down (first_state u v))) good (SlotOk-stopped u m.letters v (down (first_state u v)) (first_state u v) refl (Stand-down st))
 
 opened_ok : {u : ℕ} {m : Machine} (v : ℕ) (luck : Luck) (o : Option Slot) → Good u m → slice_get m.verifiers v ≡ o → Good u (opened u m v luck o)
 opened_ok v luck None good e = good
 opened_ok v luck (Some New) good e = opened_new_ok v luck good (good.stands v New e)
-opened_ok {u} v luck (Some (Stopped s)) good e =
-    let st = good.stands v (Stopped s) e in
-    settled_ok v s (restarted u v s) luck good st (restarted_ok good.letters st)
-opened_ok v luck (Some (Up s)) good e = good
+opened_ok {u} v luck (Some (Stopped saved)) good e =
+    let st = good.stands v (Stopped saved) e in
+    settled_ok v saved saved (restarted u v saved) luck good st.0 st.1 (restarted_keeps_record u v saved) (restarted_ok good.letters st.0)
+opened_ok v luck (Some (Up s saved)) good e = good
 
 -- a letter of a node that is no verifier changes nothing of what holds
 outside_ok : {u : ℕ} {m : Machine} (l : Letter Ballot) → ((x : ℕ) → l.from ≡ Verifier x → ⊥) → Good u m → Good u (record m { letters = m.letters ++ l ∷ [] })
 outside_ok {u} {m} l apart good = record {
   count = good.count;
   letters = LettersOk-plain (l ∷ []) {v = 0} none good.letters;
-  stands = λ v slot e. Stand-plain (l ∷ []) {v = 0} none (good.stands v slot e);
+  stands = λ v slot e. SlotOk-plain u m.letters (l ∷ []) 0 v slot none (good.stands v slot e);
 }
   where
     none : PlainOf u m.letters 0 (l ∷ [])
@@ -182,7 +203,7 @@ first_good u = record {
     backed = λ v w p d h. elim h [ ];
     decided = λ v p d h. elim h [ ];
   };
-  stands = λ v s e. subst (λ z. Stand u [] v (state_of u v z)) (sym (all_new (members u) v s e)) (first_stand u v);
+  stands = λ v s e. subst (SlotOk u [] v) (sym (all_new (members u) v s e)) (first_stand u v);
 }
 
 -- what holds of every machine that is reached

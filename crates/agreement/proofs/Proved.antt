@@ -1,5 +1,5 @@
 -- The laws, from what holds of every reached machine.
-use Rattle.std.proofs.Common.{◌≡◌, ℕ, zero, suc, ◌+◌, ◌-◌, ◌<◌, ◌≤◌, true, not, List, [], ◌∷◌, ◌++◌, length, take, fold, Option, Some, None, IsTrue, slice_get, inl, inr, refl, sym, ◌∙◌, ap, subst, ⊎_elim, arith, length-take-le}
+use Rattle.std.proofs.Common.{◌≡◌, ℕ, zero, suc, ◌+◌, ◌-◌, ◌<◌, ◌≤◌, true, not, List, [], ◌∷◌, ◌++◌, length, take, fold, Option, Some, None, IsTrue, slice_get, inl, inr, refl, sym, ◌∙◌, ap, subst, ⊎_elim, arith, length-take-le, option_and_then}
 use Rattle.std.proofs.lemmas.Bool.{and_from, eq-eqb, cases_order}
 use Rattle.decrees.specs.declared.decree.Decree.{Decree}
 use Rattle.decrees.specs.declared.decree.Decree.TheVariants.{Commit, Rollback}
@@ -12,12 +12,12 @@ use Rattle.verifier.specs.State.{State, next_place}
 use Rattle.agreement.specs.Letters.{Letters, Sent, Chosen, RestsOn, Backed}
 use Rattle.agreement.specs.Machine.{Slot, New, Up, Stopped, Machine, first_machine, reached, letters_of}
 use Rattle.agreement.specs.ChosenList.{last_place, chosen}
-use Rattle.agreement.specs.Laws.{AtMostOne, AllBacked, Holds, Kept, recorded, AllKept, ListIsChosen, ListIsBacked, ListGrows}
+use Rattle.agreement.specs.Laws.{AtMostOne, AllBacked, recorded, record_of, Holds, Kept, AllKept, ListIsChosen, IsBackedList, ListIsBacked, ListGrows}
 use Rattle.agreement.proofs.Count.{Quorum-outside}
 use Rattle.agreement.proofs.Places.{at_index, index_at, at_within, within_at, take_at, same_decrees, front_decrees}
 use Rattle.agreement.proofs.Letters.{AtLeast, LettersOk, chosen_stays, chosen_proposed, agreed}
-use Rattle.agreement.proofs.Stand.{Stand, Chosen-more}
-use Rattle.agreement.proofs.Machine.{state_of, reached_ok}
+use Rattle.agreement.proofs.Stand.{Stand, Stand-down, Chosen-more}
+use Rattle.agreement.proofs.Machine.{SlotOk, reached_ok}
 use Rattle.agreement.proofs.Grows.{run_grows, run-append}
 use Rattle.agreement.proofs.ChosenList.{chosen_below_last, chosen_from-says, chosen_from-some}
 
@@ -62,32 +62,28 @@ pub all_kept : AllKept
 all_kept u events lost p d few c =
     let q = Quorum-outside lost few c.1 in
     let at = slot_at (reached u events).verifiers q.0 (let count = (reached_ok u events).count in omega (arith, q.1, count)) in
-    by at.0 q.0 at.1 q.1 q.2 q.3
+    by at.0 q.0 at.1 ((reached_ok u events).stands q.0 at.0 at.1) q.1 q.2 q.3
   where
-    kept : (v : ℕ) (slot : Slot) (s : State) → slice_get (reached u events).verifiers v ≡ Some slot → recorded slot ≡ Some s → state_of u v slot ≡ s → v < members u → IsTrue (not (lost v)) → Sent (letters_of u events) (Verifier v) (Accepted c.0 p d) → Kept u (reached u events).verifiers lost p d
-    kept v slot s at has is below not_lost sent =
+    kept : (v : ℕ) (saved : State) → record_of (reached u events).verifiers v ≡ Some saved → Stand u (letters_of u events) v saved → v < members u → IsTrue (not (lost v)) → Sent (letters_of u events) (Verifier v) (Accepted c.0 p d) → Kept u (reached u events).verifiers lost p d
+    kept v saved has st below not_lost sent =
         let ok = (reached_ok u events).letters in
         record {
           verifier = v;
-          slot = slot;
-          state = s;
+          saved = saved;
           is_member = below;
           not_lost = not_lost;
-          is_there = at;
-          record_has = has;
-          holds = holds s p d ok (subst (Stand u (letters_of u events) v) is ((reached_ok u events).stands v slot at)) (chosen_above ok p d c) c sent;
+          has_record = has;
+          holds = holds saved p d ok st (chosen_above ok p d c) c sent;
         }
-
-    by : (slot : Slot) (v : ℕ) → slice_get (reached u events).verifiers v ≡ Some slot → v < members u → IsTrue (not (lost v)) → Sent (letters_of u events) (Verifier v) (Accepted c.0 p d) → Kept u (reached u events).verifiers lost p d
-    by New v at below not_lost sent =
-        let good = reached_ok u events in
-        let low = chosen_above good.letters p d c in
+    by : (slot : Slot) (v : ℕ) → slice_get (reached u events).verifiers v ≡ Some slot → SlotOk u (letters_of u events) v slot → v < members u → IsTrue (not (lost v)) → Sent (letters_of u events) (Verifier v) (Accepted c.0 p d) → Kept u (reached u events).verifiers lost p d
+    by New v at st below not_lost sent =
+        let low = chosen_above (reached_ok u events).letters p d c in
         absurd (⊎_elim
-        (λ (z : p ≤ 0). omega (arith, low, z))
-        (λ (z : (p ≡ 0 + 1) × ⊥). z.1)
-        ((good.stands v New at).owns.kept c.0 p d sent).1)
-    by (Up s) v at below not_lost sent = kept v (Up s) s at refl refl below not_lost sent
-    by (Stopped s) v at below not_lost sent = kept v (Stopped s) s at refl refl below not_lost sent
+            (λ (z : p ≤ 0). omega (arith, low, z))
+            (λ (z : (p ≡ 0 + 1) × ⊥). z.1)
+            (st.owns.kept c.0 p d sent).1)
+    by (Up s saved) v at st below not_lost sent = kept v saved (ap (option_and_then recorded) at) (subst (Stand u (letters_of u events) v) (sym st.1) (Stand-down st.0)) below not_lost sent
+    by (Stopped saved) v at st below not_lost sent = kept v saved (ap (option_and_then recorded) at) st.0 below not_lost sent
 
 -- at each place of the list the decree is chosen
 list_chosen : (u : ℕ) (ls : Letters) (p : ℕ) (d : Decree) → decree_at (chosen u ls) p ≡ Some d → Chosen u ls p d

@@ -17,6 +17,7 @@ use Rattle.verifier.specs.declared.tally.Tallied.{Tallied}
 use Rattle.verifier.specs.Tally.{decree_eq, is_tallied, tally_with, has_accepted, is_accepted}
 use Rattle.verifier.specs.State.{State, Outcome, next_place, letter, to_verifiers, to_others, to_executors, decided_from, stays, says, in_view, down, is_led_by, led_from, next_led}
 use Rattle.verifier.specs.Lines.{proposal, proposing, try_to_propose, vote_key, on_token, suspected, on_change, asked_if_behind, is_awaited, on_promise, told, on_accept, is_fitting, with_tally, on_accepted, on_decided, on_ask, restarted}
+use Rattle.verifier.proofs.ViewLemmas.{led_from-above}
 use Rattle.agreement.specs.Letters.{Letters, Sent, Chosen}
 use Rattle.agreement.proofs.Places.{at_part}
 use Rattle.agreement.proofs.Each.{Each, Each-push, found_any}
@@ -254,12 +255,6 @@ on_token_ok {u} {ls} {v} {s} executor epoch n previous t ok st sent =
     cond_both (is_open (standing s.log) (vote_key executor epoch n previous)) _ (stays s) (StepOk u ls v)
     (λ _. try_ok false [] ok (Stand-with_vote executor epoch n previous t sent st) (PlainOf-none u ls v))
     (λ _. stays_ok ok st)
-
-led_from-above : (u id view n : ℕ) → view ≤ led_from u id view n
-led_from-above u id view zero = omega arith
-led_from-above u id view (suc n) = cond_both (is_led_by u id view) view (led_from u id (view + 1) n) (λ x. view ≤ x)
-    (λ _. omega arith)
-    (λ _. let later = led_from-above u id (view + 1) n in omega (arith, later))
 
 pub suspected_ok : {u : ℕ} {ls : Letters} {v : ℕ} {s : State} → LettersOk u ls → Stand u ls v s → StepOk u ls v (suspected u v s)
 suspected_ok {u} {ls} {v} {s} ok st =

@@ -12,6 +12,7 @@ use Rattle.decrees.specs.declared.votes.VoteKey.{VoteKey}
 use Rattle.decrees.specs.declared.votes.Verdict.TheVariants.{Commit, Hopeless, Wait}
 use Rattle.decrees.specs.Count.{members}
 use Rattle.decrees.specs.Votes.{Vote, key_eq, token_eq, next_key, heard, has_token, support, backed, backed_below, is_hopeless, verdict}
+use Rattle.decrees.proofs.VerdictLemmas.{commit_is_backed}
 use Rattle.agreement.specs.Letters.{Letters, Sent, HasTokens}
 use Rattle.agreement.proofs.Each.{Each, found_key}
 use Rattle.agreement.proofs.Stand.{Cast}
@@ -33,38 +34,13 @@ said {ls} s votes t e cast (Some other) is has =
     let f = found_key (key_eq (next_key s e)) (Cast ls) votes other is cast in
     subst (λ (z : VoteKey × token.Token). Cast ls z) (λ i. (sym (key_eq-true (next_key s e) f.0 f.1) i, token_eq-true other t has i)) f.2
 
--- the quorum that a verdict to commit has
-module _ (u : ℕ) (s : Standing) (votes : List Vote) where
-  chosen : (b : Bool) (x t : token.Token) → nat_lt u (support u s votes x) ≡ b → (if b then Some x else None) ≡ Some t → IsTrue (nat_lt u (support u s votes t))
-  chosen true x t e h = subst (λ (z : token.Token). IsTrue (nat_lt u (support u s votes z))) (cc h) e
-  chosen false x t e h = absurd (cc h)
-
-  one_more : (before now : Option token.Token) (t : token.Token) → (before ≡ Some t → IsTrue (nat_lt u (support u s votes t)))
-      → (if is_some before then before else if nat_lt u (option_map_or (support u s votes) now 0) then now else None) ≡ Some t → IsTrue (nat_lt u (support u s votes t))
-  one_more (Some x) now t ih h = ih h
-  one_more None (Some x) t ih h = chosen (nat_lt u (support u s votes x)) x t refl h
-  one_more None None t ih h = none (nat_lt u 0) h
-    where
-      none : (b : Bool) → ◌≡◌ {A = Option token.Token} (if b then None else None) (Some t) → IsTrue (nat_lt u (support u s votes t))
-      none true e = absurd (cc e)
-      none false e = absurd (cc e)
-
-  backed_support : (n : ℕ) (t : token.Token) → backed_below u s votes n ≡ Some t → IsTrue (nat_lt u (support u s votes t))
-  backed_support zero t h = absurd (cc h)
-  backed_support (suc n) t h = one_more (backed_below u s votes n) (heard s votes n) t (backed_support n t) h
-
-  by_backed : (o : Option token.Token) (b : Bool) (t : token.Token) → option_map_or (λ x. Commit x) o (if b then Hopeless else Wait) ≡ Commit t → o ≡ Some t
-  by_backed (Some x) b t h = cc h
-  by_backed None true t h = absurd (cc h)
-  by_backed None false t h = absurd (cc h)
-
 -- a token that the verdict commits was sent by enough executors
 pub verdict_has_tokens : {u : ℕ} {ls : Letters} (s : Standing) (votes : List Vote) (t : token.Token) → Each (Cast ls) votes → verdict u s votes ≡ Commit t → HasTokens u ls s (s.n + 1) t
 verdict_has_tokens {u} {ls} s votes t cast e = record {
   next = refl;
   sent = record {
     member = has_token s votes t;
-    enough = backed_support u s votes (members u) t (by_backed u s votes (backed u s votes) (is_hopeless u s votes) t e);
+    enough = commit_is_backed u s votes t e;
     each = λ x below has. said s votes t x cast (heard s votes x) refl has;
   };
 }

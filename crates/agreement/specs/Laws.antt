@@ -1,5 +1,5 @@
 -- What holds of every reached machine, whatever its events.
-use Rattle.std.specs.Prelude.{◌≡◌, ℕ, ◌-◌, ◌<◌, ◌≤◌, ◌⊎◌, ◌↔◌, Bool, IsTrue, not, List, ◌++◌, take, Option, None, Some, slice_get}
+use Rattle.std.specs.Prelude.{◌≡◌, ℕ, ◌-◌, ◌<◌, ◌≤◌, ◌⊎◌, ◌↔◌, Bool, IsTrue, not, List, ◌++◌, take, Option, None, Some, slice_get, option_and_then}
 use Rattle.decrees.specs.declared.decree.Decree.{Decree}
 use Rattle.decrees.specs.Count.{count_below, members}
 use Rattle.decrees.specs.Standing.{decree_at, is_log}
@@ -16,11 +16,14 @@ AtMostOne = (u : ℕ) (events : List Event) (place : ℕ) (a b : Decree) → Cho
 abbrev pub AllBacked : Type 0
 AllBacked = (u : ℕ) (events : List Event) (place : ℕ) (d : Decree) → Chosen u (letters_of u events) place d → Backed u (letters_of u events) place d
 
--- the state that the verifier's record has, if it has one
 abbrev pub recorded : Slot → Option State
 recorded New = None
-recorded (Up s) = Some s
-recorded (Stopped s) = Some s
+recorded (Up s saved) = Some saved
+recorded (Stopped saved) = Some saved
+
+-- the record of a verifier, if it has one
+abbrev pub record_of : List Slot → ℕ → Option State
+record_of slots v = option_and_then recorded (slice_get slots v)
 
 -- the decree stands at its place in the log, or is the accepted one of the place after it
 abbrev pub Holds : State → ℕ → Decree → Type 0
@@ -29,13 +32,11 @@ Holds s place d = (decree_at s.log place ≡ Some d) ⊎ ((place ≡ next_place 
 -- a verifier that is not lost, with a record that holds the decree
 pub record Kept (u : ℕ) (verifiers : List Slot) (lost : ℕ → Bool) (place : ℕ) (d : Decree) : Type 0 where
   pub verifier : ℕ
-  pub slot : Slot
-  pub state : State
+  pub saved : State
   pub is_member : verifier < members u
   pub not_lost : IsTrue (not (lost verifier))
-  pub is_there : slice_get verifiers verifier ≡ Some slot
-  pub record_has : recorded slot ≡ Some state
-  pub holds : Holds state place d
+  pub has_record : record_of verifiers verifier ≡ Some saved
+  pub holds : Holds saved place d
 
 -- where at most u verifiers are lost, another keeps each chosen decree
 abbrev pub AllKept : Type 0

@@ -1,5 +1,5 @@
 -- Verifiers 0 to 2u and all letters ever sent, through any list of events.
-use Rattle.std.specs.Prelude.{ℕ, List, [], ◌∷◌, ◌++◌, Option, None, Some, replicate, slice_get, slice_set}
+use Rattle.std.specs.Prelude.{ℕ, List, [], ◌∷◌, ◌++◌, Option, None, Some, replicate, slice_get, slice_set, if◌then◌else◌}
 use Rattle.decrees.specs.declared.ballot.Ballot.{Ballot}
 use Rattle.decrees.specs.declared.node.Letter.{Letter}
 use Rattle.decrees.specs.declared.node.Node.{Node}
@@ -12,11 +12,11 @@ use Rattle.verifier.specs.Lines.{restarted}
 use Rattle.verifier.specs.Step.{step}
 use Rattle.agreement.specs.Letters.{Letters}
 
--- A verifier. Its record is of the view, the log and the accepted decree of its state; a new one has saved nothing.
+-- A verifier: one that was not opened yet and has no record; one that is up, with its state and its record; or one that has stopped, with its record. A record is of the view, the log and the accepted decree of a state, and so it is what `down` leaves of that.
 pub data Slot : Type 0 where
   New : Slot
-  Up : State → Slot
-  Stopped : State → Slot
+  Up : (state saved : State) → Slot
+  Stopped : (saved : State) → Slot
 
 pub record Machine : Type 0 where
   pub verifiers : List Slot
@@ -43,18 +43,22 @@ pub data Event : Type 0 where
 abbrev pub placed : Machine → ℕ → Slot → Machine
 placed m v slot = record m { verifiers = slice_set m.verifiers v slot }
 
--- the verifier was in this state, and a step leaves it and its letters
+-- the record after a step that is done
+abbrev pub saved_after : State → Outcome → State
+saved_after saved o = if o.saves then down o.state else saved
+
+-- a step of a verifier with this record
 abbrev pub settled : Machine → ℕ → State → Outcome → Luck → Machine
-settled m v s o Done = record { verifiers = slice_set m.verifiers v (Up o.state); letters = m.letters ++ o.letters }
-settled m v s o StopsBefore = placed m v (Stopped (down s))
-settled m v s o StopsAfter = placed m v (Stopped (down o.state))
+settled m v saved o Done = record { verifiers = slice_set m.verifiers v (Up o.state (saved_after saved o)); letters = m.letters ++ o.letters }
+settled m v saved o StopsBefore = placed m v (Stopped saved)
+settled m v saved o StopsAfter = placed m v (Stopped (saved_after saved o))
 
 -- a verifier that is up is given the input
 abbrev pub given : ℕ → Machine → ℕ → Input → Luck → Option Slot → Machine
 given u m v x luck None = m
 given u m v x luck (Some New) = m
-given u m v x luck (Some (Stopped s)) = m
-given u m v x luck (Some (Up s)) = settled m v s (step u v s x) luck
+given u m v x luck (Some (Stopped saved)) = m
+given u m v x luck (Some (Up s saved)) = settled m v saved (step u v s x) luck
 
 -- letters to others than verifiers change no verifier
 abbrev pub reached_node : ℕ → Machine → Letter Ballot → Luck → Node → Machine
@@ -69,12 +73,12 @@ delivered u m luck (Some l) = reached_node u m l luck l.to
 abbrev pub crashed : Machine → ℕ → Option Slot → Machine
 crashed m v None = m
 crashed m v (Some New) = m
-crashed m v (Some (Stopped s)) = m
-crashed m v (Some (Up s)) = placed m v (Stopped (down s))
+crashed m v (Some (Stopped saved)) = m
+crashed m v (Some (Up s saved)) = placed m v (Stopped saved)
 
 -- a verifier that has saved nothing saves its first state and is up, or stops
 abbrev pub opened_new : ℕ → Machine → ℕ → Luck → Machine
-opened_new u m v Done = placed m v (Up (first_state u v))
+opened_new u m v Done = placed m v (Up (first_state u v) (down (first_state u v)))
 opened_new u m v StopsBefore = m
 opened_new u m v StopsAfter = placed m v (Stopped (down (first_state u v)))
 
@@ -82,8 +86,8 @@ opened_new u m v StopsAfter = placed m v (Stopped (down (first_state u v)))
 abbrev pub opened : ℕ → Machine → ℕ → Luck → Option Slot → Machine
 opened u m v luck None = m
 opened u m v luck (Some New) = opened_new u m v luck
-opened u m v luck (Some (Stopped s)) = settled m v s (restarted u v s) luck
-opened u m v luck (Some (Up s)) = m
+opened u m v luck (Some (Stopped saved)) = settled m v saved (restarted u v saved) luck
+opened u m v luck (Some (Up s saved)) = m
 
 abbrev pub sent_by : Machine → Letter Ballot → Node → Machine
 sent_by m l (Client c) = record m { letters = m.letters ++ l ∷ [] }

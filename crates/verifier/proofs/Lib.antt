@@ -1,4 +1,4 @@
 mod LetterLemmas
-mod ViewLemmas
+pub mod ViewLemmas
 mod RowLemmas
 mod Rows
