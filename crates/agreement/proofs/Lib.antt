@@ -16,3 +16,4 @@ pub mod Machine
 pub mod Grows
 pub mod ChosenList
 pub mod Proved
+mod Rows
