@@ -1,18 +1,17 @@
 -- The laws, from what holds of every reached machine.
-use Rattle.std.proofs.Common.{◌≡◌, ℕ, zero, suc, ◌+◌, ◌-◌, ◌<◌, ◌≤◌, true, not, List, [], ◌∷◌, ◌++◌, length, take, fold, Option, Some, None, IsTrue, slice_get, inl, inr, refl, sym, ◌∙◌, ap, subst, ⊎_elim, arith, length-take-le, option_and_then}
+use Rattle.std.proofs.Common.{◌≡◌, ℕ, zero, suc, ◌+◌, ◌-◌, ◌<◌, ◌≤◌, true, List, [], ◌∷◌, ◌++◌, length, take, fold, Option, Some, None, slice_get, inl, inr, refl, sym, ◌∙◌, ap, subst, ⊎_elim, arith, length-take-le, option_and_then}
 use Rattle.std.proofs.lemmas.Bool.{and_from, eq-eqb, cases_order}
 use Rattle.decrees.specs.declared.decree.Decree.{Decree}
 use Rattle.decrees.specs.declared.decree.Decree.TheVariants.{Commit, Rollback}
 use Rattle.decrees.specs.declared.ballot.Ballot.TheVariants.{Accept, Accepted}
 use Rattle.decrees.specs.declared.node.Node.TheVariants.{Verifier}
 use Rattle.decrees.specs.declared.standing.Standing.{Standing}
-use Rattle.decrees.specs.Count.{members}
 use Rattle.decrees.specs.Standing.{first_standing, standing_after, standing, is_next, is_log_from, is_log, decree_at}
 use Rattle.verifier.specs.State.{State, next_place}
 use Rattle.agreement.specs.Letters.{Letters, Sent, Chosen, RestsOn, Backed}
-use Rattle.agreement.specs.Machine.{Slot, New, Up, Stopped, Machine, first_machine, reached, letters_of}
+use Rattle.agreement.specs.Machine.{Slot, New, Up, Stopped, Machine, Event, first_machine, reached, letters_of}
 use Rattle.agreement.specs.ChosenList.{last_place, chosen}
-use Rattle.agreement.specs.Laws.{AtMostOne, AllBacked, recorded, record_of, Holds, Kept, AllKept, ListIsChosen, IsBackedList, ListIsBacked, ListGrows}
+use Rattle.agreement.specs.Laws.{AtMostOne, AllBacked, recorded, record_of, Holds, AllKept, ToldIsChosen, ListIsChosen, ListIsBacked, LogsAreChosen, ListGrows}
 use Rattle.agreement.proofs.Count.{Quorum-outside}
 use Rattle.agreement.proofs.Places.{at_index, index_at, at_within, within_at, take_at, same_decrees, front_decrees}
 use Rattle.agreement.proofs.Letters.{AtLeast, LettersOk, chosen_stays, chosen_proposed, agreed}
@@ -58,32 +57,54 @@ slot_at (x ∷ xs) (suc v) h = slot_at xs v (omega arith)
 pub chosen_above : {u : ℕ} {ls : Letters} → LettersOk u ls → (p : ℕ) (d : Decree) → Chosen u ls p d → 1 ≤ p
 chosen_above ok p d c = let all = (chosen_backed ok p d c).all in omega (arith, all)
 
+-- a record stands by the verifier's letters
+record_stands : (u : ℕ) (events : List Event) (v : ℕ) (saved : State) → record_of (reached u events).verifiers v ≡ Some saved → Stand u (letters_of u events) v saved
+record_stands u events v saved has = by (slice_get (reached u events).verifiers v) refl has
+  where
+    by : (o : Option Slot) → slice_get (reached u events).verifiers v ≡ o → option_and_then recorded o ≡ Some saved → Stand u (letters_of u events) v saved
+    by None at e = absurd (cc)
+    by (Some New) at e = absurd (cc)
+    by (Some (Up s x)) at e =
+        let st = (reached_ok u events).stands v (Up s x) at in
+        let same : x ≡ saved = cc in
+        subst (Stand u (letters_of u events) v) (sym st.1 ∙ same) (Stand-down st.0)
+    by (Some (Stopped x)) at e =
+        let same : x ≡ saved = cc in
+        subst (Stand u (letters_of u events) v) same ((reached_ok u events).stands v (Stopped x) at).0
+
+-- who has said that it accepted a decree has a record
+has_record : (u : ℕ) (ls : Letters) (v : ℕ) (slot : Slot) (w p : ℕ) (d : Decree) → SlotOk u ls v slot → 1 ≤ p → Sent ls (Verifier v) (Accepted w p d) → (saved : State) × (recorded slot ≡ Some saved)
+has_record u ls v New w p d st low sent = absurd (⊎_elim
+    (λ (z : p ≤ 0). omega (arith, low, z))
+    (λ (z : (p ≡ 0 + 1) × ⊥). z.1)
+    (st.owns.kept w p d sent).1)
+has_record u ls v (Up s saved) w p d st low sent = (saved, refl)
+has_record u ls v (Stopped saved) w p d st low sent = (saved, refl)
+
+record_at : (slots : List Slot) (v : ℕ) (slot : Slot) (saved : State) → slice_get slots v ≡ Some slot → recorded slot ≡ Some saved → record_of slots v ≡ Some saved
+record_at slots v slot saved at has = ap (option_and_then recorded) at ∙ has
+
 pub all_kept : AllKept
 all_kept u events lost p d few c =
+    let good = reached_ok u events in
+    let ok = good.letters in
+    let count = good.count in
+    let low = chosen_above ok p d c in
     let q = Quorum-outside lost few c.1 in
-    let at = slot_at (reached u events).verifiers q.0 (let count = (reached_ok u events).count in omega (arith, q.1, count)) in
-    by at.0 q.0 at.1 ((reached_ok u events).stands q.0 at.0 at.1) q.1 q.2 q.3
-  where
-    kept : (v : ℕ) (saved : State) → record_of (reached u events).verifiers v ≡ Some saved → Stand u (letters_of u events) v saved → v < members u → IsTrue (not (lost v)) → Sent (letters_of u events) (Verifier v) (Accepted c.0 p d) → Kept u (reached u events).verifiers lost p d
-    kept v saved has st below not_lost sent =
-        let ok = (reached_ok u events).letters in
-        record {
-          verifier = v;
-          saved = saved;
-          is_member = below;
-          not_lost = not_lost;
-          has_record = has;
-          holds = holds saved p d ok st (chosen_above ok p d c) c sent;
-        }
-    by : (slot : Slot) (v : ℕ) → slice_get (reached u events).verifiers v ≡ Some slot → SlotOk u (letters_of u events) v slot → v < members u → IsTrue (not (lost v)) → Sent (letters_of u events) (Verifier v) (Accepted c.0 p d) → Kept u (reached u events).verifiers lost p d
-    by New v at st below not_lost sent =
-        let low = chosen_above (reached_ok u events).letters p d c in
-        absurd (⊎_elim
-            (λ (z : p ≤ 0). omega (arith, low, z))
-            (λ (z : (p ≡ 0 + 1) × ⊥). z.1)
-            (st.owns.kept c.0 p d sent).1)
-    by (Up s saved) v at st below not_lost sent = kept v saved (ap (option_and_then recorded) at) (subst (Stand u (letters_of u events) v) (sym st.1) (Stand-down st.0)) below not_lost sent
-    by (Stopped saved) v at st below not_lost sent = kept v saved (ap (option_and_then recorded) at) st.0 below not_lost sent
+    let at = slot_at (reached u events).verifiers q.0 (omega (arith, q.1, count)) in
+    let has = has_record u (letters_of u events) q.0 at.0 c.0 p d (good.stands q.0 at.0 at.1) low q.3 in
+    let recorded_at : record_of (reached u events).verifiers q.0 ≡ Some has.0 = record_at (reached u events).verifiers q.0 at.0 has.0 at.1 has.1 in
+    record {
+      verifier = q.0;
+      saved = has.0;
+      is_member = q.1;
+      not_lost = q.2;
+      has_record = recorded_at;
+      holds = holds has.0 p d ok (record_stands u events q.0 has.0 recorded_at) low c q.3;
+    }
+
+pub told_is_chosen : ToldIsChosen
+told_is_chosen u events v p d sent = (reached_ok u events).letters.decided v p d sent
 
 -- at each place of the list the decree is chosen
 list_chosen : (u : ℕ) (ls : Letters) (p : ℕ) (d : Decree) → decree_at (chosen u ls) p ≡ Some d → Chosen u ls p d
@@ -147,6 +168,11 @@ list_is_backed u events = record {
   rests = λ p d at. list_rests (reached_ok u events).letters p d at;
   log = list_is_log (reached_ok u events).letters;
 }
+
+pub logs_are_chosen : LogsAreChosen
+logs_are_chosen u events v saved has =
+    front_decrees saved.log (chosen u (letters_of u events))
+    (λ p d at. chosen_listed (reached_ok u events).letters p d ((record_stands u events v saved has).grounds.log_chosen p d at))
 
 -- what is chosen by these letters is chosen by more
 chosen_front : {u : ℕ} (ls all new : Letters) → all ≡ ls ++ new → LettersOk u all → (more : List Decree) × (chosen u all ≡ chosen u ls ++ more)

@@ -3,11 +3,10 @@ use Rattle.std.proofs.Common.{◌≡◌, ℕ, List, [], ◌∷◌, ◌++◌, Opt
 use Rattle.token.specs.declared.Token as token
 use Rattle.decrees.specs.declared.decree.Decree.{Decree}
 use Rattle.decrees.specs.declared.decree.Decree.TheVariants.{Commit, Rollback}
-use Rattle.decrees.specs.declared.ballot.Ballot.{Ballot}
-use Rattle.decrees.specs.declared.ballot.Ballot.TheVariants.{Token, Accept, Accepted, Decided, Ask, Change, Promise}
+use Rattle.decrees.specs.declared.ballot.Ballot.TheVariants.{Token, Accept}
 use Rattle.decrees.specs.declared.node.Node.TheVariants.{Executor, Verifier}
-use Rattle.verifier.specs.State.{State, letter}
-use Rattle.agreement.specs.Machine.{Slot, New, Up, Stopped, Event, Deliver, Suspect, Crash, Restart, Send, Done, StopsBefore, StopsAfter, run, first_machine, reached, letters_of}
+use Rattle.verifier.specs.State.{letter}
+use Rattle.agreement.specs.Machine.{Slot, New, Up, Stopped, Event, Deliver, Suspect, Crash, Restart, Send, Done, StopsAfter, reached, letters_of}
 use Rattle.agreement.specs.ChosenList.{chosen}
 
 abbrev zeros : token.Token
@@ -119,3 +118,30 @@ nothing_said = refl
 -- A leader that is opened again in its view leads it no more: a token makes it propose nothing.
 leads_no_more : length (letters_of 1 (proposed ++ Crash 0 ∷ opens 0 ∷ comes 0 ∷ comes 1 ∷ [])) ≡ 7
 leads_no_more = refl
+
+-- Plays that would have two decrees chosen at one place, or one on too few tokens, if a line of the verifier were left out.
+
+-- A decree that verifiers 0 and 1 have accepted is proposed again by a leader whose quorum has verifier 1 (who forgets what was accepted would propose a Rollback).
+abbrev must_repeat : List Event
+must_repeat = proposed ++ comes 2 ∷ comes 3 ∷ Suspect 1 Done ∷ comes 12 ∷ comes 13 ∷ comes 14 ∷ comes 15 ∷ comes 17 ∷ comes 18 ∷ []
+
+repeats : chosen 1 (letters_of 1 must_repeat) ≡ commit ∷ []
+repeats = refl
+
+-- The same, where verifier 1 was opened again between (if a record had not what was accepted, a Rollback would be chosen too).
+abbrev must_remember : List Event
+must_remember = proposed ++ comes 2 ∷ comes 3 ∷ Crash 1 ∷ opens 1 ∷ Suspect 1 Done ∷ comes 14 ∷ comes 15 ∷ comes 16 ∷ comes 17 ∷ []
+
+remembers : slice_get (letters_of 1 must_remember) 20 ≡ Some (letter 1 (Verifier 2) (Accept 1 1 commit))
+remembers = refl
+
+-- Verifier 1 leads view 1 and proposes a Rollback, which it and verifier 2 accept; the tokens that come then make it propose nothing more for this place.
+abbrev only_once : List Event
+only_once = opens 0 ∷ opens 1 ∷ opens 2 ∷ Suspect 1 Done ∷ comes 1 ∷ comes 2 ∷ comes 3 ∷ comes 4 ∷ comes 6 ∷ comes 7 ∷ says_token 0 1 sevens ∷ says_token 1 1 sevens ∷ []
+
+proposes_once : letters_of 1 (only_once ++ comes 14 ∷ comes 15 ∷ []) ≡ letters_of 1 only_once
+proposes_once = refl
+
+-- One token is too few, and so are two of one executor.
+one_token : length (letters_of 1 (opens 0 ∷ says_token 0 0 sevens ∷ says_token 0 0 sevens ∷ comes 0 ∷ comes 1 ∷ [])) ≡ 2
+one_token = refl

@@ -1,5 +1,5 @@
 -- Each line of a verifier keeps what holds, also where the verifier stops in it.
-use Rattle.std.proofs.Common.{◌≡◌, ℕ, zero, suc, ◌+◌, ◌-◌, ◌*◌, ◌%◌, ◌≤◌, Bool, true, false, not, ◌&&◌, ◌||◌, List, [], ◌∷◌, ◌++◌, length, take, drop, Option, Some, None, slice_get, inr, refl, sym, subst, ⊎_elim, arith, append_assoc, is_some}
+use Rattle.std.proofs.Common.{◌≡◌, ℕ, suc, ◌+◌, ◌-◌, ◌*◌, ◌%◌, ◌≤◌, Bool, true, false, not, ◌&&◌, ◌||◌, List, [], ◌∷◌, ◌++◌, length, take, drop, Option, Some, None, slice_get, inr, refl, sym, subst, ⊎_elim, arith, append_assoc, is_some}
 use Rattle.std.specs.Prelude.{◌==◌, nat_lt}
 use Rattle.std.proofs.lemmas.Bool.{and_parts, eqb-true, eqb-false, ltb-false, cond_both, false≢true}
 use Rattle.token.specs.declared.Token as token
@@ -15,7 +15,7 @@ use Rattle.decrees.specs.Votes.{token_eq, is_open, vote_of, votes_with}
 use Rattle.view_change.specs.Promises.{has_promised, promises_with}
 use Rattle.verifier.specs.declared.tally.Tallied.{Tallied}
 use Rattle.verifier.specs.Tally.{decree_eq, is_tallied, tally_with, has_accepted, is_accepted}
-use Rattle.verifier.specs.State.{State, Outcome, next_place, letter, to_verifiers, to_others, to_executors, decided_from, stays, says, in_view, down, is_led_by, led_from, next_led}
+use Rattle.verifier.specs.State.{State, Outcome, next_place, letter, to_verifiers, to_others, to_executors, decided_from, stays, says, in_view, down, next_led}
 use Rattle.verifier.specs.Lines.{proposal, proposing, try_to_propose, vote_key, on_token, suspected, on_change, asked_if_behind, is_awaited, on_promise, told, on_accept, is_fitting, with_tally, on_accepted, on_decided, on_ask, restarted}
 use Rattle.verifier.proofs.ViewLemmas.{led_from-above}
 use Rattle.agreement.specs.Letters.{Letters, Sent, Chosen}

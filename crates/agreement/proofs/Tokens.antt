@@ -1,5 +1,5 @@
 -- A verdict to commit a token has the letters of enough executors.
-use Rattle.std.proofs.Common.{◌≡◌, ℕ, zero, suc, ◌+◌, Bool, true, false, ◌&&◌, List, Option, Some, None, IsTrue, is_some, refl, sym, subst, bytes_eq, nat_lt, if◌then◌else◌}
+use Rattle.std.proofs.Common.{◌≡◌, ℕ, ◌+◌, true, false, ◌&&◌, List, Option, Some, None, refl, sym, subst, bytes_eq}
 use Rattle.std.specs.Prelude.{◌==◌}
 use Rattle.std.specs.Option.{option_map_or}
 use Rattle.std.proofs.lemmas.Bool.{and_parts, eqb-true, false≢true}
@@ -9,9 +9,8 @@ use Rattle.decrees.specs.declared.ballot.Ballot.TheVariants as ballot
 use Rattle.decrees.specs.declared.node.Node.TheVariants.{Executor}
 use Rattle.decrees.specs.declared.standing.Standing.{Standing}
 use Rattle.decrees.specs.declared.votes.VoteKey.{VoteKey}
-use Rattle.decrees.specs.declared.votes.Verdict.TheVariants.{Commit, Hopeless, Wait}
-use Rattle.decrees.specs.Count.{members}
-use Rattle.decrees.specs.Votes.{Vote, key_eq, token_eq, next_key, heard, has_token, support, backed, backed_below, is_hopeless, verdict}
+use Rattle.decrees.specs.declared.votes.Verdict.TheVariants.{Commit}
+use Rattle.decrees.specs.Votes.{Vote, key_eq, token_eq, next_key, heard, has_token, verdict}
 use Rattle.decrees.proofs.VerdictLemmas.{commit_is_backed}
 use Rattle.agreement.specs.Letters.{Letters, Sent, HasTokens}
 use Rattle.agreement.proofs.Each.{Each, found_key}

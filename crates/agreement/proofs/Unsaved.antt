@@ -1,12 +1,11 @@
 -- A step that saves nothing changes nothing that a record has.
-use Rattle.std.proofs.Common.{◌≡◌, ℕ, ◌+◌, ◌≤◌, Bool, true, false, List, ◌∷◌, [], ◌++◌, length, take, drop, Option, Some, None, refl, ap, sym, ◌∙◌, arith, true≢false}
-use Rattle.std.specs.Prelude.{◌==◌, ◌-◌, ◌&&◌, ◌||◌, nat_lt}
+use Rattle.std.proofs.Common.{◌≡◌, ℕ, Bool, true, false, [], Option, Some, None, refl, ap, arith, true≢false}
+use Rattle.std.specs.Prelude.{◌==◌, ◌||◌, nat_lt}
 use Rattle.std.proofs.lemmas.Bool.{cond_both, ltb-false}
 use Rattle.token.specs.declared.Token as token
 use Rattle.decrees.specs.declared.decree.Decree.{Decree}
 use Rattle.decrees.specs.declared.ballot.Ballot.{Ballot}
 use Rattle.decrees.specs.declared.ballot.Ballot.TheVariants.{Token, Accept, Accepted, Decided, Ask, Change, Promise}
-use Rattle.decrees.specs.declared.node.Letter.{Letter}
 use Rattle.decrees.specs.declared.node.Node.{Node}
 use Rattle.decrees.specs.declared.node.Node.TheVariants.{Client, Executor, Verifier}
 use Rattle.decrees.specs.Standing.{standing, is_next, decree_at}
@@ -16,7 +15,7 @@ use Rattle.verifier.specs.declared.input.Input.{Input}
 use Rattle.verifier.specs.declared.input.Input.TheVariants as input
 use Rattle.verifier.specs.Tally.{is_accepted}
 use Rattle.verifier.specs.State.{State, Outcome, next_place, stays, says, down}
-use Rattle.verifier.specs.Lines.{learn, proposal, proposing, try_to_propose, vote_key, on_token, suspected, on_change, asked_if_behind, is_awaited, on_promise, told, on_accept, is_fitting, with_tally, on_accepted, on_decided, on_ask, restarted}
+use Rattle.verifier.specs.Lines.{learn, proposal, proposing, try_to_propose, vote_key, on_token, on_change, asked_if_behind, is_awaited, on_promise, told, on_accept, is_fitting, with_tally, on_accepted, on_decided, on_ask, restarted}
 use Rattle.verifier.specs.Step.{of_executor, of_verifier, received, step}
 use Rattle.agreement.specs.Letters.{Letters}
 
@@ -44,10 +43,10 @@ on_change_keeps : (v : ℕ) (s : State) (from view : ℕ) → KeepsRecord s (on_
 on_change_keeps v s from view = cond_both (nat_lt view s.view) (stays s) _ (KeepsRecord s)
     (λ _ _. refl)
     (λ high same.
-        let low = ltb-false view s.view high in
-        let up = ltb-false s.view view same in
-        let e : view ≡ s.view = omega (arith, low, up) in
-        ap (λ w. down (record s { view = w })) e)
+    let low = ltb-false view s.view high in
+    let up = ltb-false s.view view same in
+    let e : view ≡ s.view = omega (arith, low, up) in
+    ap (λ w. down (record s { view = w })) e)
 
 on_promise_keeps : (u v : ℕ) (s : State) (from view count : ℕ) (a : Option (ℕ × Decree)) → KeepsRecord s (on_promise u v s from view count a)
 on_promise_keeps u v s from view count a = cond_both (is_awaited s from view) _ (stays s) (KeepsRecord s)
@@ -57,14 +56,14 @@ on_promise_keeps u v s from view count a = cond_both (is_awaited s from view) _ 
 on_accept_keeps : (u v : ℕ) (s : State) (from view place : ℕ) (d : Decree) → KeepsRecord s (on_accept u v s from view place d)
 on_accept_keeps u v s from view place d = cond_both ((place == 0) || nat_lt view s.view) (stays s) _ (KeepsRecord s) (λ _ _. refl)
     (λ _. cond_both (nat_lt (next_place s) place) (says v s (Verifier from) (Ask (next_place s))) _ (KeepsRecord s) (λ _ _. refl)
-        (λ _. cond_both (nat_lt place (next_place s)) (record { state = s; saves = false; letters = told v (Verifier from) place (decree_at s.log place) }) _ (KeepsRecord s) (λ _ _. refl)
-            (λ _. cond_both (is_next (standing s.log) d) _ (stays s) (KeepsRecord s) (λ _ e. absurd (true≢false e)) (λ _ _. refl))))
+    (λ _. cond_both (nat_lt place (next_place s)) (record { state = s; saves = false; letters = told v (Verifier from) place (decree_at s.log place) }) _ (KeepsRecord s) (λ _ _. refl)
+    (λ _. cond_both (is_next (standing s.log) d) _ (stays s) (KeepsRecord s) (λ _ e. absurd (true≢false e)) (λ _ _. refl))))
 
 on_accepted_keeps : (u v : ℕ) (s : State) (from view place : ℕ) (d : Decree) → KeepsRecord s (on_accepted u v s from view place d)
 on_accepted_keeps u v s from view place d = cond_both (is_fitting s place d) _ (stays s) (KeepsRecord s)
     (λ _. cond_both (is_accepted u (with_tally s from view d).tally view d) _ (stays (with_tally s from view d)) (KeepsRecord s)
-        (λ _. try_keeps u v s (learn s d) true _ (saved_anyway s (learn s d)))
-        (λ _ _. refl))
+    (λ _. try_keeps u v s (learn s d) true _ (saved_anyway s (learn s d)))
+    (λ _ _. refl))
     (λ _ _. refl)
 
 on_decided_keeps : (u v : ℕ) (s : State) (from place : ℕ) (d : Decree) → KeepsRecord s (on_decided u v s from place d)

@@ -1,10 +1,12 @@
 -- What holds of every reached machine, whatever its events.
 use Rattle.std.specs.Prelude.{◌≡◌, ℕ, ◌-◌, ◌<◌, ◌≤◌, ◌⊎◌, ◌↔◌, Bool, IsTrue, not, List, ◌++◌, take, Option, None, Some, slice_get, option_and_then}
 use Rattle.decrees.specs.declared.decree.Decree.{Decree}
+use Rattle.decrees.specs.declared.ballot.Ballot.TheVariants.{Decided}
+use Rattle.decrees.specs.declared.node.Node.TheVariants.{Verifier}
 use Rattle.decrees.specs.Count.{count_below, members}
 use Rattle.decrees.specs.Standing.{decree_at, is_log}
 use Rattle.verifier.specs.State.{State, next_place}
-use Rattle.agreement.specs.Letters.{Chosen, Backed, RestsOn}
+use Rattle.agreement.specs.Letters.{Sent, Chosen, Backed, RestsOn}
 use Rattle.agreement.specs.Machine.{Slot, New, Up, Stopped, Event, reached, letters_of}
 use Rattle.agreement.specs.ChosenList.{chosen}
 
@@ -42,6 +44,10 @@ pub record Kept (u : ℕ) (verifiers : List Slot) (lost : ℕ → Bool) (place :
 abbrev pub AllKept : Type 0
 AllKept = (u : ℕ) (events : List Event) (lost : ℕ → Bool) (place : ℕ) (d : Decree) → count_below lost (members u) ≤ u → Chosen u (letters_of u events) place d → Kept u (reached u events).verifiers lost place d
 
+-- what a verifier tells to be decided is chosen
+abbrev pub ToldIsChosen : Type 0
+ToldIsChosen = (u : ℕ) (events : List Event) (v place : ℕ) (d : Decree) → Sent (letters_of u events) (Verifier v) (Decided place d) → Chosen u (letters_of u events) place d
+
 -- the computed list has, at each place, the decree that is chosen there, and no other
 abbrev pub ListIsChosen : Type 0
 ListIsChosen = (u : ℕ) (events : List Event) (place : ℕ) (d : Decree) → (decree_at (chosen u (letters_of u events)) place ≡ Some d) ↔ Chosen u (letters_of u events) place d
@@ -53,6 +59,10 @@ pub record IsBackedList (u : ℕ) (events : List Event) : Type 0 where
 
 abbrev pub ListIsBacked : Type 0
 ListIsBacked = (u : ℕ) (events : List Event) → IsBackedList u events
+
+-- the log of each record is a beginning of the list
+abbrev pub LogsAreChosen : Type 0
+LogsAreChosen = (u : ℕ) (events : List Event) (v : ℕ) (saved : State) → record_of (reached u events).verifiers v ≡ Some saved → (more : List Decree) × (chosen u (letters_of u events) ≡ saved.log ++ more)
 
 -- more events only add to its end
 abbrev pub ListGrows : Type 0

@@ -8,6 +8,6 @@
 mod laws;
 
 pub use laws::{
-    all_are_backed, all_are_kept, at_most_one_is_chosen, chosen_list_is_backed,
-    chosen_list_is_what_is_chosen, chosen_list_only_grows,
+    at_most_one_is_chosen, chosen_is_backed, chosen_is_kept, list_is_backed,
+    list_is_what_is_chosen, list_only_grows, logs_begin_the_list, told_is_chosen,
 };

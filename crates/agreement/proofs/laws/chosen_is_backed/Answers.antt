@@ -1,5 +1,5 @@
 use Rattle.agreement.proofs.Proved.{all_backed}
-use Rattle.agreement.proofs.laws.all_are_backed.Goals as goal
+use Rattle.agreement.proofs.laws.chosen_is_backed.Goals as goal
 
 pub returns : goal.returns
 returns c = all_backed
