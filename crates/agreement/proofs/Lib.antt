@@ -16,4 +16,5 @@ pub mod Machine
 pub mod Grows
 pub mod ChosenList
 pub mod Proved
+pub mod Seats
 mod Rows

@@ -1,5 +1,6 @@
 //! Laws of every reached machine. The functions do nothing: what each says is its contract.
 
+ghost use Rattle.agreement.specs.Seats.{HandledIsDone, RefusedIsStopped, OpenedIsDone};
 ghost use Rattle.agreement.specs.Laws.{AtMostOne, AllBacked, AllKept, ToldIsChosen, ListIsChosen, ListIsBacked, LogsAreChosen, ListGrows};
 
 /// At each place at most one decree is chosen.
@@ -45,4 +46,20 @@ pub fn logs_begin_the_list()
 /// Whatever comes later only adds to the end of that list.
 pub fn list_only_grows()
     ensures { ListGrows }
+{}
+
+/// Where a verifier of the machine is one of the code, an Ok of `Verifier::handle` is a step that is
+/// done, with its letters and its record.
+pub fn handled_is_done()
+    ensures { HandledIsDone }
+{}
+
+/// An Err of `Verifier::handle` is a step in which the verifier stops with the record before it.
+pub fn refused_is_stopped()
+    ensures { RefusedIsStopped }
+{}
+
+/// An Ok of `Verifier::open` is a Restart that is done: of a new verifier, or from its record.
+pub fn opened_is_done()
+    ensures { OpenedIsDone }
 {}

@@ -1,4 +1,4 @@
 mod LetterLemmas
 pub mod ViewLemmas
-mod RowLemmas
+pub mod RowLemmas
 mod Rows
