@@ -16,10 +16,6 @@ Sent-left [] ys h = elim h [ ]
 Sent-left (x ∷ xs) ys (here e f) = here e f
 Sent-left (x ∷ xs) ys (there h) = there (Sent-left xs ys h)
 
-pub Sent-right : (xs ys : Letters) {n : Node} {b : Ballot} → Sent ys n b → Sent (xs ++ ys) n b
-Sent-right [] ys h = h
-Sent-right (x ∷ xs) ys h = there (Sent-right xs ys h)
-
 pub Sent-split : (xs ys : Letters) {n : Node} {b : Ballot} → Sent (xs ++ ys) n b → Sent xs n b ⊎ Sent ys n b
 Sent-split [] ys h = inr h
 Sent-split (x ∷ xs) ys (here e f) = inl (here e f)
