@@ -1,4 +1,4 @@
 mod VoteLemmas
 mod LogLemmas
 mod RecordLemmas
-mod VerdictLemmas
+pub mod VerdictLemmas

@@ -1,4 +1,4 @@
 mod LetterLemmas
-mod ViewLemmas
-mod RowLemmas
+pub mod ViewLemmas
+pub mod RowLemmas
 mod Rows
