@@ -2,3 +2,4 @@ mod VoteLemmas
 mod LogLemmas
 mod RecordLemmas
 mod VerdictLemmas
+pub mod GrowthLemmas
