@@ -2,3 +2,6 @@ mod LetterLemmas
 mod ViewLemmas
 mod RowLemmas
 mod Rows
+mod UnfitLemmas
+mod StepLemmas
+mod RecordLemmas

@@ -35,7 +35,7 @@ fields_free =
     (pair_prefix_free (λ p. (num w8 p.0.0 ++ num w8 p.0.1) ++ num w64 p.1) (option_text accepted_text) view_free (option_prefix_free accepted_text accepted_free))
     (list_prefix_free decree_text decree_prefix_free)
 
-row_apart : (a b : Row) → row_text a ≡ row_text b → a ≡ b
+pub row_apart : (a b : Row) → row_text a ≡ row_text b → a ≡ b
 row_apart a b e =
     let rest : fields a ≡ fields b = tail_of 86 86 _ _ (tail_of 1 1 _ _ e) in
     (fields_free.apart a b [] [] (ap (λ (xs : List ℕ). xs ++ []) rest)).0

@@ -178,6 +178,7 @@ impl<K: Keeper> Verifier<K> {
     fn answer(&mut self, alloc: Global, input: Input) -> Result<Vec<Letter<Ballot>>, Fault>
         ensures done { IfOk result (λ letters. self.new ≡ handled self.old input) }
         ensures letters { IfOk result (λ letters. letters.items ≡ (outcome self.old input).letters) }
+        ensures few { OnOk result (length self.new.state.log < 2 ^ 32) }
         ensures fits_none { IsTrue (not (fits self.old.state input)) → IsOk result }
         ensures same { OnErr result ((self.new.id ≡ self.old.id) × (self.new.u ≡ self.old.u)) }
         ensures old_record { OnErr result (self.new.saved ≡ self.old.saved) }
@@ -186,6 +187,7 @@ impl<K: Keeper> Verifier<K> {
         ensures only { IfErr result (λ fault. (fault ≡ Fault.NoMemory) ⊎ (fault ≡ Fault.Stopped)) }
     {
         let answer = self.memory.step(alloc, self.u, self.id, input)?;
+        prove!(self.memory.known() <= u64::from(u32::MAX));
         if answer.saves {
             save(alloc, self.u, self.id, &self.memory, &mut self.keeper)?;
         }
@@ -201,6 +203,7 @@ impl<K: Keeper> Verifier<K> {
     pub fn handle(&mut self, alloc: Global, input: Input) -> Result<Vec<Letter<Ballot>>, Fault>
         ensures done { IfOk result (λ letters. self.new ≡ handled self.old input) }
         ensures letters { IfOk result (λ letters. letters.items ≡ (outcome self.old input).letters) }
+        ensures few { OnOk result (length self.new.state.log < 2 ^ 32) }
         ensures fits_none { IsTrue self.old.up → IsTrue (not (fits self.old.state input)) → IsOk result }
 
         // After an error.
