@@ -51,45 +51,59 @@ fn token_of(
     handed(alloc, zero, &letter, times)
 }
 
-/// Verifier 0 proposes in view 0 what two executors have sent. Verifiers 0 and 1 accept it, and
-/// what they answer is lost, with all that is in verifier 0.
-fn one_that_accepted(alloc: Global, times: u8) -> Result<Verifier<MemKeeper>, Fail> {
-    let mut zero = opened(alloc, 0, 1, MemKeeper::new(alloc))?;
-    let mut one = opened(alloc, 1, 1, MemKeeper::new(alloc))?;
-    token_of(alloc, &mut zero, 0, times)?;
-    let proposals = token_of(alloc, &mut zero, 1, times)?;
-    carried(alloc, &mut zero, 0, &proposals, times)?;
-    carried(alloc, &mut one, 1, &proposals, times)?;
-    Ok(one)
-}
-
-/// Verifier 1 comes to lead view 1, and gives its proposals there.
-fn led(
+/// Verifier 0 proposes in view 0 what two executors have sent. It accepts that itself, and what it
+/// answers is lost.
+fn proposed(
     alloc: Global,
-    one: &mut Verifier<MemKeeper>,
-    two: &mut Verifier<MemKeeper>,
+    zero: &mut Verifier<MemKeeper>,
     times: u8,
 ) -> Result<Vec<Letter<Ballot>>, Fault> {
-    let changes = one.handle(alloc, Input::Suspect)?;
-    let other = carried(alloc, two, 2, &changes, times)?;
-    let own = carried(alloc, one, 1, &changes, times)?;
-    carried(alloc, one, 1, &other, times)?;
-    carried(alloc, one, 1, &own, times)
+    token_of(alloc, zero, 0, times)?;
+    let proposals = token_of(alloc, zero, 1, times)?;
+    carried(alloc, zero, 0, &proposals, times)?;
+    Ok(proposals)
 }
 
-/// Both hear what both have accepted of these proposals. Gives what verifier 1 says then.
+fn lost_proposals(alloc: Global, times: u8) -> Result<Vec<Letter<Ballot>>, Fail> {
+    let mut zero = opened(alloc, 0, 1, MemKeeper::new(alloc))?;
+    Ok(proposed(alloc, &mut zero, times)?)
+}
+
+/// Verifiers 1 and 2 of three.
+#[derive(Drop)]
+struct Network {
+    one: Verifier<MemKeeper>,
+    two: Verifier<MemKeeper>,
+}
+
+fn two_of_three(alloc: Global) -> Result<Network, Fail> {
+    let one = opened(alloc, 1, 1, MemKeeper::new(alloc))?;
+    let two = opened(alloc, 2, 1, MemKeeper::new(alloc))?;
+    Ok(Network { one, two })
+}
+
+/// Verifier 1 comes to lead view 1, by promises of 2 and of its own, and gives its proposals.
+fn led(alloc: Global, network: &mut Network, times: u8) -> Result<Vec<Letter<Ballot>>, Fault> {
+    let changes = network.one.handle(alloc, Input::Suspect)?;
+    let other = carried(alloc, &mut network.two, 2, &changes, times)?;
+    let own = carried(alloc, &mut network.one, 1, &changes, times)?;
+    carried(alloc, &mut network.one, 1, &other, times)?;
+    carried(alloc, &mut network.one, 1, &own, times)
+}
+
+/// Verifiers 1 and 2 hear what both have accepted of these proposals. Gives what verifier 1 says
+/// then.
 fn heard(
     alloc: Global,
-    one: &mut Verifier<MemKeeper>,
-    two: &mut Verifier<MemKeeper>,
+    network: &mut Network,
     proposals: &[Letter<Ballot>],
     times: u8,
 ) -> Result<Vec<Letter<Ballot>>, Fault> {
-    let mut accepted = carried(alloc, one, 1, proposals, times)?;
-    let other = carried(alloc, two, 2, proposals, times)?;
+    let mut accepted = carried(alloc, &mut network.one, 1, proposals, times)?;
+    let other = carried(alloc, &mut network.two, 2, proposals, times)?;
     accepted.extend_from_slice(&other)?;
-    carried(alloc, two, 2, &accepted, times)?;
-    carried(alloc, one, 1, &accepted, times)
+    carried(alloc, &mut network.two, 2, &accepted, times)?;
+    carried(alloc, &mut network.one, 1, &accepted, times)
 }
 
 /// The record of a verifier of three that is in view 1 and knows one Commit.
@@ -103,26 +117,46 @@ fn record_in_view_one(alloc: Global, id: u8) -> Result<Vec<u8>, AllocError> {
     Ok(record)
 }
 
-/// How many letters verifier 1 says it with when the Commit is decided in view 1; both records
-/// have to be those of view 1.
-fn decided_in_view_one(alloc: Global, times: u8) -> Result<(usize, bool), Fail> {
-    let mut one = one_that_accepted(alloc, times)?;
-    let mut two = opened(alloc, 2, 1, MemKeeper::new(alloc))?;
-    let proposals = led(alloc, &mut one, &mut two, times)?;
-    let decided = heard(alloc, &mut one, &mut two, &proposals, times)?;
-    let first = record_of(alloc, &mut one)? == record_in_view_one(alloc, 1)?;
-    let second = record_of(alloc, &mut two)? == record_in_view_one(alloc, 2)?;
-    Ok((decided.len(), first && second))
+fn has_decided(
+    alloc: Global,
+    verifier: &mut Verifier<MemKeeper>,
+    id: u8,
+) -> Result<bool, AllocError> {
+    let wanted = record_in_view_one(alloc, id)?;
+    Ok(verifier.keeper().load() == Some(&wanted))
+}
+
+/// Whether the Commit that verifier 1 accepted in view 0, where its answer is lost, is decided in
+/// view 1, and told to five others.
+fn is_decided(
+    alloc: Global,
+    network: &mut Network,
+    proposals: &[Letter<Ballot>],
+    times: u8,
+) -> Result<bool, Fault> {
+    carried(alloc, &mut network.one, 1, proposals, times)?;
+    let proposals = led(alloc, network, times)?;
+    let letters = heard(alloc, network, &proposals, times)?;
+    let one = has_decided(alloc, &mut network.one, 1)?;
+    let two = has_decided(alloc, &mut network.two, 2)?;
+    Ok(one && two && letters.len() == 5)
+}
+
+/// Whether it comes so where each letter is handed over so many times.
+fn outlives_its_leader(alloc: Global, times: u8) -> Result<bool, Fail> {
+    let proposals = lost_proposals(alloc, times)?;
+    let mut network = two_of_three(alloc)?;
+    Ok(is_decided(alloc, &mut network, &proposals, times)?)
 }
 
 #[test]
 fn a_decree_outlives_its_leader(rt: HostRuntime) -> Result<(), Fail> {
-    assert_eq!(rt; decided_in_view_one(rt.alloc(), 1)?, (5, true));
+    assert_eq!(rt; outlives_its_leader(rt.alloc(), 1)?, true);
     Ok(())
 }
 
 #[test]
 fn letters_that_come_twice(rt: HostRuntime) -> Result<(), Fail> {
-    assert_eq!(rt; decided_in_view_one(rt.alloc(), 2)?, (5, true));
+    assert_eq!(rt; outlives_its_leader(rt.alloc(), 2)?, true);
     Ok(())
 }

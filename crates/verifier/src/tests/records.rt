@@ -32,28 +32,28 @@ fn the_record_of_one_rollback(rt: HostRuntime) -> Result<(), Fail> {
     Ok(())
 }
 
-/// The record of verifier 1 of three in view 1, which knows a Commit and has accepted one more.
-fn full_record(alloc: Global) -> Result<Vec<u8>, Fail> {
-    let mut verifier = opened(alloc, 1, 1, MemKeeper::new(alloc))?;
+/// The verifier is told the decree of place 1, and accepts another for place 2.
+fn fill(alloc: Global, verifier: &mut Verifier<MemKeeper>) -> Result<(), Fail> {
     let leader = Node::Verifier(0);
     let (view, place) = (1, 1);
     let decree = COMMIT;
-    told(
-        alloc,
-        &mut verifier,
-        leader,
-        Ballot::Decided { place, decree },
-    )?;
+    told(alloc, verifier, leader, Ballot::Decided { place, decree })?;
+    let (n, token) = (2, Token([9; 32]));
     let place = 2;
-    let n = 2;
-    let token = Token([9; 32]);
     let decree = Decree::Commit { n, token };
     let body = Ballot::Accept {
         view,
         place,
         decree,
     };
-    told(alloc, &mut verifier, leader, body)?;
+    told(alloc, verifier, leader, body)?;
+    Ok(())
+}
+
+/// The record of verifier 1 of three in view 1, which knows a Commit and has accepted one more.
+fn full_record(alloc: Global) -> Result<Vec<u8>, Fail> {
+    let mut verifier = opened(alloc, 1, 1, MemKeeper::new(alloc))?;
+    fill(alloc, &mut verifier)?;
     Ok(record_of(alloc, &mut verifier)?)
 }
 
@@ -86,20 +86,35 @@ fn saves_again(
     )
 }
 
-/// How many of the records with one byte changed so are read.
-fn read_with_a_byte_changed(alloc: Global, record: &[u8], change: u8) -> Result<usize, Fail> {
-    let mut count = 0;
-    for place in 0..record.len() {
-        let mut bytes = Vec::from_slice(alloc, record)?;
-        bytes[place] ^= change;
-        if let Some(mut verifier) = read_from(alloc, &bytes)? {
-            if !saves_again(alloc, &mut verifier, &bytes)? {
-                return Ok(0);
-            }
-            count += 1;
+/// Whether the verifier of these bytes has them for its record; none where they are refused.
+fn is_read(alloc: Global, bytes: &[u8]) -> Result<Option<bool>, Fail> {
+    match read_from(alloc, bytes)? {
+        None => Ok(None),
+        Some(verifier) => {
+            let mut verifier = verifier;
+            Ok(Some(saves_again(alloc, &mut verifier, bytes)?))
         }
     }
-    Ok(count)
+}
+
+/// How many of the records with one byte changed so are read, if all of those are read well.
+fn read_with_a_byte_changed(
+    alloc: Global,
+    record: &[u8],
+    change: u8,
+) -> Result<Option<usize>, Fail> {
+    let mut bytes = Vec::from_slice(alloc, record)?;
+    let mut count = 0usize;
+    for place in 0..bytes.len() {
+        bytes[place] ^= change;
+        match is_read(alloc, &bytes)? {
+            None => {}
+            Some(true) => count = count.wrapping_add(1),
+            Some(false) => return Ok(None),
+        }
+        bytes[place] ^= change;
+    }
+    Ok(Some(count))
 }
 
 #[test]
@@ -108,7 +123,7 @@ fn a_record_that_is_cut(rt: HostRuntime) -> Result<(), Fail> {
     assert_eq!(rt; record.len(), 107);
     for length in 0..107usize {
         let cut = record.get(..length).unwrap_or(&[]);
-        assert_eq!(rt; read_from(rt.alloc(), cut)?.is_none(), true);
+        assert_eq!(rt; is_read(rt.alloc(), cut)?, None);
     }
     Ok(())
 }
@@ -119,7 +134,10 @@ fn a_record_that_is_cut(rt: HostRuntime) -> Result<(), Fail> {
 fn a_record_with_a_byte_changed(rt: HostRuntime) -> Result<(), Fail> {
     let record = full_record(rt.alloc())?;
     for change in 1..=255u8 {
-        assert_eq!(rt; read_with_a_byte_changed(rt.alloc(), &record, change)?, 88);
+        assert_eq!(rt;
+            read_with_a_byte_changed(rt.alloc(), &record, change)?,
+            Some(88)
+        );
     }
     Ok(())
 }

@@ -1,5 +1,7 @@
 //! Saves that fail.
 
+ghost use Rattle.std.specs.Prelude.{◌<◌};
+
 use super::*;
 
 fn letter(from: Node, body: Ballot) -> Input {
@@ -58,25 +60,53 @@ fn go_on(alloc: Global, verifier: &mut Verifier<MemKeeper>, inputs: &[Input]) ->
     Ok(())
 }
 
-/// Whether the step of this input saves. Where it does, the save fails once: the verifier stops
-/// with its old record, from which it comes to the decision all the same.
-fn fails_at(alloc: Global, index: usize) -> Result<Option<bool>, Fail>
+/// Whether the verifier stops with its old record where the save of this input fails; none where
+/// the step saves nothing.
+fn stops(
+    alloc: Global,
+    verifier: &mut Verifier<MemKeeper>,
+    input: Input,
+) -> Result<Option<bool>, Fault> {
+    let old = record_of(alloc, verifier)?;
+    verifier.keeper().fail_next();
+    if verifier.handle(alloc, input).is_ok() {
+        return Ok(None);
+    }
+    let is_stopped = !verifier.is_up() && verifier.handle(alloc, input).is_err();
+    let is_old = verifier.keeper().load() == Some(&old);
+    Ok(Some(is_stopped && is_old && verifier.keeper().failures() == 1))
+}
+
+fn stops_at(
+    alloc: Global,
+    verifier: &mut Verifier<MemKeeper>,
+    index: usize,
+) -> Result<Option<bool>, Fault>
     requires { index < 8 }
 {
     let inputs = inputs();
+    go_on(alloc, verifier, &inputs[..index])?;
+    stops(alloc, verifier, inputs[index])
+}
+
+/// How many decrees verifier 1 knows that goes on from this record, after all inputs.
+fn known_after_all(alloc: Global, keeper: MemKeeper) -> Result<u64, Fail> {
+    let mut verifier = opened(alloc, 1, 1, keeper)?;
+    go_on(alloc, &mut verifier, &inputs())?;
+    Ok(verifier.known())
+}
+
+/// Whether the verifier comes to the decision where the save of this input fails, after it was
+/// stopped with its old record; none where the step saves nothing.
+fn fails_at(alloc: Global, index: usize) -> Result<Option<bool>, Fail>
+    requires { index < 8 }
+{
     let mut verifier = opened(alloc, 1, 1, MemKeeper::new(alloc))?;
-    go_on(alloc, &mut verifier, &inputs[..index])?;
-    let old = record_of(alloc, &mut verifier)?;
-    verifier.keeper().fail_next();
-    if verifier.handle(alloc, inputs[index]).is_ok() {
+    let Some(is_stopped) = stops_at(alloc, &mut verifier, index)? else {
         return Ok(None);
-    }
-    let stopped = !verifier.is_up() && verifier.handle(alloc, inputs[index]).is_err();
-    let kept = record_of(alloc, &mut verifier)? == old;
-    let failures = verifier.keeper().failures();
-    let mut again = opened(alloc, 1, 1, verifier.end())?;
-    go_on(alloc, &mut again, &inputs)?;
-    Ok(Some(stopped && kept && failures == 1 && again.known() == 1))
+    };
+    let known = known_after_all(alloc, verifier.end())?;
+    Ok(Some(is_stopped && known == 1))
 }
 
 #[test]
