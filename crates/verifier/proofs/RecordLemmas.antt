@@ -1,8 +1,6 @@
 -- A record gives back what a crash leaves.
-use Rattle.std.proofs.Common.{◌≡◌, ℕ, ◌^◌, ◌<◌, false, List, [], length, refl, sym, ap, ◌∙◌, IsTrue}
-use Rattle.decrees.specs.Standing.{is_log}
-use Rattle.verifier.specs.State.{State, down}
-use Rattle.verifier.specs.Record.{record_text, IsRecord}
+use Rattle.std.proofs.Common.{false, [], refl, sym, ap, ◌∙◌}
+use Rattle.verifier.specs.State.{State}
 use Rattle.verifier.specs.Row.{Row}
 use Rattle.verifier.specs.Laws.{SavedIsRecord, OneState}
 use Rattle.verifier.proofs.RowLemmas.{row_of, row_apart}

@@ -1,6 +1,6 @@
 -- What each line of the step keeps.
-use Rattle.std.proofs.Common.{◌≡◌, ℕ, ◌+◌, ◌*◌, ◌≤◌, ◌<◌, ◌-◌, Bool, true, false, List, [], ◌∷◌, ◌++◌, length, take, drop, Option, Some, None, refl, sym, ap, ◌∙◌, subst, IsTrue, arith, inl, inr}
-use Rattle.std.specs.Prelude.{◌&&◌, ◌||◌, ◌==◌, ◌⊎◌, not, nat_lt, nat_le, if◌then◌else◌}
+use Rattle.std.proofs.Common.{◌≡◌, ℕ, ◌+◌, ◌*◌, ◌≤◌, Bool, true, false, List, [], Option, Some, None, refl, sym, ap, subst, IsTrue, arith, inl, inr}
+use Rattle.std.specs.Prelude.{◌||◌, ◌==◌, nat_lt}
 use Rattle.std.proofs.lemmas.Bool.{cond_both, and_from, and_parts}
 use Rattle.std.proofs.lemmas.Bool.Decides.{nat_tests}
 use Rattle.token.specs.declared.Token.{Token}
@@ -15,8 +15,8 @@ use Rattle.decrees.specs.Votes.{is_open}
 use Rattle.decrees.proofs.GrowthLemmas.{grows_by_one}
 use Rattle.verifier.specs.declared.input.Input.{Input}
 use Rattle.verifier.specs.declared.input.Input.TheVariants as input
-use Rattle.verifier.specs.State.{State, Outcome, stays, down, in_view, next_place, next_led}
-use Rattle.verifier.specs.Lines.{learn, proposing, proposal, suspected, on_token, on_change, on_promise, on_accept, on_accepted, on_decided, on_ask, is_fitting, is_awaited, vote_key, with_tally}
+use Rattle.verifier.specs.State.{State, Outcome, down, in_view, next_place, next_led}
+use Rattle.verifier.specs.Lines.{learn, proposing, suspected, on_token, on_change, on_promise, on_accept, on_accepted, on_decided, on_ask, is_fitting, is_awaited, vote_key, with_tally}
 use Rattle.verifier.specs.Tally.{is_accepted}
 use Rattle.verifier.specs.Step.{step, received, of_executor, of_verifier}
 use Rattle.verifier.specs.Laws.{Learned, LearnsInOrder, StaysALog, ViewNeverFalls, UnsavedStays}

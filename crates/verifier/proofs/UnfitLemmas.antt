@@ -1,6 +1,6 @@
 -- An input that fits no line changes nothing.
-use Rattle.std.proofs.Common.{◌≡◌, ℕ, zero, suc, ◌+◌, Bool, true, false, Option, refl, arith}
-use Rattle.std.specs.Prelude.{◌&&◌, ◌||◌, ◌==◌, not, nat_lt, nat_le, if◌then◌else◌}
+use Rattle.std.proofs.Common.{◌≡◌, ℕ, zero, suc, Bool, true, false, Option, refl, arith}
+use Rattle.std.specs.Prelude.{◌&&◌, ◌||◌, ◌==◌, not, nat_lt, nat_le}
 use Rattle.std.proofs.lemmas.Bool.{cond_both, cond-true, cond-false, or_parts}
 use Rattle.std.proofs.lemmas.Bool.Decides.{nat_tests}
 use Rattle.token.specs.declared.Token.{Token}
@@ -12,7 +12,7 @@ use Rattle.decrees.specs.declared.node.Node.TheVariants.{Client, Executor, Verif
 use Rattle.decrees.specs.Standing.{standing, is_next}
 use Rattle.decrees.specs.Votes.{is_open}
 use Rattle.verifier.specs.declared.input.Input.TheVariants.{Letter, Suspect}
-use Rattle.verifier.specs.State.{State, Outcome, stays, next_place}
+use Rattle.verifier.specs.State.{State, stays, next_place}
 use Rattle.verifier.specs.Lines.{on_token, on_change, on_promise, on_accept, on_accepted, on_decided, on_ask, is_fitting, is_acceptable, is_news, is_awaited, vote_key}
 use Rattle.verifier.specs.Step.{received, of_executor, of_verifier, fits_letter, fits_executor, fits_verifier}
 use Rattle.verifier.specs.Laws.{UnfitStays}
