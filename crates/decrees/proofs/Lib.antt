@@ -2,3 +2,4 @@ mod VoteLemmas
 mod LogLemmas
 mod RecordLemmas
 pub mod VerdictLemmas
+pub mod GrowthLemmas
