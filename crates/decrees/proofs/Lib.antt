@@ -1,4 +1,5 @@
 mod VoteLemmas
 mod LogLemmas
 mod RecordLemmas
-mod VerdictLemmas
+pub mod VerdictLemmas
+pub mod GrowthLemmas

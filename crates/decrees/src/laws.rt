@@ -1,7 +1,15 @@
-ghost use Rattle.decrees.specs.Laws.{CommitIsBacked};
+//! What follows from the definitions. None of these functions does anything: what each says is its
+//! contract.
+
+ghost use Rattle.decrees.specs.Laws.{CommitIsBacked, GrowsByOne};
 
 /// Where the verdict is to commit a token, more than `u` executors have that token for the next
 /// number.
 pub fn commit_is_backed()
     ensures { CommitIsBacked }
+{}
+
+/// One decree more makes a log of a log exactly where it may come next.
+pub fn a_log_grows_by_one()
+    ensures { GrowsByOne }
 {}

@@ -17,7 +17,7 @@ mod votes;
 
 pub use ballot::Ballot;
 pub use decree::Decree;
-pub use laws::commit_is_backed;
+pub use laws::{a_log_grows_by_one, commit_is_backed};
 pub use log::Log;
 pub use node::{Letter, Node};
 pub use standing::Standing;

@@ -1,4 +1,4 @@
-ghost use Rattle.std.specs.Prelude.{◌≡◌, ◌<◌, ◌+◌, ◌^◌, ◌-◌, None, Some, true, false, OnOk, OnErr, IsErr, IfErr, IsTrue, not, option_map};
+ghost use Rattle.std.specs.Prelude.{◌≡◌, ◌<◌, ◌+◌, ◌^◌, ◌-◌, None, Some, true, false, OnOk, OnErr, Err, IfErr, IsTrue, not, option_map};
 
 use crate::keeper::Keeper;
 use proto::Fault;
@@ -53,7 +53,7 @@ impl Keeper for MemKeeper {
     fn save(&mut self, bytes: &[u8]) -> Result<(), Fault>
         requires countable { self.old.failures < 2 ^ 64 - 1 }
         ensures ok { OnOk result (self.new ≡ record self.old { saved = Some bytes.now }) }
-        ensures told { IsTrue self.old.fails_next → IsErr result }
+        ensures told { IsTrue self.old.fails_next → result ≡ Err Fault.Stopped }
         ensures not_told { IsTrue (not self.old.fails_next) → IfErr result (λ fault. fault ≡ Fault.NoMemory) }
         ensures err { OnErr result (self.new ≡ record self.old { failures = self.old.failures + 1; fails_next = false }) }
     {

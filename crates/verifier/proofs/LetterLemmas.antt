@@ -1,5 +1,5 @@
 -- Letters that tell decrees, one more.
-use Rattle.std.proofs.Common.{◌≡◌, ℕ, suc, ◌+◌, ◌<◌, List, [], ◌∷◌, ◌++◌, length, take, get_or, refl, ap, sym, ◌∙◌, arith, add-zero}
+use Rattle.std.proofs.Common.{◌≡◌, ℕ, suc, ◌+◌, ◌<◌, List, [], ◌∷◌, ◌++◌, length, take, get_or, ap, sym, ◌∙◌, arith, add-zero}
 use Rattle.std.proofs.lemmas.List.{take_more, length-take-le}
 use Rattle.decrees.specs.declared.decree.Decree.{Decree}
 use Rattle.decrees.specs.declared.ballot.Ballot.TheVariants.{Decided}

@@ -1,4 +1,7 @@
 mod LetterLemmas
-mod ViewLemmas
-mod RowLemmas
+pub mod ViewLemmas
+pub mod RowLemmas
 mod Rows
+mod UnfitLemmas
+mod StepLemmas
+mod RecordLemmas

@@ -1,20 +1,18 @@
 -- No bytes are the records of two rows.
-use Rattle.std.proofs.Common.{◌≡◌, ℕ, Bool, true, false, List, [], ◌∷◌, ◌++◌, Option, refl, sym, ap, ◌∙◌, subst, IsTrue, ◌<◌, ◌^◌, length}
+use Rattle.std.proofs.Common.{◌≡◌, ℕ, Bool, true, false, List, [], ◌++◌, sym, ap, ◌∙◌, subst, IsTrue, ◌<◌, ◌^◌, length}
 use Rattle.std.specs.Prelude.{not}
 use Rattle.std.specs.Int.{w8, w64}
-use Rattle.std.proofs.lemmas.List.{append-nil}
 use Rattle.wire.specs.Number.{num}
 use Rattle.wire.specs.Record.{IsPrefixFree}
 use Rattle.wire.specs.Field.{option_text, list_text}
 use Rattle.wire.specs.FrontLaws.{tail_of}
 use Rattle.wire.specs.FieldLaws.{pair_prefix_free, option_prefix_free, list_prefix_free}
 use Rattle.wire.specs.NumberLaws.{num_prefix_free, wide8, wide64}
-use Rattle.decrees.specs.declared.decree.Decree.{Decree}
 use Rattle.decrees.specs.Standing.{is_log}
 use Rattle.decrees.specs.Record.{decree_text}
 use Rattle.decrees.specs.RecordLaws.{decree_prefix_free}
 use Rattle.verifier.specs.State.{State}
-use Rattle.verifier.specs.Record.{accepted_text, record_text, IsRecord}
+use Rattle.verifier.specs.Record.{accepted_text, IsRecord}
 use Rattle.verifier.specs.Row.{Row, row_text}
 
 abbrev fields : Row → List ℕ
@@ -35,7 +33,7 @@ fields_free =
     (pair_prefix_free (λ p. (num w8 p.0.0 ++ num w8 p.0.1) ++ num w64 p.1) (option_text accepted_text) view_free (option_prefix_free accepted_text accepted_free))
     (list_prefix_free decree_text decree_prefix_free)
 
-row_apart : (a b : Row) → row_text a ≡ row_text b → a ≡ b
+pub row_apart : (a b : Row) → row_text a ≡ row_text b → a ≡ b
 row_apart a b e =
     let rest : fields a ≡ fields b = tail_of 86 86 _ _ (tail_of 1 1 _ _ e) in
     (fields_free.apart a b [] [] (ap (λ (xs : List ℕ). xs ++ []) rest)).0

@@ -1,8 +1,8 @@
 -- Steps of three verifiers, computed.
-use Rattle.std.proofs.Common.{◌≡◌, ℕ, Bool, true, false, List, [], ◌∷◌, ◌++◌, Option, Some, None, refl, replicate}
+use Rattle.std.proofs.Common.{◌≡◌, ℕ, false, [], ◌∷◌, ◌++◌, Some, None, refl, replicate}
 use Rattle.token.specs.declared.Token.{Token}
 use Rattle.decrees.specs.declared.decree.Decree.{Decree}
-use Rattle.decrees.specs.declared.decree.Decree.TheVariants.{Commit, Rollback}
+use Rattle.decrees.specs.declared.decree.Decree.TheVariants.{Commit}
 use Rattle.decrees.specs.declared.ballot.Ballot.{Ballot}
 use Rattle.decrees.specs.declared.ballot.Ballot.TheVariants as ballot
 use Rattle.decrees.specs.declared.node.Node.{Node}

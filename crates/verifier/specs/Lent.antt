@@ -1,5 +1,4 @@
 -- A verifier that lends its keeper.
-use Rattle.std.specs.Prelude.{ℕ}
 use Rattle.std.specs.Borrow.{Lends, MutBor, Fml}
 use denote.RattleType.{RattleType}
 use Rattle.keeper.specs.declared.keeper.Keeper.{Ghosts}

@@ -6,3 +6,4 @@ pub mod Record
 pub mod Row
 pub mod Seat
 pub mod Lent
+pub mod Laws

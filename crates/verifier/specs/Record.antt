@@ -1,5 +1,5 @@
 -- The record of a verifier, and what it stands for.
-use Rattle.std.specs.Prelude.{◌≡◌, ℕ, ◌^◌, ◌<◌, IsTrue, List, [], ◌∷◌, ◌++◌, length, Option}
+use Rattle.std.specs.Prelude.{◌≡◌, ℕ, ◌^◌, ◌<◌, IsTrue, List, ◌∷◌, ◌++◌, length}
 use Rattle.std.specs.Int.{w8, w64}
 use Rattle.wire.specs.Number.{num}
 use Rattle.wire.specs.Field.{option_text, list_text}

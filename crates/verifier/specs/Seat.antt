@@ -1,11 +1,11 @@
 -- A verifier with its record.
-use Rattle.std.specs.Prelude.{◌≡◌, ℕ, ◌+◌, ◌-◌, ◌^◌, ◌<◌, ◌≤◌, ◌⊎◌, Bool, true, IsTrue, List, [], Option, None, Some, Result, Ok, Err, if◌then◌else◌}
+use Rattle.std.specs.Prelude.{◌≡◌, ℕ, ◌-◌, ◌^◌, ◌≤◌, ◌⊎◌, Bool, true, IsTrue, List, [], Option, None, Some, Result, Ok, Err, if◌then◌else◌}
 use Rattle.proto.specs.declared.fault.Fault.{Fault}
 use Rattle.wire.specs.Record.{Refused}
 use Rattle.decrees.specs.declared.ballot.Ballot.{Ballot}
 use Rattle.decrees.specs.declared.node.Letter.{Letter}
 use Rattle.verifier.specs.declared.input.Input.{Input}
-use Rattle.verifier.specs.State.{State, Outcome, first_state, next_place}
+use Rattle.verifier.specs.State.{State, Outcome, first_state}
 use Rattle.verifier.specs.Lines.{restarted}
 use Rattle.verifier.specs.Step.{step}
 use Rattle.verifier.specs.Record.{record_text, IsRecord}

@@ -1,15 +1,14 @@
 -- The whole step: which line an input fits, and what it does.
-use Rattle.std.specs.Prelude.{ℕ, ◌+◌, ◌==◌, ◌&&◌, ◌||◌, Bool, true, false, not, nat_lt, nat_le, if◌then◌else◌}
+use Rattle.std.specs.Prelude.{ℕ, Bool, true, false, nat_lt, nat_le}
 use Rattle.decrees.specs.declared.ballot.Ballot.{Ballot}
 use Rattle.decrees.specs.declared.ballot.Ballot.TheVariants.{Token, Accept, Accepted, Decided, Ask, Change, Promise}
-use Rattle.decrees.specs.declared.node.Letter.{Letter}
 use Rattle.decrees.specs.declared.node.Node.{Node}
 use Rattle.decrees.specs.declared.node.Node.TheVariants.{Client, Executor, Verifier}
 use Rattle.decrees.specs.Standing.{standing}
 use Rattle.decrees.specs.Votes.{is_open}
 use Rattle.verifier.specs.declared.input.Input.{Input}
 use Rattle.verifier.specs.declared.input.Input.TheVariants as input
-use Rattle.verifier.specs.State.{State, Outcome, next_place, stays}
+use Rattle.verifier.specs.State.{State, Outcome, stays}
 use Rattle.verifier.specs.Lines.{suspected, on_token, on_change, on_promise, on_accept, on_accepted, on_decided, on_ask, is_fitting, is_acceptable, is_news, is_awaited, vote_key}
 
 -- with a letter of an executor

@@ -16,6 +16,7 @@ fn letter(id: u8, to: Node, body: Ballot) -> Letter<Ballot>
     }
 }
 
+/// One letter, in a vector.
 pub fn one(alloc: Global, id: u8, to: Node, body: Ballot) -> Result<Vec<Letter<Ballot>>, AllocError>
     ensures { IfOk result (λ letters. letters.items ≡ letter_of id to body ∷ []) }
 {
@@ -41,6 +42,7 @@ pub fn to_verifiers(
     Ok(letters)
 }
 
+/// To all other verifiers.
 pub fn to_others(
     alloc: Global,
     u: u8,
@@ -59,6 +61,7 @@ pub fn to_others(
     Ok(letters)
 }
 
+/// To all executors.
 pub fn to_executors(
     alloc: Global,
     u: u8,

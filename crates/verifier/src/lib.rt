@@ -6,6 +6,7 @@
 #![tactic(auto)]
 
 mod input;
+mod laws;
 mod letters;
 mod memory;
 mod record;
@@ -15,6 +16,10 @@ mod verifier;
 
 pub use crate::verifier::Verifier;
 pub use input::Input;
+pub use laws::{
+    decrees_are_learned_in_order, records_outlive_a_crash, unfit_input_changes_nothing,
+    views_never_fall,
+};
 
 #[cfg(test)]
 mod tests;

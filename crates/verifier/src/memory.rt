@@ -35,6 +35,7 @@ pub struct Memory {
     view: u64,
     log: Log,
     accepted: Option<(u64, Decree)>,
+    /// Whether it leads its view: only then do the next three count.
     leads: bool,
     proposed: bool,
     doubt: bool,
@@ -111,7 +112,8 @@ impl Memory {
     }
 
     pub fn known(&self) -> u64
-        ensures { result ≡ length self.now.log }
+        ensures known { result ≡ length self.now.log }
+        ensures few { result < 2 ^ 32 }
     {
         self.log.known()
     }

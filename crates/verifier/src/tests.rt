@@ -4,14 +4,23 @@ use super::*;
 use decrees::{Ballot, Decree, Letter, Node};
 use keeper::{Keeper, MemKeeper};
 use proto::Fault;
-use std::alloc::Global;
+use std::alloc::{AllocError, Global};
 use std::test::Fail;
 use token::Token;
+
+mod network;
+mod records;
+mod saves;
 
 const TOKEN: Ballot = Ballot::Token {
     epoch: 1,
     n: 1,
     previous: Token([0; 32]),
+    token: Token([7; 32]),
+};
+
+const COMMIT: Decree = Decree::Commit {
+    n: 1,
     token: Token([7; 32]),
 };
 
@@ -42,63 +51,40 @@ fn suspected(alloc: Global, verifier: &mut Verifier<MemKeeper>) -> Result<usize,
     Ok(letters.len())
 }
 
-#[test]
-fn the_record_of_a_new_verifier(rt: HostRuntime) -> Result<(), Fail> {
-    let keeper = MemKeeper::new(rt.alloc());
-    let mut verifier = opened(rt.alloc(), 0, 0, keeper)?;
-    let bytes: &[u8] = &[1, 86, 0, 0, 0, 0, 0, 0, 0, 0, 0, 0, 0, 0, 0, 0, 0];
-    assert_eq!(rt; verifier.keeper().load(), Some(bytes));
-    Ok(())
+/// The record, copied.
+fn record_of(alloc: Global, verifier: &mut Verifier<MemKeeper>) -> Result<Vec<u8>, AllocError> {
+    Vec::from_slice(alloc, verifier.keeper().load().unwrap_or(&[]))
 }
 
-#[test]
-fn the_record_of_one_rollback(rt: HostRuntime) -> Result<(), Fail> {
-    let keeper = MemKeeper::new(rt.alloc());
-    let mut verifier = opened(rt.alloc(), 1, 1, keeper)?;
-    assert_eq!(rt; suspected(rt.alloc(), &mut verifier)?, 3);
-    let place = 1;
-    let decree = Decree::Rollback;
+/// The view of verifier 2 of seven that was in this view and is suspicious.
+fn view_after(alloc: Global, view: u64) -> Result<u64, Fail> {
+    let mut verifier = opened(alloc, 2, 3, MemKeeper::new(alloc))?;
     told(
-        rt.alloc(),
+        alloc,
         &mut verifier,
-        Node::Verifier(0),
-        Ballot::Decided { place, decree },
+        Node::Verifier(2),
+        Ballot::Change { view },
     )?;
-    let bytes: &[u8] = &[1, 86, 1, 1, 0, 0, 0, 0, 0, 0, 0, 1, 0, 0, 0, 0, 1, 0];
-    assert_eq!(rt; verifier.keeper().load(), Some(bytes));
-    let again = opened(rt.alloc(), 1, 1, verifier.end())?;
-    assert_eq!(rt; again.view(), 1);
-    assert_eq!(rt; again.known(), 1);
-    Ok(())
+    suspected(alloc, &mut verifier)?;
+    Ok(verifier.view())
 }
 
 #[test]
 fn a_view_of_its_own(rt: HostRuntime) -> Result<(), Fail> {
-    let keeper = MemKeeper::new(rt.alloc());
-    let mut verifier = opened(rt.alloc(), 2, 3, keeper)?;
-    let from = Node::Verifier(2);
-    told(rt.alloc(), &mut verifier, from, Ballot::Change { view: 10 })?;
-    suspected(rt.alloc(), &mut verifier)?;
-    assert_eq!(rt; verifier.view(), 16);
-    let view = u64::MAX;
-    told(rt.alloc(), &mut verifier, from, Ballot::Change { view })?;
-    assert_eq!(rt; suspected(rt.alloc(), &mut verifier).is_err(), true);
-    assert_eq!(rt; verifier.is_up(), false);
+    assert_eq!(rt; view_after(rt.alloc(), 1)?, 2);
+    assert_eq!(rt; view_after(rt.alloc(), 2)?, 9);
+    assert_eq!(rt; view_after(rt.alloc(), 9)?, 16);
+    assert_eq!(rt; view_after(rt.alloc(), 10)?, 16);
     Ok(())
 }
 
 #[test]
-fn a_save_that_fails(rt: HostRuntime) -> Result<(), Fail> {
-    let keeper = MemKeeper::new(rt.alloc());
-    let mut verifier = opened(rt.alloc(), 0, 0, keeper)?;
-    let executor = Node::Executor(0);
-    assert_eq!(rt; told(rt.alloc(), &mut verifier, executor, TOKEN)?, 1);
-    verifier.keeper().fail_next();
-    assert_eq!(rt; suspected(rt.alloc(), &mut verifier).is_err(), true);
+fn a_view_above_all_numbers(rt: HostRuntime) -> Result<(), Fail> {
+    let mut verifier = opened(rt.alloc(), 2, 3, MemKeeper::new(rt.alloc()))?;
+    let view = u64::MAX;
+    let from = Node::Verifier(2);
+    told(rt.alloc(), &mut verifier, from, Ballot::Change { view })?;
+    assert_eq!(rt; suspected(rt.alloc(), &mut verifier), Err(Fault::Stopped));
     assert_eq!(rt; verifier.is_up(), false);
-    assert_eq!(rt; suspected(rt.alloc(), &mut verifier).is_err(), true);
-    let mut again = opened(rt.alloc(), 0, 0, verifier.end())?;
-    assert_eq!(rt; again.view(), 0);
-    assert_eq!(rt; told(rt.alloc(), &mut again, executor, TOKEN)?, 0);
     Ok(())
 }

@@ -96,7 +96,7 @@ impl<K: Keeper> Verifier<K> {
     /// Opens the verifier `id` of `2u + 1`. Where the keeper has no record it is new, and its first
     /// record is saved. Else it goes on from its record, and asks the others for what it does not
     /// know. BadRecord: the record is not one of this verifier. Stopped: the first save failed, or
-    /// its failure could not be counted. A refused call hands the keeper back, with the record as
+    /// its failure could not be counted. NoMemory: memory was wanting. A refused call hands the keeper back, with the record as
     /// before.
     pub fn open(
         alloc: Global,
@@ -110,6 +110,8 @@ impl<K: Keeper> Verifier<K> {
         ensures unreadable { IfErr result (λ refused. refused.0 ≡ Fault.BadRecord → IsUnreadable u id (K.saved keeper)) }
         ensures stopped { IfErr result (λ refused. refused.0 ≡ Fault.Stopped → (K.failed keeper < K.failed refused.1) ⊎ (K.failed keeper ≡ 2 ^ 64 - 1)) }
         ensures saved { IfErr result (λ refused. K.saved refused.1 ≡ K.saved keeper) }
+        ensures counted { IfErr result (λ refused. K.failed keeper ≤ K.failed refused.1) }
+        ensures only { IfErr result (λ refused. (refused.0 ≡ Fault.NoMemory) ⊎ (refused.0 ≡ Fault.BadRecord) ⊎ (refused.0 ≡ Fault.Stopped)) }
     {
         match stored(alloc, u, id, &keeper) {
             None => Verifier::begin(alloc, id, u, keeper),
@@ -130,6 +132,7 @@ impl<K: Keeper> Verifier<K> {
         ensures only { IfErr result (λ refused. (refused.0 ≡ Fault.NoMemory) ⊎ (refused.0 ≡ Fault.Stopped)) }
         ensures stopped { IfErr result (λ refused. refused.0 ≡ Fault.Stopped → (K.failed keeper < K.failed refused.1) ⊎ (K.failed keeper ≡ 2 ^ 64 - 1)) }
         ensures saved { IfErr result (λ refused. K.saved refused.1 ≡ K.saved keeper) }
+        ensures counted { IfErr result (λ refused. K.failed keeper ≤ K.failed refused.1) }
     {
         let Ok(memory) = Memory::first(alloc, u, id) else {
             return Err((Fault::NoMemory, keeper));
@@ -178,14 +181,17 @@ impl<K: Keeper> Verifier<K> {
     fn answer(&mut self, alloc: Global, input: Input) -> Result<Vec<Letter<Ballot>>, Fault>
         ensures done { IfOk result (λ letters. self.new ≡ handled self.old input) }
         ensures letters { IfOk result (λ letters. letters.items ≡ (outcome self.old input).letters) }
+        ensures few { OnOk result (length self.new.state.log < 2 ^ 32) }
         ensures fits_none { IsTrue (not (fits self.old.state input)) → IsOk result }
         ensures same { OnErr result ((self.new.id ≡ self.old.id) × (self.new.u ≡ self.old.u)) }
         ensures old_record { OnErr result (self.new.saved ≡ self.old.saved) }
+        ensures counted { self.old.failures ≤ self.new.failures }
         ensures no_memory { result ≡ Err Fault.NoMemory → self.new.failures ≡ self.old.failures }
         ensures stopped { result ≡ Err Fault.Stopped → (self.old.failures < self.new.failures) ⊎ IsAtLimit self.old input }
         ensures only { IfErr result (λ fault. (fault ≡ Fault.NoMemory) ⊎ (fault ≡ Fault.Stopped)) }
     {
         let answer = self.memory.step(alloc, self.u, self.id, input)?;
+        prove!(self.memory.known() <= u64::from(u32::MAX));
         if answer.saves {
             save(alloc, self.u, self.id, &self.memory, &mut self.keeper)?;
         }
@@ -201,12 +207,14 @@ impl<K: Keeper> Verifier<K> {
     pub fn handle(&mut self, alloc: Global, input: Input) -> Result<Vec<Letter<Ballot>>, Fault>
         ensures done { IfOk result (λ letters. self.new ≡ handled self.old input) }
         ensures letters { IfOk result (λ letters. letters.items ≡ (outcome self.old input).letters) }
+        ensures few { OnOk result (length self.new.state.log < 2 ^ 32) }
         ensures fits_none { IsTrue self.old.up → IsTrue (not (fits self.old.state input)) → IsOk result }
 
         // After an error.
         ensures ends { OnErr result (IsTrue (not self.new.up)) }
         ensures same { OnErr result ((self.new.id ≡ self.old.id) × (self.new.u ≡ self.old.u)) }
         ensures old_record { OnErr result (self.new.saved ≡ self.old.saved) }
+        ensures counted { self.old.failures ≤ self.new.failures }
 
         // When each comes.
         ensures stopped_before { IsTrue (not self.old.up) → result ≡ Err Fault.Stopped }

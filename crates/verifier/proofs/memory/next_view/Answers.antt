@@ -1,5 +1,5 @@
-use Rattle.std.proofs.Common.{◌≡◌, ◌+◌, ◌-◌, ◌*◌, ◌≤◌, ◌^◌, false, true, sym, ◌∙◌, ap, subst, arith, IfNone}
-use Rattle.verifier.specs.State.{led_from, is_led_by, next_led}
+use Rattle.std.proofs.Common.{◌≡◌, ◌+◌, ◌-◌, ◌*◌, ◌≤◌, ◌^◌, sym, ◌∙◌, ap, arith}
+use Rattle.verifier.specs.State.{led_from, next_led}
 use Rattle.verifier.proofs.ViewLemmas.{led_from-above, led_from-found, led_from-passed}
 use Rattle.verifier.proofs.memory.next_view.Goals as goal
 

@@ -1,0 +1,20 @@
+pub mod Count
+pub mod Places
+pub mod Each
+pub mod Letters
+pub mod Stand
+pub mod Says
+pub mod Promised
+pub mod Accepting
+pub mod Proposing
+pub mod Tokens
+pub mod Choice
+pub mod Steps
+pub mod Received
+pub mod Unsaved
+pub mod Machine
+pub mod Grows
+pub mod ChosenList
+pub mod Proved
+pub mod Seats
+mod Rows

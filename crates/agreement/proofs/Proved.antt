@@ -1,0 +1,187 @@
+-- The laws, from what holds of every reached machine.
+use Rattle.std.proofs.Common.{◌≡◌, ℕ, zero, suc, ◌+◌, ◌-◌, ◌<◌, ◌≤◌, true, List, [], ◌∷◌, ◌++◌, length, take, fold, Option, Some, None, slice_get, inl, inr, refl, sym, ◌∙◌, ap, subst, ⊎_elim, arith, length-take-le, option_and_then}
+use Rattle.std.proofs.lemmas.Bool.{and_from, eq-eqb, cases_order}
+use Rattle.decrees.specs.declared.decree.Decree.{Decree}
+use Rattle.decrees.specs.declared.decree.Decree.TheVariants.{Commit, Rollback}
+use Rattle.decrees.specs.declared.ballot.Ballot.TheVariants.{Accept, Accepted}
+use Rattle.decrees.specs.declared.node.Node.TheVariants.{Verifier}
+use Rattle.decrees.specs.declared.standing.Standing.{Standing}
+use Rattle.decrees.specs.Standing.{first_standing, standing_after, standing, is_next, is_log_from, is_log, decree_at}
+use Rattle.verifier.specs.State.{State, next_place}
+use Rattle.agreement.specs.Letters.{Letters, Sent, Chosen, RestsOn, Backed}
+use Rattle.agreement.specs.Machine.{Slot, New, Up, Stopped, Machine, Event, first_machine, reached, letters_of}
+use Rattle.agreement.specs.ChosenList.{last_place, chosen}
+use Rattle.agreement.specs.Laws.{AtMostOne, AllBacked, recorded, record_of, Holds, AllKept, ToldIsChosen, ListIsChosen, ListIsBacked, LogsAreChosen, ListGrows}
+use Rattle.agreement.proofs.Count.{Quorum-outside}
+use Rattle.agreement.proofs.Places.{at_index, index_at, at_within, within_at, take_at, same_decrees, front_decrees}
+use Rattle.agreement.proofs.Letters.{AtLeast, LettersOk, chosen_stays, chosen_proposed, agreed}
+use Rattle.agreement.proofs.Stand.{Stand, Stand-down, Chosen-more}
+use Rattle.agreement.proofs.Machine.{SlotOk, reached_ok}
+use Rattle.agreement.proofs.Grows.{run_grows, run-append}
+use Rattle.agreement.proofs.ChosenList.{chosen_below_last, chosen_from-says, chosen_from-some}
+
+pub at_most_one : AtMostOne
+at_most_one u events p a b c k = agreed (reached_ok u events).letters p a b c k
+
+-- a chosen decree was proposed, and so it is backed
+pub chosen_backed : {u : ℕ} {ls : Letters} → LettersOk u ls → (p : ℕ) (d : Decree) → Chosen u ls p d → Backed u ls p d
+chosen_backed ok p d c = let l = chosen_proposed ok p d c in ok.backed l.0 c.0 p d l.1
+
+pub all_backed : AllBacked
+all_backed u events p d c = chosen_backed (reached_ok u events).letters p d c
+
+-- who accepted a decree that is chosen holds it
+accepts : {u : ℕ} {ls : Letters} {v : ℕ} (s : State) (p : ℕ) (d : Decree) → LettersOk u ls → Stand u ls v s → (c : Chosen u ls p d) → (a : Option (ℕ × Decree)) → s.accepted ≡ a → p ≡ next_place s → AtLeast c.0 a → Holds s p d
+accepts s p d ok st c None is place least = absurd least
+accepts {u} {ls} {v} s p d ok st c (Some b) is place least =
+    let was = st.grounds.accepted_sent b.0 b.1 is in
+    let proposal = subst (λ y. Sent ls (Verifier was.1.0) (Accept b.0 y b.1)) (sym place) was.1.1 in
+    let same : b.1 ≡ d = sym (chosen_stays ok (suc b.0) c.0 b.0 was.1.0 p d b.1 (omega arith) least c.1 proposal) in
+    inr (place, (b.0, subst (λ y. s.accepted ≡ Some (b.0, y)) same is))
+
+holds : {u : ℕ} {ls : Letters} {v : ℕ} (s : State) (p : ℕ) (d : Decree) → LettersOk u ls → Stand u ls v s → 1 ≤ p → (c : Chosen u ls p d) → Sent ls (Verifier v) (Accepted c.0 p d) → Holds s p d
+holds {u} {ls} {v} s p d ok st low c sent = ⊎_elim
+    (λ (known : p ≤ length s.log).
+    let at = within_at s.log p low known in
+    let same : at.0 ≡ d = agreed ok p at.0 d (st.grounds.log_chosen p at.0 at.1) c in
+    inl (subst (λ y. decree_at s.log p ≡ Some y) same at.1))
+    (λ (next : (p ≡ length s.log + 1) × AtLeast c.0 s.accepted). accepts s p d ok st c s.accepted refl next.0 next.1)
+    (st.owns.kept c.0 p d sent).1
+
+slot_at : (slots : List Slot) (v : ℕ) → v < length slots → (slot : Slot) × (slice_get slots v ≡ Some slot)
+slot_at [] v h = absurd (omega arith)
+slot_at (x ∷ xs) zero h = (x, refl)
+slot_at (x ∷ xs) (suc v) h = slot_at xs v (omega arith)
+
+-- a chosen decree's place is above 0
+pub chosen_above : {u : ℕ} {ls : Letters} → LettersOk u ls → (p : ℕ) (d : Decree) → Chosen u ls p d → 1 ≤ p
+chosen_above ok p d c = let all = (chosen_backed ok p d c).all in omega (arith, all)
+
+-- a record stands by the verifier's letters
+record_stands : (u : ℕ) (events : List Event) (v : ℕ) (saved : State) → record_of (reached u events).verifiers v ≡ Some saved → Stand u (letters_of u events) v saved
+record_stands u events v saved has = by (slice_get (reached u events).verifiers v) refl has
+  where
+    by : (o : Option Slot) → slice_get (reached u events).verifiers v ≡ o → option_and_then recorded o ≡ Some saved → Stand u (letters_of u events) v saved
+    by None at e = absurd (cc)
+    by (Some New) at e = absurd (cc)
+    by (Some (Up s x)) at e =
+        let st = (reached_ok u events).stands v (Up s x) at in
+        let same : x ≡ saved = cc in
+        subst (Stand u (letters_of u events) v) (sym st.1 ∙ same) (Stand-down st.0)
+    by (Some (Stopped x)) at e =
+        let same : x ≡ saved = cc in
+        subst (Stand u (letters_of u events) v) same ((reached_ok u events).stands v (Stopped x) at).0
+
+-- who has said that it accepted a decree has a record
+has_record : (u : ℕ) (ls : Letters) (v : ℕ) (slot : Slot) (w p : ℕ) (d : Decree) → SlotOk u ls v slot → 1 ≤ p → Sent ls (Verifier v) (Accepted w p d) → (saved : State) × (recorded slot ≡ Some saved)
+has_record u ls v New w p d st low sent = absurd (⊎_elim
+    (λ (z : p ≤ 0). omega (arith, low, z))
+    (λ (z : (p ≡ 0 + 1) × ⊥). z.1)
+    (st.owns.kept w p d sent).1)
+has_record u ls v (Up s saved) w p d st low sent = (saved, refl)
+has_record u ls v (Stopped saved) w p d st low sent = (saved, refl)
+
+record_at : (slots : List Slot) (v : ℕ) (slot : Slot) (saved : State) → slice_get slots v ≡ Some slot → recorded slot ≡ Some saved → record_of slots v ≡ Some saved
+record_at slots v slot saved at has = ap (option_and_then recorded) at ∙ has
+
+pub all_kept : AllKept
+all_kept u events lost p d few c =
+    let good = reached_ok u events in
+    let ok = good.letters in
+    let count = good.count in
+    let low = chosen_above ok p d c in
+    let q = Quorum-outside lost few c.1 in
+    let at = slot_at (reached u events).verifiers q.0 (omega (arith, q.1, count)) in
+    let has = has_record u (letters_of u events) q.0 at.0 c.0 p d (good.stands q.0 at.0 at.1) low q.3 in
+    let recorded_at : record_of (reached u events).verifiers q.0 ≡ Some has.0 = record_at (reached u events).verifiers q.0 at.0 has.0 at.1 has.1 in
+    record {
+      verifier = q.0;
+      saved = has.0;
+      is_member = q.1;
+      not_lost = q.2;
+      has_record = recorded_at;
+      holds = holds has.0 p d ok (record_stands u events q.0 has.0 recorded_at) low c q.3;
+    }
+
+pub told_is_chosen : ToldIsChosen
+told_is_chosen u events v p d sent = (reached_ok u events).letters.decided v p d sent
+
+-- at each place of the list the decree is chosen
+list_chosen : (u : ℕ) (ls : Letters) (p : ℕ) (d : Decree) → decree_at (chosen u ls) p ≡ Some d → Chosen u ls p d
+list_chosen u ls p d e =
+    let i = at_index (chosen u ls) p d e in
+    let at : 1 + (p - 1) ≡ p = omega (arith, i.0) in
+    subst (λ z. Chosen u ls z d) at (chosen_from-says u ls 1 (last_place ls) (p - 1) d i.1)
+
+-- and each chosen decree stands in it
+chosen_listed : {u : ℕ} {ls : Letters} → LettersOk u ls → (p : ℕ) (d : Decree) → Chosen u ls p d → decree_at (chosen u ls) p ≡ Some d
+chosen_listed {u} {ls} ok p d c =
+    let low = chosen_above ok p d c in
+    let last = chosen_below_last u ls p d c in
+    let backed = chosen_backed ok p d c in
+    let all = backed.all in
+    let some = chosen_from-some u ls 1 (last_place ls) (p - 1) (omega (arith, low, last))
+    (λ k le. ⊎_elim
+    (λ (e : 1 + k ≡ p). (d, subst (λ z. Chosen u ls z d) (sym e) c))
+    (⊎_elim
+    (λ (e : 1 + k < p). let w = within_at backed.before (1 + k) (omega arith) (omega (arith, all, e)) in (w.0, backed.chosen (1 + k) w.0 w.1))
+    (λ (e : p < 1 + k). absurd (omega (arith, le, e))))
+    (cases_order (1 + k) p)) in
+    let at = index_at (chosen u ls) p (p - 1) some.0 (omega (arith, low)) some.1 in
+    let same : some.0 ≡ d = agreed ok p some.0 d (list_chosen u ls p some.0 at) c in
+    subst (λ x. decree_at (chosen u ls) p ≡ Some x) same at
+
+pub list_is_chosen : ListIsChosen
+list_is_chosen u events p d = (list_chosen u (letters_of u events) p d, chosen_listed (reached_ok u events).letters p d)
+
+-- what backs a decree are those before it in the list
+before_is : {u : ℕ} {ls : Letters} → LettersOk u ls → (p : ℕ) (d : Decree) → decree_at (chosen u ls) p ≡ Some d → (b : Backed u ls p d) → b.before ≡ take (p - 1) (chosen u ls)
+before_is {u} {ls} ok p d at b =
+    let within = at_within (chosen u ls) p d at in
+    let all = b.all in
+    let few : length (take (p - 1) (chosen u ls)) ≡ p - 1 = length-take-le (p - 1) (chosen u ls) (omega (arith, within.0, within.1)) in
+    same_decrees b.before (take (p - 1) (chosen u ls)) (omega (arith, all, few))
+    (λ q x e. let w = at_within b.before q x e in take_at (p - 1) (chosen u ls) q x (omega (arith, all, w.1)) (chosen_listed ok q x (b.chosen q x e)))
+
+list_rests : {u : ℕ} {ls : Letters} → LettersOk u ls → (p : ℕ) (d : Decree) → decree_at (chosen u ls) p ≡ Some d → RestsOn u ls (take (p - 1) (chosen u ls)) d
+list_rests {u} {ls} ok p d at =
+    let b = chosen_backed ok p d (list_chosen u ls p d at) in
+    subst (λ ds. RestsOn u ls ds d) (before_is ok p d at b) b.rests
+
+is_next-rests : (u : ℕ) (ls : Letters) (before : List Decree) (d : Decree) → RestsOn u ls before d → is_next (standing before) d ≡ true
+is_next-rests u ls before (Commit n t) r = eq-eqb n ((standing before).n + 1) r.next
+is_next-rests u ls before Rollback r = refl
+
+log_from : (s : Standing) (ds : List Decree) → ((i : ℕ) (d : Decree) → slice_get ds i ≡ Some d → is_next (fold standing_after s (take i ds)) d ≡ true) → is_log_from s ds ≡ true
+log_from s [] h = refl
+log_from s (d ∷ ds) h = and_from (is_next s d) (is_log_from (standing_after s d) ds) (h 0 d refl) (log_from (standing_after s d) ds (λ i b e. h (suc i) b e))
+
+list_is_log : {u : ℕ} {ls : Letters} → LettersOk u ls → is_log (chosen u ls) ≡ true
+list_is_log {u} {ls} ok = log_from first_standing (chosen u ls)
+    (λ i d e.
+    let at = index_at (chosen u ls) (i + 1) i d refl e in
+    let same : (i + 1) - 1 ≡ i = omega arith in
+    is_next-rests u ls (take i (chosen u ls)) d (subst (λ k. RestsOn u ls (take k (chosen u ls)) d) same (list_rests ok (i + 1) d at)))
+
+pub list_is_backed : ListIsBacked
+list_is_backed u events = record {
+  rests = λ p d at. list_rests (reached_ok u events).letters p d at;
+  log = list_is_log (reached_ok u events).letters;
+}
+
+pub logs_are_chosen : LogsAreChosen
+logs_are_chosen u events v saved has =
+    front_decrees saved.log (chosen u (letters_of u events))
+    (λ p d at. chosen_listed (reached_ok u events).letters p d ((record_stands u events v saved has).grounds.log_chosen p d at))
+
+-- what is chosen by these letters is chosen by more
+chosen_front : {u : ℕ} (ls all new : Letters) → all ≡ ls ++ new → LettersOk u all → (more : List Decree) × (chosen u all ≡ chosen u ls ++ more)
+chosen_front {u} ls all new e ok = front_decrees (chosen u ls) (chosen u all)
+    (λ p d at. chosen_listed ok p d (subst (λ z. Chosen u z p d) (sym e) (Chosen-more new (list_chosen u ls p d at))))
+
+pub list_grows : ListGrows
+list_grows u events more =
+    let later = run_grows u more (reached u events) in
+    chosen_front (letters_of u events) (letters_of u (events ++ more)) later.0
+    (ap (λ (m : Machine). m.letters) (run-append u events more (first_machine u)) ∙ later.1)
+    (reached_ok u (events ++ more)).letters

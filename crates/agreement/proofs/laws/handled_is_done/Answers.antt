@@ -1,0 +1,5 @@
+use Rattle.agreement.proofs.Seats.{handled_is_done}
+use Rattle.agreement.proofs.laws.handled_is_done.Goals as goal
+
+pub returns : goal.returns
+returns c = handled_is_done

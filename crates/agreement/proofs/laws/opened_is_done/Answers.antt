@@ -1,0 +1,5 @@
+use Rattle.agreement.proofs.Seats.{opened_is_done}
+use Rattle.agreement.proofs.laws.opened_is_done.Goals as goal
+
+pub returns : goal.returns
+returns c = opened_is_done

@@ -1,0 +1,69 @@
+-- What holds of every reached machine, whatever its events.
+use Rattle.std.specs.Prelude.{◌≡◌, ℕ, ◌-◌, ◌<◌, ◌≤◌, ◌⊎◌, ◌↔◌, Bool, IsTrue, not, List, ◌++◌, take, Option, None, Some, slice_get, option_and_then}
+use Rattle.decrees.specs.declared.decree.Decree.{Decree}
+use Rattle.decrees.specs.declared.ballot.Ballot.TheVariants.{Decided}
+use Rattle.decrees.specs.declared.node.Node.TheVariants.{Verifier}
+use Rattle.decrees.specs.Count.{count_below, members}
+use Rattle.decrees.specs.Standing.{decree_at, is_log}
+use Rattle.verifier.specs.State.{State, next_place}
+use Rattle.agreement.specs.Letters.{Sent, Chosen, Backed, RestsOn}
+use Rattle.agreement.specs.Machine.{Slot, New, Up, Stopped, Event, reached, letters_of}
+use Rattle.agreement.specs.ChosenList.{chosen}
+
+-- two decrees that are chosen at one place are the same
+abbrev pub AtMostOne : Type 0
+AtMostOne = (u : ℕ) (events : List Event) (place : ℕ) (a b : Decree) → Chosen u (letters_of u events) place a → Chosen u (letters_of u events) place b → a ≡ b
+
+-- each chosen decree is backed
+abbrev pub AllBacked : Type 0
+AllBacked = (u : ℕ) (events : List Event) (place : ℕ) (d : Decree) → Chosen u (letters_of u events) place d → Backed u (letters_of u events) place d
+
+abbrev pub recorded : Slot → Option State
+recorded New = None
+recorded (Up s saved) = Some saved
+recorded (Stopped saved) = Some saved
+
+-- the record of a verifier, if it has one
+abbrev pub record_of : List Slot → ℕ → Option State
+record_of slots v = option_and_then recorded (slice_get slots v)
+
+-- the decree stands at its place in the log, or is the accepted one of the place after it
+abbrev pub Holds : State → ℕ → Decree → Type 0
+Holds s place d = (decree_at s.log place ≡ Some d) ⊎ ((place ≡ next_place s) × ((view : ℕ) × (s.accepted ≡ Some (view, d))))
+
+-- a verifier that is not lost, with a record that holds the decree
+pub record Kept (u : ℕ) (verifiers : List Slot) (lost : ℕ → Bool) (place : ℕ) (d : Decree) : Type 0 where
+  pub verifier : ℕ
+  pub saved : State
+  pub is_member : verifier < members u
+  pub not_lost : IsTrue (not (lost verifier))
+  pub has_record : record_of verifiers verifier ≡ Some saved
+  pub holds : Holds saved place d
+
+-- where at most u verifiers are lost, another keeps each chosen decree
+abbrev pub AllKept : Type 0
+AllKept = (u : ℕ) (events : List Event) (lost : ℕ → Bool) (place : ℕ) (d : Decree) → count_below lost (members u) ≤ u → Chosen u (letters_of u events) place d → Kept u (reached u events).verifiers lost place d
+
+-- what a verifier tells to be decided is chosen
+abbrev pub ToldIsChosen : Type 0
+ToldIsChosen = (u : ℕ) (events : List Event) (v place : ℕ) (d : Decree) → Sent (letters_of u events) (Verifier v) (Decided place d) → Chosen u (letters_of u events) place d
+
+-- the computed list has, at each place, the decree that is chosen there, and no other
+abbrev pub ListIsChosen : Type 0
+ListIsChosen = (u : ℕ) (events : List Event) (place : ℕ) (d : Decree) → (decree_at (chosen u (letters_of u events)) place ≡ Some d) ↔ Chosen u (letters_of u events) place d
+
+-- each decree of the list rests on those before it, and so the list is a log
+pub record IsBackedList (u : ℕ) (events : List Event) : Type 0 where
+  pub rests : (place : ℕ) (d : Decree) → decree_at (chosen u (letters_of u events)) place ≡ Some d → RestsOn u (letters_of u events) (take (place - 1) (chosen u (letters_of u events))) d
+  pub log : IsTrue (is_log (chosen u (letters_of u events)))
+
+abbrev pub ListIsBacked : Type 0
+ListIsBacked = (u : ℕ) (events : List Event) → IsBackedList u events
+
+-- the log of each record is a beginning of the list
+abbrev pub LogsAreChosen : Type 0
+LogsAreChosen = (u : ℕ) (events : List Event) (v : ℕ) (saved : State) → record_of (reached u events).verifiers v ≡ Some saved → (more : List Decree) × (chosen u (letters_of u events) ≡ saved.log ++ more)
+
+-- more events only add to its end
+abbrev pub ListGrows : Type 0
+ListGrows = (u : ℕ) (events more : List Event) → (new : List Decree) × (chosen u (letters_of u (events ++ more)) ≡ chosen u (letters_of u events) ++ new)

@@ -1,0 +1,5 @@
+pub mod Letters
+pub mod Machine
+pub mod ChosenList
+pub mod Laws
+pub mod Seats

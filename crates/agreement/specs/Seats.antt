@@ -1,0 +1,33 @@
+-- The verifiers of the machine are those of the code: what `verifier` promises of its calls are the machine's lines.
+use Rattle.std.specs.Prelude.{◌≡◌, ℕ, true, not, IsTrue, [], Some, None}
+use Rattle.verifier.specs.declared.input.Input.{Input}
+use Rattle.verifier.specs.State.{State, first_state, down}
+use Rattle.verifier.specs.Lines.{restarted}
+use Rattle.verifier.specs.Step.{step}
+use Rattle.verifier.specs.Record.{record_text}
+use Rattle.verifier.specs.Seat.{Seat, outcome, handled, Opens}
+use Rattle.agreement.specs.Letters.{Letters}
+use Rattle.agreement.specs.Machine.{Slot, New, Up, Stopped, saved_after}
+
+-- verifier `id` of the machine is this one of the code
+abbrev pub IsIn : ℕ → ℕ → Slot → Seat → Type 0
+IsIn u id New seat = ⊥
+IsIn u id (Up s saved) seat = seat ≡ record { id = id; u = u; state = s; up = true; saved = Some (record_text u id saved); failures = seat.failures }
+IsIn u id (Stopped saved) seat = (seat.id ≡ id) × (seat.u ≡ u) × IsTrue (not seat.up) × (seat.saved ≡ Some (record_text u id saved))
+
+-- an Ok of `handle` is a step that is done
+abbrev pub HandledIsDone : Type 0
+HandledIsDone = (u id : ℕ) (s saved : State) (seat : Seat) (x : Input) → IsIn u id (Up s saved) seat
+    → IsIn u id (Up (step u id s x).state (saved_after saved (step u id s x))) (handled seat x) × ((outcome seat x).letters ≡ (step u id s x).letters)
+
+-- an Err of it leaves the record, so the verifier stops before the step
+abbrev pub RefusedIsStopped : Type 0
+RefusedIsStopped = (u id : ℕ) (s saved : State) (seat after : Seat) → IsIn u id (Up s saved) seat
+    → (after.id ≡ seat.id) × (after.u ≡ seat.u) → IsTrue (not after.up) → after.saved ≡ seat.saved → IsIn u id (Stopped saved) after
+
+-- an Ok of `open` is a Restart that is done: of a new verifier, and of one that has a record
+pub record OpenedIsDone : Type 0 where
+  pub new : (u id failures : ℕ) (seat : Seat) (letters : Letters) → Opens u id None failures seat letters
+      → IsIn u id (Up (first_state u id) (down (first_state u id))) seat × (letters ≡ [])
+  pub again : (u id failures : ℕ) (s : State) (seat : Seat) (letters : Letters) → Opens u id (Some (record_text u id (down s))) failures seat letters
+      → IsIn u id (Up (restarted u id (down s)).state (saved_after (down s) (restarted u id (down s)))) seat × (letters ≡ (restarted u id (down s)).letters)

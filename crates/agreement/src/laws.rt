@@ -1,0 +1,65 @@
+//! Laws of every reached machine. The functions do nothing: what each says is its contract.
+
+ghost use Rattle.agreement.specs.Seats.{HandledIsDone, RefusedIsStopped, OpenedIsDone};
+ghost use Rattle.agreement.specs.Laws.{AtMostOne, AllBacked, AllKept, ToldIsChosen, ListIsChosen, ListIsBacked, LogsAreChosen, ListGrows};
+
+/// At each place at most one decree is chosen.
+pub fn at_most_one_is_chosen()
+    ensures { AtMostOne }
+{}
+
+/// Each chosen decree is backed: decrees are chosen at all places before it, and where it is a
+/// Commit, more than `u` executors have sent its token for the next number, in the epoch and over
+/// the token that those decrees stand for.
+pub fn chosen_is_backed()
+    ensures { AllBacked }
+{}
+
+/// Where at most `u` verifiers are lost, the record of another holds each chosen decree, in its log
+/// or as what it has accepted.
+pub fn chosen_is_kept()
+    ensures { AllKept }
+{}
+
+/// What a verifier tells to be decided is chosen.
+pub fn told_is_chosen()
+    ensures { ToldIsChosen }
+{}
+
+/// The list of decrees that is computed from the letters has, at each place, the decree that is
+/// chosen there, and no other. So the chosen decrees have no gap.
+pub fn list_is_what_is_chosen()
+    ensures { ListIsChosen }
+{}
+
+/// Each decree of that list rests on those before it, so each Commit is of the number after the
+/// last one.
+pub fn list_is_backed()
+    ensures { ListIsBacked }
+{}
+
+/// What a verifier knows, by its record, is a beginning of that list.
+pub fn logs_begin_the_list()
+    ensures { LogsAreChosen }
+{}
+
+/// Whatever comes later only adds to the end of that list.
+pub fn list_only_grows()
+    ensures { ListGrows }
+{}
+
+/// Where a verifier of the machine is one of the code, an Ok of `Verifier::handle` is a step that is
+/// done, with its letters and its record.
+pub fn handled_is_done()
+    ensures { HandledIsDone }
+{}
+
+/// An Err of `Verifier::handle` is a step in which the verifier stops with the record before it.
+pub fn refused_is_stopped()
+    ensures { RefusedIsStopped }
+{}
+
+/// An Ok of `Verifier::open` is a Restart that is done: of a new verifier, or from its record.
+pub fn opened_is_done()
+    ensures { OpenedIsDone }
+{}

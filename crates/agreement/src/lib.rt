@@ -1,0 +1,13 @@
+//! Laws of agreement: what holds whatever the network does, and whichever verifiers stop when.
+//!
+//! It stands on `verifier`, whose step functions the machine of `specs/Machine.antt` is made of. The
+//! layer above uses the lemmas of `proofs/Machine.antt`, or calls a law: each is the contract of a
+//! function that does nothing.
+#![tactic(auto)]
+
+mod laws;
+
+pub use laws::{
+    at_most_one_is_chosen, chosen_is_backed, chosen_is_kept, list_is_backed,
+    list_is_what_is_chosen, list_only_grows, logs_begin_the_list, told_is_chosen,
+};

@@ -1,0 +1,28 @@
+//! What every step keeps, and what a record gives back. None of these functions does anything: what
+//! each says is its contract.
+
+ghost use Rattle.verifier.specs.Laws.{UnfitStays, LearnsInOrder, StaysALog, ViewNeverFalls, UnsavedStays, SavedIsRecord, OneState};
+
+/// An input that fits no line changes nothing, saves nothing and is answered by no letter.
+pub fn unfit_input_changes_nothing()
+    ensures { UnfitStays }
+{}
+
+/// A step forgets no decree, and learns one at most, which could come next.
+pub fn decrees_are_learned_in_order()
+    ensures order { LearnsInOrder }
+    ensures log { StaysALog }
+{}
+
+/// No step leads to a lower view.
+pub fn views_never_fall()
+    ensures { ViewNeverFalls }
+{}
+
+/// What a crash leaves is what was saved: a step that saves nothing leaves it as it was, a record
+/// can be read, and it gives that back and nothing else.
+pub fn records_outlive_a_crash()
+    ensures unsaved { UnsavedStays }
+    ensures read { SavedIsRecord }
+    ensures one { OneState }
+{}
