@@ -153,9 +153,9 @@ pub sessions_fit_after : (base : StateView) (batch : Batch) (ordered : Bool) (w 
 sessions_fit_after base batch ordered w worked done last fits sessions s same few =
     let round = done_is_round base batch ordered w worked done last in
     let one : Each AnswersFit (replies_of base batch w.running) = λ i a at.
-        (let r = get_map (answered round.answers) (runners base batch) i a (ap (λ xs. slice_get xs i) (sym round.replied) ∙ at) in
-        let fit = each-of-all RequestFits batch.requests fits.each r.0.0 r.0.1 (each_at base batch ordered i r.0 r.1) in
-        subst AnswersFit (sym r.2) (record { client = fit.client; number = fit.number })) in
+    (let r = get_map (answered round.answers) (runners base batch) i a (ap (λ xs. slice_get xs i) (sym round.replied) ∙ at) in
+    let fit = each-of-all RequestFits batch.requests fits.each r.0.0 r.0.1 (each_at base batch ordered i r.0 r.1) in
+    subst AnswersFit (sym r.2) (record { client = fit.client; number = fit.number })) in
     let all : Each AnswersFit (replies_to batch.requests w.running) = subst (λ (rs : List Answered). Each AnswersFit rs) (sym (same_replies base batch ordered w worked)) one in
     let each = kept_fit base.sessions (replies_to batch.requests w.running) (each-of-all SessionFits (entries base.sessions) sessions.each) all in
     record {
@@ -187,7 +187,7 @@ pub started_work : (base : StateView) (batch : Batch) (ordered : Bool) (group : 
     → Worked base batch ordered (record { items = items; running = running; group = group })
 started_work base batch ordered group items running same all first =
     subst (λ (w : Progress). Worked base batch ordered w) (λ i. record { items = sym same i; running = sym all i; group = group })
-      (began group (subst (λ (rs : List Running). IsFirst rs group) all first))
+    (began group (subst (λ (rs : List Running). IsFirst rs group) all first))
 
 -- what is completed is a round
 pub completed : (base : StateView) (batch : Batch) (ordered : Bool) (w : Progress) → Worked base batch ordered w → IsTrue (is_group_done w) → IsLast w.running (Some w.group)
@@ -198,7 +198,7 @@ completed base batch ordered w worked done last after replies e f =
 -- the state with its token, of sessions and items that are the work's
 pub made_of : (base : StateView) (batch : Batch) (sessions kept : Replies) (pages items : Items) → sessions ≡ kept → pages ≡ items
     → ◌≡◌ {A = StateView}
-      (with_token (record { number = batch.n; previous = base.token; epoch = batch.epoch; batch = digest (batch_text batch); moment = moment_of base batch; token = base.token; sessions = sessions; items = pages }))
-      (with_token (record { number = batch.n; previous = base.token; epoch = batch.epoch; batch = digest (batch_text batch); moment = moment_of base batch; token = base.token; sessions = kept; items = items }))
+    (with_token (record { number = batch.n; previous = base.token; epoch = batch.epoch; batch = digest (batch_text batch); moment = moment_of base batch; token = base.token; sessions = sessions; items = pages }))
+    (with_token (record { number = batch.n; previous = base.token; epoch = batch.epoch; batch = digest (batch_text batch); moment = moment_of base batch; token = base.token; sessions = kept; items = items }))
 made_of base batch sessions kept pages items e f =
     λ i. with_token (record { number = batch.n; previous = base.token; epoch = batch.epoch; batch = digest (batch_text batch); moment = moment_of base batch; token = base.token; sessions = e i; items = f i })

@@ -22,11 +22,12 @@ least_is last found (r ∷ rs) n e = by (comes_after last r.group) refl found (l
   where
     same : (a b : ℕ) → ◌≡◌ {A = Option ℕ} (Some a) (Some b) → a ≡ b
     same a b e = cc e
+
     by : (b : Bool) → comes_after last r.group ≡ b → (found : Option ℕ) → Least last (lesser_if (comes_after last r.group) found r.group) rs n → Least last found (r ∷ rs) n
     by false t found h =
         let l = subst (λ (b : Bool). Least last (lesser_if b found r.group) rs n) t h in
         record {
-          from = elim l.from [ | inl f ↦ inl f | inr g ↦ inr (suc g.0, g.1, g.2, g.3, g.4) ];
+          from = elim l.from [ inl f ↦ inl f | inr g ↦ inr (suc g.0, g.1, g.2, g.3, g.4) ];
           below = λ i x at. under i x at l.below t;
           first = l.first;
         }
@@ -37,7 +38,7 @@ least_is last found (r ∷ rs) n e = by (comes_after last r.group) refl found (l
     by true t None h =
         let l = subst (λ (b : Bool). Least last (lesser_if b None r.group) rs n) t h in
         record {
-          from = inr (elim l.from [ | inl f ↦ (0, r, refl, same r.group n f, ap (comes_after last) (sym (same r.group n f)) ∙ t) | inr g ↦ (suc g.0, g.1, g.2, g.3, g.4) ]);
+          from = inr (elim l.from [ inl f ↦ (0, r, refl, same r.group n f, ap (comes_after last) (sym (same r.group n f)) ∙ t) | inr g ↦ (suc g.0, g.1, g.2, g.3, g.4) ]);
           below = λ i x at. under i x at l.below (l.first r.group refl);
           first = λ m f. absurd (cc f);
         }
@@ -60,11 +61,13 @@ least_is last found (r ∷ rs) n e = by (comes_after last r.group) refl found (l
         under : (i : ℕ) (x : Running) → slice_get (r ∷ rs) i ≡ Some x → Each (λ x. comes_after last x.group ≡ true → n ≤ x.group) rs → n ≤ r.group → comes_after last x.group ≡ true → n ≤ x.group
         under zero x at below l u = let here : r ≡ x = cc at in omega (arith, l, ap (λ (y : Running). y.group) here)
         under (suc i) x at below l u = below i x at u
+
         least_one : (a b : ℕ) → (min a b ≡ a) ⊎ (min a b ≡ b)
         least_one a b = elim (cases_Bool (nat_le a b)) [
           | inl t ↦ inl (let l = leb-true a b t in omega (arith, l))
           | inr f ↦ inr (let l = leb-false a b f in omega (arith, l))
         ]
+
         pick : (m : ℕ) → min m r.group ≡ n → comes_after last r.group ≡ true → (◌≡◌ {A = Option ℕ} (Some m) (Some n)) ⊎ ((i : ℕ) × (x : Running) × (slice_get (r ∷ rs) i ≡ Some x) × (x.group ≡ n) × (comes_after last n ≡ true))
         pick m e t = elim (least_one m r.group) [
           | inl a ↦ inl (ap (λ k. Some k) (sym a ∙ e))

@@ -74,7 +74,7 @@ module _ {X : Type 0} where
             let later = order_push (set lists h.0 h.1) order h.0 h.1 x h.3 (get_set_same lists h.0 (y ∷ h.1) h.1 h.2) in
             let there : slice_get (set lists i (xs ++ x ∷ [])) i ≡ Some (y ∷ (h.1 ++ x ∷ [])) = get_set_same lists i xs (xs ++ x ∷ []) at ∙ ap (λ (ys : List X). Some (ys ++ x ∷ [])) first in
             let lists_are : set (set lists h.0 h.1) h.0 (h.1 ++ x ∷ []) ≡ set (set lists i (xs ++ x ∷ [])) i (h.1 ++ x ∷ []) =
-                set_same lists h.0 h.1 (h.1 ++ x ∷ []) ∙ sym (set_same lists i (xs ++ x ∷ []) (h.1 ++ x ∷ []) ∙ ap (λ k. set lists k (h.1 ++ x ∷ [])) same) in
+            set_same lists h.0 h.1 (h.1 ++ x ∷ []) ∙ sym (set_same lists i (xs ++ x ∷ []) (h.1 ++ x ∷ []) ∙ ap (λ k. set lists k (h.1 ++ x ∷ [])) same) in
             (i, h.1 ++ x ∷ [], there, subst (λ (ls : List (List X)). IsInterleaving ls (order ++ x ∷ [])) lists_are later)
         | inr other ↦
             let still : slice_get (set lists h.0 h.1) i ≡ Some xs = get_set_other lists h.0 i h.1 (λ e. other (sym e)) ∙ at in

@@ -106,8 +106,10 @@ fresh_apart s earlier (q ∷ later) i j r t at there e = by (λ i j a b. fresh_a
   where
     low : (i : ℕ) (r : Runner) → slice_get (fresh_after s (earlier ++ q ∷ []) later) i ≡ Some r → length earlier < r.0
     low i r at = omega (arith, fresh_low s (earlier ++ q ∷ []) later i r at, length_push earlier q)
+
     head : (r : Runner) → ◌≡◌ {A = Option Runner} (Some (length earlier, q)) (Some r) → length earlier ≡ r.0
     head r at = ap (λ (o : Runner). o.0) (one_value (length earlier, q) r at)
+
     by : ((i j : ℕ) → slice_get (fresh_after s (earlier ++ q ∷ []) later) i ≡ Some r → slice_get (fresh_after s (earlier ++ q ∷ []) later) j ≡ Some t → i ≡ j)
         → (b : Bool) (i j : ℕ) → slice_get ((if b then (length earlier, q) ∷ [] else []) ++ fresh_after s (earlier ++ q ∷ []) later) i ≡ Some r
         → slice_get ((if b then (length earlier, q) ∷ [] else []) ++ fresh_after s (earlier ++ q ∷ []) later) j ≡ Some t → i ≡ j
@@ -147,14 +149,16 @@ module _ (base : StateView) (batch : Batch) (ordered : Bool) where
     | inl t ↦
         let all : take (length x.answers) x.steps ≡ x.steps = take_all (length x.answers) x.steps (done (grind (arith, nat_tests))) in
         rw (t, same_test x.group (group_of batch ordered r) g true group_is t)
-          (ap (map (λ step. (x.place, step))) all ∙ (λ i. map (λ step. (place_is i, step)) (steps_are i)))
+        (ap (map (λ step. (x.place, step))) all ∙ (λ i. map (λ step. (place_is i, step)) (steps_are i)))
     | inr t ↦ rw (t, same_test x.group (group_of batch ordered r) g false group_is t) refl
   ]
     where
       group_is : x.group ≡ group_of batch ordered r
       group_is = ap (λ (y : Running). y.group) e
+
       place_is : x.place ≡ r.0
       place_is = ap (λ (y : Running). y.place) e
+
       steps_are : x.steps ≡ steps r.1.command
       steps_are = ap (λ (y : Running). y.steps) e
 

@@ -69,10 +69,10 @@ module _ (base : StateView) (batch : Batch) (ordered : Bool) where
       let within = slice_get_within x.steps (length x.answers) step next in
       let is : get_or x.steps (length x.answers) step ≡ step = get_or_from_slice_get x.steps (length x.answers) step step next in
       rw (test x.group g here)
-        (ap (λ k. map (λ s. (x.place, s)) (take k x.steps)) (length_push x.answers a)
-        ∙ ap (map (λ s. (x.place, s))) (take_more x.steps (length x.answers) step within)
-        ∙ map-append (λ s. (x.place, s)) (take (length x.answers) x.steps) (get_or x.steps (length x.answers) step ∷ [])
-        ∙ ap (λ s. map (λ s. (x.place, s)) (take (length x.answers) x.steps) ++ (x.place, s) ∷ []) is)
+      (ap (λ k. map (λ s. (x.place, s)) (take k x.steps)) (length_push x.answers a)
+      ∙ ap (map (λ s. (x.place, s))) (take_more x.steps (length x.answers) step within)
+      ∙ map-append (λ s. (x.place, s)) (take (length x.answers) x.steps) (get_or x.steps (length x.answers) step ∷ [])
+      ∙ ap (λ s. map (λ s. (x.place, s)) (take (length x.answers) x.steps) ++ (x.place, s) ∷ []) is)
     where
       test : (m n : ℕ) → m ≡ n → (m == n) ≡ true
       test m n e = grind (arith, nat_tests)
@@ -169,6 +169,7 @@ module _ (base : StateView) (batch : Batch) (ordered : Bool) where
     where
       test : (m n : ℕ) → m ≡ n → (m == n) ≡ true
       test m n e = grind (arith, nat_tests)
+
       one : (b : Bool) → b ≡ true → (not b || is_done x) ≡ true → length x.steps ≤ length x.answers
       one true e h = leb-true (length x.steps) (length x.answers) h
       one false e h = absurd (cc e)
@@ -196,13 +197,13 @@ module _ (base : StateView) (batch : Batch) (ordered : Bool) where
       let from : w.group ≡ 0 + w.group = omega arith in
       let count : w.group + suc (group - (w.group + 1)) ≡ group = omega arith in
       let empty = groups_empty (λ g. map (steps_in batch ordered g) there) (first base batch ordered) w.items (range_with_len (w.group + 1) (group - (w.group + 1)))
-          (λ i g at. let bounds = range_at (w.group + 1) (group - (w.group + 1)) i g at in
-            no_steps base batch ordered g there (λ j r inside e. omega (arith, e, bounds.0, bounds.1, above, least j r inside (omega (arith, e, bounds.0))))) in
+      (λ i g at. let bounds = range_at (w.group + 1) (group - (w.group + 1)) i g at in
+      no_steps base batch ordered g there (λ j r inside e. omega (arith, e, bounds.0, bounds.1, above, least j r inside (omega (arith, e, bounds.0))))) in
       let one : groups_run base batch ordered p.start (w.group ∷ range_with_len (w.group + 1) (group - (w.group + 1))) w.items (answers_in (first base batch ordered) p.start p.order ++ []) =
-          (p.order, [], steps_interleave w p done, subst (λ (m : Items). groups_run base batch ordered m (range_with_len (w.group + 1) (group - (w.group + 1))) w.items []) p.items empty, refl) in
+      (p.order, [], steps_interleave w p done, subst (λ (m : Items). groups_run base batch ordered m (range_with_len (w.group + 1) (group - (w.group + 1))) w.items []) p.items empty, refl) in
       subst (λ (gs : List ℕ). groups_run base batch ordered (alive base.items (moment_of base batch)) gs w.items (answers_now w p))
-        (ap (λ k. range_with_len 0 w.group ++ range_with_len k (suc (group - (w.group + 1)))) from ∙ sym (range_parts 0 w.group (suc (group - (w.group + 1)))) ∙ ap (range_with_len 0) count)
-        (groups_append (λ g. map (steps_in batch ordered g) there) (first base batch ordered) (alive base.items (moment_of base batch)) p.start w.items (range_with_len 0 w.group) (w.group ∷ range_with_len (w.group + 1) (group - (w.group + 1))) p.earlier (answers_in (first base batch ordered) p.start p.order ++ []) p.groups one)
+      (ap (λ k. range_with_len 0 w.group ++ range_with_len k (suc (group - (w.group + 1)))) from ∙ sym (range_parts 0 w.group (suc (group - (w.group + 1)))) ∙ ap (range_with_len 0) count)
+      (groups_append (λ g. map (steps_in batch ordered g) there) (first base batch ordered) (alive base.items (moment_of base batch)) p.start w.items (range_with_len 0 w.group) (w.group ∷ range_with_len (w.group + 1) (group - (w.group + 1))) p.earlier (answers_in (first base batch ordered) p.start p.order ++ []) p.groups one)
 
   partial-moved : (w : Progress) (group : ℕ) → Partial base batch ordered w → IsTrue (is_group_done w) → IsNext w.running (Some w.group) group
       → Partial base batch ordered (record { items = w.items; running = w.running; group = group })
@@ -225,8 +226,10 @@ module _ (base : StateView) (batch : Batch) (ordered : Bool) where
     where
       above : w.group < group
       above = ltb-true w.group group next.above
+
       least : Each (λ (y : Running). w.group < y.group → group ≤ y.group) w.running
       least i x at l = each-of-all (λ (y : Running). comes_after (Some w.group) y.group ≡ true → group ≤ y.group) w.running next.least i x at (lt-ltb w.group x.group l)
+
       by_group : (i : ℕ) (x : Running) → slice_get w.running i ≡ Some x → x.group < group → (x.group ≡ w.group) ⊎ (x.group ≢ w.group) → length x.steps ≤ length x.answers
       by_group i x at l (inl e) = group_is_done w done i x at e
       by_group i x at l (inr d) = p.below i x at (under (least i x at))
@@ -242,6 +245,7 @@ module _ (base : StateView) (batch : Batch) (ordered : Bool) where
                 | inl t ↦ inr (leb-true n m t)
                 | inr f ↦ inl (grind (arith, nat_tests))
               ]
+
               apart : (m n : ℕ) → m ≢ n → n ≤ m → n < m
               apart m n d g = grind (arith, nat_tests)
 
@@ -269,7 +273,7 @@ module _ (base : StateView) (batch : Batch) (ordered : Bool) where
   done_is_round w worked done last =
       let p = worked-partial w worked in
       let low : Each (λ r. group_of batch ordered r < w.group + 1) there = λ i r at.
-        (let x = running_of w p i r at in omega (arith, x.2, ltb-false w.group x.0.group (each-of-all (λ (y : Running). comes_after (Some w.group) y.group ≡ false) w.running last i x.0 x.1))) in
+      (let x = running_of w p i r at in omega (arith, x.2, ltb-false w.group x.0.group (each-of-all (λ (y : Running). comes_after (Some w.group) y.group ≡ false) w.running last i x.0 x.1))) in
       record {
         groups = w.group + 1;
         all_run = all-of-each (λ r. group_of batch ordered r < w.group + 1) there low;

@@ -58,7 +58,7 @@ pub record IsState (s : StateView) : Type 0 where
 abbrev pub state_code : Coded Token → Coded Replies → Coded Items → Coded StateView
 state_code token sessions items =
     code_by (((((((ℕ × Token) × ℕ) × List ℕ) × ℕ) × Token) × Replies) × Items)
-      (coded× (coded× (coded× (coded× (coded× (coded× (coded× coded_ℕ token) coded_ℕ) (coded_list coded_ℕ)) coded_ℕ) token) sessions) items)
-      (λ s. (((((((s.number, s.previous), s.epoch), s.batch), s.moment), s.token), s.sessions), s.items))
-      (λ p. record { number = p.0.0.0.0.0.0.0; previous = p.0.0.0.0.0.0.1; epoch = p.0.0.0.0.0.1; batch = p.0.0.0.0.1; moment = p.0.0.0.1; token = p.0.0.1; sessions = p.0.1; items = p.1 })
-      (λ _. refl)
+    (coded× (coded× (coded× (coded× (coded× (coded× (coded× coded_ℕ token) coded_ℕ) (coded_list coded_ℕ)) coded_ℕ) token) sessions) items)
+    (λ s. (((((((s.number, s.previous), s.epoch), s.batch), s.moment), s.token), s.sessions), s.items))
+    (λ p. record { number = p.0.0.0.0.0.0.0; previous = p.0.0.0.0.0.0.1; epoch = p.0.0.0.0.0.1; batch = p.0.0.0.0.1; moment = p.0.0.0.1; token = p.0.0.1; sessions = p.0.1; items = p.1 })
+    (λ _. refl)

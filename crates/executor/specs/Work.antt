@@ -174,10 +174,10 @@ tentative_of w = record { before = w.base; batch = w.batch; after = made w.base 
 abbrev pub tentative_code : Coded StateView → Coded Batch → Coded Answered → Coded TentativeView
 tentative_code state batch answered =
     code_by (((StateView × Batch) × StateView) × List Answered)
-      (coded× (coded× (coded× state batch) state) (coded_list answered))
-      (λ t. (((t.before, t.batch), t.after), t.replies))
-      (λ p. record { before = p.0.0.0; batch = p.0.0.1; after = p.0.1; replies = p.1 })
-      (λ _. refl)
+    (coded× (coded× (coded× state batch) state) (coded_list answered))
+    (λ t. (((t.before, t.batch), t.after), t.replies))
+    (λ p. record { before = p.0.0.0; batch = p.0.0.1; after = p.0.1; replies = p.1 })
+    (λ _. refl)
 
 -- A committed state, and the replies of the batch that led to it.
 pub record CommittedView : Type 0 where
@@ -198,7 +198,7 @@ pub record IsWork (w : WorkView) : Type 0 where
 abbrev pub work_code : Coded StateView → Coded Batch → Coded Items → Coded Running → Coded WorkView
 work_code state batch items running =
     code_by (((((StateView × Batch) × Bool) × Items) × List Running) × ℕ)
-      (coded× (coded× (coded× (coded× (coded× state batch) coded_bool) items) (coded_list running)) coded_ℕ)
-      (λ w. (((((w.base, w.batch), w.ordered), w.progress.items), w.progress.running), w.progress.group))
-      (λ p. record { base = p.0.0.0.0.0; batch = p.0.0.0.0.1; ordered = p.0.0.0.1; progress = record { items = p.0.0.1; running = p.0.1; group = p.1 } })
-      (λ _. refl)
+    (coded× (coded× (coded× (coded× (coded× state batch) coded_bool) items) (coded_list running)) coded_ℕ)
+    (λ w. (((((w.base, w.batch), w.ordered), w.progress.items), w.progress.running), w.progress.group))
+    (λ p. record { base = p.0.0.0.0.0; batch = p.0.0.0.0.1; ordered = p.0.0.0.1; progress = record { items = p.0.0.1; running = p.0.1; group = p.1 } })
+    (λ _. refl)

@@ -30,11 +30,7 @@ fn runs(sessions: &Sessions, earlier: &[Request], request: &Request) -> bool
 }
 
 /// The groups of the mixer; an ordered batch needs none.
-fn numbers_if(
-    alloc: Global,
-    requests: &[Request],
-    ordered: bool,
-) -> Result<Vec<usize>, AllocError>
+fn numbers_if(alloc: Global, requests: &[Request], ordered: bool) -> Result<Vec<usize>, AllocError>
     ensures { IfOk result (λ numbers. ordered ≡ false → numbers.items ≡ numbers_of requests.now) }
 {
     if ordered {

@@ -78,8 +78,7 @@ fn rise_to(entries: &[(u16, Kept)], last: u16)
     requires some { 0 < length entries.now }
     requires last { (d : ℕ × Kept) → (slice_index_or entries.now (length entries.now - 1) d).0 ≡ last }
     ensures { length entries.now ≤ 65536 }
-{
-}
+{}
 
 /// There are no more sessions than numbers of clients. It does nothing.
 pub fn are_few(entries: &[(u16, Kept)])

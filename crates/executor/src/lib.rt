@@ -14,6 +14,7 @@ mod kept;
 mod running;
 mod state;
 mod tentative;
+mod witness;
 mod work;
 
 pub use answered::Answered;
@@ -21,3 +22,6 @@ pub use base::Base;
 pub use state::State;
 pub use tentative::{Committed, Tentative};
 pub use work::{Ended, Work};
+
+#[cfg(test)]
+mod tests;

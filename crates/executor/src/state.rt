@@ -38,13 +38,25 @@ impl Model for State {
     ghost coded = { state_code known.the_row.coded (map.code coded_ℕ kept.the_row.coded) (map.code (coded_list coded_ℕ) item.the_row.coded) };
 
     ghost view = { λ s. record {
-      number = s.number; previous = s.previous; epoch = s.epoch; batch = s.batch;
-      moment = s.moment; token = s.token; sessions = s.sessions; items = s.pages;
+      number = s.number;
+      previous = s.previous;
+      epoch = s.epoch;
+      batch = s.batch;
+      moment = s.moment;
+      token = s.token;
+      sessions = s.sessions;
+      items = s.pages;
     } };
 
     ghost invariant = { λ s. IsState (record {
-      number = s.number; previous = s.previous; epoch = s.epoch; batch = s.batch;
-      moment = s.moment; token = s.token; sessions = s.sessions; items = s.pages;
+      number = s.number;
+      previous = s.previous;
+      epoch = s.epoch;
+      batch = s.batch;
+      moment = s.moment;
+      token = s.token;
+      sessions = s.sessions;
+      items = s.pages;
     }) };
 }
 

@@ -91,7 +91,8 @@ impl Tentative {
         ensures err { IfErr result (λ tentative. tentative ≡ self) }
     {
         match decree {
-            Decree::Commit { n, token } if *n == self.after.number() && *token == self.after.token() => {
+            Decree::Commit { n, token }
+                if *n == self.after.number() && *token == self.after.token() => {
                 let Tentative {
                     before,
                     batch,

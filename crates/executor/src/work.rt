@@ -46,12 +46,16 @@ impl Model for Work {
     ghost coded = { work_code made.the_row.coded taken.the_row.coded (map.code (coded_list coded_ℕ) item.the_row.coded) runs.the_row.coded };
 
     ghost view = { λ w. record {
-      base = w.base.state; batch = w.batch; ordered = w.ordered;
+      base = w.base.state;
+      batch = w.batch;
+      ordered = w.ordered;
       progress = record { items = w.pages; running = w.running.items; group = w.group };
     } };
 
     ghost invariant = { λ w. IsWork (record {
-      base = w.base.state; batch = w.batch; ordered = w.ordered;
+      base = w.base.state;
+      batch = w.batch;
+      ordered = w.ordered;
       progress = record { items = w.pages; running = w.running.items; group = w.group };
     }) };
 }
@@ -102,7 +106,9 @@ impl Work {
         requires running { running.items ≡ all_begun base.now.state batch ordered }
         requires first { IsFirst running.items group }
         ensures { IfOk result (λ work. work ≡ record {
-          base = base.now.state; batch = batch; ordered = ordered;
+          base = base.now.state;
+          batch = batch;
+          ordered = ordered;
           progress = started base.now.state batch ordered group;
         }) }
     {
@@ -137,9 +143,7 @@ impl Work {
     {
         let running = begin_all(alloc, base.state.sessions(), &batch, ordered)?;
         match next_group(&running, None) {
-            Some(group) => Ok(Ended::On(Work::started(
-                base, batch, ordered, running, group,
-            )?)),
+            Some(group) => Ok(Ended::On(Work::started(base, batch, ordered, running, group)?)),
             None => {
                 let work = Work::started(base, batch, ordered, running, 0)?;
                 Ok(Ended::Done(work.complete(alloc)?))
@@ -165,9 +169,13 @@ impl Work {
     fn moved_to(mut self, group: usize) -> Work
         requires done { IsTrue (group_done self.progress) }
         requires next { IsNext self.progress.running (Some self.progress.group) group }
-        ensures { result ≡ record self { progress = record {
-          items = self.progress.items; running = self.progress.running; group = group;
-        } } }
+        ensures { result ≡ record self {
+          progress = record {
+            items = self.progress.items;
+            running = self.progress.running;
+            group = group;
+          };
+        } }
     {
         self.group = group;
         self

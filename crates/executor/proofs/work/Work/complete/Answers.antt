@@ -20,7 +20,7 @@ answer_all-requires c =
     let last = subst (λ (v : WorkView). IsLast v.progress.running (Some v.progress.group)) (sym c.self.view_is) c.requires.last in
     let all = all_answered c.self.inside.base.state c.self.inside.batch c.self.inside.ordered w c.self.invariant.worked done last in
     subst (λ (rs : List Running). All (λ r. (request : Request) → slice_get c.as_slice.result.now r.place ≡ Some request → length r.answers ≡ length (steps request.command)) rs) (sym c.deref.ensures.value)
-      (subst (λ (qs : List Request). All (λ r. (request : Request) → slice_get qs r.place ≡ Some request → length r.answers ≡ length (steps request.command)) c.self.inside.running.items) (sym c.as_slice.ensures) all)
+    (subst (λ (qs : List Request). All (λ r. (request : Request) → slice_get qs r.place ≡ Some request → length r.answers ≡ length (steps request.command)) c.self.inside.running.items) (sym c.as_slice.ensures) all)
 
 pub followed_by-after-requires-clause-sessions : goal.followed_by-after-requires-clause-sessions
 followed_by-after-requires-clause-sessions c =
@@ -29,24 +29,24 @@ followed_by-after-requires-clause-sessions c =
     let last = subst (λ (v : WorkView). IsLast v.progress.running (Some v.progress.group)) (sym c.self.view_is) c.requires.last in
     let before : c.in_ok-sessions.sessions ≡ c.self.inside.base.state.sessions = c.in_ok-sessions.ensures.cases ∙ c.sessions.ensures.sessions in
     let after : c.answer_all.new.sessions ≡ kept_after c.self.inside.base.state.sessions (replies_to c.self.inside.batch.requests c.self.inside.running.items) =
-        c.in_ok-replies.ensures.kept ∙ (λ i. kept_after (before i) (replies_to (c.as_slice.ensures i) (c.deref.ensures.value i))) in
+    c.in_ok-replies.ensures.kept ∙ (λ i. kept_after (before i) (replies_to (c.as_slice.ensures i) (c.deref.ensures.value i))) in
     sessions_fit_after c.self.inside.base.state c.self.inside.batch c.self.inside.ordered w c.self.invariant.worked done last c.self.invariant.fits c.sessions.ensures.fit c.answer_all.new.sessions after
-      (subst (λ (es : List (ℕ × Kept)). length es ≤ 65536) c.entries.ensures.entries c.are_few.ensures)
+    (subst (λ (es : List (ℕ × Kept)). length es ≤ 65536) c.entries.ensures.entries c.are_few.ensures)
 
 pub returns-clause-tentative : goal.returns-clause-tentative
 returns-clause-tentative c =
     let w : Progress = record { items = c.self.inside.pages; running = c.self.inside.running.items; group = c.self.inside.group } in
     let same = same_replies c.self.inside.base.state c.self.inside.batch c.self.inside.ordered w c.self.invariant.worked in
     let replies : c.in_ok-replies.replies.items ≡ replies_of c.self.inside.base.state c.self.inside.batch c.self.inside.running.items =
-        c.in_ok-replies.ensures.replies ∙ ((λ i. replies_to (c.as_slice.ensures i) (c.deref.ensures.value i)) ∙ same) in
+    c.in_ok-replies.ensures.replies ∙ ((λ i. replies_to (c.as_slice.ensures i) (c.deref.ensures.value i)) ∙ same) in
     let before : c.in_ok-sessions.sessions ≡ c.self.inside.base.state.sessions = c.in_ok-sessions.ensures.cases ∙ c.sessions.ensures.sessions in
     let sessions : c.answer_all.new.sessions ≡ kept_after c.self.inside.base.state.sessions (replies_of c.self.inside.base.state c.self.inside.batch c.self.inside.running.items) =
-        c.in_ok-replies.ensures.kept ∙ ((λ i. kept_after (before i) (replies_to (c.as_slice.ensures i) (c.deref.ensures.value i))) ∙ ap (kept_after c.self.inside.base.state.sessions) same) in
+    c.in_ok-replies.ensures.kept ∙ ((λ i. kept_after (before i) (replies_to (c.as_slice.ensures i) (c.deref.ensures.value i))) ∙ ap (kept_after c.self.inside.base.state.sessions) same) in
     let after : c.followed_by-after.result ≡ made c.self.inside.base.state c.self.inside.batch w =
-        c.followed_by-after.ensures ∙ made_of c.self.inside.base.state c.self.inside.batch c.answer_all.new.sessions _ c.seal.result c.self.inside.pages sessions c.seal.ensures in
+    c.followed_by-after.ensures ∙ made_of c.self.inside.base.state c.self.inside.batch c.answer_all.new.sessions _ c.seal.result c.self.inside.pages sessions c.seal.ensures in
     let view : ◌≡◌ {A = TentativeView} (record { before = c.self.inside.base.state; batch = c.self.inside.batch; after = c.followed_by-after.result; replies = c.in_ok-replies.replies.items })
-        (record { before = c.self.inside.base.state; batch = c.self.inside.batch; after = made c.self.inside.base.state c.self.inside.batch w; replies = replies_of c.self.inside.base.state c.self.inside.batch c.self.inside.running.items }) =
-        (λ i. record { before = c.self.inside.base.state; batch = c.self.inside.batch; after = after i; replies = replies i }) in
+    (record { before = c.self.inside.base.state; batch = c.self.inside.batch; after = made c.self.inside.base.state c.self.inside.batch w; replies = replies_of c.self.inside.base.state c.self.inside.batch c.self.inside.running.items }) =
+    (λ i. record { before = c.self.inside.base.state; batch = c.self.inside.batch; after = after i; replies = replies i }) in
     view ∙ ap tentative_of c.self.view_is
 
 pub returns-clause-round : goal.returns-clause-round
@@ -56,11 +56,11 @@ returns-clause-round c =
     let last = subst (λ (v : WorkView). IsLast v.progress.running (Some v.progress.group)) (sym c.self.view_is) c.requires.last in
     let same = same_replies c.self.inside.base.state c.self.inside.batch c.self.inside.ordered w c.self.invariant.worked in
     let replies : c.in_ok-replies.replies.items ≡ replies_of c.self.inside.base.state c.self.inside.batch c.self.inside.running.items =
-        c.in_ok-replies.ensures.replies ∙ ((λ i. replies_to (c.as_slice.ensures i) (c.deref.ensures.value i)) ∙ same) in
+    c.in_ok-replies.ensures.replies ∙ ((λ i. replies_to (c.as_slice.ensures i) (c.deref.ensures.value i)) ∙ same) in
     let before : c.in_ok-sessions.sessions ≡ c.self.inside.base.state.sessions = c.in_ok-sessions.ensures.cases ∙ c.sessions.ensures.sessions in
     let sessions : c.answer_all.new.sessions ≡ kept_after c.self.inside.base.state.sessions (replies_of c.self.inside.base.state c.self.inside.batch c.self.inside.running.items) =
-        c.in_ok-replies.ensures.kept ∙ ((λ i. kept_after (before i) (replies_to (c.as_slice.ensures i) (c.deref.ensures.value i))) ∙ ap (kept_after c.self.inside.base.state.sessions) same) in
+    c.in_ok-replies.ensures.kept ∙ ((λ i. kept_after (before i) (replies_to (c.as_slice.ensures i) (c.deref.ensures.value i))) ∙ ap (kept_after c.self.inside.base.state.sessions) same) in
     let after : c.followed_by-after.result ≡ made c.self.inside.base.state c.self.inside.batch w =
-        c.followed_by-after.ensures ∙ made_of c.self.inside.base.state c.self.inside.batch c.answer_all.new.sessions _ c.seal.result c.self.inside.pages sessions c.seal.ensures in
+    c.followed_by-after.ensures ∙ made_of c.self.inside.base.state c.self.inside.batch c.answer_all.new.sessions _ c.seal.result c.self.inside.pages sessions c.seal.ensures in
     subst (λ (v : WorkView). Round v.base v.batch v.ordered c.followed_by-after.result c.in_ok-replies.replies.items) c.self.view_is
-      (completed c.self.inside.base.state c.self.inside.batch c.self.inside.ordered w c.self.invariant.worked done last c.followed_by-after.result c.in_ok-replies.replies.items after replies)
+    (completed c.self.inside.base.state c.self.inside.batch c.self.inside.ordered w c.self.invariant.worked done last c.followed_by-after.result c.in_ok-replies.replies.items after replies)

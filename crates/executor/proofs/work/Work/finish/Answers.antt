@@ -8,6 +8,6 @@ use Rattle.executor.proofs.work.Work.finish.Goals as goal
 pub returns-in_ok-complete-in-None-clause-goes : goal.returns-in_ok-complete-in-None-clause-goes
 returns-in_ok-complete-in-None-clause-goes c =
     let done : list_all (λ r. not (r.group == c.self.inside.group) || is_done r) c.self.inside.running.items ≡ true =
-        ap (list_all (λ (r : Running). not (r.group == c.self.inside.group) || is_done r)) (sym c.deref.ensures.value) ∙ (sym c.is_group_done.ensures ∙ c.if-not-is_group_done.false) in
+    ap (list_all (λ (r : Running). not (r.group == c.self.inside.group) || is_done r)) (sym c.deref.ensures.value) ∙ (sym c.is_group_done.ensures ∙ c.if-not-is_group_done.false) in
     let last : IsLast c.self.inside.running.items (Some c.self.inside.group) = subst (λ (rs : List Running). IsLast rs (Some c.self.inside.group)) c.deref-2.ensures.value (c.in-None.ensures.none refl) in
     (subst (λ (v : WorkView). IsTrue (is_group_done v.progress)) c.self.view_is done, subst (λ (v : WorkView). IsLast v.progress.running (Some v.progress.group)) c.self.view_is last, c.in_ok-complete-in-None.ensures.tentative)

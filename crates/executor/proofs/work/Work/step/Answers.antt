@@ -33,7 +33,7 @@ returns-clause-made c e =
     let w : Progress = record { items = c.self.inside.pages; running = c.self.inside.running.items; group = c.self.inside.group } in
     let done : StepDone c.index_mut.result.now c.self.inside.pages c.place_of-at.result c.step.new.self c.step.new.pages = c.in_ok-step.ensures.ok in
     let made = step_made (first_place c.self.inside.base.state c.self.inside.batch) w c.args.place c.in-Some.i c.index_mut.result.now c.step.new.self c.step.new.pages at ready
-        (subst (λ p. StepDone c.index_mut.result.now c.self.inside.pages p c.step.new.self c.step.new.pages) c.place_of-at.ensures done) in
+    (subst (λ p. StepDone c.index_mut.result.now c.self.inside.pages p c.step.new.self c.step.new.pages) c.place_of-at.ensures done) in
     subst (λ (v : WorkView). StepMade (first_place v.base v.batch) v.progress c.args.place (record { items = c.step.new.pages; running = set c.self.inside.running.items c.in-Some.i c.step.new.self; group = c.self.inside.group })) c.self.view_is made
 
 pub invariant_of-self-2 : goal.invariant_of-self-2
@@ -46,5 +46,5 @@ invariant_of-self-2 c =
     let w : Progress = record { items = c.self.inside.pages; running = c.self.inside.running.items; group = c.self.inside.group } in
     let done : StepDone c.index_mut.result.now c.self.inside.pages c.place_of-at.result c.step.new.self c.step.new.pages = c.in_ok-step.ensures.ok in
     let made = step_made (first_place c.self.inside.base.state c.self.inside.batch) w c.args.place c.in-Some.i c.index_mut.result.now c.step.new.self c.step.new.pages at ready
-        (subst (λ p. StepDone c.index_mut.result.now c.self.inside.pages p c.step.new.self c.step.new.pages) c.place_of-at.ensures done) in
+    (subst (λ p. StepDone c.index_mut.result.now c.self.inside.pages p c.step.new.self c.step.new.pages) c.place_of-at.ensures done) in
     record { worked = stepped w _ c.args.place c.self.invariant.worked made; fits = c.self.invariant.fits; next = c.self.invariant.next }

@@ -1,0 +1,172 @@
+use super::*;
+use batches::Batch;
+use decrees::Decree;
+use proto::{Fault, Reply};
+use std::alloc::{AllocError, Global};
+use std::test::Fail;
+use token::Token;
+use wire::read;
+
+/// The record of batch `n` at a moment, without its requests.
+fn batch_bytes(alloc: Global, n: u8, moment: u32, count: u8) -> Result<Vec<u8>, AllocError> {
+    let mut bytes = Vec::from_slice(alloc, &[4, 0, 0, 0, 0, 0, 0, 0, 1, 0, 0, 0, 0, 0, 0, 0, n])?;
+    bytes.extend_from_slice(moment.to_be_bytes().as_slice())?;
+    bytes.extend_from_slice(&[0, 0, 0, count])?;
+    Ok(bytes)
+}
+
+/// `set` of a key of one byte to the data `5`, by a client's request 1.
+fn add_set(bytes: &mut Vec<u8>, client: u8, key: u8, exptime: i32) -> Result<(), AllocError> {
+    bytes.extend_from_slice(&[0, client, 0, 0, 0, 0, 0, 0, 0, 1, 2, 1, key, 0, 0, 0, 0])?;
+    bytes.extend_from_slice(exptime.to_be_bytes().as_slice())?;
+    bytes.extend_from_slice(&[0, 0, 0, 1, b'5'])
+}
+
+/// `get` of a key of one byte, by a client's request 1.
+fn add_get(bytes: &mut Vec<u8>, client: u8, key: u8) -> Result<(), AllocError> {
+    bytes.extend_from_slice(&[0, client, 0, 0, 0, 0, 0, 0, 0, 1, 0, 0, 0, 0, 1, 1, key])
+}
+
+/// Makes all steps of the group that runs, the last request first.
+fn run_group(alloc: Global, work: &mut Work) -> Result<(), AllocError> {
+    for back in 0..64u32 {
+        for made in 0..64usize {
+            if !work.step(alloc, 63 - back)? {
+                break;
+            }
+        }
+    }
+    Ok(())
+}
+
+fn run_on(alloc: Global, ended: Ended) -> Result<Ended, AllocError> {
+    match ended {
+        Ended::Done(tentative) => Ok(Ended::Done(tentative)),
+        Ended::On(work) => {
+            let mut work = work;
+            run_group(alloc, &mut work)?;
+            work.finish(alloc)
+        }
+    }
+}
+
+/// Runs a batch to its end.
+fn run(alloc: Global, base: &Base, bytes: &[u8], ordered: bool) -> Result<Ended, Fault> {
+    let batch = read::<Batch>(alloc, bytes)?;
+    if batch.n != base.number() + 1 {
+        return Err(Fault::Unfit);
+    }
+    let mut ended = Work::begin(alloc, base, batch, ordered)?;
+    for group in 0..64usize {
+        ended = run_on(alloc, ended)?;
+    }
+    Ok(ended)
+}
+
+fn commit(ended: Ended) -> Option<Committed> {
+    match ended {
+        Ended::On(_) => None,
+        Ended::Done(tentative) => {
+            let own = Decree::Commit {
+                n: tentative.number(),
+                token: tentative.token(),
+            };
+            match tentative.commit(&own) {
+                Ok(committed) => Some(committed),
+                Err(back) => {
+                    drop(back.undo());
+                    None
+                }
+            }
+        }
+    }
+}
+
+/// How each reply looks: `s` for STORED, and the count of items that a `get` found.
+fn marks(alloc: Global, replies: &[Answered]) -> Result<Vec<u8>, AllocError> {
+    let mut out = Vec::new(alloc);
+    for answered in replies {
+        out.push(match &answered.reply {
+            Reply::Stored => b's',
+            Reply::Values(values) if values.as_slice().is_empty() => b'0',
+            Reply::Values(_) => b'1',
+            _ => b'?',
+        })?;
+    }
+    Ok(out)
+}
+
+/// The replies of a batch that is run by its groups and committed.
+fn shown(alloc: Global, base: &Base, bytes: &[u8]) -> Result<Vec<u8>, Fault> {
+    match commit(run(alloc, base, bytes, false)?) {
+        None => Err(Fault::NotOpen),
+        Some(committed) => Ok(marks(alloc, committed.replies())?),
+    }
+}
+
+#[test]
+fn an_item_that_is_due_at_once_is_not_found_by_a_later_group(rt: HostRuntime) -> Result<(), Fail> {
+    let alloc = rt.alloc();
+    let base = Base::first(alloc)?;
+    let mut bytes = batch_bytes(alloc, 1, 1000, 2)?;
+    add_set(&mut bytes, 1, b'a', -1)?;
+    add_get(&mut bytes, 2, b'a')?;
+    let shown = shown(alloc, &base, bytes.as_slice())?;
+    assert_eq!(rt; shown.as_slice(), b"s0".as_slice());
+    Ok(())
+}
+
+/// The token of a batch that is run by its groups, which is undone then.
+fn token_of(alloc: Global, base: &Base, bytes: &[u8]) -> Result<Token, Fault> {
+    match run(alloc, base, bytes, false)? {
+        Ended::On(_) => Err(Fault::NotOpen),
+        Ended::Done(tentative) => {
+            let token = tentative.token();
+            drop(tentative.undo());
+            Ok(token)
+        }
+    }
+}
+
+#[test]
+fn the_token_of_one_set(rt: HostRuntime) -> Result<(), Fail> {
+    let alloc = rt.alloc();
+    let base = Base::first(alloc)?;
+    let mut bytes = batch_bytes(alloc, 1, 1000, 1)?;
+    add_set(&mut bytes, 1, b'a', 0)?;
+    assert_eq!(rt; bytes.len(), 51);
+    // By another program, over the texts of the batch, of page 33 and of 63 pages without items, of
+    // client 1's session, and of the token over them.
+    let expected: [u8; 32] = [
+        0x57, 0x8d, 0xed, 0xef, 0x41, 0x41, 0x3b, 0xe9, 0x90, 0xea, 0x66, 0x65, 0x15, 0xa1, 0x95,
+        0x47, 0x84, 0x93, 0x21, 0xb4, 0x09, 0x9e, 0x34, 0xd9, 0x2e, 0x8b, 0x19, 0xea, 0x0d, 0x26,
+        0x2f, 0x4e,
+    ];
+    assert_eq!(rt; token_of(alloc, &base, bytes.as_slice())?, Token(expected));
+    Ok(())
+}
+
+/// The uniques that a `gets` would show of the keys, after a batch.
+fn uniques(alloc: Global, base: &Base, bytes: &[u8], keys: &[u8]) -> Result<Vec<u64>, Fault> {
+    let mut out = Vec::new(alloc);
+    if let Some(committed) = commit(run(alloc, base, bytes, false)?) {
+        for key in keys {
+            for entry in committed.state().pages().page((*key % 64) as usize) {
+                out.push(entry.1.unique)?;
+            }
+        }
+    }
+    Ok(out)
+}
+
+#[test]
+fn stamps_are_64_times_the_number_and_the_place(rt: HostRuntime) -> Result<(), Fail> {
+    let alloc = rt.alloc();
+    let base = Base::first(alloc)?;
+    let mut bytes = batch_bytes(alloc, 1, 1000, 2)?;
+    add_set(&mut bytes, 1, b'a', 0)?;
+    add_set(&mut bytes, 2, b'b', 0)?;
+    let seen = uniques(alloc, &base, bytes.as_slice(), b"ab".as_slice())?;
+    assert_eq!(rt; seen.as_slice(), [64u64, 65].as_slice());
+    Ok(())
+}
