@@ -1,0 +1,4 @@
+pub mod Elements
+pub mod Trees
+pub mod Tokens
+pub mod Runs

@@ -1,0 +1,4 @@
+pub mod Texts
+pub mod Run
+pub mod Chosen
+pub mod Laws

@@ -1,0 +1,36 @@
+//! Laws of states that were met, and of the decrees that were chosen. The functions do nothing: what
+//! each says is its contract.
+
+ghost use Rattle.one_run.specs.Laws.{NumberAndTokenTell, TokenTells, HasRun, OneRun, RunGrows, CommittedIsOfRun, RunEnds};
+
+/// Where the texts of the states that were met have distinct digests, two of these states that have
+/// one number and one token are the same, and so are two after the first state that have one token.
+/// Beside the token of the first state, which is 32 zero bytes and no digest, the number is needed.
+pub fn token_tells_the_state()
+    ensures numbered { NumberAndTokenTell }
+    ensures after_first { TokenTells }
+{}
+
+/// Decrees of which each Commit is of a state that was met, and that a round made of the standing
+/// one, have a run: one round for each Commit, in order. All runs of them have the same states.
+pub fn decrees_have_one_run()
+    ensures has { HasRun }
+    ensures one { OneRun }
+{}
+
+/// Where more decrees are chosen and more states met, a run of them begins with the run before.
+pub fn more_decrees_extend_the_run()
+    ensures { RunGrows }
+{}
+
+/// A state that was met is, where a Commit of its number and token is among the decrees or its
+/// number is 0, the state of the run after so many rounds.
+pub fn committed_state_is_of_the_run()
+    ensures { CommittedIsOfRun }
+{}
+
+/// The run has as many rounds as the number that the decrees stand for, and its last state has the
+/// token that they stand for.
+pub fn run_ends_where_decrees_stand()
+    ensures { RunEnds }
+{}

@@ -1,0 +1,12 @@
+//! Laws of states that are known by their tokens, and of the one run that chosen decrees make.
+//!
+//! It stands on `executor`, whose rounds a run is made of. The layer above calls a law, or uses the
+//! lemma behind it in `proofs/Proved.antt`: each is the contract of a function that does nothing.
+#![tactic(auto)]
+
+mod laws;
+
+pub use laws::{
+    committed_state_is_of_the_run, decrees_have_one_run, more_decrees_extend_the_run,
+    run_ends_where_decrees_stand, token_tells_the_state,
+};
