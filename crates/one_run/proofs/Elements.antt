@@ -3,7 +3,7 @@ use Rattle.std.proofs.Common.{◌≡◌, ℕ, zero, suc, ◌<◌, ◌⊎◌, inl
 use Rattle.std.specs.Prelude.{Contains, flat_map}
 use Rattle.std.proofs.lemmas.List.Concat.{flat_map-cons}
 use Rattle.std.proofs.lemmas.List.Elements.{Contains-append_left, Contains-append_right, Contains-append_cases}
-use Rattle.one_run.specs.Chosen.{AreAmong}
+use Rattle.one_run.specs.Met.{AreAmong}
 
 module _ {X : Type 0} where
   pub in_head : (x : X) (xs : List X) → Contains (x ∷ xs) x

@@ -2,3 +2,4 @@ pub mod Elements
 pub mod Trees
 pub mod Tokens
 pub mod Runs
+mod Rows

@@ -9,12 +9,12 @@ use Rattle.decrees.specs.declared.decree.Decree.TheVariants.{Commit, Rollback}
 use Rattle.decrees.specs.declared.standing.Standing.{Standing}
 use Rattle.decrees.specs.Standing.{standing, first_standing, standing_after, decree_at}
 use Rattle.executor.specs.State.{StateView, first_state}
-use Rattle.one_run.specs.Texts.{ToldApart}
+use Rattle.one_run.specs.Met.{AreAmong, IsKnown, ToldApart}
 use Rattle.one_run.specs.Run.{Executed, IsOver, IsRunFrom, made_in, states_of, Extends}
-use Rattle.one_run.specs.Chosen.{AreAmong, Made, IsMade, AllMade, commits, known_by, IsRunOf, IsCommitted}
+use Rattle.one_run.specs.Chosen.{Made, IsMade, AllMade, commits, known_by, IsRunOf, IsCommitted}
 use Rattle.one_run.specs.Laws.{HasRun, OneRun, RunGrows, CommittedIsOfRun, EndsAt, RunEnds}
 use Rattle.one_run.proofs.Elements.{in_head, in_tail, in_none, first_or_other, among_both, among_cons, among_head, among_tail}
-use Rattle.one_run.proofs.Tokens.{is_state, number_and_token_tell}
+use Rattle.one_run.proofs.Tokens.{is_first, number_and_token_tell}
 
 -- ---- decrees of which each is made, one after another
 
@@ -57,11 +57,7 @@ commits-append [] more = refl
 commits-append (Commit n t ∷ ds) more = ap (λ (l : List (ℕ × Token)). (n, t) ∷ l) (commits-append ds more)
 commits-append (Rollback ∷ ds) more = commits-append ds more
 
--- it is the first state, or one that was met
-abbrev Known : List StateView → StateView → Type 0
-Known met s = (s ≡ first_state) ⊎ Contains met s
-
-end_known : (met : List StateView) (s : StateView) (run : List Executed) → Known met s → AreAmong (made_in run) met → Known met (end_of s run)
+end_known : (met : List StateView) (s : StateView) (run : List Executed) → IsKnown met s → AreAmong (made_in run) met → IsKnown met (end_of s run)
 end_known met s [] k h = k
 end_known met s (e ∷ es) k h = end_known met e.new es (inr (among_head e.new (made_in es) met h)) (among_tail e.new (made_in es) met h)
 
@@ -90,13 +86,7 @@ record Rounds (met : List StateView) (s : StateView) (ds : List Decree) : Type 0
   all_met : AreAmong (made_in run) met
 
 module _ (met : List StateView) (apart : ToldApart met) where
-  -- what was made of what stands was made of this state, if it stands
-  same_base : (s old : StateView) (st : Standing) → Known met s → Stands st s → Contains met old → old.number ≡ st.n → old.token ≡ st.token → s ≡ old
-  same_base s old st (inl is_first) h c n t =
-      is_first ∙ sym ((is_state met old apart c).first (n ∙ (sym h.0 ∙ ap (λ (x : StateView). x.number) is_first)))
-  same_base s old st (inr known) h c n t = number_and_token_tell met s old apart known c (h.0 ∙ sym n) (h.1 ∙ sym t)
-
-  more_rounds : (ds : List Decree) (st : Standing) (s : StateView) → Known met s → Stands st s → MadeFrom met st ds → Rounds met s ds
+  more_rounds : (ds : List Decree) (st : Standing) (s : StateView) → IsKnown met s → Stands st s → MadeFrom met st ds → Rounds met s ds
   more_rounds [] st s k h m = record { run = []; follows = tt; known = refl; all_met = λ x c. absurd (in_none x c) }
   more_rounds (Rollback ∷ ds) st s k h m =
       let rest = more_rounds ds (standing_after st Rollback) s k h m.1 in
@@ -104,7 +94,7 @@ module _ (met : List StateView) (apart : ToldApart met) where
   more_rounds (Commit n t ∷ ds) st s k h m =
       let made = m.0 in
       let e = made.executed in
-      let base = same_base s made.old st k h made.old_met made.old_number made.old_token in
+      let base = number_and_token_tell met s made.old apart k made.old_known (h.0 ∙ sym made.old_number) (h.1 ∙ sym made.old_token) in
       let rest = more_rounds ds (standing_after st (Commit n t)) e.new (inr made.new_met) (made.new_number, made.new_token) m.1 in
       record {
         run = e ∷ rest.run;
@@ -142,7 +132,7 @@ module _ (met : List StateView) (apart : ToldApart met) where
   same_states (x ∷ run) (y ∷ other) p q e =
       let first : ◌≡◌ {A = ℕ × Token} (x.new.number, x.new.token) (y.new.number, y.new.token) = cc e in
       let others : known_by run ≡ known_by other = cc e in
-      let one = number_and_token_tell met x.new y.new apart (among_head x.new (made_in run) met p) (among_head y.new (made_in other) met q) (ap (λ (z : ℕ × Token). z.0) first) (ap (λ (z : ℕ × Token). z.1) first) in
+      let one = number_and_token_tell met x.new y.new apart (inr (among_head x.new (made_in run) met p)) (inr (among_head y.new (made_in other) met q)) (ap (λ (z : ℕ × Token). z.0) first) (ap (λ (z : ℕ × Token). z.1) first) in
       let rest = same_states run other (among_tail x.new (made_in run) met p) (among_tail y.new (made_in other) met q) others in
       λ i. one i ∷ rest i
 
@@ -204,11 +194,11 @@ find old (e ∷ es) n t h c = elim (first_or_other (e.new.number, e.new.token) (
 
 pub committed_is_of_run : CommittedIsOfRun
 committed_is_of_run met ds run s apart built c (inl none) =
-    subst (λ (k : ℕ). slice_get (states_of run) k ≡ Some s) (sym none) (ap (λ (x : StateView). Some x) (sym ((is_state met s apart c).first none)))
+    subst (λ (k : ℕ). slice_get (states_of run) k ≡ Some s) (sym none) (ap (λ (x : StateView). Some x) (sym (is_first met s apart c none)))
 committed_is_of_run met ds run s apart built c (inr committed) =
     let known = subst (λ l. Contains l (s.number, s.token)) (sym built.commits) (commit_in ds s.number s.token committed) in
     let f = find first_state run s.number s.token built.follows known in
-    let same = number_and_token_tell met f.state s apart (built.states_met f.state f.among) c f.number f.token in
+    let same = number_and_token_tell met f.state s apart (inr (built.states_met f.state f.among)) c f.number f.token in
     let place : f.index ≡ s.number = omega (arith, f.counted) in
     subst (λ (k : ℕ). slice_get (states_of run) k ≡ Some s) place (f.there ∙ ap (λ (x : StateView). Some x) same)
 

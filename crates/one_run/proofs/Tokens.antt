@@ -10,8 +10,8 @@ use Rattle.wire.specs.TokenLaws.{token_prefix_free}
 use Rattle.token.specs.Digest.{digest}
 use Rattle.pages.specs.Page.{page_digest, of_each}
 use Rattle.executor.specs.State.{StateView, IsState, first_state, token_of, with_token}
-use Rattle.one_run.specs.Texts.{page_texts, inner_texts, told_by, texts_of, Distinct, ToldApart}
-use Rattle.one_run.specs.Chosen.{AreAmong}
+use Rattle.one_run.specs.Texts.{page_texts, inner_texts, told_by, texts_of, Distinct}
+use Rattle.one_run.specs.Met.{AreAmong, IsKnown, ToldApart}
 use Rattle.one_run.specs.Laws.{NumberAndTokenTell, TokenTells}
 use Rattle.one_run.proofs.Elements.{in_head, in_tail, among_left, among_right, among_head, among_tail, among_flat_map}
 use Rattle.one_run.proofs.Trees.{same_value, same_items}
@@ -60,22 +60,26 @@ module _ (texts : List (List ℕ)) (distinct : Distinct texts) where
         items = items i;
       }
 
-pub is_state : (met : List StateView) (s : StateView) → ToldApart met → Contains met s → IsState s
-is_state met s apart c = All-contains IsState met s apart.states c
-
 pub token_tells : TokenTells
-token_tells met s t apart c d low low' e =
+token_tells met s t apart (inl first) known low low' e = let none = ap (λ (x : StateView). x.number) first in absurd (omega (arith, none))
+token_tells met s t apart (inr c) (inl first) low low' e = let none = ap (λ (x : StateView). x.number) first in absurd (omega (arith, none))
+token_tells met s t apart (inr c) (inr d) low low' e =
     same_state (flat_map texts_of met) apart.distinct s t (among_flat_map texts_of met s c) (among_flat_map texts_of met t d)
-        ((is_state met s apart c).token low)
-        ((is_state met t apart d).token low')
+        ((All-contains IsState met s apart.states c).token low)
+        ((All-contains IsState met t apart.states d).token low')
         e
+
+-- only the first state has number 0
+pub is_first : (met : List StateView) (s : StateView) → ToldApart met → IsKnown met s → s.number ≡ 0 → s ≡ first_state
+is_first met s apart (inl first) none = first
+is_first met s apart (inr c) none = (All-contains IsState met s apart.states c).first none
 
 zero_or_more : (n : ℕ) → (n ≡ 0) ⊎ (0 < n)
 zero_or_more zero = inl refl
 zero_or_more (suc n) = inr (omega arith)
 
 pub number_and_token_tell : NumberAndTokenTell
-number_and_token_tell met s t apart c d n e = elim (zero_or_more s.number) [
-  | inl none ↦ (is_state met s apart c).first none ∙ sym ((is_state met t apart d).first (sym n ∙ none))
-  | inr some ↦ token_tells met s t apart c d some (subst (λ k. 0 < k) n some) e
+number_and_token_tell met s t apart known known' n e = elim (zero_or_more s.number) [
+  | inl none ↦ is_first met s apart known none ∙ sym (is_first met t apart known' (sym n ∙ none))
+  | inr some ↦ token_tells met s t apart known known' some (subst (λ k. 0 < k) n some) e
 ]

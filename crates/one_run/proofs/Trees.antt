@@ -17,7 +17,7 @@ use Rattle.pages.specs.Page.{page_count, page_entries, page_items, page_digest, 
 use Rattle.pages.specs.Joined.{joined, parts}
 use Rattle.pages.proofs.PartLemmas.{joined-parts}
 use Rattle.one_run.specs.Texts.{page_texts, pair_texts, inner_texts, Distinct}
-use Rattle.one_run.specs.Chosen.{AreAmong}
+use Rattle.one_run.specs.Met.{AreAmong}
 use Rattle.one_run.proofs.Elements.{among_head, among_tail, among_left, among_right}
 
 -- whole texts of one kind are told apart

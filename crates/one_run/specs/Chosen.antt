@@ -6,19 +6,16 @@ use Rattle.decrees.specs.declared.decree.Decree.TheVariants.{Commit, Rollback}
 use Rattle.decrees.specs.declared.standing.Standing.{Standing}
 use Rattle.decrees.specs.Standing.{standing, decree_at}
 use Rattle.executor.specs.State.{StateView, first_state}
+use Rattle.one_run.specs.Met.{AreAmong, IsKnown}
 use Rattle.one_run.specs.Run.{Executed, IsOver, IsRunFrom, made_in}
 
--- each of these is one of those
-abbrev pub AreAmong : {X : Type 0} → List X → List X → Type 0
-AreAmong {X} these those = (x : X) → Contains these x → Contains those x
-
--- A state of this number and token that was met, and that a round made of what stands, which was met too.
+-- A state of this number and token that was met, and that a round made of the one that stands.
 pub record Made (met : List StateView) (s : Standing) (n : ℕ) (token : Token) : Type 0 where
   pub old : StateView
   pub executed : Executed
   pub is_over : IsOver old executed
   -- the state before is the standing one
-  pub old_met : Contains met old
+  pub old_known : IsKnown met old
   pub old_number : old.number ≡ s.n
   pub old_token : old.token ≡ s.token
   -- and the state after is that of the Commit

@@ -3,17 +3,17 @@ use Rattle.std.specs.Prelude.{◌≡◌, ℕ, ◌<◌, List, ◌++◌, length, S
 use Rattle.decrees.specs.declared.decree.Decree.{Decree}
 use Rattle.decrees.specs.Standing.{standing}
 use Rattle.executor.specs.State.{StateView}
-use Rattle.one_run.specs.Texts.{ToldApart}
+use Rattle.one_run.specs.Met.{AreAmong, IsKnown, ToldApart}
 use Rattle.one_run.specs.Run.{Executed, states_of, Extends}
-use Rattle.one_run.specs.Chosen.{AreAmong, AllMade, IsRunOf, IsCommitted}
+use Rattle.one_run.specs.Chosen.{AllMade, IsRunOf, IsCommitted}
 
 -- states of one number and token are one state
 abbrev pub NumberAndTokenTell : Type 0
-NumberAndTokenTell = (met : List StateView) (s t : StateView) → ToldApart met → Contains met s → Contains met t → s.number ≡ t.number → s.token ≡ t.token → s ≡ t
+NumberAndTokenTell = (met : List StateView) (s t : StateView) → ToldApart met → IsKnown met s → IsKnown met t → s.number ≡ t.number → s.token ≡ t.token → s ≡ t
 
 -- and so are states after the first, of one token
 abbrev pub TokenTells : Type 0
-TokenTells = (met : List StateView) (s t : StateView) → ToldApart met → Contains met s → Contains met t → 0 < s.number → 0 < t.number → s.token ≡ t.token → s ≡ t
+TokenTells = (met : List StateView) (s t : StateView) → ToldApart met → IsKnown met s → IsKnown met t → 0 < s.number → 0 < t.number → s.token ≡ t.token → s ≡ t
 
 -- decrees of which each Commit was made have a run
 abbrev pub HasRun : Type 0
@@ -28,9 +28,9 @@ abbrev pub RunGrows : Type 0
 RunGrows = (met met_later : List StateView) (decrees more : List Decree) (run : List Executed) → AreAmong met met_later → ToldApart met_later → AllMade met_later (decrees ++ more) → IsRunOf met decrees run
     → (later : List Executed) × Extends run later × IsRunOf met_later (decrees ++ more) later
 
--- a committed state that was met is the run's of its number
+-- a state that was met is, where it is committed, the run's of its number
 abbrev pub CommittedIsOfRun : Type 0
-CommittedIsOfRun = (met : List StateView) (decrees : List Decree) (run : List Executed) (s : StateView) → ToldApart met → IsRunOf met decrees run → Contains met s → IsCommitted decrees s → slice_get (states_of run) s.number ≡ Some s
+CommittedIsOfRun = (met : List StateView) (decrees : List Decree) (run : List Executed) (s : StateView) → ToldApart met → IsRunOf met decrees run → IsKnown met s → IsCommitted decrees s → slice_get (states_of run) s.number ≡ Some s
 
 -- The run's last state is the one that the decrees stand for.
 pub record EndsAt (decrees : List Decree) (run : List Executed) : Type 0 where

@@ -1,5 +1,5 @@
 -- The texts from whose digests the token of a state is made.
-use Rattle.std.specs.Prelude.{◌≡◌, ℕ, zero, suc, List, [], ◌∷◌, ◌++◌, All, Contains, flat_map}
+use Rattle.std.specs.Prelude.{◌≡◌, ℕ, zero, suc, List, [], ◌∷◌, ◌++◌, Contains}
 use Rattle.items.specs.Map.{Items}
 use Rattle.wire.specs.declared.token.InnerText.{InnerText}
 use Rattle.wire.specs.declared.token.TokenText.{TokenText}
@@ -8,7 +8,7 @@ use Rattle.wire.specs.Session.{sessions_text}
 use Rattle.wire.specs.Token.{inner_text, token_text}
 use Rattle.token.specs.Digest.{digest, level, root_of}
 use Rattle.pages.specs.Page.{page_entries, page_digest, of_each}
-use Rattle.executor.specs.State.{StateView, IsState}
+use Rattle.executor.specs.State.{StateView}
 
 -- of each page
 abbrev pub page_texts : Items → List (List ℕ)
@@ -43,8 +43,3 @@ texts_of s = page_texts s.items ++ (inner_texts 6 (of_each (page_digest s.items)
 -- two of these texts that have one digest are one text
 abbrev pub Distinct : List (List ℕ) → Type 0
 Distinct texts = (a b : List ℕ) → Contains texts a → Contains texts b → digest a ≡ digest b → a ≡ b
-
--- States that digests tell apart: each keeps what every state keeps, and their texts have distinct digests.
-pub record ToldApart (met : List StateView) : Type 0 where
-  pub states : All IsState met
-  pub distinct : Distinct (flat_map texts_of met)

@@ -1,7 +1,7 @@
 //! Laws of states that are known by their tokens, and of the one run that chosen decrees make.
 //!
 //! It stands on `executor`, whose rounds a run is made of. The layer above calls a law, or uses the
-//! lemma behind it in `proofs/Proved.antt`: each is the contract of a function that does nothing.
+//! lemma behind it in `proofs/Tokens.antt` or `proofs/Runs.antt`: each is the contract of a function that does nothing.
 #![tactic(auto)]
 
 mod laws;
