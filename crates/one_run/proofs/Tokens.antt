@@ -6,13 +6,15 @@ use Rattle.wire.specs.declared.token.TokenText.{TokenText}
 use Rattle.wire.specs.Session.{sessions_text}
 use Rattle.wire.specs.Token.{token_text}
 use Rattle.wire.specs.SessionLaws.{sessions_prefix_free}
+use Rattle.wire.specs.BatchLaws.{batch_prefix_free}
+use Rattle.wire.specs.Batch.{batch_text}
 use Rattle.wire.specs.TokenLaws.{token_prefix_free}
 use Rattle.token.specs.Digest.{digest}
 use Rattle.pages.specs.Page.{page_digest, of_each}
 use Rattle.executor.specs.State.{StateView, IsState, first_state, token_of, with_token}
 use Rattle.one_run.specs.Texts.{page_texts, inner_texts, told_by, texts_of, Distinct}
 use Rattle.one_run.specs.Met.{AreAmong, IsKnown, ToldApart}
-use Rattle.one_run.specs.Laws.{NumberAndTokenTell, TokenTells}
+use Rattle.one_run.specs.Laws.{NumberAndTokenTell, TokenTells, StateTellsBatch}
 use Rattle.one_run.proofs.Elements.{in_head, in_tail, among_left, among_right, among_head, among_tail, among_flat_map}
 use Rattle.one_run.proofs.Trees.{same_value, same_items}
 
@@ -83,3 +85,9 @@ number_and_token_tell met s t apart known known' n e = elim (zero_or_more s.numb
   | inl none ↦ is_first met s apart known none ∙ sym (is_first met t apart known' (sym n ∙ none))
   | inr some ↦ token_tells met s t apart known known' some (subst (λ k. 0 < k) n some) e
 ]
+
+pub state_tells_batch : StateTellsBatch
+state_tells_batch texts old before e other distinct c d round round' same =
+    same_value batch_prefix_free e.batch other.batch
+        (distinct (batch_text e.batch) (batch_text other.batch) c d
+            (sym round.round.batch_is ∙ (ap (λ (x : StateView). x.batch) same ∙ round'.round.batch_is)))

@@ -2,9 +2,11 @@
 use Rattle.std.specs.Prelude.{◌≡◌, ℕ, ◌<◌, List, ◌++◌, length, Some, Contains, slice_get}
 use Rattle.decrees.specs.declared.decree.Decree.{Decree}
 use Rattle.decrees.specs.Standing.{standing}
+use Rattle.wire.specs.Batch.{batch_text}
 use Rattle.executor.specs.State.{StateView}
+use Rattle.one_run.specs.Texts.{Distinct}
 use Rattle.one_run.specs.Met.{AreAmong, IsKnown, ToldApart}
-use Rattle.one_run.specs.Run.{Executed, states_of, Extends}
+use Rattle.one_run.specs.Run.{Executed, IsOver, states_of, Extends}
 use Rattle.one_run.specs.Chosen.{AllMade, IsRunOf, IsCommitted}
 
 -- states of one number and token are one state
@@ -14,6 +16,11 @@ NumberAndTokenTell = (met : List StateView) (s t : StateView) → ToldApart met 
 -- and so are states after the first, of one token
 abbrev pub TokenTells : Type 0
 TokenTells = (met : List StateView) (s t : StateView) → ToldApart met → IsKnown met s → IsKnown met t → 0 < s.number → 0 < t.number → s.token ≡ t.token → s ≡ t
+
+-- rounds that made one state were of one batch, where the texts of the batches are among such as have distinct digests
+abbrev pub StateTellsBatch : Type 0
+StateTellsBatch = (texts : List (List ℕ)) (old before : StateView) (e other : Executed) → Distinct texts → Contains texts (batch_text e.batch) → Contains texts (batch_text other.batch)
+    → IsOver old e → IsOver before other → e.new ≡ other.new → e.batch ≡ other.batch
 
 -- decrees of which each Commit was made have a run
 abbrev pub HasRun : Type 0

@@ -1,14 +1,16 @@
 //! Laws of states that were met, and of the decrees that were chosen. The functions do nothing: what
 //! each says is its contract.
 
-ghost use Rattle.one_run.specs.Laws.{NumberAndTokenTell, TokenTells, HasRun, OneRun, RunGrows, CommittedIsOfRun, RunEnds};
+ghost use Rattle.one_run.specs.Laws.{NumberAndTokenTell, TokenTells, StateTellsBatch, HasRun, OneRun, RunGrows, CommittedIsOfRun, RunEnds};
 
 /// Where the texts of the states that were met have distinct digests, two of these states that have
 /// one number and one token are the same, and so are two after the first state that have one token.
 /// Beside the token of the first state, which is 32 zero bytes and no digest, the number is needed.
+/// Where the texts of batches have distinct digests too, rounds that made one state were of one batch.
 pub fn token_tells_the_state()
     ensures numbered { NumberAndTokenTell }
     ensures after_first { TokenTells }
+    ensures batch { StateTellsBatch }
 {}
 
 /// Decrees of which each Commit is of a state that was met, and that a round made of the standing
