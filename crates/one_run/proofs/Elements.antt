@@ -1,5 +1,5 @@
 -- Elements of lists, and lists of which each element is in another.
-use Rattle.std.proofs.Common.{◌≡◌, ℕ, zero, suc, ◌<◌, ◌⊎◌, inl, inr, ⊎_elim, List, [], ◌∷◌, ◌++◌, map, length, refl, sym, ap, subst, ◌∙◌, arith}
+use Rattle.std.proofs.Common.{◌≡◌, zero, suc, ◌⊎◌, inl, inr, ⊎_elim, List, [], ◌∷◌, ◌++◌, refl, sym, subst, arith}
 use Rattle.std.specs.Prelude.{Contains, flat_map}
 use Rattle.std.proofs.lemmas.List.Concat.{flat_map-cons}
 use Rattle.std.proofs.lemmas.List.Elements.{Contains-append_left, Contains-append_right, Contains-append_cases}
@@ -43,7 +43,7 @@ pub among_flat_map : {X Y : Type 0} (f : X → List Y) (xs : List X) (x : X) →
 among_flat_map f [] x c z h = absurd (in_none x c)
 among_flat_map f (x ∷ xs) y c z h =
     subst (λ l. Contains l z) (sym (flat_map-cons f x xs))
-        (⊎_elim
-            (λ (e : x ≡ y). Contains-append_left (f x) (flat_map f xs) z (subst (λ w. Contains (f w) z) (sym e) h))
-            (λ (t : Contains xs y). Contains-append_right (f x) (flat_map f xs) z (among_flat_map f xs y t z h))
-            (first_or_other x y xs c))
+    (⊎_elim
+    (λ (e : x ≡ y). Contains-append_left (f x) (flat_map f xs) z (subst (λ w. Contains (f w) z) (sym e) h))
+    (λ (t : Contains xs y). Contains-append_right (f x) (flat_map f xs) z (among_flat_map f xs y t z h))
+    (first_or_other x y xs c))

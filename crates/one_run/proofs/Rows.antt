@@ -1,23 +1,20 @@
 -- Small lists of decrees and their runs, computed.
-use Rattle.std.proofs.Common.{◌≡◌, ℕ, zero, suc, ◌<◌, ◌⊎◌, inl, inr, Bool, false, List, [], ◌∷◌, length, replicate, Some, None, refl, arith, ◌-◌, take}
-use Rattle.std.specs.Prelude.{Contains, slice_get, ◌==◌, if◌then◌else◌}
+use Rattle.std.proofs.Common.{◌≡◌, inl, inr, false, List, [], ◌∷◌, length, replicate, Some, refl, arith, take}
+use Rattle.std.specs.Prelude.{slice_get}
 use Rattle.std.specs.FinMap.{empty}
 use Rattle.token.specs.declared.Token.{Token}
 use Rattle.token.specs.Digest.{digest}
 use Rattle.decrees.specs.declared.decree.Decree.{Decree}
 use Rattle.decrees.specs.declared.decree.Decree.TheVariants.{Commit, Rollback}
-use Rattle.decrees.specs.Standing.{standing, decree_at}
+use Rattle.decrees.specs.Standing.{standing}
 use Rattle.items.specs.Map.{alive}
 use Rattle.batches.specs.declared.batch.Batch.{Batch}
 use Rattle.wire.specs.Batch.{batch_text}
 use Rattle.executor.specs.State.{StateView, IsState, first_state, with_token}
-use Rattle.executor.specs.Round.{Round}
 use Rattle.executor.proofs.StateLemmas.{first_is_state}
 use Rattle.one_run.specs.Texts.{inner_texts}
-use Rattle.one_run.specs.Met.{AreAmong, IsKnown}
-use Rattle.one_run.specs.Run.{Executed, IsOver, IsRunFrom, made_in, states_of, Extends}
-use Rattle.one_run.specs.Chosen.{Made, IsMade, AllMade, commits, IsRunOf, IsCommitted}
-use Rattle.one_run.specs.Laws.{EndsAt}
+use Rattle.one_run.specs.Run.{Executed, IsOver, states_of}
+use Rattle.one_run.specs.Chosen.{IsMade, commits, IsRunOf, IsCommitted}
 use Rattle.one_run.proofs.Elements.{in_head, in_none}
 
 -- ---- no Commit, no round

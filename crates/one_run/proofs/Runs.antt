@@ -1,8 +1,8 @@
 -- The run of decrees is made round by round.
-use Rattle.std.proofs.Common.{◌≡◌, ℕ, zero, suc, ◌+◌, ◌-◌, ◌<◌, ◌⊎◌, inl, inr, ⊎_elim, List, [], ◌∷◌, ◌++◌, map, length, take, Some, refl, sym, ap, ◌∙◌, subst, arith}
+use Rattle.std.proofs.Common.{◌≡◌, ℕ, suc, ◌+◌, ◌-◌, inl, inr, List, [], ◌∷◌, ◌++◌, length, take, Some, refl, sym, ap, ◌∙◌, subst, arith}
 use Rattle.std.specs.Prelude.{Contains, slice_get, fold, None, ◌==◌}
 use Rattle.std.proofs.lemmas.Bool.{cond_both, eqb-true}
-use Rattle.std.proofs.lemmas.List.{append-nil, map-append}
+use Rattle.std.proofs.lemmas.List.{map-append}
 use Rattle.token.specs.declared.Token.{Token}
 use Rattle.decrees.specs.declared.decree.Decree.{Decree}
 use Rattle.decrees.specs.declared.decree.Decree.TheVariants.{Commit, Rollback}
@@ -10,9 +10,9 @@ use Rattle.decrees.specs.declared.standing.Standing.{Standing}
 use Rattle.decrees.specs.Standing.{standing, first_standing, standing_after, decree_at}
 use Rattle.executor.specs.State.{StateView, first_state}
 use Rattle.one_run.specs.Met.{AreAmong, IsKnown, ToldApart}
-use Rattle.one_run.specs.Run.{Executed, IsOver, IsRunFrom, made_in, states_of, Extends}
-use Rattle.one_run.specs.Chosen.{Made, IsMade, AllMade, commits, known_by, IsRunOf, IsCommitted}
-use Rattle.one_run.specs.Laws.{HasRun, OneRun, RunGrows, CommittedIsOfRun, EndsAt, RunEnds}
+use Rattle.one_run.specs.Run.{Executed, IsOver, IsRunFrom, made_in, states_of}
+use Rattle.one_run.specs.Chosen.{IsMade, AllMade, commits, known_by}
+use Rattle.one_run.specs.Laws.{HasRun, OneRun, RunGrows, CommittedIsOfRun, RunEnds}
 use Rattle.one_run.proofs.Elements.{in_head, in_tail, in_none, first_or_other, among_both, among_cons, among_head, among_tail}
 use Rattle.one_run.proofs.Tokens.{is_first, number_and_token_tell}
 

@@ -1,6 +1,5 @@
 -- Where texts have distinct digests, the root of a tree tells its leaves, and the digests of pages tell the items.
-use Rattle.std.proofs.Common.{◌≡◌, ℕ, zero, suc, ◌+◌, ◌*◌, ◌^◌, List, [], ◌∷◌, ◌++◌, map, length, refl, sym, ap, ◌∙◌, arith}
-use Rattle.std.specs.Prelude.{Contains}
+use Rattle.std.proofs.Common.{◌≡◌, ℕ, zero, suc, ◌*◌, ◌^◌, List, [], ◌∷◌, ◌++◌, map, length, refl, sym, ap, ◌∙◌, arith}
 use Rattle.std.specs.List.{range_with_len}
 use Rattle.std.specs.FinMap.{from_sorted}
 use Rattle.std.proofs.Math.Nat.{pow-succ'}
@@ -14,7 +13,7 @@ use Rattle.wire.specs.ItemLaws.{page_prefix_free}
 use Rattle.wire.specs.TokenLaws.{inner_prefix_free}
 use Rattle.token.specs.Digest.{digest, level, levels, only, root_of}
 use Rattle.pages.specs.Page.{page_count, page_entries, page_items, page_digest, of_each}
-use Rattle.pages.specs.Joined.{joined, parts}
+use Rattle.pages.specs.Joined.{joined}
 use Rattle.pages.proofs.PartLemmas.{joined-parts}
 use Rattle.one_run.specs.Texts.{page_texts, pair_texts, inner_texts, Distinct}
 use Rattle.one_run.specs.Met.{AreAmong}
@@ -67,12 +66,12 @@ module _ (texts : List (List ℕ)) (distinct : Distinct texts) where
       let left = l ∙ pow-succ' 2 n in
       let right = k ∙ pow-succ' 2 n in
       same_below (2 ^ n) xs ys left right
-          (among_left (pair_texts xs) (inner_texts n (level xs)) texts p)
-          (among_left (pair_texts ys) (inner_texts n (level ys)) texts q)
-          (same_leaves n (level xs) (level ys) (length_level (2 ^ n) xs left) (length_level (2 ^ n) ys right)
-              (among_right (pair_texts xs) (inner_texts n (level xs)) texts p)
-              (among_right (pair_texts ys) (inner_texts n (level ys)) texts q)
-              e)
+      (among_left (pair_texts xs) (inner_texts n (level xs)) texts p)
+      (among_left (pair_texts ys) (inner_texts n (level ys)) texts q)
+      (same_leaves n (level xs) (level ys) (length_level (2 ^ n) xs left) (length_level (2 ^ n) ys right)
+      (among_right (pair_texts xs) (inner_texts n (level xs)) texts p)
+      (among_right (pair_texts ys) (inner_texts n (level ys)) texts q)
+      e)
 
   -- the root tells the leaves
   pub under_one_root : (xs ys : List (List ℕ)) → length xs ≡ 64 → length ys ≡ 64 → AreAmong (inner_texts 6 xs) texts → AreAmong (inner_texts 6 ys) texts → root_of xs ≡ root_of ys → xs ≡ ys

@@ -1,7 +1,6 @@
 -- The texts from whose digests the token of a state is made.
 use Rattle.std.specs.Prelude.{◌≡◌, ℕ, zero, suc, List, [], ◌∷◌, ◌++◌, Contains}
 use Rattle.items.specs.Map.{Items}
-use Rattle.wire.specs.declared.token.InnerText.{InnerText}
 use Rattle.wire.specs.declared.token.TokenText.{TokenText}
 use Rattle.wire.specs.Item.{page_text}
 use Rattle.wire.specs.Session.{sessions_text}
