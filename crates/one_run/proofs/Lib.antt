@@ -2,4 +2,5 @@ pub mod Elements
 pub mod Trees
 pub mod Tokens
 pub mod Runs
+pub mod Replies
 mod Rows

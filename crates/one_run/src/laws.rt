@@ -2,6 +2,7 @@
 //! each says is its contract.
 
 ghost use Rattle.one_run.specs.Laws.{NumberAndTokenTell, TokenTells, StateTellsBatch, HasRun, OneRun, RunGrows, CommittedIsOfRun, RunEnds};
+ghost use Rattle.one_run.specs.Replied.{KeptWasGiven, AnsweredOnce};
 
 /// Where the texts of the states that were met have distinct digests, two of these states that have
 /// one number and one token are the same, and so are two after the first state that have one token.
@@ -35,4 +36,14 @@ pub fn committed_state_is_of_the_run()
 /// token that they stand for.
 pub fn run_ends_where_decrees_stand()
     ensures { RunEnds }
+{}
+
+/// A reply that the state after `n` rounds of a run keeps of a client was given to it in one of them.
+pub fn kept_reply_was_given()
+    ensures { KeptWasGiven }
+{}
+
+/// No request is answered in two rounds of a run: a request is a client and its number.
+pub fn request_is_answered_once()
+    ensures { AnsweredOnce }
 {}

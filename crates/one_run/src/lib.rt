@@ -7,6 +7,6 @@
 mod laws;
 
 pub use laws::{
-    committed_state_is_of_the_run, decrees_have_one_run, more_decrees_extend_the_run,
-    run_ends_where_decrees_stand, token_tells_the_state,
+    committed_state_is_of_the_run, decrees_have_one_run, kept_reply_was_given,
+    more_decrees_extend_the_run, request_is_answered_once, run_ends_where_decrees_stand, token_tells_the_state,
 };
