@@ -1,5 +1,5 @@
 -- Elements of lists, and lists of which each element is in another.
-use Rattle.std.proofs.Common.{◌≡◌, zero, suc, ◌⊎◌, inl, inr, ⊎_elim, List, [], ◌∷◌, ◌++◌, refl, sym, subst, arith}
+use Rattle.std.proofs.Common.{map, ◌≡◌, zero, suc, ◌⊎◌, inl, inr, ⊎_elim, List, [], ◌∷◌, ◌++◌, refl, sym, subst, arith}
 use Rattle.std.specs.Prelude.{Contains, flat_map}
 use Rattle.std.proofs.lemmas.List.Concat.{flat_map-cons}
 use Rattle.std.proofs.lemmas.List.Elements.{Contains-append_left, Contains-append_right, Contains-append_cases}
@@ -47,3 +47,13 @@ among_flat_map f (x ∷ xs) y c z h =
     (λ (e : x ≡ y). Contains-append_left (f x) (flat_map f xs) z (subst (λ w. Contains (f w) z) (sym e) h))
     (λ (t : Contains xs y). Contains-append_right (f x) (flat_map f xs) z (among_flat_map f xs y t z h))
     (first_or_other x y xs c))
+
+-- an element of a mapped list is made of one of the list
+pub in_map : {X Y : Type 0} (f : X → Y) (xs : List X) (y : Y) → Contains (map f xs) y → (x : X) × Contains xs x × (f x ≡ y)
+in_map f [] y c = absurd (in_none y c)
+in_map f (x ∷ xs) y c = elim (first_or_other (f x) y (map f xs) c) [
+  | inl e ↦ (x, in_head x xs, e)
+  | inr there ↦
+      let w = in_map f xs y there in
+      (w.0, in_tail x w.0 xs w.1, w.2)
+]

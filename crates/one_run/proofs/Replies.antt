@@ -6,9 +6,10 @@ use Rattle.std.specs.Option.{option_map_or}
 use Rattle.std.specs.Ordering.{nat_cmp, eq_by_cmp}
 use Rattle.std.specs.Cmp.{nat_cmp_total}
 use Rattle.std.specs.FinMap.{get, insert, get-insert, get-empty}
-use Rattle.std.proofs.lemmas.Bool.{cases_Bool, and_parts, eqb-true}
+use Rattle.std.proofs.lemmas.Bool.{cases_Bool, and_parts, eqb-true, eq-eqb, not-true}
 use Rattle.std.proofs.lemmas.Bool.Decides.{nat_tests}
-use Rattle.std.proofs.lemmas.List.Elements.{Contains-append_cases}
+use Rattle.std.proofs.lemmas.List.Elements.{Contains-append_left, Contains-append_cases, Contains-push}
+use Rattle.std.proofs.lemmas.List.Folds.{list_any_at}
 use Rattle.sessions.specs.declared.request.Request.{Request}
 use Rattle.sessions.specs.declared.sessions.Kept.{Kept}
 use Rattle.sessions.specs.Fresh.{Replies, next_number, is_next}
@@ -20,28 +21,61 @@ use Rattle.executor.specs.Fresh.{Runner, runs, fresh_after}
 use Rattle.executor.specs.Round.{Round, runners, answered, kept_after}
 use Rattle.one_run.specs.Run.{Executed, IsOver, IsRunFrom, made_in, states_of}
 use Rattle.one_run.specs.Replied.{GivenIn, WasGiven, KeptWasGiven, AnsweredOnce}
-use Rattle.one_run.proofs.Elements.{in_head, in_tail, in_none, first_or_other}
+use Rattle.one_run.proofs.Elements.{in_head, in_tail, in_none, first_or_other, in_map}
 
 -- ---- one round
 
 same_key : (q k : ℕ) → eq_by_cmp nat_cmp q k ≡ true → q ≡ k
 same_key q k e = grind (arith, nat_tests)
 
+-- a request that runs is the first of these, or one of the later ones
+first_or_later : (s : Replies) (earlier later : List Request) (q : Request) (r : Runner) → Contains (fresh_after s earlier (q ∷ later)) r
+    → ((runs s earlier q ≡ true) × ((length earlier, q) ≡ r)) ⊎ Contains (fresh_after s (earlier ++ q ∷ []) later) r
+first_or_later s earlier later q r c =
+    ⊎_elim (λ h. inl (here (runs s earlier q) h)) inr
+        (Contains-append_cases (if runs s earlier q then (length earlier, q) ∷ [] else []) (fresh_after s (earlier ++ q ∷ []) later) r c)
+  where
+    here : (b : Bool) → Contains (if b then (length earlier, q) ∷ [] else []) r → (b ≡ true) × ((length earlier, q) ≡ r)
+    here false h = absurd (in_none r h)
+    here true h = (refl, ⊎_elim (λ (e : (length earlier, q) ≡ r). e) (λ none. absurd (in_none r none)) (first_or_other (length earlier, q) r [] h))
+
 -- what runs is its client's next
 runs_next : (s : Replies) (earlier later : List Request) (r : Runner) → Contains (fresh_after s earlier later) r → r.1.number ≡ next_number s r.1.client
 runs_next s earlier [] r c = absurd (in_none r c)
-runs_next s earlier (q ∷ later) r c =
-    ⊎_elim (here (runs s earlier q) refl) (runs_next s (earlier ++ q ∷ []) later r)
-        (Contains-append_cases (if runs s earlier q then (length earlier, q) ∷ [] else []) (fresh_after s (earlier ++ q ∷ []) later) r c)
-  where
-    here : (b : Bool) → runs s earlier q ≡ b → Contains (if b then (length earlier, q) ∷ [] else []) r → r.1.number ≡ next_number s r.1.client
-    here false e c = absurd (in_none r c)
-    here true e c = elim (first_or_other (length earlier, q) r [] c) [
-      | inl same ↦
-          let next : q.number ≡ next_number s q.client = eqb-true _ _ (and_parts (is_next s q) (not (list_any (λ x. x.client == q.client) earlier)) e).0 in
-          subst (λ (x : Runner). x.1.number ≡ next_number s x.1.client) same next
-      | inr none ↦ absurd (in_none r none)
+runs_next s earlier (q ∷ later) r c = elim (first_or_later s earlier later q r c) [
+  | inl (is_run, same) ↦
+      let next : q.number ≡ next_number s q.client = eqb-true _ _ (and_parts (is_next s q) (not (list_any (λ e. e.client == q.client) earlier)) is_run).0 in
+      subst (λ (x : Runner). x.1.number ≡ next_number s x.1.client) same next
+  | inr there ↦ runs_next s (earlier ++ q ∷ []) later r there
+]
+
+-- no earlier request is of its client
+none_earlier : (s : Replies) (earlier later : List Request) (r : Runner) → Contains (fresh_after s earlier later) r → (x : Request) → Contains earlier x → x.client ≡ r.1.client → ⊥
+none_earlier s earlier [] r c x before client = in_none r c
+none_earlier s earlier (q ∷ later) r c x before client = elim (first_or_later s earlier later q r c) [
+  | inl (is_run, same) ↦
+      let test : Request → Bool = λ e. e.client == q.client in
+      let none : list_any test earlier ≡ false = not-true _ (and_parts (is_next s q) (not (list_any (λ e. e.client == q.client) earlier)) is_run).1 in
+      let own : x.client ≡ q.client = client ∙ sym (ap (λ (y : Runner). y.1.client) same) in
+      let found : list_any test earlier ≡ true = list_any_at test earlier before.0 x before.1 (ap test before.2 ∙ eq-eqb _ _ own) in
+      let both = sym none ∙ found in
+      cc both
+  | inr there ↦ none_earlier s (earlier ++ q ∷ []) later r there x (Contains-append_left earlier (q ∷ []) x before) client
+]
+
+-- of a client one request runs
+one_runs : (s : Replies) (earlier later : List Request) (r t : Runner) → Contains (fresh_after s earlier later) r → Contains (fresh_after s earlier later) t → r.1.client ≡ t.1.client → r ≡ t
+one_runs s earlier [] r t c d client = absurd (in_none r c)
+one_runs s earlier (q ∷ later) r t c d client = elim (first_or_later s earlier later q r c) [
+  | inl (is_run, same) ↦ elim (first_or_later s earlier later q t d) [
+      | inl (is_run', same') ↦ sym same ∙ same'
+      | inr there' ↦ absurd (none_earlier s (earlier ++ q ∷ []) later t there' q (Contains-push earlier q) (ap (λ (y : Runner). y.1.client) same ∙ client))
     ]
+  | inr there ↦ elim (first_or_later s earlier later q t d) [
+      | inl (is_run', same') ↦ absurd (none_earlier s (earlier ++ q ∷ []) later r there q (Contains-push earlier q) (ap (λ (y : Runner). y.1.client) same' ∙ sym client))
+      | inr there' ↦ one_runs s (earlier ++ q ∷ []) later r t there there' client
+    ]
+]
 
 -- each answer is of the number that its client has here
 abbrev HaveNumbers : (ℕ → ℕ) → List Answered → Type 0
@@ -51,16 +85,22 @@ HaveNumbers f replies = (a : Answered) → Contains replies a → a.number ≡ f
 abbrev AreNext : Replies → List Answered → Type 0
 AreNext s replies = HaveNumbers (next_number s) replies
 
-answered_next : (s : Replies) (answers : List (ℕ × Answer)) (rs : List Runner) → ((r : Runner) → Contains rs r → r.1.number ≡ next_number s r.1.client) → AreNext s (map (answered answers) rs)
-answered_next s answers [] h a c = absurd (in_none a c)
-answered_next s answers (r ∷ rs) h a c = elim (first_or_other (answered answers r) a (map (answered answers) rs) c) [
-  | inl same ↦ subst (λ (x : Answered). x.number ≡ next_number s x.client) same (h r (in_head r rs))
-  | inr there ↦ answered_next s answers rs (λ x d. h x (in_tail r x rs d)) a there
-]
+-- of a client there is one
+abbrev AreOne : List Answered → Type 0
+AreOne replies = (a b : Answered) → Contains replies a → Contains replies b → a.client ≡ b.client → a ≡ b
 
-round_next : (old new : StateView) (batch : Batch) (ordered : Bool) (replies : List Answered) → Round old batch ordered new replies → AreNext old.sessions replies
-round_next old new batch ordered replies round =
-    subst (AreNext old.sessions) (sym round.replied) (answered_next old.sessions round.answers (runners old batch) (runs_next old.sessions [] batch.requests))
+module _ (old new : StateView) (batch : Batch) (ordered : Bool) (replies : List Answered) (round : Round old batch ordered new replies) where
+  round_next : AreNext old.sessions replies
+  round_next = subst (AreNext old.sessions) (sym round.replied) (λ a c.
+      let w = in_map (answered round.answers) (runners old batch) a c in
+      subst (λ (x : Answered). x.number ≡ next_number old.sessions x.client) w.2 (runs_next old.sessions [] batch.requests w.0 w.1))
+
+  round_one : AreOne replies
+  round_one = subst AreOne (sym round.replied) (λ a b c d client.
+      let w = in_map (answered round.answers) (runners old batch) a c in
+      let v = in_map (answered round.answers) (runners old batch) b d in
+      let same = one_runs old.sessions [] batch.requests w.0 v.0 w.1 v.1 (ap (λ (x : Answered). x.client) w.2 ∙ (client ∙ sym (ap (λ (x : Answered). x.client) v.2))) in
+      sym w.2 ∙ (ap (answered round.answers) same ∙ v.2))
 
 -- what is kept of an answer
 abbrev kept_of : Answered → Kept
@@ -170,13 +210,17 @@ first_and_later old e es j a b h g k client number =
     let same = ap (next_number e.new.sessions) client in
     omega (arith, after, later, same, number)
 
-once : (old : StateView) (run : List Executed) (i j : ℕ) (a b : Answered) → IsRunFrom old run → GivenIn run i a → GivenIn run j b → a.client ≡ b.client → a.number ≡ b.number → i ≡ j
+once : (old : StateView) (run : List Executed) (i j : ℕ) (a b : Answered) → IsRunFrom old run → GivenIn run i a → GivenIn run j b → a.client ≡ b.client → a.number ≡ b.number → (i ≡ j) × (a ≡ b)
 once old [] i j a b h g k client number = let none = g.there in absurd (cc none)
-once old (e ∷ es) zero zero a b h g k client number = refl
+once old (e ∷ es) zero zero a b h g k client number =
+    let c = subst (λ (x : Executed). Contains x.replies a) (sym (the_same e g.executed g.there)) g.given in
+    let d = subst (λ (x : Executed). Contains x.replies b) (sym (the_same e k.executed k.there)) k.given in
+    (refl, round_one old e.new e.batch e.ordered e.replies h.0.round a b c d client)
 once old (e ∷ es) zero (suc j) a b h g k client number = absurd (first_and_later old e es j a b h g k client number)
 once old (e ∷ es) (suc i) zero a b h g k client number = absurd (first_and_later old e es i b a h k g (sym client) (sym number))
 once old (e ∷ es) (suc i) (suc j) a b h g k client number =
-    ap suc (once e.new es i j a b h.1 (record { executed = g.executed; there = g.there; given = g.given }) (record { executed = k.executed; there = k.there; given = k.given }) client number)
+    let later = once e.new es i j a b h.1 (record { executed = g.executed; there = g.there; given = g.given }) (record { executed = k.executed; there = k.there; given = k.given }) client number in
+    (ap suc later.0, later.1)
 
 pub answered_once : AnsweredOnce
 answered_once run i j a b h g k client number = once first_state run i j a b h g k client number

@@ -24,6 +24,6 @@ pub record WasGiven (run : List Executed) (rounds client : ℕ) (kept : Kept) : 
 abbrev pub KeptWasGiven : Type 0
 KeptWasGiven = (run : List Executed) (rounds : ℕ) (s : StateView) (client : ℕ) (kept : Kept) → IsRunFrom first_state run → slice_get (states_of run) rounds ≡ Some s → get s.sessions client ≡ Some kept → WasGiven run rounds client kept
 
--- a request, that is a client and its number, is not answered in two rounds
+-- a request, that is a client and its number, is answered once
 abbrev pub AnsweredOnce : Type 0
-AnsweredOnce = (run : List Executed) (i j : ℕ) (a b : Answered) → IsRunFrom first_state run → GivenIn run i a → GivenIn run j b → a.client ≡ b.client → a.number ≡ b.number → i ≡ j
+AnsweredOnce = (run : List Executed) (i j : ℕ) (a b : Answered) → IsRunFrom first_state run → GivenIn run i a → GivenIn run j b → a.client ≡ b.client → a.number ≡ b.number → (i ≡ j) × (a ≡ b)

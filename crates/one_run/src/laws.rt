@@ -43,7 +43,7 @@ pub fn kept_reply_was_given()
     ensures { KeptWasGiven }
 {}
 
-/// No request is answered in two rounds of a run: a request is a client and its number.
+/// In a run a request, that is a client and its number, is answered in one round at most, and once.
 pub fn request_is_answered_once()
     ensures { AnsweredOnce }
 {}
