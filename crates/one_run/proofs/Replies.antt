@@ -1,6 +1,6 @@
 -- What is kept of clients along a run.
-use Rattle.std.proofs.Common.{◌≡◌, ℕ, zero, suc, ◌+◌, ◌<◌, ◌≤◌, ◌⊎◌, inl, inr, ⊎_elim, Bool, true, false, cond, List, [], ◌∷◌, ◌++◌, map, length, Some, None, refl, sym, ap, ◌∙◌, subst, arith}
-use Rattle.std.specs.Prelude.{Contains, slice_get, ◌==◌, ◌&&◌, not, if◌then◌else◌}
+use Rattle.std.proofs.Common.{◌≡◌, ℕ, zero, suc, ◌+◌, ◌≤◌, ◌⊎◌, inl, inr, ⊎_elim, Bool, true, false, cond, List, [], ◌∷◌, ◌++◌, length, Some, None, refl, sym, ap, ◌∙◌, subst, arith}
+use Rattle.std.specs.Prelude.{Contains, slice_get, ◌==◌, not, if◌then◌else◌}
 use Rattle.std.specs.List.{list_any}
 use Rattle.std.specs.Option.{option_map_or}
 use Rattle.std.specs.Ordering.{nat_cmp, eq_by_cmp}
@@ -13,13 +13,12 @@ use Rattle.std.proofs.lemmas.List.Folds.{list_any_at}
 use Rattle.sessions.specs.declared.request.Request.{Request}
 use Rattle.sessions.specs.declared.sessions.Kept.{Kept}
 use Rattle.sessions.specs.Fresh.{Replies, next_number, is_next}
-use Rattle.item_steps.specs.declared.step.Answer.{Answer}
 use Rattle.batches.specs.declared.batch.Batch.{Batch}
 use Rattle.executor.specs.declared.answered.Answered.{Answered}
 use Rattle.executor.specs.State.{StateView, first_state}
 use Rattle.executor.specs.Fresh.{Runner, runs, fresh_after}
 use Rattle.executor.specs.Round.{Round, runners, answered, kept_after}
-use Rattle.one_run.specs.Run.{Executed, IsOver, IsRunFrom, made_in, states_of}
+use Rattle.one_run.specs.Run.{Executed, IsOver, IsRunFrom, made_in}
 use Rattle.one_run.specs.Replied.{GivenIn, WasGiven, KeptWasGiven, AnsweredOnce}
 use Rattle.one_run.proofs.Elements.{in_head, in_tail, in_none, first_or_other, in_map}
 
@@ -33,7 +32,7 @@ first_or_later : (s : Replies) (earlier later : List Request) (q : Request) (r :
     → ((runs s earlier q ≡ true) × ((length earlier, q) ≡ r)) ⊎ Contains (fresh_after s (earlier ++ q ∷ []) later) r
 first_or_later s earlier later q r c =
     ⊎_elim (λ h. inl (here (runs s earlier q) h)) inr
-        (Contains-append_cases (if runs s earlier q then (length earlier, q) ∷ [] else []) (fresh_after s (earlier ++ q ∷ []) later) r c)
+    (Contains-append_cases (if runs s earlier q then (length earlier, q) ∷ [] else []) (fresh_after s (earlier ++ q ∷ []) later) r c)
   where
     here : (b : Bool) → Contains (if b then (length earlier, q) ∷ [] else []) r → (b ≡ true) × ((length earlier, q) ≡ r)
     here false h = absurd (in_none r h)
@@ -68,13 +67,13 @@ one_runs : (s : Replies) (earlier later : List Request) (r t : Runner) → Conta
 one_runs s earlier [] r t c d client = absurd (in_none r c)
 one_runs s earlier (q ∷ later) r t c d client = elim (first_or_later s earlier later q r c) [
   | inl (is_run, same) ↦ elim (first_or_later s earlier later q t d) [
-      | inl (is_run', same') ↦ sym same ∙ same'
-      | inr there' ↦ absurd (none_earlier s (earlier ++ q ∷ []) later t there' q (Contains-push earlier q) (ap (λ (y : Runner). y.1.client) same ∙ client))
-    ]
+    | inl (is_run', same') ↦ sym same ∙ same'
+    | inr there' ↦ absurd (none_earlier s (earlier ++ q ∷ []) later t there' q (Contains-push earlier q) (ap (λ (y : Runner). y.1.client) same ∙ client))
+  ]
   | inr there ↦ elim (first_or_later s earlier later q t d) [
-      | inl (is_run', same') ↦ absurd (none_earlier s (earlier ++ q ∷ []) later r there q (Contains-push earlier q) (ap (λ (y : Runner). y.1.client) same' ∙ sym client))
-      | inr there' ↦ one_runs s (earlier ++ q ∷ []) later r t there there' client
-    ]
+    | inl (is_run', same') ↦ absurd (none_earlier s (earlier ++ q ∷ []) later r there q (Contains-push earlier q) (ap (λ (y : Runner). y.1.client) same' ∙ sym client))
+    | inr there' ↦ one_runs s (earlier ++ q ∷ []) later r t there there' client
+  ]
 ]
 
 -- each answer is of the number that its client has here
@@ -111,7 +110,7 @@ number_step : (s : Replies) (a : Answered) (c : ℕ) → ((c ≡ a.client) × (n
 number_step s a c =
     let got = get-insert nat_cmp_total s a.client (kept_of a) c in
     let step : (b : Bool) → eq_by_cmp nat_cmp c a.client ≡ b → next_number (insert s a.client (kept_of a)) c ≡ option_map_or (λ (k : Kept). k.number + 1) (cond b (Some (kept_of a)) (get s c)) 1 =
-        λ b e. ap (λ o. option_map_or (λ (k : Kept). k.number + 1) o 1) (got ∙ ap (λ x. cond x (Some (kept_of a)) (get s c)) e) in
+    λ b e. ap (λ o. option_map_or (λ (k : Kept). k.number + 1) o 1) (got ∙ ap (λ x. cond x (Some (kept_of a)) (get s c)) e) in
     elim (cases_Bool (eq_by_cmp nat_cmp c a.client)) [
       | inl e ↦ inl (same_key c a.client e, step true e)
       | inr e ↦ inr (step false e)
@@ -123,10 +122,10 @@ module _ (f : ℕ → ℕ) where
   stays s (a ∷ replies) c h e =
       let rest : HaveNumbers f replies = λ x d. h x (in_tail a x replies d) in
       stays (insert s a.client (kept_of a)) replies c rest
-          (⊎_elim
-              (λ (p : (c ≡ a.client) × (next_number (insert s a.client (kept_of a)) c ≡ a.number + 1)). p.1 ∙ ap (λ n. n + 1) (h a (in_head a replies) ∙ ap f (sym p.0)))
-              (λ (p : next_number (insert s a.client (kept_of a)) c ≡ next_number s c). p ∙ e)
-              (number_step s a c))
+      (⊎_elim
+      (λ (p : (c ≡ a.client) × (next_number (insert s a.client (kept_of a)) c ≡ a.number + 1)). p.1 ∙ ap (λ n. n + 1) (h a (in_head a replies) ∙ ap f (sym p.0)))
+      (λ (p : next_number (insert s a.client (kept_of a)) c ≡ next_number s c). p ∙ e)
+      (number_step s a c))
 
   raised : (s : Replies) (replies : List Answered) (a : Answered) → HaveNumbers f replies → Contains replies a → next_number (kept_after s replies) a.client ≡ f a.client + 1
   raised s [] a h c = absurd (in_none a c)
@@ -138,9 +137,9 @@ module _ (f : ℕ → ℕ) where
             let got = get-insert nat_cmp_total s x.client (kept_of x) x.client in
             let own : eq_by_cmp nat_cmp x.client x.client ≡ true = grind (arith, nat_tests) in
             let now : next_number (insert s x.client (kept_of x)) x.client ≡ f x.client + 1 =
-                ap (λ o. option_map_or (λ (k : Kept). k.number + 1) o 1) (got ∙ ap (λ b. cond b (Some (kept_of x)) (get s x.client)) own) ∙ ap (λ n. n + 1) (h x (in_head x replies)) in
+            ap (λ o. option_map_or (λ (k : Kept). k.number + 1) o 1) (got ∙ ap (λ b. cond b (Some (kept_of x)) (get s x.client)) own) ∙ ap (λ n. n + 1) (h x (in_head x replies)) in
             subst (λ (y : Answered). next_number (kept_after (insert s x.client (kept_of x)) replies) y.client ≡ f y.client + 1) same
-                (stays (insert s x.client (kept_of x)) replies x.client rest now)
+            (stays (insert s x.client (kept_of x)) replies x.client rest now)
       ]
 
   not_lower : (s : Replies) (replies : List Answered) (c : ℕ) → HaveNumbers f replies → f c ≤ next_number s c → f c ≤ next_number (kept_after s replies) c
@@ -148,11 +147,11 @@ module _ (f : ℕ → ℕ) where
   not_lower s (a ∷ replies) c h l =
       let rest : HaveNumbers f replies = λ x d. h x (in_tail a x replies d) in
       not_lower (insert s a.client (kept_of a)) replies c rest
-          (⊎_elim
-              (λ (p : (c ≡ a.client) × (next_number (insert s a.client (kept_of a)) c ≡ a.number + 1)).
-                  let number = h a (in_head a replies) ∙ ap f (sym p.0) in omega (arith, p.1, number))
-              (λ (p : next_number (insert s a.client (kept_of a)) c ≡ next_number s c). omega (arith, p, l))
-              (number_step s a c))
+      (⊎_elim
+      (λ (p : (c ≡ a.client) × (next_number (insert s a.client (kept_of a)) c ≡ a.number + 1)).
+      let number = h a (in_head a replies) ∙ ap f (sym p.0) in omega (arith, p.1, number))
+      (λ (p : next_number (insert s a.client (kept_of a)) c ≡ next_number s c). omega (arith, p, l))
+      (number_step s a c))
 
 -- what is kept after a round was kept before it, or was answered in it
 kept_from : (s : Replies) (replies : List Answered) (c : ℕ) (k : Kept) → get (kept_after s replies) c ≡ Some k → (get s c ≡ Some k) ⊎ ((a : Answered) × Contains replies a × (a.client ≡ c) × (kept_of a ≡ k))
@@ -244,13 +243,13 @@ was_given old (x ∷ run) (suc n) s c kept h at e = elim (was_given x.new run n 
       elim (kept_from old.sessions x.replies c kept (ap (λ (m : Replies). get m c) (sym h.0.round.sessions) ∙ before)) [
         | inl old_one ↦ inl old_one
         | inr (a, there, client, same) ↦ inr (record {
-            place = 0;
-            before = omega arith;
-            answered = a;
-            given = record { executed = x; there = refl; given = there };
-            client_is = client;
-            kept_is = same;
-          })
+          place = 0;
+          before = omega arith;
+          answered = a;
+          given = record { executed = x; there = refl; given = there };
+          client_is = client;
+          kept_is = same;
+        })
       ]
 ]
 
