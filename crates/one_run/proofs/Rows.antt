@@ -38,10 +38,10 @@ use Rattle.one_run.proofs.Elements.{in_head, in_none}
 -- ---- no Commit, no round
 
 nothing_chosen : IsRunOf [] [] []
-nothing_chosen = record { follows = tt; commits = refl; states_met = λ s c. absurd (in_none s c) }
+nothing_chosen = record { follows = tt; one_each = refl; states_met = λ s c. absurd (in_none s c) }
 
 rollbacks_add_none : IsRunOf [] (Rollback ∷ Rollback ∷ []) []
-rollbacks_add_none = record { follows = tt; commits = refl; states_met = λ s c. absurd (in_none s c) }
+rollbacks_add_none = record { follows = tt; one_each = refl; states_met = λ s c. absurd (in_none s c) }
 
 abbrev sevens : Token
 sevens = record { 0 = replicate 32 7 }
@@ -130,7 +130,7 @@ second_is_made = record {
 
 -- so the run has that round alone
 has_one_round : IsRunOf met decrees (executed ∷ [])
-has_one_round = record { follows = (is_over, tt); commits = refl; states_met = λ s c. c }
+has_one_round = record { follows = (is_over, tt); one_each = refl; states_met = λ s c. c }
 
 its_states : states_of (executed ∷ []) ≡ first_state ∷ second ∷ []
 its_states = refl

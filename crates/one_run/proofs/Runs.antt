@@ -105,14 +105,14 @@ module _ (met : List StateView) (apart : ToldApart met) where
 
 pub run_grows : RunGrows
 run_grows met later_met ds more run among apart made built =
-    let stands = end_stands first_standing first_state ds run (refl, refl) built.commits in
+    let stands = end_stands first_standing first_state ds run (refl, refl) built.one_each in
     let within : AreAmong (made_in run) later_met = λ x c. among x (built.states_met x c) in
     let rest = more_rounds later_met apart more (standing ds) (end_of first_state run) (end_known later_met first_state run (inl refl) within) stands (made_later later_met first_standing ds more (all_made_from later_met (ds ++ more) made)) in (
       run ++ rest.run,
       (rest.run, refl),
       record {
         follows = run_on first_state run rest.run built.follows rest.follows;
-        commits = map-append (λ (e : Executed). (e.new.number, e.new.token)) run rest.run ∙ ((λ i. built.commits i ++ rest.known i) ∙ sym (commits-append ds more));
+        one_each = map-append (λ (e : Executed). (e.new.number, e.new.token)) run rest.run ∙ ((λ i. built.one_each i ++ rest.known i) ∙ sym (commits-append ds more));
         states_met = subst (λ l. AreAmong l later_met) (sym (map-append (λ (e : Executed). e.new) run rest.run)) (among_both (made_in run) (made_in rest.run) later_met within rest.all_met);
       },
     )
@@ -120,7 +120,7 @@ run_grows met later_met ds more run among apart made built =
 pub has_run : HasRun
 has_run met ds apart made =
     let rounds = more_rounds met apart ds first_standing first_state (inl refl) (refl, refl) (all_made_from met ds made) in
-    (rounds.run, record { follows = rounds.follows; commits = rounds.known; states_met = rounds.all_met })
+    (rounds.run, record { follows = rounds.follows; one_each = rounds.known; states_met = rounds.all_met })
 
 -- ---- the states of a run
 
@@ -138,7 +138,7 @@ module _ (met : List StateView) (apart : ToldApart met) where
 
 pub one_run : OneRun
 one_run met ds run other apart built same =
-    ap (λ (l : List StateView). first_state ∷ l) (same_states met apart run other built.states_met same.states_met (built.commits ∙ sym same.commits))
+    ap (λ (l : List StateView). first_state ∷ l) (same_states met apart run other built.states_met same.states_met (built.one_each ∙ sym same.one_each))
 
 -- a Commit among decrees is one of their Commits
 commit_in : (ds : List Decree) (n : ℕ) (t : Token) → Contains ds (Commit n t) → Contains (commits ds) (n, t)
@@ -196,7 +196,7 @@ pub committed_is_of_run : CommittedIsOfRun
 committed_is_of_run met ds run s apart built c (inl none) =
     subst (λ (k : ℕ). slice_get (states_of run) k ≡ Some s) (sym none) (ap (λ (x : StateView). Some x) (sym (is_first met s apart c none)))
 committed_is_of_run met ds run s apart built c (inr committed) =
-    let known = subst (λ l. Contains l (s.number, s.token)) (sym built.commits) (commit_in ds s.number s.token committed) in
+    let known = subst (λ l. Contains l (s.number, s.token)) (sym built.one_each) (commit_in ds s.number s.token committed) in
     let f = find first_state run s.number s.token built.follows known in
     let same = number_and_token_tell met f.state s apart (inr (built.states_met f.state f.among)) c f.number f.token in
     let place : f.index ≡ s.number = omega (arith, f.counted) in
@@ -213,7 +213,7 @@ end_number s (e ∷ es) h = omega (arith, end_number e.new es h.1, h.0.next)
 
 pub run_ends : RunEnds
 run_ends met ds run built =
-    let stands = end_stands first_standing first_state ds run (refl, refl) built.commits in
+    let stands = end_stands first_standing first_state ds run (refl, refl) built.one_each in
     record {
       count = omega (arith, end_number first_state run built.follows, stands.0);
       last = end_of first_state run;

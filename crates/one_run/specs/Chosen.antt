@@ -46,7 +46,7 @@ known_by run = map (λ e. (e.new.number, e.new.token)) run
 -- Commit, with its number and token, and their states were met.
 pub record IsRunOf (met : List StateView) (decrees : List Decree) (run : List Executed) : Type 0 where
   pub follows : IsRunFrom first_state run
-  pub commits : known_by run ≡ commits decrees
+  pub one_each : known_by run ≡ commits decrees
   pub states_met : AreAmong (made_in run) met
 
 -- the state is the first, or a Commit of its number and token is among the decrees

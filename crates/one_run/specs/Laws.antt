@@ -9,7 +9,7 @@ use Rattle.one_run.specs.Met.{AreAmong, IsKnown, ToldApart}
 use Rattle.one_run.specs.Run.{Executed, IsOver, states_of, Extends}
 use Rattle.one_run.specs.Chosen.{AllMade, IsRunOf, IsCommitted}
 
--- states of one number and token are one state
+-- states that were met, or are the first, of one number and token are one state
 abbrev pub NumberAndTokenTell : Type 0
 NumberAndTokenTell = (met : List StateView) (s t : StateView) → ToldApart met → IsKnown met s → IsKnown met t → s.number ≡ t.number → s.token ≡ t.token → s ≡ t
 

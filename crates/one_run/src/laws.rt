@@ -4,9 +4,11 @@
 ghost use Rattle.one_run.specs.Laws.{NumberAndTokenTell, TokenTells, StateTellsBatch, HasRun, OneRun, RunGrows, CommittedIsOfRun, RunEnds};
 ghost use Rattle.one_run.specs.Replied.{KeptWasGiven, AnsweredOnce};
 
-/// Where the texts of the states that were met have distinct digests, two of these states that have
-/// one number and one token are the same, and so are two after the first state that have one token.
-/// Beside the token of the first state, which is 32 zero bytes and no digest, the number is needed.
+/// Where the texts of the states that were met have distinct digests, two states that have one number
+/// and one token are the same, each of them one that was met or the first state. So are two of number
+/// 1 or more that have one token: only beside the token of the first state, which is 32 zero bytes
+/// and no digest, the number is needed.
+///
 /// Where the texts of batches have distinct digests too, rounds that made one state were of one batch.
 pub fn token_tells_the_state()
     ensures numbered { NumberAndTokenTell }
@@ -26,8 +28,8 @@ pub fn more_decrees_extend_the_run()
     ensures { RunGrows }
 {}
 
-/// A state that was met is, where a Commit of its number and token is among the decrees or its
-/// number is 0, the state of the run after so many rounds.
+/// A state that was met is, where a Commit of its number and token is among the decrees, the state of
+/// the run after so many rounds. So is a state of number 0: it is the first one.
 pub fn committed_state_is_of_the_run()
     ensures { CommittedIsOfRun }
 {}
