@@ -1,0 +1,59 @@
+-- Elements of lists, and lists of which each element is in another.
+use Rattle.std.proofs.Common.{map, ◌≡◌, zero, suc, ◌⊎◌, inl, inr, ⊎_elim, List, [], ◌∷◌, ◌++◌, refl, sym, subst, arith}
+use Rattle.std.specs.Prelude.{Contains, flat_map}
+use Rattle.std.proofs.lemmas.List.Concat.{flat_map-cons}
+use Rattle.std.proofs.lemmas.List.Elements.{Contains-append_left, Contains-append_right, Contains-append_cases}
+use Rattle.one_run.specs.Met.{AreAmong}
+
+module _ {X : Type 0} where
+  pub in_head : (x : X) (xs : List X) → Contains (x ∷ xs) x
+  in_head x xs = (0, omega arith, refl)
+
+  pub in_tail : (x y : X) (xs : List X) → Contains xs y → Contains (x ∷ xs) y
+  in_tail x y xs (k, lt, e) = (suc k, omega (arith, lt), e)
+
+  -- an element of the list is its first or one of the others
+  pub first_or_other : (x y : X) (xs : List X) → Contains (x ∷ xs) y → (x ≡ y) ⊎ Contains xs y
+  first_or_other x y xs (zero, lt, e) = inl e
+  first_or_other x y xs (suc k, lt, e) = inr (k, omega (arith, lt), e)
+
+  pub in_none : (y : X) → Contains [] y → ⊥
+  in_none y (k, lt, e) = omega (arith, lt)
+
+  pub among_left : (xs ys all : List X) → AreAmong (xs ++ ys) all → AreAmong xs all
+  among_left xs ys all h x c = h x (Contains-append_left xs ys x c)
+
+  pub among_right : (xs ys all : List X) → AreAmong (xs ++ ys) all → AreAmong ys all
+  among_right xs ys all h x c = h x (Contains-append_right xs ys x c)
+
+  pub among_head : (x : X) (xs all : List X) → AreAmong (x ∷ xs) all → Contains all x
+  among_head x xs all h = h x (in_head x xs)
+
+  pub among_tail : (x : X) (xs all : List X) → AreAmong (x ∷ xs) all → AreAmong xs all
+  among_tail x xs all h y c = h y (in_tail x y xs c)
+
+  pub among_both : (xs ys all : List X) → AreAmong xs all → AreAmong ys all → AreAmong (xs ++ ys) all
+  among_both xs ys all h k x c = ⊎_elim (h x) (k x) (Contains-append_cases xs ys x c)
+
+  pub among_cons : (x : X) (xs all : List X) → Contains all x → AreAmong xs all → AreAmong (x ∷ xs) all
+  among_cons x xs all h k y c = ⊎_elim (λ (e : x ≡ y). subst (Contains all) e h) (k y) (first_or_other x y xs c)
+
+-- what is made of an element is among what is made of all
+pub among_flat_map : {X Y : Type 0} (f : X → List Y) (xs : List X) (x : X) → Contains xs x → AreAmong (f x) (flat_map f xs)
+among_flat_map f [] x c z h = absurd (in_none x c)
+among_flat_map f (x ∷ xs) y c z h =
+    subst (λ l. Contains l z) (sym (flat_map-cons f x xs))
+    (⊎_elim
+    (λ (e : x ≡ y). Contains-append_left (f x) (flat_map f xs) z (subst (λ w. Contains (f w) z) (sym e) h))
+    (λ (t : Contains xs y). Contains-append_right (f x) (flat_map f xs) z (among_flat_map f xs y t z h))
+    (first_or_other x y xs c))
+
+-- an element of a mapped list is made of one of the list
+pub in_map : {X Y : Type 0} (f : X → Y) (xs : List X) (y : Y) → Contains (map f xs) y → (x : X) × Contains xs x × (f x ≡ y)
+in_map f [] y c = absurd (in_none y c)
+in_map f (x ∷ xs) y c = elim (first_or_other (f x) y (map f xs) c) [
+  | inl e ↦ (x, in_head x xs, e)
+  | inr there ↦
+      let w = in_map f xs y there in
+      (w.0, in_tail x w.0 xs w.1, w.2)
+]

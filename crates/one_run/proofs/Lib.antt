@@ -1,0 +1,6 @@
+pub mod Elements
+pub mod Trees
+pub mod Tokens
+pub mod Runs
+pub mod Replies
+mod Rows

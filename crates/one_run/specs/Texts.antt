@@ -1,0 +1,44 @@
+-- The texts from whose digests the token of a state is made.
+use Rattle.std.specs.Prelude.{◌≡◌, ℕ, zero, suc, List, [], ◌∷◌, ◌++◌, Contains}
+use Rattle.items.specs.Map.{Items}
+use Rattle.wire.specs.declared.token.TokenText.{TokenText}
+use Rattle.wire.specs.Item.{page_text}
+use Rattle.wire.specs.Session.{sessions_text}
+use Rattle.wire.specs.Token.{inner_text, token_text}
+use Rattle.token.specs.Digest.{digest, level, root_of}
+use Rattle.pages.specs.Page.{page_entries, page_digest, of_each}
+use Rattle.executor.specs.State.{StateView}
+
+-- of each page
+abbrev pub page_texts : Items → List (List ℕ)
+page_texts items = of_each (λ p. page_text (page_entries items p))
+
+-- of the nodes over each two neighbours
+abbrev pub pair_texts : List (List ℕ) → List (List ℕ)
+pair_texts (left ∷ right ∷ others) = inner_text (record { left = left; right = right }) ∷ pair_texts others
+pair_texts others = []
+
+-- of the inner nodes of so many levels over these digests
+abbrev pub inner_texts : ℕ → List (List ℕ) → List (List ℕ)
+inner_texts zero digests = []
+inner_texts (suc n) digests = pair_texts digests ++ inner_texts n (level digests)
+
+-- what the token of a state is the digest of
+abbrev pub told_by : StateView → TokenText
+told_by s = record {
+  previous = s.previous.0;
+  n = s.number;
+  epoch = s.epoch;
+  moment = s.moment;
+  batch = s.batch;
+  root = root_of (of_each (page_digest s.items));
+  sessions = digest (sessions_text s.sessions);
+}
+
+-- of its 64 pages, of the 63 inner nodes over them, of its sessions, and that of its token
+abbrev pub texts_of : StateView → List (List ℕ)
+texts_of s = page_texts s.items ++ (inner_texts 6 (of_each (page_digest s.items)) ++ sessions_text s.sessions ∷ token_text (told_by s) ∷ [])
+
+-- two of these texts that have one digest are one text
+abbrev pub Distinct : List (List ℕ) → Type 0
+Distinct texts = (a b : List ℕ) → Contains texts a → Contains texts b → digest a ≡ digest b → a ≡ b
