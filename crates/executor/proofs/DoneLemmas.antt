@@ -1,13 +1,11 @@
 -- Where all groups are done, each request has the answers that its reply is made of, and the sessions have a text.
-use Rattle.std.proofs.Common.{◌≡◌, ◌≢◌, ℕ, zero, suc, ◌+◌, ◌<◌, ◌≤◌, ◌^◌, Bool, true, false, List, [], ◌∷◌, ◌++◌, map, length, set, get_or, Some, None, Option, refl, sym, ap, ◌∙◌, arith, subst, ◌⊎◌, inl, inr, append_assoc}
-use Rattle.std.specs.Prelude.{slice_get, All, IsTrue, IfSome, if◌then◌else◌, flat_map, not, ◌&&◌, ◌==◌}
+use Rattle.std.proofs.Common.{◌≡◌, ◌≢◌, ℕ, zero, suc, ◌<◌, ◌≤◌, Bool, true, false, List, [], ◌∷◌, ◌++◌, map, length, set, Some, None, Option, refl, sym, ap, ◌∙◌, arith, subst, ◌⊎◌, inl, inr, append_assoc}
+use Rattle.std.specs.Prelude.{slice_get, All, IsTrue, IfSome, if◌then◌else◌, not, ◌&&◌, ◌==◌}
 use Rattle.std.specs.List.{zip}
-use Rattle.std.specs.Ordering.{nat_cmp}
-use Rattle.std.specs.FinMap.{FinMap, entries, entries-insert, insert, len-entries, len-insert, contains_key, put}
+use Rattle.std.specs.FinMap.{entries}
 use Rattle.std.proofs.lemmas.List.Concat.{flat_map-cons}
 use Rattle.std.proofs.lemmas.Bool.{ltb-false}
 use Rattle.std.proofs.lemmas.Bool.Decides.{nat_tests}
-use Rattle.std.proofs.lemmas.List.{length_push}
 use Rattle.std.proofs.lemmas.Bool.{and_parts}
 use Rattle.std.proofs.lemmas.Option.{slice_get_within}
 use Rattle.items.specs.Map.{Items, alive}
@@ -15,7 +13,6 @@ use Rattle.item_steps.specs.Schedule.{stamped}
 use Rattle.item_steps.specs.declared.step.Place.{Place}
 use Rattle.item_steps.specs.Steps.{steps}
 use Rattle.sessions.specs.declared.request.Request.{Request}
-use Rattle.sessions.specs.declared.sessions.Kept.{Kept}
 use Rattle.sessions.specs.Fresh.{Replies}
 use Rattle.batches.specs.declared.batch.Batch.{Batch}
 use Rattle.executor.specs.declared.answered.Answered.{Answered}
@@ -25,7 +22,7 @@ use Rattle.executor.specs.State.{StateView, with_token}
 use Rattle.executor.specs.Fresh.{Runner, runs, fresh_after}
 use Rattle.executor.specs.Round.{runners, kept_after, answered, moment_of, Round}
 use Rattle.executor.specs.Work.{Progress, begun, all_begun, is_group_done, comes_after, IsFirst, IsNext, IsLast, Worked, began, made, replied, replied_to, replies_of, replies_to, is_done, is_ready, StepDone, StepMade}
-use Rattle.executor.proofs.PartialLemmas.{Each, each-of-all, all-of-each, forget, Partial}
+use Rattle.executor.proofs.PartialLemmas.{Each, each-of-all, all-of-each, forget}
 use Rattle.executor.proofs.RoundLemmas.{get_map, map_get, same_or_not}
 use Rattle.wire.specs.Batch.{BatchFits, batch_text}
 use Rattle.wire.specs.Command.{RequestFits}

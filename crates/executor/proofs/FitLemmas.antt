@@ -1,20 +1,20 @@
 -- Sessions that keep the replies of requests have a text.
-use Rattle.std.proofs.Common.{◌≡◌, ℕ, zero, suc, ◌+◌, ◌-◌, ◌<◌, ◌≤◌, ◌^◌, Bool, true, false, List, [], ◌∷◌, ◌++◌, length, get_or, Some, Option, refl, sym, ap, ◌∙◌, arith, subst, cond}
-use Rattle.std.specs.Prelude.{All, IsTrue, slice_get, ◌&&◌}
+use Rattle.std.proofs.Common.{◌≡◌, ℕ, zero, suc, ◌+◌, ◌-◌, ◌<◌, ◌≤◌, true, List, [], ◌∷◌, length, get_or, Some, refl, sym, arith, subst}
+use Rattle.std.specs.Prelude.{slice_get, ◌&&◌}
 use Rattle.std.specs.Ordering.{nat_cmp, is_lt}
 use Rattle.std.specs.Cmp.{ranked}
 use Rattle.std.proofs.lemmas.Cmp.{nat_cmp_total}
 use Rattle.std.specs.declared.cmp.Ordering.{Ordering}
 use Rattle.std.specs.declared.cmp.Ordering.TheVariants.{Less, Equal, Greater}
-use Rattle.std.specs.FinMap.{FinMap, entries, entries-insert, insert, put, is_sorted}
+use Rattle.std.specs.FinMap.{entries, entries-insert, insert, put, is_sorted}
 use Rattle.std.specs.FinMap.Entries.{below_all, by_order}
-use Rattle.std.proofs.lemmas.Bool.{and_parts, cases_Bool}
+use Rattle.std.proofs.lemmas.Bool.{and_parts}
 use Rattle.sessions.specs.declared.sessions.Kept.{Kept}
 use Rattle.sessions.specs.Fresh.{Replies}
-use Rattle.wire.specs.Session.{SessionFits, SessionsFit, KeptFits}
+use Rattle.wire.specs.Session.{SessionFits, KeptFits}
 use Rattle.executor.specs.declared.answered.Answered.{Answered}
 use Rattle.executor.specs.Round.{kept_after}
-use Rattle.executor.proofs.PartialLemmas.{Each, each-of-all, all-of-each}
+use Rattle.executor.proofs.PartialLemmas.{Each}
 
 less_is : (a b : ℕ) → is_lt (nat_cmp a b) ≡ true → a < b
 less_is a b h = by (nat_cmp a b) refl h

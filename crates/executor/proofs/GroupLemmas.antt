@@ -1,8 +1,7 @@
 -- The least group after the last one is the next.
-use Rattle.std.proofs.Common.{◌≡◌, ℕ, zero, suc, ◌<◌, ◌≤◌, Bool, true, false, List, [], ◌∷◌, Some, None, Option, refl, sym, ap, ◌∙◌, arith, subst, ◌⊎◌, inl, inr, min, nat_le}
-use Rattle.std.specs.Prelude.{slice_get, All}
+use Rattle.std.proofs.Common.{◌≡◌, ℕ, zero, suc, ◌≤◌, Bool, true, false, List, [], ◌∷◌, Some, None, Option, refl, sym, ap, ◌∙◌, arith, subst, ◌⊎◌, inl, inr, min, nat_le}
+use Rattle.std.specs.Prelude.{slice_get}
 use Rattle.std.proofs.lemmas.Bool.{cases_Bool, leb-true, leb-false}
-use Rattle.std.proofs.lemmas.Option.{slice_get-get_or}
 use Rattle.executor.specs.Running.{Running}
 use Rattle.executor.specs.Work.{comes_after, IsNext, IsLast, lesser, lesser_if, least_of}
 use Rattle.executor.proofs.PartialLemmas.{Each, all-of-each}

@@ -1,23 +1,17 @@
 -- What a batch has done so far is a beginning of a round.
-use Rattle.std.proofs.Common.{◌≡◌, ◌≢◌, ℕ, zero, suc, ◌+◌, ◌-◌, ◌<◌, ◌≤◌, Bool, true, false, List, [], ◌∷◌, ◌++◌, map, length, take, set, get_or, Some, None, Option, refl, sym, ap, ◌∙◌, arith, subst, ◌⊎◌, inl, inr, append_assoc}
-use Rattle.std.specs.Prelude.{slice_get, slice_set, All, IsTrue, not, ◌||◌, ◌==◌, filter, if◌then◌else◌}
-use Rattle.std.specs.List.{AllByRecursion, range_with_len, list_all, zip}
-use Rattle.std.proofs.lemmas.List.{append-nil}
+use Rattle.std.proofs.Common.{◌≡◌, ℕ, ◌<◌, ◌≤◌, Bool, List, [], ◌++◌, map, length, take, get_or, Some, subst}
+use Rattle.std.specs.Prelude.{slice_get, All, ◌==◌, if◌then◌else◌}
+use Rattle.std.specs.List.{range_with_len}
 use Rattle.std.proofs.lemmas.Option.{slice_get_within, get_or_from_slice_get, slice_get-get_or}
 use Rattle.items.specs.Map.{Items, alive}
-use Rattle.item_steps.specs.Effect.{effect}
-use Rattle.item_steps.specs.Steps.{steps, reply}
-use Rattle.item_steps.specs.Schedule.{Placed, IsInterleaving, stamped, items_after, answers_in, answers_at}
+use Rattle.item_steps.specs.Schedule.{Placed, IsInterleaving, items_after, answers_in, answers_at}
 use Rattle.item_steps.specs.declared.step.Place.{Place}
-use Rattle.item_steps.specs.declared.step.Step.{Step}
 use Rattle.item_steps.specs.declared.step.Answer.{Answer}
 use Rattle.batches.specs.declared.batch.Batch.{Batch}
 use Rattle.executor.specs.Running.{Running}
 use Rattle.executor.specs.State.{StateView}
-use Rattle.executor.specs.Fresh.{Runner}
-use Rattle.executor.specs.Round.{runners, moment_of, first_place, group_of, steps_in, GroupsRun}
-use Rattle.executor.specs.Work.{Progress, begun, all_begun, next_step, is_done, is_group_done, started, IsFirst, IsNext, IsLast, StepMade}
-use Rattle.executor.proofs.OrderLemmas.{items_push, answers_push, order_push, set_same, set_other, get_set_same, get_set_other}
+use Rattle.executor.specs.Round.{runners, moment_of, first_place, steps_in, GroupsRun}
+use Rattle.executor.specs.Work.{Progress, all_begun}
 
 -- what holds of each member of a list
 abbrev pub Each : {X : Type 0} → (X → Type 0) → List X → Type 0

@@ -1,18 +1,15 @@
 -- Work that is done is a round.
-use Rattle.std.proofs.Common.{◌≡◌, ◌≢◌, ℕ, zero, suc, ◌+◌, ◌-◌, ◌<◌, ◌≤◌, Bool, true, false, List, [], ◌∷◌, ◌++◌, map, length, take, set, get_or, Some, None, Option, refl, sym, ap, ◌∙◌, arith, subst, ◌⊎◌, inl, inr, append_assoc, cond}
-use Rattle.std.specs.Prelude.{slice_get, slice_set, All, IsTrue, not, ◌||◌, ◌==◌, filter, if◌then◌else◌, nat_le}
-use Rattle.std.specs.List.{AllByRecursion, range_with_len, list_all, zip}
-use Rattle.std.proofs.lemmas.List.{append-nil, map-append, length_push, take_more, map-set, take_all}
+use Rattle.std.proofs.Common.{◌≡◌, ◌≢◌, ℕ, zero, suc, ◌+◌, ◌<◌, ◌≤◌, Bool, true, false, List, [], ◌∷◌, ◌++◌, map, length, take, set, Some, Option, refl, sym, ap, ◌∙◌, arith, subst, ◌⊎◌, inl, inr, append_assoc}
+use Rattle.std.specs.Prelude.{slice_get, ◌==◌, filter, if◌then◌else◌}
+use Rattle.std.specs.List.{AllByRecursion, range_with_len}
+use Rattle.std.proofs.lemmas.List.{map-append, length_push, take_all}
 use Rattle.std.proofs.lemmas.List.Elements.{filter-append}
-use Rattle.std.proofs.lemmas.Bool.{cases_Bool, leb-true, eqb-true, eq-eqb}
+use Rattle.std.proofs.lemmas.Bool.{cases_Bool}
 use Rattle.std.proofs.lemmas.Bool.Decides.{nat_tests}
-use Rattle.std.proofs.lemmas.Option.{slice_get_within, get_or_from_slice_get}
-use Rattle.items.specs.Map.{Items, alive}
-use Rattle.item_steps.specs.Effect.{effect}
-use Rattle.item_steps.specs.Steps.{steps, reply}
-use Rattle.item_steps.specs.Schedule.{Placed, IsInterleaving, stamped, items_after, answers_in, answers_at}
+use Rattle.items.specs.Map.{Items}
+use Rattle.item_steps.specs.Steps.{steps}
+use Rattle.item_steps.specs.Schedule.{Placed, items_after, answers_at}
 use Rattle.item_steps.specs.declared.step.Place.{Place}
-use Rattle.item_steps.specs.declared.step.Step.{Step}
 use Rattle.item_steps.specs.declared.step.Answer.{Answer}
 use Rattle.batches.specs.declared.batch.Batch.{Batch}
 use Rattle.executor.specs.Running.{Running}
@@ -20,10 +17,10 @@ use Rattle.executor.specs.State.{StateView}
 use Rattle.sessions.specs.declared.request.Request.{Request}
 use Rattle.sessions.specs.Fresh.{Replies}
 use Rattle.executor.specs.Fresh.{Runner, runs, fresh_after}
-use Rattle.executor.specs.Round.{runners, moment_of, first_place, group_of, steps_in, GroupsRun}
-use Rattle.executor.specs.Work.{Progress, begun, all_begun, next_step, is_done, is_group_done, started, IsFirst, IsNext, IsLast, StepMade}
-use Rattle.executor.proofs.OrderLemmas.{items_push, answers_push, order_push, set_same, set_other, get_set_same, get_set_other}
-use Rattle.executor.proofs.PartialLemmas.{Each, each-of-all, made_in, forget, first, groups_run, Partial}
+use Rattle.executor.specs.Round.{group_of, steps_in, GroupsRun}
+use Rattle.executor.specs.Work.{begun}
+use Rattle.executor.proofs.OrderLemmas.{get_set_same, get_set_other}
+use Rattle.executor.proofs.PartialLemmas.{Each, made_in, forget}
 
 -- groups after groups
 pub groups_append : (f : ℕ → List (List Placed)) (base : Place) (m start now : Items) (gs hs : List ℕ) (seen more : List (ℕ × Answer))

@@ -1,7 +1,7 @@
 -- The first state is one.
-use Rattle.std.proofs.Common.{◌≡◌, ℕ, length, refl, sym, ◌∙◌, arith}
+use Rattle.std.proofs.Common.{◌≡◌, length, refl, sym, ◌∙◌, arith}
 use Rattle.std.specs.Ordering.{nat_cmp}
-use Rattle.std.specs.FinMap.{FinMap, empty, entries, len-entries, len-empty}
+use Rattle.std.specs.FinMap.{empty, entries, len-entries, len-empty}
 use Rattle.sessions.specs.declared.sessions.Kept.{Kept}
 use Rattle.sessions.specs.Fresh.{Replies}
 use Rattle.executor.specs.State.{IsState, first_state}

@@ -1,28 +1,27 @@
 -- Whatever steps were made, they are a beginning of a round; and at the end they are a round.
-use Rattle.std.proofs.Common.{◌≡◌, ◌≢◌, ℕ, zero, suc, ◌+◌, ◌-◌, ◌<◌, ◌≤◌, Bool, true, false, List, [], ◌∷◌, ◌++◌, map, length, take, set, get_or, Some, None, Option, refl, sym, ap, ◌∙◌, arith, subst, ◌⊎◌, inl, inr, append_assoc, cond}
-use Rattle.std.specs.Prelude.{slice_get, slice_set, All, IsTrue, not, ◌||◌, ◌==◌, filter, if◌then◌else◌, nat_le}
-use Rattle.std.specs.List.{AllByRecursion, range_with_len, list_all, zip}
-use Rattle.std.proofs.lemmas.List.{append-nil, map-append, length_push, take_more, map-set, take_all}
+use Rattle.std.proofs.Common.{◌≡◌, ◌≢◌, ℕ, zero, suc, ◌+◌, ◌-◌, ◌<◌, ◌≤◌, Bool, true, false, List, [], ◌∷◌, ◌++◌, map, length, take, set, get_or, Some, Option, refl, sym, ap, ◌∙◌, arith, subst, ◌⊎◌, inl, inr, append_assoc}
+use Rattle.std.specs.Prelude.{slice_get, All, IsTrue, not, ◌||◌, ◌==◌, nat_le}
+use Rattle.std.specs.List.{range_with_len, list_all, zip}
+use Rattle.std.proofs.lemmas.List.{append-nil, map-append, length_push, take_more, map-set}
 use Rattle.std.proofs.lemmas.Bool.{cases_Bool, leb-true, and_parts, ltb-true, ltb-false, lt-ltb}
 use Rattle.std.proofs.lemmas.Bool.Decides.{nat_tests}
-use Rattle.std.proofs.lemmas.Option.{slice_get_within, get_or_from_slice_get, slice_get-get_or}
+use Rattle.std.proofs.lemmas.Option.{slice_get_within, get_or_from_slice_get}
 use Rattle.items.specs.Map.{Items, alive}
 use Rattle.item_steps.specs.Effect.{effect}
-use Rattle.item_steps.specs.Steps.{steps, reply}
+use Rattle.item_steps.specs.Steps.{reply}
 use Rattle.item_steps.specs.Schedule.{Placed, IsInterleaving, stamped, items_after, answers_in, answers_at}
-use Rattle.item_steps.specs.declared.step.Place.{Place}
 use Rattle.item_steps.specs.declared.step.Step.{Step}
 use Rattle.item_steps.specs.declared.step.Answer.{Answer}
 use Rattle.batches.specs.declared.batch.Batch.{Batch}
 use Rattle.executor.specs.Running.{Running}
 use Rattle.executor.specs.State.{StateView}
-use Rattle.executor.specs.Fresh.{Runner, fresh}
+use Rattle.executor.specs.Fresh.{Runner}
 use Rattle.executor.specs.declared.answered.Answered.{Answered}
-use Rattle.executor.specs.Round.{runners, moment_of, first_place, group_of, steps_in, GroupsRun, answered, Round}
+use Rattle.executor.specs.Round.{runners, moment_of, first_place, group_of, steps_in, answered, Round}
 use Rattle.executor.specs.Work.{Progress, begun, all_begun, next_step, is_done, is_group_done, started, comes_after, IsFirst, IsNext, IsLast, StepMade, Worked, began, stepped, moved, replied, replies_of, made}
-use Rattle.executor.proofs.OrderLemmas.{items_push, answers_push, order_push, set_same, set_other, get_set_same, get_set_other}
+use Rattle.executor.proofs.OrderLemmas.{items_push, answers_push, order_push, get_set_same, get_set_other}
 use Rattle.executor.proofs.PartialLemmas.{Each, each-of-all, all-of-each, made_in, forget, first, groups_run, Partial}
-use Rattle.executor.proofs.RoundLemmas.{groups_append, groups_empty, range_parts, range_at, all_empty, get_map, map_get, each_set, same_or_not, fresh_apart, answers_at-append, answers_at-own, answers_at-other, made_all, none_made, no_steps}
+use Rattle.executor.proofs.RoundLemmas.{groups_append, groups_empty, range_parts, range_at, get_map, map_get, each_set, same_or_not, fresh_apart, answers_at-append, answers_at-own, answers_at-other, made_all, none_made, no_steps}
 
 module _ (base : StateView) (batch : Batch) (ordered : Bool) where
   abbrev there : List Runner

@@ -1,6 +1,6 @@
 -- A state of the server, and the token by which it is known.
-use Rattle.std.specs.Prelude.{◌≡◌, ℕ, ◌<◌, ◌≤◌, ◌^◌, List, [], length, replicate, All, Bool, refl}
-use Rattle.std.specs.FinMap.{empty, entries}
+use Rattle.std.specs.Prelude.{◌≡◌, ℕ, ◌<◌, ◌^◌, List, replicate, refl}
+use Rattle.std.specs.FinMap.{empty}
 use Rattle.std.specs.Coded.{Coded, code_by, coded×, coded_ℕ, coded_list}
 use Rattle.token.specs.declared.Token.{Token}
 use Rattle.token.specs.Digest.{digest, root_of}

@@ -1,5 +1,5 @@
 -- A batch that is being executed.
-use Rattle.std.specs.Prelude.{◌≡◌, ℕ, ◌+◌, ◌*◌, ◌<◌, ◌≤◌, List, [], ◌∷◌, ◌++◌, map, length, min, All, Bool, true, false, IsTrue, not, ◌||◌, ◌&&◌, ◌==◌, nat_le, nat_lt, Option, Some, None, slice_get, slice_set, slice_index, if◌then◌else◌, refl}
+use Rattle.std.specs.Prelude.{◌≡◌, ℕ, ◌+◌, ◌≤◌, List, [], ◌∷◌, ◌++◌, map, length, min, All, Bool, true, false, IsTrue, not, ◌||◌, ◌&&◌, ◌==◌, nat_le, nat_lt, Option, Some, None, slice_get, slice_set, slice_index, if◌then◌else◌, refl}
 use Rattle.std.specs.List.{list_all, zip, flat_map}
 use Rattle.std.specs.Coded.{Coded, code_by, coded×, coded_list, coded_ℕ, coded_bool}
 use Rattle.items.specs.Map.{Items, alive}

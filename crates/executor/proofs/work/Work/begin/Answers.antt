@@ -2,9 +2,8 @@ use Rattle.std.proofs.Common.{◌≡◌, refl, sym, ap, ◌∙◌, subst, Some, 
 use Rattle.std.specs.Prelude.{IsTrue}
 use Rattle.items.specs.Map.{alive}
 use Rattle.executor.specs.Running.{Running}
-use Rattle.executor.specs.State.{StateView}
 use Rattle.executor.specs.Round.{moment_of}
-use Rattle.executor.specs.Work.{WorkView, is_group_done, IsLast, all_begun, started, tentative_of}
+use Rattle.executor.specs.Work.{WorkView, is_group_done, IsLast, all_begun, tentative_of}
 use Rattle.executor.proofs.DoneLemmas.{none_run, none_done, none_last}
 use Rattle.executor.proofs.work.Work.begin.Goals as goal
 

@@ -1,13 +1,9 @@
-use Rattle.std.proofs.Common.{◌≡◌, ℕ, ◌≤◌, List, refl, sym, ap, ◌∙◌, subst, Some, length}
+use Rattle.std.proofs.Common.{◌≡◌, ℕ, ◌≤◌, List, sym, ap, ◌∙◌, subst, Some, length}
 use Rattle.std.specs.Prelude.{IsTrue, All, slice_get}
-use Rattle.std.specs.FinMap.{entries}
 use Rattle.item_steps.specs.Steps.{steps}
 use Rattle.sessions.specs.declared.request.Request.{Request}
 use Rattle.sessions.specs.declared.sessions.Kept.{Kept}
-use Rattle.sessions.specs.Fresh.{Replies}
-use Rattle.executor.specs.declared.answered.Answered.{Answered}
 use Rattle.executor.specs.Running.{Running}
-use Rattle.executor.specs.State.{StateView}
 use Rattle.executor.specs.Round.{Round, kept_after}
 use Rattle.executor.specs.Work.{Progress, WorkView, is_group_done, IsLast, replies_to, replies_of, made, tentative_of, TentativeView}
 use Rattle.executor.proofs.DoneLemmas.{all_answered, sessions_fit_after, same_replies, completed, made_of}

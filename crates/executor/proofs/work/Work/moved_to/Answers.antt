@@ -1,6 +1,6 @@
 use Rattle.std.proofs.Common.{sym, subst, Some}
 use Rattle.std.specs.Prelude.{IsTrue}
-use Rattle.executor.specs.Work.{WorkView, Worked, moved, is_group_done, IsNext}
+use Rattle.executor.specs.Work.{WorkView, moved, is_group_done, IsNext}
 use Rattle.executor.proofs.work.Work.moved_to.Goals as goal
 
 pub invariant_of-self : goal.invariant_of-self

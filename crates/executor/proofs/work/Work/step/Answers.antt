@@ -1,9 +1,8 @@
-use Rattle.std.proofs.Common.{◌≡◌, ◌<◌, arith, refl, sym, ap, ◌∙◌, subst, true, false, Some, Option, length, set}
+use Rattle.std.proofs.Common.{◌≡◌, arith, refl, sym, ◌∙◌, subst, true, Some, Option, length, set}
 use Rattle.std.specs.Prelude.{slice_get}
 use Rattle.std.proofs.lemmas.Option.{slice_get_read}
-use Rattle.items.specs.Map.{Items}
 use Rattle.executor.specs.Running.{Running}
-use Rattle.executor.specs.Work.{Progress, WorkView, StepMade, StepDone, Worked, stepped, is_done, is_ready}
+use Rattle.executor.specs.Work.{Progress, WorkView, StepMade, StepDone, stepped, is_ready}
 use Rattle.executor.specs.Round.{first_place}
 use Rattle.executor.proofs.DoneLemmas.{step_made, place_within, ready_parts, found_ready}
 use Rattle.executor.proofs.work.Work.step.Goals as goal
