@@ -1,4 +1,4 @@
-ghost use Rattle.std.specs.Prelude.{◌≡◌, ◌==◌, ◌≤◌, ◌++◌, ◌∷◌, [], ◌↔◌, true, false, None, Some, length, map, IfOk, OnOk, OnErr, IsErrOf, IsSome, slice_get};
+ghost use Rattle.std.specs.Prelude.{◌≡◌, ◌==◌, ◌≤◌, ◌++◌, ◌∷◌, [], ◌↔◌, ◌⊎◌, true, false, None, Some, length, map, IfOk, IfErr, OnOk, OnErr, IsErrOf, IsSome, slice_get};
 ghost use Rattle.std.specs.List.{list_all, list_any};
 ghost use Rattle.items.specs.Map.{Items};
 ghost use Rattle.item_steps.specs.Schedule.{GroupRuns};
@@ -93,6 +93,7 @@ fn next_of(tasks: &[Task], made: usize, place: u32) -> Result<&Step, Fault>
     ensures unfit { IsErrOf result Fault.Unfit ↔ (list_any (λ task. task.place == place) tasks.now ≡ false) }
     ensures not_open { IsErrOf result Fault.NotOpen
         ↔ ((list_any (λ task. task.place == place) tasks.now ≡ true) × (slice_get (steps_of_group tasks.now) made ≡ None)) }
+    ensures only { IfErr result (λ fault. (fault ≡ Fault.Unfit) ⊎ (fault ≡ Fault.NotOpen)) }
 {
     match tasks {
         [task] if task.place == place => match task.steps.as_slice().get(made) {
@@ -109,6 +110,7 @@ fn answers_of(alloc: Global, tasks: &Group, answers: Vec<Answer>) -> Result<Vec<
     ensures ok { IfOk result (λ lists. lists.items ≡ map (λ task. answers.items) tasks.now) }
     ensures all { OnOk result (length (steps_of_group tasks.now) ≤ length answers.items) }
     ensures not_open { IsErrOf result Fault.NotOpen ↔ IsSome (slice_get (steps_of_group tasks.now) (length answers.items)) }
+    ensures only { IfErr result (λ fault. (fault ≡ Fault.NotOpen) ⊎ (fault ≡ Fault.NoMemory)) }
 {
     let mut lists = Vec::new(alloc);
     match tasks.as_slice() {
@@ -140,6 +142,7 @@ impl Round {
         ensures seats { IfOk result (λ r. r.1.items ≡ (record { tasks = group; answers = [] }) ∷ []) }
         ensures seat { IfOk result (λ r. IsSeatOf pages r.0 (record { tasks = group; answers = [] })) }
         ensures unfit { IsErrOf result Fault.Unfit ↔ (fits base group callers ≡ false) }
+        ensures only { IfErr result (λ fault. (fault ≡ Fault.Unfit) ⊎ (fault ≡ Fault.NoMemory)) }
     {
         if callers != 1 || group.as_slice().len() > 1 || !tasks_fit(base, group.as_slice()) {
             return Err(Fault::Unfit);
@@ -163,6 +166,7 @@ impl Round {
         ensures seat { (start : Items) → IsSeatOf start self.old seat.old → IsSeatOf start self.new seat.new }
         ensures unfit { IsErrOf result Fault.Unfit ↔ (holds seat.old place ≡ false) }
         ensures not_open { IsErrOf result Fault.NotOpen ↔ ((holds seat.old place ≡ true) × (next_step seat.old ≡ None)) }
+        ensures only { IfErr result (λ fault. (fault ≡ Fault.Unfit) ⊎ ((fault ≡ Fault.NotOpen) ⊎ (fault ≡ Fault.NoMemory))) }
         ensures err { OnErr result ((self.new ≡ self.old) × (seat.new ≡ seat.old)) }
     {
         let step = next_of(seat.tasks.as_slice(), seat.answers.len(), place)?;
@@ -188,6 +192,7 @@ impl Round {
             → IsSeatOf start self seat → GroupRuns self.base start seat.tasks r.0 r.1.items) }
         ensures not_open { (seat : SeatState) → seats.items ≡ seat ∷ []
             → (IsErrOf result Fault.NotOpen ↔ IsSome (next_step seat)) }
+        ensures only { IfErr result (λ fault. (fault ≡ Fault.NotOpen) ⊎ (fault ≡ Fault.NoMemory)) }
     {
         let Round { pages, base: _ } = self;
         let mut seats = seats;
