@@ -1,4 +1,5 @@
 pub mod State
+pub mod Parts
 pub mod Fresh
 pub mod Round
 pub mod Running

@@ -19,7 +19,7 @@ mod work;
 
 pub use answered::Answered;
 pub use base::Base;
-pub use state::State;
+pub use state::{Parts, State};
 pub use tentative::{Committed, Tentative};
 pub use work::{Ended, Work};
 

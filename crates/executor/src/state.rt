@@ -3,6 +3,7 @@ ghost use Rattle.wire.specs.Batch.{batch_text, BatchFits};
 ghost use Rattle.wire.specs.Session.{SessionsFit};
 ghost use Rattle.token.specs.Digest.{digest};
 ghost use Rattle.executor.specs.State.{first_state, with_token};
+ghost use Rattle.executor.specs.Parts.{parts_of};
 ghost use Rattle.executor.specs.Round.{moment_of};
 
 use batches::Batch;
@@ -23,6 +24,18 @@ pub struct State {
     token: Token,
     sessions: Sessions,
     pages: Snapshot,
+}
+
+/// What a state is made of, without its token.
+#[derive(Debug, Drop)]
+pub struct Parts {
+    pub number: u64,
+    pub previous: Token,
+    pub epoch: u64,
+    pub batch: [u8; 32],
+    pub moment: u32,
+    pub sessions: Sessions,
+    pub pages: Snapshot,
 }
 
 impl Model for State {
@@ -151,6 +164,42 @@ impl State {
         })
     }
 
+    /// The state of these parts, with its token computed from them. Its number is from 1 to 2^58 - 1.
+    pub fn of_parts(parts: Parts) -> State
+        requires number { (0 < parts.number) × (parts.number < 2 ^ 58) }
+        requires sessions { SessionsFit parts.sessions }
+        ensures { result ≡ with_token (parts_of parts) }
+    {
+        let token = Token::new(
+            &parts.previous,
+            parts.number,
+            parts.epoch,
+            parts.moment,
+            &parts.batch,
+            &parts.pages.root(),
+            &sessions_digest(&parts.sessions),
+        );
+        let Parts {
+            number,
+            previous,
+            epoch,
+            batch,
+            moment,
+            sessions,
+            pages,
+        } = parts;
+        State {
+            number,
+            previous,
+            epoch,
+            batch,
+            moment,
+            token,
+            sessions,
+            pages,
+        }
+    }
+
     /// The state that a batch makes of this one, with its token.
     pub fn followed_by(&self, batch: &Batch, sessions: Sessions, pages: Snapshot) -> State
         requires batch { BatchFits batch.now }
@@ -166,26 +215,14 @@ impl State {
           items = pages;
         }) }
     {
-        let moment = batch.moment.max(self.moment);
-        let digest = batch_digest(batch);
-        let token = Token::new(
-            &self.token,
-            batch.n,
-            batch.epoch,
-            moment,
-            &digest,
-            &pages.root(),
-            &sessions_digest(&sessions),
-        );
-        State {
+        State::of_parts(Parts {
             number: batch.n,
             previous: self.token,
             epoch: batch.epoch,
-            batch: digest,
-            moment,
-            token,
+            batch: batch_digest(batch),
+            moment: batch.moment.max(self.moment),
             sessions,
             pages,
-        }
+        })
     }
 }

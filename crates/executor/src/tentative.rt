@@ -1,10 +1,12 @@
-ghost use Rattle.std.specs.Prelude.{◌≡◌, ◌↔◌, [], false, IfOk, IfErr, IsOk};
-ghost use Rattle.executor.specs.State.{first_state};
+ghost use Rattle.std.specs.Prelude.{◌≡◌, ◌<◌, ◌^◌, ◌↔◌, [], false, IfOk, IfErr, IsOk};
+ghost use Rattle.wire.specs.Session.{SessionsFit};
+ghost use Rattle.executor.specs.State.{first_state, with_token};
+ghost use Rattle.executor.specs.Parts.{parts_of};
 ghost use Rattle.decrees.specs.declared.decree.Decree.TheVariants.{Commit};
 
 use crate::answered::Answered;
 use crate::base::Base;
-use crate::state::State;
+use crate::state::{Parts, State};
 use batches::Batch;
 use decrees::Decree;
 use std::alloc::{AllocError, Global};
@@ -133,6 +135,19 @@ impl Committed {
             state: State::first(alloc)?,
             replies: Vec::new(alloc),
         })
+    }
+
+    /// A committed state that was sent: its token is computed from its parts. No reply comes with it.
+    /// Its number is from 1 to 2^58 - 1.
+    pub fn of_parts(alloc: Global, parts: Parts) -> Committed
+        requires number { (0 < parts.number) × (parts.number < 2 ^ 58) }
+        requires sessions { SessionsFit parts.sessions }
+        ensures { result ≡ record { state = with_token (parts_of parts); replies = [] } }
+    {
+        Committed {
+            state: State::of_parts(parts),
+            replies: Vec::new(alloc),
+        }
     }
 
     /// The committed state.
