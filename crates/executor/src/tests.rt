@@ -22,9 +22,14 @@ fn add_set(bytes: &mut Vec<u8>, client: u8, key: u8, exptime: i32) -> Result<(),
     bytes.extend_from_slice(&[0, 0, 0, 1, b'5'])
 }
 
-/// `get` of a key of one byte, by a client's request 1.
-fn add_get(bytes: &mut Vec<u8>, client: u8, key: u8) -> Result<(), AllocError> {
-    bytes.extend_from_slice(&[0, client, 0, 0, 0, 0, 0, 0, 0, 1, 0, 0, 0, 0, 1, 1, key])
+/// `get` of keys of one byte, by a client's request 1.
+fn add_get(bytes: &mut Vec<u8>, client: u8, keys: &[u8]) -> Result<(), AllocError> {
+    bytes.extend_from_slice(&[0, client, 0, 0, 0, 0, 0, 0, 0, 1, 0, 0, 0, 0])?;
+    bytes.push((keys.len() % 64) as u8)?;
+    for key in keys {
+        bytes.extend_from_slice(&[1, *key])?;
+    }
+    Ok(())
 }
 
 /// Makes all steps of the group that runs, the last request first.
@@ -82,23 +87,26 @@ fn commit(ended: Ended) -> Option<Committed> {
     }
 }
 
-/// How each reply looks: `s` for STORED, and the count of items that a `get` found.
+/// How each reply looks: `s` for STORED, and 0, 1 or 2 for none, one or more items that a `get` found.
 fn marks(alloc: Global, replies: &[Answered]) -> Result<Vec<u8>, AllocError> {
     let mut out = Vec::new(alloc);
     for answered in replies {
         out.push(match &answered.reply {
             Reply::Stored => b's',
-            Reply::Values(values) if values.as_slice().is_empty() => b'0',
-            Reply::Values(_) => b'1',
+            Reply::Values(values) => match values.as_slice() {
+                [] => b'0',
+                [_] => b'1',
+                _ => b'2',
+            },
             _ => b'?',
         })?;
     }
     Ok(out)
 }
 
-/// The replies of a batch that is run by its groups and committed.
-fn shown(alloc: Global, base: &Base, bytes: &[u8]) -> Result<Vec<u8>, Fault> {
-    match commit(run(alloc, base, bytes, false)?) {
+/// The replies of a batch that is run and committed.
+fn shown(alloc: Global, base: &Base, bytes: &[u8], ordered: bool) -> Result<Vec<u8>, Fault> {
+    match commit(run(alloc, base, bytes, ordered)?) {
         None => Err(Fault::NotOpen),
         Some(committed) => Ok(marks(alloc, committed.replies())?),
     }
@@ -110,8 +118,8 @@ fn an_item_that_is_due_at_once_is_not_found_by_a_later_group(rt: HostRuntime) ->
     let base = Base::first(alloc)?;
     let mut bytes = batch_bytes(alloc, 1, 1000, 2)?;
     add_set(&mut bytes, 1, b'a', -1)?;
-    add_get(&mut bytes, 2, b'a')?;
-    let shown = shown(alloc, &base, bytes.as_slice())?;
+    add_get(&mut bytes, 2, b"a".as_slice())?;
+    let shown = shown(alloc, &base, bytes.as_slice(), false)?;
     assert_eq!(rt; shown.as_slice(), b"s0".as_slice());
     Ok(())
 }
@@ -168,5 +176,57 @@ fn stamps_are_64_times_the_number_and_the_place(rt: HostRuntime) -> Result<(), F
     add_set(&mut bytes, 2, b'b', 0)?;
     let seen = uniques(alloc, &base, bytes.as_slice(), b"ab".as_slice())?;
     assert_eq!(rt; seen.as_slice(), [64u64, 65].as_slice());
+    Ok(())
+}
+
+/// `set a`, `get a y c` and `set c` of three clients.
+fn third_key_bytes(alloc: Global) -> Result<Vec<u8>, AllocError> {
+    let mut bytes = batch_bytes(alloc, 1, 1000, 3)?;
+    add_set(&mut bytes, 1, b'a', 0)?;
+    add_get(&mut bytes, 2, b"ayc".as_slice())?;
+    add_set(&mut bytes, 3, b'c', 0)?;
+    Ok(bytes)
+}
+
+#[test]
+fn groups_and_batch_order_differ_where_a_third_key_is_overlooked(
+    rt: HostRuntime,
+) -> Result<(), Fail> {
+    let alloc = rt.alloc();
+    let base = Base::first(alloc)?;
+    let bytes = third_key_bytes(alloc)?;
+    let by_groups = shown(alloc, &base, bytes.as_slice(), false)?;
+    assert_eq!(rt; by_groups.as_slice(), b"s2s".as_slice());
+    let in_order = shown(alloc, &base, bytes.as_slice(), true)?;
+    assert_eq!(rt; in_order.as_slice(), b"s1s".as_slice());
+    Ok(())
+}
+
+/// The base after batch 1 set `a` with an exptime that is a moment by itself.
+fn after_a_due_set(alloc: Global) -> Result<Base, Fault> {
+    let first = Base::first(alloc)?;
+    let mut bytes = batch_bytes(alloc, 1, 1000, 1)?;
+    add_set(&mut bytes, 1, b'a', 2592001)?;
+    match commit(run(alloc, &first, bytes.as_slice(), false)?) {
+        None => Err(Fault::NotOpen),
+        Some(committed) => Ok(committed.base()?),
+    }
+}
+
+/// What a `get a` of batch 2 at this moment finds.
+fn found_at(alloc: Global, base: &Base, moment: u32) -> Result<Vec<u8>, Fault> {
+    let mut bytes = batch_bytes(alloc, 2, moment, 1)?;
+    add_get(&mut bytes, 2, b"a".as_slice())?;
+    shown(alloc, base, bytes.as_slice(), false)
+}
+
+#[test]
+fn an_item_is_found_until_it_is_due(rt: HostRuntime) -> Result<(), Fail> {
+    let alloc = rt.alloc();
+    let base = after_a_due_set(alloc)?;
+    let before = found_at(alloc, &base, 2592000)?;
+    assert_eq!(rt; before.as_slice(), b"1".as_slice());
+    let after = found_at(alloc, &base, 2592001)?;
+    assert_eq!(rt; after.as_slice(), b"0".as_slice());
     Ok(())
 }
