@@ -7,3 +7,4 @@ pub mod KeptLemmas
 pub mod GroupLemmas
 pub mod DoneLemmas
 pub mod FitLemmas
+pub mod ThroughLemmas

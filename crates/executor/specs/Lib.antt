@@ -5,3 +5,4 @@ pub mod Round
 pub mod Running
 pub mod Work
 pub mod Ends
+pub mod Through

@@ -14,6 +14,7 @@ mod kept;
 mod running;
 mod state;
 mod tentative;
+mod through;
 mod witness;
 mod work;
 
@@ -21,6 +22,7 @@ pub use answered::Answered;
 pub use base::Base;
 pub use state::{Parts, State};
 pub use tentative::{Committed, Tentative};
+pub use through::run_through;
 pub use work::{Ended, Work};
 
 #[cfg(test)]

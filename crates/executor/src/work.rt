@@ -6,6 +6,7 @@ ghost use Rattle.item_steps.specs.Schedule.{stamped};
 ghost use Rattle.executor.specs.Round.{first_place, moment_of, Round};
 ghost use Rattle.executor.specs.Work.{StepMade, HasNoStep, tentative_of, is_group_done as group_done, IsFirst, IsNext, IsLast, is_ready, all_begun, started};
 ghost use Rattle.executor.specs.Ends.{Begins, Goes, DoneIsRound};
+ghost use Rattle.executor.specs.Through.{IsReadyAt, IsNotLeft, StepMadeAt, RequestRan, later, IsMade, DoneIsMade};
 
 use crate::base::Base;
 use crate::begin::begin_all;
@@ -140,6 +141,7 @@ impl Work {
         requires next { batch.n ≡ base.now.state.number + 1 }
         ensures begins { IfOk result (λ ended. Begins base.now.state batch ordered ended) }
         ensures round { IfOk result (λ ended. DoneIsRound base.now.state batch ordered ended) }
+        ensures made { IfOk result (λ ended. DoneIsMade base.now.state batch ordered ended) }
     {
         let running = begin_all(alloc, base.state.sessions(), &batch, ordered)?;
         match next_group(&running, None) {
@@ -156,6 +158,7 @@ impl Work {
     pub fn finish(self, alloc: Global) -> Result<Ended, AllocError>
         ensures goes { IfOk result (λ ended. Goes self ended) }
         ensures round { IfOk result (λ ended. DoneIsRound self.base self.batch self.ordered ended) }
+        ensures made { IfOk result (λ ended. DoneIsMade self.base self.batch self.ordered ended) }
     {
         if !is_group_done(&self.running, self.group) {
             return Ok(Ended::On(self));
@@ -186,6 +189,7 @@ impl Work {
         requires done { IsTrue (group_done self.progress) }
         requires last { IsLast self.progress.running (Some self.progress.group) }
         ensures tentative { IfOk result (λ tentative. tentative ≡ tentative_of self) }
+        ensures made { IfOk result (λ tentative. IsMade self.base self.batch self.ordered tentative) }
         ensures round { IfOk result (λ tentative. Round self.base self.batch self.ordered tentative.after tentative.replies) }
     {
         let Work {
@@ -221,8 +225,68 @@ impl Work {
         let Some(i) = ready_at(&self.running, self.group, place) else {
             return Ok(false);
         };
-        let at = place_of(&self.base, &self.batch, place);
-        self.running[i].step(alloc, &mut self.pages, at)?;
+        self.step_at(alloc, i)?;
         Ok(true)
+    }
+
+    /// Makes the next step of the request at the index. Where memory is wanting nothing changes.
+    fn step_at(&mut self, alloc: Global, i: usize) -> Result<(), AllocError>
+        requires ready { IsReadyAt self.old.progress i }
+        ensures made { OnOk result (StepMadeAt (first_place self.old.base self.old.batch) self.old.progress i self.new.progress) }
+        ensures others { self.new ≡ record self.old { progress = self.new.progress } }
+        ensures err { OnErr result (self.new ≡ self.old) }
+    {
+        let at = place_of(&self.base, &self.batch, self.running[i].place());
+        self.running[i].step(alloc, &mut self.pages, at)?;
+        Ok(())
+    }
+
+    /// Makes each step that the request at the index has left, if it is in the group that runs.
+    fn run_request(&mut self, alloc: Global, i: usize) -> Result<(), AllocError>
+        requires there { i < length self.old.progress.running }
+        ensures ran { OnOk result (RequestRan self.old.progress i self.new.progress) }
+        ensures others { self.new ≡ record self.old { progress = self.new.progress } }
+    {
+        while self.is_left(i) {
+            self.step_at(alloc, i)?;
+        }
+        Ok(())
+    }
+
+    /// Whether the request at the index is in the group that runs and has a step left.
+    fn is_left(&self, i: usize) -> bool
+        requires there { i < length self.now.progress.running }
+        ensures left { result ≡ true → IsReadyAt self.now.progress i }
+        ensures none { result ≡ false → IsNotLeft self.now.progress.group (slice_get self.now.progress.running i) }
+    {
+        let request = &self.running[i];
+        request.group() == self.group && !request.is_done()
+    }
+
+    /// Makes each step that is left of the group that runs, those of one request after the other.
+    fn run_group(&mut self, alloc: Global) -> Result<(), AllocError>
+        ensures done { OnOk result (IsTrue (group_done self.new.progress)) }
+        ensures left { OnOk result (later self.new.progress ≡ later self.old.progress) }
+        ensures others { self.new ≡ record self.old { progress = self.new.progress } }
+    {
+        for i in 0..self.running.len() {
+            self.run_request(alloc, i)?;
+        }
+        Ok(())
+    }
+
+    /// Makes all steps that are left, group by group, and ends.
+    pub(crate) fn run(self, alloc: Global) -> Result<Tentative, AllocError>
+        ensures made { IfOk result (λ tentative. IsMade self.base self.batch self.ordered tentative) }
+        ensures round { IfOk result (λ tentative. Round self.base self.batch self.ordered tentative.after tentative.replies) }
+    {
+        let mut work = self;
+        loop {
+            work.run_group(alloc)?;
+            match work.finish(alloc)? {
+                Ended::On(next) => work = next,
+                Ended::Done(tentative) => return Ok(tentative),
+            }
+        }
     }
 }

@@ -5,7 +5,7 @@ use Rattle.sessions.specs.declared.request.Request.{Request}
 use Rattle.sessions.specs.declared.sessions.Kept.{Kept}
 use Rattle.executor.specs.Running.{Running}
 use Rattle.executor.specs.Round.{Round, kept_after}
-use Rattle.executor.specs.Work.{Progress, WorkView, is_group_done, IsLast, replies_to, replies_of, made, tentative_of, TentativeView}
+use Rattle.executor.specs.Work.{Progress, WorkView, is_group_done, IsLast, Worked, replies_to, replies_of, made, tentative_of, TentativeView}
 use Rattle.executor.proofs.DoneLemmas.{all_answered, sessions_fit_after, same_replies, completed, made_of}
 use Rattle.executor.proofs.work.Work.complete.Goals as goal
 
@@ -60,3 +60,12 @@ returns-clause-round c =
     c.followed_by-after.ensures ∙ made_of c.self.inside.base.state c.self.inside.batch c.answer_all.new.sessions _ c.seal.result c.self.inside.pages sessions c.seal.ensures in
     subst (λ (v : WorkView). Round v.base v.batch v.ordered c.followed_by-after.result c.in_ok-replies.replies.items) c.self.view_is
     (completed c.self.inside.base.state c.self.inside.batch c.self.inside.ordered w c.self.invariant.worked done last c.followed_by-after.result c.in_ok-replies.replies.items after replies)
+
+pub returns-clause-made : goal.returns-clause-made
+returns-clause-made c = record {
+  last = c.args.self.progress;
+  worked = subst (λ (v : WorkView). Worked v.base v.batch v.ordered v.progress) c.self.view_is c.self.invariant.worked;
+  done = c.requires.done;
+  ends = c.requires.last;
+  tentative = returns-clause-tentative c;
+}

@@ -1,0 +1,57 @@
+use Rattle.std.proofs.Common.{◌≡◌, false, Some, sym, ap, ◌∙◌, arith, subst, set, length}
+use Rattle.std.specs.Prelude.{slice_get}
+use Rattle.std.proofs.lemmas.Option.{slice_get_within, get_or_from_slice_get}
+use Rattle.item_steps.specs.Schedule.{stamped}
+use Rattle.item_steps.specs.declared.step.Place.{Place}
+use Rattle.executor.specs.Running.{Running}
+use Rattle.executor.specs.Round.{first_place}
+use Rattle.executor.specs.Work.{Progress, WorkView, StepDone, is_done, stepped}
+use Rattle.executor.specs.Through.{IsReadyAt, StepMadeAt}
+use Rattle.executor.proofs.DoneLemmas.{place_within}
+use Rattle.executor.proofs.ThroughLemmas.{step_at}
+use Rattle.executor.proofs.work.Work.step_at.Goals as goal
+use Rattle.executor.proofs.work.Work.step_at.Goals.{In_ok-step}
+
+pub place_of-at-requires-clause-place : goal.place_of-at-requires-clause-place
+place_of-at-requires-clause-place c =
+    let w : Progress = record { items = c.self.inside.pages; running = c.self.inside.running.items; group = c.self.inside.group } in
+    let ready = subst (λ (v : WorkView). IsReadyAt v.progress c.args.i) (sym c.self.view_is) c.requires.ready in
+    let is : c.index.result.now ≡ ready.request = c.index.ensures ∙ get_or_from_slice_get c.self.inside.running.items c.args.i ready.request c.index.result.now ready.there in
+    let within = place_within c.self.inside.base.state c.self.inside.batch c.self.inside.ordered w c.self.invariant.worked c.args.i ready.request ready.there in
+    omega (arith, c.place.ensures, ap (λ (r : Running). r.place) is, within, c.self.invariant.fits.count)
+
+pub index_mut-requires : goal.index_mut-requires
+index_mut-requires c =
+    let ready = subst (λ (v : WorkView). IsReadyAt v.progress c.args.i) (sym c.self.view_is) c.requires.ready in
+    let within = slice_get_within c.self.inside.running.items c.args.i ready.request ready.there in
+    omega (arith, within, c.self.inside.running.ok.0)
+
+pub step-requires : goal.step-requires
+step-requires c =
+    let ready = subst (λ (v : WorkView). IsReadyAt v.progress c.args.i) (sym c.self.view_is) c.requires.ready in
+    let is : c.index_mut.result.now ≡ ready.request = c.index_mut.ensures.value ∙ get_or_from_slice_get c.self.inside.running.items c.args.i ready.request c.index_mut.result.now ready.there in
+    ap is_done is ∙ ready.more
+
+-- the step that was made at the index
+made : (c : In_ok-step) → StepMadeAt (first_place c.self.inside.base.state c.self.inside.batch) (record { items = c.self.inside.pages; running = c.self.inside.running.items; group = c.self.inside.group }) c.args.i
+    (record { items = c.step.new.pages; running = set c.self.inside.running.items c.args.i c.step.new.self; group = c.self.inside.group })
+made c =
+    let w : Progress = record { items = c.self.inside.pages; running = c.self.inside.running.items; group = c.self.inside.group } in
+    let first : Place = first_place c.self.inside.base.state c.self.inside.batch in
+    let ready = subst (λ (v : WorkView). IsReadyAt v.progress c.args.i) (sym c.self.view_is) c.requires.ready in
+    let read : c.index.result.now ≡ ready.request = c.index.ensures ∙ get_or_from_slice_get c.self.inside.running.items c.args.i ready.request c.index.result.now ready.there in
+    let is : c.index_mut.result.now ≡ ready.request = c.index_mut.ensures.value ∙ get_or_from_slice_get c.self.inside.running.items c.args.i ready.request c.index_mut.result.now ready.there in
+    let place : c.place_of-at.result ≡ stamped first ready.request.place = c.place_of-at.ensures ∙ ap (stamped first) (c.place.ensures ∙ ap (λ (r : Running). r.place) read) in
+    let done : StepDone c.index_mut.result.now c.self.inside.pages c.place_of-at.result c.step.new.self c.step.new.pages = c.in_ok-step.ensures.ok in
+    step_at first w c.args.i ready.request c.step.new.self c.step.new.pages ready.there ready.in_group
+    (subst (λ r. StepDone r c.self.inside.pages (stamped first ready.request.place) c.step.new.self c.step.new.pages) is
+    (subst (λ p. StepDone c.index_mut.result.now c.self.inside.pages p c.step.new.self c.step.new.pages) place done))
+
+pub invariant_of-self-2 : goal.invariant_of-self-2
+invariant_of-self-2 c =
+    let w : Progress = record { items = c.self.inside.pages; running = c.self.inside.running.items; group = c.self.inside.group } in
+    let m = made c in
+    record { worked = stepped w _ m.place c.self.invariant.worked m.made; fits = c.self.invariant.fits; next = c.self.invariant.next }
+
+pub returns-clause-made : goal.returns-clause-made
+returns-clause-made c = subst (λ (v : WorkView). StepMadeAt (first_place v.base v.batch) v.progress c.args.i (record { items = c.step.new.pages; running = set c.self.inside.running.items c.args.i c.step.new.self; group = c.self.inside.group })) c.self.view_is (made c)
