@@ -1,5 +1,5 @@
-ghost use Rattle.std.specs.Prelude.{◌≡◌, ◌+◌, ◌<◌, ◌^◌, ◌↔◌, Err, IfOk, OnOk, OnErr};
-ghost use Rattle.batches.specs.Cut.{taken, left, batch_of};
+ghost use Rattle.std.specs.Prelude.{◌≡◌, ◌+◌, ◌<◌, ◌≤◌, ◌^◌, ◌↔◌, Err, IfOk, IfErr, IfSome, OnOk, OnErr};
+ghost use Rattle.batches.specs.Cut.{taken, left, batch_of, Fits};
 ghost use Rattle.executor.specs.State.{first_state};
 
 use crate::state::State;
@@ -60,8 +60,10 @@ impl Base {
     ) -> Result<Option<Batch>, Fault>
         ensures batch { IfOk result (λ batch. batch
             ≡ batch_of epoch (self.now.state.number + 1) moment (taken MOST_REQUESTS self.now.state.sessions gather.old)) }
+        ensures fits { IfOk result (λ batch. IfSome batch (λ b. Fits MOST_REQUESTS self.now.state.sessions b.requests)) }
         ensures left { OnOk result (gather.new ≡ left MOST_REQUESTS self.now.state.sessions gather.old) }
         ensures full { (result ≡ Err Fault.Full) ↔ (GREATEST_NUMBER < self.now.state.number + 1) }
+        ensures no_memory { self.now.state.number + 1 ≤ GREATEST_NUMBER → IfErr result (λ fault. fault ≡ Fault.NoMemory) }
         ensures err { OnErr result (gather.new ≡ gather.old) }
     {
         let number = self.state.number() + 1;

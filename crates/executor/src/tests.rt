@@ -32,57 +32,25 @@ fn add_get(bytes: &mut Vec<u8>, client: u8, keys: &[u8]) -> Result<(), AllocErro
     Ok(())
 }
 
-/// Makes all steps of the group that runs, the last request first.
-fn run_group(alloc: Global, work: &mut Work) -> Result<(), AllocError> {
-    for back in 0..64u32 {
-        for made in 0..64usize {
-            if !work.step(alloc, 63 - back)? {
-                break;
-            }
-        }
-    }
-    Ok(())
-}
-
-fn run_on(alloc: Global, ended: Ended) -> Result<Ended, AllocError> {
-    match ended {
-        Ended::Done(tentative) => Ok(Ended::Done(tentative)),
-        Ended::On(work) => {
-            let mut work = work;
-            run_group(alloc, &mut work)?;
-            work.finish(alloc)
-        }
-    }
-}
-
 /// Runs a batch to its end.
-fn run(alloc: Global, base: &Base, bytes: &[u8], ordered: bool) -> Result<Ended, Fault> {
+fn run(alloc: Global, base: &Base, bytes: &[u8], ordered: bool) -> Result<Tentative, Fault> {
     let batch = read::<Batch>(alloc, bytes)?;
     if batch.n != base.number() + 1 {
         return Err(Fault::Unfit);
     }
-    let mut ended = Work::begin(alloc, base, batch, ordered)?;
-    for group in 0..64usize {
-        ended = run_on(alloc, ended)?;
-    }
-    Ok(ended)
+    Ok(run_through(alloc, base, batch, ordered)?)
 }
 
-fn commit(ended: Ended) -> Option<Committed> {
-    match ended {
-        Ended::On(_) => None,
-        Ended::Done(tentative) => {
-            let own = Decree::Commit {
-                n: tentative.number(),
-                token: tentative.token(),
-            };
-            match tentative.commit(&own) {
-                Ok(committed) => Some(committed),
-                Err(back) => {
-                    drop(back.undo());
-                    None
-                }
-            }
+fn commit(tentative: Tentative) -> Option<Committed> {
+    let own = Decree::Commit {
+        n: tentative.number(),
+        token: tentative.token(),
+    };
+    match tentative.commit(&own) {
+        Ok(committed) => Some(committed),
+        Err(back) => {
+            drop(back.undo());
+            None
         }
     }
 }
@@ -126,14 +94,27 @@ fn an_item_that_is_due_at_once_is_not_found_by_a_later_group(rt: HostRuntime) ->
 
 /// The token of a batch that is run by its groups, which is undone then.
 fn token_of(alloc: Global, base: &Base, bytes: &[u8]) -> Result<Token, Fault> {
-    match run(alloc, base, bytes, false)? {
-        Ended::On(_) => Err(Fault::NotOpen),
-        Ended::Done(tentative) => {
-            let token = tentative.token();
-            drop(tentative.undo());
-            Ok(token)
-        }
-    }
+    Ok(undone(run(alloc, base, bytes, false)?))
+}
+
+fn undone(tentative: Tentative) -> Token {
+    let token = tentative.token();
+    drop(tentative.undo());
+    token
+}
+
+#[test]
+fn the_state_of_number_0(rt: HostRuntime) -> Result<(), Fail> {
+    let alloc = rt.alloc();
+    let committed = Committed::first(alloc)?;
+    let state = committed.state();
+    assert_eq!(rt; (state.number(), state.epoch(), state.moment()), (0, 1, 0));
+    assert_eq!(rt; (state.previous(), state.token()), (Token([0; 32]), Token([0; 32])));
+    assert_eq!(rt; *state.batch(), [0u8; 32]);
+    assert_eq!(rt; state.sessions().entries().len(), 0);
+    assert_eq!(rt; state.pages().page(33).len(), 0);
+    assert_eq!(rt; committed.replies().len(), 0);
+    Ok(())
 }
 
 #[test]
@@ -167,15 +148,80 @@ fn uniques(alloc: Global, base: &Base, bytes: &[u8], keys: &[u8]) -> Result<Vec<
     Ok(out)
 }
 
+/// Batch 1: 64 clients set 64 keys.
+fn full_batch(alloc: Global) -> Result<Vec<u8>, AllocError> {
+    let mut bytes = batch_bytes(alloc, 1, 1000, 64)?;
+    for key in 33..97u8 {
+        add_set(&mut bytes, key - 32, key, 0)?;
+    }
+    Ok(bytes)
+}
+
+/// The base after batch 1 set 64 keys.
+fn after_full_batch(alloc: Global) -> Result<Base, Fault> {
+    let first = Base::first(alloc)?;
+    let bytes = full_batch(alloc)?;
+    match commit(run(alloc, &first, bytes.as_slice(), false)?) {
+        None => Err(Fault::NotOpen),
+        Some(committed) => Ok(committed.base()?),
+    }
+}
+
 #[test]
 fn stamps_are_64_times_the_number_and_the_place(rt: HostRuntime) -> Result<(), Fail> {
     let alloc = rt.alloc();
+    let bytes = full_batch(alloc)?;
+    let seen = uniques(alloc, &Base::first(alloc)?, bytes.as_slice(), b"!_`".as_slice())?;
+    assert_eq!(rt; seen.as_slice(), [64u64, 126, 127].as_slice());
+    let mut more = batch_bytes(alloc, 2, 1000, 1)?;
+    add_set(&mut more, 65, b'a', 0)?;
+    let base = after_full_batch(alloc)?;
+    let later = uniques(alloc, &base, more.as_slice(), b"`a".as_slice())?;
+    assert_eq!(rt; later.as_slice(), [127u64, 64, 128].as_slice());
+    Ok(())
+}
+
+/// Makes all steps of the group that runs, the last request first.
+fn run_group(alloc: Global, work: &mut Work) -> Result<(), AllocError> {
+    for back in 0..64u32 {
+        for made in 0..64usize {
+            if !work.step(alloc, 63 - back)? {
+                break;
+            }
+        }
+    }
+    Ok(())
+}
+
+/// The token of a batch of one group whose steps are made the last request first.
+fn token_backwards(alloc: Global, base: &Base, bytes: &[u8]) -> Result<Token, Fault> {
+    let batch = read::<Batch>(alloc, bytes)?;
+    if batch.n != base.number() + 1 {
+        return Err(Fault::Unfit);
+    }
+    match Work::begin(alloc, base, batch, false)? {
+        Ended::Done(tentative) => Ok(undone(tentative)),
+        Ended::On(work) => finished_backwards(alloc, work),
+    }
+}
+
+fn finished_backwards(alloc: Global, work: Work) -> Result<Token, Fault> {
+    let mut work = work;
+    run_group(alloc, &mut work)?;
+    match work.finish(alloc)? {
+        Ended::Done(tentative) => Ok(undone(tentative)),
+        Ended::On(_) => Err(Fault::NotOpen),
+    }
+}
+
+#[test]
+fn steps_that_do_not_conflict_lead_to_one_token_in_any_order(rt: HostRuntime) -> Result<(), Fail> {
+    let alloc = rt.alloc();
     let base = Base::first(alloc)?;
-    let mut bytes = batch_bytes(alloc, 1, 1000, 2)?;
-    add_set(&mut bytes, 1, b'a', 0)?;
-    add_set(&mut bytes, 2, b'b', 0)?;
-    let seen = uniques(alloc, &base, bytes.as_slice(), b"ab".as_slice())?;
-    assert_eq!(rt; seen.as_slice(), [64u64, 65].as_slice());
+    let bytes = full_batch(alloc)?;
+    let through = token_of(alloc, &base, bytes.as_slice())?;
+    let backwards = token_backwards(alloc, &base, bytes.as_slice())?;
+    assert_eq!(rt; through, backwards);
     Ok(())
 }
 

@@ -1,7 +1,8 @@
 use Rattle.std.proofs.Common.{◌≡◌, ℕ, ◌+◌, IfOk, OnOk, subst}
+use Rattle.std.specs.Prelude.{IfSome}
 use Rattle.sessions.specs.Fresh.{Replies}
 use Rattle.batches.specs.declared.batch.TheConstants.{MOST_REQUESTS}
-use Rattle.batches.specs.Cut.{taken, left, batch_of}
+use Rattle.batches.specs.Cut.{taken, left, batch_of, Fits}
 use Rattle.executor.proofs.base.Base.cut.Goals as goal
 
 pub returns-clause-batch : goal.returns-clause-batch
@@ -11,3 +12,6 @@ returns-clause-batch c =
 
 pub returns-clause-left : goal.returns-clause-left
 returns-clause-left c = subst (λ (s : Replies). OnOk c.cut.result (c.cut.new.self ≡ left MOST_REQUESTS s c.args.gather.now)) c.sessions.ensures.sessions c.cut.ensures.left
+
+pub returns-clause-fits : goal.returns-clause-fits
+returns-clause-fits c = subst (λ (s : Replies). IfOk c.cut.result (λ batch. IfSome batch (λ b. Fits MOST_REQUESTS s b.requests))) c.sessions.ensures.sessions c.cut.ensures.fits
