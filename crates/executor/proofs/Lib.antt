@@ -9,3 +9,4 @@ pub mod DoneLemmas
 pub mod FitLemmas
 pub mod ThroughLemmas
 pub mod GroupRunLemmas
+pub mod SpreadLemmas

@@ -1,0 +1,26 @@
+-- A group that runs as a round.
+use Rattle.std.specs.Prelude.{◌≡◌, ℕ, List, [], map, filter, Bool, ◌==◌, if◌then◌else◌, All}
+use Rattle.item_steps.specs.declared.group.Task.{Task}
+use Rattle.item_steps.specs.declared.step.Answer.{Answer}
+use Rattle.executor.specs.Running.{Running}
+use Rattle.executor.specs.Work.{Progress}
+
+-- the request as a round takes it
+abbrev pub task_of : Running → Task
+task_of r = record { place = r.place; steps = r.steps }
+
+-- the requests of the group, in batch order
+abbrev pub tasks_in : ℕ → List Running → List Task
+tasks_in group running = map task_of (filter (λ r. r.group == group) running)
+
+-- a request whose steps were taken, if it is in the group
+abbrev pub emptied : ℕ → Running → Running
+emptied group r = if r.group == group then record r { steps = [] } else r
+
+-- a request with its answers, if it is in the group
+abbrev pub answered_by : ℕ → (Task → List Answer) → Running → Running
+answered_by group answers_to r = if r.group == group then record r { answers = answers_to (task_of r) } else r
+
+-- no step of the group that runs was made
+abbrev pub IsUntouched : Progress → Type 0
+IsUntouched w = All (λ r. r.group ≡ w.group → r.answers ≡ []) w.running
