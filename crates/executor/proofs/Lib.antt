@@ -10,3 +10,4 @@ pub mod FitLemmas
 pub mod ThroughLemmas
 pub mod GroupRunLemmas
 pub mod SpreadLemmas
+pub mod RanLemmas

@@ -1,0 +1,54 @@
+-- A group that ran as a round is work whose group is done.
+use Rattle.std.proofs.Common.{◌≡◌, ℕ, suc, ◌<◌, Bool, true, false, List, [], ◌∷◌, ◌++◌, map, length, Some, refl, sym, ap, ◌∙◌, subst, arith}
+use Rattle.std.specs.Prelude.{slice_get, IsTrue, filter, ◌==◌, if◌then◌else◌}
+use Rattle.std.proofs.lemmas.Bool.Decides.{nat_tests}
+use Rattle.items.specs.Map.{Items}
+use Rattle.item_steps.specs.Schedule.{Placed, IsInterleaving, placed, items_after, answers_in, answers_at, GroupRuns}
+use Rattle.item_steps.specs.declared.step.Answer.{Answer}
+use Rattle.item_steps.specs.declared.group.Task.{Task}
+use Rattle.batches.specs.declared.batch.Batch.{Batch}
+use Rattle.executor.specs.Running.{Running}
+use Rattle.executor.specs.State.{StateView}
+use Rattle.executor.specs.Round.{first_place}
+use Rattle.executor.specs.Work.{Progress, Worked, is_group_done}
+use Rattle.executor.specs.GroupRun.{task_of, tasks_in, answered_by, IsUntouched}
+use Rattle.executor.proofs.PartialLemmas.{Each, each-of-all}
+use Rattle.executor.proofs.GroupRunLemmas.{with_answers, left_in, Ran, ran}
+use Rattle.executor.proofs.SpreadLemmas.{spread_orders, group_is_spread}
+
+here : (m n : ℕ) → (m == n) ≡ true → m ≡ n
+here m n e = grind (arith, nat_tests)
+
+-- to a request that was not begun nothing else is answered
+answers_are : (group : ℕ) (all : List (ℕ × Answer)) (running : List Running) → Each (λ r. r.group ≡ group → r.answers ≡ []) running
+    → map (with_answers group all) running ≡ map (answered_by group (λ task. answers_at task.place all)) running
+answers_are group all [] untouched = refl
+answers_are group all (r ∷ running) untouched = (λ i. one (r.group == group) refl i ∷ answers_are group all running (λ j. untouched (suc j)) i)
+  where
+    one : (b : Bool) → (r.group == group) ≡ b
+        → (if b then record r { answers = r.answers ++ answers_at r.place all } else r) ≡ (if b then record r { answers = answers_at r.place all } else r)
+    one false t = refl
+    one true t = ap (λ xs. record r { answers = xs ++ answers_at r.place all }) (untouched 0 r refl (here r.group group t))
+
+-- What work comes to where its group ran as a round.
+pub record GroupRan (base : StateView) (batch : Batch) (ordered : Bool) (w : Progress) (now : Items) (answers : List (List Answer)) : Type 0 where
+  pub answers_to : Task → List Answer
+  pub each : answers ≡ map answers_to (tasks_in w.group w.running)
+  pub worked : Worked base batch ordered (record { items = now; running = map (answered_by w.group answers_to) w.running; group = w.group })
+  pub done : IsTrue (is_group_done (record { items = now; running = map (answered_by w.group answers_to) w.running; group = w.group }))
+
+pub group_ran : (base : StateView) (batch : Batch) (ordered : Bool) (w : Progress) → Worked base batch ordered w → IsUntouched w → (now : Items) (answers : List (List Answer))
+    → GroupRuns (first_place base batch) w.items (tasks_in w.group w.running) now answers → GroupRan base batch ordered w now answers
+group_ran base batch ordered w worked untouched now answers runs =
+    let each = each-of-all (λ (r : Running). r.group ≡ w.group → r.answers ≡ []) w.running untouched in
+    let orders = spread_orders runs.order (placed (tasks_in w.group w.running)) (map (left_in w.group) w.running) (group_is_spread w.group w.running each) runs.interleaves in
+    let r = ran base batch ordered runs.order w worked orders in
+    let all : List (ℕ × Answer) = answers_in (first_place base batch) w.items runs.order in
+    let is : ◌≡◌ {A = Progress} r.now (record { items = now; running = map (answered_by w.group (λ task. answers_at task.place all)) w.running; group = w.group }) =
+    (λ i. record { items = (r.items ∙ sym runs.items) i; running = (r.running ∙ answers_are w.group all w.running each) i; group = r.group i }) in
+    record {
+      answers_to = λ task. answers_at task.place all;
+      each = runs.replies;
+      worked = subst (λ (p : Progress). Worked base batch ordered p) is r.worked;
+      done = subst (λ (p : Progress). IsTrue (is_group_done p)) is r.done;
+    }
