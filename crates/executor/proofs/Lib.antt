@@ -11,3 +11,4 @@ pub mod ThroughLemmas
 pub mod GroupRunLemmas
 pub mod SpreadLemmas
 pub mod RanLemmas
+pub mod PutBackLemmas

@@ -21,6 +21,14 @@ emptied group r = if r.group == group then record r { steps = [] } else r
 abbrev pub answered_by : ℕ → (Task → List Answer) → Running → Running
 answered_by group answers_to r = if r.group == group then record r { answers = answers_to (task_of r) } else r
 
+-- A request that ran in a round, and the answers to its steps.
+pub record RanState : Type 0 where
+  pub task : Task
+  pub answers : List Answer
+
+abbrev pub ran_of : (Task → List Answer) → Task → RanState
+ran_of answers_to task = record { task = task; answers = answers_to task }
+
 -- no step of the group that runs was made
 abbrev pub IsUntouched : Progress → Type 0
 IsUntouched w = All (λ r. r.group ≡ w.group → r.answers ≡ []) w.running

@@ -9,8 +9,10 @@
 mod answered;
 mod base;
 mod begin;
+mod group_run;
 mod groups;
 mod kept;
+mod ran;
 mod running;
 mod state;
 mod tentative;

@@ -5,13 +5,16 @@ ghost use Rattle.std.specs.List.{list_any};
 ghost use Rattle.mixer.specs.Groups.{numbers_of};
 ghost use Rattle.executor.specs.Fresh.{runs};
 ghost use Rattle.executor.specs.Work.{is_done, is_ready, StepDone};
+ghost use Rattle.executor.specs.GroupRun.{task_of};
 
-use item_steps::{Answer, Place, Steps, apply};
+use crate::ran::Ran;
+use item_steps::{Answer, Place, Steps, Task, apply};
 use mixer::group_numbers;
 use pages::Pages;
 use sessions::{Request, Sessions};
 use std::alloc::{AllocError, Global};
 use std::marker::Model;
+use std::mem;
 
 /// A request that runs: its place in the batch, the group that it is in, its steps, and the answers
 /// to those that were made.
@@ -88,5 +91,26 @@ impl Running {
             unreachable!();
         }
         Ok(())
+    }
+
+    /// The request as a round takes it: its steps are taken out.
+    pub fn take_task(&mut self, alloc: Global) -> Task
+        ensures task { result ≡ task_of self.old }
+        ensures emptied { self.new ≡ record self.old { steps = [] } }
+    {
+        let none = Steps::new(Vec::new(alloc));
+        Task {
+            place: self.place,
+            steps: mem::replace(&mut self.steps, none),
+        }
+    }
+
+    /// Puts the steps back, with the answers that a round gave to them.
+    pub fn put_back(&mut self, ran: Ran)
+        ensures { self.new ≡ record self.old { steps = ran.task.steps; answers = ran.answers } }
+    {
+        let (task, answers) = ran.into_parts();
+        self.steps = task.steps;
+        self.answers = answers;
     }
 }
