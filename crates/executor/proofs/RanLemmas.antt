@@ -1,6 +1,7 @@
 -- A group that ran as a round is work whose group is done.
 use Rattle.std.proofs.Common.{◌≡◌, ℕ, suc, ◌<◌, Bool, true, false, List, [], ◌∷◌, ◌++◌, map, length, Some, refl, sym, ap, ◌∙◌, subst, arith}
 use Rattle.std.specs.Prelude.{slice_get, IsTrue, filter, ◌==◌, if◌then◌else◌}
+use Rattle.std.proofs.lemmas.Bool.{ltb-true}
 use Rattle.std.proofs.lemmas.Bool.Decides.{nat_tests}
 use Rattle.items.specs.Map.{Items}
 use Rattle.item_steps.specs.Schedule.{Placed, IsInterleaving, placed, items_after, answers_in, answers_at, GroupRuns}
@@ -9,10 +10,12 @@ use Rattle.item_steps.specs.declared.group.Task.{Task}
 use Rattle.batches.specs.declared.batch.Batch.{Batch}
 use Rattle.executor.specs.Running.{Running}
 use Rattle.executor.specs.State.{StateView}
-use Rattle.executor.specs.Round.{first_place}
-use Rattle.executor.specs.Work.{Progress, Worked, is_group_done}
+use Rattle.executor.specs.Round.{first_place, runners}
+use Rattle.executor.specs.Work.{Progress, Worked, IsNext, is_group_done, started, begun, all_begun}
 use Rattle.executor.specs.GroupRun.{task_of, tasks_in, answered_by, IsUntouched}
-use Rattle.executor.proofs.PartialLemmas.{Each, each-of-all}
+use Rattle.executor.proofs.PartialLemmas.{Each, each-of-all, all-of-each}
+use Rattle.executor.proofs.RoundLemmas.{get_map}
+use Rattle.executor.proofs.WorkedLemmas.{worked-partial}
 use Rattle.executor.proofs.GroupRunLemmas.{with_answers, left_in, Ran, ran}
 use Rattle.executor.proofs.SpreadLemmas.{spread_orders, group_is_spread}
 
@@ -52,3 +55,17 @@ group_ran base batch ordered w worked untouched now answers runs =
       worked = subst (λ (p : Progress). Worked base batch ordered p) is r.worked;
       done = subst (λ (p : Progress). IsTrue (is_group_done p)) is r.done;
     }
+
+-- a group that comes next was not begun
+pub untouched_next : (base : StateView) (batch : Batch) (ordered : Bool) (w : Progress) → Worked base batch ordered w → (next : ℕ) → IsNext w.running (Some w.group) next
+    → IsUntouched (record { items = w.items; running = w.running; group = next })
+untouched_next base batch ordered w worked next n =
+    let p = worked-partial base batch ordered w worked in
+    let above : w.group < next = ltb-true w.group next n.above in
+    all-of-each (λ (r : Running). r.group ≡ next → r.answers ≡ []) w.running (λ i r at g. p.above i r at (omega (arith, above, g)))
+
+-- no step was made of a batch that was just begun
+pub untouched_started : (base : StateView) (batch : Batch) (ordered : Bool) (group : ℕ) → IsUntouched (started base batch ordered group)
+untouched_started base batch ordered group =
+    all-of-each (λ (r : Running). r.group ≡ group → r.answers ≡ []) (all_begun base batch ordered)
+    (λ i r at g. (let b = get_map (begun batch ordered) (runners base batch) i r at in ap (λ (x : Running). x.answers) b.2))

@@ -2,6 +2,8 @@
 use Rattle.std.specs.Prelude.{◌≡◌, ℕ, List, [], map, filter, Bool, ◌==◌, if◌then◌else◌, All}
 use Rattle.item_steps.specs.declared.group.Task.{Task}
 use Rattle.item_steps.specs.declared.step.Answer.{Answer}
+use Rattle.executor.specs.declared.work.Ended.{Ended}
+use Rattle.executor.specs.declared.work.Ended.TheVariants.{On, Done}
 use Rattle.executor.specs.Running.{Running}
 use Rattle.executor.specs.Work.{Progress}
 
@@ -32,3 +34,8 @@ ran_of answers_to task = record { task = task; answers = answers_to task }
 -- no step of the group that runs was made
 abbrev pub IsUntouched : Progress → Type 0
 IsUntouched w = All (λ r. r.group ≡ w.group → r.answers ≡ []) w.running
+
+-- where work goes on, it does so in a group of which no step was made
+abbrev pub StartsAfresh : Ended → Type 0
+StartsAfresh (On w) = IsUntouched w.progress
+StartsAfresh (Done t) = Unit {0}

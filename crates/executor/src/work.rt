@@ -6,6 +6,7 @@ ghost use Rattle.item_steps.specs.Schedule.{stamped};
 ghost use Rattle.executor.specs.Round.{first_place, moment_of, Round};
 ghost use Rattle.executor.specs.Work.{StepMade, HasNoStep, tentative_of, is_group_done as group_done, IsFirst, IsNext, IsLast, is_ready, all_begun, started};
 ghost use Rattle.executor.specs.Ends.{Begins, Goes, DoneIsRound};
+ghost use Rattle.executor.specs.GroupRun.{IsUntouched, StartsAfresh};
 ghost use Rattle.executor.specs.Through.{IsReadyAt, IsNotLeft, StepMadeAt, RequestRan, later, IsMade, DoneIsMade};
 
 use crate::base::Base;
@@ -142,6 +143,7 @@ impl Work {
         ensures begins { IfOk result (λ ended. Begins base.now.state batch ordered ended) }
         ensures round { IfOk result (λ ended. DoneIsRound base.now.state batch ordered ended) }
         ensures made { IfOk result (λ ended. DoneIsMade base.now.state batch ordered ended) }
+        ensures afresh { IfOk result StartsAfresh }
     {
         let running = begin_all(alloc, base.state.sessions(), &batch, ordered)?;
         match next_group(&running, None) {
@@ -159,6 +161,7 @@ impl Work {
         ensures goes { IfOk result (λ ended. Goes self ended) }
         ensures round { IfOk result (λ ended. DoneIsRound self.base self.batch self.ordered ended) }
         ensures made { IfOk result (λ ended. DoneIsMade self.base self.batch self.ordered ended) }
+        ensures afresh { IfOk result (λ ended. IsTrue (group_done self.progress) → StartsAfresh ended) }
     {
         if !is_group_done(&self.running, self.group) {
             return Ok(Ended::On(self));
@@ -172,13 +175,14 @@ impl Work {
     fn moved_to(mut self, group: usize) -> Work
         requires done { IsTrue (group_done self.progress) }
         requires next { IsNext self.progress.running (Some self.progress.group) group }
-        ensures { result ≡ record self {
+        ensures moved { result ≡ record self {
           progress = record {
             items = self.progress.items;
             running = self.progress.running;
             group = group;
           };
         } }
+        ensures afresh { IsUntouched result.progress }
     {
         self.group = group;
         self

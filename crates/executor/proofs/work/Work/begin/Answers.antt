@@ -5,6 +5,8 @@ use Rattle.executor.specs.Running.{Running}
 use Rattle.executor.specs.Round.{moment_of}
 use Rattle.executor.specs.Work.{WorkView, is_group_done, IsLast, all_begun, tentative_of}
 use Rattle.executor.proofs.DoneLemmas.{none_run, none_done, none_last}
+use Rattle.executor.specs.GroupRun.{IsUntouched}
+use Rattle.executor.proofs.RanLemmas.{untouched_started}
 use Rattle.executor.proofs.work.Work.begin.Goals as goal
 
 pub complete-requires-clause-done : goal.complete-requires-clause-done
@@ -28,3 +30,7 @@ returns-in_ok-complete-in-None-clause-begins c =
     let none : all_begun c.args.base.now.state c.args.batch c.args.ordered ≡ [] =
     sym all ∙ none_run c.in_ok-running.running.items (subst (λ (rs : List Running). IsLast rs None) c.deref.ensures.value (c.in-None.ensures.none refl)) in
     (none, c.in_ok-complete-in-None.ensures.tentative ∙ ap tentative_of c.in_ok-work-in-None.ensures)
+
+pub returns-in_ok-started-in-Some-clause-afresh : goal.returns-in_ok-started-in-Some-clause-afresh
+returns-in_ok-started-in-Some-clause-afresh c =
+    subst (λ (v : WorkView). IsUntouched v.progress) (sym c.in_ok-started-in-Some.ensures) (untouched_started c.args.base.now.state c.args.batch c.args.ordered c.in-Some.group)

@@ -1,6 +1,7 @@
 use Rattle.std.proofs.Common.{sym, subst, Some}
 use Rattle.std.specs.Prelude.{IsTrue}
 use Rattle.executor.specs.Work.{WorkView, moved, is_group_done, IsNext}
+use Rattle.executor.proofs.RanLemmas.{untouched_next}
 use Rattle.executor.proofs.work.Work.moved_to.Goals as goal
 
 pub invariant_of-self : goal.invariant_of-self
@@ -12,3 +13,8 @@ invariant_of-self c =
       fits = c.self.invariant.fits;
       next = c.self.invariant.next;
     }
+
+pub returns-clause-afresh : goal.returns-clause-afresh
+returns-clause-afresh c =
+    let next = subst (λ (v : WorkView). IsNext v.progress.running (Some v.progress.group) c.args.group) (sym c.self.view_is) c.requires.next in
+    untouched_next c.self.inside.base.state c.self.inside.batch c.self.inside.ordered (record { items = c.self.inside.pages; running = c.self.inside.running.items; group = c.self.inside.group }) c.self.invariant.worked c.args.group next
