@@ -7,3 +7,5 @@ pub mod KeptLemmas
 pub mod GroupLemmas
 pub mod DoneLemmas
 pub mod FitLemmas
+pub mod PageTextLemmas
+pub mod EntryLemmas

@@ -5,3 +5,6 @@ pub mod Round
 pub mod Running
 pub mod Work
 pub mod Ends
+pub mod Records
+pub mod HeadLaws
+pub mod Kept

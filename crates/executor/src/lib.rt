@@ -9,10 +9,16 @@
 mod answered;
 mod base;
 mod begin;
+mod changes;
 mod groups;
+mod head;
 mod kept;
+mod kept_replies;
+mod member_record;
+mod page_texts;
 mod running;
 mod state;
+mod state_record;
 mod tentative;
 mod witness;
 mod work;

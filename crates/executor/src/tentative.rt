@@ -38,8 +38,8 @@ impl Model for Tentative {
 /// A state that the verifiers decided on, and the replies of the batch that led to it.
 #[derive(Debug, Drop)]
 pub struct Committed {
-    state: State,
-    replies: Vec<Answered>,
+    pub(crate) state: State,
+    pub(crate) replies: Vec<Answered>,
 }
 
 impl Model for Committed {
