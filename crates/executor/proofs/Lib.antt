@@ -9,3 +9,4 @@ pub mod DoneLemmas
 pub mod FitLemmas
 pub mod PageTextLemmas
 pub mod EntryLemmas
+pub mod RecordLemmas

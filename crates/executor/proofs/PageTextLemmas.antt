@@ -8,7 +8,7 @@ use Rattle.std.proofs.lemmas.List.FromFn.{length-map-range_with_len, get_or-map-
 use Rattle.proto.specs.declared.fault.Fault.{Fault}
 use Rattle.items.specs.declared.item.Item.{Item}
 use Rattle.items.specs.Map.{Items}
-use Rattle.wire.specs.Record.{Always, IsPrefixFree, NoFront, Refused}
+use Rattle.wire.specs.Record.{Always, IsPrefixFree, NoFront, Puts, Refused}
 use Rattle.wire.proofs.Values.{Refused-weaker}
 use Rattle.pages.specs.Page.{PageState, page_count, page_entries, page_items, of_each}
 use Rattle.pages.specs.Joined.{IsOwn, AreOwn, ArePages, joined, parts, items_of}
@@ -25,6 +25,20 @@ last_text g p (suc n) =
     let here : p + 1 + n ≡ p + suc n = omega arith in
     ap (λ (t : List ℕ). g p ++ t) (last_text g (p + 1) n) ∙ (sym (append_assoc (g p) (flat_map g (range_with_len (p + 1) n)) (g (p + 1 + n)))
     ∙ ap (λ k. (g p ++ flat_map g (range_with_len (p + 1) n)) ++ g k) here)
+
+-- one text more was written
+pub put_next : {S : Type 0} (holds : S → List ℕ → Type 0) (g : ℕ → List ℕ) (n : ℕ) (old sink new : S) (text : List ℕ) → Puts holds (flat_map g (range_with_len 0 n)) old sink → text ≡ g n → Puts holds text sink new
+    → Puts holds (flat_map g (range_with_len 0 (n + 1))) old new
+put_next holds g n old sink new text so_far e more m h =
+    let here : 0 + n ≡ n = omega arith in
+    let one : suc n ≡ n + 1 = omega arith in
+    let all : flat_map g (range_with_len 0 n) ++ text ≡ flat_map g (range_with_len 0 (n + 1)) =
+    ap (λ (t : List ℕ). flat_map g (range_with_len 0 n) ++ t) (e ∙ ap g (sym here)) ∙ (sym (last_text g 0 n) ∙ ap (λ k. flat_map g (range_with_len 0 k)) one) in
+    subst (λ (t : List ℕ). holds new t) (append_assoc m (flat_map g (range_with_len 0 n)) text ∙ ap (λ (t : List ℕ). m ++ t) all) (more (m ++ flat_map g (range_with_len 0 n)) (so_far m h))
+
+-- all were written
+pub put_all : {S : Type 0} (holds : S → List ℕ → Type 0) (g : ℕ → List ℕ) (n : ℕ) (old new : S) → Puts holds (flat_map g (range_with_len 0 n)) old new → n ≡ page_count → Puts holds (each_page g) old new
+put_all holds g n old new so_far e = subst (λ (k : ℕ). Puts holds (flat_map g (range_with_len 0 k)) old new) e so_far
 
 -- page p of a map has its own keys alone
 pub own_page_items : (m : Items) (p : ℕ) → IsOwn p (page_items m p)

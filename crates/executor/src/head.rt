@@ -1,6 +1,10 @@
 //! What a state is told by, at the head of its record.
 
-ghost use Rattle.std.specs.Prelude.{◌≡◌, ⊤};
+ghost use Rattle.std.specs.Prelude.{◌≡◌, ◌++◌, OnOk, ⊤};
+ghost use Rattle.std.specs.Int.{w64};
+ghost use Rattle.wire.specs.Number.{num, fixed};
+ghost use Rattle.wire.specs.Record.{Puts};
+ghost use Rattle.token.specs.Token.{token_bytes};
 ghost use Rattle.executor.specs.Records.{head_of, head_text};
 ghost use Rattle.executor.specs.HeadLaws.{head_prefix_free};
 
@@ -23,16 +27,27 @@ pub struct Head {
 
 type Digest = [u8; 32];
 
+impl Head {
+    /// Writes what the state came from.
+    fn put_origin<S: Sink>(&self, sink: &mut S) -> Result<(), S::Refusal>
+        ensures { OnOk result (Puts S.holds
+            (num w64 self.now.number ++ token_bytes self.now.previous ++ num w64 self.now.epoch ++ fixed 32 self.now.batch)
+            sink.old sink.new) }
+    {
+        self.number.put(sink)?;
+        self.previous.put(sink)?;
+        self.epoch.put(sink)?;
+        self.batch.put(sink)
+    }
+}
+
 impl Record for Head {
     ghost fits = { λ _. ⊤ };
 
     ghost spelling = { head_text };
 
     fn put<S: Sink>(&self, sink: &mut S) -> Result<(), S::Refusal> {
-        self.number.put(sink)?;
-        self.previous.put(sink)?;
-        self.epoch.put(sink)?;
-        self.batch.put(sink)?;
+        self.put_origin(sink)?;
         self.moment.put(sink)?;
         self.token.put(sink)
     }

@@ -67,7 +67,8 @@ impl Tentative {
     {
         let mut text = Vec::new(*out.allocator());
         self.put(&mut text)?;
-        out.extend_from_slice(text.as_slice())
+        out.extend_from_slice(text.as_slice())?;
+        Ok(())
     }
 
     /// The tentative state over the base whose record all of the bytes are. Its pages are shared

@@ -19,7 +19,17 @@ use wire::{Record, Sink};
 
 impl Head {
     /// The parts of the state of this head, its sessions and its items.
-    fn parts(&self, sessions: Sessions, pages: Snapshot) -> Parts {
+    fn parts(&self, sessions: Sessions, pages: Snapshot) -> Parts
+        ensures { result ≡ record {
+          number = self.now.number;
+          previous = self.now.previous;
+          epoch = self.now.epoch;
+          batch = self.now.batch;
+          moment = self.now.moment;
+          sessions = sessions;
+          pages = pages;
+        } }
+    {
         Parts {
             number: self.number,
             previous: self.previous,
@@ -34,6 +44,7 @@ impl Head {
 
 impl State {
     /// Writes its record.
+    #[tactic(auto, unfolding(crate::specs::Records::state_text))]
     fn put<S: Sink>(&self, sink: &mut S) -> Result<(), S::Refusal>
         ensures { OnOk result (Puts S.holds (state_text self.now) sink.old sink.new) }
     {
@@ -62,7 +73,10 @@ fn take_later(alloc: Global, bytes: &[u8]) -> Result<(State, &[u8]), Fault>
 {
     let ((head, sessions), rest) = <(Head, Sessions)>::take(alloc, bytes)?;
     let (pages, rest) = take_pages(alloc, rest)?;
-    if head.number == 0 || GREATEST_NUMBER < head.number {
+    if head.number == 0 {
+        return Err(Fault::BadRecord);
+    }
+    if GREATEST_NUMBER < head.number {
         return Err(Fault::BadRecord);
     }
     let state = State::of_parts(head.parts(sessions, pages.seal()));
@@ -76,8 +90,8 @@ fn take_later(alloc: Global, bytes: &[u8]) -> Result<(State, &[u8]), Fault>
 fn take_state(alloc: Global, bytes: &[u8]) -> Result<(State, &[u8]), Fault>
     ensures { Takes IsState state_text bytes.now result }
 {
-    let (number, _) = u64::take(alloc, bytes)?;
-    if number == 0 {
+    let (head, _) = Head::take(alloc, bytes)?;
+    if head.number == 0 {
         take_first(alloc, bytes)
     } else {
         take_later(alloc, bytes)
@@ -92,9 +106,11 @@ impl Committed {
         ensures err { OnErr result (out.new.items ≡ out.old.items) }
         ensures is { IsState self.now.state }
     {
+        self.state.is_state();
         let mut text = Vec::new(*out.allocator());
         self.state.put(&mut text)?;
-        out.extend_from_slice(text.as_slice())
+        out.extend_from_slice(text.as_slice())?;
+        Ok(())
     }
 
     /// The committed state whose record all of the bytes are, with its token computed from scratch.
