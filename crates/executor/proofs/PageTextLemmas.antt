@@ -13,6 +13,7 @@ use Rattle.wire.proofs.Values.{Refused-weaker}
 use Rattle.pages.specs.Page.{PageState, page_count, page_entries, page_items, of_each}
 use Rattle.pages.specs.Joined.{IsOwn, AreOwn, ArePages, joined, parts, items_of}
 use Rattle.pages.proofs.JoinedLemmas.{no_items, own-page}
+use Rattle.pages.proofs.StateLemmas.{items-at, length-states}
 use Rattle.pages.proofs.PartLemmas.{entries-page_items, page-entries, page-items, parts-are, joined-parts}
 use Rattle.executor.specs.Records.{each_page}
 
@@ -169,3 +170,10 @@ module _ (text : ℕ → List (List ℕ × Item) → List ℕ) where
           let here : (i : ℕ) → 0 + i ≡ i = λ i. omega arith in
           (same_pages v w (λ i l. subst (λ k. page_entries v k ≡ page_entries w k) (here i) (both.0 i l)), both.1);
     }
+
+-- a page that was parted off
+pub shared_page : (shared : List PageState) (before : Items) (n : ℕ) (page : PageState) → items_of shared ≡ parts before → n < page_count → page ≡ get_or shared n page → page.items ≡ page_items before n
+shared_page shared before n page parted l read =
+    let many : length shared ≡ page_count = length-states shared (subst ArePages (sym parted) (parts-are before)) in
+    items-at shared n page (omega (arith, l, many)) read
+    ∙ (ap (λ (ms : List Items). get_or ms n no_items) parted ∙ get_or-map-range_with_len (page_items before) 0 page_count n n no_items l (omega arith))

@@ -1,9 +1,9 @@
 //! The pages of a state in its record over the state before it: a page that is the same in both is
 //! one byte.
 
-ghost use Rattle.std.specs.Prelude.{◌≡◌, ◌<◌, ◌↔◌, IsTrue, OnOk};
+ghost use Rattle.std.specs.Prelude.{◌≡◌, ◌<◌, ◌↔◌, ◌∷◌, IsTrue, OnOk};
 ghost use Rattle.std.specs.FinMap as map;
-ghost use Rattle.wire.specs.Item.{PageFits};
+ghost use Rattle.wire.specs.Item.{page_text, PageFits};
 ghost use Rattle.wire.specs.Record.{Always, Puts, Takes};
 ghost use Rattle.pages.specs.Page.{page_entries, page_count};
 ghost use Rattle.pages.specs.Joined.{IsOwn};
@@ -22,6 +22,12 @@ fn is_same_item(a: &Item, b: &Item) -> bool
     a.unique == b.unique && a.flags == b.flags && a.due == b.due && a.block == b.block
 }
 
+fn is_same_entry(a: &(Key, Item), b: &(Key, Item)) -> bool
+    ensures { IsTrue result ↔ (a.now ≡ b.now) }
+{
+    a.0 == b.0 && is_same_item(&a.1, &b.1)
+}
+
 /// Whether the entries are the same.
 fn are_same(a: &[(Key, Item)], b: &[(Key, Item)]) -> bool
     ensures { IsTrue result ↔ (a.now ≡ b.now) }
@@ -30,7 +36,7 @@ fn are_same(a: &[(Key, Item)], b: &[(Key, Item)]) -> bool
         return false;
     }
     for i in 0..a.len() {
-        if a[i].0 != b[i].0 || !is_same_item(&a[i].1, &b[i].1) {
+        if !is_same_entry(&a[i], &b[i]) {
             return false;
         }
     }
@@ -46,6 +52,15 @@ fn is_same_page(before: &Snapshot, after: &Snapshot, number: usize) -> bool
         && are_same(before.page(number), after.page(number))
 }
 
+/// Writes a page that is not the same as before.
+fn put_other<S: Sink>(entries: &[(Key, Item)], sink: &mut S) -> Result<(), S::Refusal>
+    requires { PageFits entries.now }
+    ensures { OnOk result (Puts S.holds (1 ∷ page_text entries.now) sink.old sink.new) }
+{
+    sink.put(&[1u8])?;
+    put_page(entries, sink)
+}
+
 fn put_change<S: Sink>(
     before: &Snapshot,
     after: &Snapshot,
@@ -59,8 +74,7 @@ fn put_change<S: Sink>(
     if is_same_page(before, after, number) {
         return sink.put(&[0u8]);
     }
-    sink.put(&[1u8])?;
-    put_page(after.page(number), sink)
+    put_other(after.page(number), sink)
 }
 
 /// Writes of each page whether it is the same as before, and if not, its text.
