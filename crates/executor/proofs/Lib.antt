@@ -10,3 +10,4 @@ pub mod FitLemmas
 pub mod PageTextLemmas
 pub mod EntryLemmas
 pub mod RecordLemmas
+pub mod ReplyLemmas
