@@ -1,7 +1,9 @@
 -- Records of states are told apart, and where a part of one does not stand, no state stands.
-use Rattle.std.proofs.Common.{◌≡◌, Result, Ok, Err, ℕ, ◌+◌, ◌<◌, ◌^◌, List, [], ◌∷◌, ◌++◌, length, take, drop, take-append-drop, true, false, refl, sym, ap, ◌∙◌, arith, subst, append_assoc}
+use Rattle.std.proofs.Common.{◌≡◌, Bool, Result, Ok, Err, ℕ, ◌+◌, ◌<◌, ◌^◌, List, [], ◌∷◌, ◌++◌, length, take, drop, take-append-drop, true, false, refl, sym, ap, ◌∙◌, arith, subst, append_assoc}
 use Rattle.std.specs.Int.{w64}
-use Rattle.std.specs.Prelude.{not}
+use Rattle.std.specs.Prelude.{not, ◌&&◌, ◌==◌}
+use Rattle.std.proofs.lemmas.Bool.{and_from}
+use Rattle.std.proofs.lemmas.Bool.Decides.{nat_tests}
 use Rattle.std.proofs.lemmas.List.{take-append-le, take_all}
 use Rattle.std.specs.Str.{bytes_eq}
 use Rattle.std.proofs.lemmas.Slice.Eq.{bytes_eq-Decides}
@@ -147,3 +149,19 @@ not_stripped bytes text other s e first = record {
       let clash : true ≡ false = sym ((bytes_eq-Decides (take (length text) bytes) text).1 front) ∙ other in
       absurd (cc clash);
 }
+
+-- whether two heads are the same
+abbrev pub is_same_head : Head → Head → Bool
+is_same_head a b = (a.number == b.number) && (bytes_eq a.previous.0 b.previous.0 && ((a.epoch == b.epoch) && (bytes_eq a.batch b.batch && ((a.moment == b.moment) && bytes_eq a.token.0 b.token.0))))
+
+own_number : (n : ℕ) → (n == n) ≡ true
+own_number n = grind (arith, nat_tests)
+
+own_bytes : (xs : List ℕ) → bytes_eq xs xs ≡ true
+own_bytes xs = (bytes_eq-Decides xs xs).1 refl
+
+pub heads_alike : (a b : Head) → a ≡ b → not (is_same_head a b) ≡ true → ⊥
+heads_alike a b e = subst (λ (h : Head). not (is_same_head a h) ≡ true → ⊥) e (λ wrong.
+    let own : is_same_head a a ≡ true = and_from _ _ (own_number a.number) (and_from _ _ (own_bytes a.previous.0) (and_from _ _ (own_number a.epoch) (and_from _ _ (own_bytes a.batch) (and_from _ _ (own_number a.moment) (own_bytes a.token.0))))) in
+    let clash : false ≡ true = ap not (sym own) ∙ wrong in
+    cc clash)
