@@ -11,3 +11,4 @@ pub mod PageTextLemmas
 pub mod EntryLemmas
 pub mod RecordLemmas
 pub mod ReplyLemmas
+pub mod MemberLemmas
