@@ -21,6 +21,7 @@ use wire::{Record, Sink};
 
 impl State {
     /// Writes its record over the state before it.
+    #[tactic(auto, unfolding(crate::specs::Records::after_text))]
     fn put_after<S: Sink>(&self, before: &State, sink: &mut S) -> Result<(), S::Refusal>
         ensures { OnOk result (Puts S.holds (after_text before.now.items self.now) sink.old sink.new) }
     {
@@ -51,6 +52,13 @@ fn take_after<'b>(
 }
 
 impl Tentative {
+    /// What is true of every tentative state. It does nothing.
+    fn is_tentative(&self)
+        ensures { IsTentative self.now }
+    {
+        let _before = &self.before;
+    }
+
     fn put<S: Sink>(&self, sink: &mut S) -> Result<(), S::Refusal>
         ensures { OnOk result (Puts S.holds (member_text self.now) sink.old sink.new) }
     {
@@ -65,6 +73,7 @@ impl Tentative {
         ensures err { OnErr result (out.new.items ≡ out.old.items) }
         ensures is { IsTentative self.now }
     {
+        self.is_tentative();
         let mut text = Vec::new(*out.allocator());
         self.put(&mut text)?;
         out.extend_from_slice(text.as_slice())?;
