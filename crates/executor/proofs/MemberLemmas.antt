@@ -1,5 +1,5 @@
 -- The record of a tentative state over a base.
-use Rattle.std.proofs.Common.{◌≡◌, ℕ, true, false, arith, length, ◌∷◌, ◌+◌, List, [], ◌++◌, map, Some, refl, sym, ap, ◌∙◌, subst}
+use Rattle.std.proofs.Common.{◌≡◌, ℕ, true, false, arith, length, ◌∷◌, ◌+◌, List, [], ◌++◌, map, Some, refl, sym, ap, ◌∙◌, subst, append_assoc}
 use Rattle.std.specs.Prelude.{◌==◌}
 use Rattle.std.proofs.lemmas.Bool.Decides.{nat_tests}
 use Rattle.std.proofs.lemmas.List.{append-nil}
@@ -16,7 +16,7 @@ use Rattle.executor.specs.State.{StateView}
 use Rattle.executor.specs.Fresh.{fresh}
 use Rattle.executor.specs.Work.{TentativeView}
 use Rattle.executor.specs.Kept.{kept_for, AreKept, LackOne, Follows, IsTentative, IsOver}
-use Rattle.executor.specs.Records.{after_text, member_text}
+use Rattle.executor.specs.Records.{after_text, member_text, OneMember}
 use Rattle.executor.proofs.RecordLemmas.{after_free}
 use Rattle.executor.proofs.ReplyLemmas.{one_list}
 
@@ -97,3 +97,9 @@ module _ (base : StateView) (bytes : List ℕ) (batch : Batch) (rest : List ℕ)
       its_record none =
           got ∙ ap (λ (t : List ℕ). batch_text batch ++ t) (more ∙ (ap (λ (t : List ℕ). after_text base.items after ++ t) none
               ∙ (append-nil (after_text base.items after) ∙ ap (λ (b : StateView). after_text b.items after) (sym shared))))
+
+pub one_member : OneMember
+one_member t u over same =
+    let both = batch_prefix_free.apart t.batch u.batch (after_text t.before.items t.after ++ []) (after_text u.before.items u.after ++ [])
+    (sym (append_assoc (batch_text t.batch) (after_text t.before.items t.after) []) ∙ (ap (λ (x : List ℕ). x ++ []) same ∙ append_assoc (batch_text u.batch) (after_text u.before.items u.after) [])) in
+    (both.0, ((after_free t.before.items).apart t.after u.after [] [] (both.1 ∙ ap (λ (b : StateView). after_text b.items u.after ++ []) (sym over))).0)

@@ -60,3 +60,7 @@ member_text t = batch_text t.batch ++ after_text t.before.items t.after
 abbrev pub MakesPage : ℕ → List (List ℕ × Item) → Result PageState Fault → Type 0
 MakesPage p entries (Ok page) = IsOwn p page.items × (entries_of page.items ≡ entries)
 MakesPage p entries (Err e) = Refused e ((m : Items) → IsOwn p m → entries_of m ≡ entries → ⊥)
+
+-- over one state, records tell batches apart, and what they led to
+abbrev pub OneMember : Type 0
+OneMember = (t u : TentativeView) → t.before ≡ u.before → member_text t ≡ member_text u → (t.batch ≡ u.batch) × (t.after ≡ u.after)

@@ -16,6 +16,7 @@ mod kept;
 mod kept_replies;
 mod member_record;
 mod page_texts;
+mod record_laws;
 mod running;
 mod state;
 mod state_record;
@@ -25,6 +26,7 @@ mod work;
 
 pub use answered::Answered;
 pub use base::Base;
+pub use record_laws::{members_are_told_apart, states_are_told_apart};
 pub use state::{Parts, State};
 pub use tentative::{Committed, Tentative};
 pub use work::{Ended, Work};
