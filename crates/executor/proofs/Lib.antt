@@ -12,3 +12,8 @@ pub mod GroupRunLemmas
 pub mod SpreadLemmas
 pub mod RanLemmas
 pub mod PutBackLemmas
+pub mod PageTextLemmas
+pub mod EntryLemmas
+pub mod RecordLemmas
+pub mod ReplyLemmas
+pub mod MemberLemmas

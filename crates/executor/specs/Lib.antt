@@ -7,3 +7,6 @@ pub mod Work
 pub mod Ends
 pub mod Through
 pub mod GroupRun
+pub mod Records
+pub mod HeadLaws
+pub mod Kept

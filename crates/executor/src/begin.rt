@@ -23,7 +23,7 @@ fn has_client(requests: &[Request], client: u16) -> bool
 }
 
 /// Whether the request runs, after the earlier ones of its batch.
-fn runs(sessions: &Sessions, earlier: &[Request], request: &Request) -> bool
+pub fn runs(sessions: &Sessions, earlier: &[Request], request: &Request) -> bool
     ensures { result ≡ runs_after sessions.now earlier.now request.now }
 {
     sessions.fresh(request) && !has_client(earlier, request.client)

@@ -9,12 +9,19 @@
 mod answered;
 mod base;
 mod begin;
+mod changes;
 mod group_run;
 mod groups;
+mod head;
 mod kept;
+mod kept_replies;
+mod member_record;
+mod page_texts;
 mod ran;
+mod record_laws;
 mod running;
 mod state;
+mod state_record;
 mod tentative;
 mod through;
 mod witness;
@@ -22,6 +29,7 @@ mod work;
 
 pub use answered::Answered;
 pub use base::Base;
+pub use record_laws::{members_are_told_apart, states_are_told_apart};
 pub use state::{Parts, State};
 pub use tentative::{Committed, Tentative};
 pub use through::run_through;

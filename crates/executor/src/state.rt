@@ -2,7 +2,7 @@ ghost use Rattle.std.specs.Prelude.{◌≡◌, ◌<◌, ◌^◌, IfOk};
 ghost use Rattle.wire.specs.Batch.{batch_text, BatchFits};
 ghost use Rattle.wire.specs.Session.{SessionsFit};
 ghost use Rattle.token.specs.Digest.{digest};
-ghost use Rattle.executor.specs.State.{first_state, with_token};
+ghost use Rattle.executor.specs.State.{IsState, first_state, with_token};
 ghost use Rattle.executor.specs.Parts.{parts_of};
 ghost use Rattle.executor.specs.Round.{moment_of};
 
@@ -146,6 +146,13 @@ impl State {
         ensures { result.now ≡ self.now.items }
     {
         &self.pages
+    }
+
+    /// What is true of every state: see `IsState`. It does nothing.
+    pub fn is_state(&self)
+        ensures { IsState self.now }
+    {
+        let _number = &self.number;
     }
 
     /// The same state. Its pages are shared, and not copied.

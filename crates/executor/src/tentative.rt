@@ -27,19 +27,22 @@ impl Model for Tentative {
     ghost use Rattle.executor.specs.contracts.answered.Answered as answered;
     ghost use Rattle.batches.specs.contracts.batch.Batch as taken;
     ghost use Rattle.executor.specs.Work.{TentativeView, tentative_code};
+    ghost use Rattle.executor.specs.Kept.{IsTentative};
 
     ghost Value = { TentativeView };
 
     ghost coded = { tentative_code made.the_row.coded taken.the_row.coded answered.the_row.coded };
 
     ghost view = { λ t. record { before = t.before.state; batch = t.batch; after = t.after; replies = t.replies.items } };
+
+    ghost invariant = { λ t. IsTentative (record { before = t.before.state; batch = t.batch; after = t.after; replies = t.replies.items }) };
 }
 
 /// A state that the verifiers decided on, and the replies of the batch that led to it.
 #[derive(Debug, Drop)]
 pub struct Committed {
-    state: State,
-    replies: Vec<Answered>,
+    pub(crate) state: State,
+    pub(crate) replies: Vec<Answered>,
 }
 
 impl Model for Committed {

@@ -7,6 +7,8 @@ use std::test::Fail;
 use token::Token;
 use wire::read;
 
+mod records;
+
 /// The record of batch `n` at a moment, without its requests.
 fn batch_bytes(alloc: Global, n: u8, moment: u32, count: u8) -> Result<Vec<u8>, AllocError> {
     let mut bytes = Vec::from_slice(alloc, &[4, 0, 0, 0, 0, 0, 0, 0, 1, 0, 0, 0, 0, 0, 0, 0, n])?;

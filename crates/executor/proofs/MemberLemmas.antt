@@ -1,0 +1,105 @@
+-- The record of a tentative state over a base.
+use Rattle.std.proofs.Common.{◌≡◌, ℕ, true, false, arith, length, ◌∷◌, ◌+◌, List, [], ◌++◌, map, Some, refl, sym, ap, ◌∙◌, subst, append_assoc}
+use Rattle.std.specs.Prelude.{◌==◌}
+use Rattle.std.proofs.lemmas.Bool.Decides.{nat_tests}
+use Rattle.std.proofs.lemmas.List.{append-nil}
+use Rattle.proto.specs.declared.fault.Fault.{Fault}
+use Rattle.sessions.specs.declared.request.Request.{Request}
+use Rattle.sessions.specs.Fresh.{Replies}
+use Rattle.batches.specs.declared.batch.Batch.{Batch}
+use Rattle.wire.specs.Record.{NoFront, Refused}
+use Rattle.wire.specs.Batch.{batch_text, BatchFits}
+use Rattle.wire.specs.BatchLaws.{batch_prefix_free}
+use Rattle.wire.proofs.Values.{Refused-weaker}
+use Rattle.executor.specs.declared.answered.Answered.{Answered}
+use Rattle.executor.specs.State.{StateView}
+use Rattle.executor.specs.Fresh.{fresh}
+use Rattle.executor.specs.Work.{TentativeView}
+use Rattle.executor.specs.Kept.{kept_for, AreKept, LackOne, Follows, IsTentative, IsOver}
+use Rattle.executor.specs.Records.{after_text, member_text, OneMember}
+use Rattle.executor.proofs.RecordLemmas.{after_free}
+use Rattle.executor.proofs.ReplyLemmas.{one_list}
+
+pub empty_is : (xs : List ℕ) → (length xs == 0) ≡ true → xs ≡ []
+empty_is [] e = refl
+empty_is (x ∷ xs) e =
+    absurd (grind (arith, nat_tests, e))
+
+-- no tentative state over the base has this record
+abbrev pub NoMember : StateView → List ℕ → Type 0
+NoMember base bytes = (t : TentativeView) → IsOver base t → bytes ≡ member_text t → ⊥
+
+pub no_batch : (base : StateView) (bytes : List ℕ) (e : Fault) → Refused e (NoFront BatchFits batch_text bytes) → Refused e (NoMember base bytes)
+no_batch base bytes e = Refused-weaker e (λ (none : NoFront BatchFits batch_text bytes) t over same. none.none t.batch (after_text t.before.items t.after) over.is.fits same)
+
+-- the same of what was lent
+pub same_lack : {s s' before before' : Replies} {rs rs' : List Request} (e : Fault) → s ≡ s' → before ≡ before' → rs ≡ rs' → Refused e (LackOne s (fresh before rs)) → Refused e (LackOne s' (fresh before' rs'))
+same_lack {s} {s'} {before} {before'} {rs} {rs'} e a b c = subst (λ (p : (Replies × Replies) × List Request). Refused e (LackOne p.0.0 (fresh p.0.1 p.1))) {x = ((s, before), rs)} {y = ((s', before'), rs')} (λ i. ((a i, b i), c i))
+
+pub same_kept : {s s' before before' : Replies} {rs rs' : List Request} (replies : List Answered) → s ≡ s' → before ≡ before' → rs ≡ rs' → AreKept s (fresh before rs) replies → AreKept s' (fresh before' rs') replies
+same_kept {s} {s'} {before} {before'} {rs} {rs'} replies a b c = subst (λ (p : (Replies × Replies) × List Request). AreKept p.0.0 (fresh p.0.1 p.1) replies) {x = ((s, before), rs)} {y = ((s', before'), rs')} (λ i. ((a i, b i), c i))
+
+module _ (base : StateView) (bytes : List ℕ) (batch : Batch) (rest : List ℕ) (got : bytes ≡ batch_text batch ++ rest) where
+  same_batch : (t : TentativeView) → IsOver base t → bytes ≡ member_text t → (batch ≡ t.batch) × (rest ≡ after_text base.items t.after)
+  same_batch t over same =
+      let both = batch_prefix_free.apart batch t.batch rest (after_text t.before.items t.after) (sym got ∙ same) in
+      (both.0, both.1 ∙ ap (λ (b : StateView). after_text b.items t.after) over.over)
+
+  pub other_number : (batch.n ≡ base.number + 1 → ⊥) → NoMember base bytes
+  other_number wrong t over same = wrong (ap (λ (b : Batch). b.n) (same_batch t over same).0 ∙ (over.is.next ∙ ap (λ (b : StateView). b.number + 1) over.over))
+
+  pub no_after : (e : Fault) → Refused e (NoFront (Follows base batch) (after_text base.items) rest) → Refused e (NoMember base bytes)
+  no_after e = Refused-weaker e (λ (none : NoFront (Follows base batch) (after_text base.items) rest) t over same.
+      let both = same_batch t over same in
+      none.none t.after [] (subst (λ (b : StateView). Follows b batch t.after) over.over (subst (λ (b : Batch). Follows t.before b t.after) (sym both.0) over.is.after))
+      (both.1 ∙ sym (append-nil (after_text base.items t.after))))
+
+  module _ (after : StateView) (left : List ℕ) (more : rest ≡ after_text base.items after ++ left) where
+    same_after : (t : TentativeView) → IsOver base t → bytes ≡ member_text t → (after ≡ t.after) × (left ≡ [])
+    same_after t over same = (after_free base.items).apart after t.after left [] (sym more ∙ ((same_batch t over same).1 ∙ sym (append-nil (after_text base.items t.after))))
+
+    pub too_long : (left ≡ [] → ⊥) → NoMember base bytes
+    too_long wrong t over same = wrong (same_after t over same).1
+
+    -- what a tentative state's sessions keep
+    kept_again : (t : TentativeView) → IsOver base t → bytes ≡ member_text t → AreKept after.sessions (fresh base.sessions batch.requests) t.replies
+    kept_again t over same =
+        let both = same_batch t over same in
+        let is = (same_after t over same).0 in
+        (λ i. map (kept_for (is i).sessions) (fresh (sym over.over i).sessions (both.0 i).requests)) ∙ over.is.kept
+
+    pub no_reply : (e : Fault) → Refused e (LackOne after.sessions (fresh base.sessions batch.requests)) → Refused e (NoMember base bytes)
+    no_reply e = Refused-weaker e (λ (none : LackOne after.sessions (fresh base.sessions batch.requests)) t over same. none t.replies (kept_again t over same))
+
+    module _ (before : StateView) (shared : before ≡ base) (replies : List Answered) (kept : AreKept after.sessions (fresh base.sessions batch.requests) replies) where
+      abbrev found : TentativeView
+      found = record { before = before; batch = batch; after = after; replies = replies }
+
+      pub same_member : (t : TentativeView) → IsOver base t → bytes ≡ member_text t → found ≡ t
+      same_member t over same =
+          let both = same_batch t over same in
+          let is = (same_after t over same).0 in
+          let listed = one_list replies t.replies (sym kept ∙ kept_again t over same) in
+          λ i. record { before = (shared ∙ sym over.over) i; batch = both.0 i; after = is i; replies = listed i }
+
+      pub is_over : BatchFits batch → batch.n ≡ base.number + 1 → Follows base batch after → IsOver base found
+      is_over fits next follows = record {
+        is = record {
+          fits = fits;
+          next = next ∙ ap (λ (b : StateView). b.number + 1) (sym shared);
+          after = subst (λ (b : StateView). Follows b batch after) (sym shared) follows;
+          kept = subst (λ (b : StateView). AreKept after.sessions (fresh b.sessions batch.requests) replies) (sym shared) kept;
+        };
+        over = shared;
+      }
+
+      pub its_record : left ≡ [] → bytes ≡ member_text found
+      its_record none =
+          got ∙ ap (λ (t : List ℕ). batch_text batch ++ t) (more ∙ (ap (λ (t : List ℕ). after_text base.items after ++ t) none
+              ∙ (append-nil (after_text base.items after) ∙ ap (λ (b : StateView). after_text b.items after) (sym shared))))
+
+pub one_member : OneMember
+one_member t u over same =
+    let both = batch_prefix_free.apart t.batch u.batch (after_text t.before.items t.after ++ []) (after_text u.before.items u.after ++ [])
+    (sym (append_assoc (batch_text t.batch) (after_text t.before.items t.after) []) ∙ (ap (λ (x : List ℕ). x ++ []) same ∙ append_assoc (batch_text u.batch) (after_text u.before.items u.after) [])) in
+    (both.0, ((after_free t.before.items).apart t.after u.after [] [] (both.1 ∙ ap (λ (b : StateView). after_text b.items u.after ++ []) (sym over))).0)
