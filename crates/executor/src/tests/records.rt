@@ -74,15 +74,11 @@ fn the_record_of_the_state_after_one_set(rt: HostRuntime) -> Result<(), Fail> {
 /// The record of the tentative state that a batch makes of a base.
 fn member_of(alloc: Global, base: &Base, batch: &[u8]) -> Result<Vec<u8>, Fault> {
     let mut bytes = Vec::new(alloc);
-    match run(alloc, base, batch, false)? {
-        Ended::On(_) => Err(Fault::NotOpen),
-        Ended::Done(tentative) => {
-            let written = tentative.write(&mut bytes);
-            drop(tentative.undo());
-            written?;
-            Ok(bytes)
-        }
-    }
+    let tentative = run(alloc, base, batch, false)?;
+    let written = tentative.write(&mut bytes);
+    drop(tentative.undo());
+    written?;
+    Ok(bytes)
 }
 
 /// Whether the bytes are the record of a tentative state over the base, which then writes them again.
