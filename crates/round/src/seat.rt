@@ -1,0 +1,80 @@
+//! The seats of the callers.
+
+ghost use Rattle.std.specs.Prelude.{◌≡◌, ◌<◌, [], false, Some, IfSome, IfNone, map, length, slice_get, option_map};
+ghost use Rattle.item_steps.specs.declared.group.Task.{Task};
+ghost use Rattle.round.specs.Tickets.{name_view, name_of_caller};
+ghost use Rattle.round.specs.Histories.{page_of_step};
+ghost use Rattle.round.specs.Sittings.{running_in, next_of, dealt, holds, has_ended};
+
+use crate::room::Room;
+use crate::rule::Token;
+use crate::running::Running;
+use pages::page_of;
+use std::marker::{Model, PhantomData};
+
+/// What one caller of a round holds: its requests, and the answers to the steps that it made.
+///
+/// A step goes through the seat that has its request, and one thread at a time has a seat.
+#[derive(Drop)]
+pub struct Seat<J: Room> {
+    pub(crate) caller: usize,
+    pub(crate) running: Vec<Running>,
+    pub(crate) token: Token,
+    pub(crate) of: PhantomData<J>,
+}
+
+impl<J: Room> Model for Seat<J> {
+    ghost use Rattle.std.specs.Prelude.{map};
+    ghost use Rattle.round.specs.Tickets.{view_log};
+    ghost use Rattle.round.specs.Sittings.{Sitting, IsSeated};
+
+    ghost Value = { Sitting };
+
+    ghost view = { λ s. record { caller = s.caller; tasks = map (λ r. r.task) s.running.items; log = view_log s.token.me.0 } };
+
+    ghost invariant = { λ s. IsSeated J.table J.group J.callers s.token s.caller s.running.items };
+}
+
+impl<J: Room> Seat<J> {
+    /// The seat of a caller, whose token knows of no step, with its requests before their first step.
+    pub(crate) fn new(caller: usize, running: Vec<Running>, token: Token) -> Seat<J>
+        requires token { (token.table_id ≡ J.table) × (token.me ≡ (name_view (name_of_caller caller) [], [])) }
+        requires few { caller < J.callers }
+        requires has { running.items ≡ map (running_in []) (dealt J.callers caller J.group) }
+        ensures { result ≡ record { caller = caller; tasks = dealt J.callers caller J.group; log = [] } }
+    {
+        Seat {
+            caller,
+            running,
+            token,
+            of: PhantomData,
+        }
+    }
+
+    /// Where the request at the place stands among those of the seat, if it does.
+    pub(crate) fn index_of(&self, place: u32) -> Option<usize>
+        ensures some { IfSome result (λ i. (task : Task) × (slice_get self.now.tasks i ≡ Some task) × (task.place ≡ place)) }
+        ensures none { IfNone result (holds self.now place ≡ false) }
+    {
+        self.running.iter().position(|r| r.place() == place)
+    }
+
+    /// The page on which the next step of the request of this index runs, if one is left.
+    pub(crate) fn next_page(&self, index: usize) -> Option<usize>
+        requires { index < length self.now.tasks }
+        ensures { (task : Task) → slice_get self.now.tasks index ≡ Some task
+            → result ≡ option_map page_of_step (next_of (running_in self.now.log task)) }
+    {
+        match self.running[index].next_key() {
+            Some(key) => Some(page_of(key)),
+            None => None,
+        }
+    }
+
+    /// Whether no step of the seat is left.
+    pub fn has_ended(&self) -> bool
+        ensures { result ≡ has_ended self.now }
+    {
+        self.running.iter().all(|r| r.is_done())
+    }
+}
