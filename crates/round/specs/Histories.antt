@@ -1,5 +1,5 @@
 -- What the steps of a page answered, one after the other.
-use Rattle.std.specs.Prelude.{◌≡◌, ℕ, List, map}
+use Rattle.std.specs.Prelude.{◌≡◌, ℕ, List, [], map}
 use Rattle.std.specs.List.{AllByRecursion}
 use Rattle.atomic_table.specs.Seated.{TableId}
 use Rattle.items.specs.Map.{Items}
