@@ -46,7 +46,7 @@ or_true : (b : Bool) → (b || true) ≡ true
 or_true true = refl
 or_true false = refl
 
-caller_touches : (e : Entry) → touches e.caller e ≡ true
+pub caller_touches : (e : Entry) → touches e.caller e ≡ true
 caller_touches e = ap (λ b. (e.page == e.caller) || b) (eq-eqb e.caller e.caller refl) ∙ or_true _
 
 -- the owner of a name, after all that one seat owned went to another

@@ -3,26 +3,15 @@ use Rattle.std.specs.Prelude.{◌≡◌, ℕ, List, [], map}
 use Rattle.std.specs.List.{AllByRecursion}
 use Rattle.atomic_table.specs.Seated.{TableId}
 use Rattle.items.specs.Map.{Items}
-use Rattle.proto.specs.Update.{key_of_update}
 use Rattle.item_steps.specs.Schedule.{stamped, PageHistory}
 use Rattle.item_steps.specs.declared.step.Place.{Place}
 use Rattle.item_steps.specs.declared.step.Step.{Step}
-use Rattle.item_steps.specs.declared.step.Step.TheVariants as step
-use Rattle.pages.specs.Page.{page_number}
+use Rattle.pages.specs.Step.{step_page}
 use Rattle.round.specs.declared.rule.Entry.{Entry}
 
 -- the name of no table
 abbrev pub no_table : TableId
 no_table = record { words = 0; slots = 0; views_name = 0; atom = 0; block = 0; offset = 0; slot_names = [] }
-
--- the key of a step
-abbrev pub key_of_step : Step → List ℕ
-key_of_step (step.Read key) = key
-key_of_step (step.Update update) = key_of_update update
-
--- the page of its key
-abbrev pub page_of_step : Step → ℕ
-page_of_step s = page_number (key_of_step s)
 
 -- a step with the moment and the stamp at which it runs
 abbrev pub timed : Place → Entry → Step × Place
@@ -30,5 +19,5 @@ timed base e = (e.step, stamped base e.place)
 
 -- The log is of steps of this page alone, which in its order lead from one state of the page to the other, and answered what the log has.
 pub record IsHistory (base : Place) (number : ℕ) (start : Items) (log : List Entry) (now : Items) : Type 0 where
-  pub own : AllByRecursion (λ e. (e.page ≡ number) × (page_of_step e.step ≡ number)) log
+  pub own : AllByRecursion (λ e. (e.page ≡ number) × (step_page e.step ≡ number)) log
   pub runs : PageHistory start (map (timed base) log) now (map (λ e. e.answer) log)

@@ -10,7 +10,7 @@ use Rattle.item_steps.specs.declared.group.Task.{Task}
 use Rattle.round.specs.declared.rule.Entry.{Entry}
 use Rattle.round.specs.declared.rule.View.{View}
 use Rattle.round.specs.Tickets.{name_view, name_of_caller, view_log}
-use Rattle.round.specs.Histories.{page_of_step}
+use Rattle.pages.specs.Step.{step_page}
 
 -- a request, and the answers to the steps that it made
 pub record Running : Type 0 where
@@ -90,7 +90,7 @@ pub record StepMade (s : Sitting) (place : ℕ) (now : Sitting) : Type 0 where
   pub next : next_of (running_in s.log task) ≡ Some entry.step
   pub at : entry.place ≡ place
   pub by : entry.caller ≡ name_of_caller s.caller
-  pub on : entry.page ≡ page_of_step entry.step
+  pub on : entry.page ≡ step_page entry.step
   pub noted : now ≡ record { caller = s.caller; tasks = s.tasks; log = s.log ++ entry ∷ [] }
 
 -- no two requests have one place

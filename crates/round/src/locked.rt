@@ -5,7 +5,7 @@ ghost use Rattle.pages.specs.Page.{page_count, page_items};
 ghost use Rattle.item_steps.specs.declared.group.Task.{Task};
 ghost use Rattle.item_steps.specs.declared.step.Step.{Step};
 ghost use Rattle.round.specs.Tickets.{name_view};
-ghost use Rattle.round.specs.Histories.{page_of_step};
+ghost use Rattle.pages.specs.Step.{step_page};
 ghost use Rattle.round.specs.Sittings.{Sitting, StepMade, running_in, next_of, fits};
 
 use crate::room::Room;
@@ -70,7 +70,7 @@ impl<J: Room> Locked<J> {
         requires base { base ≡ J.base }
         requires fit { fits J.base J.group J.callers ≡ true }
         requires here { (task : Task) × (step : Step) × (slice_get seat.old.tasks index ≡ Some task)
-            × (next_of (running_in seat.old.log task) ≡ Some step) × (page_of_step step ≡ self.old.0) }
+            × (next_of (running_in seat.old.log task) ≡ Some step) × (step_page step ≡ self.old.0) }
         ensures made { OnOk result ((task : Task) → slice_get seat.old.tasks index ≡ Some task
             → StepMade seat.old task.place seat.new) }
         ensures none { OnErr result ((seat.new ≡ seat.old) × (self.new ≡ self.old)) }

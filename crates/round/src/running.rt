@@ -6,7 +6,7 @@ ghost use Rattle.items.specs.Map.{Items};
 ghost use Rattle.item_steps.specs.Effect.{effect};
 ghost use Rattle.item_steps.specs.Schedule.{stamped};
 ghost use Rattle.item_steps.specs.declared.step.Step.{Step};
-ghost use Rattle.round.specs.Histories.{key_of_step};
+ghost use Rattle.pages.specs.Step.{step_key};
 ghost use Rattle.round.specs.Sittings.{next_of, is_done, task_fits};
 
 use item_steps::{Answer, Place, Step, Task, apply};
@@ -61,7 +61,7 @@ impl Model for Running {
 
 /// The key of a step.
 fn key_of(step: &Step) -> &Key
-    ensures { result.now ≡ key_of_step step.now }
+    ensures { result.now ≡ step_key step.now }
 {
     match step {
         Step::Read(key) => key,
@@ -95,7 +95,7 @@ impl Running {
 
     /// The key of the step that comes next, if one is left.
     pub(crate) fn next_key(&self) -> Option<&Key>
-        ensures { option_copied result ≡ option_map key_of_step (next_of self.now) }
+        ensures { option_copied result ≡ option_map step_key (next_of self.now) }
     {
         match self.task.steps.as_slice().get(self.answers.len()) {
             Some(step) => Some(key_of(step)),

@@ -3,7 +3,7 @@
 ghost use Rattle.std.specs.Prelude.{◌≡◌, ◌<◌, [], false, Some, IfSome, IfNone, map, length, slice_get, option_map};
 ghost use Rattle.item_steps.specs.declared.group.Task.{Task};
 ghost use Rattle.round.specs.Tickets.{name_view, name_of_caller};
-ghost use Rattle.round.specs.Histories.{page_of_step};
+ghost use Rattle.pages.specs.Step.{step_page};
 ghost use Rattle.round.specs.Sittings.{running_in, next_of, dealt, holds, has_ended};
 
 use crate::room::Room;
@@ -63,7 +63,7 @@ impl<J: Room> Seat<J> {
     pub(crate) fn next_page(&self, index: usize) -> Option<usize>
         requires { index < length self.now.tasks }
         ensures { (task : Task) → slice_get self.now.tasks index ≡ Some task
-            → result ≡ option_map page_of_step (next_of (running_in self.now.log task)) }
+            → result ≡ option_map step_page (next_of (running_in self.now.log task)) }
     {
         match self.running[index].next_key() {
             Some(key) => Some(page_of(key)),
