@@ -1,12 +1,15 @@
 -- The requests of each caller, of a group that was dealt in turn.
-use Rattle.std.proofs.Common.{◌≡◌, ◌≢◌, ℕ, zero, suc, ◌+◌, ◌%◌, ◌<◌, Bool, true, false, cond, List, [], ◌∷◌, ◌++◌, map, length, Some, None, refl, sym, ap, ◌∙◌, arith, subst, eq-eqb}
-use Rattle.std.specs.Prelude.{slice_get, ◌==◌, not}
-use Rattle.std.specs.List.{list_all}
+use Rattle.std.proofs.Common.{◌≡◌, ◌≢◌, ℕ, zero, suc, ◌+◌, ◌*◌, ◌%◌, ◌<◌, Bool, true, false, cond, List, [], ◌∷◌, ◌++◌, map, length, set, Some, None, refl, sym, ap, ◌∙◌, arith, subst, eq-eqb, ne_eqb}
+use Rattle.std.specs.Prelude.{slice_get, ◌==◌, ◌/◌, not}
+use Rattle.std.proofs.Math.Nat.{mod-add-div, add-mul-mod_self_left}
+use Rattle.std.specs.List.{list_all, range_with_len}
+use Rattle.std.proofs.lemmas.List.{map-append}
 use Rattle.std.proofs.lemmas.Bool.{and_parts, and_from}
 use Rattle.std.proofs.lemmas.Bool.Decides.{nat_tests}
 use Rattle.item_steps.specs.declared.group.Task.{Task}
-use Rattle.round.specs.Sittings.{dealt_from, are_apart}
-use Rattle.round.proofs.Lists.{same_element}
+use Rattle.round.specs.Sittings.{Running, running_in, dealt, dealt_from, lists_of, are_apart}
+use Rattle.round.proofs.Lists.{same_element, map_at}
+use Rattle.round.proofs.Follows.{set_by}
 
 module _ (callers caller : ℕ) where
   -- a request of the caller's is dealt to it
@@ -79,3 +82,42 @@ module _ (callers caller : ℕ) where
           → are_apart (cond b (t ∷ dealt_from (n + 1) callers caller ts) (dealt_from (n + 1) callers caller ts)) ≡ true
       by is rest true = and_from (list_all (λ (other : Task). not (other.place == t.place)) (dealt_from (n + 1) callers caller ts)) (are_apart (dealt_from (n + 1) callers caller ts)) is rest
       by is rest false = rest
+
+range_at : (n from i x : ℕ) → slice_get (range_with_len from n) i ≡ Some x → x ≡ from + i
+range_at zero from i x at = absurd (let no : None ≡ Some x = at in cc)
+range_at (suc n) from zero x at = let zer : from ≡ from + 0 = omega arith in sym (same_element from x at) ∙ zer
+range_at (suc n) from (suc i) x at = let more : (from + 1) + i ≡ from + suc i = omega arith in range_at n (from + 1) i x at ∙ more
+
+-- the next request goes to the caller whose turn it is
+pub dealt_turn : (callers : ℕ) (group : List Task) (t : Task) (lists : List (List Running)) (caller : ℕ) (list : List Running) → lists ≡ lists_of callers group → caller ≡ length group % callers
+    → slice_get lists caller ≡ Some list → set lists caller (list ++ running_in [] t ∷ []) ≡ lists_of callers (group ++ t ∷ [])
+dealt_turn callers group t lists caller list are turn there =
+    ap (λ l. set l caller (list ++ running_in [] t ∷ [])) are ∙ set_by before after (range_with_len 0 callers) caller (list ++ running_in [] t ∷ [])
+    (λ i x at off. others x (λ same. let zer : 0 + i ≡ i = omega arith in off (sym zer ∙ sym (range_at callers 0 i x at) ∙ same)))
+    (λ x at.
+        let zer : 0 + caller ≡ caller = omega arith in
+        let is : x ≡ caller = range_at callers 0 caller x at ∙ zer in
+        mine x is (same_element list (before x) (sym there ∙ ap (λ l. slice_get l caller) are ∙ map_at before (range_with_len 0 callers) caller x at)))
+  where
+    before : ℕ → List Running
+    before c = map (running_in []) (dealt callers c group)
+    after : ℕ → List Running
+    after c = map (running_in []) (dealt callers c (group ++ t ∷ []))
+    others : (c : ℕ) → c ≢ caller → before c ≡ after c
+    others c off =
+        let other : 0 + length group ≡ length group = omega arith in
+        let no : ((0 + length group) % callers == c) ≡ false = ne_eqb ((0 + length group) % callers) c (λ same. off (sym same ∙ ap (λ n. n % callers) other ∙ sym turn)) in
+        sym (ap (λ (l : List Task). map (running_in []) l) (dealt_push callers c 0 group t ∙ ap (λ b. cond b (dealt callers c group ++ t ∷ []) (dealt callers c group)) no))
+    mine : (c : ℕ) → c ≡ caller → list ≡ before c → list ++ running_in [] t ∷ [] ≡ after c
+    mine c is same =
+        let other : 0 + length group ≡ length group = omega arith in
+        let yes : ((0 + length group) % callers == c) ≡ true = eq-eqb ((0 + length group) % callers) c (ap (λ n. n % callers) other ∙ sym turn ∙ sym is) in
+        ap (λ l. l ++ running_in [] t ∷ []) same ∙ sym (map-append (running_in []) (dealt callers c group) (t ∷ []))
+        ∙ sym (ap (λ (l : List Task). map (running_in []) l) (dealt_push callers c 0 group t ∙ ap (λ b. cond b (dealt callers c group ++ t ∷ []) (dealt callers c group)) yes))
+
+-- whose turn is next
+pub turn_more : (callers caller n m : ℕ) → caller ≡ n % callers → m ≡ n + 1 → (caller + 1) % callers ≡ m % callers
+turn_more callers caller n m turn more =
+    let parts = mod-add-div n callers in
+    let same : (n % callers + 1) + callers * (n / callers) ≡ m = omega arith in
+    ap (λ k. (k + 1) % callers) turn ∙ sym (add-mul-mod_self_left (n % callers + 1) callers (n / callers)) ∙ ap (λ k. k % callers) same

@@ -118,3 +118,9 @@ module _ (base : Place) where
   histories_push opening k (g ∷ hs) (y ∷ ys) h x are name hist =
       let more : k + length (y ∷ ys) ≡ (k + 1) + length ys = omega arith in
       (are.0, are.1, histories_push opening (k + 1) hs ys h x are.2 (name ∙ more) (subst (λ n. IsHistory base n (page_items opening n) h.log x) more hist))
+
+  pub histories_push_as : (opening : Items) (hs : List Held) (now : List Items) (number : ℕ) (log : List Entry) (x : Items) → AreHistories base opening 0 hs now → number ≡ length now
+      → IsHistory base number (page_items opening number) log x → AreHistories base opening 0 (hs ++ record { name = number; log = log } ∷ []) (now ++ x ∷ [])
+  histories_push_as opening hs now number log x are is hist =
+      let zer : number ≡ 0 + length now = omega arith in
+      histories_push opening 0 hs now (record { name = number; log = log }) x are zer (subst (λ n. IsHistory base n (page_items opening n) log x) zer hist)

@@ -33,9 +33,13 @@ dealt_from n callers caller (task ∷ tasks) =
 abbrev pub dealt : ℕ → ℕ → List Task → List Task
 dealt callers caller group = dealt_from 0 callers caller group
 
--- the seats of a round before the first step
+-- a seat before its first step
+abbrev pub seat_of : ℕ → List Task → ℕ → Sitting
+seat_of callers group caller = record { caller = caller; tasks = dealt callers caller group; log = [] }
+
+-- the seats of a round, in the order of their callers
 abbrev pub seats_of : ℕ → List Task → List Sitting
-seats_of callers group = map (λ caller. record { caller = caller; tasks = dealt callers caller group; log = [] }) (range_with_len 0 callers)
+seats_of callers group = map (seat_of callers group) (range_with_len 0 callers)
 
 -- the steps of one request
 abbrev pub log_at : ℕ → List Entry → List Entry

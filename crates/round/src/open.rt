@@ -1,7 +1,7 @@
 //! What a round opens with: its locks and its seats.
 
-ghost use Rattle.std.specs.Prelude.{◌≡◌, ◌<◌, [], length, map, vec_len, IfOk, OnOk};
-ghost use Rattle.std.specs.List.{range_with_len};
+ghost use Rattle.std.specs.Prelude.{◌≡◌, ◌<◌, ◌==◌, [], length, map, vec_len, IfOk, OnOk, not};
+ghost use Rattle.std.specs.List.{list_all};
 ghost use Rattle.pages.specs.Page.{page_count};
 ghost use Rattle.round.specs.Tickets.{maker, name_of_caller};
 ghost use Rattle.round.specs.Sittings.{task_fits, are_apart, fits, running_in, dealt, lists_of, seats_of};
@@ -31,15 +31,26 @@ fn task_fits(base: Place, task: &Task) -> bool
         && base.stamp.checked_add(u64::from(task.place)).is_some()
 }
 
+fn tasks_fit(base: Place, group: &[Task]) -> bool
+    ensures { result ≡ list_all (task_fits base) group.now }
+{
+    group.iter().all(|task| task_fits(base, task))
+}
+
+/// Whether none of the others has the request's place.
+fn is_apart(task: &Task, others: &[Task]) -> bool
+    ensures { result ≡ list_all (λ other. not (other.place == task.now.place)) others.now }
+{
+    others.iter().all(|other| other.place != task.place)
+}
+
 /// Whether no two of the requests have one place.
 fn are_apart(group: &[Task]) -> bool
     ensures { result ≡ are_apart group.now }
 {
     match group {
         [] => true,
-        [task, others @ ..] => {
-            others.iter().all(|other| other.place != task.place) && are_apart(others)
-        }
+        [task, others @ ..] => is_apart(task, others) && are_apart(others),
     }
 }
 
@@ -50,7 +61,7 @@ pub(crate) fn fits(base: Place, group: &[Task], callers: usize) -> bool
     0 < callers
         && callers <= MOST_CALLERS
         && group.len() <= MOST_REQUESTS
-        && group.iter().all(|task| task_fits(base, task))
+        && tasks_fit(base, group)
         && are_apart(group)
 }
 
@@ -80,7 +91,7 @@ fn empty_lists(alloc: Global, callers: usize) -> Result<Vec<Vec<Running>>, Alloc
     ensures { IfOk result (λ lists. map (λ l. l.items) lists.items ≡ lists_of callers []) }
 {
     let mut lists = Vec::with_capacity(alloc, callers)?;
-    for _ in 0..callers {
+    for made in 0..callers {
         lists.push(Vec::new(alloc))?;
     }
     Ok(lists)

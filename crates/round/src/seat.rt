@@ -1,10 +1,11 @@
 //! The seats of the callers.
 
-ghost use Rattle.std.specs.Prelude.{◌≡◌, ◌<◌, [], false, Some, IfSome, IfNone, map, length, slice_get, option_map};
+ghost use Rattle.std.specs.Prelude.{◌≡◌, ◌<◌, ◌==◌, [], false, Some, IfSome, IfNone, map, length, slice_get, option_map};
+ghost use Rattle.std.specs.List.{list_all, position};
 ghost use Rattle.item_steps.specs.declared.group.Task.{Task};
 ghost use Rattle.round.specs.Tickets.{name_view, name_of_caller};
 ghost use Rattle.pages.specs.Step.{step_page};
-ghost use Rattle.round.specs.Sittings.{running_in, next_of, dealt, holds, has_ended};
+ghost use Rattle.round.specs.Sittings.{running_in, next_of, dealt, holds, is_done, has_ended};
 
 use crate::room::Room;
 use crate::rule::Token;
@@ -35,6 +36,20 @@ impl<J: Room> Model for Seat<J> {
     ghost invariant = { λ s. IsSeated J.table J.group J.callers s.token s.caller s.running.items };
 }
 
+/// Where the request at the place stands among these, if it does.
+fn index_at(running: &[Running], place: u32) -> Option<usize>
+    ensures { result ≡ position (λ r. r.task.place == place) running.now }
+{
+    running.iter().position(|r| r.place() == place)
+}
+
+/// Whether no step of these is left.
+fn all_done(running: &[Running]) -> bool
+    ensures { result ≡ list_all is_done running.now }
+{
+    running.iter().all(|r| r.is_done())
+}
+
 impl<J: Room> Seat<J> {
     /// The seat of a caller, whose token knows of no step, with its requests before their first step.
     pub(crate) fn new(caller: usize, running: Vec<Running>, token: Token) -> Seat<J>
@@ -56,7 +71,7 @@ impl<J: Room> Seat<J> {
         ensures some { IfSome result (λ i. (task : Task) × (slice_get self.now.tasks i ≡ Some task) × (task.place ≡ place)) }
         ensures none { IfNone result (holds self.now place ≡ false) }
     {
-        self.running.iter().position(|r| r.place() == place)
+        index_at(&self.running, place)
     }
 
     /// The page on which the next step of the request of this index runs, if one is left.
@@ -75,6 +90,6 @@ impl<J: Room> Seat<J> {
     pub fn has_ended(&self) -> bool
         ensures { result ≡ has_ended self.now }
     {
-        self.running.iter().all(|r| r.is_done())
+        all_done(&self.running)
     }
 }
