@@ -83,7 +83,7 @@ module _ (callers caller : ℕ) where
       by is rest true = and_from (list_all (λ (other : Task). not (other.place == t.place)) (dealt_from (n + 1) callers caller ts)) (are_apart (dealt_from (n + 1) callers caller ts)) is rest
       by is rest false = rest
 
-range_at : (n from i x : ℕ) → slice_get (range_with_len from n) i ≡ Some x → x ≡ from + i
+pub range_at : (n from i x : ℕ) → slice_get (range_with_len from n) i ≡ Some x → x ≡ from + i
 range_at zero from i x at = absurd (let no : None ≡ Some x = at in cc)
 range_at (suc n) from zero x at = let zer : from ≡ from + 0 = omega arith in sym (same_element from x at) ∙ zer
 range_at (suc n) from (suc i) x at = let more : (from + 1) + i ≡ from + suc i = omega arith in range_at n (from + 1) i x at ∙ more

@@ -21,7 +21,7 @@ pub tasks_of_running : (log : List Entry) (tasks : List Task) → map (λ (r : R
 tasks_of_running log [] = refl
 tasks_of_running log (t ∷ ts) = ap (λ l. t ∷ l) (tasks_of_running log ts)
 
-take_next : {X : Type 0} (l : List X) (n : ℕ) (x : X) → slice_get l n ≡ Some x → take n l ++ x ∷ [] ≡ take (n + 1) l
+pub take_next : {X : Type 0} (l : List X) (n : ℕ) (x : X) → slice_get l n ≡ Some x → take n l ++ x ∷ [] ≡ take (n + 1) l
 take_next {X} [] n x at = absurd (let no : None ≡ Some x = at in cc)
 take_next {X} (y ∷ ys) zero x at = ap (λ z. z ∷ []) (sym (same_element y x at))
 take_next {X} (y ∷ ys) (suc n) x at = let more : suc (n + 1) ≡ suc n + 1 = omega arith in ap (λ l. y ∷ l) (take_next ys n x at) ∙ ap (λ m. take m (y ∷ ys)) more
