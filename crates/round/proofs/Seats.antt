@@ -1,5 +1,5 @@
 -- What a seat's requests say of what contracts see of it.
-use Rattle.std.proofs.Common.{◌≡◌, ℕ, zero, suc, ◌+◌, Bool, true, false, cond, List, [], ◌∷◌, map, length, get_or, Some, None, Option, refl, sym, ap, ◌∙◌, subst, arith, ltb}
+use Rattle.std.proofs.Common.{◌≡◌, ℕ, zero, suc, ◌+◌, Bool, true, false, cond, List, [], ◌∷◌, map, length, get_or, Some, None, Option, refl, sym, ap, ◌∙◌, subst, arith, ltb, eq-eqb}
 use Rattle.std.specs.Prelude.{slice_get, ◌==◌, ◌||◌, ◌&&◌, ◌<◌, option_map, nat_lt}
 use Rattle.std.specs.List.{list_all, list_any, position, position_from}
 use Rattle.std.specs.Prelude.{IfSome, IfNone}
@@ -13,8 +13,10 @@ use Rattle.item_steps.specs.declared.group.Task.{Task}
 use Rattle.pages.specs.Page.{page_number}
 use Rattle.pages.specs.Step.{step_key, step_page}
 use Rattle.round.specs.declared.rule.Entry.{Entry}
-use Rattle.round.specs.Sittings.{Running, running_in, is_done}
-use Rattle.round.proofs.Lists.{map_at}
+use Rattle.round.specs.Sittings.{Running, Sitting, running_in, next_of, dealt, holds, is_done, are_apart, IsAtEnd}
+use Rattle.round.proofs.Lists.{same_element, map_at}
+use Rattle.round.proofs.Interleaves.{Apart, apart_from}
+use Rattle.round.proofs.Dealt.{dealt_apart}
 use Rattle.round.proofs.Follows.{tasks_of_running}
 
 pub running_has : (running : List Running) (log : List Entry) (dealt : List Task) → running ≡ map (running_in log) dealt → running ≡ map (running_in log) (map (λ (r : Running). r.task) running)
@@ -73,3 +75,36 @@ index_is running tasks place is None e = (tt, subst (λ (l : List Task). list_an
 index_is running tasks place is (Some i) e =
     let found = task_at running place i (sym e) in
     ((found.0, ap (λ (l : List Task). slice_get l i) (sym is) ∙ found.1, found.2), tt)
+
+pub is_held : (tasks : List Task) (place i : ℕ) (t : Task) → slice_get tasks i ≡ Some t → t.place ≡ place → list_any (λ (t : Task). t.place == place) tasks ≡ true
+is_held [] place i t at is = absurd (let no : None ≡ Some t = at in cc)
+is_held (x ∷ xs) place zero t at is =
+    ap (λ b. b || list_any (λ (t : Task). t.place == place) xs) (eq-eqb x.place place (ap (λ (t : Task). t.place) (same_element x t at) ∙ is))
+is_held (x ∷ xs) place (suc i) t at is = ap (λ b. (x.place == place) || b) (is_held xs place i t at is) ∙ or_true (x.place == place)
+  where
+    or_true : (b : Bool) → (b || true) ≡ true
+    or_true true = refl
+    or_true false = refl
+
+pub end_is_held : (s : Sitting) (place : ℕ) → IsAtEnd s place → holds s place ≡ true
+end_is_held s place a = is_held s.tasks place a.index a.task a.there a.its
+
+-- a request that has a step left is not at its end
+pub not_at_end : (s : Sitting) (place : ℕ) → Apart s.tasks → (i : ℕ) (t : Task) (step : Step) → slice_get s.tasks i ≡ Some t → t.place ≡ place → next_of (running_in s.log t) ≡ Some step → IsAtEnd s place → ⊥
+not_at_end s place apart i t step at its next a =
+    let same : a.index ≡ i = apart a.index i a.task t a.there at (a.its ∙ sym its) in
+    let task : a.task ≡ t = same_element a.task t (sym a.there ∙ ap (λ k. slice_get s.tasks k) same ∙ at) in
+    let no : None ≡ Some step = sym a.ended ∙ ap (λ (t : Task). next_of (running_in s.log t)) task ∙ next in
+    absurd cc
+
+pub step_of_page : (o : Option Step) (number : ℕ) → Some number ≡ option_map step_page o → (step : Step) × (o ≡ Some step) × (step_page step ≡ number)
+step_of_page None number e = absurd (let no : Some number ≡ None = e in cc)
+step_of_page (Some s) number e = (s, refl, let same : number ≡ step_page s = cc in sym same)
+
+pub no_step : (o : Option Step) → None ≡ option_map step_page o → o ≡ None
+no_step None e = refl
+no_step (Some s) e = absurd (let no : None ≡ Some (step_page s) = e in cc)
+
+-- the requests of a seat are apart
+pub seat_apart : (group : List Task) (callers caller : ℕ) (s : Sitting) → are_apart group ≡ true → s.tasks ≡ dealt callers caller group → Apart s.tasks
+seat_apart group callers caller s apart is = subst (λ (l : List Task). Apart l) (sym is) (apart_from (dealt callers caller group) (dealt_apart callers caller 0 group apart))

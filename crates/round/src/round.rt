@@ -133,12 +133,7 @@ impl<J: Room> Round<J> {
         ensures only { IfErr result (λ fault. (fault ≡ Fault.Unfit) ⊎ ((fault ≡ Fault.NotOpen) ⊎ (fault ≡ Fault.NoMemory))) }
         ensures err { OnErr result (seat.new ≡ seat.old) }
     {
-        let Some(index) = seat.index_of(place) else {
-            return Err(Fault::Unfit);
-        };
-        let Some(number) = seat.next_page(index) else {
-            return Err(Fault::NotOpen);
-        };
+        let (index, number) = seat.next(place)?;
         let mut locked = self.pages[number].lock(rt);
         // Each lock has the page of its place, which no clause can say.
         if locked.number != number {

@@ -1,16 +1,18 @@
 //! The seats of the callers.
 
-ghost use Rattle.std.specs.Prelude.{◌≡◌, ◌<◌, ◌==◌, [], false, Some, IfSome, IfNone, map, length, slice_get, option_map};
+ghost use Rattle.std.specs.Prelude.{◌≡◌, ◌<◌, ◌==◌, ◌↔◌, ◌⊎◌, [], true, false, Some, IfSome, IfNone, IfOk, IfErr, IsErrOf, map, length, slice_get, option_map};
 ghost use Rattle.std.specs.List.{list_all, position};
 ghost use Rattle.item_steps.specs.declared.group.Task.{Task};
 ghost use Rattle.round.specs.Tickets.{name_view, name_of_caller};
+ghost use Rattle.item_steps.specs.declared.step.Step.{Step};
 ghost use Rattle.pages.specs.Step.{step_page};
-ghost use Rattle.round.specs.Sittings.{running_in, next_of, dealt, holds, is_done, has_ended};
+ghost use Rattle.round.specs.Sittings.{running_in, next_of, dealt, holds, is_done, has_ended, are_apart, IsAtEnd};
 
 use crate::room::Room;
 use crate::rule::Token;
 use crate::running::Running;
 use pages::page_of;
+use proto::Fault;
 use std::marker::{Model, PhantomData};
 
 /// What one caller of a round holds: its requests, and the answers to the steps that it made.
@@ -77,12 +79,32 @@ impl<J: Room> Seat<J> {
     /// The page on which the next step of the request of this index runs, if one is left.
     pub(crate) fn next_page(&self, index: usize) -> Option<usize>
         requires { index < length self.now.tasks }
-        ensures { (task : Task) → slice_get self.now.tasks index ≡ Some task
+        ensures its { self.now.tasks ≡ dealt J.callers self.now.caller J.group }
+        ensures page { (task : Task) → slice_get self.now.tasks index ≡ Some task
             → result ≡ option_map step_page (next_of (running_in self.now.log task)) }
     {
         match self.running[index].next_key() {
             Some(key) => Some(page_of(key)),
             None => None,
+        }
+    }
+
+    /// Where the request at the place stands among those of the seat, and the page on which its next
+    /// step runs. `Unfit` where the seat does not hold the place, `NotOpen` where no step is left.
+    pub(crate) fn next(&self, place: u32) -> Result<(usize, usize), Fault>
+        requires { are_apart J.group ≡ true }
+        ensures ok { IfOk result (λ next. (task : Task) × (step : Step) × (slice_get self.now.tasks next.0 ≡ Some task)
+            × (task.place ≡ place) × (next_of (running_in self.now.log task) ≡ Some step) × (step_page step ≡ next.1)) }
+        ensures unfit { IsErrOf result Fault.Unfit ↔ (holds self.now place ≡ false) }
+        ensures not_open { IsErrOf result Fault.NotOpen ↔ IsAtEnd self.now place }
+        ensures only { IfErr result (λ fault. (fault ≡ Fault.Unfit) ⊎ (fault ≡ Fault.NotOpen)) }
+    {
+        let Some(index) = self.index_of(place) else {
+            return Err(Fault::Unfit);
+        };
+        match self.next_page(index) {
+            Some(number) => Ok((index, number)),
+            None => Err(Fault::NotOpen),
         }
     }
 
