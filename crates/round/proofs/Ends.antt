@@ -221,3 +221,23 @@ module _ (base : Place) (opening : Items) (group : List Task) (callers : ℕ) (o
     replies = replayed.replies ∙ ap (λ m. answers_in base m (map placed_of order)) (joined-parts opening);
     given = given;
   }
+
+-- what the last look at the ticket word tells, with the pages and the seats that were taken apart
+pub gathered : (base : Place) (opening : Items) (group : List Task) (callers : ℕ) (order : List Entry) (now : List Items) (seats : List Sitting) (hs is held : List Held)
+    → are_apart group ≡ true → 0 < callers → map (λ (s : Sitting). s.caller) seats ≡ range_with_len 0 callers → AllByRecursion (IsSitting group callers) seats → list_all has_ended seats ≡ true
+    → length now ≡ page_count → Kinds order → ((n : ℕ) → name_of_caller callers ≤ n → log_of n order ≡ []) → AreHistories base opening 0 hs now → AreOf is seats → held ≡ hs ++ is → AreLogs order held
+    → Gathered base opening group callers order now seats
+gathered base opening group callers order now seats hs is held apart some names sat ended wide kinds none histories of split logs =
+    let both = subst (AreLogs order) split logs in
+    record {
+      apart = apart;
+      some = some;
+      names = names;
+      sat = sat;
+      ended = ended;
+      wide = wide;
+      kinds = kinds;
+      none = none;
+      histories = (hs, histories, logs_front order hs is both);
+      seated = (is, of, logs_back order hs is both);
+    }
