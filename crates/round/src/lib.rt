@@ -1,10 +1,31 @@
-//! A round: the steps of one group of requests on the pages.
+//! A round: the steps of one group of requests on the pages, by several callers at once.
 //!
-//! It stands on `pages` and `item_steps`. The layer above uses `Round::close`: an Ok gives pages and
-//! answers that some interleaving of the group's steps leads to, from the pages handed to `open`.
-//! So far a round has one caller and at most one request.
+//! Each page lies under a lock, and each step draws a ticket inside the lock of its key's page. The
+//! tickets give one order of all steps, in which the callers' steps and the pages' histories stand as
+//! they were made. So what comes out is the result of that order, whatever the schedule.
+//!
+//! It stands on `pages` and `item_steps`, and on `atomic_table` for the word of the tickets. The layer
+//! above uses `run`: an Ok gives pages and answers that some interleaving of the group's steps leads to.
 #![tactic(auto)]
 
+mod close;
+mod crew;
+mod gate;
+mod locked;
+mod open;
+mod room;
 mod round;
+mod rule;
+mod running;
+mod seat;
+mod word;
 
-pub use round::{Answers, Round, Seat};
+pub use crew::{Crew, run};
+pub use gate::{Gate, NoGate};
+pub use room::Room;
+pub use round::Round;
+pub use rule::Token;
+pub use running::Answers;
+pub use seat::Seat;
+pub use word::TicketWord;
+

@@ -1,206 +1,183 @@
-ghost use Rattle.std.specs.Prelude.{◌≡◌, ◌==◌, ◌≤◌, ◌++◌, ◌∷◌, [], ◌↔◌, ◌⊎◌, true, false, None, Some, length, map, IfOk, IfErr, OnOk, OnErr, IsErrOf, IsSome, slice_get};
-ghost use Rattle.std.specs.List.{list_all, list_any};
-ghost use Rattle.items.specs.Map.{Items};
-ghost use Rattle.item_steps.specs.Schedule.{GroupRuns};
-ghost use Rattle.item_steps.specs.declared.step.Place.{Place};
-ghost use Rattle.round.specs.Round.{SeatState, IsSeatOf, StepMade, fits, task_fits, holds, next_step, steps_of_group, place_of_group};
+//! A round, from its opening to its close.
 
-use item_steps::{Answer, Group, Place, Step, Task, apply};
-use pages::Pages;
+ghost use Rattle.std.specs.Prelude.{◌≡◌, ◌↔◌, ◌⊎◌, true, false, [], length, map, vec_len, IfOk, IfErr, OnOk, OnErr, IsErrOf};
+ghost use Rattle.std.specs.List.{list_all, range_with_len};
+ghost use Rattle.item_steps.specs.Schedule.{GroupRuns};
+ghost use Rattle.pages.specs.Page.{page_count};
+ghost use Rattle.round.specs.Tickets.{maker, name_of_caller};
+ghost use Rattle.round.specs.Sittings.{fits, holds, has_ended, StepMade, IsAtEnd, seats_of};
+ghost use Rattle.round.specs.Orders.{Ended};
+
+use crate::close::{all_ended, collect, gather_pages, gather_seats};
+use crate::gate::Gate;
+use crate::locked::Locked;
+use crate::open::{deal, fits, lock_pages, seat_callers};
+use crate::room::Room;
+use crate::rule::Token;
+use crate::running::Answers;
+use crate::seat::Seat;
+use crate::word::TicketWord;
+use item_steps::{Place, Task};
+use pages::{Pages, page_of};
 use proto::Fault;
 use std::alloc::Global;
-use std::marker::Model;
+use std::marker::PhantomData;
+use std::sync::{Mutex, Wait};
 
-/// A request has at most so many steps.
-const MOST_STEPS: usize = 64;
-
-/// What one caller of a round holds: its requests, and the answers to the steps made so far.
-#[derive(Debug, Drop)]
-pub struct Seat {
-    tasks: Group,
-    answers: Vec<Answer>,
+/// The token that made the others. It lies under a lock, since a token is not `Sync`.
+#[derive(Drop)]
+struct Master<J: Room> {
+    token: Token,
+    of: PhantomData<J>,
+    ghost mastered: { (token.table_id ≡ J.table) × (token.me ≡ (maker (name_of_caller J.callers), [])) },
 }
 
-impl Model for Seat {
-    ghost use Rattle.round.specs.Round.{SeatState};
-
-    ghost Value = { SeatState };
-
-    ghost view = { λ a. record { tasks = a.tasks; answers = a.answers.items } };
-}
-
-/// The answers to one request's steps, in order.
-#[derive(Debug, Drop)]
-pub struct Answers {
-    answers: Vec<Answer>,
-}
-
-impl Model for Answers {
-    ghost use Rattle.std.specs.Prelude.{List};
-    ghost use Rattle.item_steps.specs.declared.step.Answer.{Answer};
-
-    ghost Value = { List Answer };
-
-    ghost view = { λ a. a.answers.items };
-}
-
-impl Answers {
-    pub fn as_slice(&self) -> &[Answer]
-        ensures { result.now ≡ self.now }
-    {
-        self.answers.as_slice()
-    }
-}
-
-/// A group that runs over pages.
-#[derive(Debug, Drop)]
-pub struct Round {
-    pages: Pages,
+/// A group that runs over pages. Several callers make steps at once, each through its seat.
+#[derive(Drop)]
+pub struct Round<J: Room> {
+    word: TicketWord,
+    master: Mutex<Master<J>>,
+    pages: Vec<Mutex<Locked<J>>>,
     base: Place,
+    requests: usize,
+    pub ghost named: { word.table.shared.table_id ≡ J.table },
+    pub ghost all: { vec_len pages ≡ page_count },
+    pub ghost same_base: { base ≡ J.base },
+    pub ghost counted: { requests ≡ length J.group },
+    pub ghost fit: { fits J.base J.group J.callers ≡ true },
 }
 
-impl Model for Round {
-    ghost use Rattle.std.specs.Coded.{coded_list, coded_ℕ};
-    ghost use Rattle.std.specs.FinMap as map;
-    ghost use Rattle.items.specs.contracts.item.Item as item;
-    ghost use Rattle.item_steps.specs.contracts.step.Place as place;
-    ghost use Rattle.round.specs.Round.{RoundState, round_code};
-
-    ghost Value = { RoundState };
-
-    ghost coded = { round_code (map.code (coded_list coded_ℕ) item.the_row.coded) place.the_row.coded };
-
-    ghost view = { λ a. record { now = a.pages; base = a.base } };
-}
-
-fn task_fits(base: Place, task: &Task) -> bool
-    ensures { result ≡ task_fits base task.now }
-{
-    task.steps.as_slice().len() <= MOST_STEPS
-        && base.stamp.checked_add(u64::from(task.place)).is_some()
-}
-
-fn tasks_fit(base: Place, tasks: &[Task]) -> bool
-    ensures { result ≡ list_all (task_fits base) tasks.now }
-{
-    tasks.iter().all(|task| task_fits(base, task))
-}
-
-/// The next step of the request at the place, where so many were made.
-fn next_of(tasks: &[Task], made: usize, place: u32) -> Result<&Step, Fault>
-    requires { length tasks.now ≤ 1 }
-    ensures ok { IfOk result (λ step. (slice_get (steps_of_group tasks.now) made ≡ Some step.now) × (place_of_group tasks.now ≡ place)) }
-    ensures unfit { IsErrOf result Fault.Unfit ↔ (list_any (λ task. task.place == place) tasks.now ≡ false) }
-    ensures not_open { IsErrOf result Fault.NotOpen
-        ↔ ((list_any (λ task. task.place == place) tasks.now ≡ true) × (slice_get (steps_of_group tasks.now) made ≡ None)) }
-    ensures only { IfErr result (λ fault. (fault ≡ Fault.Unfit) ⊎ (fault ≡ Fault.NotOpen)) }
-{
-    match tasks {
-        [task] if task.place == place => match task.steps.as_slice().get(made) {
-            Some(step) => Ok(step),
-            None => Err(Fault::NotOpen),
-        },
-        _ => Err(Fault::Unfit),
-    }
-}
-
-/// The answers to each request, where all its steps were made.
-fn answers_of(alloc: Global, tasks: &Group, answers: Vec<Answer>) -> Result<Vec<Answers>, Fault>
-    requires { length tasks.now ≤ 1 }
-    ensures ok { IfOk result (λ lists. lists.items ≡ map (λ task. answers.items) tasks.now) }
-    ensures all { OnOk result (length (steps_of_group tasks.now) ≤ length answers.items) }
-    ensures not_open { IsErrOf result Fault.NotOpen ↔ IsSome (slice_get (steps_of_group tasks.now) (length answers.items)) }
-    ensures only { IfErr result (λ fault. (fault ≡ Fault.NotOpen) ⊎ (fault ≡ Fault.NoMemory)) }
-{
-    let mut lists = Vec::new(alloc);
-    match tasks.as_slice() {
-        [task] => {
-            if answers.len() < task.steps.as_slice().len() {
-                return Err(Fault::NotOpen);
-            }
-            lists.push(Answers { answers })?;
+impl<J: Room> Round<J> {
+    fn new(
+        word: TicketWord,
+        master: Token,
+        pages: Vec<Mutex<Locked<J>>>,
+        base: Place,
+        requests: usize,
+    ) -> Round<J>
+        requires word { word.table.shared.table_id ≡ J.table }
+        requires master { (master.table_id ≡ J.table) × (master.me ≡ (maker (name_of_caller J.callers), [])) }
+        requires pages { vec_len pages ≡ page_count }
+        requires base { base ≡ J.base }
+        requires requests { requests ≡ length J.group }
+        requires fit { fits J.base J.group J.callers ≡ true }
+    {
+        let master = Mutex::new(Master {
+            token: master,
+            of: PhantomData,
+        });
+        Round {
+            word,
+            master,
+            pages,
+            base,
+            requests,
         }
-        _ => {}
     }
-    Ok(lists)
-}
 
-impl Round {
-    /// A round of the group over the pages, and the seat of its one caller. The stamp of a request
-    /// is the base's stamp plus its place.
+    /// A round of the group over the pages, and the seats of its callers, in their order. Seat `c` has
+    /// the requests whose position in the group is `c` modulo the number of callers. The stamp of a
+    /// request is the base's stamp plus its place.
     ///
-    /// `Unfit` where there is another number of callers than one, more than one request, a request
-    /// of more than 64 steps, or a stamp of 2^64 or more.
+    /// The word is a new one, and `master` is the token that came with it.
+    ///
+    /// `Unfit` where there are not 1 to 64 callers, or more than 64 requests, or a request of more than
+    /// 64 steps, or two requests of one place, or a stamp of 2^64 or more. The only other error is want
+    /// of memory.
     pub fn open(
         alloc: Global,
+        word: TicketWord,
+        master: Token,
         pages: Pages,
-        group: Group,
+        group: Vec<Task>,
         base: Place,
         callers: usize,
-    ) -> Result<(Round, Vec<Seat>), Fault>
-        ensures round { IfOk result (λ r. r.0 ≡ record { now = pages; base = base }) }
-        ensures seats { IfOk result (λ r. r.1.items ≡ (record { tasks = group; answers = [] }) ∷ []) }
-        ensures seat { IfOk result (λ r. IsSeatOf pages r.0 (record { tasks = group; answers = [] })) }
-        ensures unfit { IsErrOf result Fault.Unfit ↔ (fits base group callers ≡ false) }
+    ) -> Result<(Round<J>, Vec<Seat<J>>), Fault>
+        requires word { word.table.shared.table_id ≡ J.table }
+        requires token { (master.table_id ≡ J.table) × (master.me ≡ (maker 0, [])) }
+        requires pages { pages ≡ J.opening }
+        requires group { group.items ≡ J.group }
+        requires base { base ≡ J.base }
+        requires callers { callers ≡ J.callers }
+        ensures seats { IfOk result (λ r. r.1.items ≡ seats_of J.callers J.group) }
+        ensures unfit { IsErrOf result Fault.Unfit ↔ (fits base group.items callers ≡ false) }
         ensures only { IfErr result (λ fault. (fault ≡ Fault.Unfit) ⊎ (fault ≡ Fault.NoMemory)) }
     {
-        if callers != 1 || group.as_slice().len() > 1 || !tasks_fit(base, group.as_slice()) {
+        if !fits(base, &group, callers) {
             return Err(Fault::Unfit);
         }
-        let mut seats = Vec::new(alloc);
-        seats.push(Seat {
-            tasks: group,
-            answers: Vec::new(alloc),
-        })?;
-        Ok((Round { pages, base }, seats))
+        let mut master = master;
+        let requests = group.len();
+        let pages = lock_pages(alloc, &word, &mut master, pages)?;
+        let lists = deal(alloc, group, callers)?;
+        let seats = seat_callers(alloc, &word, &mut master, lists)?;
+        Ok((Round::new(word, master, pages, base, requests), seats))
     }
 
-    /// Does the next step of the request, and notes its answer in the seat, which is the one that
-    /// `open` gave with this round.
+    /// Does the next step of the request, inside the lock of the page of its key, and notes its answer
+    /// in the seat. A ticket is drawn for it inside the lock.
     ///
-    /// `Unfit` where the seat does not hold the place, `NotOpen` where no step is left. An `Err`
-    /// changes nothing.
-    pub fn step(&mut self, alloc: Global, seat: &mut Seat, place: u32) -> Result<(), Fault>
-        requires { fits self.old.base seat.old.tasks 1 ≡ true }
-        ensures made { OnOk result (StepMade self.old seat.old place self.new seat.new) }
-        ensures seat { (start : Items) → IsSeatOf start self.old seat.old → IsSeatOf start self.new seat.new }
+    /// `Unfit` where the seat does not hold the place, `NotOpen` where no step is left. The only other
+    /// error is want of memory. An `Err` changes neither the page nor the seat, and draws no ticket.
+    pub fn step<R: Wait, G: Gate>(
+        &self,
+        rt: &R,
+        alloc: Global,
+        seat: &mut Seat<J>,
+        place: u32,
+        gate: &G,
+    ) -> Result<(), Fault>
+        ensures made { OnOk result (StepMade seat.old place seat.new) }
         ensures unfit { IsErrOf result Fault.Unfit ↔ (holds seat.old place ≡ false) }
-        ensures not_open { IsErrOf result Fault.NotOpen ↔ ((holds seat.old place ≡ true) × (next_step seat.old ≡ None)) }
+        ensures not_open { IsErrOf result Fault.NotOpen ↔ IsAtEnd seat.old place }
         ensures only { IfErr result (λ fault. (fault ≡ Fault.Unfit) ⊎ ((fault ≡ Fault.NotOpen) ⊎ (fault ≡ Fault.NoMemory))) }
-        ensures err { OnErr result ((self.new ≡ self.old) × (seat.new ≡ seat.old)) }
+        ensures err { OnErr result (seat.new ≡ seat.old) }
     {
-        let step = next_of(seat.tasks.as_slice(), seat.answers.len(), place)?;
-        seat.answers.reserve(1)?;
-        let at = Place {
-            moment: self.base.moment,
-            stamp: self.base.stamp + u64::from(place),
-        };
-        let answer = apply(alloc, &mut self.pages, step, at)?;
-        if seat.answers.push(answer).is_err() {
-            unreachable!();
+        let (index, number) = seat.next(place)?;
+        let mut locked = self.pages[number].lock(rt);
+        // Each lock has the page of its place, which no clause can say.
+        if locked.number != number {
+            return Err(Fault::NoMemory);
         }
+        let done = locked.make(alloc, &self.word, self.base, seat, index);
+        if done.is_ok() {
+            gate.inside(number, place);
+        }
+        drop(locked);
+        done?;
+        gate.outside(number, place);
         Ok(())
     }
 
-    /// Ends the round: the pages, and the answers to each request of the group. The seats are those
-    /// that `open` gave with this round. `NotOpen` where a step is left.
-    pub fn close(self, alloc: Global, seats: Vec<Seat>) -> Result<(Pages, Vec<Answers>), Fault>
-        requires seat { (seat : SeatState) × (seats.items ≡ seat ∷ []) × (fits self.base seat.tasks 1 ≡ true) }
-        ensures answers { IfOk result (λ r. (seat : SeatState) → seats.items ≡ seat ∷ []
-            → r.1.items ≡ map (λ task. seat.answers) seat.tasks) }
-        ensures runs { IfOk result (λ r. (start : Items) (seat : SeatState) → seats.items ≡ seat ∷ []
-            → IsSeatOf start self seat → GroupRuns self.base start seat.tasks r.0 r.1.items) }
-        ensures not_open { (seat : SeatState) → seats.items ≡ seat ∷ []
-            → (IsErrOf result Fault.NotOpen ↔ IsSome (next_step seat)) }
+    /// Ends the round: the pages, and the answers to each request of the group, in the group's order.
+    /// The seats are those that `open` gave, in their order.
+    ///
+    /// `NotOpen` where a step is left. The only other error is want of memory.
+    pub fn close(self, alloc: Global, seats: Vec<Seat<J>>) -> Result<(Pages, Vec<Answers>), Fault>
+        requires { map (λ s. s.caller) seats.items ≡ range_with_len 0 J.callers }
+        ensures ended { IfOk result (λ r. Ended J.base J.opening J.group seats.items r.0 r.1.items) }
+        ensures runs { IfOk result (λ r. GroupRuns J.base J.opening J.group r.0 r.1.items) }
+        ensures not_open { IsErrOf result Fault.NotOpen ↔ (list_all has_ended seats.items ≡ false) }
         ensures only { IfErr result (λ fault. (fault ≡ Fault.NotOpen) ⊎ (fault ≡ Fault.NoMemory)) }
     {
-        let Round { pages, base: _ } = self;
-        let mut seats = seats;
-        let Some(seat) = seats.pop() else {
-            unreachable!();
-        };
-        let Seat { tasks, answers } = seat;
-        let lists = answers_of(alloc, &tasks, answers)?;
-        Ok((pages, lists))
+        if !all_ended(&seats) {
+            return Err(Fault::NotOpen);
+        }
+        let Round {
+            word,
+            master,
+            pages,
+            base: _,
+            requests,
+        } = self;
+        let Master {
+            token: mut master,
+            of: _,
+        } = master.into_inner();
+        let pages = gather_pages(alloc, &word, &mut master, pages)?;
+        let running = gather_seats(alloc, &word, &mut master, seats)?;
+        word.learn(&mut master);
+        let answers = collect(alloc, running, requests)?;
+        Ok((Pages::join(pages), answers))
     }
 }

@@ -1,0 +1,111 @@
+//! What a round comes to: its pages and answers.
+
+ghost use Rattle.std.specs.Prelude.{◌≡◌, ◌++◌, ◌<◌, List, [], map, length, vec_len, IfOk, OnOk};
+ghost use Rattle.std.specs.List.{list_all, AllByRecursion, range_with_len};
+ghost use Rattle.item_steps.specs.declared.group.Task.{Task};
+ghost use Rattle.pages.specs.Joined.{items_of};
+ghost use Rattle.round.specs.declared.rule.Held.{Held};
+ghost use Rattle.round.specs.Sittings.{Running, running_in, dealt, has_ended, IsSitting};
+ghost use Rattle.round.specs.Orders.{AreHistories, AreOf, IsAsBefore};
+
+use crate::locked::Locked;
+use crate::room::Room;
+use crate::rule::Token;
+use crate::running::{Answers, Running};
+use crate::seat::Seat;
+use crate::word::TicketWord;
+use pages::{PAGES, Page};
+use std::alloc::{AllocError, Global};
+use std::sync::Mutex;
+
+/// Whether no step of the seats is left.
+pub(crate) fn all_ended<J: Room>(seats: &[Seat<J>]) -> bool
+    ensures { result ≡ list_all has_ended seats.now }
+{
+    seats.iter().all(|seat| seat.has_ended())
+}
+
+/// Takes the locks apart. The token knows the log of each page.
+pub(crate) fn gather_pages<J: Room>(
+    alloc: Global,
+    word: &TicketWord,
+    master: &mut Token,
+    locks: Vec<Mutex<Locked<J>>>,
+) -> Result<Vec<Page>, AllocError>
+    requires word { word.now.table.shared.table_id ≡ J.table }
+    requires master { (master.old.table_id ≡ J.table) × (master.old.me.1 ≡ []) × (master.old.me.0.held ≡ []) }
+    ensures master { IsAsBefore J.table master.old master.new }
+    ensures pages { IfOk result (λ pages. AreHistories J.base J.opening 0 master.new.me.0.held (items_of pages.items)) }
+    ensures all { IfOk result (λ pages. vec_len pages ≡ vec_len locks) }
+{
+    let mut pages = Vec::with_capacity(alloc, PAGES)?;
+    for lock in locks {
+        let Locked {
+            number,
+            page,
+            token,
+            of: _,
+        } = lock.into_inner();
+        // Each lock has the page of its place, which no clause can say.
+        if number != pages.len() {
+            return Err(AllocError);
+        }
+        word.take_in(master, token);
+        pages.push(page)?;
+    }
+    Ok(pages)
+}
+
+/// Takes the seats apart. The token knows their steps beside what it knew.
+pub(crate) fn gather_seats<J: Room>(
+    alloc: Global,
+    word: &TicketWord,
+    master: &mut Token,
+    seats: Vec<Seat<J>>,
+) -> Result<Vec<Vec<Running>>, AllocError>
+    requires word { word.now.table.shared.table_id ≡ J.table }
+    requires master { (master.old.table_id ≡ J.table) × (master.old.me.1 ≡ []) }
+    ensures master { IsAsBefore J.table master.old master.new }
+    ensures held { OnOk result ((hs : List Held) × (master.new.me.0.held ≡ master.old.me.0.held ++ hs) × AreOf hs seats.items) }
+    ensures sat { OnOk result (AllByRecursion (IsSitting J.group J.callers) seats.items) }
+    ensures running { IfOk result (λ lists. map (λ l. l.items) lists.items ≡ map (λ s. map (running_in s.log) s.tasks) seats.items) }
+{
+    let mut lists = Vec::with_capacity(alloc, seats.len())?;
+    for seat in seats {
+        let Seat {
+            caller: _,
+            running,
+            token,
+            of: _,
+        } = seat;
+        word.take_in(master, token);
+        lists.push(running)?;
+    }
+    Ok(lists)
+}
+
+/// The answers to each of so many requests, which were dealt to callers in turn.
+pub(crate) fn collect(
+    alloc: Global,
+    lists: Vec<Vec<Running>>,
+    requests: usize,
+) -> Result<Vec<Answers>, AllocError>
+    requires { 0 < vec_len lists }
+    ensures { IfOk result (λ answers. (f : Task → Running) (group : List Task) → length group ≡ requests
+        → map (λ l. l.items) lists.items ≡ map (λ caller. map f (dealt (vec_len lists) caller group)) (range_with_len 0 (vec_len lists))
+        → answers.items ≡ map (λ task. (f task).answers) group) }
+{
+    let mut lists = lists;
+    let callers = lists.len();
+    let mut answers = Vec::with_capacity(alloc, requests)?;
+    for taken in 0..requests {
+        // The last of those that are left.
+        let position = requests - 1 - taken;
+        let Some(running) = lists[position % callers].pop() else {
+            return Err(AllocError);
+        };
+        answers.push(running.into_answers())?;
+    }
+    answers.reverse();
+    Ok(answers)
+}
