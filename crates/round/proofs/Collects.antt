@@ -5,7 +5,8 @@ use Rattle.std.specs.List.{range_with_len}
 use Rattle.std.proofs.lemmas.List.{map-append, length-take-le, take_all, reverse-append, reverse-reverse}
 use Rattle.item_steps.specs.declared.step.Answer.{Answer}
 use Rattle.item_steps.specs.declared.group.Task.{Task}
-use Rattle.round.specs.Sittings.{Running, dealt}
+use Rattle.round.specs.declared.rule.Entry.{Entry}
+use Rattle.round.specs.Sittings.{Running, running_in, dealt}
 use Rattle.round.proofs.Lists.{same_element, map_at}
 use Rattle.round.proofs.Follows.{set_by, take_next}
 use Rattle.round.proofs.Dealt.{dealt_push, range_at}
@@ -89,18 +90,18 @@ module _ (f : Task → Running) (callers : ℕ) (group : List Task) (n : ℕ) (s
         length-range from zero = refl
         length-range from (suc k) = ap suc (length-range (from + 1) k)
 
-    pub collected : (answers : List (List Answer)) → n % callers < callers → reverse answers ≡ map (λ t. (f t).answers) (drop (n + 1) group) → reverse (answers ++ r.answers ∷ []) ≡ map (λ t. (f t).answers) (drop n group)
-    collected answers low so_far =
-        reverse-append answers (r.answers ∷ []) ∙ (λ k. (taken_is low k).answers ∷ so_far k)
-        ∙ sym (ap (λ (l : List Task). map (λ t. (f t).answers) l) (drop_at group n last.0 last.1))
+    pub collected : (ran : List Running) → n % callers < callers → reverse ran ≡ map f (drop (n + 1) group) → reverse (ran ++ r ∷ []) ≡ map f (drop n group)
+    collected ran low so_far =
+        reverse-append ran (r ∷ []) ∙ (λ k. taken_is low k ∷ so_far k)
+        ∙ sym (ap (λ (l : List Task). map f l) (drop_at group n last.0 last.1))
 
 -- how far the lists were taken back, and what was taken
-pub record Taken (lists before : List (List Running)) (callers n requests : ℕ) (answers : List (List Answer)) : Type 0 where
+pub record Taken (lists before : List (List Running)) (callers n requests : ℕ) (ran : List Running) : Type 0 where
   pub all : (f : Task → Running) (group : List Task) → length group ≡ requests → before ≡ lists_by f callers group
-      → (lists ≡ lists_by f callers (take n group)) × (reverse answers ≡ map (λ t. (f t).answers) (drop n group))
+      → (lists ≡ lists_by f callers (take n group)) × (reverse ran ≡ map f (drop n group))
 
 pub none_taken : (lists : List (List Running)) (callers n : ℕ) → Taken lists lists callers n n []
-none_taken lists callers n = record { all = λ f group len are. (are ∙ ap (lists_by f callers) (sym (take_all n group (omega arith))), sym (ap (λ (l : List Task). map (λ t. (f t).answers) l) (drop_all n group (omega arith)))) }
+none_taken lists callers n = record { all = λ f group len are. (are ∙ ap (lists_by f callers) (sym (take_all n group (omega arith))), sym (ap (λ (l : List Task). map f l) (drop_all n group (omega arith)))) }
   where
     drop_all : (n : ℕ) (l : List Task) → length l ≤ n → drop n l ≡ []
     drop_all zero [] le = refl
@@ -108,18 +109,27 @@ none_taken lists callers n = record { all = λ f group len are. (are ∙ ap (lis
     drop_all (suc n) [] le = refl
     drop_all (suc n) (x ∷ xs) le = drop_all n xs (omega arith)
 
-pub one_taken : (lists before : List (List Running)) (callers n requests : ℕ) (answers : List (List Answer)) (rest : List Running) (r : Running) → 0 < callers → n < requests
+pub one_taken : (lists before : List (List Running)) (callers n requests : ℕ) (ran : List Running) (rest : List Running) (r : Running) → 0 < callers → n < requests
     → n % callers < callers → slice_get lists (n % callers) ≡ Some (rest ++ r ∷ [])
-    → Taken lists before callers (n + 1) requests answers → Taken (set lists (n % callers) rest) before callers n requests (answers ++ r.answers ∷ [])
-one_taken lists before callers n requests answers rest r some small low there t = record {
+    → Taken lists before callers (n + 1) requests ran → Taken (set lists (n % callers) rest) before callers n requests (ran ++ r ∷ [])
+one_taken lists before callers n requests ran rest r some small low there t = record {
   all = λ f group len are.
       let was = t.all f group len are in
       let within : n < length group = omega arith in (
         taken_back f callers group n within lists rest r was.0 there,
-        collected f callers group n within lists rest r was.0 there answers low was.1,
+        collected f callers group n within lists rest r was.0 there ran low was.1,
       );
 }
 
-pub all_taken : (lists before : List (List Running)) (callers requests : ℕ) (answers : List (List Answer)) → Taken lists before callers 0 requests answers
-    → (f : Task → Running) (group : List Task) → length group ≡ requests → before ≡ lists_by f callers group → reverse answers ≡ map (λ t. (f t).answers) group
-all_taken lists before callers requests answers t f group len are = (t.all f group len are).1
+pub all_taken : (lists before : List (List Running)) (callers requests : ℕ) (ran : List Running) → Taken lists before callers 0 requests ran
+    → (f : Task → Running) (group : List Task) → length group ≡ requests → before ≡ lists_by f callers group → reverse ran ≡ map f group
+all_taken lists before callers requests ran t f group len are = (t.all f group len are).1
+
+pub answers_of : (f : Task → Running) (group : List Task) → map (λ (r : Running). r.answers) (map f group) ≡ map (λ task. (f task).answers) group
+answers_of f [] = refl
+answers_of f (t ∷ ts) = ap (λ l. (f t).answers ∷ l) (answers_of f ts)
+
+-- the requests themselves come back
+pub tasks_of : (order : List Entry) (group : List Task) → map (λ (r : Running). r.task) (map (running_in order) group) ≡ group
+tasks_of order [] = refl
+tasks_of order (t ∷ ts) = ap (λ l. t ∷ l) (tasks_of order ts)

@@ -11,7 +11,7 @@ ghost use Rattle.round.specs.Orders.{AreHistories, AreOf, IsAsBefore};
 use crate::locked::Locked;
 use crate::room::Room;
 use crate::rule::Token;
-use crate::running::{Answers, Running};
+use crate::running::{Ran, Running};
 use crate::seat::Seat;
 use crate::word::TicketWord;
 use pages::{PAGES, Page};
@@ -84,28 +84,28 @@ pub(crate) fn gather_seats<J: Room>(
     Ok(lists)
 }
 
-/// The answers to each of so many requests, which were dealt to callers in turn.
+/// So many requests, which were dealt to callers in turn, in the order of the group.
 pub(crate) fn collect(
     alloc: Global,
     lists: Vec<Vec<Running>>,
     requests: usize,
-) -> Result<Vec<Answers>, AllocError>
+) -> Result<Vec<Ran>, AllocError>
     requires { 0 < vec_len lists }
-    ensures { IfOk result (λ answers. (f : Task → Running) (group : List Task) → length group ≡ requests
+    ensures { IfOk result (λ ran. (f : Task → Running) (group : List Task) → length group ≡ requests
         → map (λ l. l.items) lists.items ≡ map (λ caller. map f (dealt (vec_len lists) caller group)) (range_with_len 0 (vec_len lists))
-        → answers.items ≡ map (λ task. (f task).answers) group) }
+        → ran.items ≡ map f group) }
 {
     let mut lists = lists;
     let callers = lists.len();
-    let mut answers = Vec::with_capacity(alloc, requests)?;
+    let mut ran = Vec::with_capacity(alloc, requests)?;
     for taken in 0..requests {
         // The last of those that are left.
         let position = requests - 1 - taken;
         let Some(running) = lists[position % callers].pop() else {
             return Err(AllocError);
         };
-        answers.push(running.into_answers())?;
+        ran.push(running.into_ran())?;
     }
-    answers.reverse();
-    Ok(answers)
+    ran.reverse();
+    Ok(ran)
 }

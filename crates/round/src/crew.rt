@@ -8,7 +8,7 @@ ghost use Rattle.round.specs.Sittings.{fits};
 use crate::room::Room;
 use crate::round::Round;
 use crate::rule::Token;
-use crate::running::Answers;
+use crate::running::Ran;
 use crate::seat::Seat;
 use crate::word::TicketWord;
 use item_steps::{Place, Task};
@@ -33,14 +33,15 @@ fn within<J: Room + Send + Sync, C: Crew>(
     base: Place,
     callers: usize,
     crew: &C,
-) -> Result<(Pages, Vec<Answers>), Fault>
+) -> Result<(Pages, Vec<Ran>), Fault>
     requires word { word.table.shared.table_id ≡ J.table }
     requires token { (master.table_id ≡ J.table) × (master.me ≡ (maker 0, [])) }
     requires pages { pages ≡ J.opening }
     requires group { group.items ≡ J.group }
     requires base { base ≡ J.base }
     requires callers { callers ≡ J.callers }
-    ensures runs { IfOk result (λ r. GroupRuns base pages group.items r.0 r.1.items) }
+    ensures runs { IfOk result (λ r. GroupRuns base pages group.items r.0 (map (λ ran. ran.answers) r.1.items)) }
+    ensures tasks { IfOk result (λ r. map (λ ran. ran.task) r.1.items ≡ group.items) }
     ensures unfit { IfErr result (λ fault. fault ≡ Fault.Unfit → fits base group.items callers ≡ false) }
     ensures fit { OnOk result (fits base group.items callers ≡ true) }
     ensures only { IfErr result (λ fault. (fault ≡ Fault.Unfit) ⊎ ((fault ≡ Fault.NotOpen) ⊎ (fault ≡ Fault.NoMemory))) }
@@ -51,8 +52,8 @@ fn within<J: Room + Send + Sync, C: Crew>(
 }
 
 /// Runs the steps of the group on the pages, by a crew of so many callers: seat `c` has the requests
-/// whose position in the group is `c` modulo the number of callers. The answers are those to each
-/// request of the group, in the group's order.
+/// whose position in the group is `c` modulo the number of callers. The requests come back
+/// with their answers, in the group's order.
 ///
 /// `Unfit` only where `Round::open` refuses the group or the number of callers, and no Ok then.
 /// `NotOpen` where the crew left a step. The only other error is want of memory.
@@ -63,8 +64,9 @@ pub fn run<C: Crew>(
     base: Place,
     callers: usize,
     crew: &C,
-) -> Result<(Pages, Vec<Answers>), Fault>
-    ensures runs { IfOk result (λ r. GroupRuns base pages group.items r.0 r.1.items) }
+) -> Result<(Pages, Vec<Ran>), Fault>
+    ensures runs { IfOk result (λ r. GroupRuns base pages group.items r.0 (map (λ ran. ran.answers) r.1.items)) }
+    ensures tasks { IfOk result (λ r. map (λ ran. ran.task) r.1.items ≡ group.items) }
     ensures unfit { IfErr result (λ fault. fault ≡ Fault.Unfit → fits base group.items callers ≡ false) }
     ensures fit { OnOk result (fits base group.items callers ≡ true) }
     ensures only { IfErr result (λ fault. (fault ≡ Fault.Unfit) ⊎ ((fault ≡ Fault.NotOpen) ⊎ (fault ≡ Fault.NoMemory))) }

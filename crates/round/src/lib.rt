@@ -25,7 +25,7 @@ pub use gate::{Gate, NoGate};
 pub use room::Room;
 pub use round::Round;
 pub use rule::Token;
-pub use running::Answers;
+pub use running::Ran;
 pub use seat::Seat;
 pub use word::TicketWord;
 

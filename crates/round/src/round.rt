@@ -14,7 +14,7 @@ use crate::locked::Locked;
 use crate::open::{deal, fits, lock_pages, seat_callers};
 use crate::room::Room;
 use crate::rule::Token;
-use crate::running::Answers;
+use crate::running::Ran;
 use crate::seat::Seat;
 use crate::word::TicketWord;
 use item_steps::{Place, Task};
@@ -149,14 +149,15 @@ impl<J: Room> Round<J> {
         Ok(())
     }
 
-    /// Ends the round: the pages, and the answers to each request of the group, in the group's order.
+    /// Ends the round: the pages, and the requests with their answers, in the group's order.
     /// The seats are those that `open` gave, in their order.
     ///
     /// `NotOpen` where a step is left. The only other error is want of memory.
-    pub fn close(self, alloc: Global, seats: Vec<Seat<J>>) -> Result<(Pages, Vec<Answers>), Fault>
+    pub fn close(self, alloc: Global, seats: Vec<Seat<J>>) -> Result<(Pages, Vec<Ran>), Fault>
         requires { map (λ s. s.caller) seats.items ≡ range_with_len 0 J.callers }
-        ensures ended { IfOk result (λ r. Ended J.base J.opening J.group seats.items r.0 r.1.items) }
-        ensures runs { IfOk result (λ r. GroupRuns J.base J.opening J.group r.0 r.1.items) }
+        ensures ended { IfOk result (λ r. Ended J.base J.opening J.group seats.items r.0 (map (λ ran. ran.answers) r.1.items)) }
+        ensures runs { IfOk result (λ r. GroupRuns J.base J.opening J.group r.0 (map (λ ran. ran.answers) r.1.items)) }
+        ensures tasks { IfOk result (λ r. map (λ ran. ran.task) r.1.items ≡ J.group) }
         ensures not_open { IsErrOf result Fault.NotOpen ↔ (list_all has_ended seats.items ≡ false) }
         ensures only { IfErr result (λ fault. (fault ≡ Fault.NotOpen) ⊎ (fault ≡ Fault.NoMemory)) }
     {
@@ -177,7 +178,7 @@ impl<J: Room> Round<J> {
         let pages = gather_pages(alloc, &word, &mut master, pages)?;
         let running = gather_seats(alloc, &word, &mut master, seats)?;
         word.learn(&mut master);
-        let answers = collect(alloc, running, requests)?;
-        Ok((Pages::join(pages), answers))
+        let ran = collect(alloc, running, requests)?;
+        Ok((Pages::join(pages), ran))
     }
 }

@@ -15,32 +15,35 @@ use proto::Key;
 use std::alloc::{AllocError, Global};
 use std::marker::Model;
 
-/// The answers to one request's steps, in order.
+/// A request that ran, and the answers to its steps.
 #[derive(Debug, Drop)]
-pub struct Answers {
+pub struct Ran {
+    task: Task,
     answers: Vec<Answer>,
 }
 
-impl Model for Answers {
-    ghost use Rattle.std.specs.Prelude.{List};
-    ghost use Rattle.item_steps.specs.declared.step.Answer.{Answer};
+impl Model for Ran {
+    ghost use Rattle.round.specs.Sittings.{Running};
 
-    ghost Value = { List Answer };
+    ghost Value = { Running };
 
-    ghost view = { λ a. a.answers.items };
+    ghost view = { λ r. record { task = r.task; answers = r.answers.items } };
 }
 
-impl Answers {
-    pub fn as_slice(&self) -> &[Answer]
-        ensures { result.now ≡ self.now }
+impl Ran {
+    /// The answers to its steps, in order.
+    pub fn answers(&self) -> &[Answer]
+        ensures { result.now ≡ self.now.answers }
     {
         self.answers.as_slice()
     }
 
-    pub fn into_vec(self) -> Vec<Answer>
-        ensures { result.items ≡ self }
+    /// The request, and the answers to its steps, in order.
+    pub fn into_parts(self) -> (Task, Vec<Answer>)
+        ensures task { result.0 ≡ self.task }
+        ensures answers { result.1.items ≡ self.answers }
     {
-        self.answers
+        (self.task, self.answers)
     }
 }
 
@@ -143,11 +146,11 @@ impl Running {
         (&self.task.steps.as_slice()[last], &self.answers[last])
     }
 
-    /// The answers to its steps.
-    pub(crate) fn into_answers(self) -> Answers
-        ensures { result ≡ self.answers }
+    /// The request once it ran.
+    pub(crate) fn into_ran(self) -> Ran
+        ensures { result ≡ self }
     {
-        let Running { task: _, answers } = self;
-        Answers { answers }
+        let Running { task, answers } = self;
+        Ran { task, answers }
     }
 }

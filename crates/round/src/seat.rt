@@ -108,6 +108,15 @@ impl<J: Room> Seat<J> {
         }
     }
 
+    /// The place of the first request of the seat that has a step left, if there is one.
+    pub fn next_place(&self) -> Option<u32>
+    {
+        match self.running.iter().position(|r| !r.is_done()) {
+            Some(index) => Some(self.running[index].place()),
+            None => None,
+        }
+    }
+
     /// Whether no step of the seat is left.
     pub fn has_ended(&self) -> bool
         ensures { result ≡ has_ended self.now }

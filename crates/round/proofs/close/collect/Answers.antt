@@ -12,7 +12,7 @@ pub loop-taken-init : goal.loop-taken-init
 loop-taken-init c =
     let none = none_taken (map (λ v. v.items) c.args.lists.items) c.len-callers.result c.args.requests in
     let all : c.args.requests ≡ c.args.requests - 0 = omega arith in
-    (search rules, search rules, subst (λ (x : ℕ × List (List Answer)). Taken (map (λ v. v.items) c.args.lists.items) (map (λ v. v.items) c.args.lists.items) c.len-callers.result x.0 c.args.requests x.1) (λ k. (all k, sym c.in_ok-answers.ensures.items k)) none)
+    (search rules, search rules, subst (λ (x : ℕ × List Running). Taken (map (λ v. v.items) c.args.lists.items) (map (λ v. v.items) c.args.lists.items) c.len-callers.result x.0 c.args.requests x.1) (λ k. (all k, sym c.in_ok-ran.ensures.items k)) none)
 
 pub loop-taken-preserved : goal.loop-taken-preserved
 loop-taken-preserved c =
@@ -31,11 +31,11 @@ loop-taken-preserved c =
     let there = slice_get-get_or c.loop-taken.lists.items (n % callers) v within ∙ ap (λ x. Some x) (sym c.index_mut.ensures.value) in
     let list = map_at (λ v. v.items) c.loop-taken.lists.items (n % callers) v there ∙ ap (λ l. Some l) c.in-Some.ensures.items in
     let before = map (λ v. v.items) c.args.lists.items in
-    let was = subst (λ k. Taken (map (λ v. v.items) c.loop-taken.lists.items) before callers k c.args.requests c.loop-taken.answers.items) next i.2 in
-    let one = one_taken (map (λ v. v.items) c.loop-taken.lists.items) before callers n c.args.requests c.loop-taken.answers.items c.pop.new.self.items c.in-Some.running any small low list was in
+    let was = subst (λ k. Taken (map (λ v. v.items) c.loop-taken.lists.items) before callers k c.args.requests c.loop-taken.ran.items) next i.2 in
+    let one = one_taken (map (λ v. v.items) c.loop-taken.lists.items) before callers n c.args.requests c.loop-taken.ran.items c.pop.new.self.items c.in-Some.running any small low list was in
     let lists = sym (map-set (λ v. v.items) c.loop-taken.lists.items (n % callers) c.pop.new.self) in
-    let answers = ap (λ a. c.loop-taken.answers.items ++ a ∷ []) (sym c.into_answers.ensures) ∙ sym c.in_ok-push.ensures.items in
-    (i.0, i.1, subst (λ (x : (List (List Running)) × ℕ × List (List Answer)). Taken x.0 before callers x.1 c.args.requests x.2) (λ k. (lists k, now k, answers k)) one)
+    let ran = ap (λ a. c.loop-taken.ran.items ++ a ∷ []) (sym c.into_ran.ensures) ∙ sym c.in_ok-push.ensures.items in
+    (i.0, i.1, subst (λ (x : (List (List Running)) × ℕ × List Running). Taken x.0 before callers x.1 c.args.requests x.2) (λ k. (lists k, now k, ran k)) one)
 
 pub returns : goal.returns
 returns c = λ f group len are.
@@ -43,5 +43,5 @@ returns c = λ f group len are.
     let done = c.loop-taken-test.false in
     let none : c.args.requests - c.loop-taken.taken ≡ 0 = omega arith in
     let before = map (λ v. v.items) c.args.lists.items in
-    let all = subst (λ k. Taken (map (λ v. v.items) c.loop-taken.lists.items) before c.len-callers.result k c.args.requests c.loop-taken.answers.items) none i.2 in
-    c.reverse.ensures.items ∙ all_taken (map (λ v. v.items) c.loop-taken.lists.items) before c.len-callers.result c.args.requests c.loop-taken.answers.items all f group len (are ∙ ap (λ n. lists_by f n group) i.1)
+    let all = subst (λ k. Taken (map (λ v. v.items) c.loop-taken.lists.items) before c.len-callers.result k c.args.requests c.loop-taken.ran.items) none i.2 in
+    c.reverse.ensures.items ∙ all_taken (map (λ v. v.items) c.loop-taken.lists.items) before c.len-callers.result c.args.requests c.loop-taken.ran.items all f group len (are ∙ ap (λ n. lists_by f n group) i.1)

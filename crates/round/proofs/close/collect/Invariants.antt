@@ -6,4 +6,4 @@ use Rattle.round.proofs.close.collect.Given as goal
 abbrev pub invariant-loop-taken : goal.invariant-loop-taken
 invariant-loop-taken l =
     (vec_len l.lists ≡ l.callers) × (vec_len l.fn.lists ≡ l.callers)
-    × Taken (map (λ v. v.items) l.lists.items) (map (λ v. v.items) l.fn.lists.items) l.callers (l.requests - l.taken) l.requests l.answers.items
+    × Taken (map (λ v. v.items) l.lists.items) (map (λ v. v.items) l.fn.lists.items) l.callers (l.requests - l.taken) l.requests l.ran.items
