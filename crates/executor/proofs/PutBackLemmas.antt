@@ -7,7 +7,8 @@ use Rattle.std.proofs.lemmas.Option.{slice_get_within}
 use Rattle.item_steps.specs.declared.step.Answer.{Answer}
 use Rattle.item_steps.specs.declared.group.Task.{Task}
 use Rattle.executor.specs.Running.{Running}
-use Rattle.executor.specs.GroupRun.{task_of, tasks_in, emptied, answered_by, RanState, ran_of}
+use Rattle.round.specs.Sittings.{Running as Ran}
+use Rattle.executor.specs.GroupRun.{task_of, tasks_in, emptied, answered_by, ran_of}
 
 one : {X : Type 0} (a b : X) → ◌≡◌ {A = Option X} (Some a) (Some b) → a ≡ b
 one a b e = cc e
@@ -180,11 +181,11 @@ taken_all group before now tasks t = (t.running ∙ mixed_all (emptied group) as
 -- ---- the steps are put back
 
 -- the steps of the requests of the group that come after the first so many were put back
-pub record PutSoFar (group : ℕ) (before : List Running) (answers_to : Task → List Answer) (k : ℕ) (now : List Running) (left : List RanState) : Type 0 where
+pub record PutSoFar (group : ℕ) (before : List Running) (answers_to : Task → List Answer) (k : ℕ) (now : List Running) (left : List Ran) : Type 0 where
   pub running : now ≡ mixed (emptied group) (answered_by group answers_to) k before
   pub ran : left ≡ map (ran_of answers_to) (tasks_before group k before)
 
-pub put_none : (group : ℕ) (before : List Running) (answers_to : Task → List Answer) (now : List Running) (ran : List RanState) → now ≡ map (emptied group) before → ran ≡ map (ran_of answers_to) (tasks_in group before)
+pub put_none : (group : ℕ) (before : List Running) (answers_to : Task → List Answer) (now : List Running) (ran : List Ran) → now ≡ map (emptied group) before → ran ≡ map (ran_of answers_to) (tasks_in group before)
     → PutSoFar group before answers_to (length now) now ran
 put_none group before answers_to now ran e f =
     let count : length before ≡ length now = sym (ap length e ∙ length-map before (emptied group)) in
@@ -196,7 +197,7 @@ put_none group before answers_to now ran e f =
     all (x ∷ xs) = ap (λ ys. x ∷ ys) (all xs)
 
 -- the last request whose steps were not put back
-pub put_at : (group : ℕ) (before : List Running) (answers_to : Task → List Answer) (k : ℕ) (now : List Running) (ran : List RanState) → PutSoFar group before answers_to (suc k) now ran → k < length now
+pub put_at : (group : ℕ) (before : List Running) (answers_to : Task → List Answer) (k : ℕ) (now : List Running) (ran : List Ran) → PutSoFar group before answers_to (suc k) now ran → k < length now
     → (x : Running) × (slice_get before k ≡ Some x) × (slice_get now k ≡ Some (emptied group x))
 put_at group before answers_to k now ran p l =
     let inside : k < length before = omega (arith, l, ap length p.running, mixed_length (emptied group) (answered_by group answers_to) (suc k) before) in
@@ -208,7 +209,7 @@ put_at group before answers_to k now ran p l =
     there (y ∷ xs) zero m = (y, refl)
     there (y ∷ xs) (suc i) m = there xs i (omega (arith, m))
 
-pub last_is : (xs ys : List RanState) (x y : RanState) → xs ++ x ∷ [] ≡ ys ++ y ∷ [] → (xs ≡ ys) × (x ≡ y)
+pub last_is : (xs ys : List Ran) (x y : Ran) → xs ++ x ∷ [] ≡ ys ++ y ∷ [] → (xs ≡ ys) × (x ≡ y)
 last_is [] [] x y e = (refl, (let h : x ≡ y = cc e in h))
 last_is [] (z ∷ []) x y e = absurd (cc e)
 last_is [] (z ∷ w ∷ ys) x y e = absurd (cc e)
@@ -221,7 +222,7 @@ last_is (z ∷ xs) (w ∷ ys) x y e =
     ((λ i. head i ∷ rest.0 i), rest.1)
 
 -- a request of another group has its steps
-pub put_other : (group : ℕ) (before : List Running) (answers_to : Task → List Answer) (k : ℕ) (now : List Running) (ran : List RanState) (found : Running) → PutSoFar group before answers_to (suc k) now ran
+pub put_other : (group : ℕ) (before : List Running) (answers_to : Task → List Answer) (k : ℕ) (now : List Running) (ran : List Ran) (found : Running) → PutSoFar group before answers_to (suc k) now ran
     → slice_get now k ≡ Some found → (found.group ≡ group → ⊥) → PutSoFar group before answers_to k now ran
 put_other group before answers_to k now ran found p e d =
     let x = put_at group before answers_to k now ran p (slice_get_within now k found e) in
@@ -234,7 +235,7 @@ put_other group before answers_to k now ran found p e d =
     }
 
 -- a request of the group gets its steps and answers, which come last
-pub put_own : (group : ℕ) (before : List Running) (answers_to : Task → List Answer) (k : ℕ) (now : List Running) (ran rest : List RanState) (last : RanState) (found : Running) → PutSoFar group before answers_to (suc k) now ran
+pub put_own : (group : ℕ) (before : List Running) (answers_to : Task → List Answer) (k : ℕ) (now : List Running) (ran rest : List Ran) (last : Ran) (found : Running) → PutSoFar group before answers_to (suc k) now ran
     → slice_get now k ≡ Some found → found.group ≡ group → ran ≡ rest ++ last ∷ []
     → PutSoFar group before answers_to k (set now k (record found { steps = last.task.steps; answers = last.answers })) rest
 put_own group before answers_to k now ran rest last found p e g tail =
@@ -254,11 +255,11 @@ put_own group before answers_to k now ran rest last found p e g tail =
     test : (m n : ℕ) → m ≡ n → (m == n) ≡ true
     test m n q = grind (arith, nat_tests)
 
-pub put_all : (group : ℕ) (before : List Running) (answers_to : Task → List Answer) (now : List Running) (ran : List RanState) → PutSoFar group before answers_to 0 now ran → now ≡ map (answered_by group answers_to) before
+pub put_all : (group : ℕ) (before : List Running) (answers_to : Task → List Answer) (now : List Running) (ran : List Ran) → PutSoFar group before answers_to 0 now ran → now ≡ map (answered_by group answers_to) before
 put_all group before answers_to now ran p = p.running ∙ mixed_none (emptied group) (answered_by group answers_to) before
 
 -- where a request of the group is left, so is what it ran to
-pub put_some : (group : ℕ) (before : List Running) (answers_to : Task → List Answer) (k : ℕ) (now : List Running) (ran : List RanState) (found : Running) → PutSoFar group before answers_to (suc k) now ran
+pub put_some : (group : ℕ) (before : List Running) (answers_to : Task → List Answer) (k : ℕ) (now : List Running) (ran : List Ran) (found : Running) → PutSoFar group before answers_to (suc k) now ran
     → slice_get now k ≡ Some found → found.group ≡ group → ran ≢ []
 put_some group before answers_to k now ran found p e g none =
     let x = put_at group before answers_to k now ran p (slice_get_within now k found e) in
@@ -285,6 +286,6 @@ same_read [] k d e l = absurd (omega (arith, l))
 same_read (x ∷ xs) zero d e l = refl
 same_read (x ∷ xs) (suc k) d e l = same_read xs k d e (omega (arith, l))
 
-pub no_items : (xs : List RanState) → length xs ≡ 0 → xs ≡ []
+pub no_items : (xs : List Ran) → length xs ≡ 0 → xs ≡ []
 no_items [] e = refl
 no_items (x ∷ xs) e = absurd (omega (arith, e))

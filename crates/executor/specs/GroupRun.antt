@@ -6,6 +6,7 @@ use Rattle.executor.specs.declared.work.Ended.{Ended}
 use Rattle.executor.specs.declared.work.Ended.TheVariants.{On, Done}
 use Rattle.executor.specs.Running.{Running}
 use Rattle.executor.specs.Work.{Progress}
+use Rattle.round.specs.Sittings.{Running as Ran}
 
 -- the request as a round takes it
 abbrev pub task_of : Running → Task
@@ -23,12 +24,8 @@ emptied group r = if r.group == group then record r { steps = [] } else r
 abbrev pub answered_by : ℕ → (Task → List Answer) → Running → Running
 answered_by group answers_to r = if r.group == group then record r { answers = answers_to (task_of r) } else r
 
--- A request that ran in a round, and the answers to its steps.
-pub record RanState : Type 0 where
-  pub task : Task
-  pub answers : List Answer
-
-abbrev pub ran_of : (Task → List Answer) → Task → RanState
+-- a request that ran in a round, with its answers
+abbrev pub ran_of : (Task → List Answer) → Task → Ran
 ran_of answers_to task = record { task = task; answers = answers_to task }
 
 -- no step of the group that runs was made

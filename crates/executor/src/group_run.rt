@@ -6,9 +6,9 @@ ghost use Rattle.item_steps.specs.declared.group.Task as task_type;
 ghost use Rattle.executor.specs.Running.{Running as running_type};
 ghost use Rattle.executor.specs.GroupRun.{tasks_in, emptied, answered_by, ran_of};
 
-use crate::ran::Ran;
 use crate::running::Running;
 use item_steps::Task;
+use round::Ran;
 use std::alloc::{AllocError, Global};
 
 /// The requests of the group as a round takes them: their steps are taken out.

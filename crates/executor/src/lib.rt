@@ -10,6 +10,8 @@ mod answered;
 mod base;
 mod begin;
 mod changes;
+mod crew;
+mod on_threads;
 mod group_run;
 mod groups;
 mod head;
@@ -17,7 +19,6 @@ mod kept;
 mod kept_replies;
 mod member_record;
 mod page_texts;
-mod ran;
 mod record_laws;
 mod running;
 mod state;
@@ -26,14 +27,17 @@ mod tentative;
 mod through;
 mod witness;
 mod work;
+mod workers;
 
 pub use answered::Answered;
 pub use base::Base;
+pub use on_threads::execute;
 pub use record_laws::{members_are_told_apart, states_are_told_apart};
 pub use state::{Parts, State};
 pub use tentative::{Committed, Tentative};
 pub use through::run_through;
 pub use work::{Ended, Work};
+pub use workers::Workers;
 
 #[cfg(test)]
 mod tests;

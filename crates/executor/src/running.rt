@@ -7,10 +7,10 @@ ghost use Rattle.executor.specs.Fresh.{runs};
 ghost use Rattle.executor.specs.Work.{is_done, is_ready, StepDone};
 ghost use Rattle.executor.specs.GroupRun.{task_of};
 
-use crate::ran::Ran;
 use item_steps::{Answer, Place, Steps, Task, apply};
 use mixer::group_numbers;
 use pages::Pages;
+use round::Ran;
 use sessions::{Request, Sessions};
 use std::alloc::{AllocError, Global};
 use std::marker::Model;

@@ -11,16 +11,22 @@ ghost use Rattle.executor.specs.Through.{IsReadyAt, IsNotLeft, StepMadeAt, Reque
 
 use crate::base::Base;
 use crate::begin::begin_all;
+use crate::crew::run_group;
+use crate::group_run::{put_back, take_tasks};
 use crate::groups::{is_group_done, next_group};
 use crate::kept::{answer_all, are_few};
 use crate::running::Running;
 use crate::tentative::Tentative;
+use crate::workers::Workers;
 use batches::Batch;
 use item_steps::Place;
 use items::Store;
 use pages::Pages;
+use round::Gate;
 use std::alloc::{AllocError, Global};
 use std::marker::Model;
+use std::sync::Wait;
+use std::thread::Threads;
 
 /// A batch that is being executed over its base: its requests run group by group, and the steps of
 /// one group in any order that the caller asks for. It may be dropped.
@@ -288,6 +294,63 @@ impl Work {
         loop {
             work.run_group(alloc)?;
             match work.finish(alloc)? {
+                Ended::On(next) => work = next,
+                Ended::Done(tentative) => return Ok(tentative),
+            }
+        }
+    }
+
+    /// Makes each step that is left of the group that runs, by a round of several workers.
+    fn run_round<R: Threads + Wait + Sync, G: Gate + Sync>(
+        self,
+        rt: &R,
+        alloc: Global,
+        workers: Workers,
+        gate: &G,
+    ) -> Result<Work, AllocError>
+        requires afresh { IsUntouched self.progress }
+        ensures done { IfOk result (λ work. IsTrue (group_done work.progress)) }
+        ensures left { IfOk result (λ work. later work.progress ≡ later self.progress) }
+        ensures others { IfOk result (λ work. work ≡ record self { progress = work.progress }) }
+    {
+        let Work {
+            base,
+            batch,
+            ordered,
+            pages,
+            mut running,
+            group,
+        } = self;
+        let first = place_of(&base, &batch, 0);
+        let tasks = take_tasks(alloc, running.as_mut_slice(), group)?;
+        let (pages, ran) = run_group(rt, alloc, pages, tasks, first, workers, gate)?;
+        put_back(running.as_mut_slice(), group, ran);
+        Ok(Work {
+            base,
+            batch,
+            ordered,
+            pages,
+            running,
+            group,
+        })
+    }
+
+    /// Makes all steps that are left, each group by a round of several workers, and ends.
+    pub(crate) fn run_on_threads<R: Threads + Wait + Sync, G: Gate + Sync>(
+        self,
+        rt: &R,
+        alloc: Global,
+        workers: Workers,
+        gate: &G,
+    ) -> Result<Tentative, AllocError>
+        requires afresh { IsUntouched self.progress }
+        ensures made { IfOk result (λ tentative. IsMade self.base self.batch self.ordered tentative) }
+        ensures round { IfOk result (λ tentative. Round self.base self.batch self.ordered tentative.after tentative.replies) }
+    {
+        let mut work = self;
+        loop {
+            let ran = work.run_round(rt, alloc, workers, gate)?;
+            match ran.finish(alloc)? {
                 Ended::On(next) => work = next,
                 Ended::Done(tentative) => return Ok(tentative),
             }

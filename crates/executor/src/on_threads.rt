@@ -1,0 +1,42 @@
+ghost use Rattle.std.specs.Prelude.{◌≡◌, ◌+◌, IfOk};
+ghost use Rattle.wire.specs.Batch.{BatchFits};
+ghost use Rattle.executor.specs.Round.{Round};
+ghost use Rattle.executor.specs.Through.{IsMade};
+
+use crate::base::Base;
+use crate::tentative::Tentative;
+use crate::work::{Ended, Work};
+use crate::workers::Workers;
+use batches::Batch;
+use round::Gate;
+use std::alloc::{AllocError, Global};
+use std::sync::Wait;
+use std::thread::Threads;
+
+/// Runs a batch to its end on several threads, group by group: the requests of a group are dealt to
+/// the workers in turn, and run at once. What it makes can be committed or undone.
+///
+/// A group of one request starts no thread, and no group starts more than it has requests. The gate
+/// is told of each step.
+///
+/// The batch has the number after the base's, and is within the limits of a record. The only error
+/// is want of memory.
+pub fn execute<R: Threads + Wait + Sync, G: Gate + Sync>(
+    rt: &R,
+    alloc: Global,
+    base: &Base,
+    batch: Batch,
+    ordered: bool,
+    workers: Workers,
+    gate: &G,
+) -> Result<Tentative, AllocError>
+    requires fits { BatchFits batch }
+    requires next { batch.n ≡ base.now.state.number + 1 }
+    ensures made { IfOk result (λ tentative. IsMade base.now.state batch ordered tentative) }
+    ensures round { IfOk result (λ tentative. Round base.now.state batch ordered tentative.after tentative.replies) }
+{
+    match Work::begin(alloc, base, batch, ordered)? {
+        Ended::On(work) => work.run_on_threads(rt, alloc, workers, gate),
+        Ended::Done(tentative) => Ok(tentative),
+    }
+}

@@ -1,0 +1,45 @@
+ghost use Rattle.std.specs.Prelude.{◌≡◌, ◌≤◌, ◌&&◌, Some, None, nat_le, if◌then◌else◌};
+
+use std::marker::Model;
+
+const MOST_WORKERS: usize = 16;
+
+/// How many threads make the steps of a group at once: 1 to 16, the caller's thread being one of them.
+#[derive(Clone, Copy, Debug)]
+pub struct Workers {
+    count: usize,
+}
+
+impl Model for Workers {
+    ghost use Rattle.std.specs.Prelude.{ℕ, ◌≤◌};
+
+    ghost Value = { ℕ };
+
+    ghost view = { λ w. w.count };
+
+    ghost inverse = { λ n. record { count = n } };
+
+    ghost invariant = { λ w. (1 ≤ w.count) × (w.count ≤ 16) };
+}
+
+impl Workers {
+    /// So many workers; none where there are not 1 to 16.
+    pub fn new(count: usize) -> Option<Workers>
+        ensures { result ≡ (if nat_le 1 count && nat_le count 16 then Some count else None) }
+    {
+        if 1 <= count && count <= MOST_WORKERS {
+            Some(Workers { count })
+        } else {
+            None
+        }
+    }
+
+    /// From 1 to 16.
+    pub fn count(self) -> usize
+        ensures count { result ≡ self }
+        ensures some { 1 ≤ result }
+        ensures few { result ≤ 16 }
+    {
+        self.count
+    }
+}
