@@ -1,10 +1,11 @@
 -- A group that ran as a round is work whose group is done.
-use Rattle.std.proofs.Common.{◌≡◌, ℕ, suc, ◌<◌, Bool, true, false, List, [], ◌∷◌, ◌++◌, map, length, Some, refl, sym, ap, ◌∙◌, subst, arith}
+use Rattle.std.proofs.Common.{◌≡◌, ℕ, suc, ◌+◌, ◌<◌, Bool, true, false, List, [], ◌∷◌, ◌++◌, map, length, take, drop, Some, refl, sym, ap, ◌∙◌, subst, arith}
 use Rattle.std.specs.Prelude.{slice_get, IsTrue, filter, ◌==◌, if◌then◌else◌}
 use Rattle.std.proofs.lemmas.Bool.{ltb-true}
 use Rattle.std.proofs.lemmas.Bool.Decides.{nat_tests}
 use Rattle.items.specs.Map.{Items}
-use Rattle.item_steps.specs.Schedule.{Placed, IsInterleaving, placed, items_after, answers_in, answers_at, GroupRuns}
+use Rattle.item_steps.specs.Schedule.{Placed, IsInterleaving, placed, stamped, items_after, answers_in, answers_at, GroupRuns}
+use Rattle.item_steps.specs.declared.step.Place.{Place}
 use Rattle.item_steps.specs.declared.step.Answer.{Answer}
 use Rattle.item_steps.specs.declared.group.Task.{Task}
 use Rattle.batches.specs.declared.batch.Batch.{Batch}
@@ -12,11 +13,14 @@ use Rattle.executor.specs.Running.{Running}
 use Rattle.executor.specs.State.{StateView}
 use Rattle.executor.specs.Round.{first_place, runners}
 use Rattle.executor.specs.Work.{Progress, Worked, IsNext, is_group_done, started, begun, all_begun}
-use Rattle.executor.specs.GroupRun.{task_of, tasks_in, answered_by, IsUntouched}
+use Rattle.round.specs.Sittings.{Running as RanTask}
+use Rattle.executor.specs.Through.{later}
+use Rattle.executor.specs.GroupRun.{task_of, tasks_in, answered_by, ran_of, IsUntouched}
 use Rattle.executor.proofs.PartialLemmas.{Each, each-of-all, all-of-each}
 use Rattle.executor.proofs.RoundLemmas.{get_map}
 use Rattle.executor.proofs.WorkedLemmas.{worked-partial}
 use Rattle.executor.proofs.GroupRunLemmas.{with_answers, left_in, Ran, ran}
+use Rattle.executor.proofs.ThroughLemmas.{same_later}
 use Rattle.executor.proofs.SpreadLemmas.{spread_orders, group_is_spread}
 
 here : (m n : ℕ) → (m == n) ≡ true → m ≡ n
@@ -69,3 +73,56 @@ pub untouched_started : (base : StateView) (batch : Batch) (ordered : Bool) (gro
 untouched_started base batch ordered group =
     all-of-each (λ (r : Running). r.group ≡ group → r.answers ≡ []) (all_begun base batch ordered)
     (λ i r at g. (let b = get_map (begun batch ordered) (runners base batch) i r at in ap (λ (x : Running). x.answers) b.2))
+
+-- ---- what a round of a group leaves of its work
+
+zip_ran : (answers_to : Task → List Answer) (ran : List RanTask) (tasks : List Task) → map (λ r. r.task) ran ≡ tasks → map (λ r. r.answers) ran ≡ map answers_to tasks → ran ≡ map (ran_of answers_to) tasks
+zip_ran answers_to [] [] e f = refl
+zip_ran answers_to [] (t ∷ tasks) e f = absurd (cc e)
+zip_ran answers_to (r ∷ ran) [] e f = absurd (cc e)
+zip_ran answers_to (r ∷ ran) (t ∷ tasks) e f =
+    let task : r.task ≡ t = cc e in
+    let answers : r.answers ≡ answers_to t = cc f in
+    let later_tasks : map (λ x. x.task) ran ≡ tasks = cc e in
+    let later_answers : map (λ x. x.answers) ran ≡ map answers_to tasks = cc f in
+    (λ i. record { task = task i; answers = answers i } ∷ zip_ran answers_to ran tasks later_tasks later_answers i)
+
+groups_kept : (group : ℕ) (answers_to : Task → List Answer) (running : List Running) → map (λ r. r.group) (map (answered_by group answers_to) running) ≡ map (λ r. r.group) running
+groups_kept group answers_to [] = refl
+groups_kept group answers_to (r ∷ running) = (λ i. one (r.group == group) i ∷ groups_kept group answers_to running i)
+  where
+    one : (b : Bool) → (if b then record r { answers = answers_to (task_of r) } else r).group ≡ r.group
+    one true = refl
+    one false = refl
+
+-- a list that was lent and written is the one that was written, where it is as long
+pub written_back : (n : ℕ) (new old : List Running) → n ≡ length old → length new ≡ length old → take n (new ++ drop (length new) old) ≡ new
+written_back n new old e f = ap (λ k. take k (new ++ drop (length new) old)) (e ∙ sym f) ∙ front new (drop (length new) old)
+  where
+    front : (xs ys : List Running) → take (length xs) (xs ++ ys) ≡ xs
+    front [] ys = refl
+    front (x ∷ xs) ys = ap (λ zs. x ∷ zs) (front xs ys)
+
+pub record RoundDone (base : StateView) (batch : Batch) (ordered : Bool) (w : Progress) (now : Items) (running : List Running) : Type 0 where
+  pub worked : Worked base batch ordered (record { items = now; running = running; group = w.group })
+  pub done : IsTrue (is_group_done (record { items = now; running = running; group = w.group }))
+  pub left : later (record { items = now; running = running; group = w.group }) ≡ later w
+
+stamped_first : (base : Place) → stamped base 0 ≡ base
+stamped_first base = let stamp : base.stamp + 0 ≡ base.stamp = omega arith in (λ i. record { moment = base.moment; stamp = stamp i })
+
+pub round_done : (base : StateView) (batch : Batch) (ordered : Bool) (w : Progress) → Worked base batch ordered w → IsUntouched w
+    → (place : Place) → place ≡ stamped (first_place base batch) 0 → (tasks : List Task) → tasks ≡ tasks_in w.group w.running
+    → (now : Items) (ran : List RanTask) → GroupRuns place w.items tasks now (map (λ r. r.answers) ran) → map (λ r. r.task) ran ≡ tasks
+    → (put : List Running) → ((answers_to : Task → List Answer) → ran ≡ map (ran_of answers_to) (tasks_in w.group w.running) → put ≡ map (answered_by w.group answers_to) w.running)
+    → RoundDone base batch ordered w now put
+round_done base batch ordered w worked untouched place at tasks are now ran runs back put puts =
+    let from_first = subst (λ (p : Place). GroupRuns p w.items tasks now (map (λ r. r.answers) ran)) (at ∙ stamped_first (first_place base batch)) runs in
+    let all = subst (λ (ts : List Task). GroupRuns (first_place base batch) w.items ts now (map (λ r. r.answers) ran)) are from_first in
+    let g = group_ran base batch ordered w worked untouched now (map (λ r. r.answers) ran) all in
+    let is : put ≡ map (answered_by w.group g.answers_to) w.running = puts g.answers_to (zip_ran g.answers_to ran (tasks_in w.group w.running) (back ∙ are) g.each) in
+    record {
+      worked = subst (λ (rs : List Running). Worked base batch ordered (record { items = now; running = rs; group = w.group })) (sym is) g.worked;
+      done = subst (λ (rs : List Running). IsTrue (is_group_done (record { items = now; running = rs; group = w.group }))) (sym is) g.done;
+      left = same_later w.group put w.running (ap (map (λ r. r.group)) is ∙ groups_kept w.group g.answers_to w.running);
+    }
