@@ -8,3 +8,4 @@ pub mod GroupLemmas
 pub mod DoneLemmas
 pub mod FitLemmas
 pub mod ThroughLemmas
+pub mod OneRoundLemmas

@@ -6,3 +6,4 @@ pub mod Running
 pub mod Work
 pub mod Ends
 pub mod Through
+pub mod Orders

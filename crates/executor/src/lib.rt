@@ -11,6 +11,7 @@ mod base;
 mod begin;
 mod groups;
 mod kept;
+mod laws;
 mod running;
 mod state;
 mod tentative;
@@ -20,6 +21,7 @@ mod work;
 
 pub use answered::Answered;
 pub use base::Base;
+pub use laws::{ordered_batch_has_one_round, orders_determine_the_round};
 pub use state::{Parts, State};
 pub use tentative::{Committed, Tentative};
 pub use through::run_through;
