@@ -17,3 +17,4 @@ pub mod EntryLemmas
 pub mod RecordLemmas
 pub mod ReplyLemmas
 pub mod MemberLemmas
+pub mod OneRoundLemmas

@@ -3,7 +3,7 @@ use Rattle.std.proofs.Common.{◌≡◌, ◌≢◌, ℕ, zero, suc, ◌+◌, ◌
 use Rattle.std.specs.Prelude.{slice_get, IfSome, IsTrue, not, ◌||◌, ◌==◌, if◌then◌else◌}
 use Rattle.std.specs.List.{list_all}
 use Rattle.std.proofs.lemmas.List.{length_push, length-map, map-set}
-use Rattle.std.proofs.lemmas.Bool.{leb-true, leb-false, ltb-true, ltb-false, lt-ltb}
+use Rattle.std.proofs.lemmas.Bool.{ltb-true, ltb-false, lt-ltb}
 use Rattle.std.proofs.lemmas.Bool.Decides.{nat_tests}
 use Rattle.std.proofs.lemmas.Option.{slice_get_within, slice_get-get_or}
 use Rattle.item_steps.specs.Schedule.{stamped}
@@ -11,10 +11,10 @@ use Rattle.item_steps.specs.declared.step.Place.{Place}
 use Rattle.items.specs.Map.{Items}
 use Rattle.item_steps.specs.Effect.{effect}
 use Rattle.executor.specs.Running.{Running}
-use Rattle.executor.specs.Work.{Progress, WorkView, StepMade, StepDone, IsNext, comes_after, is_done, is_group_done, next_step}
+use Rattle.executor.specs.Work.{Progress, WorkView, StepMade, StepDone, IsNext, is_done, is_group_done}
 use Rattle.executor.specs.Ends.{Goes, MovesOn}
 use Rattle.executor.specs.declared.work.Ended.TheVariants.{On}
-use Rattle.executor.specs.Through.{IsReadyAt, IsNotLeft, StepMadeAt, RequestRan, later}
+use Rattle.executor.specs.Through.{IsNotLeft, StepMadeAt, RequestRan, later}
 use Rattle.executor.proofs.OrderLemmas.{set_same, get_set_same, get_set_other}
 
 -- a request at an index that is within the list
@@ -157,7 +157,7 @@ through_more w i now next l t r =
     same_or_not zero zero = inl refl
     same_or_not zero (suc b) = inr (λ e. omega arith)
     same_or_not (suc a) zero = inr (λ e. omega arith)
-    same_or_not (suc a) (suc b) = elim (same_or_not a b) [ | inl e ↦ inl (ap suc e) | inr d ↦ inr (λ e. d (omega arith)) ]
+    same_or_not (suc a) (suc b) = elim (same_or_not a b) [ inl e ↦ inl (ap suc e) | inr d ↦ inr (λ e. d (omega arith)) ]
 
     by : (j : ℕ) → j < i + 1 → slice_get next.running i ≡ Some r.request → (j ≡ i) ⊎ (j ≢ i) → IsNotLeft next.group (slice_get next.running j)
     by j k there (inl e) = subst (IsNotLeft next.group) (sym (ap (slice_get next.running) e ∙ there)) (λ f. r.ran (f ∙ r.group))

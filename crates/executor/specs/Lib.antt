@@ -10,3 +10,4 @@ pub mod GroupRun
 pub mod Records
 pub mod HeadLaws
 pub mod Kept
+pub mod Orders

@@ -1,5 +1,5 @@
 -- Work that is run to its end.
-use Rattle.std.specs.Prelude.{◌≡◌, ℕ, List, length, filter, Bool, true, false, IsTrue, IfSome, Option, Some, slice_get, slice_set, nat_lt}
+use Rattle.std.specs.Prelude.{◌≡◌, ℕ, length, filter, Bool, true, false, IsTrue, IfSome, Option, Some, slice_get, slice_set, nat_lt}
 use Rattle.item_steps.specs.declared.step.Place.{Place}
 use Rattle.batches.specs.declared.batch.Batch.{Batch}
 use Rattle.executor.specs.declared.work.Ended.{Ended}

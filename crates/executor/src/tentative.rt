@@ -122,9 +122,10 @@ impl Tentative {
         let Tentative {
             before,
             batch: _,
-            after: _,
+            after,
             replies: _,
         } = self;
+        drop(after);
         before
     }
 }

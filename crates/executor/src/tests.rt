@@ -111,7 +111,10 @@ fn the_state_of_number_0(rt: HostRuntime) -> Result<(), Fail> {
     let committed = Committed::first(alloc)?;
     let state = committed.state();
     assert_eq!(rt; (state.number(), state.epoch(), state.moment()), (0, 1, 0));
-    assert_eq!(rt; (state.previous(), state.token()), (Token([0; 32]), Token([0; 32])));
+    assert_eq!(rt;
+        (state.previous(), state.token()),
+        (Token([0; 32]), Token([0; 32]))
+    );
     assert_eq!(rt; *state.batch(), [0u8; 32]);
     assert_eq!(rt; state.sessions().entries().len(), 0);
     assert_eq!(rt; state.pages().page(33).len(), 0);
@@ -173,7 +176,12 @@ fn after_full_batch(alloc: Global) -> Result<Base, Fault> {
 fn stamps_are_64_times_the_number_and_the_place(rt: HostRuntime) -> Result<(), Fail> {
     let alloc = rt.alloc();
     let bytes = full_batch(alloc)?;
-    let seen = uniques(alloc, &Base::first(alloc)?, bytes.as_slice(), b"!_`".as_slice())?;
+    let seen = uniques(
+        alloc,
+        &Base::first(alloc)?,
+        bytes.as_slice(),
+        b"!_`".as_slice(),
+    )?;
     assert_eq!(rt; seen.as_slice(), [64u64, 126, 127].as_slice());
     let mut more = batch_bytes(alloc, 2, 1000, 1)?;
     add_set(&mut more, 65, b'a', 0)?;

@@ -1,4 +1,4 @@
-use Rattle.std.proofs.Common.{◌≡◌, ◌<◌, ap, sym, ◌∙◌, arith, length, filter, nat_lt}
+use Rattle.std.proofs.Common.{◌≡◌, ◌<◌, ap, ◌∙◌, arith, length, filter, nat_lt}
 use Rattle.executor.specs.Work.{WorkView}
 use Rattle.executor.proofs.ThroughLemmas.{through_more, through_count, all_ran, same_later}
 use Rattle.executor.proofs.work.Work.run_group.Goals as goal

@@ -1,4 +1,4 @@
-use Rattle.std.proofs.Common.{◌≡◌, length}
+use Rattle.std.proofs.Common.{◌≡◌}
 use Rattle.executor.proofs.ThroughLemmas.{WentThrough}
 use Rattle.executor.proofs.work.Work.run_group.Given as goal
 
