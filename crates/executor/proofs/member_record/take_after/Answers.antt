@@ -2,7 +2,8 @@ use Rattle.std.proofs.Common.{◌≡◌, ◌++◌, sym, ap, ◌∙◌, subst, ru
 use Rattle.std.proofs.lemmas.Result.{err_from_is_err_and}
 use Rattle.items.specs.Map.{Items}
 use Rattle.wire.specs.Record.{Always, NoFront, Refused}
-use Rattle.executor.specs.Kept.{Follows, followed}
+use Rattle.executor.specs.Round.{followed}
+use Rattle.executor.specs.Kept.{Follows}
 use Rattle.executor.specs.Records.{head_of, changes_text, after_text}
 use Rattle.executor.proofs.RecordLemmas.{changes_free, no_front, no_items, unfit_body, read_so, state_of, heads_alike}
 use Rattle.executor.proofs.ReplyLemmas.{follows_of}
