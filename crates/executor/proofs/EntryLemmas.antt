@@ -1,8 +1,8 @@
 -- Texts of one page, by itself or over the page before it.
 use Rattle.std.proofs.Common.{◌≡◌, ℕ, suc, ◌<◌, true, false, List, [], ◌∷◌, ◌++◌, length, get_or, Option, Some, None, refl, sym, ap, ◌∙◌, arith, subst, append_assoc, ◌⊎◌, inl, inr}
-use Rattle.std.specs.Prelude.{flat_map, IfSome, IsTrue, if◌then◌else◌}
+use Rattle.std.specs.Prelude.{flat_map, IfSome, if◌then◌else◌}
 use Rattle.std.specs.Int.{w32}
-use Rattle.std.specs.FinMap.{entries, entries_sorted, from_sorted, entries-from_sorted, same_entries_map, is_sorted}
+use Rattle.std.specs.FinMap.{entries, entries_sorted, from_sorted, entries-from_sorted, same_entries_map}
 use Rattle.std.proofs.lemmas.Bool.{cases_Bool}
 use Rattle.std.proofs.lemmas.Slice.Eq.{bytes_eq-Decides}
 use Rattle.std.specs.Str.{bytes_eq}
@@ -14,7 +14,7 @@ use Rattle.wire.specs.Record.{IsPrefixFree, NoFront, Refused}
 use Rattle.wire.specs.Number.{num}
 use Rattle.wire.specs.Field.{option_text}
 use Rattle.wire.specs.Item.{entry_text, page_text, PageFits, EntriesFit}
-use Rattle.wire.specs.FrontLaws.{tail_of, head_of}
+use Rattle.wire.specs.FrontLaws.{tail_of}
 use Rattle.wire.specs.ItemLaws.{page_prefix_free}
 use Rattle.wire.specs.NumberLaws.{below_of}
 use Rattle.wire.proofs.Values.{Refused-weaker, told_apart}

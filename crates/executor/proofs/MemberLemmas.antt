@@ -1,5 +1,5 @@
 -- The record of a tentative state over a base.
-use Rattle.std.proofs.Common.{◌≡◌, ℕ, true, false, arith, length, ◌∷◌, ◌+◌, List, [], ◌++◌, map, Some, refl, sym, ap, ◌∙◌, subst, append_assoc}
+use Rattle.std.proofs.Common.{◌≡◌, ℕ, true, arith, length, ◌∷◌, ◌+◌, List, [], ◌++◌, map, refl, sym, ap, ◌∙◌, subst, append_assoc}
 use Rattle.std.specs.Prelude.{◌==◌}
 use Rattle.std.proofs.lemmas.Bool.Decides.{nat_tests}
 use Rattle.std.proofs.lemmas.List.{append-nil}
@@ -15,7 +15,7 @@ use Rattle.executor.specs.declared.answered.Answered.{Answered}
 use Rattle.executor.specs.State.{StateView}
 use Rattle.executor.specs.Fresh.{fresh}
 use Rattle.executor.specs.Work.{TentativeView}
-use Rattle.executor.specs.Kept.{kept_for, AreKept, LackOne, Follows, IsTentative, IsOver}
+use Rattle.executor.specs.Kept.{kept_for, AreKept, LackOne, Follows, IsOver}
 use Rattle.executor.specs.Records.{after_text, member_text, OneMember}
 use Rattle.executor.proofs.RecordLemmas.{after_free}
 use Rattle.executor.proofs.ReplyLemmas.{one_list}
@@ -96,7 +96,7 @@ module _ (base : StateView) (bytes : List ℕ) (batch : Batch) (rest : List ℕ)
       pub its_record : left ≡ [] → bytes ≡ member_text found
       its_record none =
           got ∙ ap (λ (t : List ℕ). batch_text batch ++ t) (more ∙ (ap (λ (t : List ℕ). after_text base.items after ++ t) none
-              ∙ (append-nil (after_text base.items after) ∙ ap (λ (b : StateView). after_text b.items after) (sym shared))))
+          ∙ (append-nil (after_text base.items after) ∙ ap (λ (b : StateView). after_text b.items after) (sym shared))))
 
 pub one_member : OneMember
 one_member t u over same =

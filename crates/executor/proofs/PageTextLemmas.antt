@@ -1,5 +1,5 @@
 -- Texts of the pages of a map, one after the other.
-use Rattle.std.proofs.Common.{◌≡◌, ℕ, zero, suc, ◌+◌, ◌-◌, ◌<◌, ◌≤◌, List, [], ◌∷◌, ◌++◌, map, length, get_or, None, refl, sym, ap, ◌∙◌, arith, subst, append_assoc}
+use Rattle.std.proofs.Common.{◌≡◌, ℕ, zero, suc, ◌+◌, ◌<◌, List, [], ◌∷◌, ◌++◌, length, get_or, None, refl, sym, ap, ◌∙◌, arith, subst, append_assoc}
 use Rattle.std.specs.Prelude.{flat_map}
 use Rattle.std.specs.List.{range_with_len}
 use Rattle.std.specs.FinMap.{entries, from_sorted}
@@ -10,7 +10,7 @@ use Rattle.items.specs.declared.item.Item.{Item}
 use Rattle.items.specs.Map.{Items}
 use Rattle.wire.specs.Record.{Always, IsPrefixFree, NoFront, Puts, Refused}
 use Rattle.wire.proofs.Values.{Refused-weaker}
-use Rattle.pages.specs.Page.{PageState, page_count, page_entries, page_items, of_each}
+use Rattle.pages.specs.Page.{PageState, page_count, page_entries, page_items}
 use Rattle.pages.specs.Joined.{IsOwn, AreOwn, ArePages, joined, parts, items_of}
 use Rattle.pages.proofs.JoinedLemmas.{no_items, own-page}
 use Rattle.pages.proofs.StateLemmas.{items-at, length-states}

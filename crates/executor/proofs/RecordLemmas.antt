@@ -1,6 +1,5 @@
 -- Records of states are told apart, and where a part of one does not stand, no state stands.
-use Rattle.std.proofs.Common.{◌≡◌, Bool, Result, Ok, Err, ℕ, ◌+◌, ◌<◌, ◌^◌, List, [], ◌∷◌, ◌++◌, length, take, drop, take-append-drop, true, false, refl, sym, ap, ◌∙◌, arith, subst, append_assoc}
-use Rattle.std.specs.Int.{w64}
+use Rattle.std.proofs.Common.{◌≡◌, Bool, Result, Ok, Err, ℕ, ◌<◌, ◌^◌, List, [], ◌++◌, length, take, drop, take-append-drop, true, false, refl, sym, ap, ◌∙◌, arith, subst, append_assoc}
 use Rattle.std.specs.Prelude.{not, ◌&&◌, ◌==◌}
 use Rattle.std.proofs.lemmas.Bool.{and_from}
 use Rattle.std.proofs.lemmas.Bool.Decides.{nat_tests}
@@ -8,20 +7,17 @@ use Rattle.std.proofs.lemmas.List.{take-append-le, take_all}
 use Rattle.std.specs.Str.{bytes_eq}
 use Rattle.std.proofs.lemmas.Slice.Eq.{bytes_eq-Decides}
 use Rattle.proto.specs.declared.fault.Fault.{Fault}
-use Rattle.items.specs.declared.item.Item.{Item}
 use Rattle.items.specs.Map.{Items}
 use Rattle.sessions.specs.Fresh.{Replies}
 use Rattle.std.specs.Borrow.{Bor}
 use Rattle.wire.specs.Record.{Always, IsPrefixFree, NoFront, Refused, Takes}
-use Rattle.wire.specs.Number.{num}
 use Rattle.wire.specs.ItemLaws.{page_prefix_free}
-use Rattle.wire.specs.RowLaws.{u64_free, followed, made_of}
+use Rattle.wire.specs.RowLaws.{followed, made_of}
 use Rattle.wire.specs.Session.{sessions_text, SessionsFit}
 use Rattle.wire.specs.SessionLaws.{sessions_prefix_free}
 use Rattle.wire.specs.Item.{page_text}
 use Rattle.wire.proofs.Values.{Refused-weaker}
 use Rattle.wire.proofs.Rows.{unfit}
-use Rattle.token.specs.Token.{token_bytes}
 use Rattle.pages.specs.Page.{page_entries}
 use Rattle.executor.specs.declared.head.Head.{Head}
 use Rattle.executor.specs.State.{StateView, IsState, first_state, with_token}

@@ -1,5 +1,5 @@
 -- Replies that sessions keep.
-use Rattle.std.proofs.Common.{◌≡◌, ◌≢◌, ℕ, suc, ◌+◌, ◌<◌, ◌≤◌, Bool, true, false, cond, List, [], ◌∷◌, ◌++◌, map, length, take, drop, get_or, Option, Some, None, refl, sym, ap, ◌∙◌, arith, subst, append_assoc}
+use Rattle.std.proofs.Common.{◌≡◌, ◌≢◌, ℕ, ◌+◌, ◌<◌, Bool, true, false, cond, List, [], ◌∷◌, ◌++◌, map, length, take, drop, get_or, Option, Some, None, refl, sym, ap, ◌∙◌, arith, subst}
 use Rattle.std.specs.Prelude.{if◌then◌else◌, not, ◌&&◌, ◌||◌, ◌==◌}
 use Rattle.std.specs.List.{list_any}
 use Rattle.std.specs.Ordering.{nat_cmp, eq_by_cmp}
@@ -22,8 +22,8 @@ use Rattle.wire.proofs.Values.{Refused-weaker}
 use Rattle.executor.specs.declared.answered.Answered.{Answered}
 use Rattle.executor.specs.State.{StateView}
 use Rattle.executor.specs.Fresh.{Runner, runs, fresh, fresh_after}
-use Rattle.executor.specs.Round.{Round, runners, answered, kept_after}
-use Rattle.executor.specs.Kept.{kept_for, reply_kept, AreKept, LackOne, Follows, followed}
+use Rattle.executor.specs.Round.{Round, runners, answered, kept_after, followed}
+use Rattle.executor.specs.Kept.{kept_for, reply_kept, AreKept, LackOne, Follows}
 
 -- a list with none is not of replies alone
 none_among : (xs others : List Answered) (later : List (Option Answered)) → map Some xs ++ None ∷ later ≡ map Some others → ⊥

@@ -1,5 +1,5 @@
 -- No head of a state is spelled at the front of another.
-use Rattle.std.proofs.Common.{◌≡◌, ℕ, List, ◌++◌, refl}
+use Rattle.std.proofs.Common.{refl}
 use Rattle.wire.specs.Record.{IsPrefixFree}
 use Rattle.wire.specs.KeyLaws.{fixed_prefix_free}
 use Rattle.wire.specs.RowLaws.{u32_free, u64_free, followed, made_of}

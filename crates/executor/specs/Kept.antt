@@ -1,33 +1,18 @@
 -- What a tentative state and a restored state keep.
-use Rattle.std.specs.Prelude.{◌≡◌, ℕ, ◌+◌, ◌<◌, List, [], map, Option, Some, None, Result, Ok, Err, ◌==◌, if◌then◌else◌}
+use Rattle.std.specs.Prelude.{◌≡◌, ◌+◌, ◌<◌, List, [], map, Option, Some, None, Result, Ok, Err, ◌==◌, if◌then◌else◌}
 use Rattle.std.specs.FinMap.{get}
-use Rattle.items.specs.Map.{Items}
 use Rattle.sessions.specs.Fresh.{Replies}
 use Rattle.sessions.specs.declared.sessions.Kept.{Kept}
 use Rattle.batches.specs.declared.batch.Batch.{Batch}
 use Rattle.proto.specs.declared.fault.Fault.{Fault}
 use Rattle.wire.specs.Record.{Refused}
-use Rattle.wire.specs.Batch.{batch_text, BatchFits}
+use Rattle.wire.specs.Batch.{BatchFits}
 use Rattle.wire.specs.Session.{SessionsFit}
-use Rattle.token.specs.Digest.{digest}
 use Rattle.executor.specs.declared.answered.Answered.{Answered}
-use Rattle.executor.specs.State.{StateView, IsState, first_state, with_token}
+use Rattle.executor.specs.State.{StateView, IsState, first_state}
 use Rattle.executor.specs.Fresh.{Runner}
-use Rattle.executor.specs.Round.{runners, moment_of}
+use Rattle.executor.specs.Round.{runners, followed}
 use Rattle.executor.specs.Work.{TentativeView, CommittedView}
-
--- the state that a batch makes of another, with its token
-abbrev pub followed : StateView → Batch → Replies → Items → StateView
-followed old batch sessions items = with_token (record {
-  number = batch.n;
-  previous = old.token;
-  epoch = batch.epoch;
-  batch = digest (batch_text batch);
-  moment = moment_of old batch;
-  token = old.token;
-  sessions = sessions;
-  items = items;
-})
 
 -- the reply to a request, where it is what is kept of the client
 abbrev pub reply_kept : Runner → Option Kept → Option Answered

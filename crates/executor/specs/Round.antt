@@ -24,6 +24,19 @@ runners old batch = fresh old.sessions batch.requests
 abbrev pub moment_of : StateView → Batch → ℕ
 moment_of old batch = max batch.moment old.moment
 
+-- the state that a batch makes of another, with its token
+abbrev pub followed : StateView → Batch → Replies → Items → StateView
+followed old batch sessions items = with_token (record {
+  number = batch.n;
+  previous = old.token;
+  epoch = batch.epoch;
+  batch = digest (batch_text batch);
+  moment = moment_of old batch;
+  token = old.token;
+  sessions = sessions;
+  items = items;
+})
+
 -- where place 0 of the batch runs
 abbrev pub first_place : StateView → Batch → Place
 first_place old batch = record { moment = moment_of old batch; stamp = 64 * batch.n }

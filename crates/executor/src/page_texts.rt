@@ -34,11 +34,7 @@ pub fn page_of(alloc: Global, number: usize, entries: Entries) -> Result<Page, F
     Ok(page)
 }
 
-fn take_page<'b>(
-    alloc: Global,
-    number: usize,
-    bytes: &'b [u8],
-) -> Result<(Page, &'b [u8]), Fault>
+fn take_page<'b>(alloc: Global, number: usize, bytes: &'b [u8]) -> Result<(Page, &'b [u8]), Fault>
     ensures { Takes (λ page. IsOwn number page.items) (λ page. page_text (map.entries page.items)) bytes.now result }
 {
     let (entries, rest) = Entries::take(alloc, bytes)?;

@@ -1,10 +1,9 @@
 ghost use Rattle.std.specs.Prelude.{◌≡◌, ◌<◌, ◌^◌, IfOk};
-ghost use Rattle.wire.specs.Batch.{batch_text, BatchFits};
+ghost use Rattle.wire.specs.Batch.{BatchFits};
 ghost use Rattle.wire.specs.Session.{SessionsFit};
-ghost use Rattle.token.specs.Digest.{digest};
 ghost use Rattle.executor.specs.State.{IsState, first_state, with_token};
 ghost use Rattle.executor.specs.Parts.{parts_of};
-ghost use Rattle.executor.specs.Round.{moment_of};
+ghost use Rattle.executor.specs.Round.{followed};
 
 use batches::Batch;
 use pages::{Pages, Snapshot};
@@ -211,16 +210,7 @@ impl State {
     pub fn followed_by(&self, batch: &Batch, sessions: Sessions, pages: Snapshot) -> State
         requires batch { BatchFits batch.now }
         requires sessions { SessionsFit sessions }
-        ensures { result ≡ with_token (record {
-          number = batch.now.n;
-          previous = self.now.token;
-          epoch = batch.now.epoch;
-          batch = digest (batch_text batch.now);
-          moment = moment_of self.now batch.now;
-          token = self.now.token;
-          sessions = sessions;
-          items = pages;
-        }) }
+        ensures { result ≡ followed self.now batch.now sessions pages }
     {
         State::of_parts(Parts {
             number: batch.n,

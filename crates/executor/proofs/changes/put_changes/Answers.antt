@@ -1,5 +1,4 @@
 use Rattle.std.proofs.Common.{arith, refl}
-
 use Rattle.pages.specs.Page.{page_entries}
 use Rattle.executor.specs.Records.{change_text, changes_text}
 use Rattle.executor.proofs.PageTextLemmas.{put_next, put_all}

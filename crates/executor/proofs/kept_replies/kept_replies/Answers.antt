@@ -1,4 +1,4 @@
-use Rattle.std.proofs.Common.{◌∙◌, sym, arith}
+use Rattle.std.proofs.Common.{◌∙◌, sym}
 use Rattle.std.proofs.lemmas.Result.{err_from_is_err_and}
 use Rattle.executor.proofs.ReplyLemmas.{lacks}
 use Rattle.executor.proofs.kept_replies.kept_replies.Goals as goal

@@ -2,7 +2,8 @@ use Rattle.std.proofs.Common.{◌≡◌, ◌++◌, sym, ap, ◌∙◌, subst, ru
 use Rattle.std.proofs.lemmas.Result.{err_from_is_err_and}
 use Rattle.items.specs.Map.{Items}
 use Rattle.wire.specs.Record.{Always, NoFront, Refused}
-use Rattle.executor.specs.Kept.{Follows, followed}
+use Rattle.executor.specs.Round.{followed}
+use Rattle.executor.specs.Kept.{Follows}
 use Rattle.executor.specs.Records.{head_of, changes_text, after_text}
 use Rattle.executor.proofs.RecordLemmas.{changes_free, no_front, no_items, unfit_body, read_so, state_of, heads_alike}
 use Rattle.executor.proofs.ReplyLemmas.{follows_of}
@@ -29,10 +30,10 @@ returns-then-ne c =
     unfit_body (changes_text c.args.before.now.items) (Follows c.args.before.now c.args.batch.now) c.args.bytes.now (changes_free c.args.before.now.items) c.in_ok-head.head c.in_ok-head.sessions c.in_ok-pages.pages c.in_ok-head.rest.now c.in_ok-pages.rest.now
     c.in_ok-head.ensures.1 more
     (λ f.
-        let made : c.followed_by-state.result ≡ followed c.args.before.now c.args.batch.now c.in_ok-head.sessions c.in_ok-pages.pages =
-        c.followed_by-state.ensures ∙ ap (λ (m : Items). followed c.args.before.now c.args.batch.now c.in_ok-head.sessions m) c.seal.ensures in
-        let same : c.head.result ≡ c.in_ok-head.head = c.head.ensures ∙ ap head_of (made ∙ sym f.is) in
-        heads_alike c.head.result c.in_ok-head.head same (sym c.ne.ensures ∙ c.if-ne.true))
+    let made : c.followed_by-state.result ≡ followed c.args.before.now c.args.batch.now c.in_ok-head.sessions c.in_ok-pages.pages =
+    c.followed_by-state.ensures ∙ ap (λ (m : Items). followed c.args.before.now c.args.batch.now c.in_ok-head.sessions m) c.seal.ensures in
+    let same : c.head.result ≡ c.in_ok-head.head = c.head.ensures ∙ ap head_of (made ∙ sym f.is) in
+    heads_alike c.head.result c.in_ok-head.head same (sym c.ne.ensures ∙ c.if-ne.true))
 
 pub returns : goal.returns
 unfolding after_text

@@ -1,6 +1,5 @@
-use Rattle.std.proofs.Common.{◌∙◌, ap, sym, subst, true, false, ◌≡◌, rules}
+use Rattle.std.proofs.Common.{◌∙◌, ap, sym, subst, true, false, ◌≡◌}
 use Rattle.std.specs.FinMap.{entries}
-use Rattle.items.specs.Map.{Items}
 use Rattle.pages.specs.Joined.{IsOwn}
 use Rattle.executor.proofs.EntryLemmas.{of_entries, is_of_entries}
 use Rattle.executor.proofs.page_texts.page_of.Goals as goal

@@ -40,9 +40,9 @@ returns-then-ne c =
     c.of_parts-state.ensures ∙ (ap (λ p. with_token (parts_of p)) c.parts.ensures ∙ ap (λ (items : Items). with_token (state_of c.in_ok-head.head c.in_ok-head.sessions items)) c.seal.ensures) in
     unfit_body pages_text IsLater c.args.bytes.now pages_free c.in_ok-head.head c.in_ok-head.sessions c.in_ok-pages.pages c.in_ok-head.rest.now c.in_ok-pages.rest.now c.in_ok-head.ensures.1 c.in_ok-pages.ensures.1
     (λ f.
-        let same : c.token.result ≡ c.in_ok-head.head.token = c.token.ensures ∙ (ap (λ s. s.token) computed ∙ sym (ap (λ s. s.token) (f.state.token f.later))) in
-        let no : not (bytes_eq c.token.result.0 c.in_ok-head.head.token.0) ≡ true = sym c.ne.ensures ∙ c.if-ne.true in
-        same_not_true c.token.result.0 c.in_ok-head.head.token.0 (ap (λ t. t.0) same) no)
+    let same : c.token.result ≡ c.in_ok-head.head.token = c.token.ensures ∙ (ap (λ s. s.token) computed ∙ sym (ap (λ s. s.token) (f.state.token f.later))) in
+    let no : not (bytes_eq c.token.result.0 c.in_ok-head.head.token.0) ≡ true = sym c.ne.ensures ∙ c.if-ne.true in
+    same_not_true c.token.result.0 c.in_ok-head.head.token.0 (ap (λ t. t.0) same) no)
 
 pub returns : goal.returns
 unfolding state_text

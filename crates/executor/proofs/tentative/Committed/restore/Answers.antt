@@ -1,4 +1,4 @@
-use Rattle.std.proofs.Common.{◌≡◌, [], rules, sym, ◌∙◌}
+use Rattle.std.proofs.Common.{[], rules, sym, ◌∙◌}
 use Rattle.std.proofs.lemmas.List.{append-nil}
 use Rattle.executor.specs.Records.{state_text}
 use Rattle.wire.proofs.Values.{left_over}
@@ -10,5 +10,5 @@ returns-then-not-is_empty-clause-reads c v f e =
     left_over state_free c.args.bytes.now c.in_ok-state.state c.in_ok-state.rest.now c.in_ok-state.ensures.1 (λ none. search (rules, none)) v.state e
 
 pub returns-clause-again : goal.returns-clause-again
-returns-clause-again c s e = 
+returns-clause-again c s e =
     (state_free.apart c.in_ok-state.state s c.in_ok-state.rest.now [] (sym c.in_ok-state.ensures.1 ∙ (e ∙ sym (append-nil (state_text s))))).0

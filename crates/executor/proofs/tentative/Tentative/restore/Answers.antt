@@ -1,4 +1,4 @@
-use Rattle.std.proofs.Common.{◌≡◌, ◌+◌, ◌++◌, [], sym, ap, ◌∙◌, subst, arith, rules}
+use Rattle.std.proofs.Common.{◌≡◌, ◌+◌, [], sym, ap, ◌∙◌, rules}
 use Rattle.std.proofs.lemmas.Result.{err_from_is_err_and}
 use Rattle.executor.proofs.MemberLemmas.{empty_is, other_number, no_after, too_long, no_reply, same_lack, same_kept, same_member, is_over, its_record}
 use Rattle.executor.proofs.tentative.Tentative.restore.Goals as goal
