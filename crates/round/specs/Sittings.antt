@@ -1,5 +1,5 @@
 -- What contracts see of a seat.
-use Rattle.std.specs.Prelude.{◌≡◌, ℕ, ◌+◌, ◌%◌, ◌<◌, ◌≤◌, ◌^◌, ◌==◌, ◌&&◌, not, nat_le, nat_lt, Bool, true, List, [], ◌∷◌, ◌++◌, length, map, take, filter, if◌then◌else◌, Option, Some, None, slice_get}
+use Rattle.std.specs.Prelude.{◌≡◌, ℕ, ◌+◌, ◌%◌, ◌<◌, ◌≤◌, ◌^◌, ◌==◌, ◌&&◌, not, nat_le, nat_lt, Bool, true, List, [], ◌∷◌, ◌++◌, length, map, take, filter, if◌then◌else◌, Option, Some, None, slice_get, slice_index_or}
 use Rattle.std.specs.List.{AllByRecursion, list_any, list_all, find, range_with_len}
 use Rattle.atomic_table.specs.Seated.{TableId}
 use Rattle.atomic_table.specs.declared.shared.Seat.{Seat}
@@ -40,6 +40,10 @@ seat_of callers group caller = record { caller = caller; tasks = dealt callers c
 -- the seats of a round, in the order of their callers
 abbrev pub seats_of : ℕ → List Task → List Sitting
 seats_of callers group = map (seat_of callers group) (range_with_len 0 callers)
+
+-- the seats stand in the order in which they stood
+abbrev pub StayInOrder : List Sitting → List Sitting → Type 0
+StayInOrder old new = (i : ℕ) (d : Sitting) → i < length old → (slice_index_or new i d).caller ≡ (slice_index_or old i d).caller
 
 -- the steps of one request
 abbrev pub log_at : ℕ → List Entry → List Entry

@@ -9,7 +9,7 @@ pub trait Gate {
 }
 
 /// Does nothing.
-#[derive(Debug)]
+#[derive(Clone, Copy, Debug)]
 pub struct NoGate;
 
 impl Gate for NoGate {

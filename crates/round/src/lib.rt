@@ -9,7 +9,6 @@
 #![tactic(auto)]
 
 mod close;
-mod crew;
 mod gate;
 mod locked;
 mod open;
@@ -18,14 +17,17 @@ mod round;
 mod rule;
 mod running;
 mod seat;
+mod threads;
 mod word;
 
-pub use crew::{Crew, run};
 pub use gate::{Gate, NoGate};
 pub use room::Room;
 pub use round::Round;
 pub use rule::Token;
 pub use running::Answers;
 pub use seat::Seat;
+pub use threads::{run, work};
 pub use word::TicketWord;
 
+#[cfg(test)]
+mod tests;

@@ -22,7 +22,7 @@ const MOST_CALLERS: usize = 64;
 const MOST_REQUESTS: usize = 64;
 
 /// A request has at most so many steps.
-const MOST_STEPS: usize = 64;
+pub(crate) const MOST_STEPS: usize = 64;
 
 fn task_fits(base: Place, task: &Task) -> bool
     ensures { result ≡ task_fits base task.now }

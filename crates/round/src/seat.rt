@@ -68,6 +68,23 @@ impl<J: Room> Seat<J> {
         }
     }
 
+    /// How many requests the seat has.
+    pub fn requests(&self) -> usize
+        ensures { result ≡ length self.now.tasks }
+    {
+        self.running.len()
+    }
+
+    /// The place of the seat's request of this index, if it has so many.
+    pub fn place_at(&self, index: usize) -> Option<u32>
+        ensures { result ≡ option_map (λ task. task.place) (slice_get self.now.tasks index) }
+    {
+        match self.running.get(index) {
+            Some(running) => Some(running.place()),
+            None => None,
+        }
+    }
+
     /// Where the request at the place stands among those of the seat, if it does.
     pub(crate) fn index_of(&self, place: u32) -> Option<usize>
         ensures some { IfSome result (λ i. (task : Task) × (slice_get self.now.tasks i ≡ Some task) × (task.place ≡ place)) }

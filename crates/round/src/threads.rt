@@ -1,0 +1,134 @@
+//! A whole round: opened, worked by its callers, and closed.
+
+ghost use Rattle.std.specs.Prelude.{◌≡◌, ◌⊎◌, true, false, [], IfOk, IfErr, OnOk};
+ghost use Rattle.item_steps.specs.Schedule.{GroupRuns};
+ghost use Rattle.round.specs.Tickets.{maker};
+ghost use Rattle.round.specs.Sittings.{fits, StayInOrder};
+
+use crate::gate::Gate;
+use crate::open::MOST_STEPS;
+use crate::room::Room;
+use crate::round::Round;
+use crate::rule::Token;
+use crate::running::Answers;
+use crate::seat::Seat;
+use crate::word::TicketWord;
+use item_steps::{Place, Task};
+use pages::Pages;
+use proto::Fault;
+use std::alloc::Global;
+use std::marker::Brand;
+use std::sync::Wait;
+use std::thread;
+use std::thread::Threads;
+
+/// Makes the steps that are left of one request, as far as there is memory.
+fn make_request<J: Room, R: Wait, G: Gate>(
+    rt: &R,
+    alloc: Global,
+    round: &Round<J>,
+    seat: &mut Seat<J>,
+    place: u32,
+    gate: &G,
+)
+    ensures { seat.new.caller ≡ seat.old.caller }
+{
+    for _ in 0..MOST_STEPS {
+        if round.step(rt, alloc, seat, place, gate).is_err() {
+            return;
+        }
+    }
+}
+
+/// Makes the steps that are left of a seat, request by request, as far as there is memory.
+fn make_all<J: Room, R: Wait, G: Gate>(
+    rt: &R,
+    alloc: Global,
+    round: &Round<J>,
+    seat: &mut Seat<J>,
+    gate: &G,
+)
+    ensures { seat.new.caller ≡ seat.old.caller }
+{
+    for index in 0..seat.requests() {
+        if let Some(place) = seat.place_at(index) {
+            make_request(rt, alloc, round, seat, place, gate);
+        }
+    }
+}
+
+/// Makes the steps that are left of all seats, as far as there is memory. One seat is worked by the
+/// thread that calls, each other one by a thread of its own; where a thread cannot be started, the
+/// caller does its work too.
+pub fn work<J: Room + Send + Sync, R: Threads + Wait + Sync, G: Gate + Sync>(
+    rt: &R,
+    alloc: Global,
+    round: &Round<J>,
+    seats: &mut [Seat<J>],
+    gate: &G,
+)
+    ensures { StayInOrder seats.old seats.new }
+{
+    let threads = seats.len().max(1);
+    thread::for_each_mut(rt, seats, threads, &|_, seat| {
+        make_all(rt, alloc, round, seat, gate)
+    });
+}
+
+fn within<J: Room + Send + Sync, R: Threads + Wait + Sync, G: Gate + Sync>(
+    rt: &R,
+    alloc: Global,
+    word: TicketWord,
+    master: Token,
+    pages: Pages,
+    group: Vec<Task>,
+    base: Place,
+    callers: usize,
+    gate: &G,
+) -> Result<(Pages, Vec<Answers>), Fault>
+    requires word { word.table.shared.table_id ≡ J.table }
+    requires token { (master.table_id ≡ J.table) × (master.me ≡ (maker 0, [])) }
+    requires pages { pages ≡ J.opening }
+    requires group { group.items ≡ J.group }
+    requires base { base ≡ J.base }
+    requires callers { callers ≡ J.callers }
+    ensures runs { IfOk result (λ r. GroupRuns base pages group.items r.0 r.1.items) }
+    ensures fit { OnOk result (fits base group.items callers ≡ true) }
+    ensures unfit { IfErr result (λ fault. fault ≡ Fault.Unfit → fits base group.items callers ≡ false) }
+    ensures only { IfErr result (λ fault. (fault ≡ Fault.Unfit) ⊎ (fault ≡ Fault.NoMemory)) }
+{
+    let (round, mut seats) = Round::<J>::open(alloc, word, master, pages, group, base, callers)?;
+    work(rt, alloc, &round, seats.as_mut_slice(), gate);
+    match round.close(alloc, seats) {
+        // A step is left where there was no memory for it.
+        Err(Fault::NotOpen) => Err(Fault::NoMemory),
+        closed => closed,
+    }
+}
+
+/// Runs the steps of the group on the pages, by so many callers at once: caller `c` makes the steps of
+/// the requests whose position in the group is `c` modulo the number of callers. One caller is the
+/// thread that calls; each other one is a thread of its own, which has ended when the call returns.
+///
+/// The pages and the answers, those to each request in the group's order, are what some interleaving
+/// of the group's steps leads to. The stamp of a request is the base's stamp plus its place.
+///
+/// `Unfit` only where `Round::open` refuses the group or the number of callers, and no Ok then. The
+/// only other error is want of memory.
+pub fn run<R: Threads + Wait + Sync, G: Gate + Sync>(
+    rt: &R,
+    alloc: Global,
+    pages: Pages,
+    group: Vec<Task>,
+    base: Place,
+    callers: usize,
+    gate: &G,
+) -> Result<(Pages, Vec<Answers>), Fault>
+    ensures runs { IfOk result (λ r. GroupRuns base pages group.items r.0 r.1.items) }
+    ensures fit { OnOk result (fits base group.items callers ≡ true) }
+    ensures unfit { IfErr result (λ fault. fault ≡ Fault.Unfit → fits base group.items callers ≡ false) }
+    ensures only { IfErr result (λ fault. (fault ≡ Fault.Unfit) ⊎ (fault ≡ Fault.NoMemory)) }
+{
+    let (word, master) = TicketWord::open(alloc)?;
+    within::<Brand, R, G>(rt, alloc, word, master, pages, group, base, callers, gate)
+}
