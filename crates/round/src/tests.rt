@@ -325,7 +325,15 @@ fn unfit_groups_are_refused(rt: HostRuntime) -> Result<(), Fail> {
     sets(alloc, &mut twice, 1)?;
     let refused = run(&rt, alloc, Pages::new(alloc)?, twice, base, 2, &NoGate);
     assert!(rt; matches!(refused, Err(Fault::Unfit)));
-    let callers = run(&rt, alloc, Pages::new(alloc)?, Vec::new(alloc), base, 65, &NoGate);
+    let callers = run(
+        &rt,
+        alloc,
+        Pages::new(alloc)?,
+        Vec::new(alloc),
+        base,
+        65,
+        &NoGate,
+    );
     assert!(rt; matches!(callers, Err(Fault::Unfit)));
     Ok(())
 }
