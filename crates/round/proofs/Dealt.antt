@@ -1,5 +1,5 @@
 -- The requests of each caller, of a group that was dealt in turn.
-use Rattle.std.proofs.Common.{◌≡◌, ◌≢◌, ℕ, zero, suc, ◌+◌, ◌*◌, ◌%◌, ◌<◌, Bool, true, false, cond, List, [], ◌∷◌, ◌++◌, map, length, set, Some, None, refl, sym, ap, ◌∙◌, arith, subst, eq-eqb, ne_eqb}
+use Rattle.std.proofs.Common.{◌≡◌, ◌≢◌, ℕ, zero, suc, ◌+◌, ◌*◌, ◌%◌, Bool, true, false, cond, List, [], ◌∷◌, ◌++◌, map, length, set, Some, None, refl, sym, ap, ◌∙◌, arith, subst, eq-eqb, ne_eqb}
 use Rattle.std.specs.Prelude.{slice_get, ◌==◌, ◌/◌, not}
 use Rattle.std.proofs.Math.Nat.{mod-add-div, add-mul-mod_self_left}
 use Rattle.std.specs.List.{list_all, range_with_len}
@@ -37,6 +37,7 @@ module _ (callers caller : ℕ) where
     where
       one_more : (j : ℕ) × (slice_get us j ≡ Some t) × (((n + 1) + j) % callers ≡ caller) → (j : ℕ) × (slice_get (u ∷ us) j ≡ Some t) × ((n + j) % callers ≡ caller)
       one_more r = let more : n + suc r.0 ≡ (n + 1) + r.0 = omega arith in (suc r.0, r.1, ap (λ m. m % callers) more ∙ r.2)
+
       by : ((k : ℕ) (t : Task) → slice_get (dealt_from (n + 1) callers caller us) k ≡ Some t → (j : ℕ) × (slice_get us j ≡ Some t) × (((n + 1) + j) % callers ≡ caller))
           → (k : ℕ) (b : Bool) → (n % callers == caller) ≡ b → slice_get (cond b (u ∷ dealt_from (n + 1) callers caller us) (dealt_from (n + 1) callers caller us)) k ≡ Some t
           → (j : ℕ) × (slice_get (u ∷ us) j ≡ Some t) × ((n + j) % callers ≡ caller)
@@ -95,19 +96,22 @@ dealt_turn callers group t lists caller list are turn there =
     ap (λ l. set l caller (list ++ running_in [] t ∷ [])) are ∙ set_by before after (range_with_len 0 callers) caller (list ++ running_in [] t ∷ [])
     (λ i x at off. others x (λ same. let zer : 0 + i ≡ i = omega arith in off (sym zer ∙ sym (range_at callers 0 i x at) ∙ same)))
     (λ x at.
-        let zer : 0 + caller ≡ caller = omega arith in
-        let is : x ≡ caller = range_at callers 0 caller x at ∙ zer in
-        mine x is (same_element list (before x) (sym there ∙ ap (λ l. slice_get l caller) are ∙ map_at before (range_with_len 0 callers) caller x at)))
+    let zer : 0 + caller ≡ caller = omega arith in
+    let is : x ≡ caller = range_at callers 0 caller x at ∙ zer in
+    mine x is (same_element list (before x) (sym there ∙ ap (λ l. slice_get l caller) are ∙ map_at before (range_with_len 0 callers) caller x at)))
   where
     before : ℕ → List Running
     before c = map (running_in []) (dealt callers c group)
+
     after : ℕ → List Running
     after c = map (running_in []) (dealt callers c (group ++ t ∷ []))
+
     others : (c : ℕ) → c ≢ caller → before c ≡ after c
     others c off =
         let other : 0 + length group ≡ length group = omega arith in
         let no : ((0 + length group) % callers == c) ≡ false = ne_eqb ((0 + length group) % callers) c (λ same. off (sym same ∙ ap (λ n. n % callers) other ∙ sym turn)) in
         sym (ap (λ (l : List Task). map (running_in []) l) (dealt_push callers c 0 group t ∙ ap (λ b. cond b (dealt callers c group ++ t ∷ []) (dealt callers c group)) no))
+
     mine : (c : ℕ) → c ≡ caller → list ≡ before c → list ++ running_in [] t ∷ [] ≡ after c
     mine c is same =
         let other : 0 + length group ≡ length group = omega arith in

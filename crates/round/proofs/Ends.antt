@@ -1,15 +1,14 @@
 -- What the seats and the pages tell together, once no step is left.
-use Rattle.std.proofs.Common.{◌≡◌, ◌≢◌, ◌⊎◌, ℕ, zero, suc, ◌+◌, ◌-◌, ◌%◌, ◌<◌, ◌≤◌, Bool, true, false, cond, List, [], ◌∷◌, ◌++◌, map, length, Some, None, refl, sym, ap, ◌∙◌, inl, inr, arith, subst, leb, eq-eqb}
-use Rattle.std.specs.Prelude.{slice_get, ◌==◌, nat_le, filter}
+use Rattle.std.proofs.Common.{◌≡◌, ℕ, zero, suc, ◌+◌, ◌-◌, ◌%◌, ◌<◌, ◌≤◌, Bool, true, false, cond, List, [], ◌∷◌, ◌++◌, map, length, Some, None, refl, sym, ap, ◌∙◌, arith, subst, leb}
+use Rattle.std.specs.Prelude.{slice_get, ◌==◌, filter}
 use Rattle.std.specs.List.{AllByRecursion, list_all, range_with_len}
 use Rattle.std.proofs.lemmas.Bool.{leb-true, leb-false}
 use Rattle.std.proofs.lemmas.Bool.Decides.{nat_tests}
 use Rattle.std.proofs.lemmas.List.{take_all, length-map}
 use Rattle.std.proofs.Math.Nat.{mod-lt}
 use Rattle.items.specs.Map.{Items}
-use Rattle.item_steps.specs.Schedule.{Placed, GroupRuns, items_after, answers_in, answers_at}
+use Rattle.item_steps.specs.Schedule.{GroupRuns, items_after, answers_in, answers_at}
 use Rattle.item_steps.specs.declared.step.Place.{Place}
-use Rattle.item_steps.specs.declared.step.Step.{Step}
 use Rattle.item_steps.specs.declared.step.Answer.{Answer}
 use Rattle.item_steps.specs.declared.group.Task.{Task}
 use Rattle.pages.specs.Page.{page_count}
@@ -18,12 +17,12 @@ use Rattle.pages.proofs.PartLemmas.{joined-parts}
 use Rattle.round.specs.declared.rule.Entry.{Entry}
 use Rattle.round.specs.declared.rule.Held.{Held}
 use Rattle.round.specs.Tickets.{touches, log_of, name_of_caller, Kinds, AreLogs}
-use Rattle.round.specs.Sittings.{Running, Sitting, dealt, log_at, steps_at, given_at, running_in, is_done, has_ended, are_apart, Follows, IsSitting}
+use Rattle.round.specs.Sittings.{Sitting, dealt, log_at, given_at, running_in, is_done, has_ended, are_apart, Follows, IsSitting}
 use Rattle.round.specs.Orders.{AreHistories, AreOf, Ended, placed_of, answered_of}
 use Rattle.round.proofs.Keeps.{caller_touches}
 use Rattle.round.proofs.Lists.{same_element, in_filter, filter_within, list_all_at, all_at, map_same}
 use Rattle.round.proofs.Replays.{Replayed, replays_held}
-use Rattle.round.proofs.Interleaves.{Apart, apart_from, Complete, interleaved}
+use Rattle.round.proofs.Interleaves.{apart_from, Complete, interleaved}
 use Rattle.round.proofs.Dealt.{dealt_has, dealt_is}
 
 pub logs_front : (order : List Entry) (hs is : List Held) → AreLogs order (hs ++ is) → AreLogs order hs
@@ -171,9 +170,9 @@ module _ (group : List Task) (callers : ℕ) (apart : are_apart group ≡ true) 
   running_lists seats names sat logs =
       let list = λ (c : ℕ). map (running_in order) (dealt callers c group) in
       map_same (λ (s : Sitting). map (running_in s.log) s.tasks) (λ (s : Sitting). list s.caller) seats (λ i s at.
-          let is = all_at (IsSitting group callers) seats sat i s at in
-          let log = all_at (Seated order) seats logs i s at in
-          (λ k. map (running_in (log k)) (is.has k)) ∙ own_running s.caller)
+      let is = all_at (IsSitting group callers) seats sat i s at in
+      let log = all_at (Seated order) seats logs i s at in
+      (λ k. map (running_in (log k)) (is.has k)) ∙ own_running s.caller)
       ∙ map_callers list seats ∙ ap (map list) names
 
 -- each caller's log has all steps of its requests

@@ -1,16 +1,13 @@
 -- One step more in a seat's log.
-use Rattle.std.proofs.Common.{◌≡◌, ◌≢◌, ◌⊎◌, ℕ, zero, suc, ◌+◌, ◌<◌, ◌≤◌, Bool, true, false, cond, List, [], ◌∷◌, ◌++◌, map, length, take, set, Some, None, refl, sym, ap, ◌∙◌, ⊎_elim, arith, subst, eq-eqb, ne_eqb, append-nil, length-append, leb}
-use Rattle.std.specs.Prelude.{slice_get, ◌==◌, nat_le}
-use Rattle.std.specs.List.{filter, list_all}
+use Rattle.std.proofs.Common.{◌≡◌, ◌≢◌, ℕ, zero, suc, ◌+◌, cond, List, [], ◌∷◌, ◌++◌, map, length, take, set, Some, None, refl, sym, ap, ◌∙◌, ⊎_elim, arith, subst, eq-eqb, ne_eqb, append-nil, length-append}
+use Rattle.std.specs.Prelude.{slice_get, ◌==◌}
 use Rattle.std.proofs.lemmas.List.{map-append, length-map}
 use Rattle.std.proofs.lemmas.List.Elements.{filter-append}
 use mathlib.Core.Logic.{dite}
 use native.Mathlib.Decide.{ℕ_discrete}
-use Rattle.item_steps.specs.declared.step.Step.{Step}
-use Rattle.item_steps.specs.declared.step.Answer.{Answer}
 use Rattle.item_steps.specs.declared.group.Task.{Task}
 use Rattle.round.specs.declared.rule.Entry.{Entry}
-use Rattle.round.specs.Sittings.{Running, log_at, steps_at, given_at, running_in, next_of, is_done, Follows}
+use Rattle.round.specs.Sittings.{Running, log_at, steps_at, given_at, running_in, next_of, Follows}
 use Rattle.round.proofs.Lists.{same_element, get_push}
 use Rattle.round.proofs.Interleaves.{Apart}
 
@@ -53,8 +50,8 @@ module _ (tasks : List Task) (apart : Apart tasks) (log : List Entry) (e : Entry
   follows_push next f = record {
     first = λ i t at. dite (ℕ_discrete i index)
         (λ is.
-            let same : t ≡ task = same_element t task (sym at ∙ ap (slice_get tasks) is ∙ there) in
-            subst (λ (u : Task). steps_at u.place (log ++ e ∷ []) ≡ take (length (log_at u.place (log ++ e ∷ []))) u.steps) (sym same) mine)
+        let same : t ≡ task = same_element t task (sym at ∙ ap (slice_get tasks) is ∙ there) in
+        subst (λ (u : Task). steps_at u.place (log ++ e ∷ []) ≡ take (length (log_at u.place (log ++ e ∷ []))) u.steps) (sym same) mine)
         (λ off. ap (λ l. map (λ (x : Entry). x.step) l) (log_same i t at off) ∙ f.first i t at ∙ ap (λ l. take (length l) t.steps) (sym (log_same i t at off)));
     no_others = λ i x at. ⊎_elim
         (λ (was : slice_get log i ≡ Some x). f.no_others i x was)
@@ -75,6 +72,6 @@ module _ (tasks : List Task) (apart : Apart tasks) (log : List Entry) (e : Entry
   running_push after is = set_by (running_in log) (running_in (log ++ e ∷ [])) tasks index after
       (λ i t at off. ap (λ l. record { task = t; answers = map (λ (x : Entry). x.answer) l }) (sym (log_same i t at off)))
       (λ t at.
-          let same : task ≡ t = same_element task t (sym there ∙ at) in
-          is ∙ subst (λ (u : Task). record { task = task; answers = given_at task.place log ++ e.answer ∷ [] } ≡ running_in (log ++ e ∷ []) u) same
-          (ap (λ l. record { task = task; answers = l }) (sym (map-append (λ (x : Entry). x.answer) (log_at task.place log) (e ∷ [])) ∙ ap (λ m. map (λ (x : Entry). x.answer) m) (sym log_more))))
+      let same : task ≡ t = same_element task t (sym there ∙ at) in
+      is ∙ subst (λ (u : Task). record { task = task; answers = given_at task.place log ++ e.answer ∷ [] } ≡ running_in (log ++ e ∷ []) u) same
+      (ap (λ l. record { task = task; answers = l }) (sym (map-append (λ (x : Entry). x.answer) (log_at task.place log) (e ∷ [])) ∙ ap (λ m. map (λ (x : Entry). x.answer) m) (sym log_more))))

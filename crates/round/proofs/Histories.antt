@@ -1,12 +1,11 @@
 -- One step more in a page's history.
-use Rattle.std.proofs.Common.{◌≡◌, ℕ, List, [], ◌∷◌, ◌++◌, map, refl, sym, ap, ◌∙◌, subst}
+use Rattle.std.proofs.Common.{◌≡◌, ℕ, List, [], ◌∷◌, ◌++◌, map, refl, sym, ap, ◌∙◌}
 use Rattle.std.proofs.lemmas.List.{map-append}
 use Rattle.items.specs.Map.{Items}
 use Rattle.item_steps.specs.Effect.{effect}
 use Rattle.item_steps.specs.Schedule.{stamped, history_items, history_answers}
 use Rattle.item_steps.specs.declared.step.Place.{Place}
 use Rattle.item_steps.specs.declared.step.Step.{Step}
-use Rattle.item_steps.specs.declared.step.Answer.{Answer}
 use Rattle.pages.specs.Step.{step_page}
 use Rattle.round.specs.declared.rule.Entry.{Entry}
 use Rattle.round.specs.Histories.{IsHistory, timed}

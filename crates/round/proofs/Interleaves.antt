@@ -1,12 +1,12 @@
 -- An order that has the steps of each request in their order, and no others, is an interleaving of them.
-use Rattle.std.proofs.Common.{◌≡◌, ◌≢◌, ◌⊎◌, ℕ, zero, suc, ◌+◌, ◌<◌, Bool, true, false, cond, List, [], ◌∷◌, ◌++◌, map, length, set, Some, None, refl, sym, ap, ◌∙◌, ⊎_elim, arith, subst, eq-eqb, ne_eqb}
+use Rattle.std.proofs.Common.{◌≡◌, ◌≢◌, ℕ, zero, suc, true, false, cond, List, [], ◌∷◌, map, set, Some, None, refl, sym, ap, ◌∙◌, ⊎_elim, subst, eq-eqb, ne_eqb}
 use Rattle.std.specs.Prelude.{slice_get, ◌==◌, not}
 use Rattle.std.specs.List.{AllByRecursion, list_all}
 use Rattle.std.proofs.lemmas.Bool.{and_parts}
 use Rattle.std.proofs.lemmas.List.{map-set}
 use mathlib.Core.Logic.{dite}
 use native.Mathlib.Decide.{ℕ_discrete}
-use Rattle.item_steps.specs.Schedule.{Placed, IsInterleaving, placed}
+use Rattle.item_steps.specs.Schedule.{IsInterleaving, placed}
 use Rattle.item_steps.specs.declared.step.Step.{Step}
 use Rattle.item_steps.specs.declared.group.Task.{Task}
 use Rattle.round.specs.declared.rule.Entry.{Entry}
@@ -24,11 +24,13 @@ apart_from (task ∷ tasks) all i j t u at there same = by (apart_from tasks) i 
   where
     both : (list_all (λ (other : Task). not (other.place == task.place)) tasks ≡ true) × (are_apart tasks ≡ true)
     both = and_parts (list_all (λ (other : Task). not (other.place == task.place)) tasks) (are_apart tasks) all
+
     never : {A : Type 0} (k : ℕ) (v w : Task) → slice_get tasks k ≡ Some v → Some task ≡ Some w → v.place ≡ w.place → A
     never k v w is first eq =
         let here : v.place ≡ task.place = eq ∙ sym (ap (λ (x : Task). x.place) (same_element task w first)) in
         let no : not (v.place == task.place) ≡ true = list_all_at (λ (other : Task). not (other.place == task.place)) tasks both.0 k v is in
         absurd (let wrong : false ≡ true = sym (ap not (eq-eqb v.place task.place here)) ∙ no in cc)
+
     by : (are_apart tasks ≡ true → Apart tasks) → (i j : ℕ) → slice_get (task ∷ tasks) i ≡ Some t → slice_get (task ∷ tasks) j ≡ Some u → i ≡ j
     by more zero zero a b = refl
     by more zero (suc j) a b = never j u t b a (sym same)
@@ -66,8 +68,11 @@ module _ (group : List Task) (apart : Apart group) (j : ℕ) (t : Task) (there :
 
   still : (i : ℕ) (u : Task) → slice_get group i ≡ Some u → (v : Task) × (slice_get less i ≡ Some v) × (v.place ≡ u.place)
   still i u at = dite (ℕ_discrete i j)
-      (λ is. (left, subst (λ k. slice_get less k ≡ Some left) (sym is) (set_there group j left t there),
-          ap (λ (v : Task). v.place) (same_element t u (sym there ∙ ap (slice_get group) (sym is) ∙ at))))
+      (λ is. (
+        left,
+        subst (λ k. slice_get less k ≡ Some left) (sym is) (set_there group j left t there),
+        ap (λ (v : Task). v.place) (same_element t u (sym there ∙ ap (slice_get group) (sym is) ∙ at)),
+      ))
       (λ off. (u, set_else group j left i off ∙ at, refl))
 
   less_apart : Apart less
@@ -81,8 +86,8 @@ module _ (group : List Task) (apart : Apart group) (j : ℕ) (t : Task) (there :
     steps = λ i u at. ⊎_elim
         (λ (x : (i ≡ j) × (left ≡ u)). sym (ap (λ (v : Task). steps_at v.place es) x.1) ∙ sym rest_is ∙ ap (λ (v : Task). v.steps) x.1)
         (λ (x : (i ≢ j) × (slice_get group i ≡ Some u)).
-            let off : e.place ≢ u.place = λ same. x.0 (apart i j u t x.1 there (sym same ∙ its)) in
-            ap (λ l. map (λ (y : Entry). y.step) l) (sym (log_at_else u.place e es off)) ∙ c.steps i u x.1)
+        let off : e.place ≢ u.place = λ same. x.0 (apart i j u t x.1 there (sym same ∙ its)) in
+        ap (λ l. map (λ (y : Entry). y.step) l) (sym (log_at_else u.place e es off)) ∙ c.steps i u x.1)
         (get_set group j left i u at);
     no_others = λ i y at. let o = c.no_others (suc i) y at in let s = still o.0 o.1 o.2 in (o.0, s.0, s.1, s.2 ∙ o.3);
   }

@@ -1,5 +1,5 @@
 -- A step that a seat's request makes.
-use Rattle.std.proofs.Common.{◌≡◌, ℕ, ◌+◌, ◌-◌, ◌<◌, ◌≤◌, Bool, true, false, List, [], ◌∷◌, ◌++◌, map, length, set, Some, None, refl, sym, ap, ◌∙◌, arith, subst, leb, length-append}
+use Rattle.std.proofs.Common.{◌≡◌, ℕ, ◌+◌, ◌-◌, ◌<◌, ◌≤◌, Bool, true, false, List, [], ◌∷◌, ◌++◌, map, length, set, Some, refl, sym, ap, ◌∙◌, arith, leb, length-append}
 use Rattle.std.specs.Prelude.{slice_get, nat_le, nat_lt, ◌&&◌}
 use Rattle.std.specs.List.{list_all}
 use Rattle.std.proofs.lemmas.Bool.{and_parts, leb-true, ltb-true}
@@ -21,6 +21,7 @@ is_left r s next = by (leb (length r.task.steps) (length r.answers)) refl
   where
     within : length r.answers < length r.task.steps
     within = slice_get_within r.task.steps (length r.answers) s next
+
     by : (b : Bool) → leb (length r.task.steps) (length r.answers) ≡ b → leb (length r.task.steps) (length r.answers) ≡ false
     by true is = let most = leb-true (length r.task.steps) (length r.answers) is in let low = within in absurd (omega arith)
     by false is = is

@@ -1,5 +1,5 @@
 -- Page by page, or all pages at once in the order of the tickets: the same.
-use Rattle.std.proofs.Common.{◌≡◌, ◌≢◌, ℕ, zero, suc, ◌+◌, ◌<◌, ◌≤◌, Bool, cond, List, [], ◌∷◌, ◌++◌, map, length, get_or, set, refl, sym, ap, ◌∙◌, subst, arith, length-set, get_or-set_same, get_or-set_other, eq-eqb, ne_eqb}
+use Rattle.std.proofs.Common.{◌≡◌, ◌≢◌, ℕ, zero, suc, ◌+◌, ◌<◌, ◌≤◌, cond, List, [], ◌∷◌, ◌++◌, map, length, get_or, set, refl, sym, ap, ◌∙◌, subst, arith, get_or-set_same, get_or-set_other, eq-eqb, ne_eqb}
 use Rattle.std.specs.Prelude.{◌==◌, ◌||◌}
 use Rattle.std.proofs.lemmas.List.{ext_get_or}
 use Rattle.std.proofs.lemmas.List.FromFn.{get_or-map-range_with_len}
@@ -8,14 +8,13 @@ use mathlib.Core.Logic.{dite}
 use native.Mathlib.Decide.{ℕ_discrete}
 use Rattle.items.specs.Map.{Items}
 use Rattle.item_steps.specs.Effect.{effect}
-use Rattle.item_steps.specs.Schedule.{Placed, stamped, items_after, answers_in, history_items, history_answers}
+use Rattle.item_steps.specs.Schedule.{stamped, items_after, answers_in, history_answers}
 use Rattle.item_steps.specs.declared.step.Place.{Place}
-use Rattle.item_steps.specs.declared.step.Answer.{Answer}
 use Rattle.pages.specs.Page.{page_count, page_items}
 use Rattle.pages.specs.Joined.{ArePages, joined, parts}
 use Rattle.pages.specs.Step.{step_page}
 use Rattle.pages.proofs.JoinedLemmas.{no_items}
-use Rattle.pages.proofs.PartLemmas.{parts-are, joined-parts}
+use Rattle.pages.proofs.PartLemmas.{parts-are}
 use Rattle.pages.proofs.EffectLemmas.{effect-answer, effect-items, effect-pages}
 use Rattle.round.specs.declared.rule.Entry.{Entry}
 use Rattle.round.specs.declared.rule.Held.{Held}
@@ -66,11 +65,11 @@ module _ (base : Place) where
       let after : Items = (effect page e.step at).0 in
       let wide : length opening ≡ page_count = are.0 in
       let mine : IsHistory base e.page page (e ∷ log_of e.page es) (get_or now e.page no_items) =
-          subst (λ l. IsHistory base e.page page l (get_or now e.page no_items)) (log_here e.page e es refl) (paged e.page low) in
+      subst (λ l. IsHistory base e.page page l (get_or now e.page no_items)) (log_here e.page e es refl) (paged e.page low) in
       let there = slice_get-get_or opening e.page no_items (omega arith) in
       let on : step_page e.step ≡ e.page = mine.own.0.1 in
       let answer : e.answer ≡ (effect page e.step at).1 = same_head e.answer (effect page e.step at).1 (map (λ (x : Entry). x.answer) (log_of e.page es))
-          (history_answers after (map (timed base) (log_of e.page es))) mine.runs.replies in
+      (history_answers after (map (timed base) (log_of e.page es))) mine.runs.replies in
       let rest : Paged (set opening e.page after) es now = λ p h. dite (ℕ_discrete p e.page)
       (λ is. subst (λ q. IsHistory base q (get_or (set opening e.page after) q no_items) (log_of q es) (get_or now q no_items)) (sym is)
       (subst (λ z. IsHistory base e.page z (log_of e.page es) (get_or now e.page no_items)) (sym (get_or-set_same opening e.page after no_items (omega arith)))

@@ -1,6 +1,6 @@
 -- What contracts see of a seat.
-use Rattle.std.specs.Prelude.{◌≡◌, ℕ, ◌+◌, ◌%◌, ◌<◌, ◌≤◌, ◌^◌, ◌==◌, ◌&&◌, not, nat_le, nat_lt, Bool, true, List, [], ◌∷◌, ◌++◌, length, map, take, filter, if◌then◌else◌, Option, Some, None, slice_get, slice_index_or}
-use Rattle.std.specs.List.{AllByRecursion, list_any, list_all, find, range_with_len}
+use Rattle.std.specs.Prelude.{◌≡◌, ℕ, ◌+◌, ◌%◌, ◌<◌, ◌^◌, ◌==◌, ◌&&◌, not, nat_le, nat_lt, Bool, true, List, [], ◌∷◌, ◌++◌, length, map, take, filter, if◌then◌else◌, Option, Some, None, slice_get, slice_index_or}
+use Rattle.std.specs.List.{list_any, list_all, range_with_len}
 use Rattle.atomic_table.specs.Seated.{TableId}
 use Rattle.atomic_table.specs.declared.shared.Seat.{Seat}
 use Rattle.item_steps.specs.declared.step.Place.{Place}

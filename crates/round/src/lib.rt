@@ -29,3 +29,5 @@ pub use seat::Seat;
 pub use threads::{run, work};
 pub use word::TicketWord;
 
+#[cfg(test)]
+mod tests;

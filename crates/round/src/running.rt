@@ -118,8 +118,10 @@ impl Running {
         requires fits { task_fits base self.old.task ≡ true }
         ensures ok { OnOk result ((step : Step) × (next_of self.old ≡ Some step)
             × (page.new.items ≡ (effect page.old.items step (stamped base self.old.task.place)).0)
-            × (self.new ≡ record { task = self.old.task;
-                answers = self.old.answers ++ (effect page.old.items step (stamped base self.old.task.place)).1 ∷ [] })) }
+            × (self.new ≡ record {
+              task = self.old.task;
+              answers = self.old.answers ++ (effect page.old.items step (stamped base self.old.task.place)).1 ∷ [];
+            })) }
         ensures err { OnErr result ((page.new.items ≡ page.old.items) × (self.new ≡ self.old)) }
     {
         self.answers.reserve(1)?;

@@ -70,9 +70,12 @@ pub fn work<J: Room + Send + Sync, R: Threads + Wait + Sync, G: Gate + Sync>(
     ensures { StayInOrder seats.old seats.new }
 {
     let threads = seats.len().max(1);
-    thread::for_each_mut(rt, seats, threads, &|_, seat| {
-        make_all(rt, alloc, round, seat, gate)
-    });
+    thread::for_each_mut(
+        rt,
+        seats,
+        threads,
+        &|_, seat| { make_all(rt, alloc, round, seat, gate) },
+    );
 }
 
 fn within<J: Room + Send + Sync, R: Threads + Wait + Sync, G: Gate + Sync>(

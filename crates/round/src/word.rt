@@ -70,10 +70,16 @@ impl TicketWord {
         requires caller { caller.old.me ≡ (name_view name (view_log caller.old.me.0), []) }
         requires kinds { (number < page_count) × (page_count ≤ name) }
         ensures tokens { (page.new.table_id ≡ page.old.table_id) × (caller.new.table_id ≡ caller.old.table_id) }
-        ensures page { page.new.me ≡ (name_view number (view_log page.old.me.0
-            ++ (record { page = number; caller = name; place = place; step = step.now; answer = answer.now }) ∷ []), []) }
-        ensures caller { caller.new.me ≡ (name_view name (view_log caller.old.me.0
-            ++ (record { page = number; caller = name; place = place; step = step.now; answer = answer.now }) ∷ []), []) }
+        ensures page { page.new.me ≡ (
+          name_view number (view_log page.old.me.0
+              ++ (record { page = number; caller = name; place = place; step = step.now; answer = answer.now }) ∷ []),
+          [],
+        ) }
+        ensures caller { caller.new.me ≡ (
+          name_view name (view_log caller.old.me.0
+              ++ (record { page = number; caller = name; place = place; step = step.now; answer = answer.now }) ∷ []),
+          [],
+        ) }
     {
         self.draw_said::<Brand>(page, caller, number, name, place, step, answer)
     }

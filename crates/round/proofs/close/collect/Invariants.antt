@@ -1,4 +1,4 @@
-use Rattle.std.proofs.Common.{◌≡◌, ◌-◌, ◌<◌, ◌≤◌, length, map}
+use Rattle.std.proofs.Common.{◌≡◌, ◌-◌, map}
 use Rattle.std.specs.Prelude.{vec_len}
 use Rattle.round.proofs.Collects.{Taken}
 use Rattle.round.proofs.close.collect.Given as goal

@@ -1,7 +1,6 @@
-use Rattle.std.proofs.Common.{◌≡◌, ◌++◌, [], ◌∷◌, List, map, rules, ap, ◌∙◌, sym, subst, arith, append_assoc, append-nil}
+use Rattle.std.proofs.Common.{◌≡◌, ◌++◌, [], ◌∷◌, map, rules, ap, ◌∙◌, sym, subst, arith, append_assoc, append-nil}
 use Rattle.std.specs.List.{AllByRecursion}
 use Rattle.std.proofs.lemmas.List.{map-append}
-use Rattle.round.specs.declared.rule.Held.{Held}
 use Rattle.round.specs.Tickets.{held, view_log, both, name_of_caller}
 use Rattle.round.specs.Sittings.{Sitting, Running, running_in, dealt, IsSitting, Follows}
 use Rattle.round.specs.Orders.{AreOf}
@@ -23,7 +22,7 @@ loop-seat-preserved g c =
     let is = s.view_is in
     let tasks = ap (λ l. map (λ (r : Running). r.task) l) n.has ∙ tasks_of_running (view_log s.inside.token.me.0) (dealt g.J.Room.callers s.inside.caller g.J.Room.group) in
     let sitting : IsSitting g.J.Room.group g.J.Room.callers (record { caller = s.inside.caller; tasks = map (λ (r : Running). r.task) s.inside.running.items; log = view_log s.inside.token.me.0 }) =
-        record { few = n.few; has = tasks; follows = subst (λ l. Follows l (view_log s.inside.token.me.0)) (sym tasks) n.follows } in
+    record { few = n.few; has = tasks; follows = subst (λ l. Follows l (view_log s.inside.token.me.0)) (sym tasks) n.follows } in
     let pushed : c.push.new.self.items ≡ c.loop-seat.lists.items ++ s.inside.running ∷ [] = search rules in
     let list = λ (s : Sitting). map (running_in s.log) s.tasks in
     let mine = running_has s.inside.running.items _ _ n.has in (

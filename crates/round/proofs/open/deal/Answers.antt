@@ -1,10 +1,9 @@
-use Rattle.std.proofs.Common.{◌≡◌, ◌+◌, ◌%◌, ◌<◌, ◌++◌, ◌∷◌, [], List, length, map, set, Some, rules, arith, refl, sym, ap, ◌∙◌, subst, append_assoc, length-append}
-use Rattle.std.specs.Prelude.{slice_get}
+use Rattle.std.proofs.Common.{◌≡◌, ◌<◌, ◌++◌, ◌∷◌, [], length, map, set, Some, rules, arith, sym, ap, ◌∙◌, subst, append_assoc, length-append}
 use Rattle.std.proofs.lemmas.List.{map-set, length-map}
 use Rattle.std.proofs.lemmas.List.FromFn.{length-map-range_with_len}
 use Rattle.std.proofs.lemmas.Option.{slice_get-get_or}
 use Rattle.std.proofs.Math.Nat.{mod-lt}
-use Rattle.round.specs.Sittings.{Running, running_in, dealt}
+use Rattle.round.specs.Sittings.{running_in, dealt}
 use Rattle.round.proofs.Lists.{map_at}
 use Rattle.round.proofs.Dealt.{dealt_turn, turn_more}
 use Rattle.round.proofs.open.deal.Goals as goal

@@ -1,4 +1,4 @@
-use Rattle.std.proofs.Common.{◌≡◌, ◌%◌, ◌++◌, ◌<◌, length, map}
+use Rattle.std.proofs.Common.{◌≡◌, ◌%◌, ◌++◌, length, map}
 use Rattle.round.specs.Sittings.{lists_of}
 use Rattle.round.proofs.open.deal.Given as goal
 

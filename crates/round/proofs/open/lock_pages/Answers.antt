@@ -1,4 +1,4 @@
-use Rattle.std.proofs.Common.{◌≡◌, ◌+◌, ◌++◌, ◌∷◌, [], length, map, rules, arith, ap, ◌∙◌, sym}
+use Rattle.std.proofs.Common.{◌≡◌, ◌+◌, ◌++◌, length, arith, ap, ◌∙◌, sym}
 use Rattle.std.proofs.lemmas.List.{map-append, length-map}
 use Rattle.pages.specs.Page.{page_count, page_items, PageState}
 use Rattle.pages.specs.Joined.{items_of}

@@ -1,10 +1,10 @@
-use Rattle.std.proofs.Common.{◌≡◌, ◌+◌, ◌<◌, ◌++◌, ◌∷◌, [], List, length, map, rules, arith, sym, ap, ◌∙◌, append_assoc, append-nil, length-append}
+use Rattle.std.proofs.Common.{◌≡◌, ◌+◌, ◌++◌, ◌∷◌, [], length, map, rules, arith, sym, ap, ◌∙◌, append_assoc, append-nil, length-append}
 use Rattle.std.specs.List.{range_with_len}
 use Rattle.std.proofs.lemmas.List.{map-append, length-map}
 use Rattle.std.proofs.lemmas.List.FromFn.{length-map-range_with_len, map-range_with_len_more}
 use Rattle.pages.specs.Page.{page_count}
 use Rattle.round.specs.Tickets.{maker, made}
-use Rattle.round.specs.Sittings.{Running, running_in, dealt, seat_of}
+use Rattle.round.specs.Sittings.{running_in, dealt, seat_of}
 use Rattle.round.proofs.Lists.{at_range, nil_from}
 use Rattle.round.proofs.open.seat_callers.Goals as goal
 
@@ -55,7 +55,7 @@ returns-clause-master g c =
     let none : c.loop-running.running-iterator.rest.items ≡ [] = nil_from _ (let z = c.in-None.ensures.steps.0 in let ok = c.loop-running.running-iterator.rest.ok in omega arith) in
     let all = sym (append-nil _) ∙ ap (λ l. c.loop-running.yielded ++ l) (sym none) ∙ i.6 in
     let wide : length c.loop-running.yielded ≡ g.J.Room.callers = ap length all ∙ sym (length-map c.args.lists.items (λ v. v.items)) ∙ ap length c.requires.lists
-        ∙ length-map-range_with_len (λ caller. map (running_in []) (dealt g.J.Room.callers caller g.J.Room.group)) 0 g.J.Room.callers in
+    ∙ length-map-range_with_len (λ caller. map (running_in []) (dealt g.J.Room.callers caller g.J.Room.group)) 0 g.J.Room.callers in
     (i.2, i.3 ∙ ap (λ n. (maker (page_count + n), [])) wide)
 
 pub returns-clause-seats : goal.returns-clause-seats
@@ -64,5 +64,5 @@ returns-clause-seats g c =
     let none : c.loop-running.running-iterator.rest.items ≡ [] = nil_from _ (let z = c.in-None.ensures.steps.0 in let ok = c.loop-running.running-iterator.rest.ok in omega arith) in
     let all = sym (append-nil _) ∙ ap (λ l. c.loop-running.yielded ++ l) (sym none) ∙ i.6 in
     let wide : length c.loop-running.yielded ≡ g.J.Room.callers = ap length all ∙ sym (length-map c.args.lists.items (λ v. v.items)) ∙ ap length c.requires.lists
-        ∙ length-map-range_with_len (λ caller. map (running_in []) (dealt g.J.Room.callers caller g.J.Room.group)) 0 g.J.Room.callers in
+    ∙ length-map-range_with_len (λ caller. map (running_in []) (dealt g.J.Room.callers caller g.J.Room.group)) 0 g.J.Room.callers in
     i.5 ∙ ap (λ n. map (seat_of g.J.Room.callers g.J.Room.group) (range_with_len 0 n)) wide

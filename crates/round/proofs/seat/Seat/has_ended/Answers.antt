@@ -1,4 +1,4 @@
-use Rattle.std.proofs.Common.{◌≡◌, sym, ap, ◌∙◌, subst, map}
+use Rattle.std.proofs.Common.{◌≡◌, ap, ◌∙◌, subst, map}
 use Rattle.std.specs.List.{list_all}
 use Rattle.round.specs.Sittings.{Sitting, running_in, is_done}
 use Rattle.round.proofs.Seats.{running_has, all_done}

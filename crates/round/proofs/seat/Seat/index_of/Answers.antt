@@ -1,4 +1,4 @@
-use Rattle.std.proofs.Common.{◌≡◌, sym, ap, ◌∙◌, map, ◌==◌}
+use Rattle.std.proofs.Common.{ap, ◌∙◌, ◌==◌}
 use Rattle.std.specs.List.{position}
 use Rattle.round.specs.Sittings.{Sitting, Running}
 use Rattle.round.proofs.Seats.{index_is}

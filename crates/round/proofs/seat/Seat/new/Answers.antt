@@ -1,7 +1,7 @@
-use Rattle.std.proofs.Common.{rules, ap, map, ◌∙◌, []}
+use Rattle.std.proofs.Common.{ap, map, ◌∙◌, []}
 use Rattle.round.specs.Tickets.{view_log}
 use Rattle.round.specs.Sittings.{dealt}
-use Rattle.round.proofs.Follows.{follows_push, tasks_of_running}
+use Rattle.round.proofs.Follows.{tasks_of_running}
 use Rattle.round.proofs.seat.Seat.new.Goals as goal
 
 pub returns : goal.returns

@@ -1,4 +1,4 @@
-use Rattle.std.proofs.Common.{◌≡◌, Some, None, List, true, false, refl, sym, ap, ◌∙◌, inl, inr, map, true≢false}
+use Rattle.std.proofs.Common.{◌≡◌, false, refl, sym, ◌∙◌, inl, inr, true≢false}
 use Rattle.round.specs.Sittings.{running_in, next_of, holds}
 use Rattle.round.proofs.Seats.{is_held, end_is_held, not_at_end, step_of_page, no_step, seat_apart}
 use Rattle.round.proofs.seat.Seat.next.Goals as goal

@@ -1,7 +1,6 @@
 use Rattle.std.proofs.Common.{◌≡◌, Some, None, sym, ap, ◌∙◌, subst, map}
 use Rattle.std.specs.Prelude.{option_map}
 use Rattle.std.specs.Option.{option_copied}
-use Rattle.item_steps.specs.declared.group.Task.{Task}
 use Rattle.pages.specs.Step.{step_key, step_page}
 use Rattle.round.specs.Tickets.{view_log}
 use Rattle.round.specs.Sittings.{Running, Sitting, running_in, next_of, dealt}

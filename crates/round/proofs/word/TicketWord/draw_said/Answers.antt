@@ -1,4 +1,4 @@
-use Rattle.std.proofs.Common.{◌≡◌, ◌<◌, ◌≤◌, ◌+◌, [], rules, sym, ap, ◌∙◌, arith, subst}
+use Rattle.std.proofs.Common.{◌≡◌, ◌<◌, ◌≤◌, [], rules, sym, ap, ◌∙◌, arith, subst}
 use Rattle.pages.specs.Page.{page_count}
 use Rattle.round.specs.declared.rule.Entry.{Entry}
 use Rattle.round.specs.Tickets.{pair_view, both, view_log, grown}
