@@ -4,3 +4,4 @@ pub mod PartLemmas
 pub mod StateLemmas
 pub mod PageLemmas
 pub mod OwnLemmas
+pub mod EffectLemmas
