@@ -17,6 +17,7 @@ mod number;
 mod page;
 mod pages;
 mod snapshot;
+mod tree;
 
 pub use laws::parts_are_joined_again;
 pub use number::{PAGES, page_of};

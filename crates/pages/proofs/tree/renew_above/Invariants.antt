@@ -1,0 +1,9 @@
+use Rattle.std.proofs.Common.{◌≡◌, ℕ, ◌*◌, ◌<◌, ◌≤◌, length}
+use Rattle.pages.specs.Page.{page_count}
+use Rattle.pages.specs.Tree.{leaves, IsAbove, IsAboveSame}
+use Rattle.pages.proofs.TreeLemmas.{IsRenewed}
+use Rattle.pages.proofs.tree.renew_above.Given as goal
+
+-- the inner nodes from k on are renewed
+abbrev pub invariant-loop-k : goal.invariant-loop-k
+invariant-loop-k l = IsRenewed l.fn.nodes l.nodes l.changed l.k
