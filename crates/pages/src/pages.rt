@@ -74,9 +74,9 @@ impl Pages {
     pub fn new(alloc: Global) -> Result<Pages, AllocError>
         ensures { IfOk result (λ pages. pages ≡ map.empty) }
     {
-        Ok(Pages {
-            pages: empty_pages(alloc)?,
-        })
+        let mut pages = empty_pages(alloc)?;
+        pages[0].keep_tree(alloc, &[[0; 32]; PAGES])?;
+        Ok(Pages { pages })
     }
 
     /// The 64 pages that these are together, in the order of their numbers. Page `p` has only keys
