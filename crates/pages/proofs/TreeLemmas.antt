@@ -58,7 +58,6 @@ module _ (nodes : List (List ℕ)) (tree : IsTree nodes) where
   pub read-root : (root : List ℕ) → root ≡ get_or nodes 1 root → root ≡ root_of (leaves nodes)
   read-root root read = read ∙ get_or_default nodes 1 root [] (omega (arith, tree.count)) ∙ sym root-of_tree
 
-
 module _ (nodes : List (List ℕ)) (m : ℕ) (d : List ℕ) where
   -- a node stands above the two below it still where none of the three was set
   above-set : (j : ℕ) → j ≢ m → 2 * j ≢ m → 2 * j + 1 ≢ m → IsAbove nodes j → IsAbove (set nodes m d) j

@@ -145,7 +145,11 @@ impl Page {
     }
 
     /// Keeps the tree over these digests of all pages. The only error is want of memory.
-    pub(crate) fn keep_tree(&mut self, alloc: Global, digests: &[[u8; 32]; PAGES]) -> Result<(), AllocError>
+    pub(crate) fn keep_tree(
+        &mut self,
+        alloc: Global,
+        digests: &[[u8; 32]; PAGES],
+    ) -> Result<(), AllocError>
         ensures { self.new ≡ self.old }
     {
         self.tree = Some(Tree::new(alloc, digests)?);

@@ -97,7 +97,8 @@ impl Pages {
     }
 
     /// Keeps the pages as they are now. A digest is made new for each page that was written since
-    /// the pages were last sealed, and for no other. This takes no memory.
+    /// the pages were last sealed, and for no other, and then the nodes of the tree above those that
+    /// changed. This takes no memory.
     pub fn seal(self) -> Snapshot
         ensures { result ≡ self }
     {

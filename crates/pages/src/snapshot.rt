@@ -90,7 +90,8 @@ impl Snapshot {
         Snapshot { pages, root }
     }
 
-    /// The same pages, shared: no item is copied. The only error is want of memory.
+    /// The same pages, shared: no item is copied, but the digests are, 4 KB for the tree over them.
+    /// The only error is want of memory.
     pub fn share(&self) -> Result<Snapshot, AllocError>
         ensures { IfOk result (λ snapshot. snapshot ≡ self.now) }
     {

@@ -1,9 +1,7 @@
 use Rattle.std.proofs.Common.{List, ℕ, ap, ◌∙◌}
-use Rattle.items.specs.Map.{Items}
 use Rattle.items.specs.declared.item.Item.{Item}
 use Rattle.wire.specs.Item.{page_text}
 use Rattle.token.specs.Digest.{digest}
-use Rattle.pages.specs.Page.{page_entries}
 use Rattle.pages.proofs.StateLemmas.{page-at}
 use Rattle.pages.proofs.snapshot.digest_at.Goals as goal
 

@@ -1,4 +1,4 @@
-use Rattle.std.proofs.Common.{◌≡◌, ℕ, suc, ◌+◌, ◌-◌, ◌*◌, ◌<◌, length, refl, arith, ap, sym, ◌∙◌, subst}
+use Rattle.std.proofs.Common.{◌≡◌, ◌+◌, ◌-◌, refl, arith, subst}
 use Rattle.pages.proofs.TreeLemmas.{IsRenewed, renewed-made, renewed-same}
 use Rattle.pages.proofs.tree.renew_above.Goals as goal
 

@@ -1,6 +1,3 @@
-use Rattle.std.proofs.Common.{◌≡◌, ℕ, ◌*◌, ◌<◌, ◌≤◌, length}
-use Rattle.pages.specs.Page.{page_count}
-use Rattle.pages.specs.Tree.{leaves, IsAbove, IsAboveSame}
 use Rattle.pages.proofs.TreeLemmas.{IsRenewed}
 use Rattle.pages.proofs.tree.renew_above.Given as goal
 

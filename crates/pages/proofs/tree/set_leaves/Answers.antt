@@ -1,4 +1,4 @@
-use Rattle.std.proofs.Common.{ℕ, ◌<◌, false, refl, arith}
+use Rattle.std.proofs.Common.{false, refl, arith}
 use Rattle.std.proofs.lemmas.List.{get_or-replicate}
 use Rattle.pages.proofs.TreeLemmas.{set-all}
 use Rattle.pages.proofs.tree.set_leaves.Goals as goal
