@@ -14,7 +14,7 @@ const NODES: usize = 2 * PAGES;
 /// The tree over the digests of 64 pages, kept, so that other digests renew only what stands above
 /// those that differ.
 ///
-/// Node 1 is the root, and the nodes below node `k` are `2k` and `2k + 1`. The leaves are the last 64.
+/// Node 1 is the root, and the nodes below node `n` are `2n` and `2n + 1`. The leaves are the last 64.
 #[derive(Debug, Drop)]
 pub(crate) struct Tree {
     nodes: Vec<[u8; 32]>,
@@ -56,10 +56,10 @@ fn renew_above(nodes: &mut [[u8; 32]], changed: &mut [bool; NODES])
     ensures tree { IsTree nodes.new }
     ensures leaves { leaves nodes.new ≡ leaves nodes.old }
 {
-    for k in (1..PAGES).rev() {
-        if changed[2 * k] || changed[2 * k + 1] {
-            nodes[k] = inner_digest(&nodes[2 * k], &nodes[2 * k + 1]);
-            changed[k] = true;
+    for node in (1..PAGES).rev() {
+        if changed[2 * node] || changed[2 * node + 1] {
+            nodes[node] = inner_digest(&nodes[2 * node], &nodes[2 * node + 1]);
+            changed[node] = true;
         }
     }
 }
