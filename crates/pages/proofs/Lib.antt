@@ -5,3 +5,4 @@ pub mod StateLemmas
 pub mod PageLemmas
 pub mod OwnLemmas
 pub mod EffectLemmas
+mod TreeLemmas

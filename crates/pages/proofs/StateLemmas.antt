@@ -1,7 +1,7 @@
 -- Pages with what is kept of their digests: what they contain, and an edit of one of them.
 use Rattle.std.proofs.Common.{◌≡◌, ℕ, zero, suc, ◌+◌, ◌<◌, ◌≤◌, List, [], ◌∷◌, ◌++◌, map, length, take, drop, get_or, set, Option, IsSome, Result, Ok, Err, OnOk, OnErr, refl, sym, ap, ◌∙◌, arith, subst}
 use Rattle.std.specs.FinMap.{entries}
-use Rattle.std.proofs.lemmas.List.{map-set, get_or-map, length-map}
+use Rattle.std.proofs.lemmas.List.{map-set, set-get_or, get_or-map, length-map}
 use Rattle.proto.proofs.ListLemmas.{next-same, next-changed}
 use Rattle.items.specs.Map.{Items}
 use Rattle.pages.specs.Page.{PageState, page_count, page_entries, refreshed}
@@ -11,6 +11,10 @@ use Rattle.pages.proofs.PartLemmas.{page-entries}
 
 pub items-set : (pages : List PageState) (i : ℕ) (page : PageState) → items_of (set pages i page) ≡ set (items_of pages) i page.items
 items-set pages i page = map-set (λ (a : PageState). a.items) pages i page
+
+-- a page that was set as it is
+pub set-same : (pages : List PageState) (i : ℕ) (page new : PageState) → new ≡ page → page ≡ get_or pages i page → set pages i new ≡ pages
+set-same pages i page new same read = ap (set pages i) (same ∙ read) ∙ set-get_or pages i page
 
 -- there are as many as a store has
 pub length-states : (pages : List PageState) → ArePages (items_of pages) → length pages ≡ page_count

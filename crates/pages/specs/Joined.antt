@@ -3,7 +3,8 @@ use Rattle.std.specs.Prelude.{◌≡◌, ◌≢◌, ℕ, ◌+◌, List, [], ◌�
 use Rattle.std.specs.List.{flat_map}
 use Rattle.std.specs.FinMap.{entries, from_entries, get}
 use Rattle.items.specs.Map.{Items}
-use Rattle.pages.specs.Page.{PageState, page_number, page_count, page_items, of_each}
+use Rattle.token.specs.Digest.{root_of}
+use Rattle.pages.specs.Page.{PageState, page_number, page_count, page_items, page_digest, of_each}
 
 -- only keys of page p stand in it
 abbrev pub IsOwn : ℕ → Items → Type 0
@@ -33,3 +34,12 @@ items_of pages = map (λ page. page.items) pages
 pub record AreSealed (pages : List PageState) : Type 0 where
   pub are : ArePages (items_of pages)
   pub digests : All (λ page. IsSome page.digest) pages
+
+-- the root over the digests of the pages, from scratch
+abbrev pub root_of_pages : List PageState → List ℕ
+root_of_pages pages = root_of (of_each (page_digest (joined (items_of pages))))
+
+-- Sealed pages beside their root.
+pub record IsSnapshot (pages : List PageState) (root : List ℕ) : Type 0 where
+  pub sealed : AreSealed pages
+  pub rooted : root ≡ root_of_pages pages

@@ -1,3 +1,4 @@
 pub mod Page
 pub mod Joined
+pub mod Tree
 pub mod Step

@@ -5,10 +5,12 @@ ghost use Rattle.std.specs.FinMap as map;
 ghost use Rattle.items.specs.Map.{alive, is_alive};
 ghost use Rattle.items.specs.declared.item.Item as item_type;
 ghost use Rattle.wire.specs.Item.{PageFits};
+ghost use Rattle.token.specs.Digest.{root_of};
 ghost use Rattle.pages.specs.Page.{page_number, items_digest, refreshed};
 ghost use Rattle.pages.specs.Joined.{IsOwn};
 
-use crate::number::page_of;
+use crate::number::{PAGES, page_of};
+use crate::tree::Tree;
 use items::{Item, PlainStore, Store};
 use proto::Key;
 use std::alloc::{AllocError, Global};
@@ -28,6 +30,10 @@ const MOST_ENTRIES: usize = 4294967295;
 pub struct Page {
     store: Arc<PlainStore, Global>,
     digest: Option<[u8; 32]>,
+    /// The tree over the digests of all pages of a store. Only page 0 keeps it, so that it goes
+    /// along where the pages are parted and joined again. It spares time and no more: the tree of
+    /// any other pages would do as well.
+    tree: Option<Tree>,
 }
 
 impl Model for Page {
@@ -83,6 +89,7 @@ impl Page {
         Ok(Page {
             store: Arc::new(alloc, store)?,
             digest: None,
+            tree: None,
         })
     }
 
@@ -118,6 +125,37 @@ impl Page {
         }
     }
 
+    /// The root over these digests of all pages. Where the page keeps a tree, just the nodes are made
+    /// new that stand above a digest that differs from the one in the tree. This takes no memory.
+    pub(crate) fn root_over(&mut self, digests: &[[u8; 32]; PAGES]) -> [u8; 32]
+        ensures root { result ≡ root_of digests.now }
+        ensures same { self.new ≡ self.old }
+    {
+        match &mut self.tree {
+            Some(tree) => {
+                tree.renew(digests);
+                tree.root()
+            }
+            None => token::root(digests),
+        }
+    }
+
+    pub(crate) fn keeps_tree(&self) -> bool {
+        self.tree.is_some()
+    }
+
+    /// Keeps the tree over these digests of all pages. The only error is want of memory.
+    pub(crate) fn keep_tree(
+        &mut self,
+        alloc: Global,
+        digests: &[[u8; 32]; PAGES],
+    ) -> Result<(), AllocError>
+        ensures { self.new ≡ self.old }
+    {
+        self.tree = Some(Tree::new(alloc, digests)?);
+        Ok(())
+    }
+
     /// Whether a page's text can count the entries after a put at this key.
     fn has_room(&self, key: &Key) -> bool
         ensures { IsTrue result → (item : item_type.Item) → PageFits (map.entries (map.insert self.now.items key.now item)) }
@@ -134,6 +172,7 @@ impl Clone for Page {
         Ok(Page {
             store: Arc::try_clone(&self.store)?,
             digest: self.digest,
+            tree: self.tree.clone()?,
         })
     }
 }

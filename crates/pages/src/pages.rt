@@ -74,9 +74,9 @@ impl Pages {
     pub fn new(alloc: Global) -> Result<Pages, AllocError>
         ensures { IfOk result (λ pages. pages ≡ map.empty) }
     {
-        Ok(Pages {
-            pages: empty_pages(alloc)?,
-        })
+        let mut pages = empty_pages(alloc)?;
+        pages[0].keep_tree(alloc, &[[0; 32]; PAGES])?;
+        Ok(Pages { pages })
     }
 
     /// The 64 pages that these are together, in the order of their numbers. Page `p` has only keys
@@ -97,7 +97,8 @@ impl Pages {
     }
 
     /// Keeps the pages as they are now. A digest is made new for each page that was written since
-    /// the pages were last sealed, and for no other. This takes no memory.
+    /// the pages were last sealed, and for no other, and then the nodes of the tree above those that
+    /// changed. This takes no memory.
     pub fn seal(self) -> Snapshot
         ensures { result ≡ self }
     {

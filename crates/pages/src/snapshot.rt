@@ -2,7 +2,7 @@ ghost use Rattle.std.specs.Prelude.{◌≡◌, ◌<◌, IfOk};
 ghost use Rattle.wire.specs.Item.{PageFits};
 ghost use Rattle.token.specs.Digest.{root_of};
 ghost use Rattle.pages.specs.Page.{page_entries, page_digest, page_count, of_each};
-ghost use Rattle.pages.specs.Joined.{AreSealed, joined, items_of};
+ghost use Rattle.pages.specs.Joined.{AreSealed, joined, items_of, root_of_pages};
 
 use crate::number::PAGES;
 use crate::page::Page;
@@ -12,10 +12,11 @@ use proto::Key;
 use std::alloc::AllocError;
 use std::marker::Model;
 
-/// Pages that are kept as they are, each beside its digest.
+/// Pages that are kept as they are, each beside its digest, and the root over the digests.
 #[derive(Debug, Drop)]
 pub struct Snapshot {
     pages: Vec<Page>,
+    root: [u8; 32],
 }
 
 impl Model for Snapshot {
@@ -23,7 +24,7 @@ impl Model for Snapshot {
     ghost use Rattle.std.specs.FinMap as map;
     ghost use Rattle.items.specs.Map.{Items};
     ghost use Rattle.items.specs.contracts.item.Item as item;
-    ghost use Rattle.pages.specs.Joined.{AreSealed, joined, items_of};
+    ghost use Rattle.pages.specs.Joined.{IsSnapshot, joined, items_of};
 
     ghost Value = { Items };
 
@@ -31,24 +32,74 @@ impl Model for Snapshot {
 
     ghost view = { λ a. joined (items_of a.pages.items) };
 
-    ghost invariant = { λ a. AreSealed a.pages.items };
+    ghost invariant = { λ a. IsSnapshot a.pages.items a.root };
+}
+
+fn digest_at(pages: &Vec<Page>, number: usize) -> &[u8; 32]
+    requires sealed { AreSealed pages.now.items }
+    requires within { number < page_count }
+    ensures { result.now ≡ page_digest (joined (items_of pages.now.items)) number }
+{
+    match pages[number].digest() {
+        Some(digest) => digest,
+        None => unreachable!(),
+    }
+}
+
+fn digests_of(pages: &Vec<Page>) -> [[u8; 32]; PAGES]
+    requires { AreSealed pages.now.items }
+    ensures { result ≡ of_each (page_digest (joined (items_of pages.now.items))) }
+{
+    let mut digests = [[0u8; 32]; PAGES];
+    for number in 0..PAGES {
+        digests[number] = *digest_at(pages, number);
+    }
+    digests
+}
+
+/// The root over the digests of the pages. The tree that they keep, if any, is made theirs.
+fn root_over(pages: &mut Vec<Page>) -> [u8; 32]
+    requires { AreSealed pages.old.items }
+    ensures root { result ≡ root_of_pages pages.old.items }
+    ensures same { pages.new.items ≡ pages.old.items }
+{
+    let digests = digests_of(pages);
+    pages[0].root_over(&digests)
+}
+
+/// Makes the tree over the digests of the pages, where they keep none.
+fn grow_tree(pages: &mut Vec<Page>) -> Result<(), AllocError>
+    requires { AreSealed pages.old.items }
+    ensures { pages.new.items ≡ pages.old.items }
+{
+    if !pages[0].keeps_tree() {
+        let digests = digests_of(pages);
+        let alloc = *pages.allocator();
+        pages[0].keep_tree(alloc, &digests)?;
+    }
+    Ok(())
 }
 
 impl Snapshot {
     /// These pages, whose digests are all kept.
-    pub(crate) fn of_sealed(pages: Vec<Page>) -> Snapshot
+    pub(crate) fn of_sealed(mut pages: Vec<Page>) -> Snapshot
         requires { AreSealed pages.items }
         ensures { result ≡ joined (items_of pages.items) }
     {
-        Snapshot { pages }
+        let root = root_over(&mut pages);
+        Snapshot { pages, root }
     }
 
-    /// The same pages, shared: no item is copied. The only error is want of memory.
+    /// The same pages, shared: no item is copied, but the digests are, 4 KB for the tree over them.
+    /// The only error is want of memory.
     pub fn share(&self) -> Result<Snapshot, AllocError>
         ensures { IfOk result (λ snapshot. snapshot ≡ self.now) }
     {
+        let mut pages = self.pages.clone()?;
+        grow_tree(&mut pages)?;
         Ok(Snapshot {
-            pages: self.pages.clone()?,
+            pages,
+            root: self.root,
         })
     }
 
@@ -74,20 +125,13 @@ impl Snapshot {
         requires { number < page_count }
         ensures { result.now ≡ page_digest self.now number }
     {
-        match self.pages[number].digest() {
-            Some(digest) => digest,
-            None => unreachable!(),
-        }
+        digest_at(&self.pages, number)
     }
 
-    /// The root of the tree over the digests of the pages. No page is digested for it.
+    /// The root of the tree over the digests of the pages. It was made when the pages were sealed.
     pub fn root(&self) -> [u8; 32]
         ensures { result ≡ root_of (of_each (page_digest self.now)) }
     {
-        let mut digests = [[0u8; 32]; PAGES];
-        for number in 0..PAGES {
-            digests[number] = *self.digest(number);
-        }
-        token::root(&digests)
+        self.root
     }
 }

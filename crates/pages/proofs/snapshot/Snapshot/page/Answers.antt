@@ -6,5 +6,5 @@ use Rattle.pages.proofs.snapshot.Snapshot.page.Goals as goal
 
 pub returns-clause-entries : goal.returns-clause-entries
 returns-clause-entries c =
-    c.entries.ensures.entries ∙ page-at c.self.inside.pages.items c.args.number c.index.result.now c.self.invariant.are c.requires c.index.ensures
+    c.entries.ensures.entries ∙ page-at c.self.inside.pages.items c.args.number c.index.result.now c.self.invariant.sealed.are c.requires c.index.ensures
     ∙ ap (λ (m : Items). page_entries m c.args.number) c.self.view_is

@@ -1,7 +1,0 @@
-use Rattle.std.proofs.Common.{◌≡◌, ℕ, ◌<◌, [], length, get_or}
-use Rattle.pages.specs.Page.{page_digest, page_count}
-use Rattle.pages.proofs.snapshot.Snapshot.root.Given as goal
-
--- the digests so far stand in their places
-abbrev pub invariant-loop-number : goal.invariant-loop-number
-invariant-loop-number l = (length l.digests ≡ page_count) × ((k : ℕ) → k < l.number → get_or l.digests k [] ≡ page_digest l.self k)

@@ -1,0 +1,6 @@
+use Rattle.std.proofs.Common.{ap, ◌∙◌}
+use Rattle.token.specs.Digest.{root_of}
+use Rattle.pages.proofs.snapshot.root_over.Goals as goal
+
+pub returns-clause-root : goal.returns-clause-root
+returns-clause-root c = c.root_over.ensures.root ∙ ap root_of c.digests_of-digests.ensures
