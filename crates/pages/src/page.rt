@@ -32,8 +32,8 @@ pub struct Page {
     digest: Option<[u8; 32]>,
     /// The tree over the digests of all pages of a store. Only page 0 keeps it, so that it goes
     /// along where the pages are parted and joined again. It spares time and no more: the tree of
-    /// any other pages would do as well.
-    tree: Option<Tree>,
+    /// any other pages would do as well. In a box, so that the other pages stay small.
+    tree: Option<Box<Tree>>,
 }
 
 impl Model for Page {
@@ -152,7 +152,7 @@ impl Page {
     ) -> Result<(), AllocError>
         ensures { self.new ≡ self.old }
     {
-        self.tree = Some(Tree::new(alloc, digests)?);
+        self.tree = Some(Box::new(alloc, Tree::new(alloc, digests)?)?);
         Ok(())
     }
 
