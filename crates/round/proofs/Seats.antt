@@ -52,28 +52,8 @@ any_task : (running : List Running) (place : ℕ) → list_any (λ (r : Running)
 any_task [] place = refl
 any_task (r ∷ rs) place = ap (λ b. (r.task.place == place) || b) (any_task rs place)
 
-pub no_task : (running : List Running) (place : ℕ) → position (λ (r : Running). r.task.place == place) running ≡ None → list_any (λ (t : Task). t.place == place) (map (λ (r : Running). r.task) running) ≡ false
-no_task running place e = sym (any_task running place) ∙ none_passes (λ (r : Running). r.task.place == place) running e
-
 is_place : (n m : ℕ) → (n == m) ≡ true → n ≡ m
 is_place n m is = grind (arith, nat_tests)
-
--- the request that was found
-pub task_at : (running : List Running) (place i : ℕ) → position (λ (r : Running). r.task.place == place) running ≡ Some i
-    → (t : Task) × (slice_get (map (λ (r : Running). r.task) running) i ≡ Some t) × (t.place ≡ place)
-task_at [] place i e = absurd (let no : None ≡ Some i = e in cc)
-task_at (x ∷ xs) place i e =
-    let test = λ (r : Running). r.task.place == place in
-    let f = position-Some test (x ∷ xs) i x e in
-    let r : Running = get_or (x ∷ xs) i x in
-    (r.task, map_at (λ (y : Running). y.task) (x ∷ xs) i r (slice_get-get_or (x ∷ xs) i x f.0), is_place r.task.place place f.1)
-
-pub index_is : (running : List Running) (tasks : List Task) (place : ℕ) → map (λ (r : Running). r.task) running ≡ tasks → (o : Option ℕ) → o ≡ position (λ (r : Running). r.task.place == place) running
-    → IfSome o (λ i. (t : Task) × (slice_get tasks i ≡ Some t) × (t.place ≡ place)) × IfNone o (list_any (λ (t : Task). t.place == place) tasks ≡ false)
-index_is running tasks place is None e = (tt, subst (λ (l : List Task). list_any (λ (t : Task). t.place == place) l ≡ false) is (no_task running place (sym e)))
-index_is running tasks place is (Some i) e =
-    let found = task_at running place i (sym e) in
-    ((found.0, ap (λ (l : List Task). slice_get l i) (sym is) ∙ found.1, found.2), tt)
 
 pub is_held : (tasks : List Task) (place i : ℕ) (t : Task) → slice_get tasks i ≡ Some t → t.place ≡ place → list_any (λ (t : Task). t.place == place) tasks ≡ true
 is_held [] place i t at is = absurd (let no : None ≡ Some t = at in cc)
@@ -107,3 +87,26 @@ no_step (Some s) e = absurd (let no : None ≡ Some (step_page s) = e in cc)
 -- the requests of a seat are apart
 pub seat_apart : (group : List Task) (callers caller : ℕ) (s : Sitting) → are_apart group ≡ true → s.tasks ≡ dealt callers caller group → Apart s.tasks
 seat_apart group callers caller s apart is = subst (λ (l : List Task). Apart l) (sym is) (apart_from (dealt callers caller group) (dealt_apart callers caller 0 group apart))
+
+-- a request that was found among the seat's own
+pub found_task : (running : List Running) (tasks : List Task) (place i : ℕ) → map (λ (r : Running). r.task) running ≡ tasks → (r : Running) × (slice_get running i ≡ Some r) × (r.task.place ≡ place)
+    → (t : Task) × (slice_get tasks i ≡ Some t) × (t.place ≡ place)
+found_task running tasks place i is f = (f.0.task, ap (λ (l : List Task). slice_get l i) (sym is) ∙ map_at (λ (r : Running). r.task) running i f.0 f.1, f.2)
+
+pub near_is : (running : List Running) (tasks : List Task) (place : ℕ) → map (λ (r : Running). r.task) running ≡ tasks → (o : Option ℕ)
+    → IfSome o (λ i. (r : Running) × (slice_get running i ≡ Some r) × (r.task.place ≡ place)) → (o ≡ None → list_any (λ (r : Running). r.task.place == place) running ≡ false)
+    → IfSome o (λ i. (t : Task) × (slice_get tasks i ≡ Some t) × (t.place ≡ place)) × IfNone o (list_any (λ (t : Task). t.place == place) tasks ≡ false)
+near_is running tasks place is None some none = (tt, subst (λ (l : List Task). list_any (λ (t : Task). t.place == place) l ≡ false) is (sym (any_task running place) ∙ none refl))
+near_is running tasks place is (Some i) some none = (found_task running tasks place i is some, tt)
+
+pub near_at : (running : List Running) (place i : ℕ) → position (λ (r : Running). r.task.place == place) running ≡ Some i → (r : Running) × (slice_get running i ≡ Some r) × (r.task.place ≡ place)
+near_at [] place i e = absurd (let no : None ≡ Some i = e in cc)
+near_at (x ∷ xs) place i e =
+    let f = position-Some (λ (r : Running). r.task.place == place) (x ∷ xs) i x e in
+    let r : Running = get_or (x ∷ xs) i x in
+    (r, slice_get-get_or (x ∷ xs) i x f.0, is_place r.task.place place f.1)
+
+pub at_is : (running : List Running) (place : ℕ) (o : Option ℕ) → o ≡ position (λ (r : Running). r.task.place == place) running
+    → IfSome o (λ i. (r : Running) × (slice_get running i ≡ Some r) × (r.task.place ≡ place)) × (o ≡ None → list_any (λ (r : Running). r.task.place == place) running ≡ false)
+at_is running place None e = (tt, λ _. none_passes (λ (r : Running). r.task.place == place) running (sym e))
+at_is running place (Some i) e = (near_at running place i (sym e), λ n. absurd (let no : Some i ≡ None = n in cc))

@@ -75,6 +75,7 @@ pub(crate) fn gather_seats<J: Room>(
         let Seat {
             caller: _,
             running,
+            latest: _,
             token,
             of: _,
         } = seat;

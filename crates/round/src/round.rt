@@ -134,6 +134,7 @@ impl<J: Room> Round<J> {
         ensures err { OnErr result (seat.new ≡ seat.old) }
     {
         let (index, number) = seat.next(place)?;
+        seat.note_latest(index);
         let mut locked = self.pages[number].lock(rt);
         // Each lock has the page of its place, which no clause can say.
         if locked.number != number {

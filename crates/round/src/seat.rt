@@ -1,12 +1,12 @@
 //! The seats of the callers.
 
 ghost use Rattle.std.specs.Prelude.{◌≡◌, ◌<◌, ◌==◌, ◌↔◌, ◌⊎◌, [], true, false, Some, IfSome, IfNone, IfOk, IfErr, IsErrOf, map, length, slice_get, option_map};
-ghost use Rattle.std.specs.List.{list_all, position};
+ghost use Rattle.std.specs.List.{list_all, list_any, position};
 ghost use Rattle.item_steps.specs.declared.group.Task.{Task};
 ghost use Rattle.round.specs.Tickets.{name_view, name_of_caller};
 ghost use Rattle.item_steps.specs.declared.step.Step.{Step};
 ghost use Rattle.pages.specs.Step.{step_page};
-ghost use Rattle.round.specs.Sittings.{running_in, next_of, dealt, holds, is_done, has_ended, are_apart, IsAtEnd};
+ghost use Rattle.round.specs.Sittings.{Running as RunningState, running_in, next_of, dealt, holds, is_done, has_ended, are_apart, IsAtEnd};
 
 use crate::room::Room;
 use crate::rule::Token;
@@ -22,6 +22,8 @@ use std::marker::{Model, PhantomData};
 pub struct Seat<J: Room> {
     pub(crate) caller: usize,
     pub(crate) running: Vec<Running>,
+    // The index of the request that made the latest step.
+    pub(crate) latest: usize,
     pub(crate) token: Token,
     pub(crate) of: PhantomData<J>,
 }
@@ -38,11 +40,37 @@ impl<J: Room> Model for Seat<J> {
     ghost invariant = { λ s. IsSeated J.table J.group J.callers s.token s.caller s.running.items };
 }
 
+/// Whether the request of this index is the one at the place.
+fn is_at(running: &[Running], index: usize, place: u32) -> bool
+    ensures { result ≡ true → (r : RunningState) × (slice_get running.now index ≡ Some r) × (r.task.place ≡ place) }
+{
+    match running.get(index) {
+        Some(r) => r.place() == place,
+        None => false,
+    }
+}
+
 /// Where the request at the place stands among these, if it does.
 fn index_at(running: &[Running], place: u32) -> Option<usize>
     ensures { result ≡ position (λ r. r.task.place == place) running.now }
 {
     running.iter().position(|r| r.place() == place)
+}
+
+/// The same, looked for first where the latest step was made and right after it: a request is mostly
+/// stepped until it has no step left, and then the one after it.
+fn index_near(running: &[Running], latest: usize, place: u32) -> Option<usize>
+    ensures some { IfSome result (λ i. (r : RunningState) × (slice_get running.now i ≡ Some r) × (r.task.place ≡ place)) }
+    ensures none { result ≡ None → list_any (λ r. r.task.place == place) running.now ≡ false }
+{
+    if is_at(running, latest, place) {
+        return Some(latest);
+    }
+    let next = latest.wrapping_add(1);
+    if is_at(running, next, place) {
+        return Some(next);
+    }
+    index_at(running, place)
 }
 
 /// Whether no step of these is left.
@@ -63,6 +91,7 @@ impl<J: Room> Seat<J> {
         Seat {
             caller,
             running,
+            latest: 0,
             token,
             of: PhantomData,
         }
@@ -90,7 +119,7 @@ impl<J: Room> Seat<J> {
         ensures some { IfSome result (λ i. (task : Task) × (slice_get self.now.tasks i ≡ Some task) × (task.place ≡ place)) }
         ensures none { IfNone result (holds self.now place ≡ false) }
     {
-        index_at(&self.running, place)
+        index_near(&self.running, self.latest, place)
     }
 
     /// The page on which the next step of the request of this index runs, if one is left.
@@ -123,6 +152,13 @@ impl<J: Room> Seat<J> {
             Some(number) => Ok((index, number)),
             None => Err(Fault::NotOpen),
         }
+    }
+
+    /// The request of this index makes a step.
+    pub(crate) fn note_latest(&mut self, index: usize)
+        ensures { self.new ≡ self.old }
+    {
+        self.latest = index;
     }
 
     /// Whether no step of the seat is left.
