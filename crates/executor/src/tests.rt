@@ -8,6 +8,7 @@ use token::Token;
 use wire::read;
 
 mod records;
+mod threads;
 
 /// The record of batch `n` at a moment, without its requests.
 fn batch_bytes(alloc: Global, n: u8, moment: u32, count: u8) -> Result<Vec<u8>, AllocError> {
