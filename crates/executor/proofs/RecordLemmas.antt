@@ -2,7 +2,6 @@
 use Rattle.std.proofs.Common.{◌≡◌, Bool, Result, Ok, Err, ℕ, ◌<◌, ◌^◌, List, [], ◌++◌, length, take, drop, take-append-drop, true, false, refl, sym, ap, ◌∙◌, arith, subst, append_assoc}
 use Rattle.std.specs.Prelude.{not, ◌&&◌, ◌==◌}
 use Rattle.std.proofs.lemmas.Bool.{and_from}
-use Rattle.std.proofs.lemmas.Bool.Decides.{nat_tests}
 use Rattle.std.proofs.lemmas.List.{take-append-le, take_all}
 use Rattle.std.specs.Str.{bytes_eq}
 use Rattle.std.proofs.lemmas.Slice.Eq.{bytes_eq-Decides}
@@ -19,6 +18,7 @@ use Rattle.wire.specs.Item.{page_text}
 use Rattle.wire.proofs.Values.{Refused-weaker}
 use Rattle.wire.proofs.Rows.{unfit}
 use Rattle.pages.specs.Page.{page_entries}
+use Rattle.pages.proofs.JoinedLemmas.{same_number}
 use Rattle.executor.specs.declared.head.Head.{Head}
 use Rattle.executor.specs.State.{StateView, IsState, first_state, with_token}
 use Rattle.executor.specs.Records.{head_of, head_text, pages_text, state_text, change_text, changes_text, after_text}
@@ -117,20 +117,20 @@ no_head bytes e = Refused-weaker e (λ none. record {
 })
 
 module _ (bytes : List ℕ) (h : Head) (rest : List ℕ) (got : bytes ≡ head_text h ++ rest) where
-  same_number : (v : StateView) (after : List ℕ) → bytes ≡ state_text v ++ after → h.number ≡ v.number
-  same_number v after same = ap (λ (x : Head). x.number) (head_prefix_free.apart h (head_of v) rest (sessions_text v.sessions ++ (pages_text v.items ++ after)) (sym got ∙ (same ∙ head_front v after))).0
+  its_number : (v : StateView) (after : List ℕ) → bytes ≡ state_text v ++ after → h.number ≡ v.number
+  its_number v after same = ap (λ (x : Head). x.number) (head_prefix_free.apart h (head_of v) rest (sessions_text v.sessions ++ (pages_text v.items ++ after)) (sym got ∙ (same ∙ head_front v after))).0
 
   -- of number 0 there is the first state alone
   pub takes_first : h.number ≡ 0 → (r : Result (StateView × Bor (List ℕ)) Fault) → Takes IsFirst state_text bytes r → Takes IsState state_text bytes r
   takes_first none (Ok p) t = (subst IsState (sym t.0) first_is_state, t.1)
   takes_first none (Err e) t = Refused-weaker e (λ (no_first : NoFront IsFirst state_text bytes). record {
-    none = λ v after f same. no_first.none v after (f.first (sym (same_number v after same) ∙ none)) same;
+    none = λ v after f same. no_first.none v after (f.first (sym (its_number v after same) ∙ none)) same;
   }) t
 
   pub takes_later : 0 < h.number → (r : Result (StateView × Bor (List ℕ)) Fault) → Takes IsLater state_text bytes r → Takes IsState state_text bytes r
   takes_later some (Ok p) t = (t.0.state, t.1)
   takes_later some (Err e) t = Refused-weaker e (λ (no_later : NoFront IsLater state_text bytes). record {
-    none = λ v after f same. no_later.none v after (record { state = f; later = omega (arith, some, same_number v after same) }) same;
+    none = λ v after f same. no_later.none v after (record { state = f; later = omega (arith, some, its_number v after same) }) same;
   }) t
 
 -- what stands before the rest
@@ -150,14 +150,11 @@ not_stripped bytes text other s e first = record {
 abbrev pub is_same_head : Head → Head → Bool
 is_same_head a b = (a.number == b.number) && (bytes_eq a.previous.0 b.previous.0 && ((a.epoch == b.epoch) && (bytes_eq a.batch b.batch && ((a.moment == b.moment) && bytes_eq a.token.0 b.token.0))))
 
-own_number : (n : ℕ) → (n == n) ≡ true
-own_number n = grind (arith, nat_tests)
-
 own_bytes : (xs : List ℕ) → bytes_eq xs xs ≡ true
 own_bytes xs = (bytes_eq-Decides xs xs).1 refl
 
 pub heads_alike : (a b : Head) → a ≡ b → not (is_same_head a b) ≡ true → ⊥
 heads_alike a b e = subst (λ (h : Head). not (is_same_head a h) ≡ true → ⊥) e (λ wrong.
-    let own : is_same_head a a ≡ true = and_from _ _ (own_number a.number) (and_from _ _ (own_bytes a.previous.0) (and_from _ _ (own_number a.epoch) (and_from _ _ (own_bytes a.batch) (and_from _ _ (own_number a.moment) (own_bytes a.token.0))))) in
+    let own : is_same_head a a ≡ true = and_from _ _ (same_number a.number) (and_from _ _ (own_bytes a.previous.0) (and_from _ _ (same_number a.epoch) (and_from _ _ (own_bytes a.batch) (and_from _ _ (same_number a.moment) (own_bytes a.token.0))))) in
     let clash : false ≡ true = ap not (sym own) ∙ wrong in
     cc clash)

@@ -19,6 +19,7 @@ use Rattle.batches.specs.declared.batch.Batch.{Batch}
 use Rattle.wire.specs.Session.{SessionsFit}
 use Rattle.wire.specs.Record.{Refused}
 use Rattle.wire.proofs.Values.{Refused-weaker}
+use Rattle.pages.proofs.JoinedLemmas.{same_number}
 use Rattle.executor.specs.declared.answered.Answered.{Answered}
 use Rattle.executor.specs.State.{StateView}
 use Rattle.executor.specs.Fresh.{Runner, runs, fresh, fresh_after}
@@ -136,9 +137,6 @@ same_client c = grind (arith, nat_tests)
 different_client : (c d : ℕ) → d ≢ c → eq_by_cmp nat_cmp c d ≡ false
 different_client c d apart = grind (arith, nat_tests)
 
-own_number : (n : ℕ) → (n == n) ≡ true
-own_number n = grind (arith, nat_tests)
-
 module _ (reply_to : Runner → Reply) where
   abbrev answer_to : Runner → Answered
   answer_to r = record { place = r.0; client = r.1.client; number = r.1.number; reply = reply_to r }
@@ -160,7 +158,7 @@ module _ (reply_to : Runner → Reply) where
       let now : Replies = insert s r.1.client (kept_of r) in
       let found : get (kept_after now (map answer_to rs)) r.1.client ≡ Some (kept_of r) =
       untouched now rs r.1.client apart.0 ∙ (get-insert nat_cmp_total s r.1.client (kept_of r) r.1.client ∙ ap (λ b. cond b (Some (kept_of r)) (get s r.1.client)) (same_client r.1.client)) in
-      let head : kept_for (kept_after now (map answer_to rs)) r ≡ Some (answer_to r) = ap (reply_kept r) found ∙ ap (λ b. if b then Some (answer_to r) else None) (own_number r.1.number) in
+      let head : kept_for (kept_after now (map answer_to rs)) r ≡ Some (answer_to r) = ap (reply_kept r) found ∙ ap (λ b. if b then Some (answer_to r) else None) (same_number r.1.number) in
       (λ i. head i ∷ all_kept now rs apart.1 i)
 
 -- a round's sessions keep its replies

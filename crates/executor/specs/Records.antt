@@ -37,7 +37,7 @@ pages_text m = each_page (λ p. page_text (page_entries m p))
 unfoldable pub state_text : StateView → List ℕ
 state_text s = head_text (head_of s) ++ sessions_text s.sessions ++ pages_text s.items
 
--- a page where it is not the same as before
+-- a page where it is not the same as before; pages with one text are the same
 abbrev pub changed : List (List ℕ × Item) → List (List ℕ × Item) → Option (List (List ℕ × Item))
 changed before after = if bytes_eq (page_text before) (page_text after) then None else Some after
 

@@ -3,7 +3,8 @@
 //!
 //! It stands on `pages`, `mixer`, `wire`, `token` and `decrees`. The layer above uses `Work::finish`:
 //! what is done is a round of the base and the batch, with its token; and `Tentative::commit`, which
-//! shows the replies by the decree of that token alone.
+//! shows the replies by the decree of that token alone. For a keeper there are the records that
+//! `write` appends and `restore` reads: of a committed state, and of a tentative one over its base.
 #![tactic(auto)]
 
 mod answered;
