@@ -11,8 +11,7 @@ use std::alloc::{AllocError, Global};
 use std::sync::Wait;
 use std::thread::Threads;
 
-/// Runs the group on the pages: by as many workers as have a request to run, and at most so many.
-/// Place 0 is at `base`.
+/// Runs the group on the pages, by at most so many workers at once. Place 0 is at `base`.
 ///
 /// The only error is want of memory: a round refuses no group of a batch within its limits.
 pub fn run_group<R: Threads + Wait + Sync, G: Gate + Sync>(
@@ -27,8 +26,7 @@ pub fn run_group<R: Threads + Wait + Sync, G: Gate + Sync>(
     ensures runs { IfOk result (λ r. GroupRuns base pages tasks.items r.0 (map (λ ran. ran.answers) r.1.items)) }
     ensures tasks { IfOk result (λ r. map (λ ran. ran.task) r.1.items ≡ tasks.items) }
 {
-    let callers = workers.count().min(tasks.len()).max(1);
-    match run(rt, alloc, pages, tasks, base, callers, gate) {
+    match run(rt, alloc, pages, tasks, base, workers.count(), gate) {
         Ok(done) => Ok(done),
         Err(_) => Err(AllocError),
     }

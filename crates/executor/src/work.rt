@@ -351,7 +351,7 @@ impl Work {
         loop {
             let ran = work.run_round(rt, alloc, workers, gate)?;
             match ran.finish(alloc)? {
-                Ended::On(next) => work = next,
+                Ended::On(more) => work = more,
                 Ended::Done(tentative) => return Ok(tentative),
             }
         }

@@ -2,7 +2,7 @@
 use Rattle.std.proofs.Common.{◌≡◌, ℕ, ◌+◌, ◌-◌, ◌<◌, ◌≤◌, Bool, true, false, List, [], ◌∷◌, ◌++◌, map, length, set, Some, refl, sym, ap, ◌∙◌, arith, leb, length-append}
 use Rattle.std.specs.Prelude.{slice_get, nat_le, nat_lt, ◌&&◌}
 use Rattle.std.specs.List.{list_all}
-use Rattle.std.proofs.lemmas.Bool.{and_parts, leb-true, ltb-true}
+use Rattle.std.proofs.lemmas.Bool.{and_parts, and_from, leb-true, ltb-true, le-leb, lt-ltb}
 use Rattle.std.proofs.lemmas.Option.{slice_get_within}
 use Rattle.item_steps.specs.declared.step.Place.{Place}
 use Rattle.item_steps.specs.declared.step.Step.{Step}
@@ -74,3 +74,11 @@ seat_after base group callers caller fit running log has follows index task ther
       follows_push tasks apart log e index task there its next follows,
       ap (λ (l : List Running). map (λ (r : Running). r.task) l) all ∙ tasks_of_running (log ++ e ∷ []) tasks,
     )
+
+-- a group that fits so many callers fits fewer
+pub fits_fewer : (base : Place) (group : List Task) (callers busy : ℕ) → fits base group callers ≡ true → 0 < busy → busy ≤ callers → fits base group busy ≡ true
+fits_fewer base group callers busy fit some fewer =
+    let all = both base group callers fit in
+    let most = leb-true callers most_callers (and_parts (nat_lt 0 callers) (nat_le callers most_callers) all.0).1 in
+    and_from (nat_lt 0 busy && nat_le busy most_callers) (nat_le (length group) most_requests && (list_all (task_fits base) group && are_apart group))
+    (and_from (nat_lt 0 busy) (nat_le busy most_callers) (lt-ltb 0 busy some) (le-leb busy most_callers (omega arith))) all.1

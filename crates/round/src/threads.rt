@@ -1,12 +1,12 @@
 //! A whole round: opened, worked by its callers, and closed.
 
-ghost use Rattle.std.specs.Prelude.{◌≡◌, ◌⊎◌, true, false, [], map, IfOk, IfErr, OnOk};
+ghost use Rattle.std.specs.Prelude.{◌≡◌, ◌↔◌, ◌⊎◌, false, [], map, IfOk, IfErr, IsErrOf};
 ghost use Rattle.item_steps.specs.Schedule.{GroupRuns};
 ghost use Rattle.round.specs.Tickets.{maker};
 ghost use Rattle.round.specs.Sittings.{fits, StayInOrder};
 
 use crate::gate::Gate;
-use crate::open::MOST_STEPS;
+use crate::open::{MOST_STEPS, fits};
 use crate::room::Room;
 use crate::round::Round;
 use crate::rule::Token;
@@ -97,7 +97,6 @@ fn within<J: Room + Send + Sync, R: Threads + Wait + Sync, G: Gate + Sync>(
     requires callers { callers ≡ J.callers }
     ensures runs { IfOk result (λ r. GroupRuns base pages group.items r.0 (map (λ ran. ran.answers) r.1.items)) }
     ensures tasks { IfOk result (λ r. map (λ ran. ran.task) r.1.items ≡ group.items) }
-    ensures fit { OnOk result (fits base group.items callers ≡ true) }
     ensures unfit { IfErr result (λ fault. fault ≡ Fault.Unfit → fits base group.items callers ≡ false) }
     ensures only { IfErr result (λ fault. (fault ≡ Fault.Unfit) ⊎ (fault ≡ Fault.NoMemory)) }
 {
@@ -112,13 +111,14 @@ fn within<J: Room + Send + Sync, R: Threads + Wait + Sync, G: Gate + Sync>(
 
 /// Runs the steps of the group on the pages, by so many callers at once: caller `c` makes the steps of
 /// the requests whose position in the group is `c` modulo the number of callers. One caller is the
-/// thread that calls; each other one is a thread of its own, which has ended when the call returns.
+/// thread that calls; each other one that has a request is a thread of its own, which has ended when
+/// the call returns.
 ///
 /// The requests come back with their answers, in the group's order. The pages and the answers are what
 /// some interleaving of the group's steps leads to. The stamp of a request is the base's stamp plus its place.
 ///
-/// `Unfit` only where `Round::open` refuses the group or the number of callers, and no Ok then. The
-/// only other error is want of memory.
+/// `Unfit` where `Round::open` refuses the group or the number of callers. The only other error is
+/// want of memory.
 pub fn run<R: Threads + Wait + Sync, G: Gate + Sync>(
     rt: &R,
     alloc: Global,
@@ -130,10 +130,14 @@ pub fn run<R: Threads + Wait + Sync, G: Gate + Sync>(
 ) -> Result<(Pages, Vec<Ran>), Fault>
     ensures runs { IfOk result (λ r. GroupRuns base pages group.items r.0 (map (λ ran. ran.answers) r.1.items)) }
     ensures tasks { IfOk result (λ r. map (λ ran. ran.task) r.1.items ≡ group.items) }
-    ensures fit { OnOk result (fits base group.items callers ≡ true) }
-    ensures unfit { IfErr result (λ fault. fault ≡ Fault.Unfit → fits base group.items callers ≡ false) }
+    ensures unfit { IsErrOf result Fault.Unfit ↔ (fits base group.items callers ≡ false) }
     ensures only { IfErr result (λ fault. (fault ≡ Fault.Unfit) ⊎ (fault ≡ Fault.NoMemory)) }
 {
+    if !fits(base, &group, callers) {
+        return Err(Fault::Unfit);
+    }
+    // A caller without a request would have nothing to do.
+    let busy = callers.min(group.len()).max(1);
     let (word, master) = TicketWord::open(alloc)?;
-    within::<Brand, R, G>(rt, alloc, word, master, pages, group, base, callers, gate)
+    within::<Brand, R, G>(rt, alloc, word, master, pages, group, base, busy, gate)
 }
