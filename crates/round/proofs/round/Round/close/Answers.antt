@@ -39,8 +39,8 @@ join-requires g c =
     let same_length = length-map c.in_ok-pages.pages.items (λ (x : PageState). x.items) in
     let wide : length (items_of c.in_ok-pages.pages.items) ≡ page_count = let all = c.in_ok-pages.ensures.all in let locks = c.args.self.all in omega arith in
     let all = gathered g.J.Room.base g.J.Room.opening g.J.Room.group g.J.Room.callers k.order (items_of c.in_ok-pages.pages.items) c.args.seats.items c.gather_pages.new.master.me.0.held c.in_ok-running.ensures.held.0
-        c.gather_seats.new.master.me.0.held (fit_apart g.J.Room.base g.J.Room.group g.J.Room.callers fit) (fit_some g.J.Room.base g.J.Room.group g.J.Room.callers fit) c.requires c.in_ok-running.ensures.sat ended wide k.kinds
-        (λ n le. k.none_to_come makes n (subst (λ i. i ≤ n) (sym next) le)) c.in_ok-pages.ensures.pages c.in_ok-running.ensures.held.2 c.in_ok-running.ensures.held.1 k.logs in
+    c.gather_seats.new.master.me.0.held (fit_apart g.J.Room.base g.J.Room.group g.J.Room.callers fit) (fit_some g.J.Room.base g.J.Room.group g.J.Room.callers fit) c.requires c.in_ok-running.ensures.sat ended wide k.kinds
+    (λ n le. k.none_to_come makes n (subst (λ i. i ≤ n) (sym next) le)) c.in_ok-pages.ensures.pages c.in_ok-running.ensures.held.2 c.in_ok-running.ensures.held.1 k.logs in
     (replayed g.J.Room.base g.J.Room.opening g.J.Room.group g.J.Room.callers k.order (items_of c.in_ok-pages.pages.items) c.args.seats.items all).are
 
 pub returns-clause-ended : goal.returns-clause-ended
@@ -56,20 +56,20 @@ returns-clause-ended g c =
     let same_length = length-map c.in_ok-pages.pages.items (λ (x : PageState). x.items) in
     let wide : length (items_of c.in_ok-pages.pages.items) ≡ page_count = let all = c.in_ok-pages.ensures.all in let locks = c.args.self.all in omega arith in
     let all = gathered g.J.Room.base g.J.Room.opening g.J.Room.group g.J.Room.callers k.order (items_of c.in_ok-pages.pages.items) c.args.seats.items c.gather_pages.new.master.me.0.held c.in_ok-running.ensures.held.0
-        c.gather_seats.new.master.me.0.held (fit_apart g.J.Room.base g.J.Room.group g.J.Room.callers fit) (fit_some g.J.Room.base g.J.Room.group g.J.Room.callers fit) c.requires c.in_ok-running.ensures.sat ended wide k.kinds
-        (λ n le. k.none_to_come makes n (subst (λ i. i ≤ n) (sym next) le)) c.in_ok-pages.ensures.pages c.in_ok-running.ensures.held.2 c.in_ok-running.ensures.held.1 k.logs in
+    c.gather_seats.new.master.me.0.held (fit_apart g.J.Room.base g.J.Room.group g.J.Room.callers fit) (fit_some g.J.Room.base g.J.Room.group g.J.Room.callers fit) c.requires c.in_ok-running.ensures.sat ended wide k.kinds
+    (λ n le. k.none_to_come makes n (subst (λ i. i ≤ n) (sym next) le)) c.in_ok-pages.ensures.pages c.in_ok-running.ensures.held.2 c.in_ok-running.ensures.held.1 k.logs in
     let running = c.in_ok-running.running in
     let count : vec_len running ≡ g.J.Room.callers =
-        let of_lists = ap length c.in_ok-running.ensures.running in
-        let one = length-map running.items (λ v. v.items) in
-        let two = length-map c.args.seats.items (λ (s : Sitting). map (running_in s.log) s.tasks) in
-        let three = length-map c.args.seats.items (λ (s : Sitting). s.caller) in
-        let names : length (map (λ (s : Sitting). s.caller) c.args.seats.items) ≡ g.J.Room.callers = ap length c.requires ∙ length-range_with_len 0 g.J.Room.callers in
-        let ok = running.ok in
-        omega arith in
+    let of_lists = ap length c.in_ok-running.ensures.running in
+    let one = length-map running.items (λ v. v.items) in
+    let two = length-map c.args.seats.items (λ (s : Sitting). map (running_in s.log) s.tasks) in
+    let three = length-map c.args.seats.items (λ (s : Sitting). s.caller) in
+    let names : length (map (λ (s : Sitting). s.caller) c.args.seats.items) ≡ g.J.Room.callers = ap length c.requires ∙ length-range_with_len 0 g.J.Room.callers in
+    let ok = running.ok in
+    omega arith in
     let ran = c.in_ok-ran.ensures (running_in k.order) g.J.Room.group (sym c.args.self.counted)
-        (c.in_ok-running.ensures.running ∙ lists g.J.Room.base g.J.Room.opening g.J.Room.group g.J.Room.callers k.order (items_of c.in_ok-pages.pages.items) c.args.seats.items all
-        ∙ ap (λ n. map (λ caller. map (running_in k.order) (dealt n caller g.J.Room.group)) (range_with_len 0 n)) (sym count)) in
+    (c.in_ok-running.ensures.running ∙ lists g.J.Room.base g.J.Room.opening g.J.Room.group g.J.Room.callers k.order (items_of c.in_ok-pages.pages.items) c.args.seats.items all
+    ∙ ap (λ n. map (λ caller. map (running_in k.order) (dealt n caller g.J.Room.group)) (range_with_len 0 n)) (sym count)) in
     let answers = ap (map (λ (r : Running). r.answers)) ran ∙ answers_of (running_in k.order) g.J.Room.group in
     let end = ends g.J.Room.base g.J.Room.opening g.J.Room.group g.J.Room.callers k.order (items_of c.in_ok-pages.pages.items) c.args.seats.items all (map (λ r. r.answers) c.in_ok-ran.ran.items) answers in
     let whole = subst (λ (now : Items). Ended g.J.Room.base g.J.Room.opening g.J.Room.group c.args.seats.items now (map (λ r. r.answers) c.in_ok-ran.ran.items)) (sym c.join.ensures) end in
@@ -88,20 +88,20 @@ returns-clause-runs g c =
     let same_length = length-map c.in_ok-pages.pages.items (λ (x : PageState). x.items) in
     let wide : length (items_of c.in_ok-pages.pages.items) ≡ page_count = let all = c.in_ok-pages.ensures.all in let locks = c.args.self.all in omega arith in
     let all = gathered g.J.Room.base g.J.Room.opening g.J.Room.group g.J.Room.callers k.order (items_of c.in_ok-pages.pages.items) c.args.seats.items c.gather_pages.new.master.me.0.held c.in_ok-running.ensures.held.0
-        c.gather_seats.new.master.me.0.held (fit_apart g.J.Room.base g.J.Room.group g.J.Room.callers fit) (fit_some g.J.Room.base g.J.Room.group g.J.Room.callers fit) c.requires c.in_ok-running.ensures.sat ended wide k.kinds
-        (λ n le. k.none_to_come makes n (subst (λ i. i ≤ n) (sym next) le)) c.in_ok-pages.ensures.pages c.in_ok-running.ensures.held.2 c.in_ok-running.ensures.held.1 k.logs in
+    c.gather_seats.new.master.me.0.held (fit_apart g.J.Room.base g.J.Room.group g.J.Room.callers fit) (fit_some g.J.Room.base g.J.Room.group g.J.Room.callers fit) c.requires c.in_ok-running.ensures.sat ended wide k.kinds
+    (λ n le. k.none_to_come makes n (subst (λ i. i ≤ n) (sym next) le)) c.in_ok-pages.ensures.pages c.in_ok-running.ensures.held.2 c.in_ok-running.ensures.held.1 k.logs in
     let running = c.in_ok-running.running in
     let count : vec_len running ≡ g.J.Room.callers =
-        let of_lists = ap length c.in_ok-running.ensures.running in
-        let one = length-map running.items (λ v. v.items) in
-        let two = length-map c.args.seats.items (λ (s : Sitting). map (running_in s.log) s.tasks) in
-        let three = length-map c.args.seats.items (λ (s : Sitting). s.caller) in
-        let names : length (map (λ (s : Sitting). s.caller) c.args.seats.items) ≡ g.J.Room.callers = ap length c.requires ∙ length-range_with_len 0 g.J.Room.callers in
-        let ok = running.ok in
-        omega arith in
+    let of_lists = ap length c.in_ok-running.ensures.running in
+    let one = length-map running.items (λ v. v.items) in
+    let two = length-map c.args.seats.items (λ (s : Sitting). map (running_in s.log) s.tasks) in
+    let three = length-map c.args.seats.items (λ (s : Sitting). s.caller) in
+    let names : length (map (λ (s : Sitting). s.caller) c.args.seats.items) ≡ g.J.Room.callers = ap length c.requires ∙ length-range_with_len 0 g.J.Room.callers in
+    let ok = running.ok in
+    omega arith in
     let ran = c.in_ok-ran.ensures (running_in k.order) g.J.Room.group (sym c.args.self.counted)
-        (c.in_ok-running.ensures.running ∙ lists g.J.Room.base g.J.Room.opening g.J.Room.group g.J.Room.callers k.order (items_of c.in_ok-pages.pages.items) c.args.seats.items all
-        ∙ ap (λ n. map (λ caller. map (running_in k.order) (dealt n caller g.J.Room.group)) (range_with_len 0 n)) (sym count)) in
+    (c.in_ok-running.ensures.running ∙ lists g.J.Room.base g.J.Room.opening g.J.Room.group g.J.Room.callers k.order (items_of c.in_ok-pages.pages.items) c.args.seats.items all
+    ∙ ap (λ n. map (λ caller. map (running_in k.order) (dealt n caller g.J.Room.group)) (range_with_len 0 n)) (sym count)) in
     let answers = ap (map (λ (r : Running). r.answers)) ran ∙ answers_of (running_in k.order) g.J.Room.group in
     let end = ends g.J.Room.base g.J.Room.opening g.J.Room.group g.J.Room.callers k.order (items_of c.in_ok-pages.pages.items) c.args.seats.items all (map (λ r. r.answers) c.in_ok-ran.ran.items) answers in
     let whole = subst (λ (now : Items). Ended g.J.Room.base g.J.Room.opening g.J.Room.group c.args.seats.items now (map (λ r. r.answers) c.in_ok-ran.ran.items)) (sym c.join.ensures) end in
@@ -120,18 +120,18 @@ returns-clause-tasks g c =
     let same_length = length-map c.in_ok-pages.pages.items (λ (x : PageState). x.items) in
     let wide : length (items_of c.in_ok-pages.pages.items) ≡ page_count = let all = c.in_ok-pages.ensures.all in let locks = c.args.self.all in omega arith in
     let all = gathered g.J.Room.base g.J.Room.opening g.J.Room.group g.J.Room.callers k.order (items_of c.in_ok-pages.pages.items) c.args.seats.items c.gather_pages.new.master.me.0.held c.in_ok-running.ensures.held.0
-        c.gather_seats.new.master.me.0.held (fit_apart g.J.Room.base g.J.Room.group g.J.Room.callers fit) (fit_some g.J.Room.base g.J.Room.group g.J.Room.callers fit) c.requires c.in_ok-running.ensures.sat ended wide k.kinds
-        (λ n le. k.none_to_come makes n (subst (λ i. i ≤ n) (sym next) le)) c.in_ok-pages.ensures.pages c.in_ok-running.ensures.held.2 c.in_ok-running.ensures.held.1 k.logs in
+    c.gather_seats.new.master.me.0.held (fit_apart g.J.Room.base g.J.Room.group g.J.Room.callers fit) (fit_some g.J.Room.base g.J.Room.group g.J.Room.callers fit) c.requires c.in_ok-running.ensures.sat ended wide k.kinds
+    (λ n le. k.none_to_come makes n (subst (λ i. i ≤ n) (sym next) le)) c.in_ok-pages.ensures.pages c.in_ok-running.ensures.held.2 c.in_ok-running.ensures.held.1 k.logs in
     let running = c.in_ok-running.running in
     let count : vec_len running ≡ g.J.Room.callers =
-        let of_lists = ap length c.in_ok-running.ensures.running in
-        let one = length-map running.items (λ v. v.items) in
-        let two = length-map c.args.seats.items (λ (s : Sitting). map (running_in s.log) s.tasks) in
-        let three = length-map c.args.seats.items (λ (s : Sitting). s.caller) in
-        let names : length (map (λ (s : Sitting). s.caller) c.args.seats.items) ≡ g.J.Room.callers = ap length c.requires ∙ length-range_with_len 0 g.J.Room.callers in
-        let ok = running.ok in
-        omega arith in
+    let of_lists = ap length c.in_ok-running.ensures.running in
+    let one = length-map running.items (λ v. v.items) in
+    let two = length-map c.args.seats.items (λ (s : Sitting). map (running_in s.log) s.tasks) in
+    let three = length-map c.args.seats.items (λ (s : Sitting). s.caller) in
+    let names : length (map (λ (s : Sitting). s.caller) c.args.seats.items) ≡ g.J.Room.callers = ap length c.requires ∙ length-range_with_len 0 g.J.Room.callers in
+    let ok = running.ok in
+    omega arith in
     let ran = c.in_ok-ran.ensures (running_in k.order) g.J.Room.group (sym c.args.self.counted)
-        (c.in_ok-running.ensures.running ∙ lists g.J.Room.base g.J.Room.opening g.J.Room.group g.J.Room.callers k.order (items_of c.in_ok-pages.pages.items) c.args.seats.items all
-        ∙ ap (λ n. map (λ caller. map (running_in k.order) (dealt n caller g.J.Room.group)) (range_with_len 0 n)) (sym count)) in
+    (c.in_ok-running.ensures.running ∙ lists g.J.Room.base g.J.Room.opening g.J.Room.group g.J.Room.callers k.order (items_of c.in_ok-pages.pages.items) c.args.seats.items all
+    ∙ ap (λ n. map (λ caller. map (running_in k.order) (dealt n caller g.J.Room.group)) (range_with_len 0 n)) (sym count)) in
     ap (map (λ (r : Running). r.task)) ran ∙ tasks_of k.order g.J.Room.group
