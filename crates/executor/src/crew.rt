@@ -13,7 +13,8 @@ use std::thread::Threads;
 
 /// Runs the group on the pages, by at most so many workers at once. Place 0 is at `base`.
 ///
-/// The only error is want of memory: a round refuses no group of a batch within its limits.
+/// Whatever the round refuses is answered as want of memory. A batch within its limits gives it no
+/// other cause, but no clause says so.
 pub fn run_group<R: Threads + Wait + Sync, G: Gate + Sync>(
     rt: &R,
     alloc: Global,
