@@ -1,19 +1,16 @@
 -- The steps of one request, in order.
-use Rattle.std.proofs.Common.{◌≡◌, ℕ, ◌+◌, ◌<◌, List, ◌∷◌, ◌++◌, drop, get_or, map, length, refl, sym, ap, ◌∙◌, arith}
+use Rattle.std.proofs.Common.{◌≡◌, ℕ, ◌+◌, ◌<◌, List, ◌∷◌, drop, get_or, map, length, sym, ap, ◌∙◌}
 use Rattle.std.proofs.lemmas.List.{drop_more}
 use Rattle.items.specs.Map.{Items}
 use Rattle.item_steps.specs.Effect.{effect}
 use Rattle.item_steps.specs.Schedule.{Placed, stamped, items_after, answers_in, answers_at}
 use Rattle.item_steps.specs.declared.step.Place.{Place}
 use Rattle.item_steps.specs.declared.step.Step.{Step}
-use Rattle.item_steps.specs.declared.step.Answer.{Answer}
+use Rattle.item_steps.proofs.ScheduleLemmas.{stamped_first}
 
 -- the steps of the request at place 0
 abbrev pub at_first : List Step → List Placed
 at_first steps = map (λ step. (0, step)) steps
-
-stamped_first : (base : Place) → stamped base 0 ≡ base
-stamped_first base = let stamp : base.stamp + 0 ≡ base.stamp = omega arith in (λ i. record { moment = base.moment; stamp = stamp i })
 
 -- the items after the step that comes next, and then the others
 pub items_next : (base : Place) (m : Items) (steps : List Step) (i : ℕ) (step : Step) → i < length steps → step ≡ get_or steps i step

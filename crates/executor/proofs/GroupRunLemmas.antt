@@ -1,26 +1,22 @@
 -- Where the steps of a group ran in some interleaving, work goes on as if they were made one after the other.
-use Rattle.std.proofs.Common.{◌≡◌, ◌≢◌, ℕ, zero, suc, ◌+◌, ◌<◌, ◌≤◌, nat_le, Bool, true, false, List, [], ◌∷◌, ◌++◌, map, length, drop, get_or, set, Some, None, Option, refl, sym, ap, ◌∙◌, arith, subst, ◌⊎◌, inl, inr, append_assoc}
-use Rattle.std.specs.Prelude.{slice_get, slice_set, IfSome, IsTrue, filter, ◌==◌, if◌then◌else◌}
+use Rattle.std.proofs.Common.{◌≡◌, ◌≢◌, ℕ, zero, suc, ◌+◌, nat_le, Bool, true, false, List, [], ◌∷◌, ◌++◌, map, length, drop, set, Some, refl, sym, ap, ◌∙◌, arith, subst, append_assoc}
+use Rattle.std.specs.Prelude.{slice_get, IsTrue, ◌==◌, if◌then◌else◌}
 use Rattle.std.specs.List.{AllByRecursion}
-use Rattle.std.proofs.lemmas.List.{append-nil, length_push, map-set, drop_more, length-drop, length-map}
+use Rattle.std.proofs.lemmas.List.{append-nil, length_push, map-set}
 use Rattle.std.proofs.lemmas.Bool.Decides.{nat_tests}
-use Rattle.std.proofs.lemmas.Option.{slice_get_within, get_or_from_slice_get}
-use Rattle.items.specs.Map.{Items}
 use Rattle.item_steps.specs.Effect.{effect}
-use Rattle.item_steps.specs.Schedule.{Placed, IsInterleaving, placed, stamped, items_after, answers_in, answers_at, GroupRuns}
+use Rattle.item_steps.specs.Schedule.{Placed, IsInterleaving, stamped, items_after, answers_in, answers_at}
 use Rattle.item_steps.specs.declared.step.Place.{Place}
 use Rattle.item_steps.specs.declared.step.Step.{Step}
 use Rattle.item_steps.specs.declared.step.Answer.{Answer}
-use Rattle.item_steps.specs.declared.group.Task.{Task}
 use Rattle.batches.specs.declared.batch.Batch.{Batch}
 use Rattle.executor.specs.Running.{Running}
 use Rattle.executor.specs.State.{StateView}
 use Rattle.executor.specs.Round.{first_place}
 use Rattle.executor.specs.Work.{Progress, Worked, stepped, StepMade, next_step, is_done, is_group_done}
 use Rattle.executor.specs.Through.{IsNotLeft}
-use Rattle.executor.proofs.OrderLemmas.{get_set_same, get_set_other}
 use Rattle.executor.proofs.PartialLemmas.{Each}
-use Rattle.executor.proofs.RoundLemmas.{get_map, map_get, same_or_not, answers_at-append, answers_at-own, answers_at-other}
+use Rattle.executor.proofs.RoundLemmas.{get_map, answers_at-append, answers_at-own, answers_at-other}
 use Rattle.executor.proofs.WorkedLemmas.{worked-partial}
 use Rattle.executor.proofs.ThroughLemmas.{all_ran}
 

@@ -18,3 +18,4 @@ pub mod RecordLemmas
 pub mod ReplyLemmas
 pub mod MemberLemmas
 pub mod OneRoundLemmas
+pub mod TaskLemmas

@@ -2,19 +2,7 @@
 use Rattle.std.proofs.Common.{◌≡◌, ◌≢◌, ℕ, zero, suc, List, [], ◌∷◌, ◌++◌, set, Some, Option, refl, sym, ap, ◌∙◌, arith, subst, ◌⊎◌, inl, inr}
 use Rattle.std.specs.Prelude.{slice_get, slice_set}
 use Rattle.std.specs.List.{AllByRecursion}
-use Rattle.items.specs.Map.{Items}
-use Rattle.item_steps.specs.Effect.{effect}
-use Rattle.item_steps.specs.Schedule.{Placed, IsInterleaving, stamped, items_after, answers_in}
-use Rattle.item_steps.specs.declared.step.Place.{Place}
-
-pub items_push : (base : Place) (m : Items) (order : List Placed) (s : Placed) → items_after base m (order ++ s ∷ []) ≡ (effect (items_after base m order) s.1 (stamped base s.0)).0
-items_push base m [] s = refl
-items_push base m (x ∷ order) s = items_push base (effect m x.1 (stamped base x.0)).0 order s
-
-pub answers_push : (base : Place) (m : Items) (order : List Placed) (s : Placed)
-    → answers_in base m (order ++ s ∷ []) ≡ answers_in base m order ++ (s.0, (effect (items_after base m order) s.1 (stamped base s.0)).1) ∷ []
-answers_push base m [] s = refl
-answers_push base m (x ∷ order) s = ap (λ xs. (x.0, (effect m x.1 (stamped base x.0)).1) ∷ xs) (answers_push base (effect m x.1 (stamped base x.0)).0 order s)
+use Rattle.item_steps.specs.Schedule.{IsInterleaving}
 
 eq_or_not : (m n : ℕ) → (m ≡ n) ⊎ (m ≢ n)
 eq_or_not zero zero = inl refl

@@ -1,9 +1,10 @@
 -- Steps are taken from the requests of a group, and put back with their answers.
-use Rattle.std.proofs.Common.{◌≡◌, ◌≢◌, ℕ, zero, suc, ◌<◌, ◌≤◌, Bool, true, false, List, [], ◌∷◌, ◌++◌, map, length, take, get_or, set, Some, None, Option, refl, sym, ap, ◌∙◌, arith, subst}
+use Rattle.std.proofs.Common.{◌≡◌, ◌≢◌, ℕ, zero, suc, ◌<◌, Bool, true, false, List, [], ◌∷◌, ◌++◌, map, length, take, get_or, set, Some, None, Option, refl, sym, ap, ◌∙◌, arith, subst}
 use Rattle.std.specs.Prelude.{slice_get, filter, ◌==◌, if◌then◌else◌}
 use Rattle.std.proofs.lemmas.List.{append-nil, map-append, length-map}
 use Rattle.std.proofs.lemmas.Bool.Decides.{nat_tests}
 use Rattle.std.proofs.lemmas.Option.{slice_get_within}
+use Rattle.proto.proofs.ListLemmas.{snoc_same}
 use Rattle.item_steps.specs.declared.step.Answer.{Answer}
 use Rattle.item_steps.specs.declared.group.Task.{Task}
 use Rattle.executor.specs.Running.{Running}
@@ -209,18 +210,6 @@ put_at group before answers_to k now ran p l =
     there (y ∷ xs) zero m = (y, refl)
     there (y ∷ xs) (suc i) m = there xs i (omega (arith, m))
 
-pub last_is : (xs ys : List Ran) (x y : Ran) → xs ++ x ∷ [] ≡ ys ++ y ∷ [] → (xs ≡ ys) × (x ≡ y)
-last_is [] [] x y e = (refl, (let h : x ≡ y = cc e in h))
-last_is [] (z ∷ []) x y e = absurd (cc e)
-last_is [] (z ∷ w ∷ ys) x y e = absurd (cc e)
-last_is (z ∷ []) [] x y e = absurd (cc e)
-last_is (z ∷ w ∷ xs) [] x y e = absurd (cc e)
-last_is (z ∷ xs) (w ∷ ys) x y e =
-    let head : z ≡ w = cc e in
-    let tail : xs ++ x ∷ [] ≡ ys ++ y ∷ [] = cc e in
-    let rest = last_is xs ys x y tail in
-    ((λ i. head i ∷ rest.0 i), rest.1)
-
 -- a request of another group has its steps
 pub put_other : (group : ℕ) (before : List Running) (answers_to : Task → List Answer) (k : ℕ) (now : List Running) (ran : List Ran) (found : Running) → PutSoFar group before answers_to (suc k) now ran
     → slice_get now k ≡ Some found → (found.group ≡ group → ⊥) → PutSoFar group before answers_to k now ran
@@ -242,7 +231,7 @@ put_own group before answers_to k now ran rest last found p e g tail =
     let x = put_at group before answers_to k now ran p (slice_get_within now k found e) in
     let is : found ≡ emptied group x.0 = one found (emptied group x.0) (sym e ∙ x.2) in
     let b : (x.0.group == group) ≡ true = test x.0.group group (sym (same_group group x.0) ∙ ap (λ (r : Running). r.group) (sym is) ∙ g) in
-    let lists = last_is rest (map (ran_of answers_to) (tasks_before group k before)) last (ran_of answers_to (task_of x.0))
+    let lists = snoc_same rest (map (ran_of answers_to) (tasks_before group k before)) last (ran_of answers_to (task_of x.0))
     (sym tail ∙ p.ran ∙ ap (map (ran_of answers_to)) (tasks_own group before k x.0 x.1 b) ∙ map-append (ran_of answers_to) (tasks_before group k before) (task_of x.0 ∷ [])) in
     let own : found ≡ record x.0 { steps = [] } = is ∙ (let h : emptied group x.0 ≡ record x.0 { steps = [] } = rw b refl in h) in
     let full : record found { steps = last.task.steps; answers = last.answers } ≡ answered_by group answers_to x.0 =

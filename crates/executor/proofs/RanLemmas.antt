@@ -1,10 +1,10 @@
 -- A group that ran as a round is work whose group is done.
 use Rattle.std.proofs.Common.{◌≡◌, ℕ, suc, ◌+◌, ◌<◌, Bool, true, false, List, [], ◌∷◌, ◌++◌, map, length, take, drop, Some, refl, sym, ap, ◌∙◌, subst, arith}
-use Rattle.std.specs.Prelude.{slice_get, IsTrue, filter, ◌==◌, if◌then◌else◌}
+use Rattle.std.specs.Prelude.{IsTrue, ◌==◌, if◌then◌else◌}
 use Rattle.std.proofs.lemmas.Bool.{ltb-true}
 use Rattle.std.proofs.lemmas.Bool.Decides.{nat_tests}
 use Rattle.items.specs.Map.{Items}
-use Rattle.item_steps.specs.Schedule.{Placed, IsInterleaving, placed, stamped, items_after, answers_in, answers_at, GroupRuns}
+use Rattle.item_steps.specs.Schedule.{placed, stamped, answers_in, answers_at, GroupRuns}
 use Rattle.item_steps.specs.declared.step.Place.{Place}
 use Rattle.item_steps.specs.declared.step.Answer.{Answer}
 use Rattle.item_steps.specs.declared.group.Task.{Task}
@@ -16,10 +16,11 @@ use Rattle.executor.specs.Work.{Progress, Worked, IsNext, is_group_done, started
 use Rattle.round.specs.Sittings.{Running as RanTask}
 use Rattle.executor.specs.Through.{later}
 use Rattle.executor.specs.GroupRun.{task_of, tasks_in, answered_by, ran_of, IsUntouched}
+use Rattle.item_steps.proofs.ScheduleLemmas.{stamped_first}
 use Rattle.executor.proofs.PartialLemmas.{Each, each-of-all, all-of-each}
 use Rattle.executor.proofs.RoundLemmas.{get_map}
 use Rattle.executor.proofs.WorkedLemmas.{worked-partial}
-use Rattle.executor.proofs.GroupRunLemmas.{with_answers, left_in, Ran, ran}
+use Rattle.executor.proofs.GroupRunLemmas.{with_answers, left_in, ran}
 use Rattle.executor.proofs.ThroughLemmas.{same_later}
 use Rattle.executor.proofs.SpreadLemmas.{spread_orders, group_is_spread}
 
@@ -107,9 +108,6 @@ pub record RoundDone (base : StateView) (batch : Batch) (ordered : Bool) (w : Pr
   pub worked : Worked base batch ordered (record { items = now; running = running; group = w.group })
   pub done : IsTrue (is_group_done (record { items = now; running = running; group = w.group }))
   pub left : later (record { items = now; running = running; group = w.group }) ≡ later w
-
-stamped_first : (base : Place) → stamped base 0 ≡ base
-stamped_first base = let stamp : base.stamp + 0 ≡ base.stamp = omega arith in (λ i. record { moment = base.moment; stamp = stamp i })
 
 pub round_done : (base : StateView) (batch : Batch) (ordered : Bool) (w : Progress) → Worked base batch ordered w → IsUntouched w
     → (place : Place) → place ≡ stamped (first_place base batch) 0 → (tasks : List Task) → tasks ≡ tasks_in w.group w.running

@@ -1,10 +1,9 @@
 -- Lists among which empty ones stand have the same orders.
-use Rattle.std.proofs.Common.{◌≡◌, ℕ, zero, suc, arith, Bool, true, false, List, [], ◌∷◌, map, length, drop, set, Some, None, refl, sym, ap, ◌∙◌, subst}
-use Rattle.std.specs.Prelude.{slice_get, slice_set, filter, ◌==◌, if◌then◌else◌}
+use Rattle.std.proofs.Common.{◌≡◌, ℕ, zero, suc, arith, Bool, true, false, List, [], ◌∷◌, map, length, drop, set, Some, refl, sym, ap, subst}
+use Rattle.std.specs.Prelude.{slice_get, filter, ◌==◌, if◌then◌else◌}
 use Rattle.std.specs.List.{AllByRecursion}
 use Rattle.std.proofs.lemmas.Bool.Decides.{nat_tests}
 use Rattle.item_steps.specs.Schedule.{Placed, IsInterleaving, placed}
-use Rattle.item_steps.specs.declared.step.Step.{Step}
 use Rattle.executor.specs.Running.{Running}
 use Rattle.executor.specs.GroupRun.{task_of, tasks_in}
 use Rattle.executor.proofs.PartialLemmas.{Each}

@@ -19,7 +19,8 @@ use Rattle.executor.specs.Fresh.{Runner}
 use Rattle.executor.specs.declared.answered.Answered.{Answered}
 use Rattle.executor.specs.Round.{runners, moment_of, first_place, group_of, steps_in, answered, Round}
 use Rattle.executor.specs.Work.{Progress, begun, all_begun, next_step, is_done, is_group_done, started, comes_after, IsFirst, IsNext, IsLast, StepMade, Worked, began, stepped, moved, replied, replies_of, made}
-use Rattle.executor.proofs.OrderLemmas.{items_push, answers_push, order_push, get_set_same, get_set_other}
+use Rattle.item_steps.proofs.ScheduleLemmas.{items_push, answers_push}
+use Rattle.executor.proofs.OrderLemmas.{order_push, get_set_same, get_set_other}
 use Rattle.executor.proofs.PartialLemmas.{Each, each-of-all, all-of-each, made_in, forget, first, groups_run, Partial}
 use Rattle.executor.proofs.RoundLemmas.{groups_append, groups_empty, range_parts, range_at, get_map, map_get, each_set, same_or_not, fresh_apart, answers_at-append, answers_at-own, answers_at-other, made_all, none_made, no_steps}
 

@@ -1,5 +1,5 @@
 -- A group that runs as a round.
-use Rattle.std.specs.Prelude.{◌≡◌, ℕ, List, [], map, filter, Bool, ◌==◌, if◌then◌else◌, All}
+use Rattle.std.specs.Prelude.{◌≡◌, ℕ, List, [], map, filter, ◌==◌, if◌then◌else◌, All}
 use Rattle.item_steps.specs.declared.group.Task.{Task}
 use Rattle.item_steps.specs.declared.step.Answer.{Answer}
 use Rattle.executor.specs.declared.work.Ended.{Ended}

@@ -13,7 +13,7 @@ use Rattle.batches.specs.declared.batch.Batch.{Batch}
 use Rattle.wire.specs.Batch.{batch_text, BatchFits}
 use Rattle.token.specs.Digest.{digest}
 use Rattle.executor.specs.declared.answered.Answered.{Answered}
-use Rattle.executor.specs.Running.{Running}
+use Rattle.executor.specs.Running.{Running, HaveFewSteps}
 use Rattle.executor.specs.State.{StateView, with_token}
 use Rattle.executor.specs.Fresh.{Runner}
 use Rattle.executor.specs.Round.{runners, moment_of, first_place, group_of, kept_after}
@@ -193,6 +193,8 @@ pub record IsWork (w : WorkView) : Type 0 where
   pub worked : Worked w.base w.batch w.ordered w.progress
   pub fits : BatchFits w.batch
   pub next : w.batch.n ≡ w.base.number + 1
+  -- a group of its requests fits a round
+  pub few : HaveFewSteps (all_begun w.base w.batch w.ordered)
 
 -- work is told apart by what it holds
 abbrev pub work_code : Coded StateView → Coded Batch → Coded Items → Coded Running → Coded WorkView

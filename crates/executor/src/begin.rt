@@ -7,6 +7,7 @@ ghost use Rattle.mixer.specs.Groups.{numbers_of};
 ghost use Rattle.executor.specs.State.{StateView};
 ghost use Rattle.executor.specs.Fresh.{runs as runs_after, fresh};
 ghost use Rattle.executor.specs.Work.{all_begun, begun_in};
+ghost use Rattle.executor.specs.Running.{HaveFewSteps};
 
 use crate::running::Running;
 use batches::Batch;
@@ -60,7 +61,8 @@ fn begin_with(
     numbers: &[usize],
 ) -> Result<Vec<Running>, AllocError>
     requires { length requests.now ≤ 2 ^ 32 }
-    ensures { IfOk result (λ running. running.items ≡ map (begun_in ordered numbers.now) (fresh sessions.now requests.now)) }
+    ensures begun { IfOk result (λ running. running.items ≡ map (begun_in ordered numbers.now) (fresh sessions.now requests.now)) }
+    ensures few { IfOk result (λ running. HaveFewSteps running.items) }
 {
     let mut running = Vec::new(alloc);
     for (place, request) in requests.iter().enumerate() {
@@ -81,8 +83,9 @@ pub fn begin_all(
     ordered: bool,
 ) -> Result<Vec<Running>, AllocError>
     requires { length batch.now.requests ≤ 64 }
-    ensures { IfOk result (λ running. (base : StateView) → base.sessions ≡ sessions.now
+    ensures begun { IfOk result (λ running. (base : StateView) → base.sessions ≡ sessions.now
         → running.items ≡ all_begun base batch.now ordered) }
+    ensures few { IfOk result (λ running. HaveFewSteps running.items) }
 {
     let requests = batch.requests.as_slice();
     let numbers = numbers_if(alloc, requests, ordered)?;

@@ -1,20 +1,20 @@
 //! A group that several workers run.
 
-ghost use Rattle.std.specs.Prelude.{◌≡◌, map, IfOk};
+ghost use Rattle.std.specs.Prelude.{◌≡◌, true, map, IfOk};
 ghost use Rattle.item_steps.specs.Schedule.{GroupRuns};
+ghost use Rattle.round.specs.Sittings.{group_fits};
 
-use crate::workers::Workers;
 use item_steps::{Place, Task};
 use pages::Pages;
-use round::{Gate, Ran, run};
+use proto::Fault;
+use round::{Gate, Ran};
 use std::alloc::{AllocError, Global};
 use std::sync::Wait;
 use std::thread::Threads;
+use workers::{Workers, run};
 
 /// Runs the group on the pages, by at most so many workers at once. Place 0 is at `base`.
-///
-/// Whatever the round refuses is answered as want of memory. A batch within its limits gives it no
-/// other cause, but no clause says so.
+/// The only error is want of memory.
 pub fn run_group<R: Threads + Wait + Sync, G: Gate + Sync>(
     rt: &R,
     alloc: Global,
@@ -24,11 +24,14 @@ pub fn run_group<R: Threads + Wait + Sync, G: Gate + Sync>(
     workers: Workers,
     gate: &G,
 ) -> Result<(Pages, Vec<Ran>), AllocError>
+    requires fits { group_fits base tasks.items ≡ true }
     ensures runs { IfOk result (λ r. GroupRuns base pages tasks.items r.0 (map (λ ran. ran.answers) r.1.items)) }
     ensures tasks { IfOk result (λ r. map (λ ran. ran.task) r.1.items ≡ tasks.items) }
 {
-    match run(rt, alloc, pages, tasks, base, workers.count(), gate) {
+    match run(rt, alloc, pages, tasks, base, workers, gate) {
         Ok(done) => Ok(done),
-        Err(_) => Err(AllocError),
+        Err(Fault::NoMemory) => Err(AllocError),
+        // The group fits.
+        Err(_) => unreachable!(),
     }
 }

@@ -30,7 +30,6 @@ mod tentative;
 mod through;
 mod witness;
 mod work;
-mod workers;
 
 pub use answered::Answered;
 pub use base::Base;
@@ -41,7 +40,6 @@ pub use state::{Parts, State};
 pub use tentative::{Committed, Tentative};
 pub use through::run_through;
 pub use work::{Ended, Work};
-pub use workers::Workers;
 
 #[cfg(test)]
 mod tests;

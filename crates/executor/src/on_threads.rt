@@ -6,12 +6,12 @@ ghost use Rattle.executor.specs.Through.{IsMade};
 use crate::base::Base;
 use crate::tentative::Tentative;
 use crate::work::{Ended, Work};
-use crate::workers::Workers;
 use batches::Batch;
 use round::Gate;
 use std::alloc::{AllocError, Global};
 use std::sync::Wait;
 use std::thread::Threads;
+use workers::Workers;
 
 /// Runs a batch to its end on several threads, group by group: the requests of a group are dealt to
 /// the workers in turn, and run at once. What it makes can be committed or undone.

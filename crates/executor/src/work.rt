@@ -7,6 +7,7 @@ ghost use Rattle.executor.specs.Round.{first_place, moment_of, Round};
 ghost use Rattle.executor.specs.Work.{StepMade, HasNoStep, tentative_of, is_group_done as group_done, IsFirst, IsNext, IsLast, is_ready, all_begun, started};
 ghost use Rattle.executor.specs.Ends.{Begins, Goes, DoneIsRound};
 ghost use Rattle.executor.specs.GroupRun.{IsUntouched, StartsAfresh};
+ghost use Rattle.executor.specs.Running.{HaveFewSteps};
 ghost use Rattle.executor.specs.Through.{IsReadyAt, IsNotLeft, StepMadeAt, RequestRan, later, IsMade, DoneIsMade};
 
 use crate::base::Base;
@@ -17,7 +18,6 @@ use crate::groups::{is_group_done, next_group};
 use crate::kept::{answer_all, are_few};
 use crate::running::Running;
 use crate::tentative::Tentative;
-use crate::workers::Workers;
 use batches::Batch;
 use item_steps::Place;
 use items::Store;
@@ -27,6 +27,7 @@ use std::alloc::{AllocError, Global};
 use std::marker::Model;
 use std::sync::Wait;
 use std::thread::Threads;
+use workers::Workers;
 
 /// A batch that is being executed over its base: its requests run group by group, and the steps of
 /// one group in any order that the caller asks for. It may be dropped.
@@ -112,6 +113,7 @@ impl Work {
         requires fits { BatchFits batch }
         requires next { batch.n ≡ base.now.state.number + 1 }
         requires running { running.items ≡ all_begun base.now.state batch ordered }
+        requires few { HaveFewSteps running.items }
         requires first { IsFirst running.items group }
         ensures { IfOk result (λ work. work ≡ record {
           base = base.now.state;

@@ -27,9 +27,11 @@ pub struct Place {
     pub stamp: u64,
 }
 
-/// The steps of a command, in order.
+/// The steps of a command, in order: 64 at most.
+#[tactic(auto, using(crate::proofs::FewLemmas::as_many_reads))]
 pub fn steps_of(alloc: Global, command: &Command) -> Result<Vec<Step>, AllocError>
-    ensures { IfOk result (λ list. list.items ≡ steps command.now) }
+    ensures steps { IfOk result (λ list. list.items ≡ steps command.now) }
+    ensures few { IfOk result (λ list. length list.items ≤ 64) }
 {
     match command {
         Command::Get(keys) => reads_of(alloc, keys.as_slice()),

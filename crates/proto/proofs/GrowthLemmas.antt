@@ -1,5 +1,5 @@
 -- What grows twice grows.
-use Rattle.std.proofs.Common.{◌≡◌, ℕ, List, [], ◌++◌, length, take, Result, Ok, Err, OnOk, refl, sym, ap, ◌∙◌, is_ok, if◌then◌else◌}
+use Rattle.std.proofs.Common.{◌≡◌, ℕ, List, [], ◌++◌, length, take, Result, Ok, Err, refl, sym, ap, ◌∙◌, is_ok, if◌then◌else◌}
 use Rattle.std.proofs.lemmas.List.{append_assoc, append-nil, take_at}
 use Rattle.proto.specs.Growth.{Grows}
 

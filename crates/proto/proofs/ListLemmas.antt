@@ -15,6 +15,20 @@ last_of_one (z ∷ xs) x y e =
     let longer : 1 ≡ suc (length (xs ++ y ∷ [])) = ap length e in
     absurd (omega (arith, longer, length_push xs y))
 
+-- two lists with one more member each are the same, if what was added is left out
+pub snoc_same : {X : Type 0} (xs ys : List X) (x y : X) → xs ++ x ∷ [] ≡ ys ++ y ∷ [] → (xs ≡ ys) × (x ≡ y)
+snoc_same [] [] x y e = (refl, let h : x ∷ [] ≡ y ∷ [] = e in cc)
+snoc_same [] (b ∷ []) x y e = absurd (let h : x ∷ [] ≡ b ∷ (y ∷ []) = e in cc)
+snoc_same [] (b ∷ (d ∷ bs)) x y e = absurd (let h : x ∷ [] ≡ b ∷ (d ∷ (bs ++ y ∷ [])) = e in cc)
+snoc_same (a ∷ []) [] x y e = absurd (let h : a ∷ (x ∷ []) ≡ y ∷ [] = e in cc)
+snoc_same (a ∷ (c ∷ as')) [] x y e = absurd (let h : a ∷ (c ∷ (as' ++ x ∷ [])) ≡ y ∷ [] = e in cc)
+snoc_same (a ∷ xs) (b ∷ ys) x y e =
+    let h : a ∷ (xs ++ x ∷ []) ≡ b ∷ (ys ++ y ∷ []) = e in
+    let first : a ≡ b = cc in
+    let rest : xs ++ x ∷ [] ≡ ys ++ y ∷ [] = cc in
+    let r = snoc_same xs ys x y rest in
+    ((λ k. first k ∷ r.0 k), r.1)
+
 one_more : (i : ℕ) → suc i + 1 ≡ suc (i + 1)
 one_more i = omega arith
 

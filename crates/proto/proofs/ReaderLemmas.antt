@@ -1,13 +1,12 @@
 -- A piece is read step by step.
-use Rattle.std.proofs.Common.{◌≡◌, ℕ, zero, suc, ◌+◌, ◌-◌, ◌<◌, ◌≤◌, Bool, true, false, List, [], ◌∷◌, ◌++◌, length, take, drop, replicate, min, Some, None, Option, refl, sym, ap, ◌∙◌, arith, if◌then◌else◌, cond}
+use Rattle.std.proofs.Common.{◌≡◌, ℕ, ◌+◌, ◌-◌, ◌<◌, ◌≤◌, Bool, true, false, List, [], ◌∷◌, ◌++◌, length, take, drop, min, Some, None, Option, refl, sym, ap, ◌∙◌, arith, if◌then◌else◌}
 use Rattle.std.specs.Prelude.{nat_lt}
-use Rattle.std.proofs.lemmas.List.{take_all, append_assoc, append-nil, take-append-drop, drop_all, length-append, length-drop}
+use Rattle.std.proofs.lemmas.List.{append_assoc, append-nil, take-append-drop, length-append, length-drop}
 use Rattle.std.proofs.lemmas.Bool.Decides.{nat_tests}
-use Rattle.proto.specs.Line.{meaning}
 use Rattle.proto.specs.Limits.{block_limit}
 use Rattle.proto.specs.Grammar.{next_turn, is_close, line_limit}
 use Rattle.proto.specs.Reader.{kept_of, Reading, Reads}
-use Rattle.proto.specs.Stage.{HasNoNewline, InLine, InBlock, IsStage, IsStageOf, StepGives, SoFar, IsReading, bytes_of, reading}
+use Rattle.proto.specs.Stage.{InBlock, IsStage, IsStageOf, StepGives, SoFar, IsReading, bytes_of, reading}
 use Rattle.proto.specs.declared.stage.Stage.{Stage}
 use Rattle.proto.specs.declared.turn.Turn.{Turn}
 use Rattle.proto.specs.declared.turn.Turn.TheVariants.{Ask, Say, Close}

@@ -1,5 +1,5 @@
 -- Worked examples of the grammar, computed.
-use Rattle.std.proofs.Common.{◌≡◌, ℕ, List, [], ◌∷◌, ◌++◌, true, false, pos, Some, None, refl, replicate}
+use Rattle.std.proofs.Common.{◌≡◌, [], ◌∷◌, ◌++◌, true, false, pos, Some, refl, replicate}
 use Rattle.std.specs.Prelude.{codes}
 use Rattle.proto.specs.Line.{meaning}
 use Rattle.proto.specs.Grammar.{next_turn, Spells}

@@ -1,24 +1,24 @@
 -- What bytes spell is one list of turns, and more bytes only add to it.
-use Rattle.std.proofs.Common.{◌≡◌, ℕ, zero, suc, ◌+◌, ◌-◌, ◌<◌, ◌≤◌, Bool, true, false, ◌||◌, List, [], ◌∷◌, ◌++◌, length, take, drop, replicate, min, Some, None, Option, refl, sym, ap, ◌∙◌, arith, if◌then◌else◌, cond, unwrap_or, inl, inr, subst}
-use Rattle.std.specs.Prelude.{nat_lt, nat_le, slice_range, bytes_eq}
+use Rattle.std.proofs.Common.{◌≡◌, ℕ, zero, suc, ◌+◌, ◌-◌, ◌<◌, ◌≤◌, Bool, true, false, List, [], ◌∷◌, ◌++◌, length, take, drop, min, Some, None, Option, refl, sym, ap, ◌∙◌, arith, if◌then◌else◌, unwrap_or, inl, inr, subst}
+use Rattle.std.specs.Prelude.{nat_lt, slice_range}
 use Rattle.std.specs.List.{list_any, before_first, after_first, position_or_len}
-use Rattle.std.specs.Option.{option_map_or}
-use Rattle.std.proofs.lemmas.List.{take_all, append_assoc, append-nil, drop_all, length-append, length-drop, length-replicate, take-append-le, drop-append-le, drop-drop}
+use Rattle.std.proofs.lemmas.List.{append_assoc, append-nil, drop_all, length-append, length-drop, take-append-le, drop-append-le, drop-drop}
 use Rattle.std.proofs.lemmas.Bool.Decides.{nat_tests}
 use Rattle.std.proofs.lemmas.Bool.{cases_lt}
 use Rattle.proto.specs.Line.{meaning}
 use Rattle.proto.specs.Limits.{block_limit}
-use Rattle.proto.specs.Grammar.{next_turn, first_line, is_newline, turn_of_line, block_turn, filled, Spells, line_limit}
+use Rattle.proto.specs.Grammar.{next_turn, first_line, is_newline, turn_of_line, block_turn, Spells, line_limit}
 use Rattle.proto.specs.Reader.{kept_of, blanked, Reading, Reads}
 use Rattle.proto.specs.Stage.{HasNoNewline}
 use Rattle.proto.specs.declared.turn.Turn.{Turn}
 use Rattle.proto.specs.declared.turn.Turn.TheVariants.{Ask, Say, Close}
-use Rattle.proto.specs.declared.turn.Notice.TheVariants.{LineTooLong, TooLarge, BadChunk}
+use Rattle.proto.specs.declared.turn.Notice.TheVariants.{LineTooLong}
 use Rattle.proto.specs.declared.line.Header.{Header}
 use Rattle.proto.specs.declared.line.Line.{Line}
 use Rattle.proto.specs.declared.line.Line.TheVariants.{Whole, Opens}
-use Rattle.proto.proofs.GrammarLemmas.{next_line, kept_line, next_long, first_line_at, drop_past}
+use Rattle.proto.proofs.GrammarLemmas.{next_line, kept_line, next_long, drop_past}
 use Rattle.proto.proofs.BlockLemmas.{zeros, drop_zeros, length_zeros}
+use Rattle.proto.proofs.NewlineLemmas.{is_ten}
 
 -- a first line with its end, and what stands after it
 pub record Splits (bytes text after : List ℕ) : Type 0 where
@@ -30,9 +30,6 @@ record SplitsAt (n : ℕ) (bytes : List ℕ) : Type 0 where
   is : bytes ≡ before_first is_newline bytes ++ 10 ∷ after_first is_newline bytes
   one_line : HasNoNewline (before_first is_newline bytes)
   short : length (before_first is_newline bytes) < n
-
-is_ten : (b : ℕ) → is_newline b ≡ true → b ≡ 10
-is_ten b h = grind (arith, nat_tests)
 
 splits_at : (n : ℕ) (bytes : List ℕ) → list_any is_newline (take n bytes) ≡ true → SplitsAt n bytes
 splits_at zero bytes h = absurd (let f : false ≡ true = h in cc)

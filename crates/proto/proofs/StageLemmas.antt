@@ -1,19 +1,19 @@
 -- What a step of a reader gives.
-use Rattle.std.proofs.Common.{◌≡◌, ℕ, zero, suc, ◌+◌, ◌-◌, ◌<◌, ◌≤◌, Bool, true, false, List, [], ◌∷◌, ◌++◌, length, take, drop, replicate, min, Some, None, Option, refl, sym, ap, ◌∙◌, arith, if◌then◌else◌, cond, Result, Ok, Err, OnOk}
+use Rattle.std.proofs.Common.{◌≡◌, ℕ, ◌+◌, ◌-◌, ◌<◌, ◌≤◌, Bool, true, false, List, [], ◌∷◌, ◌++◌, length, take, drop, min, Some, None, Option, refl, sym, ap, ◌∙◌, arith, if◌then◌else◌, Result, Ok, Err, OnOk}
 use Rattle.std.specs.Prelude.{nat_lt}
-use Rattle.std.proofs.lemmas.List.{take_all, append_assoc, append-nil, take_more, drop_at, take_at, length-append, length-take, drop_all}
+use Rattle.std.proofs.lemmas.List.{take_all, append_assoc, append-nil, take_at, length-append, length-take, drop_all}
 use Rattle.std.proofs.lemmas.Bool.Decides.{nat_tests}
 use Rattle.proto.specs.Line.{meaning}
 use Rattle.proto.specs.Limits.{block_limit}
 use Rattle.proto.specs.Grammar.{next_turn, turn_of_line, block_turn, line_limit}
 use Rattle.proto.specs.Reader.{kept_of, blanked}
-use Rattle.proto.specs.Stage.{HasNoNewline, InLine, InBlock, StepGives, Takes, Cuts}
+use Rattle.proto.specs.Stage.{HasNoNewline, InLine, InBlock, StepGives, Takes}
 use Rattle.proto.specs.declared.stage.Stage.{Stage}
 use Rattle.proto.specs.declared.turn.Turn.{Turn}
 use Rattle.proto.specs.declared.line.Header.{Header}
 use Rattle.proto.specs.declared.line.Line.TheVariants.{Whole, Opens}
 use Rattle.proto.proofs.GrammarLemmas.{next_line, next_none, kept_plain, kept_line}
-use Rattle.proto.proofs.BlockLemmas.{zeros, more_dropped, held_after, next_more, kept_more, next_done}
+use Rattle.proto.proofs.BlockLemmas.{zeros, more_dropped, next_more, kept_more, next_done}
 
 only_line : (line block : List ℕ) (d : ℕ) → InLine line block d → line ++ (zeros d ++ block) ≡ line
 only_line line block d i = rw (i.none_dropped, i.no_block) (append-nil line)

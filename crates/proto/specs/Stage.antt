@@ -1,12 +1,12 @@
 -- The inside of a reader.
-use Rattle.std.specs.Prelude.{◌≡◌, ℕ, ◌+◌, ◌-◌, ◌<◌, ◌≤◌, List, [], ◌∷◌, ◌++◌, length, take, drop, replicate, Bool, true, false, nat_lt, Option, Some, None}
+use Rattle.std.specs.Prelude.{◌≡◌, ℕ, ◌+◌, ◌<◌, ◌≤◌, List, [], ◌∷◌, ◌++◌, length, take, drop, replicate, Bool, true, false, nat_lt, Option, Some, None}
 use Rattle.std.specs.List.{list_any}
 use Rattle.proto.specs.Line.{meaning}
 use Rattle.proto.specs.Limits.{block_limit}
 use Rattle.proto.specs.Grammar.{next_turn, is_newline, line_limit}
 use Rattle.proto.specs.Reader.{kept_of, Reading}
 use Rattle.proto.specs.declared.turn.Turn.{Turn}
-use Rattle.proto.specs.declared.turn.Turn.TheVariants.{Ask, Say, Close}
+use Rattle.proto.specs.declared.turn.Turn.TheVariants.{Close}
 use Rattle.proto.specs.declared.turn.Notice.TheVariants.{LineTooLong}
 use Rattle.proto.specs.declared.stage.Cut.{Cut}
 use Rattle.proto.specs.declared.stage.Cut.TheVariants.{End, TooLong, Open}

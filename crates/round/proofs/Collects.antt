@@ -3,10 +3,10 @@ use Rattle.std.proofs.Common.{◌≡◌, ◌≢◌, ℕ, zero, suc, ◌+◌, ◌
 use Rattle.std.specs.Prelude.{slice_get, ◌==◌}
 use Rattle.std.specs.List.{range_with_len}
 use Rattle.std.proofs.lemmas.List.{map-append, length-take-le, take_all, reverse-append}
-use Rattle.item_steps.specs.declared.step.Answer.{Answer}
 use Rattle.item_steps.specs.declared.group.Task.{Task}
 use Rattle.round.specs.declared.rule.Entry.{Entry}
 use Rattle.round.specs.Sittings.{Running, running_in, dealt}
+use Rattle.proto.proofs.ListLemmas.{snoc_same}
 use Rattle.round.proofs.Lists.{same_element, map_at}
 use Rattle.round.proofs.Follows.{set_by, take_next}
 use Rattle.round.proofs.Dealt.{dealt_push, range_at}
@@ -14,19 +14,6 @@ use Rattle.round.proofs.Dealt.{dealt_push, range_at}
 -- the lists of each caller's requests, each as f has it
 abbrev pub lists_by : (Task → Running) → ℕ → List Task → List (List Running)
 lists_by f callers group = map (λ caller. map f (dealt callers caller group)) (range_with_len 0 callers)
-
-snoc_same : {X : Type 0} (xs ys : List X) (x y : X) → xs ++ x ∷ [] ≡ ys ++ y ∷ [] → (xs ≡ ys) × (x ≡ y)
-snoc_same [] [] x y e = (refl, let h : x ∷ [] ≡ y ∷ [] = e in cc)
-snoc_same [] (b ∷ []) x y e = absurd (let h : x ∷ [] ≡ b ∷ (y ∷ []) = e in cc)
-snoc_same [] (b ∷ (d ∷ bs)) x y e = absurd (let h : x ∷ [] ≡ b ∷ (d ∷ (bs ++ y ∷ [])) = e in cc)
-snoc_same (a ∷ []) [] x y e = absurd (let h : a ∷ (x ∷ []) ≡ y ∷ [] = e in cc)
-snoc_same (a ∷ (c ∷ as')) [] x y e = absurd (let h : a ∷ (c ∷ (as' ++ x ∷ [])) ≡ y ∷ [] = e in cc)
-snoc_same (a ∷ xs) (b ∷ ys) x y e =
-    let h : a ∷ (xs ++ x ∷ []) ≡ b ∷ (ys ++ y ∷ []) = e in
-    let first : a ≡ b = cc in
-    let rest : xs ++ x ∷ [] ≡ ys ++ y ∷ [] = cc in
-    let r = snoc_same xs ys x y rest in
-    ((λ k. first k ∷ r.0 k), r.1)
 
 there_is : {X : Type 0} (l : List X) (n : ℕ) → n < length l → (x : X) × (slice_get l n ≡ Some x)
 there_is [] n lt = absurd (omega arith)

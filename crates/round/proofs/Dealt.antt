@@ -7,7 +7,7 @@ use Rattle.std.proofs.lemmas.List.{map-append}
 use Rattle.std.proofs.lemmas.Bool.{and_parts, and_from}
 use Rattle.std.proofs.lemmas.Bool.Decides.{nat_tests}
 use Rattle.item_steps.specs.declared.group.Task.{Task}
-use Rattle.round.specs.Sittings.{Running, Sitting, running_in, dealt, dealt_from, lists_of, seat_of, are_apart, StayInOrder}
+use Rattle.round.specs.Sittings.{Running, Sitting, running_in, dealt, dealt_from, lists_of, seat_of, are_apart}
 use Rattle.round.proofs.Lists.{same_element, map_at}
 use Rattle.round.proofs.Follows.{set_by}
 
@@ -125,13 +125,3 @@ turn_more callers caller n m turn more =
     let parts = mod-add-div n callers in
     let same : (n % callers + 1) + callers * (n / callers) ≡ m = omega arith in
     ap (λ k. (k + 1) % callers) turn ∙ sym (add-mul-mod_self_left (n % callers + 1) callers (n / callers)) ∙ ap (λ k. k % callers) same
-
-pub callers_of : (callers : ℕ) (group : List Task) (ns : List ℕ) → map (λ (s : Sitting). s.caller) (map (seat_of callers group) ns) ≡ ns
-callers_of callers group [] = refl
-callers_of callers group (n ∷ ns) = ap (λ l. n ∷ l) (callers_of callers group ns)
-
-pub same_callers : (old new : List Sitting) → length new ≡ length old → StayInOrder old new → map (λ (s : Sitting). s.caller) new ≡ map (λ (s : Sitting). s.caller) old
-same_callers [] [] len stay = refl
-same_callers [] (t ∷ ts) len stay = absurd (omega arith)
-same_callers (s ∷ ss) [] len stay = absurd (omega arith)
-same_callers (s ∷ ss) (t ∷ ts) len stay = λ k. stay 0 s (omega arith) k ∷ same_callers ss ts (omega arith) (λ i d lt. stay (suc i) d (omega arith)) k

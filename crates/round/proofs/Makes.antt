@@ -9,7 +9,7 @@ use Rattle.item_steps.specs.declared.step.Step.{Step}
 use Rattle.item_steps.specs.declared.step.Answer.{Answer}
 use Rattle.item_steps.specs.declared.group.Task.{Task}
 use Rattle.round.specs.declared.rule.Entry.{Entry}
-use Rattle.round.specs.Sittings.{Running, running_in, next_of, is_done, given_at, dealt, task_fits, are_apart, fits, most_callers, most_requests, Follows}
+use Rattle.round.specs.Sittings.{Running, running_in, next_of, is_done, given_at, dealt, task_fits, are_apart, group_fits, fits, most_callers, most_requests, Follows}
 use Rattle.round.proofs.Lists.{same_element, get_last, list_all_at}
 use Rattle.round.proofs.Interleaves.{apart_from}
 use Rattle.round.proofs.Dealt.{dealt_is, dealt_apart}
@@ -27,8 +27,8 @@ is_left r s next = by (leb (length r.task.steps) (length r.answers)) refl
     by false is = is
 
 module _ (base : Place) (group : List Task) (callers : ℕ) (fit : fits base group callers ≡ true) where
-  both : (nat_lt 0 callers && nat_le callers most_callers ≡ true) × (nat_le (length group) most_requests && (list_all (task_fits base) group && are_apart group) ≡ true)
-  both = and_parts (nat_lt 0 callers && nat_le callers most_callers) (nat_le (length group) most_requests && (list_all (task_fits base) group && are_apart group)) fit
+  both : (nat_lt 0 callers && nat_le callers most_callers ≡ true) × (group_fits base group ≡ true)
+  both = and_parts (nat_lt 0 callers && nat_le callers most_callers) (group_fits base group) fit
 
   last_two : (list_all (task_fits base) group ≡ true) × (are_apart group ≡ true)
   last_two = and_parts (list_all (task_fits base) group) (are_apart group) (and_parts (nat_le (length group) most_requests) (list_all (task_fits base) group && are_apart group) both.1).1
@@ -75,10 +75,8 @@ seat_after base group callers caller fit running log has follows index task ther
       ap (λ (l : List Running). map (λ (r : Running). r.task) l) all ∙ tasks_of_running (log ++ e ∷ []) tasks,
     )
 
--- a group that fits so many callers fits fewer
-pub fits_fewer : (base : Place) (group : List Task) (callers busy : ℕ) → fits base group callers ≡ true → 0 < busy → busy ≤ callers → fits base group busy ≡ true
-fits_fewer base group callers busy fit some fewer =
-    let all = both base group callers fit in
-    let most = leb-true callers most_callers (and_parts (nat_lt 0 callers) (nat_le callers most_callers) all.0).1 in
-    and_from (nat_lt 0 busy && nat_le busy most_callers) (nat_le (length group) most_requests && (list_all (task_fits base) group && are_apart group))
-    (and_from (nat_lt 0 busy) (nat_le busy most_callers) (lt-ltb 0 busy some) (le-leb busy most_callers (omega arith))) all.1
+-- a group that fits does so with any number of callers
+pub callers_fit : (base : Place) (group : List Task) (callers : ℕ) → group_fits base group ≡ true → 0 < callers → callers ≤ most_callers → fits base group callers ≡ true
+callers_fit base group callers fit some few =
+    and_from (nat_lt 0 callers && nat_le callers most_callers) (group_fits base group)
+    (and_from (nat_lt 0 callers) (nat_le callers most_callers) (lt-ltb 0 callers some) (le-leb callers most_callers few)) fit

@@ -41,10 +41,6 @@ seat_of callers group caller = record { caller = caller; tasks = dealt callers c
 abbrev pub seats_of : ℕ → List Task → List Sitting
 seats_of callers group = map (seat_of callers group) (range_with_len 0 callers)
 
--- the seats stand in the order in which they stood
-abbrev pub StayInOrder : List Sitting → List Sitting → Type 0
-StayInOrder old new = (i : ℕ) (d : Sitting) → i < length old → (slice_index_or new i d).caller ≡ (slice_index_or old i d).caller
-
 -- the steps of one request
 abbrev pub log_at : ℕ → List Entry → List Entry
 log_at place log = filter (λ e. e.place == place) log
@@ -119,9 +115,13 @@ most_steps = 64
 abbrev pub task_fits : Place → Task → Bool
 task_fits base task = nat_le (length task.steps) most_steps && nat_lt (base.stamp + task.place) (2 ^ 64)
 
+-- requests that a round takes
+abbrev pub group_fits : Place → List Task → Bool
+group_fits base group = nat_le (length group) most_requests && (list_all (task_fits base) group && are_apart group)
+
 -- some callers, not too many, and requests that a round takes
 abbrev pub fits : Place → List Task → ℕ → Bool
-fits base group callers = (nat_lt 0 callers && nat_le callers most_callers) && (nat_le (length group) most_requests && (list_all (task_fits base) group && are_apart group))
+fits base group callers = (nat_lt 0 callers && nat_le callers most_callers) && group_fits base group
 
 -- The steps in the log are of these requests, each request's first ones in their order.
 pub record Follows (tasks : List Task) (log : List Entry) : Type 0 where

@@ -5,7 +5,9 @@
 //! they were made. So what comes out is the result of that order, whatever the schedule.
 //!
 //! It stands on `pages` and `item_steps`, and on `atomic_table` for the word of the tickets. The layer
-//! above uses `run`: an Ok gives pages and answers that some interleaving of the group's steps leads to.
+//! above opens a round, has its steps made by as many threads as it likes, and uses `Round::close`: an Ok
+//! gives pages and answers that some interleaving of the group's steps leads to. No thread is started
+//! here; the tests with threads are those of `workers`.
 #![tactic(auto)]
 
 mod close;
@@ -17,17 +19,13 @@ mod round;
 mod rule;
 mod running;
 mod seat;
-mod threads;
 mod word;
 
 pub use gate::{Gate, NoGate};
+pub use open::{MOST_STEPS, group_fits};
 pub use room::Room;
 pub use round::Round;
 pub use rule::Token;
 pub use running::Ran;
 pub use seat::Seat;
-pub use threads::{run, work};
 pub use word::TicketWord;
-
-#[cfg(test)]
-mod tests;

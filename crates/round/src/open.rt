@@ -4,7 +4,7 @@ ghost use Rattle.std.specs.Prelude.{◌≡◌, ◌<◌, ◌==◌, [], length, ma
 ghost use Rattle.std.specs.List.{list_all};
 ghost use Rattle.pages.specs.Page.{page_count};
 ghost use Rattle.round.specs.Tickets.{maker, name_of_caller};
-ghost use Rattle.round.specs.Sittings.{task_fits, are_apart, fits, running_in, dealt, lists_of, seats_of};
+ghost use Rattle.round.specs.Sittings.{task_fits, are_apart, group_fits, fits, running_in, dealt, lists_of, seats_of};
 
 use crate::locked::Locked;
 use crate::room::Room;
@@ -22,7 +22,7 @@ const MOST_CALLERS: usize = 64;
 const MOST_REQUESTS: usize = 64;
 
 /// A request has at most so many steps.
-pub(crate) const MOST_STEPS: usize = 64;
+pub const MOST_STEPS: usize = 64;
 
 fn task_fits(base: Place, task: &Task) -> bool
     ensures { result ≡ task_fits base task.now }
@@ -54,15 +54,21 @@ fn are_apart(group: &[Task]) -> bool
     }
 }
 
+/// Whether a round takes the group: at most 64 requests of at most 64 steps, no two of one place,
+/// each stamp below 2^64.
+pub fn group_fits(base: Place, group: &[Task]) -> bool
+    ensures { result ≡ group_fits base group.now }
+{
+    group.len() <= MOST_REQUESTS
+        && tasks_fit(base, group)
+        && are_apart(group)
+}
+
 /// Whether a round takes the group, with so many callers.
 pub(crate) fn fits(base: Place, group: &[Task], callers: usize) -> bool
     ensures { result ≡ fits base group.now callers }
 {
-    0 < callers
-        && callers <= MOST_CALLERS
-        && group.len() <= MOST_REQUESTS
-        && tasks_fit(base, group)
-        && are_apart(group)
+    0 < callers && callers <= MOST_CALLERS && group_fits(base, group)
 }
 
 /// The pages, each under a lock, in the order of their numbers.

@@ -1,5 +1,5 @@
 -- The fields of records.
-use Rattle.std.specs.Prelude.{◌≡◌, ℕ, ◌<◌, ◌≤◌, ◌^◌, List, [], ◌∷◌, ◌++◌, length, Bool, Option, Some, None, flat_map, All}
+use Rattle.std.specs.Prelude.{◌≡◌, ℕ, ◌<◌, ◌^◌, List, [], ◌∷◌, ◌++◌, length, Bool, Option, Some, None, flat_map, All}
 use Rattle.std.specs.Int.{w32}
 use Rattle.wire.specs.Number.{num, only_if}
 

@@ -1,7 +1,7 @@
 -- No key is spelled at the front of another, nor a list of keys.
 use Rattle.std.proofs.Common.{◌≡◌, ℕ, suc, ◌+◌, ◌<◌, ◌≤◌, Bool, true, List, [], ◌∷◌, ◌++◌, length, get_or, take, drop, refl, sym, ◌∙◌, ap, arith, append_assoc, inl, inr}
 use Rattle.std.specs.Prelude.{◌&&◌, nat_le, nat_eq}
-use Rattle.std.specs.Int.{w8, w32}
+use Rattle.std.specs.Int.{w8}
 use Rattle.std.specs.List.{list_all}
 use Rattle.std.proofs.lemmas.Bool.{cases_Bool, leb-true, le-leb, ltb-true, lt-ltb, eqb-true, eq-eqb}
 use Rattle.std.proofs.lemmas.List.{length-append, length-take, take-append-drop}
@@ -11,7 +11,7 @@ use Rattle.wire.specs.Number.{only_if, num, fixed, is_byte}
 use Rattle.wire.specs.Field.{list_text}
 use Rattle.wire.specs.Key.{key_text, keys_text, are_few_keys}
 use Rattle.wire.specs.FrontLaws.{split_at, tail_of, head_of, both_ways, has, lacks, both_true}
-use Rattle.wire.specs.NumberLaws.{num_prefix_free, num-is, num-byte, wide8, are_bytes-take}
+use Rattle.wire.specs.NumberLaws.{num_prefix_free, num-byte, wide8, are_bytes-take}
 use Rattle.wire.specs.LimitedLaws.{limited_prefix_free, limited_at_front}
 
 -- a key has at most 250 bytes

@@ -10,6 +10,7 @@ use std::sync::atomic::Ordering::SeqCst;
 use std::thread;
 use std::thread::Threads;
 use std::time::Duration;
+use workers::Workers;
 
 /// Runs a batch by so many workers.
 fn on_threads<R: Threads + Wait + Sync, G: Gate + Sync>(

@@ -1,4 +1,3 @@
-use Rattle.std.proofs.Common.{◌≡◌, ◌++◌, List, ℕ}
 use Rattle.app.proofs.Writing.{Wrote}
 use Rattle.app.proofs.output.write_text.Given as goal
 

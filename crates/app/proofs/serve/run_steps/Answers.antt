@@ -1,4 +1,4 @@
-use Rattle.std.proofs.Common.{◌≡◌, ◌+◌, ◌∷◌, ◌++◌, [], drop, map, length, ap, sym, ◌∙◌, arith, append_assoc, subst, List}
+use Rattle.std.proofs.Common.{◌≡◌, ◌+◌, ◌∷◌, ◌++◌, [], drop, length, ap, sym, ◌∙◌, append_assoc, List}
 use Rattle.std.proofs.lemmas.List.{length_push}
 use Rattle.items.specs.Map.{Items}
 use Rattle.item_steps.specs.Effect.{effect}

@@ -1,5 +1,4 @@
 use Rattle.std.proofs.Common.{◌≡◌, ◌<◌, ◌++◌, [], ◌+◌, length, drop, true, false, ap, sym, ◌∙◌, arith, subst, refl, if◌then◌else◌}
-use Rattle.std.proofs.lemmas.List.{append-nil}
 use Rattle.proto.specs.Grammar.{is_close}
 use Rattle.app.specs.First.{all_texts, texts, turn_text, items_after_turn, next_batch, AppendsFront}
 use Rattle.app.proofs.Writing.{Wrote, wrote_front, wrote_piece, wrote_all, part_front, at_err, texts-next}

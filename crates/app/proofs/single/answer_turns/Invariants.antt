@@ -1,4 +1,4 @@
-use Rattle.std.proofs.Common.{◌≡◌, ◌++◌, drop}
+use Rattle.std.proofs.Common.{drop}
 use Rattle.app.specs.First.{all_texts, texts}
 use Rattle.app.proofs.Writing.{Wrote}
 use Rattle.app.proofs.single.answer_turns.Given as goal

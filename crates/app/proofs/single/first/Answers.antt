@@ -1,9 +1,8 @@
-use Rattle.std.proofs.Common.{◌≡◌, ◌++◌, [], List, ℕ, length, Option, Some, None, IfSome, OnOk, OnErr, Result, Ok, Err, refl, sym, ap, ◌∙◌, subst}
-use Rattle.std.specs.Io.KnownBytes.{Appends}
+use Rattle.std.proofs.Common.{◌≡◌, ◌++◌, [], List, ℕ, Option, Some, None, IfSome, OnOk, OnErr, Result, Ok, Err, sym, subst}
 use Rattle.std.proofs.KnownBytes.{Appends-nil}
 use Rattle.proto.specs.declared.turn.Turn.{Turn}
 use Rattle.proto.specs.Grammar.{Spells}
-use Rattle.app.specs.First.{all_texts, AppendsFront, Answers, AnswersFront}
+use Rattle.app.specs.First.{Answers, AnswersFront}
 use Rattle.app.proofs.Writing.{at_err}
 use Rattle.app.proofs.single.first.Goals as goal
 

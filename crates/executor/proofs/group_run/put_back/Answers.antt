@@ -1,8 +1,6 @@
-use Rattle.std.proofs.Common.{◌≡◌, ◌<◌, ◌≤◌, ◌-◌, suc, List, map, length, get_or, set, Some, sym, ap, ◌∙◌, arith, subst}
+use Rattle.std.proofs.Common.{◌≡◌, ◌<◌, ◌-◌, suc, length, get_or, set, Some, sym, ap, ◌∙◌, arith, subst}
 use Rattle.std.specs.Prelude.{slice_get}
 use Rattle.std.proofs.lemmas.Option.{slice_get-get_or}
-use Rattle.item_steps.specs.declared.step.Answer.{Answer}
-use Rattle.item_steps.specs.declared.group.Task.{Task}
 use Rattle.executor.specs.Running.{Running}
 use Rattle.executor.proofs.PutBackLemmas.{PutSoFar, put_none, put_own, put_other, put_some, put_all, set_length, same_read, no_items}
 use Rattle.executor.proofs.group_run.put_back.Goals as goal

@@ -2,7 +2,6 @@ use Rattle.std.proofs.Common.{◌≡◌, ℕ, ◌+◌, ◌-◌, ◌%◌, ◌<◌
 use Rattle.std.proofs.lemmas.List.{map-set}
 use Rattle.std.proofs.lemmas.Option.{slice_get-get_or}
 use Rattle.std.proofs.Math.Nat.{mod-lt}
-use Rattle.item_steps.specs.declared.step.Answer.{Answer}
 use Rattle.round.specs.Sittings.{Running}
 use Rattle.round.proofs.Lists.{map_at}
 use Rattle.round.proofs.Collects.{Taken, lists_by, none_taken, one_taken, all_taken}

@@ -12,6 +12,7 @@ invariant_of-self c =
       worked = moved (record { items = c.self.inside.pages; running = c.self.inside.running.items; group = c.self.inside.group }) c.args.group c.self.invariant.worked done next;
       fits = c.self.invariant.fits;
       next = c.self.invariant.next;
+      few = c.self.invariant.few;
     }
 
 pub returns-clause-afresh : goal.returns-clause-afresh

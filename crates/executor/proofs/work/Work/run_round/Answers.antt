@@ -1,11 +1,11 @@
 use Rattle.std.proofs.Common.{◌≡◌, List, length, map, take, drop, ◌++◌, sym, ap, ◌∙◌, subst, rules}
-use Rattle.std.specs.Prelude.{IsTrue}
 use Rattle.std.proofs.lemmas.List.{length-map}
 use Rattle.executor.specs.Running.{Running}
-use Rattle.executor.specs.Work.{Progress, WorkView, is_group_done}
+use Rattle.executor.specs.Work.{Progress, WorkView}
 use Rattle.executor.specs.Through.{later}
-use Rattle.executor.specs.GroupRun.{emptied, answered_by, tasks_in, IsUntouched}
+use Rattle.executor.specs.GroupRun.{emptied, tasks_in, IsUntouched}
 use Rattle.executor.proofs.RanLemmas.{RoundDone, round_done, written_back}
+use Rattle.executor.proofs.TaskLemmas.{tasks_fit}
 use Rattle.executor.proofs.work.Work.run_round.Given.{Over}
 use Rattle.executor.proofs.work.Work.run_round.Goals as goal
 use Rattle.executor.proofs.work.Work.run_round.Goals.{After-put_back}
@@ -28,8 +28,14 @@ left_by g c =
     (sym (ap (λ (rs : List Running). take c.self.inside.running.len (c.put_back.new.running ++ drop (length c.put_back.new.running) rs)) first
     ∙ written_back c.self.inside.running.len c.put_back.new.running c.take_tasks.new.running (c.self.inside.running.ok.0 ∙ sym (ap length taken ∙ length-map w.running (emptied w.group))) put)) d
 
+pub run_group-requires : goal.run_group-requires
+run_group-requires g c =
+    let w : Progress = record { items = c.self.inside.pages; running = c.self.inside.running.items; group = c.self.inside.group } in
+    let tasks : c.in_ok-tasks.tasks.items ≡ tasks_in w.group w.running = c.in_ok-tasks.ensures.tasks ∙ ap (tasks_in w.group) c.as_mut_slice.ensures.value in
+    tasks_fit c.self.inside.base.state c.self.inside.batch c.self.inside.ordered w c.self.invariant.worked c.self.invariant.fits c.self.invariant.few c.place_of-first.result c.place_of-first.ensures c.in_ok-tasks.tasks.items tasks
+
 pub invariant_of-result : goal.invariant_of-result
-invariant_of-result g c = record { worked = (left_by g c.before).worked; fits = c.self.invariant.fits; next = c.self.invariant.next }
+invariant_of-result g c = record { worked = (left_by g c.before).worked; fits = c.self.invariant.fits; next = c.self.invariant.next; few = c.self.invariant.few }
 
 pub returns-clause-done : goal.returns-clause-done
 returns-clause-done g c = (left_by g c.before).done

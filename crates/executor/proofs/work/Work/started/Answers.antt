@@ -2,7 +2,8 @@ use Rattle.std.proofs.Common.{◌≡◌, ◌+◌, max, rules, sym, ap, ◌∙◌
 use Rattle.items.specs.Map.{alive}
 use Rattle.executor.specs.State.{StateView}
 use Rattle.executor.specs.Round.{moment_of}
-use Rattle.executor.specs.Work.{Worked}
+use Rattle.executor.specs.Running.{HaveFewSteps}
+use Rattle.executor.specs.Work.{Worked, all_begun}
 use Rattle.executor.proofs.DoneLemmas.{started_work}
 use Rattle.executor.proofs.work.Work.started.Goals as goal
 
@@ -18,4 +19,5 @@ invariant_of-result c =
           (started_work c.args.base.now.state c.args.batch c.args.ordered c.args.group c.drop_due.new.self c.args.running.items now c.requires.running c.requires.first);
       fits = c.requires.fits;
       next = c.requires.next ∙ ap (λ (b : StateView). b.number + 1) (sym base_is);
+      few = subst (λ (b : StateView). HaveFewSteps (all_begun b c.args.batch c.args.ordered)) (sym base_is) (subst HaveFewSteps c.requires.running c.requires.few);
     }

@@ -50,7 +50,7 @@ pub invariant_of-self-2 : goal.invariant_of-self-2
 invariant_of-self-2 c =
     let w : Progress = record { items = c.self.inside.pages; running = c.self.inside.running.items; group = c.self.inside.group } in
     let m = made c in
-    record { worked = stepped w _ m.place c.self.invariant.worked m.made; fits = c.self.invariant.fits; next = c.self.invariant.next }
+    record { worked = stepped w _ m.place c.self.invariant.worked m.made; fits = c.self.invariant.fits; next = c.self.invariant.next; few = c.self.invariant.few }
 
 pub returns-clause-made : goal.returns-clause-made
 returns-clause-made c = subst (λ (v : WorkView). StepMadeAt (first_place v.base v.batch) v.progress c.args.i (record { items = c.step.new.pages; running = set c.self.inside.running.items c.args.i c.step.new.self; group = c.self.inside.group })) c.self.view_is (made c)

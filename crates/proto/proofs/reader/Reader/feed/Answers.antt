@@ -1,7 +1,6 @@
-use Rattle.std.proofs.Common.{◌≡◌, ◌≤◌, ◌++◌, length, sym, ap, ◌∙◌, rules, subst}
+use Rattle.std.proofs.Common.{◌≡◌, ◌≤◌, ◌++◌, sym, ap, ◌∙◌, rules, subst}
 use Rattle.proto.specs.Reader.{Reads}
 use Rattle.proto.specs.Stage.{IsStage, bytes_of, reading}
-use Rattle.proto.specs.declared.stage.Stage.{Stage}
 use Rattle.proto.proofs.ReaderLemmas.{closed_keeps, held_within}
 use Rattle.proto.proofs.reader.Reader.feed.Goals as goal
 

@@ -1,4 +1,4 @@
-use Rattle.std.proofs.Common.{◌≡◌, ◌++◌, ◌<◌, ◌+◌, ◌-◌, ◌≤◌, take, drop, length, ap, sym, ◌∙◌, arith}
+use Rattle.std.proofs.Common.{◌≡◌, ◌++◌, ◌<◌, ◌+◌, ◌-◌, ◌≤◌, take, drop, length, ap, ◌∙◌, arith}
 use Rattle.proto.proofs.StageLemmas.{done_gives, skipped}
 use Rattle.proto.proofs.stage.Stage.end_block.Goals as goal
 

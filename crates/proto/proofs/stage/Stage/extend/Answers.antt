@@ -1,5 +1,4 @@
-use Rattle.std.proofs.Common.{◌≡◌, ◌++◌, take, drop, length, ap, sym, ◌∙◌, rules, Ok, Err}
-use Rattle.std.specs.Result.{OnOk}
+use Rattle.std.proofs.Common.{◌≡◌, ◌++◌, drop, length, ap, ◌∙◌}
 use Rattle.proto.proofs.StageLemmas.{open_takes, more_takes, on_ok, skipped}
 use Rattle.proto.proofs.stage.Stage.extend.Goals as goal
 

@@ -3,6 +3,7 @@ use item_steps::{Answer, Place, Step, Steps, Task, apply};
 use items::{Item, PlainStore};
 use pages::Pages;
 use proto::{Block, Fault, Key, Reply, StoreVerb, Update, is_key_text};
+use round::{Gate, NoGate, Ran};
 use std::alloc::{AllocError, Global};
 use std::rt::Clock;
 use std::sync::atomic::AtomicU64;
@@ -157,7 +158,7 @@ fn replay(
     Ok(answers)
 }
 
-/// Runs the group by so many callers, and says whether the order that the gate saw gives the same
+/// Runs the group by so many workers, and says whether the order that the gate saw gives the same
 /// answers on the plain store.
 fn is_replayed<R: Threads + Wait + Sync>(
     rt: &R,
@@ -166,14 +167,17 @@ fn is_replayed<R: Threads + Wait + Sync>(
     plain: &mut PlainStore,
     group: Vec<Task>,
     base: Place,
-    callers: usize,
+    workers: usize,
 ) -> Result<(Pages, Vec<Ran>, bool), Fault> {
+    let Some(workers) = Workers::new(workers) else {
+        return Err(Fault::Unfit);
+    };
     let gate = Order {
         rt,
         places: Mutex::new(Vec::new(alloc)),
     };
     let kept = group.clone()?;
-    let (pages, answers) = run(rt, alloc, pages, group, base, callers, &gate)?;
+    let (pages, answers) = run(rt, alloc, pages, group, base, workers, &gate)?;
     let order = gate.places.into_inner();
     let replayed = replay(alloc, plain, &kept, base, &order)?;
     let same = answers.len() == replayed.len()
@@ -302,7 +306,8 @@ fn two_are_inside_at_once(rt: HostRuntime) -> Result<(), Fail> {
         moment: 5,
         stamp: 0,
     };
-    let done = run(&rt, alloc, Pages::new(alloc)?, group, base, 2, &gate).is_ok();
+    let two = Workers::new(2).unwrap();
+    let done = run(&rt, alloc, Pages::new(alloc)?, group, base, two, &gate).is_ok();
     assert!(rt; done && gate.met.load(SeqCst) == 2);
     Ok(())
 }
@@ -310,6 +315,13 @@ fn two_are_inside_at_once(rt: HostRuntime) -> Result<(), Fail> {
 #[test]
 fn orders_of_many_rounds_replay(rt: HostRuntime) -> Result<(), Fail> {
     assert!(rt; rounds_agree(&rt, rt.alloc(), 1000) == Ok(true));
+    Ok(())
+}
+
+#[test]
+fn there_are_1_to_16_workers(rt: HostRuntime) -> Result<(), Fail> {
+    assert!(rt; Workers::new(0).is_none() && Workers::new(1).is_some());
+    assert!(rt; Workers::new(16).is_some() && Workers::new(17).is_none());
     Ok(())
 }
 
@@ -323,17 +335,8 @@ fn unfit_groups_are_refused(rt: HostRuntime) -> Result<(), Fail> {
     let mut twice = Vec::new(alloc);
     sets(alloc, &mut twice, 0)?;
     sets(alloc, &mut twice, 1)?;
-    let refused = run(&rt, alloc, Pages::new(alloc)?, twice, base, 2, &NoGate);
+    let two = Workers::new(2).unwrap();
+    let refused = run(&rt, alloc, Pages::new(alloc)?, twice, base, two, &NoGate);
     assert!(rt; matches!(refused, Err(Fault::Unfit)));
-    let callers = run(
-        &rt,
-        alloc,
-        Pages::new(alloc)?,
-        Vec::new(alloc),
-        base,
-        65,
-        &NoGate,
-    );
-    assert!(rt; matches!(callers, Err(Fault::Unfit)));
     Ok(())
 }

@@ -1,21 +1,16 @@
-//! A whole round: opened, worked by its callers, and closed.
+//! A whole round: opened, worked by several threads, and closed.
 
 ghost use Rattle.std.specs.Prelude.{◌≡◌, ◌↔◌, ◌⊎◌, false, [], map, IfOk, IfErr, IsErrOf};
 ghost use Rattle.item_steps.specs.Schedule.{GroupRuns};
 ghost use Rattle.round.specs.Tickets.{maker};
-ghost use Rattle.round.specs.Sittings.{fits, StayInOrder};
+ghost use Rattle.round.specs.Sittings.{fits, group_fits};
+ghost use Rattle.workers.specs.InOrder.{StayInOrder};
 
-use crate::gate::Gate;
-use crate::open::{MOST_STEPS, fits};
-use crate::room::Room;
-use crate::round::Round;
-use crate::rule::Token;
-use crate::running::Ran;
-use crate::seat::Seat;
-use crate::word::TicketWord;
+use crate::workers::Workers;
 use item_steps::{Place, Task};
 use pages::Pages;
 use proto::Fault;
+use round::{Gate, MOST_STEPS, Ran, Room, Round, Seat, TicketWord, Token, group_fits};
 use std::alloc::Global;
 use std::marker::Brand;
 use std::sync::Wait;
@@ -60,7 +55,7 @@ fn make_all<J: Room, R: Wait, G: Gate>(
 /// Makes the steps that are left of all seats, as far as there is memory. One seat is worked by the
 /// thread that calls, each other one by a thread of its own; where a thread cannot be started, the
 /// caller does its work too.
-pub fn work<J: Room + Send + Sync, R: Threads + Wait + Sync, G: Gate + Sync>(
+fn work<J: Room + Send + Sync, R: Threads + Wait + Sync, G: Gate + Sync>(
     rt: &R,
     alloc: Global,
     round: &Round<J>,
@@ -109,15 +104,14 @@ fn within<J: Room + Send + Sync, R: Threads + Wait + Sync, G: Gate + Sync>(
     }
 }
 
-/// Runs the steps of the group on the pages, by so many callers at once: caller `c` makes the steps of
-/// the requests whose position in the group is `c` modulo the number of callers. One caller is the
-/// thread that calls; each other one that has a request is a thread of its own, which has ended when
-/// the call returns.
+/// Runs the steps of the group on the pages, by so many workers at once: worker `w` makes the steps of
+/// the requests whose position in the group is `w` modulo their number. One is the thread that calls;
+/// each other one that has a request is a thread of its own, which has ended when the call returns.
 ///
 /// The requests come back with their answers, in the group's order. The pages and the answers are what
 /// some interleaving of the group's steps leads to. The stamp of a request is the base's stamp plus its place.
 ///
-/// `Unfit` where `Round::open` refuses the group or the number of callers. The only other error is
+/// `Unfit` where a round does not take the group: see `round::group_fits`. The only other error is
 /// want of memory.
 pub fn run<R: Threads + Wait + Sync, G: Gate + Sync>(
     rt: &R,
@@ -125,19 +119,19 @@ pub fn run<R: Threads + Wait + Sync, G: Gate + Sync>(
     pages: Pages,
     group: Vec<Task>,
     base: Place,
-    callers: usize,
+    workers: Workers,
     gate: &G,
 ) -> Result<(Pages, Vec<Ran>), Fault>
     ensures runs { IfOk result (λ r. GroupRuns base pages group.items r.0 (map (λ ran. ran.answers) r.1.items)) }
     ensures tasks { IfOk result (λ r. map (λ ran. ran.task) r.1.items ≡ group.items) }
-    ensures unfit { IsErrOf result Fault.Unfit ↔ (fits base group.items callers ≡ false) }
+    ensures unfit { IsErrOf result Fault.Unfit ↔ (group_fits base group.items ≡ false) }
     ensures only { IfErr result (λ fault. (fault ≡ Fault.Unfit) ⊎ (fault ≡ Fault.NoMemory)) }
 {
-    if !fits(base, &group, callers) {
+    if !group_fits(base, &group) {
         return Err(Fault::Unfit);
     }
-    // A caller without a request would have nothing to do.
-    let busy = callers.min(group.len()).max(1);
+    // A worker without a request would have nothing to do.
+    let busy = workers.count().min(group.len()).max(1);
     let (word, master) = TicketWord::open(alloc)?;
     within::<Brand, R, G>(rt, alloc, word, master, pages, group, base, busy, gate)
 }

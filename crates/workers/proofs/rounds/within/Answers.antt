@@ -2,8 +2,8 @@ use Rattle.std.proofs.Common.{◌≡◌, length, map, drop, rules, ap, ◌∙◌
 use Rattle.std.specs.List.{range_with_len}
 use Rattle.std.proofs.lemmas.List.{take_at}
 use Rattle.round.specs.Sittings.{Sitting}
-use Rattle.round.proofs.Dealt.{callers_of, same_callers}
-use Rattle.round.proofs.threads.within.Goals as goal
+use Rattle.workers.proofs.InOrder.{callers_of, same_callers}
+use Rattle.workers.proofs.rounds.within.Goals as goal
 
 pub close-requires : goal.close-requires
 close-requires g c =

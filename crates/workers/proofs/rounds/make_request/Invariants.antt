@@ -1,5 +1,5 @@
 use Rattle.std.proofs.Common.{◌≡◌}
-use Rattle.round.proofs.threads.make_request.Given as goal
+use Rattle.workers.proofs.rounds.make_request.Given as goal
 
 abbrev pub invariant-loop : goal.invariant-loop
 invariant-loop g l = l.seat.caller ≡ l.initial.seat.caller

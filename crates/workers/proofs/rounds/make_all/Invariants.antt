@@ -1,5 +1,5 @@
 use Rattle.std.proofs.Common.{◌≡◌}
-use Rattle.round.proofs.threads.make_all.Given as goal
+use Rattle.workers.proofs.rounds.make_all.Given as goal
 
 abbrev pub invariant-loop-index : goal.invariant-loop-index
 invariant-loop-index g l = l.seat.caller ≡ l.initial.seat.caller

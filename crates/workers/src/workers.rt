@@ -4,7 +4,7 @@ use std::marker::Model;
 
 const MOST_WORKERS: usize = 16;
 
-/// How many threads make the steps of a group at once: 1 to 16, the caller's thread being one of them.
+/// How many threads work at once: 1 to 16, the caller's thread being one of them.
 #[derive(Clone, Copy, Debug)]
 pub struct Workers {
     count: usize,

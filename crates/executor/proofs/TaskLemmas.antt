@@ -1,0 +1,94 @@
+-- The requests of a group are such as a round takes.
+use Rattle.std.proofs.Common.{◌≡◌, ◌≢◌, ℕ, zero, suc, ◌+◌, ◌*◌, ◌<◌, ◌≤◌, ◌^◌, Bool, true, false, cond, List, [], ◌∷◌, ◌++◌, map, length, Some, refl, sym, ap, ◌∙◌, arith, subst}
+use Rattle.std.specs.Prelude.{slice_get, filter, not, nat_le, nat_lt, ◌&&◌, ◌==◌, if◌then◌else◌}
+use Rattle.std.specs.List.{list_all}
+use Rattle.std.proofs.lemmas.Bool.{and_from, le-leb, lt-ltb, ne_eqb}
+use Rattle.std.proofs.lemmas.List.{length-map, length-append}
+use Rattle.item_steps.specs.Schedule.{stamped}
+use Rattle.item_steps.specs.declared.group.Task.{Task}
+use Rattle.item_steps.specs.declared.step.Place.{Place}
+use Rattle.sessions.specs.declared.request.Request.{Request}
+use Rattle.sessions.specs.Fresh.{Replies}
+use Rattle.batches.specs.declared.batch.Batch.{Batch}
+use Rattle.wire.specs.Batch.{BatchFits}
+use Rattle.round.specs.Sittings.{task_fits, are_apart, group_fits, most_requests, most_steps}
+use Rattle.executor.specs.Running.{Running, HaveFewSteps}
+use Rattle.executor.specs.State.{StateView}
+use Rattle.executor.specs.Fresh.{fresh_after, runs}
+use Rattle.executor.specs.Round.{first_place, runners}
+use Rattle.executor.specs.Work.{Progress, Worked, all_begun, begun}
+use Rattle.executor.specs.GroupRun.{task_of, tasks_in}
+use Rattle.executor.proofs.PartialLemmas.{Each, each-of-all, forget, Partial}
+use Rattle.executor.proofs.RoundLemmas.{map_get}
+use Rattle.executor.proofs.WorkedLemmas.{worked-partial}
+use Rattle.executor.proofs.DoneLemmas.{place_within}
+
+module _ (base : Place) (group : ℕ) where
+  -- each request of the group
+  all_fit : (rs : List Running) → Each (λ r. task_fits base (task_of r) ≡ true) rs → list_all (task_fits base) (tasks_in group rs) ≡ true
+  all_fit [] fit = refl
+  all_fit (r ∷ rs) fit = elim (r.group == group) as (λ b. list_all (task_fits base) (map task_of (cond b (r ∷ filter (λ x. x.group == group) rs) (filter (λ x. x.group == group) rs))) ≡ true) [
+    | true ↦ and_from (task_fits base (task_of r)) _ (fit 0 r refl) (all_fit rs (λ i. fit (suc i)))
+    | false ↦ all_fit rs (λ i. fit (suc i))
+  ]
+
+  -- of another place than those of the group
+  is_apart : (place : ℕ) (rs : List Running) → Each (λ r. r.place ≢ place) rs → list_all (λ other. not (other.place == place)) (tasks_in group rs) ≡ true
+  is_apart place [] apart = refl
+  is_apart place (r ∷ rs) apart =
+      elim (r.group == group) as (λ b. list_all (λ other. not (other.place == place)) (map task_of (cond b (r ∷ filter (λ x. x.group == group) rs) (filter (λ x. x.group == group) rs))) ≡ true) [
+        | true ↦ and_from (not (r.place == place)) _ (ap not (ne_eqb r.place place (apart 0 r refl))) (is_apart place rs (λ i. apart (suc i)))
+        | false ↦ is_apart place rs (λ i. apart (suc i))
+      ]
+
+  all_apart : (rs : List Running) → ((i j : ℕ) (r s : Running) → slice_get rs i ≡ Some r → slice_get rs j ≡ Some s → r.place ≡ s.place → i ≡ j) → are_apart (tasks_in group rs) ≡ true
+  all_apart [] places = refl
+  all_apart (r ∷ rs) places =
+      let later = all_apart rs (λ i j x y at there e. let one = places (suc i) (suc j) x y at there e in omega arith) in
+      elim (r.group == group) as (λ b. are_apart (map task_of (cond b (r ∷ filter (λ x. x.group == group) rs) (filter (λ x. x.group == group) rs))) ≡ true) [
+        | true ↦ and_from _ _ (is_apart r.place rs (λ i x at e. let one = places 0 (suc i) r x refl at (sym e) in omega arith)) later
+        | false ↦ later
+      ]
+
+  no_more : (rs : List Running) → length (tasks_in group rs) ≤ length rs
+  no_more [] = omega arith
+  no_more (r ∷ rs) = elim (r.group == group) as (λ b. length (map task_of (cond b (r ∷ filter (λ x. x.group == group) rs) (filter (λ x. x.group == group) rs))) ≤ suc (length rs)) [
+    | true ↦ omega (arith, no_more rs)
+    | false ↦ omega (arith, no_more rs)
+  ]
+
+fresh_few : (s : Replies) (earlier later : List Request) → length (fresh_after s earlier later) ≤ length later
+fresh_few s earlier [] = omega arith
+fresh_few s earlier (q ∷ later) =
+    elim (runs s earlier q) as (λ b. length ((if b then (length earlier, q) ∷ [] else []) ++ fresh_after s (earlier ++ q ∷ []) later) ≤ suc (length later)) [
+      | true ↦ omega (arith, fresh_few s (earlier ++ q ∷ []) later)
+      | false ↦ omega (arith, fresh_few s (earlier ++ q ∷ []) later)
+    ]
+
+-- a group of a batch within the limits of a record, each of whose requests has few steps
+pub tasks_fit : (base : StateView) (batch : Batch) (ordered : Bool) (w : Progress) → Worked base batch ordered w → BatchFits batch → HaveFewSteps (all_begun base batch ordered)
+    → (first : Place) → first ≡ stamped (first_place base batch) 0 → (tasks : List Task) → tasks ≡ tasks_in w.group w.running → group_fits first tasks ≡ true
+tasks_fit base batch ordered w worked fits few first at tasks are =
+    (λ i. group_fits (at i) (are i)) ∙ and_from _ _ (le-leb _ most_requests most) (and_from _ _ (all_fit place w.group w.running each) (all_apart place w.group w.running p.places))
+  where
+    place : Place
+    place = stamped (first_place base batch) 0
+
+    p : Partial base batch ordered w
+    p = worked-partial base batch ordered w worked
+
+    count : length w.running ≡ length (runners base batch)
+    count = sym (length-map w.running forget) ∙ ap length p.same ∙ length-map (runners base batch) (begun batch ordered)
+
+    most : length (tasks_in w.group w.running) ≤ most_requests
+    most = omega (arith, no_more place w.group w.running, count, fresh_few base.sessions [] batch.requests, fits.count)
+
+    -- its steps are those that it began with
+    steps_few : (i : ℕ) (x : Running) → slice_get w.running i ≡ Some x → length x.steps ≤ most_steps
+    steps_few i x there = each-of-all (λ (r : Running). length r.steps ≤ most_steps) (all_begun base batch ordered) few i (forget x) (ap (λ xs. slice_get xs i) (sym p.same) ∙ map_get forget w.running i x there)
+
+    stamp : (i : ℕ) (x : Running) → slice_get w.running i ≡ Some x → place.stamp + x.place < 2 ^ 64
+    stamp i x there = omega (arith, fits.last, fits.count, place_within base batch ordered w worked i x there)
+
+    each : Each (λ r. task_fits place (task_of r) ≡ true) w.running
+    each i x there = and_from (nat_le (length x.steps) most_steps) (nat_lt (place.stamp + x.place) (2 ^ 64)) (le-leb (length x.steps) most_steps (steps_few i x there)) (lt-ltb (place.stamp + x.place) (2 ^ 64) (stamp i x there))

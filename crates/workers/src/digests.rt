@@ -1,0 +1,27 @@
+//! The digests of pages, by several threads.
+
+ghost use Rattle.std.specs.Prelude.{◌≡◌, map};
+ghost use Rattle.pages.specs.Page.{refreshed};
+
+use crate::workers::Workers;
+use pages::Page;
+use std::thread;
+use std::thread::Threads;
+
+/// To start a thread for fewer pages than these costs more than it spares.
+const LEAST_PAGES: usize = 4;
+
+/// How many of the pages have no digest.
+fn written(pages: &[Page]) -> usize {
+    pages.iter().filter(|page| page.digest().is_none()).count()
+}
+
+/// Makes the digest new of each page that was written, by at most so many workers at once. The thread
+/// that calls is one of them; the others have ended when the call returns. This takes no memory but
+/// the threads'.
+pub fn refresh_all<R: Threads + Sync>(rt: &R, pages: &mut [Page], workers: Workers)
+    ensures { pages.new ≡ map refreshed pages.old }
+{
+    let threads = workers.count().min(written(pages) / LEAST_PAGES).max(1);
+    thread::for_each_mut(rt, pages, threads, &|_, page| { page.refresh() });
+}
