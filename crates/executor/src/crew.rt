@@ -1,4 +1,4 @@
-//! A group that several workers run.
+//! What several workers do of a batch: the groups, and the digests of written pages.
 
 ghost use Rattle.std.specs.Prelude.{◌≡◌, true, map, IfOk};
 ghost use Rattle.item_steps.specs.Schedule.{GroupRuns};
@@ -11,7 +11,7 @@ use round::{Gate, Ran};
 use std::alloc::{AllocError, Global};
 use std::sync::Wait;
 use std::thread::Threads;
-use workers::{Workers, run};
+use workers::{Workers, refresh_all, run};
 
 /// Runs the group on the pages, by at most so many workers at once. Place 0 is at `base`.
 /// The only error is want of memory.
@@ -34,4 +34,14 @@ pub fn run_group<R: Threads + Wait + Sync, G: Gate + Sync>(
         // The group fits.
         Err(_) => unreachable!(),
     }
+}
+
+/// The same pages. The digests of those that were written are made by at most so many workers at once,
+/// so that little is left to do when the pages are sealed.
+pub fn refresh<R: Threads + Sync>(rt: &R, pages: Pages, workers: Workers) -> Pages
+    ensures { result ≡ pages }
+{
+    let mut parts = pages.part();
+    refresh_all(rt, parts.as_mut_slice(), workers);
+    Pages::join(parts)
 }

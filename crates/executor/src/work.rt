@@ -12,7 +12,7 @@ ghost use Rattle.executor.specs.Through.{IsReadyAt, IsNotLeft, StepMadeAt, Reque
 
 use crate::base::Base;
 use crate::begin::begin_all;
-use crate::crew::run_group;
+use crate::crew::{refresh, run_group};
 use crate::group_run::{put_back, take_tasks};
 use crate::groups::{is_group_done, next_group};
 use crate::kept::{answer_all, are_few};
@@ -337,6 +337,32 @@ impl Work {
         })
     }
 
+    /// The same work. Where no group comes after this one the workers make the digests of the pages
+    /// that were written; else one thread would make them at the end.
+    fn refreshed<R: Threads + Sync>(self, rt: &R, workers: Workers) -> Work
+        ensures { result ≡ self }
+    {
+        if next_group(&self.running, Some(self.group)).is_some() {
+            return self;
+        }
+        let Work {
+            base,
+            batch,
+            ordered,
+            pages,
+            running,
+            group,
+        } = self;
+        Work {
+            base,
+            batch,
+            ordered,
+            pages: refresh(rt, pages, workers),
+            running,
+            group,
+        }
+    }
+
     /// Makes all steps that are left, each group by a round of several workers, and ends.
     pub(crate) fn run_on_threads<R: Threads + Wait + Sync, G: Gate + Sync>(
         self,
@@ -352,7 +378,7 @@ impl Work {
         let mut work = self;
         loop {
             let ran = work.run_round(rt, alloc, workers, gate)?;
-            match ran.finish(alloc)? {
+            match ran.refreshed(rt, workers).finish(alloc)? {
                 Ended::On(more) => work = more,
                 Ended::Done(tentative) => return Ok(tentative),
             }
