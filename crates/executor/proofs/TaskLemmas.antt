@@ -1,9 +1,11 @@
--- The requests of a group are such as a round takes.
-use Rattle.std.proofs.Common.{◌≡◌, ◌≢◌, ℕ, zero, suc, ◌+◌, ◌*◌, ◌<◌, ◌≤◌, ◌^◌, Bool, true, false, cond, List, [], ◌∷◌, ◌++◌, map, length, Some, refl, sym, ap, ◌∙◌, arith, subst}
+-- What workers are given and what they leave: the requests of a group are such as a round takes, and refreshed pages are the same.
+use Rattle.std.proofs.Common.{◌≡◌, ◌≢◌, ℕ, zero, suc, ◌+◌, ◌*◌, ◌<◌, ◌≤◌, ◌^◌, Bool, true, false, cond, List, [], ◌∷◌, ◌++◌, map, length, take, drop, get_or, Some, refl, sym, ap, ◌∙◌, arith, subst}
 use Rattle.std.specs.Prelude.{slice_get, filter, not, nat_le, nat_lt, ◌&&◌, ◌==◌, if◌then◌else◌}
 use Rattle.std.specs.List.{list_all}
 use Rattle.std.proofs.lemmas.Bool.{and_from, le-leb, lt-ltb, ne_eqb}
-use Rattle.std.proofs.lemmas.List.{length-map, length-append}
+use Rattle.std.proofs.lemmas.List.{take_at, length-map, map-append, append_assoc, drop_more, take_more}
+use Rattle.std.proofs.lemmas.List.Elements.{All-push}
+use Rattle.items.specs.Map.{Items}
 use Rattle.item_steps.specs.Schedule.{stamped}
 use Rattle.item_steps.specs.declared.group.Task.{Task}
 use Rattle.item_steps.specs.declared.step.Place.{Place}
@@ -11,10 +13,12 @@ use Rattle.sessions.specs.declared.request.Request.{Request}
 use Rattle.sessions.specs.Fresh.{Replies}
 use Rattle.batches.specs.declared.batch.Batch.{Batch}
 use Rattle.wire.specs.Batch.{BatchFits}
+use Rattle.pages.specs.Page.{PageState, refreshed}
+use Rattle.pages.specs.Joined.{parts, items_of}
 use Rattle.round.specs.Sittings.{task_fits, are_apart, group_fits, most_requests, most_steps}
 use Rattle.executor.specs.Running.{Running, HaveFewSteps}
 use Rattle.executor.specs.State.{StateView}
-use Rattle.executor.specs.Fresh.{fresh_after, runs}
+use Rattle.executor.specs.Fresh.{Runner, fresh_after, runner_at, runs}
 use Rattle.executor.specs.Round.{first_place, runners}
 use Rattle.executor.specs.Work.{Progress, Worked, all_begun, begun}
 use Rattle.executor.specs.GroupRun.{task_of, tasks_in}
@@ -92,3 +96,29 @@ tasks_fit base batch ordered w worked fits few first at tasks are =
 
     each : Each (λ r. task_fits place (task_of r) ≡ true) w.running
     each i x there = and_from (nat_le (length x.steps) most_steps) (nat_lt (place.stamp + x.place) (2 ^ 64)) (le-leb (length x.steps) most_steps (steps_few i x there)) (lt-ltb (place.stamp + x.place) (2 ^ 64) (stamp i x there))
+
+-- the items of pages that were lent to be refreshed
+pub same_parts : (m : Items) (old : List PageState) (n : ℕ) (new : List PageState) → items_of old ≡ parts m → n ≡ length old → new ≡ map refreshed old
+    → items_of (take n (new ++ drop (length new) old)) ≡ parts m
+same_parts m old n new are len is = ap items_of (take_at new (drop (length new) old) n (ap length is ∙ length-map old refreshed ∙ sym len) ∙ is) ∙ same_items old ∙ are
+  where
+    same_items : (pages : List PageState) → items_of (map refreshed pages) ≡ items_of pages
+    same_items [] = refl
+    same_items (page ∷ pages) = ap (λ ms. page.items ∷ ms) (same_items pages)
+
+pub few_push : (rs : List Running) (r : Running) → HaveFewSteps rs → length r.steps ≤ most_steps → HaveFewSteps (rs ++ r ∷ [])
+few_push rs r few one = All-push (λ (x : Running). length x.steps ≤ most_steps) rs r few one
+
+-- one request more was begun
+pub begun_more : (f : Runner → Running) (s : Replies) (requests : List Request) (place : ℕ) (r : Request) (old new all : List Running) → place < length requests → r ≡ get_or requests place r
+    → new ≡ old ++ map f (runner_at s (take place requests) (length (take place requests)) r) → old ++ map f (fresh_after s (take place requests) (drop place requests)) ≡ all
+    → new ++ map f (fresh_after s (take (place + 1) requests) (drop (place + 1) requests)) ≡ all
+begun_more f s requests place r old new all within at is so_far =
+    let rest : drop place requests ≡ r ∷ drop (place + 1) requests = drop_more requests place r within ∙ ap (λ (x : Request). x ∷ drop (place + 1) requests) (sym at) in
+    let front : take (place + 1) requests ≡ take place requests ++ r ∷ [] = take_more requests place r within ∙ ap (λ (x : Request). take place requests ++ x ∷ []) (sym at) in
+    let own = runner_at s (take place requests) (length (take place requests)) r in
+    let later = fresh_after s (take place requests ++ r ∷ []) (drop (place + 1) requests) in
+    (λ i. is i ++ map f (fresh_after s (front i) (drop (place + 1) requests)))
+    ∙ append_assoc old (map f own) (map f later)
+    ∙ ap (λ xs. old ++ xs) (sym (map-append f own later))
+    ∙ ap (λ xs. old ++ map f xs) (sym (ap (fresh_after s (take place requests)) rest)) ∙ so_far

@@ -12,11 +12,14 @@ Runner = ℕ × Request
 abbrev pub runs : Replies → List Request → Request → Bool
 runs sessions earlier r = is_next sessions r && not (list_any (λ e. e.client == r.client) earlier)
 
+-- the request with its place, if it runs
+abbrev pub runner_at : Replies → List Request → ℕ → Request → List Runner
+runner_at sessions earlier place r = if runs sessions earlier r then (place, r) ∷ [] else []
+
 -- those of the later requests that run, after the earlier ones
 abbrev pub fresh_after : Replies → List Request → List Request → List Runner
 fresh_after sessions earlier [] = []
-fresh_after sessions earlier (r ∷ later) =
-    (if runs sessions earlier r then (length earlier, r) ∷ [] else []) ++ fresh_after sessions (earlier ++ r ∷ []) later
+fresh_after sessions earlier (r ∷ later) = runner_at sessions earlier (length earlier) r ++ fresh_after sessions (earlier ++ r ∷ []) later
 
 -- the requests that run, by place
 abbrev pub fresh : Replies → List Request → List Runner

@@ -1,11 +1,11 @@
 //! The requests of a batch that run, before their first step.
 
-ghost use Rattle.std.specs.Prelude.{◌≡◌, ◌==◌, ◌≤◌, ◌<◌, ◌^◌, [], true, false, IfOk, length, take, map, slice_index, if◌then◌else◌};
+ghost use Rattle.std.specs.Prelude.{◌≡◌, ◌==◌, ◌≤◌, ◌<◌, ◌^◌, [], true, false, ◌++◌, IfOk, OnOk, length, take, map, slice_index, if◌then◌else◌};
 ghost use Rattle.std.specs.List.{list_any};
 ghost use Rattle.item_steps.specs.Steps.{steps};
 ghost use Rattle.mixer.specs.Groups.{numbers_of};
 ghost use Rattle.executor.specs.State.{StateView};
-ghost use Rattle.executor.specs.Fresh.{runs as runs_after, fresh};
+ghost use Rattle.executor.specs.Fresh.{runs as runs_after, runner_at, fresh};
 ghost use Rattle.executor.specs.Work.{all_begun, begun_in};
 ghost use Rattle.executor.specs.Running.{HaveFewSteps};
 
@@ -53,6 +53,32 @@ fn group_at(ordered: bool, numbers: &[usize], place: usize) -> usize
     }
 }
 
+/// Adds the request, if it runs after the earlier ones of its batch.
+#[tactic(auto, using(crate::proofs::TaskLemmas::few_push))]
+fn add_running(
+    alloc: Global,
+    sessions: &Sessions,
+    earlier: &[Request],
+    request: &Request,
+    ordered: bool,
+    numbers: &[usize],
+    running: &mut Vec<Running>,
+) -> Result<(), AllocError>
+    requires { length earlier.now < 2 ^ 32 }
+    ensures begun { OnOk result (running.new.items
+        ≡ running.old.items ++ map (begun_in ordered numbers.now) (runner_at sessions.now earlier.now (length earlier.now) request.now)) }
+    ensures few { OnOk result (HaveFewSteps running.old.items → HaveFewSteps running.new.items) }
+{
+    if !runs(sessions, earlier, request) {
+        return Ok(());
+    }
+    let place = earlier.len();
+    let steps = Steps::new(steps_of(alloc, &request.command)?);
+    let group = group_at(ordered, numbers, place);
+    running.push(Running::new(alloc, place as u32, group, steps))?;
+    Ok(())
+}
+
 fn begin_with(
     alloc: Global,
     sessions: &Sessions,
@@ -66,11 +92,8 @@ fn begin_with(
 {
     let mut running = Vec::new(alloc);
     for (place, request) in requests.iter().enumerate() {
-        if runs(sessions, &requests[..place], request) {
-            let steps = Steps::new(steps_of(alloc, &request.command)?);
-            let group = group_at(ordered, numbers, place);
-            running.push(Running::new(alloc, place as u32, group, steps))?;
-        }
+        let earlier = &requests[..place];
+        add_running(alloc, sessions, earlier, request, ordered, numbers, &mut running)?;
     }
     Ok(running)
 }

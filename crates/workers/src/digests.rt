@@ -14,10 +14,7 @@ const LEAST_PAGES: usize = 4;
 
 /// How many of the pages have no digest.
 fn written(pages: &[Page]) -> usize {
-    pages
-        .iter()
-        .filter(|page| page.digest().is_none())
-        .count()
+    pages.iter().filter(|page| page.digest().is_none()).count()
 }
 
 /// Makes each digest new that is not kept, by at most so many threads.

@@ -1,7 +1,7 @@
 use super::*;
 use item_steps::{Answer, Place, Step, Steps, Task, apply};
 use items::{Item, PlainStore};
-use pages::Pages;
+use pages::{Page, Pages};
 use proto::{Block, Fault, Key, Reply, StoreVerb, Update, is_key_text};
 use round::{Gate, NoGate, Ran};
 use std::alloc::{AllocError, Global};
@@ -315,6 +315,42 @@ fn two_are_inside_at_once(rt: HostRuntime) -> Result<(), Fail> {
 #[test]
 fn orders_of_many_rounds_replay(rt: HostRuntime) -> Result<(), Fail> {
     assert!(rt; rounds_agree(&rt, rt.alloc(), 1000) == Ok(true));
+    Ok(())
+}
+
+/// Whether both pages keep a digest, and the same one.
+fn is_same_digest(a: &Page, b: &Page) -> bool {
+    match (a.digest(), b.digest()) {
+        (Some(a), Some(b)) => a.as_slice() == b.as_slice(),
+        _ => false,
+    }
+}
+
+/// Pages of which each was written.
+fn written_pages(alloc: Global) -> Result<Vec<Page>, AllocError> {
+    let base = Place {
+        moment: 5,
+        stamp: 64,
+    };
+    let mut pages = Pages::new(alloc)?;
+    for byte in 48..112u8 {
+        apply(alloc, &mut pages, &set(alloc, &[byte], b'1')?, base)?;
+    }
+    Ok(pages.part())
+}
+
+#[test]
+fn workers_make_the_digests_of_one_thread(rt: HostRuntime) -> Result<(), Fail> {
+    for count in [1usize, 3, 16] {
+        let mut pages = written_pages(rt.alloc())?;
+        let mut alone = pages.clone()?;
+        assert!(rt; pages.len() == 64 && pages.iter().all(|page| page.digest().is_none()));
+        for page in alone.iter_mut() {
+            page.refresh();
+        }
+        refresh_all(&rt, pages.as_mut_slice(), Workers::new(count).unwrap());
+        assert!(rt; pages.iter().zip(&alone).all(|(a, b)| is_same_digest(a, b)));
+    }
     Ok(())
 }
 

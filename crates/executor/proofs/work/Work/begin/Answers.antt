@@ -11,7 +11,7 @@ use Rattle.executor.proofs.work.Work.begin.Goals as goal
 
 pub complete-requires-clause-done : goal.complete-requires-clause-done
 complete-requires-clause-done c =
-    let all : c.in_ok-running.running.items ≡ all_begun c.args.base.now.state c.args.batch c.args.ordered = c.in_ok-running.ensures c.args.base.now.state (sym c.sessions.ensures.sessions) in
+    let all : c.in_ok-running.running.items ≡ all_begun c.args.base.now.state c.args.batch c.args.ordered = c.in_ok-running.ensures.begun c.args.base.now.state (sym c.sessions.ensures.sessions) in
     let none : all_begun c.args.base.now.state c.args.batch c.args.ordered ≡ [] =
     sym all ∙ none_run c.in_ok-running.running.items (subst (λ (rs : List Running). IsLast rs None) c.deref.ensures.value (c.in-None.ensures.none refl)) in
     subst (λ (v : WorkView). IsTrue (is_group_done v.progress)) (sym c.in_ok-work-in-None.ensures)
@@ -19,14 +19,14 @@ complete-requires-clause-done c =
 
 pub complete-requires-clause-last : goal.complete-requires-clause-last
 complete-requires-clause-last c =
-    let all : c.in_ok-running.running.items ≡ all_begun c.args.base.now.state c.args.batch c.args.ordered = c.in_ok-running.ensures c.args.base.now.state (sym c.sessions.ensures.sessions) in
+    let all : c.in_ok-running.running.items ≡ all_begun c.args.base.now.state c.args.batch c.args.ordered = c.in_ok-running.ensures.begun c.args.base.now.state (sym c.sessions.ensures.sessions) in
     let none : all_begun c.args.base.now.state c.args.batch c.args.ordered ≡ [] =
     sym all ∙ none_run c.in_ok-running.running.items (subst (λ (rs : List Running). IsLast rs None) c.deref.ensures.value (c.in-None.ensures.none refl)) in
     subst (λ (v : WorkView). IsLast v.progress.running (Some v.progress.group)) (sym c.in_ok-work-in-None.ensures) (none_last (all_begun c.args.base.now.state c.args.batch c.args.ordered) none)
 
 pub returns-in_ok-complete-in-None-clause-begins : goal.returns-in_ok-complete-in-None-clause-begins
 returns-in_ok-complete-in-None-clause-begins c =
-    let all : c.in_ok-running.running.items ≡ all_begun c.args.base.now.state c.args.batch c.args.ordered = c.in_ok-running.ensures c.args.base.now.state (sym c.sessions.ensures.sessions) in
+    let all : c.in_ok-running.running.items ≡ all_begun c.args.base.now.state c.args.batch c.args.ordered = c.in_ok-running.ensures.begun c.args.base.now.state (sym c.sessions.ensures.sessions) in
     let none : all_begun c.args.base.now.state c.args.batch c.args.ordered ≡ [] =
     sym all ∙ none_run c.in_ok-running.running.items (subst (λ (rs : List Running). IsLast rs None) c.deref.ensures.value (c.in-None.ensures.none refl)) in
     (none, c.in_ok-complete-in-None.ensures.tentative ∙ ap tentative_of c.in_ok-work-in-None.ensures)

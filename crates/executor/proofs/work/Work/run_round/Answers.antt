@@ -28,8 +28,8 @@ left_by g c =
     (sym (ap (λ (rs : List Running). take c.self.inside.running.len (c.put_back.new.running ++ drop (length c.put_back.new.running) rs)) first
     ∙ written_back c.self.inside.running.len c.put_back.new.running c.take_tasks.new.running (c.self.inside.running.ok.0 ∙ sym (ap length taken ∙ length-map w.running (emptied w.group))) put)) d
 
-pub run_group-requires : goal.run_group-requires
-run_group-requires g c =
+pub run_group-requires-clause-fits : goal.run_group-requires-clause-fits
+run_group-requires-clause-fits g c lifetimes live =
     let w : Progress = record { items = c.self.inside.pages; running = c.self.inside.running.items; group = c.self.inside.group } in
     let tasks : c.in_ok-tasks.tasks.items ≡ tasks_in w.group w.running = c.in_ok-tasks.ensures.tasks ∙ ap (tasks_in w.group) c.as_mut_slice.ensures.value in
     tasks_fit c.self.inside.base.state c.self.inside.batch c.self.inside.ordered w c.self.invariant.worked c.self.invariant.fits c.self.invariant.few c.place_of-first.result c.place_of-first.ensures c.in_ok-tasks.tasks.items tasks
