@@ -3,7 +3,7 @@ use Rattle.std.specs.Prelude.{slice_get}
 use Rattle.std.proofs.lemmas.Option.{slice_get-get_or}
 use Rattle.item_steps.specs.declared.group.Task.{Task}
 use Rattle.executor.specs.Running.{Running}
-use Rattle.executor.specs.GroupRun.{task_of, emptied}
+use Rattle.executor.specs.GroupRun.{task_of}
 use Rattle.executor.proofs.PutBackLemmas.{TakenSoFar, taken_none, taken_own, taken_other, taken_all, same_read}
 use Rattle.executor.proofs.group_run.take_tasks.Goals as goal
 use Rattle.executor.proofs.group_run.take_tasks.Goals.{then-group+in_ok-push, else-group}
