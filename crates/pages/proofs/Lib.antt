@@ -3,6 +3,7 @@ pub mod JoinedLemmas
 pub mod PartLemmas
 pub mod StateLemmas
 pub mod PageLemmas
+pub mod DueLemmas
 pub mod OwnLemmas
 pub mod EffectLemmas
 mod TreeLemmas

@@ -13,6 +13,7 @@ use Rattle.proto.proofs.MapLemmas.{as_t, from_t, from_sorted_is, map_remove, sor
 use Rattle.items.specs.declared.item.Item.{Item}
 use Rattle.items.specs.Map.{Items, by_bytes, alive, is_alive}
 use Rattle.wire.specs.Item.{PageFits}
+use Rattle.pages.specs.Due.{NoneDueBefore}
 use Rattle.pages.specs.Page.{IsPage}
 use Rattle.pages.proofs.KeyLemmas.{same_key, all_keys}
 use Rattle.pages.proofs.JoinedLemmas.{no_items}
@@ -93,8 +94,12 @@ all-alive m moment same =
     ap (list_all (λ e. is_alive moment e.1)) (sym (ap entries same) ∙ entries-alive m moment) ∙ all_filtered _ (entries m)
 
 -- a page whose digest is to be made new
-pub page-written : (m n : Items) → m ≡ n → PageFits (entries n) → IsPage (record { items = m; digest = None })
-page-written m n same fits = record { fits = subst (λ (k : Items). PageFits (entries k)) (sym same) fits; from_scratch = tt }
+pub page-written : (m n : Items) (soonest : Option ℕ) → m ≡ n → PageFits (entries n) → NoneDueBefore soonest n → IsPage (record { items = m; digest = None }) soonest
+page-written m n soonest same fits none = record {
+  fits = subst (λ (k : Items). PageFits (entries k)) (sym same) fits;
+  from_scratch = tt;
+  soonest_is = subst (NoneDueBefore soonest) (sym same) none;
+}
 
 -- a value that was handed over, or else copied
 pub copied-either : {A : Type 0} (x y : A) → (x ≡ y) ⊎ (x ≡ y) → x ≡ y

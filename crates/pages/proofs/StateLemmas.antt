@@ -1,7 +1,7 @@
 -- Pages with what is kept of their digests: what they contain, and an edit of one of them.
 use Rattle.std.proofs.Common.{◌≡◌, ℕ, zero, suc, ◌+◌, ◌<◌, ◌≤◌, List, [], ◌∷◌, ◌++◌, map, length, take, drop, get_or, set, Option, IsSome, Result, Ok, Err, OnOk, OnErr, refl, sym, ap, ◌∙◌, arith, subst}
 use Rattle.std.specs.FinMap.{entries}
-use Rattle.std.proofs.lemmas.List.{map-set, set-get_or, get_or-map, length-map}
+use Rattle.std.proofs.lemmas.List.{map-set, set-get_or, get_or-map, length-map, take_more, map_push}
 use Rattle.proto.proofs.ListLemmas.{next-same, next-changed}
 use Rattle.items.specs.Map.{Items}
 use Rattle.pages.specs.Page.{PageState, page_count, page_entries, refreshed}
@@ -92,3 +92,11 @@ edit-page {E = E} r pages i n old new edit whole a at l read ok err done = by r 
         let same : items_of (set pages i new) ≡ set (items_of pages) n (get_or (items_of pages) n no_items) =
         items-set pages i new ∙ (λ j. set (items_of pages) (at j) ((ap (λ (a : PageState). a.items) err ∙ here) j)) in
         (subst ArePages (sym same) (pages-set (items_of pages) n (get_or (items_of pages) n no_items) a (own-page (items_of pages) n a)), tt)
+
+-- nothing changes in the pages before page i, and now nothing in page i
+pub none-edited : (f : Items → Items) (all : List PageState) (i : ℕ) (page : PageState) → i < length all → page ≡ get_or all i page → f page.items ≡ page.items
+    → map f (take i (items_of all)) ≡ take i (items_of all) → map f (take (i + 1) (items_of all)) ≡ take (i + 1) (items_of all)
+none-edited f all i page l read same so_far =
+    let more : take (i + 1) (items_of all) ≡ take i (items_of all) ++ page.items ∷ [] =
+    take_more (items_of all) i no_items (omega (arith, l, length-map all (λ (a : PageState). a.items))) ∙ ap (λ m. take i (items_of all) ++ m ∷ []) (sym (items-at all i page l read)) in
+    ap (map f) more ∙ map_push f (take i (items_of all)) page.items ∙ (λ j. so_far j ++ same j ∷ []) ∙ sym more

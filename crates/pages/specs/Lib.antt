@@ -1,3 +1,4 @@
+pub mod Due
 pub mod Page
 pub mod Joined
 pub mod Tree

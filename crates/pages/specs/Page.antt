@@ -7,6 +7,7 @@ use Rattle.items.specs.declared.item.Item.{Item}
 use Rattle.items.specs.Map.{Items}
 use Rattle.wire.specs.Item.{page_text, PageFits}
 use Rattle.token.specs.Digest.{digest}
+use Rattle.pages.specs.Due.{NoneDueBefore}
 
 abbrev pub page_count : ℕ
 page_count = 64
@@ -48,7 +49,8 @@ items_digest m = digest (page_text (entries m))
 abbrev pub refreshed : PageState → PageState
 refreshed page = record { items = page.items; digest = Some (items_digest page.items) }
 
--- Each page has a text, and where a digest is kept it is that of the items now.
-pub record IsPage (page : PageState) : Type 0 where
+-- Each page has a text, and where a digest is kept it is that of the items now; no item is due before the time that is kept.
+pub record IsPage (page : PageState) (soonest : Option ℕ) : Type 0 where
   pub fits : PageFits (entries page.items)
   pub from_scratch : IfSome page.digest (λ kept. kept ≡ items_digest page.items)
+  pub soonest_is : NoneDueBefore soonest page.items

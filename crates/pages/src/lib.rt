@@ -13,6 +13,7 @@
 //! digest being that of just those entries, and has the root over the digests.
 #![tactic(auto)]
 
+mod due;
 mod laws;
 mod number;
 mod page;

@@ -9,6 +9,7 @@ ghost use Rattle.token.specs.Digest.{root_of};
 ghost use Rattle.pages.specs.Page.{page_number, items_digest, refreshed};
 ghost use Rattle.pages.specs.Joined.{IsOwn};
 
+use crate::due::{is_ahead, sooner, soonest_of};
 use crate::number::{PAGES, page_of};
 use crate::tree::Tree;
 use items::{Item, PlainStore, Store};
@@ -30,6 +31,9 @@ const MOST_ENTRIES: usize = 4294967295;
 pub struct Page {
     store: Arc<PlainStore, Global>,
     digest: Option<[u8; 32]>,
+    /// No item is due before this time; where there is none, no item is due at all. A remove leaves
+    /// it as it is, so it may be earlier than the first item is due.
+    soonest: Option<u64>,
     /// The tree over the digests of all pages of a store. Only page 0 keeps it, so that it goes
     /// along where the pages are parted and joined again. It spares time and no more: the tree of
     /// any other pages would do as well. In a box, so that the other pages stay small.
@@ -49,7 +53,7 @@ impl Model for Page {
 
     ghost view = { λ a. record { items = arc_value a.store; digest = a.digest } };
 
-    ghost invariant = { λ a. IsPage (record { items = arc_value a.store; digest = a.digest }) };
+    ghost invariant = { λ a. IsPage (record { items = arc_value a.store; digest = a.digest }) a.soonest };
 }
 
 /// Whether no item is due at the moment or before it.
@@ -86,9 +90,11 @@ impl Page {
         requires { PageFits (map.entries store) }
         ensures { IfOk result (λ page. page ≡ record { items = store; digest = None }) }
     {
+        let soonest = soonest_of(store.as_slice());
         Ok(Page {
             store: Arc::new(alloc, store)?,
             digest: None,
+            soonest,
             tree: None,
         })
     }
@@ -156,6 +162,26 @@ impl Page {
         Ok(())
     }
 
+    /// Whether it is known, without a look at the items, that none is due at the moment or before it.
+    pub(crate) fn has_none_due(&self, moment: u32) -> bool
+        ensures { IsTrue result → alive self.now.items moment ≡ self.now.items }
+    {
+        is_ahead(moment, self.soonest)
+    }
+
+    /// Takes out what is due at the moment or before it. Where nothing is the page stays shared.
+    fn take_due(&mut self, moment: u32) -> Result<(), AllocError>
+        ensures ok { OnOk result (self.new.items ≡ alive self.old.items moment) }
+        ensures same { alive self.old.items moment ≡ self.old.items → self.new ≡ self.old }
+        ensures err { OnErr result (self.new ≡ self.old) }
+    {
+        if !all_alive(self.entries(), moment) {
+            Arc::make_mut(&mut self.store)?.retain_alive(moment);
+            self.digest = None;
+        }
+        Ok(())
+    }
+
     /// Whether a page's text can count the entries after a put at this key.
     fn has_room(&self, key: &Key) -> bool
         ensures { IsTrue result → (item : item_type.Item) → PageFits (map.entries (map.insert self.now.items key.now item)) }
@@ -172,6 +198,7 @@ impl Clone for Page {
         Ok(Page {
             store: Arc::try_clone(&self.store)?,
             digest: self.digest,
+            soonest: self.soonest,
             tree: self.tree.clone()?,
         })
     }
@@ -192,8 +219,10 @@ impl Store for Page {
         if !self.has_room(&key) {
             return Err(AllocError);
         }
+        let due = item.due;
         Arc::make_mut(&mut self.store)?.put(key, item)?;
         self.digest = None;
+        self.soonest = sooner(self.soonest, due);
         Ok(())
     }
 
@@ -214,10 +243,11 @@ impl Store for Page {
         ensures same { alive self.old.items moment ≡ self.old.items → self.new ≡ self.old }
         ensures err { OnErr result (self.new ≡ self.old) }
     {
-        if !all_alive(self.entries(), moment) {
-            Arc::make_mut(&mut self.store)?.retain_alive(moment);
-            self.digest = None;
+        if self.has_none_due(moment) {
+            return Ok(());
         }
+        self.take_due(moment)?;
+        self.soonest = soonest_of(self.entries());
         Ok(())
     }
 }

@@ -1,4 +1,4 @@
-ghost use Rattle.std.specs.Prelude.{◌≡◌, ◌<◌, IfOk, map as map_list, replicate};
+ghost use Rattle.std.specs.Prelude.{◌≡◌, ◌<◌, IsTrue, IfOk, map as map_list, replicate};
 ghost use Rattle.std.specs.FinMap as map;
 ghost use Rattle.items.specs.Map.{alive};
 ghost use Rattle.wire.specs.Item.{PageFits};
@@ -58,6 +58,19 @@ fn without_due(pages: &Vec<Page>, moment: u32) -> Result<Vec<Page>, AllocError>
         page.drop_due(moment)?;
     }
     Ok(after)
+}
+
+/// Whether it is known of each page, without a look at its items, that none is due at the moment or
+/// before it.
+fn have_none_due(pages: &Vec<Page>, moment: u32) -> bool
+    ensures { IsTrue result → map_list (λ page. alive page moment) (items_of pages.now.items) ≡ items_of pages.now.items }
+{
+    for page in pages {
+        if !page.has_none_due(moment) {
+            return false;
+        }
+    }
+    true
 }
 
 /// Makes each digest new that is not kept.
@@ -136,6 +149,9 @@ impl Store for Pages {
     }
 
     fn drop_due(&mut self, moment: u32) -> Result<(), AllocError> {
+        if have_none_due(&self.pages, moment) {
+            return Ok(());
+        }
         self.pages = without_due(&self.pages, moment)?;
         Ok(())
     }
