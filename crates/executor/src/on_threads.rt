@@ -16,8 +16,9 @@ use workers::Workers;
 /// Runs a batch to its end on several threads, group by group: the requests of a group are dealt to
 /// the workers in turn, and run at once. What it makes can be committed or undone.
 ///
-/// A group of one request starts no thread, and no group starts more than it has requests. The gate
-/// is told of each step.
+/// A group of one request starts no thread, and no group starts more than it has requests. At the end
+/// the workers make the digests of the pages that were written, where these are eight or more. The
+/// gate is told of each step.
 ///
 /// The batch has the number after the base's, and is within the limits of a record. The only error
 /// is want of memory.
