@@ -1,11 +1,11 @@
 //! Executes batches first, and has them committed or undone later: a batch makes a tentative state
 //! whose replies nobody sees, with the token that stands for it.
 //!
-//! It stands on `round`, `pages`, `mixer`, `wire`, `token` and `decrees`. The layer above uses
-//! `execute`: what it makes is a round of the base and the batch, with its token, whatever the
-//! schedule of its threads; and `Tentative::commit`, which shows the replies by the decree of that
-//! token alone. For a keeper there are the records that
-//! `write` appends and `restore` reads: of a committed state, and of a tentative one over its base.
+//! It stands on `workers` and `round`, `pages`, `mixer`, `wire`, `token` and `decrees`. The layer
+//! above uses `execute`: what it makes is a round of the base and the batch, with its token, whatever
+//! the schedule of its threads; and `Tentative::commit`, which shows the replies by the decree of that
+//! token alone. For a keeper there are the records that `write` appends and `restore` reads: of a
+//! committed state, and of a tentative one over its base.
 #![tactic(auto)]
 
 mod answered;
