@@ -88,7 +88,7 @@ pub(crate) fn gather_seats<J: Room>(
 }
 
 /// Takes a round apart whose seats have no step left: its pages, and the requests of each caller with
-/// their answers.
+/// their answers. The only error is want of memory.
 pub(crate) fn gather<J: Room>(
     alloc: Global,
     word: &TicketWord,
