@@ -2,7 +2,8 @@
 use Rattle.std.proofs.Common.{◌≡◌, ◌≢◌, ℕ, zero, suc, ◌+◌, ◌%◌, ◌<◌, ◌≤◌, true, false, cond, List, [], ◌∷◌, ◌++◌, map, reverse, length, take, drop, set, Some, None, refl, sym, ap, ◌∙◌, arith, subst, eq-eqb, ne_eqb}
 use Rattle.std.specs.Prelude.{slice_get, ◌==◌}
 use Rattle.std.specs.List.{range_with_len}
-use Rattle.std.proofs.lemmas.List.{map-append, length-take-le, take_all, reverse-append}
+use Rattle.std.proofs.lemmas.List.{length-map, map-append, length-take-le, take_all, reverse-append}
+use Rattle.std.proofs.lemmas.List.FromFn.{length-range_with_len}
 use Rattle.item_steps.specs.declared.group.Task.{Task}
 use Rattle.round.specs.declared.rule.Entry.{Entry}
 use Rattle.round.specs.Sittings.{Running, running_in, dealt}
@@ -14,6 +15,9 @@ use Rattle.round.proofs.Dealt.{dealt_push, range_at}
 -- the lists of each caller's requests, each as f has it
 abbrev pub lists_by : (Task → Running) → ℕ → List Task → List (List Running)
 lists_by f callers group = map (λ caller. map f (dealt callers caller group)) (range_with_len 0 callers)
+
+pub length-lists_by : (f : Task → Running) (callers : ℕ) (group : List Task) → length (lists_by f callers group) ≡ callers
+length-lists_by f callers group = length-map (range_with_len 0 callers) _ ∙ length-range_with_len 0 callers
 
 there_is : {X : Type 0} (l : List X) (n : ℕ) → n < length l → (x : X) × (slice_get l n ≡ Some x)
 there_is [] n lt = absurd (omega arith)
@@ -70,12 +74,8 @@ module _ (f : Task → Running) (callers : ℕ) (group : List Task) (n : ℕ) (s
     -- what was taken is the request at position n
     pub taken_is : n % callers < callers → r ≡ f last.0
     taken_is low =
-        let x = there_is (range_with_len 0 callers) (n % callers) (subst (λ k. n % callers < k) (sym (length-range 0 callers)) low) in
+        let x = there_is (range_with_len 0 callers) (n % callers) (subst (λ k. n % callers < k) (sym (length-range_with_len 0 callers)) low) in
         (parts x.0 x.1).1
-      where
-        length-range : (from k : ℕ) → length (range_with_len from k) ≡ k
-        length-range from zero = refl
-        length-range from (suc k) = ap suc (length-range (from + 1) k)
 
     pub collected : (ran : List Running) → n % callers < callers → reverse ran ≡ map f (drop (n + 1) group) → reverse (ran ++ r ∷ []) ≡ map f (drop n group)
     collected ran low so_far =

@@ -7,7 +7,7 @@ use Rattle.std.proofs.lemmas.List.{map-append}
 use Rattle.std.proofs.lemmas.Bool.{and_parts, and_from}
 use Rattle.std.proofs.lemmas.Bool.Decides.{nat_tests}
 use Rattle.item_steps.specs.declared.group.Task.{Task}
-use Rattle.round.specs.Sittings.{Running, Sitting, running_in, dealt, dealt_from, lists_of, seat_of, are_apart}
+use Rattle.round.specs.Sittings.{Running, running_in, dealt, dealt_from, lists_of, are_apart}
 use Rattle.round.proofs.Lists.{same_element, map_at}
 use Rattle.round.proofs.Follows.{set_by}
 

@@ -17,8 +17,8 @@ use Rattle.pages.proofs.PartLemmas.{joined-parts}
 use Rattle.round.specs.declared.rule.Entry.{Entry}
 use Rattle.round.specs.declared.rule.Held.{Held}
 use Rattle.round.specs.Tickets.{touches, log_of, name_of_caller, Kinds, AreLogs}
-use Rattle.round.specs.Sittings.{Sitting, dealt, log_at, given_at, running_in, is_done, has_ended, are_apart, Follows, IsSitting}
-use Rattle.round.specs.Orders.{AreHistories, AreOf, Ended, placed_of, answered_of}
+use Rattle.round.specs.Sittings.{Sitting, Running, dealt, log_at, given_at, running_in, is_done, has_ended, are_apart, Follows, IsSitting}
+use Rattle.round.specs.Orders.{AreHistories, AreOf, Ended, Gathered, placed_of, answered_of}
 use Rattle.round.proofs.Keeps.{caller_touches}
 use Rattle.round.proofs.Lists.{same_element, in_filter, filter_within, list_all_at, all_at, map_same}
 use Rattle.round.proofs.Replays.{Replayed, replays_held}
@@ -188,8 +188,8 @@ all_complete group callers order seats names sat ended logs c few =
     let tasks : s.tasks ≡ dealt callers c group = is.has ∙ ap (λ n. dealt callers n group) mine in
     subst (λ (x : List Task × List Entry). Complete x.0 x.1) (λ i. (tasks i, log i)) (complete_seat s is.follows (list_all_at has_ended seats ended c s r.1))
 
--- What the pages and the seats of a round tell of it, once all its steps were made.
-pub record Gathered (base : Place) (opening : Items) (group : List Task) (callers : ℕ) (order : List Entry) (now : List Items) (seats : List Sitting) : Type 0 where
+-- What the pages and the seats of a round tell of it, once all its steps were made, with the order that the ticket word tells of.
+pub record Told (base : Place) (opening : Items) (group : List Task) (callers : ℕ) (order : List Entry) (now : List Items) (seats : List Sitting) : Type 0 where
   pub apart : are_apart group ≡ true
   pub some : 0 < callers
   pub names : map (λ (s : Sitting). s.caller) seats ≡ range_with_len 0 callers
@@ -201,42 +201,29 @@ pub record Gathered (base : Place) (opening : Items) (group : List Task) (caller
   pub histories : (hs : List Held) × AreHistories base opening 0 hs now × AreLogs order hs
   pub seated : (hs : List Held) × AreOf hs seats × AreLogs order hs
 
-module _ (base : Place) (opening : Items) (group : List Task) (callers : ℕ) (order : List Entry) (now : List Items) (seats : List Sitting) (g : Gathered base opening group callers order now seats) where
+module _ {base : Place} {opening : Items} {group : List Task} {callers : ℕ} {order : List Entry} {now : List Items} {seats : List Sitting} (t : Told base opening group callers order now seats) where
   logs : AllByRecursion (Seated order) seats
-  logs = seated order g.seated.0 seats g.seated.1 g.seated.2
+  logs = seated order t.seated.0 seats t.seated.1 t.seated.2
+
+  complete_logs : (c : ℕ) → c < callers → Complete (dealt callers c group) (log_of (name_of_caller c) order)
+  complete_logs = all_complete group callers order seats t.names t.sat t.ended logs
 
   pub replayed : Replayed base (parts opening) order now
-  replayed = replays_held base opening g.histories.0 now order g.wide g.kinds g.histories.1 g.histories.2
+  replayed = replays_held base opening t.histories.0 now order t.wide t.kinds t.histories.1 t.histories.2
 
-  pub lists : map (λ (s : Sitting). map (running_in s.log) s.tasks) seats ≡ map (λ c. map (running_in order) (dealt callers c group)) (range_with_len 0 callers)
-  lists = running_lists group callers g.apart order g.kinds g.none (all_complete group callers order seats g.names g.sat g.ended logs) seats g.names g.sat logs
-
-  pub ends : (answers : List (List Answer)) → answers ≡ map (λ (task : Task). given_at task.place order) group → Ended base opening group seats (joined now) answers
-  ends answers given = record {
+  ends : Ended base opening group seats (joined now) (map (λ (task : Task). given_at task.place order) group)
+  ends = record {
     order = order;
-    interleaves = interleaved order group (apart_from group g.apart) (complete group callers g.apart order g.kinds g.none (all_complete group callers order seats g.names g.sat g.ended logs) g.some);
+    interleaves = interleaved order group (apart_from group t.apart) (complete group callers t.apart order t.kinds t.none complete_logs t.some);
     seated = logs;
     items = replayed.items ∙ ap (λ m. items_after base m (map placed_of order)) (joined-parts opening);
     replies = replayed.replies ∙ ap (λ m. answers_in base m (map placed_of order)) (joined-parts opening);
-    given = given;
+    given = refl;
   }
 
--- what the last look at the ticket word tells, with the pages and the seats that were taken apart
-pub gathered : (base : Place) (opening : Items) (group : List Task) (callers : ℕ) (order : List Entry) (now : List Items) (seats : List Sitting) (hs is held : List Held)
-    → are_apart group ≡ true → 0 < callers → map (λ (s : Sitting). s.caller) seats ≡ range_with_len 0 callers → AllByRecursion (IsSitting group callers) seats → list_all has_ended seats ≡ true
-    → length now ≡ page_count → Kinds order → ((n : ℕ) → name_of_caller callers ≤ n → log_of n order ≡ []) → AreHistories base opening 0 hs now → AreOf is seats → held ≡ hs ++ is → AreLogs order held
-    → Gathered base opening group callers order now seats
-gathered base opening group callers order now seats hs is held apart some names sat ended wide kinds none histories of split logs =
-    let both = subst (AreLogs order) split logs in
-    record {
-      apart = apart;
-      some = some;
-      names = names;
-      sat = sat;
-      ended = ended;
-      wide = wide;
-      kinds = kinds;
-      none = none;
-      histories = (hs, histories, logs_front order hs is both);
-      seated = (is, of, logs_back order hs is both);
-    }
+  pub gathered : (lists : List (List Running)) → lists ≡ map (λ (s : Sitting). map (running_in s.log) s.tasks) seats → Gathered base opening group callers seats (joined now) lists
+  gathered lists are = record {
+    order = order;
+    ended = ends;
+    requests = are ∙ running_lists group callers t.apart order t.kinds t.none complete_logs seats t.names t.sat logs;
+  }

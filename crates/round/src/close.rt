@@ -1,12 +1,14 @@
 //! What a round comes to: its pages and answers.
 
-ghost use Rattle.std.specs.Prelude.{◌≡◌, ◌++◌, ◌<◌, List, [], map, length, vec_len, IfOk, OnOk};
+ghost use Rattle.std.specs.Prelude.{◌≡◌, ◌++◌, ◌<◌, true, List, [], map, length, vec_len, IfOk, OnOk};
 ghost use Rattle.std.specs.List.{list_all, AllByRecursion, range_with_len};
 ghost use Rattle.item_steps.specs.declared.group.Task.{Task};
+ghost use Rattle.pages.specs.Page.{page_count};
 ghost use Rattle.pages.specs.Joined.{items_of};
 ghost use Rattle.round.specs.declared.rule.Held.{Held};
-ghost use Rattle.round.specs.Sittings.{Running, running_in, dealt, has_ended, IsSitting};
-ghost use Rattle.round.specs.Orders.{AreHistories, AreOf, IsAsBefore};
+ghost use Rattle.round.specs.Tickets.{maker, name_of_caller};
+ghost use Rattle.round.specs.Sittings.{Running, running_in, dealt, fits, has_ended, IsSitting};
+ghost use Rattle.round.specs.Orders.{AreHistories, AreOf, Gathered, IsAsBefore};
 
 use crate::locked::Locked;
 use crate::room::Room;
@@ -14,7 +16,7 @@ use crate::rule::Token;
 use crate::running::{Ran, Running};
 use crate::seat::Seat;
 use crate::word::TicketWord;
-use pages::{PAGES, Page};
+use pages::{PAGES, Page, Pages};
 use std::alloc::{AllocError, Global};
 use std::sync::Mutex;
 
@@ -83,6 +85,30 @@ pub(crate) fn gather_seats<J: Room>(
         lists.push(running)?;
     }
     Ok(lists)
+}
+
+/// Takes a round apart whose seats have no step left: its pages, and the requests of each caller with
+/// their answers. The only error is want of memory.
+pub(crate) fn gather<J: Room>(
+    alloc: Global,
+    word: &TicketWord,
+    master: Token,
+    locks: Vec<Mutex<Locked<J>>>,
+    seats: Vec<Seat<J>>,
+) -> Result<(Pages, Vec<Vec<Running>>), AllocError>
+    requires word { word.now.table.shared.table_id ≡ J.table }
+    requires master { (master.table_id ≡ J.table) × (master.me ≡ (maker (name_of_caller J.callers), [])) }
+    requires locks { vec_len locks ≡ page_count }
+    requires seats { map (λ s. s.caller) seats.items ≡ range_with_len 0 J.callers }
+    requires ended { list_all has_ended seats.items ≡ true }
+    requires fit { fits J.base J.group J.callers ≡ true }
+    ensures { IfOk result (λ r. Gathered J.base J.opening J.group J.callers seats.items r.0 (map (λ l. l.items) r.1.items)) }
+{
+    let mut master = master;
+    let pages = gather_pages(alloc, word, &mut master, locks)?;
+    let running = gather_seats(alloc, word, &mut master, seats)?;
+    word.learn(&mut master);
+    Ok((Pages::join(pages), running))
 }
 
 /// So many requests, which were dealt to callers in turn, in the order of the group.

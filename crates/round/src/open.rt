@@ -59,9 +59,7 @@ fn are_apart(group: &[Task]) -> bool
 pub fn group_fits(base: Place, group: &[Task]) -> bool
     ensures { result ≡ group_fits base group.now }
 {
-    group.len() <= MOST_REQUESTS
-        && tasks_fit(base, group)
-        && are_apart(group)
+    group.len() <= MOST_REQUESTS && tasks_fit(base, group) && are_apart(group)
 }
 
 /// Whether a round takes the group, with so many callers.

@@ -8,7 +8,7 @@ ghost use Rattle.round.specs.Tickets.{maker, name_of_caller};
 ghost use Rattle.round.specs.Sittings.{fits, holds, has_ended, StepMade, IsAtEnd, seats_of};
 ghost use Rattle.round.specs.Orders.{Ended};
 
-use crate::close::{all_ended, collect, gather_pages, gather_seats};
+use crate::close::{all_ended, collect, gather};
 use crate::gate::Gate;
 use crate::locked::Locked;
 use crate::open::{deal, fits, lock_pages, seat_callers};
@@ -173,13 +173,11 @@ impl<J: Room> Round<J> {
             requests,
         } = self;
         let Master {
-            token: mut master,
+            token: master,
             of: _,
         } = master.into_inner();
-        let pages = gather_pages(alloc, &word, &mut master, pages)?;
-        let running = gather_seats(alloc, &word, &mut master, seats)?;
-        word.learn(&mut master);
+        let (pages, running) = gather(alloc, &word, master, pages, seats)?;
         let ran = collect(alloc, running, requests)?;
-        Ok((Pages::join(pages), ran))
+        Ok((pages, ran))
     }
 }

@@ -1,6 +1,6 @@
 //! The word that the tickets are drawn from.
 
-ghost use Rattle.std.specs.Prelude.{◌≡◌, ℕ, true, ◌<◌, ◌≤◌, [], ◌∷◌, ◌++◌, IfOk};
+ghost use Rattle.std.specs.Prelude.{◌≡◌, ℕ, true, false, ◌<◌, ◌≤◌, [], ◌∷◌, ◌++◌, IfOk};
 ghost use Rattle.pages.specs.Page.{page_count};
 ghost use Rattle.round.specs.Tickets.{maker, name_view, both, made, view_log, Known};
 
@@ -84,6 +84,16 @@ impl TicketWord {
         self.draw_said::<Brand>(page, caller, number, name, place, step, answer)
     }
 
+    /// The page's token takes in all that the caller's knows, to which nothing is left.
+    fn take_all(&self, page: &mut Token, caller: &mut Token)
+        requires tokens { (page.old.table_id ≡ self.now.table.shared.table_id) × (caller.old.table_id ≡ self.now.table.shared.table_id) }
+        requires caller { caller.old.me.0.makes ≡ false }
+        ensures { (page.new.table_id ≡ page.old.table_id) × (page.new.me ≡ (both page.old.me.0 caller.old.me.0, page.old.me.1)) }
+    {
+        let whole = self.table.shared.split_seat::<Whole>(caller);
+        self.take_in(page, whole);
+    }
+
     fn draw_said<W: Said>(
         &self,
         page: &mut Token,
@@ -103,8 +113,7 @@ impl TicketWord {
         ensures page { page.new.me ≡ (name_view number (view_log page.old.me.0 ++ W.entry ∷ []), []) }
         ensures caller { caller.new.me ≡ (name_view name (view_log caller.old.me.0 ++ W.entry ∷ []), []) }
     {
-        let whole = self.table.shared.split_seat::<Whole>(caller);
-        self.table.shared.join_seat::<Whole>(page, whole);
+        self.take_all(page, caller);
         let ticket = self.table.shared.fetch_add::<Draws<W>>(page, 0, 1);
         *caller = self.table.shared.split_seat::<Parts>(page);
         ticket
