@@ -1,8 +1,7 @@
 -- A group that ran as a round is work whose group is done.
 use Rattle.std.proofs.Common.{◌≡◌, ℕ, suc, ◌<◌, Bool, true, false, List, [], ◌∷◌, ◌++◌, map, length, take, drop, Some, refl, sym, ap, ◌∙◌, subst, arith}
 use Rattle.std.specs.Prelude.{IsTrue, ◌==◌, if◌then◌else◌}
-use Rattle.std.proofs.lemmas.Bool.{ltb-true}
-use Rattle.std.proofs.lemmas.Bool.Decides.{nat_tests}
+use Rattle.std.proofs.lemmas.Bool.{eqb-true, ltb-true}
 use Rattle.items.specs.Map.{Items}
 use Rattle.item_steps.specs.Schedule.{placed, stamped, answers_in, answers_at, GroupRuns}
 use Rattle.item_steps.specs.declared.step.Place.{Place}
@@ -24,9 +23,6 @@ use Rattle.executor.proofs.GroupRunLemmas.{with_answers, left_in, ran}
 use Rattle.executor.proofs.ThroughLemmas.{same_later}
 use Rattle.executor.proofs.SpreadLemmas.{spread_orders, group_is_spread}
 
-here : (m n : ℕ) → (m == n) ≡ true → m ≡ n
-here m n e = grind (arith, nat_tests)
-
 -- to a request that was not begun nothing else is answered
 answers_are : (group : ℕ) (all : List (ℕ × Answer)) (running : List Running) → Each (λ r. r.group ≡ group → r.answers ≡ []) running
     → map (with_answers group all) running ≡ map (answered_by group (λ task. answers_at task.place all)) running
@@ -36,7 +32,7 @@ answers_are group all (r ∷ running) untouched = (λ i. one (r.group == group) 
     one : (b : Bool) → (r.group == group) ≡ b
         → (if b then record r { answers = r.answers ++ answers_at r.place all } else r) ≡ (if b then record r { answers = answers_at r.place all } else r)
     one false t = refl
-    one true t = ap (λ xs. record r { answers = xs ++ answers_at r.place all }) (untouched 0 r refl (here r.group group t))
+    one true t = ap (λ xs. record r { answers = xs ++ answers_at r.place all }) (untouched 0 r refl (eqb-true r.group group t))
 
 -- What work comes to where its group ran as a round.
 pub record GroupRan (base : StateView) (batch : Batch) (ordered : Bool) (w : Progress) (now : Items) (answers : List (List Answer)) : Type 0 where
@@ -95,14 +91,6 @@ groups_kept group answers_to (r ∷ running) = (λ i. one (r.group == group) i �
     one : (b : Bool) → (if b then record r { answers = answers_to (task_of r) } else r).group ≡ r.group
     one true = refl
     one false = refl
-
--- a list that was lent and written is the one that was written, where it is as long
-pub written_back : (n : ℕ) (new old : List Running) → n ≡ length old → length new ≡ length old → take n (new ++ drop (length new) old) ≡ new
-written_back n new old e f = ap (λ k. take k (new ++ drop (length new) old)) (e ∙ sym f) ∙ front new (drop (length new) old)
-  where
-    front : (xs ys : List Running) → take (length xs) (xs ++ ys) ≡ xs
-    front [] ys = refl
-    front (x ∷ xs) ys = ap (λ zs. x ∷ zs) (front xs ys)
 
 pub record RoundDone (base : StateView) (batch : Batch) (ordered : Bool) (w : Progress) (now : Items) (running : List Running) : Type 0 where
   pub worked : Worked base batch ordered (record { items = now; running = running; group = w.group })

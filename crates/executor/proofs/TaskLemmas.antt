@@ -23,7 +23,7 @@ use Rattle.executor.specs.Round.{first_place, runners}
 use Rattle.executor.specs.Work.{Progress, Worked, all_begun, begun}
 use Rattle.executor.specs.GroupRun.{task_of, tasks_in}
 use Rattle.executor.proofs.PartialLemmas.{Each, each-of-all, forget, Partial}
-use Rattle.executor.proofs.RoundLemmas.{map_get}
+use Rattle.round.proofs.Lists.{map_at}
 use Rattle.executor.proofs.WorkedLemmas.{worked-partial}
 use Rattle.executor.proofs.DoneLemmas.{place_within}
 
@@ -89,7 +89,7 @@ tasks_fit base batch ordered w worked fits few first at tasks are =
 
     -- its steps are those that it began with
     steps_few : (i : ℕ) (x : Running) → slice_get w.running i ≡ Some x → length x.steps ≤ most_steps
-    steps_few i x there = each-of-all (λ (r : Running). length r.steps ≤ most_steps) (all_begun base batch ordered) few i (forget x) (ap (λ xs. slice_get xs i) (sym p.same) ∙ map_get forget w.running i x there)
+    steps_few i x there = each-of-all (λ (r : Running). length r.steps ≤ most_steps) (all_begun base batch ordered) few i (forget x) (ap (λ xs. slice_get xs i) (sym p.same) ∙ map_at forget w.running i x there)
 
     stamp : (i : ℕ) (x : Running) → slice_get w.running i ≡ Some x → place.stamp + x.place < 2 ^ 64
     stamp i x there = omega (arith, fits.last, fits.count, place_within base batch ordered w worked i x there)
