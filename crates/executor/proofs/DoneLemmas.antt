@@ -1,5 +1,5 @@
 -- Where all groups are done, each request has the answers that its reply is made of, and the sessions have a text.
-use Rattle.std.proofs.Common.{◌≡◌, ◌≢◌, ℕ, zero, suc, ◌<◌, ◌≤◌, Bool, true, false, List, [], ◌∷◌, ◌++◌, map, length, set, Some, None, Option, refl, sym, ap, ◌∙◌, arith, subst, ◌⊎◌, inl, inr, append_assoc}
+use Rattle.std.proofs.Common.{◌≡◌, ℕ, zero, suc, ◌<◌, ◌≤◌, Bool, true, false, List, [], ◌∷◌, ◌++◌, map, length, set, Some, None, Option, refl, sym, ap, ◌∙◌, arith, subst, inl, inr, append_assoc}
 use Rattle.std.specs.Prelude.{slice_get, All, IsTrue, IfSome, if◌then◌else◌, not, ◌&&◌, ◌==◌}
 use Rattle.std.specs.List.{zip}
 use Rattle.std.specs.FinMap.{entries}

@@ -17,7 +17,6 @@ use Rattle.executor.specs.State.{StateView}
 use Rattle.executor.specs.Round.{first_place}
 use Rattle.executor.specs.Work.{Progress, Worked, stepped, StepMade, next_step, is_done, is_group_done}
 use Rattle.executor.specs.Through.{IsNotLeft}
-use Rattle.executor.proofs.PartialLemmas.{Each}
 use Rattle.executor.proofs.RoundLemmas.{get_map, answers_at-append, answers_at-own, answers_at-other}
 use Rattle.executor.proofs.WorkedLemmas.{worked-partial}
 use Rattle.executor.proofs.ThroughLemmas.{all_ran}
