@@ -118,8 +118,7 @@ place_within base batch ordered w worked i x at =
 pub found_ready : (running lent : List Running) (i group place : ℕ) → lent ≡ running → i < length lent → IfSome (slice_get lent i) (λ r. is_ready group place r ≡ true)
     → (r : Running) × (slice_get running i ≡ Some r) × (is_ready group place r ≡ true) × (i < length running)
 found_ready running lent i group place same there ready =
-    let found = found_at lent i there in
-    (
+    let found = found_at lent i there in (
       found.0,
       ap (λ xs. slice_get xs i) (sym same) ∙ found.1,
       subst (λ o. IfSome o (λ r. is_ready group place r ≡ true)) found.1 ready,
