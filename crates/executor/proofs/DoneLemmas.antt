@@ -1,12 +1,11 @@
 -- Where all groups are done, each request has the answers that its reply is made of, and the sessions have a text.
-use Rattle.std.proofs.Common.{◌≡◌, ◌≢◌, ℕ, zero, suc, ◌<◌, ◌≤◌, Bool, true, false, List, [], ◌∷◌, ◌++◌, map, length, set, Some, None, Option, refl, sym, ap, ◌∙◌, arith, subst, ◌⊎◌, inl, inr, append_assoc}
+use Rattle.std.proofs.Common.{◌≡◌, ℕ, zero, suc, ◌<◌, ◌≤◌, Bool, true, false, List, [], ◌∷◌, ◌++◌, map, length, set, Some, None, Option, refl, sym, ap, ◌∙◌, arith, subst, inl, inr, append_assoc}
 use Rattle.std.specs.Prelude.{slice_get, All, IsTrue, IfSome, if◌then◌else◌, not, ◌&&◌, ◌==◌}
 use Rattle.std.specs.List.{zip}
 use Rattle.std.specs.FinMap.{entries}
 use Rattle.std.proofs.lemmas.List.Concat.{flat_map-cons}
-use Rattle.std.proofs.lemmas.Bool.{ltb-false}
-use Rattle.std.proofs.lemmas.Bool.Decides.{nat_tests}
-use Rattle.std.proofs.lemmas.Bool.{and_parts}
+use Rattle.std.proofs.Math.Nat.{eq-or-lt_of_le}
+use Rattle.std.proofs.lemmas.Bool.{and_parts, eqb-true, ltb-false, not-true}
 use Rattle.std.proofs.lemmas.Option.{slice_get_within}
 use Rattle.items.specs.Map.{Items, alive}
 use Rattle.item_steps.specs.Schedule.{stamped}
@@ -23,7 +22,9 @@ use Rattle.executor.specs.Fresh.{Runner, runs, fresh_after}
 use Rattle.executor.specs.Round.{runners, kept_after, answered, moment_of, Round}
 use Rattle.executor.specs.Work.{Progress, begun, all_begun, is_group_done, comes_after, IsFirst, IsNext, IsLast, Worked, began, made, replied, replied_to, replies_of, replies_to, is_done, is_ready, StepDone, StepMade}
 use Rattle.executor.proofs.PartialLemmas.{Each, each-of-all, all-of-each, forget}
-use Rattle.executor.proofs.RoundLemmas.{get_map, map_get, same_or_not}
+use Rattle.round.proofs.Lists.{map_at}
+use Rattle.executor.proofs.OrderLemmas.{found_at}
+use Rattle.executor.proofs.RoundLemmas.{get_map}
 use Rattle.wire.specs.Batch.{BatchFits, batch_text}
 use Rattle.wire.specs.Command.{RequestFits}
 use Rattle.wire.specs.Session.{SessionFits, SessionsFit}
@@ -73,76 +74,56 @@ module _ (base : StateView) (batch : Batch) (ordered : Bool) where
         → All (λ r. (request : Request) → slice_get batch.requests r.place ≡ Some request → length r.answers ≡ length (steps request.command)) w.running
     all_answered done last = all-of-each (λ r. (request : Request) → slice_get batch.requests r.place ≡ Some request → length r.answers ≡ length (steps request.command)) w.running (λ i x at request there.
         let p = worked-partial base batch ordered w worked in
-        let r = get_map (begun batch ordered) (runners base batch) i (forget x) (ap (λ xs. slice_get xs i) (sym p.same) ∙ map_get forget w.running i x at) in
+        let r = get_map (begun batch ordered) (runners base batch) i (forget x) (ap (λ xs. slice_get xs i) (sym p.same) ∙ map_at forget w.running i x at) in
         let place : x.place ≡ r.0.0 = ap (λ (y : Running). y.place) r.2 in
         let own : ◌≡◌ {A = Option Request} (Some r.0.1) (Some request) = sym (each_at i r.0 r.1) ∙ ap (slice_get batch.requests) (sym place) ∙ there in
         let is : r.0.1 ≡ request = cc own in
         let same : x.steps ≡ steps request.command = ap (λ (y : Running). y.steps) r.2 ∙ ap (λ (q : Request). steps q.command) is in
         let low = ltb-false w.group x.group (each-of-all (λ (y : Running). comes_after (Some w.group) y.group ≡ false) w.running last i x at) in
-        let long : length x.steps ≤ length x.answers = finished x.group w.group low (group_is_done base batch ordered w done i x at) (p.below i x at) (same_or_not x.group w.group) in
+        let long : length x.steps ≤ length x.answers = elim (eq-or-lt_of_le low) [ inl same ↦ group_is_done base batch ordered w done i x at same | inr below ↦ p.below i x at below ] in
         omega (arith, long, p.within i x at, ap length same))
-      where
-        finished : {P : Type 0} (m n : ℕ) → m ≤ n → (m ≡ n → P) → (m < n → P) → (m ≡ n) ⊎ (m ≢ n) → P
-        finished m n l a b (inl e) = a e
-        finished m n l a b (inr d) = b (grind (arith, nat_tests))
-
--- a request that is ready has a step left, and makes it
-pub step_made : (first : Place) (w : Progress) (place i : ℕ) (r now : Running) (after : Items) → slice_get w.running i ≡ Some r → is_ready w.group place r ≡ true → StepDone r w.items (stamped first place) now after
-    → StepMade first w place (record { items = after; running = set w.running i now; group = w.group })
-step_made first w place i r now after at ready d =
-    let parts = and_parts (r.place == place) ((r.group == w.group) && not (is_done r)) ready in
-    let more = and_parts (r.group == w.group) (not (is_done r)) parts.1 in
-    let its : r.place ≡ place = same r.place place parts.0 in
-    let in_group : r.group ≡ w.group = same r.group w.group more.0 in
-    record {
-      index = i;
-      request = r;
-      step = d.step;
-      there = at;
-      its = its;
-      in_group = in_group;
-      next = d.next;
-      now_is = λ k. record { items = d.items k; running = set w.running i (d.noted k); group = w.group };
-    }
-  where
-    same : (m n : ℕ) → (m == n) ≡ true → m ≡ n
-    same m n e = grind (arith, nat_tests)
-
--- a request that runs has a place in the batch
-pub place_within : (base : StateView) (batch : Batch) (ordered : Bool) (w : Progress) → Worked base batch ordered w → (i : ℕ) (x : Running) → slice_get w.running i ≡ Some x → x.place < length batch.requests
-place_within base batch ordered w worked i x at =
-    let p = worked-partial base batch ordered w worked in
-    let r = get_map (begun batch ordered) (runners base batch) i (forget x) (ap (λ xs. slice_get xs i) (sym p.same) ∙ map_get forget w.running i x at) in
-    let place : x.place ≡ r.0.0 = ap (λ (y : Running). y.place) r.2 in
-    omega (arith, place, slice_get_within batch.requests r.0.0 r.0.1 (each_at base batch ordered i r.0 r.1))
-
-not_true : (b : Bool) → not b ≡ true → b ≡ false
-not_true true e = absurd (cc e)
-not_true false e = refl
 
 -- what it is to be ready
 pub ready_parts : (group place : ℕ) (r : Running) → is_ready group place r ≡ true → (r.place ≡ place) × (r.group ≡ group) × (is_done r ≡ false)
 ready_parts group place r ready =
     let parts = and_parts (r.place == place) ((r.group == group) && not (is_done r)) ready in
     let more = and_parts (r.group == group) (not (is_done r)) parts.1 in
-    (same r.place place parts.0, same r.group group more.0, not_true (is_done r) more.1)
-  where
-    same : (m n : ℕ) → (m == n) ≡ true → m ≡ n
-    same m n e = grind (arith, nat_tests)
+    (eqb-true r.place place parts.0, eqb-true r.group group more.0, not-true (is_done r) more.1)
 
-slice_get_none : (xs : List Running) (i : ℕ) → slice_get xs i ≡ None → length xs ≤ i
-slice_get_none [] i e = omega arith
-slice_get_none (x ∷ xs) zero e = absurd (cc e)
-slice_get_none (x ∷ xs) (suc i) e = omega (arith, slice_get_none xs i e)
+-- a request that is ready has a step left, and makes it
+pub step_made : (first : Place) (w : Progress) (place i : ℕ) (r now : Running) (after : Items) → slice_get w.running i ≡ Some r → is_ready w.group place r ≡ true → StepDone r w.items (stamped first place) now after
+    → StepMade first w place (record { items = after; running = set w.running i now; group = w.group })
+step_made first w place i r now after at ready d =
+    let parts = ready_parts w.group place r ready in
+    record {
+      index = i;
+      request = r;
+      step = d.step;
+      there = at;
+      its = parts.0;
+      in_group = parts.1;
+      next = d.next;
+      now_is = λ k. record { items = d.items k; running = set w.running i (d.noted k); group = w.group };
+    }
+
+-- a request that runs has a place in the batch
+pub place_within : (base : StateView) (batch : Batch) (ordered : Bool) (w : Progress) → Worked base batch ordered w → (i : ℕ) (x : Running) → slice_get w.running i ≡ Some x → x.place < length batch.requests
+place_within base batch ordered w worked i x at =
+    let p = worked-partial base batch ordered w worked in
+    let r = get_map (begun batch ordered) (runners base batch) i (forget x) (ap (λ xs. slice_get xs i) (sym p.same) ∙ map_at forget w.running i x at) in
+    let place : x.place ≡ r.0.0 = ap (λ (y : Running). y.place) r.2 in
+    omega (arith, place, slice_get_within batch.requests r.0.0 r.0.1 (each_at base batch ordered i r.0 r.1))
 
 -- the request that was found ready, in the list that was lent
 pub found_ready : (running lent : List Running) (i group place : ℕ) → lent ≡ running → i < length lent → IfSome (slice_get lent i) (λ r. is_ready group place r ≡ true)
     → (r : Running) × (slice_get running i ≡ Some r) × (is_ready group place r ≡ true) × (i < length running)
-found_ready running lent i group place same there ready = by (slice_get lent i) refl ready
-  where
-    by : (o : Option Running) → slice_get lent i ≡ o → IfSome o (λ r. is_ready group place r ≡ true) → (r : Running) × (slice_get running i ≡ Some r) × (is_ready group place r ≡ true) × (i < length running)
-    by None e h = absurd (let past : length lent ≤ i = slice_get_none lent i e in omega (arith, past, there))
-    by (Some r) e h = (r, ap (λ xs. slice_get xs i) (sym same) ∙ e, h, subst (λ (xs : List Running). i < length xs) same there)
+found_ready running lent i group place same there ready =
+    let found = found_at lent i there in (
+      found.0,
+      ap (λ xs. slice_get xs i) (sym same) ∙ found.1,
+      subst (λ o. IfSome o (λ r. is_ready group place r ≡ true)) found.1 ready,
+      subst (λ (xs : List Running). i < length xs) same there,
+    )
 
 -- the sessions that keep the replies have a text
 pub sessions_fit_after : (base : StateView) (batch : Batch) (ordered : Bool) (w : Progress) → Worked base batch ordered w → IsTrue (is_group_done w) → IsLast w.running (Some w.group) → BatchFits batch → SessionsFit base.sessions

@@ -2,6 +2,7 @@
 use Rattle.std.proofs.Common.{◌≡◌, ℕ, zero, suc, ◌≤◌, Bool, true, false, List, [], ◌∷◌, Some, None, Option, refl, sym, ap, ◌∙◌, arith, subst, ◌⊎◌, inl, inr, min, nat_le}
 use Rattle.std.specs.Prelude.{slice_get}
 use Rattle.std.proofs.lemmas.Bool.{cases_Bool, leb-true, leb-false}
+use Rattle.std.proofs.lemmas.Option.{same_Some}
 use Rattle.executor.specs.Running.{Running}
 use Rattle.executor.specs.Work.{comes_after, IsNext, IsLast, lesser, lesser_if, least_of}
 use Rattle.executor.proofs.PartialLemmas.{Each, all-of-each}
@@ -13,15 +14,9 @@ record Least (last found : Option ℕ) (xs : List Running) (n : ℕ) : Type 0 wh
   first : (m : ℕ) → found ≡ Some m → n ≤ m
 
 least_is : (last found : Option ℕ) (xs : List Running) (n : ℕ) → least_of last found xs ≡ Some n → Least last found xs n
-least_is last found [] n e = record { from = inl e; below = λ i x at. absurd (cc at); first = λ m f. (let same : m ≡ n = one m n (sym f ∙ e) in omega (arith, same)) }
-  where
-    one : (a b : ℕ) → ◌≡◌ {A = Option ℕ} (Some a) (Some b) → a ≡ b
-    one a b e = cc e
+least_is last found [] n e = record { from = inl e; below = λ i x at. absurd (cc at); first = λ m f. (let same : m ≡ n = same_Some m n (sym f ∙ e) in omega (arith, same)) }
 least_is last found (r ∷ rs) n e = by (comes_after last r.group) refl found (least_is last (lesser last found r.group) rs n e)
   where
-    same : (a b : ℕ) → ◌≡◌ {A = Option ℕ} (Some a) (Some b) → a ≡ b
-    same a b e = cc e
-
     by : (b : Bool) → comes_after last r.group ≡ b → (found : Option ℕ) → Least last (lesser_if (comes_after last r.group) found r.group) rs n → Least last found (r ∷ rs) n
     by false t found h =
         let l = subst (λ (b : Bool). Least last (lesser_if b found r.group) rs n) t h in
@@ -37,7 +32,7 @@ least_is last found (r ∷ rs) n e = by (comes_after last r.group) refl found (l
     by true t None h =
         let l = subst (λ (b : Bool). Least last (lesser_if b None r.group) rs n) t h in
         record {
-          from = inr (elim l.from [ inl f ↦ (0, r, refl, same r.group n f, ap (comes_after last) (sym (same r.group n f)) ∙ t) | inr g ↦ (suc g.0, g.1, g.2, g.3, g.4) ]);
+          from = inr (elim l.from [ inl f ↦ (0, r, refl, same_Some r.group n f, ap (comes_after last) (sym (same_Some r.group n f)) ∙ t) | inr g ↦ (suc g.0, g.1, g.2, g.3, g.4) ]);
           below = λ i x at. under i x at l.below (l.first r.group refl);
           first = λ m f. absurd (cc f);
         }
@@ -50,11 +45,11 @@ least_is last found (r ∷ rs) n e = by (comes_after last r.group) refl found (l
         let low = l.first (min m r.group) refl in
         record {
           from = elim l.from [
-            | inl f ↦ pick m (same (min m r.group) n f) t
+            | inl f ↦ pick m (same_Some (min m r.group) n f) t
             | inr g ↦ inr (suc g.0, g.1, g.2, g.3, g.4)
           ];
           below = λ i x at. under i x at l.below (omega (arith, low));
-          first = λ k f. (let k_is : m ≡ k = same m k f in omega (arith, low, k_is));
+          first = λ k f. (let k_is : m ≡ k = same_Some m k f in omega (arith, low, k_is));
         }
       where
         under : (i : ℕ) (x : Running) → slice_get (r ∷ rs) i ≡ Some x → Each (λ x. comes_after last x.group ≡ true → n ≤ x.group) rs → n ≤ r.group → comes_after last x.group ≡ true → n ≤ x.group

@@ -2,7 +2,8 @@
 use Rattle.std.proofs.Common.{◌≡◌, ◌≢◌, ℕ, zero, suc, nat_le, Bool, true, false, List, [], ◌∷◌, ◌++◌, map, length, drop, set, Some, refl, sym, ap, ◌∙◌, arith, subst, append_assoc}
 use Rattle.std.specs.Prelude.{slice_get, IsTrue, ◌==◌, if◌then◌else◌}
 use Rattle.std.specs.List.{AllByRecursion}
-use Rattle.std.proofs.lemmas.List.{append-nil, length_push, map-set}
+use Rattle.std.proofs.lemmas.Bool.{eq-eqb, eqb-true}
+use Rattle.std.proofs.lemmas.List.{append-nil, length_push, map-id, map-set}
 use Rattle.std.proofs.lemmas.Bool.Decides.{nat_tests}
 use Rattle.item_steps.specs.Effect.{effect}
 use Rattle.item_steps.specs.Schedule.{Placed, IsInterleaving, stamped, items_after, answers_in, answers_at}
@@ -10,21 +11,15 @@ use Rattle.item_steps.specs.declared.step.Place.{Place}
 use Rattle.item_steps.specs.declared.step.Step.{Step}
 use Rattle.item_steps.specs.declared.step.Answer.{Answer}
 use Rattle.batches.specs.declared.batch.Batch.{Batch}
+use Rattle.round.proofs.Lists.{map_same}
 use Rattle.executor.specs.Running.{Running}
 use Rattle.executor.specs.State.{StateView}
 use Rattle.executor.specs.Round.{first_place}
 use Rattle.executor.specs.Work.{Progress, Worked, stepped, StepMade, next_step, is_done, is_group_done}
 use Rattle.executor.specs.Through.{IsNotLeft}
-use Rattle.executor.proofs.PartialLemmas.{Each}
 use Rattle.executor.proofs.RoundLemmas.{get_map, answers_at-append, answers_at-own, answers_at-other}
 use Rattle.executor.proofs.WorkedLemmas.{worked-partial}
 use Rattle.executor.proofs.ThroughLemmas.{all_ran}
-
-test_same : (m n : ℕ) → m ≡ n → (m == n) ≡ true
-test_same m n e = grind (arith, nat_tests)
-
-test_true : (m n : ℕ) → (m == n) ≡ true → m ≡ n
-test_true m n e = grind (arith, nat_tests)
 
 -- steps with the place of their request
 abbrev pub at_place : ℕ → List Step → List Placed
@@ -38,23 +33,14 @@ left_in group r = if r.group == group then at_place r.place (drop (length r.answ
 abbrev pub with_answers : ℕ → List (ℕ × Answer) → Running → Running
 with_answers group answers r = if r.group == group then record r { answers = r.answers ++ answers_at r.place answers } else r
 
--- two maps that agree on each member
-map_alike : {X Y : Type 0} (f h : X → Y) (xs : List X) → ((j : ℕ) (x : X) → slice_get xs j ≡ Some x → f x ≡ h x) → map f xs ≡ map h xs
-map_alike f h [] all = refl
-map_alike f h (x ∷ xs) all = (λ k. all 0 x refl k ∷ map_alike f h xs (λ j. all (suc j)) k)
-
 -- a list that was changed at one place and then mapped is another map of the list, where the two agree
 set_map : {X Y : Type 0} (f h : X → Y) (xs : List X) (i : ℕ) (x y : X) → slice_get xs i ≡ Some x → f y ≡ h x → ((j : ℕ) (z : X) → j ≢ i → slice_get xs j ≡ Some z → f z ≡ h z) → map f (set xs i y) ≡ map h xs
 set_map f h [] i x y at here others = absurd (cc at)
 set_map f h (z ∷ xs) zero x y at here others =
     let e : z ≡ x = cc at in
-    (λ k. (here ∙ ap h (sym e)) k ∷ map_alike f h xs (λ j w a. others (suc j) w (λ q. (omega (arith, q))) a) k)
+    (λ k. (here ∙ ap h (sym e)) k ∷ map_same f h xs (λ j w a. others (suc j) w (λ q. (omega (arith, q))) a) k)
 set_map f h (z ∷ xs) (suc i) x y at here others =
     (λ k. others 0 z (λ q. (omega (arith, q))) refl k ∷ set_map f h xs i x y at here (λ j w d a. others (suc j) w (λ q. d (omega (arith, q))) a) k)
-
-map_same : (f : Running → Running) (xs : List Running) → Each (λ x. f x ≡ x) xs → map f xs ≡ xs
-map_same f [] all = refl
-map_same f (x ∷ xs) all = (λ k. all 0 x refl k ∷ map_same f xs (λ j. all (suc j)) k)
 
 -- what is answered to a request that made the first step is that answer, and what comes later
 answers_first : (place : ℕ) (a : Answer) (later : List (ℕ × Answer)) → answers_at place ((place, a) ∷ later) ≡ a ∷ answers_at place later
@@ -87,7 +73,7 @@ first_left group r x rest e = by (r.group == group) refl e
     by true t e =
         let parts = of_drop (length r.answers) r.steps e in
         record {
-          in_group = test_true r.group group t;
+          in_group = eqb-true r.group group t;
           place = parts.1;
           next = parts.0;
           later = λ a. (let count : length (r.answers ++ a ∷ []) ≡ suc (length r.answers) = omega (arith, length_push r.answers a) in
@@ -114,7 +100,7 @@ module _ (base : StateView) (batch : Batch) (ordered : Bool) where
     done = all_ran w.group w.running (λ j l. at_end w.running none j);
     group = refl;
     items = refl;
-    running = sym (map_same (with_answers w.group []) w.running (λ i x at. same x));
+    running = sym (map_same (with_answers w.group []) (λ x. x) w.running (λ i x at. same x) ∙ map-id w.running);
   }
     where
       same : (x : Running) → with_answers w.group [] x ≡ x
@@ -125,7 +111,7 @@ module _ (base : StateView) (batch : Batch) (ordered : Bool) where
           by false = refl
 
       one : (x : Running) → left_in w.group x ≡ [] → x.group ≡ w.group → is_done x ≡ true
-      one x e g = past (length x.answers) x.steps (cut (x.group == w.group) (test_same x.group w.group g) e)
+      one x e g = past (length x.answers) x.steps (cut (x.group == w.group) (eq-eqb x.group w.group g) e)
         where
           cut : (b : Bool) → b ≡ true → (if b then at_place x.place (drop (length x.answers) x.steps) else []) ≡ [] → at_place x.place (drop (length x.answers) x.steps) ≡ []
           cut true t h = h
@@ -170,7 +156,7 @@ module _ (base : StateView) (batch : Batch) (ordered : Bool) where
       own : (g : ℕ) (r : Running) (place : ℕ) (a : Answer) (later : List (ℕ × Answer)) → r.group ≡ g → r.place ≡ place
           → with_answers g later (record r { answers = r.answers ++ a ∷ [] }) ≡ with_answers g ((place, a) ∷ later) r
       own g r place a later in_group is =
-          rw (test_same r.group g in_group)
+          rw (eq-eqb r.group g in_group)
           (ap (λ (as' : List Answer). record r { answers = as' })
           (append_assoc r.answers (a ∷ []) (answers_at r.place later)
           ∙ ap (λ xs. r.answers ++ xs) (sym (answers_first r.place a later) ∙ ap (λ k. answers_at r.place ((k, a) ∷ later)) is)))

@@ -2,7 +2,7 @@
 use Rattle.std.proofs.Common.{◌≡◌, ℕ, zero, suc, ◌+◌, ◌<◌, Bool, true, false, List, [], ◌∷◌, ◌++◌, map, set, Some, Option, refl, sym, ap, ◌∙◌, arith, subst, inl, inr}
 use Rattle.std.specs.Prelude.{All, slice_get, ◌==◌, if◌then◌else◌}
 use Rattle.std.specs.List.{AllByRecursion, range_with_len}
-use Rattle.std.proofs.lemmas.Bool.Decides.{nat_tests}
+use Rattle.std.proofs.lemmas.Bool.{eqb-true}
 use Rattle.items.specs.Map.{Items, alive}
 use Rattle.item_steps.specs.Steps.{steps}
 use Rattle.item_steps.specs.Schedule.{Placed, IsInterleaving, items_after, answers_in}
@@ -14,9 +14,10 @@ use Rattle.executor.specs.State.{StateView, with_token}
 use Rattle.executor.specs.Fresh.{Runner}
 use Rattle.executor.specs.Round.{runners, moment_of, first_place, steps_in, GroupsRun, answered, kept_after, Round}
 use Rattle.executor.specs.Orders.{orders_in, orders_of}
-use Rattle.executor.proofs.OrderLemmas.{get_set_other}
+use Rattle.round.proofs.Lists.{set_else}
+use Rattle.executor.proofs.OrderLemmas.{same_or_not}
 use Rattle.executor.proofs.PartialLemmas.{Each, each-of-all}
-use Rattle.executor.proofs.RoundLemmas.{get_map, all_empty, same_or_not, fresh_apart}
+use Rattle.executor.proofs.RoundLemmas.{get_map, all_empty, fresh_apart}
 
 -- ---- groups in the same orders
 
@@ -83,7 +84,7 @@ module _ {X : Type 0} where
       → (z : X) × (zs : List X) × (slice_get lists j ≡ Some (z ∷ zs))
   had_one lists i j x y xs ys at there = elim (same_or_not j i) [
     | inl e ↦ (x, xs, ap (slice_get lists) e ∙ at)
-    | inr d ↦ (y, ys, sym (get_set_other lists i j xs (λ e. d (sym e))) ∙ there)
+    | inr d ↦ (y, ys, sym (set_else lists i xs j d) ∙ there)
   ]
 
   lone_rest : (lists : List (List X)) (i : ℕ) (x : X) (xs : List X) → slice_get lists i ≡ Some (x ∷ xs) → IsLone lists → IsLone (set lists i xs)
@@ -117,7 +118,7 @@ module _ (base : StateView) (batch : Batch) where
   in_group group r s ss e = by (r.0 == group) refl e
     where
       by : (b : Bool) → (r.0 == group) ≡ b → s ∷ ss ≡ (if b then map (λ step. (r.0, step)) (steps r.1.command) else []) → r.0 ≡ group
-      by true t e = grind (arith, nat_tests)
+      by true t e = eqb-true r.0 group t
       by false t e = absurd (cc e)
 
   lone : (group : ℕ) → IsLone (lists group)
@@ -134,7 +135,7 @@ module _ (base : StateView) (batch : Batch) where
   none_in group low = all_empty (steps_in batch true group) (runners base batch) (λ i r at. by r (low i r at) (r.0 == group) refl)
     where
       by : (r : Runner) → r.0 < group → (b : Bool) → (r.0 == group) ≡ b → (if b then placed_steps r else []) ≡ []
-      by r l true t = absurd (let e : r.0 ≡ group = grind (arith, nat_tests) in omega (arith, e, l))
+      by r l true t = absurd (let e = eqb-true r.0 group t in omega (arith, e, l))
       by r l false t = refl
 
   abbrev goes : Items → List ℕ → Items → List (ℕ × Answer) → Type 0

@@ -1,18 +1,16 @@
 -- Steps are taken from the requests of a group, and put back with their answers.
-use Rattle.std.proofs.Common.{◌≡◌, ◌≢◌, ℕ, zero, suc, ◌<◌, Bool, true, false, List, [], ◌∷◌, ◌++◌, map, length, take, get_or, set, Some, None, Option, refl, sym, ap, ◌∙◌, arith, subst}
+use Rattle.std.proofs.Common.{◌≡◌, ◌≢◌, ℕ, zero, suc, ◌<◌, Bool, true, false, List, [], ◌∷◌, ◌++◌, map, length, take, set, Some, refl, sym, ap, ◌∙◌, arith, subst}
 use Rattle.std.specs.Prelude.{slice_get, filter, ◌==◌, if◌then◌else◌}
-use Rattle.std.proofs.lemmas.List.{append-nil, map-append, length-map}
-use Rattle.std.proofs.lemmas.Bool.Decides.{nat_tests}
-use Rattle.std.proofs.lemmas.Option.{slice_get_within}
+use Rattle.std.proofs.lemmas.Bool.{eq-eqb, ne_eqb}
+use Rattle.std.proofs.lemmas.List.{append-nil, map-append, map-id, length-map, take_all}
+use Rattle.std.proofs.lemmas.Option.{same_Some, slice_get_within}
 use Rattle.proto.proofs.ListLemmas.{snoc_same}
 use Rattle.item_steps.specs.declared.step.Answer.{Answer}
 use Rattle.item_steps.specs.declared.group.Task.{Task}
 use Rattle.executor.specs.Running.{Running}
 use Rattle.round.specs.Sittings.{Running as Ran}
+use Rattle.executor.proofs.OrderLemmas.{found_at}
 use Rattle.executor.specs.GroupRun.{task_of, tasks_in, emptied, answered_by, ran_of}
-
-one : {X : Type 0} (a b : X) → ◌≡◌ {A = Option X} (Some a) (Some b) → a ≡ b
-one a b e = cc e
 
 -- the first so many changed by one function, and the others by another
 abbrev pub mixed : {X : Type 0} → (X → X) → (X → X) → ℕ → List X → List X
@@ -34,37 +32,32 @@ module _ {X : Type 0} (f h : X → X) where
   mixed_length zero (x ∷ xs) = ap suc (length-map xs h)
   mixed_length (suc k) (x ∷ xs) = ap suc (mixed_length k xs)
 
-  map_at : (g : X → X) (xs : List X) (k : ℕ) (x : X) → slice_get xs k ≡ Some x → slice_get (map g xs) k ≡ Some (g x)
-  map_at g [] k x e = absurd (cc e)
-  map_at g (y ∷ xs) zero x e = let is : y ≡ x = one y x e in ap (λ z. Some (g z)) is
-  map_at g (y ∷ xs) (suc k) x e = map_at g xs k x e
-
   -- the last of the first ones
   pub at_last : (xs : List X) (k : ℕ) (x : X) → slice_get xs k ≡ Some x → slice_get (mixed f h (suc k) xs) k ≡ Some (f x)
   at_last [] k x e = absurd (cc e)
-  at_last (y ∷ xs) zero x e = let is : y ≡ x = one y x e in ap (λ z. Some (f z)) is
+  at_last (y ∷ xs) zero x e = let is : y ≡ x = same_Some y x e in ap (λ z. Some (f z)) is
   at_last (y ∷ xs) (suc k) x e = at_last xs k x e
 
   -- the first of the others
   pub at_next : (xs : List X) (k : ℕ) (x : X) → slice_get xs k ≡ Some x → slice_get (mixed f h k xs) k ≡ Some (h x)
   at_next [] k x e = absurd (cc e)
-  at_next (y ∷ xs) zero x e = let is : y ≡ x = one y x e in ap (λ z. Some (h z)) is
+  at_next (y ∷ xs) zero x e = let is : y ≡ x = same_Some y x e in ap (λ z. Some (h z)) is
   at_next (y ∷ xs) (suc k) x e = at_next xs k x e
 
   pub one_less : (xs : List X) (k : ℕ) (x : X) → slice_get xs k ≡ Some x → set (mixed f h (suc k) xs) k (h x) ≡ mixed f h k xs
   one_less [] k x e = absurd (cc e)
-  one_less (y ∷ xs) zero x e = let is : x ≡ y = sym (one y x e) in (λ i. h (is i) ∷ mixed_none xs i)
+  one_less (y ∷ xs) zero x e = let is : x ≡ y = sym (same_Some y x e) in (λ i. h (is i) ∷ mixed_none xs i)
   one_less (y ∷ xs) (suc k) x e = ap (λ ys. f y ∷ ys) (one_less xs k x e)
 
   pub one_more : (xs : List X) (k : ℕ) (x : X) → slice_get xs k ≡ Some x → set (mixed f h k xs) k (f x) ≡ mixed f h (suc k) xs
   one_more [] k x e = absurd (cc e)
-  one_more (y ∷ xs) zero x e = let is : x ≡ y = sym (one y x e) in (λ i. f (is i) ∷ sym (mixed_none xs) i)
+  one_more (y ∷ xs) zero x e = let is : x ≡ y = sym (same_Some y x e) in (λ i. f (is i) ∷ sym (mixed_none xs) i)
   one_more (y ∷ xs) (suc k) x e = ap (λ ys. f y ∷ ys) (one_more xs k x e)
 
   -- a member that both leave alike
   pub no_other : (xs : List X) (k : ℕ) (x : X) → slice_get xs k ≡ Some x → f x ≡ h x → mixed f h k xs ≡ mixed f h (suc k) xs
   no_other [] k x e same = refl
-  no_other (y ∷ xs) zero x e same = let is : y ≡ x = one y x e in (λ i. (ap h is ∙ sym same ∙ ap f (sym is)) i ∷ sym (mixed_none xs) i)
+  no_other (y ∷ xs) zero x e same = let is : y ≡ x = same_Some y x e in (λ i. (ap h is ∙ sym same ∙ ap f (sym is)) i ∷ sym (mixed_none xs) i)
   no_other (y ∷ xs) (suc k) x e same = ap (λ ys. f y ∷ ys) (no_other xs k x e same)
 
 -- the requests of the group among the first so many
@@ -77,7 +70,7 @@ task_if b r = if b then task_of r ∷ [] else []
 pub tasks_more : (group : ℕ) (xs : List Running) (k : ℕ) (x : Running) → slice_get xs k ≡ Some x → tasks_before group (suc k) xs ≡ tasks_before group k xs ++ task_if (x.group == group) x
 tasks_more group [] k x e = absurd (cc e)
 tasks_more group (y ∷ xs) zero x e =
-    let is : y ≡ x = one y x e in
+    let is : y ≡ x = same_Some y x e in
     by (y.group == group) ∙ ap (λ (z : Running). task_if (z.group == group) z) is
   where
     by : (b : Bool) → map task_of (if b then y ∷ [] else []) ≡ task_if b y
@@ -114,57 +107,33 @@ pub record TakenSoFar (group : ℕ) (before : List Running) (k : ℕ) (now : Lis
   pub running : now ≡ mixed (emptied group) as_is k before
   pub tasks : taken ≡ tasks_before group k before
 
-map_as_is : (xs : List Running) → map as_is xs ≡ xs
-map_as_is [] = refl
-map_as_is (x ∷ xs) = ap (λ ys. x ∷ ys) (map_as_is xs)
-
 pub taken_none : (group : ℕ) (before : List Running) → TakenSoFar group before 0 before []
-taken_none group before = record { running = sym (mixed_none (emptied group) as_is before ∙ map_as_is before); tasks = refl }
+taken_none group before = record { running = sym (mixed_none (emptied group) as_is before ∙ map-id before); tasks = refl }
 
 -- the request that comes next is as it was
 pub taken_at : (group : ℕ) (before : List Running) (k : ℕ) (now : List Running) (tasks : List Task) (x : Running) → TakenSoFar group before k now tasks → slice_get now k ≡ Some x → slice_get before k ≡ Some x
-taken_at group before k now tasks x t e = by (slice_get before k) refl
-  where
-    same_length : (a b : List Running) (i : ℕ) → length a ≡ length b → slice_get b i ≡ None → slice_get a i ≡ None
-    same_length [] b i l n = refl
-    same_length (y ∷ a) [] i l n = absurd (omega (arith, l))
-    same_length (y ∷ a) (z ∷ b) zero l n = absurd (cc n)
-    same_length (y ∷ a) (z ∷ b) (suc i) l n = same_length a b i (omega (arith, l)) n
-
-    by : (o : Option Running) → slice_get before k ≡ o → slice_get before k ≡ Some x
-    by None n = absurd (let none : slice_get now k ≡ None = same_length now before k (ap length t.running ∙ mixed_length (emptied group) as_is k before) n in let clash : Some x ≡ None = sym e ∙ none in cc clash)
-    by (Some y) s =
-        let there : slice_get now k ≡ Some y = ap (λ xs. slice_get xs k) t.running ∙ at_next (emptied group) as_is before k y s in
-        let is : y ≡ x = one y x (sym there ∙ e) in
-        s ∙ ap (λ z. Some z) is
+taken_at group before k now tasks x t e =
+    let inside : k < length before = omega (arith, slice_get_within now k x e, ap length t.running, mixed_length (emptied group) as_is k before) in
+    let found = found_at before k inside in
+    let there : slice_get now k ≡ Some found.0 = ap (λ xs. slice_get xs k) t.running ∙ at_next (emptied group) as_is before k found.0 found.1 in
+    found.1 ∙ sym there ∙ e
 
 pub taken_own : (group : ℕ) (before : List Running) (k : ℕ) (now : List Running) (tasks : List Task) (x : Running) → TakenSoFar group before k now tasks → slice_get now k ≡ Some x → x.group ≡ group
     → TakenSoFar group before (suc k) (set now k (record x { steps = [] })) (tasks ++ task_of x ∷ [])
 taken_own group before k now tasks x t e g =
     let there = taken_at group before k now tasks x t e in
-    let b : (x.group == group) ≡ true = test x.group group g in
+    let b : (x.group == group) ≡ true = eq-eqb x.group group g in
     let is : emptied group x ≡ record x { steps = [] } = rw b refl in
     record {
       running = (λ i. set (t.running i) k (sym is i)) ∙ one_more (emptied group) as_is before k x there;
       tasks = ap (λ ts. ts ++ task_of x ∷ []) t.tasks ∙ sym (tasks_own group before k x there b);
     }
-  where
-    test : (m n : ℕ) → m ≡ n → (m == n) ≡ true
-    test m n q = grind (arith, nat_tests)
-
--- whether two numbers are one is decided
-not_same : (m n : ℕ) → (m ≡ n → ⊥) → (m == n) ≡ false
-not_same m n q = by (m == n) refl
-  where
-    by : (b : Bool) → (m == n) ≡ b → (m == n) ≡ false
-    by false s = s
-    by true s = absurd (q (grind (arith, nat_tests)))
 
 pub taken_other : (group : ℕ) (before : List Running) (k : ℕ) (now : List Running) (tasks : List Task) (x : Running) → TakenSoFar group before k now tasks → slice_get now k ≡ Some x → (x.group ≡ group → ⊥)
     → TakenSoFar group before (suc k) now tasks
 taken_other group before k now tasks x t e d =
     let there = taken_at group before k now tasks x t e in
-    let b : (x.group == group) ≡ false = not_same x.group group d in
+    let b : (x.group == group) ≡ false = ne_eqb x.group group d in
     let is : emptied group x ≡ as_is x = rw b refl in
     record {
       running = t.running ∙ no_other (emptied group) as_is before k x there is;
@@ -173,11 +142,7 @@ taken_other group before k now tasks x t e d =
 
 pub taken_all : (group : ℕ) (before : List Running) (now : List Running) (tasks : List Task) → TakenSoFar group before (length before) now tasks
     → (now ≡ map (emptied group) before) × (tasks ≡ tasks_in group before)
-taken_all group before now tasks t = (t.running ∙ mixed_all (emptied group) as_is before, t.tasks ∙ ap (tasks_in group) (all before))
-  where
-    all : (xs : List Running) → take (length xs) xs ≡ xs
-    all [] = refl
-    all (x ∷ xs) = ap (λ ys. x ∷ ys) (all xs)
+taken_all group before now tasks t = (t.running ∙ mixed_all (emptied group) as_is before, t.tasks ∙ ap (tasks_in group) (take_all (length before) before (omega arith)))
 
 -- ---- the steps are put back
 
@@ -191,32 +156,23 @@ pub put_none : (group : ℕ) (before : List Running) (answers_to : Task → List
 put_none group before answers_to now ran e f =
     let count : length before ≡ length now = sym (ap length e ∙ length-map before (emptied group)) in
     subst (λ (n : ℕ). PutSoFar group before answers_to n now ran) count
-    (record { running = e ∙ sym (mixed_all (emptied group) (answered_by group answers_to) before); ran = f ∙ ap (λ xs. map (ran_of answers_to) (tasks_in group xs)) (sym (all before)) })
-  where
-    all : (xs : List Running) → take (length xs) xs ≡ xs
-    all [] = refl
-    all (x ∷ xs) = ap (λ ys. x ∷ ys) (all xs)
+    (record { running = e ∙ sym (mixed_all (emptied group) (answered_by group answers_to) before); ran = f ∙ ap (λ xs. map (ran_of answers_to) (tasks_in group xs)) (sym (take_all (length before) before (omega arith))) })
 
 -- the last request whose steps were not put back
 pub put_at : (group : ℕ) (before : List Running) (answers_to : Task → List Answer) (k : ℕ) (now : List Running) (ran : List Ran) → PutSoFar group before answers_to (suc k) now ran → k < length now
     → (x : Running) × (slice_get before k ≡ Some x) × (slice_get now k ≡ Some (emptied group x))
 put_at group before answers_to k now ran p l =
     let inside : k < length before = omega (arith, l, ap length p.running, mixed_length (emptied group) (answered_by group answers_to) (suc k) before) in
-    let x = there before k inside in
+    let x = found_at before k inside in
     (x.0, x.1, ap (λ xs. slice_get xs k) p.running ∙ at_last (emptied group) (answered_by group answers_to) before k x.0 x.1)
-  where
-    there : (xs : List Running) (i : ℕ) → i < length xs → (x : Running) × (slice_get xs i ≡ Some x)
-    there [] i m = absurd (omega (arith, m))
-    there (y ∷ xs) zero m = (y, refl)
-    there (y ∷ xs) (suc i) m = there xs i (omega (arith, m))
 
 -- a request of another group has its steps
 pub put_other : (group : ℕ) (before : List Running) (answers_to : Task → List Answer) (k : ℕ) (now : List Running) (ran : List Ran) (found : Running) → PutSoFar group before answers_to (suc k) now ran
     → slice_get now k ≡ Some found → (found.group ≡ group → ⊥) → PutSoFar group before answers_to k now ran
 put_other group before answers_to k now ran found p e d =
     let x = put_at group before answers_to k now ran p (slice_get_within now k found e) in
-    let is : emptied group x.0 ≡ found = one (emptied group x.0) found (sym x.2 ∙ e) in
-    let b : (x.0.group == group) ≡ false = not_same x.0.group group (λ q. d (ap (λ (r : Running). r.group) (sym is) ∙ same_group group x.0 ∙ q)) in
+    let is : emptied group x.0 ≡ found = same_Some (emptied group x.0) found (sym x.2 ∙ e) in
+    let b : (x.0.group == group) ≡ false = ne_eqb x.0.group group (λ q. d (ap (λ (r : Running). r.group) (sym is) ∙ same_group group x.0 ∙ q)) in
     let alike : emptied group x.0 ≡ answered_by group answers_to x.0 = rw b refl in
     record {
       running = p.running ∙ sym (no_other (emptied group) (answered_by group answers_to) before k x.0 x.1 alike);
@@ -229,8 +185,8 @@ pub put_own : (group : ℕ) (before : List Running) (answers_to : Task → List 
     → PutSoFar group before answers_to k (set now k (record found { steps = last.task.steps; answers = last.answers })) rest
 put_own group before answers_to k now ran rest last found p e g tail =
     let x = put_at group before answers_to k now ran p (slice_get_within now k found e) in
-    let is : found ≡ emptied group x.0 = one found (emptied group x.0) (sym e ∙ x.2) in
-    let b : (x.0.group == group) ≡ true = test x.0.group group (sym (same_group group x.0) ∙ ap (λ (r : Running). r.group) (sym is) ∙ g) in
+    let is : found ≡ emptied group x.0 = same_Some found (emptied group x.0) (sym e ∙ x.2) in
+    let b : (x.0.group == group) ≡ true = eq-eqb x.0.group group (sym (same_group group x.0) ∙ ap (λ (r : Running). r.group) (sym is) ∙ g) in
     let lists = snoc_same rest (map (ran_of answers_to) (tasks_before group k before)) last (ran_of answers_to (task_of x.0))
     (sym tail ∙ p.ran ∙ ap (map (ran_of answers_to)) (tasks_own group before k x.0 x.1 b) ∙ map-append (ran_of answers_to) (tasks_before group k before) (task_of x.0 ∷ [])) in
     let own : found ≡ record x.0 { steps = [] } = is ∙ (let h : emptied group x.0 ≡ record x.0 { steps = [] } = rw b refl in h) in
@@ -240,9 +196,6 @@ put_own group before answers_to k now ran rest last found p e g tail =
       running = (λ i. set (p.running i) k (full i)) ∙ one_less (emptied group) (answered_by group answers_to) before k x.0 x.1;
       ran = lists.0;
     }
-  where
-    test : (m n : ℕ) → m ≡ n → (m == n) ≡ true
-    test m n q = grind (arith, nat_tests)
 
 pub put_all : (group : ℕ) (before : List Running) (answers_to : Task → List Answer) (now : List Running) (ran : List Ran) → PutSoFar group before answers_to 0 now ran → now ≡ map (answered_by group answers_to) before
 put_all group before answers_to now ran p = p.running ∙ mixed_none (emptied group) (answered_by group answers_to) before
@@ -252,29 +205,11 @@ pub put_some : (group : ℕ) (before : List Running) (answers_to : Task → List
     → slice_get now k ≡ Some found → found.group ≡ group → ran ≢ []
 put_some group before answers_to k now ran found p e g none =
     let x = put_at group before answers_to k now ran p (slice_get_within now k found e) in
-    let is : found ≡ emptied group x.0 = one found (emptied group x.0) (sym e ∙ x.2) in
-    let b : (x.0.group == group) ≡ true = test x.0.group group (sym (same_group group x.0) ∙ ap (λ (r : Running). r.group) (sym is) ∙ g) in
+    let is : found ≡ emptied group x.0 = same_Some found (emptied group x.0) (sym e ∙ x.2) in
+    let b : (x.0.group == group) ≡ true = eq-eqb x.0.group group (sym (same_group group x.0) ∙ ap (λ (r : Running). r.group) (sym is) ∙ g) in
     let more : ran ≡ map (ran_of answers_to) (tasks_before group k before ++ task_of x.0 ∷ []) = p.ran ∙ ap (map (ran_of answers_to)) (tasks_own group before k x.0 x.1 b) in
     absurd (clash (tasks_before group k before) (task_of x.0) (sym more ∙ none))
   where
-    test : (m n : ℕ) → m ≡ n → (m == n) ≡ true
-    test m n q = grind (arith, nat_tests)
-
     clash : (ts : List Task) (t : Task) → map (ran_of answers_to) (ts ++ t ∷ []) ≡ [] → ⊥
     clash [] t e = cc e
     clash (u ∷ ts) t e = cc e
-
-pub set_length : (xs : List Running) (k : ℕ) (x : Running) → length (set xs k x) ≡ length xs
-set_length [] k x = refl
-set_length (y ∷ xs) zero x = refl
-set_length (y ∷ xs) (suc k) x = ap suc (set_length xs k x)
-
--- what is read within a list does not rest on what is read past its end
-pub same_read : (xs : List Running) (k : ℕ) (d e : Running) → k < length xs → get_or xs k d ≡ get_or xs k e
-same_read [] k d e l = absurd (omega (arith, l))
-same_read (x ∷ xs) zero d e l = refl
-same_read (x ∷ xs) (suc k) d e l = same_read xs k d e (omega (arith, l))
-
-pub no_items : (xs : List Ran) → length xs ≡ 0 → xs ≡ []
-no_items [] e = refl
-no_items (x ∷ xs) e = absurd (omega (arith, e))

@@ -5,6 +5,7 @@ use Rattle.std.specs.List.{list_any}
 use Rattle.std.specs.Ordering.{nat_cmp, eq_by_cmp}
 use Rattle.std.specs.Cmp.{nat_cmp_total}
 use Rattle.std.specs.FinMap.{get, insert, get-insert}
+use Rattle.std.proofs.lemmas.Bool.{eq-eqb}
 use Rattle.std.proofs.lemmas.Bool.Decides.{nat_tests}
 use Rattle.std.proofs.lemmas.List.{drop_more, length-take-le}
 use Rattle.proto.specs.declared.fault.Fault.{Fault}
@@ -111,13 +112,9 @@ AreApart [] = Unit {0}
 AreApart (r ∷ rs) = Every (λ x. x.1.client ≢ r.1.client) rs × AreApart rs
 
 other_client : (q : Request) (r : Runner) → list_any (λ e. e.client == r.1.client) (q ∷ []) ≡ false → r.1.client ≢ q.client
-other_client q r new same = clash q.client r.1.client (sym same) new
-  where
-    clash : (m n : ℕ) → m ≡ n → ((m == n) || false) ≡ false → ⊥
-    clash m n e h =
-        let yes : (m == n) ≡ true = grind (arith, nat_tests) in
-        let wrong : true ≡ false = sym (ap (λ b. b || false) yes) ∙ h in
-        cc wrong
+other_client q r new same =
+    let clash : true ≡ false = sym (ap (λ b. b || false) (eq-eqb q.client r.1.client (sym same))) ∙ new in
+    cc clash
 
 pub clients_apart : (before : Replies) (earlier later : List Request) → AreApart (fresh_after before earlier later)
 clients_apart before earlier [] = tt

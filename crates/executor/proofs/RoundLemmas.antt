@@ -1,11 +1,12 @@
 -- Work that is done is a round.
-use Rattle.std.proofs.Common.{◌≡◌, ◌≢◌, ℕ, zero, suc, ◌+◌, ◌<◌, ◌≤◌, Bool, true, false, List, [], ◌∷◌, ◌++◌, map, length, take, set, Some, Option, refl, sym, ap, ◌∙◌, arith, subst, ◌⊎◌, inl, inr, append_assoc}
+use Rattle.std.proofs.Common.{◌≡◌, ◌≢◌, ℕ, zero, suc, ◌+◌, ◌<◌, ◌≤◌, Bool, true, false, List, [], ◌∷◌, ◌++◌, map, length, take, set, Some, Option, refl, sym, ap, ◌∙◌, arith, subst, inl, inr, append_assoc}
 use Rattle.std.specs.Prelude.{slice_get, ◌==◌, filter, if◌then◌else◌}
 use Rattle.std.specs.List.{AllByRecursion, range_with_len}
 use Rattle.std.proofs.lemmas.List.{map-append, length_push, take_all}
 use Rattle.std.proofs.lemmas.List.Elements.{filter-append}
-use Rattle.std.proofs.lemmas.Bool.{cases_Bool}
-use Rattle.std.proofs.lemmas.Bool.Decides.{nat_tests}
+use Rattle.std.proofs.lemmas.Bool.{cases_Bool, eq-eqb, eqb-true, ne_eqb}
+use Rattle.std.proofs.lemmas.Option.{same_Some}
+use Rattle.round.proofs.Lists.{set_there, set_else}
 use Rattle.items.specs.Map.{Items}
 use Rattle.item_steps.specs.Steps.{steps}
 use Rattle.item_steps.specs.Schedule.{Placed, items_after, answers_at}
@@ -19,7 +20,7 @@ use Rattle.sessions.specs.Fresh.{Replies}
 use Rattle.executor.specs.Fresh.{Runner, runs, fresh_after}
 use Rattle.executor.specs.Round.{group_of, steps_in, GroupsRun}
 use Rattle.executor.specs.Work.{begun}
-use Rattle.executor.proofs.OrderLemmas.{get_set_same, get_set_other}
+use Rattle.executor.proofs.OrderLemmas.{same_or_not}
 use Rattle.executor.proofs.PartialLemmas.{Each, made_in, forget}
 
 -- groups after groups
@@ -64,26 +65,12 @@ get_map f [] i y at = absurd (cc at)
 get_map f (x ∷ xs) zero y at = (x, refl, (let e : f x ≡ y = cc at in sym e))
 get_map f (x ∷ xs) (suc i) y at = get_map f xs i y at
 
-pub map_get : {X Y : Type 0} (f : X → Y) (xs : List X) (i : ℕ) (x : X) → slice_get xs i ≡ Some x → slice_get (map f xs) i ≡ Some (f x)
-map_get f [] i x at = absurd (cc at)
-map_get f (y ∷ xs) zero x at = let e : y ≡ x = cc at in ap (λ z. Some (f z)) e
-map_get f (y ∷ xs) (suc i) x at = map_get f xs i x at
-
-one_value : {X : Type 0} (x y : X) → ◌≡◌ {A = Option X} (Some x) (Some y) → x ≡ y
-one_value x y e = cc e
-
-pub same_or_not : (m n : ℕ) → (m ≡ n) ⊎ (m ≢ n)
-same_or_not m n = elim (cases_Bool (m == n)) [
-  | inl e ↦ inl (grind (arith, nat_tests))
-  | inr e ↦ inr (λ d. grind (arith, nat_tests))
-]
-
 pub each_set : {X : Type 0} (Q : X → Type 0) (xs : List X) (i : ℕ) (x y : X) → slice_get xs i ≡ Some x → ((j : ℕ) (z : X) → i ≢ j → slice_get xs j ≡ Some z → Q z) → Q y → Each Q (set xs i y)
 each_set Q xs i x y there others here j z at = elim (same_or_not i j) [
   | inl e ↦
-      let is : y ≡ z = one_value y z (sym (get_set_same xs i x y there) ∙ ap (slice_get (set xs i y)) e ∙ at) in
+      let is : y ≡ z = same_Some y z (sym (set_there xs i y x there) ∙ ap (slice_get (set xs i y)) e ∙ at) in
       subst Q is here
-  | inr d ↦ others j z d (sym (get_set_other xs i j y d) ∙ at)
+  | inr d ↦ others j z d (sym (set_else xs i y j (λ e. d (sym e))) ∙ at)
 ]
 
 -- ---- which requests run
@@ -93,7 +80,7 @@ fresh_low s earlier [] i r at = absurd (cc at)
 fresh_low s earlier (q ∷ later) i r at = by (fresh_low s (earlier ++ q ∷ []) later) (runs s earlier q) i at
   where
     by : ((i : ℕ) (r : Runner) → slice_get (fresh_after s (earlier ++ q ∷ []) later) i ≡ Some r → length (earlier ++ q ∷ []) ≤ r.0) → (b : Bool) (i : ℕ) → slice_get ((if b then (length earlier, q) ∷ [] else []) ++ fresh_after s (earlier ++ q ∷ []) later) i ≡ Some r → length earlier ≤ r.0
-    by low true zero at = let e : length earlier ≡ r.0 = ap (λ (o : Runner). o.0) (one_value (length earlier, q) r at) in omega (arith, e)
+    by low true zero at = let e : length earlier ≡ r.0 = ap (λ (o : Runner). o.0) (same_Some (length earlier, q) r at) in omega (arith, e)
     by low true (suc i) at = omega (arith, low i r at, length_push earlier q)
     by low false i at = omega (arith, low i r at, length_push earlier q)
 
@@ -105,7 +92,7 @@ fresh_apart s earlier (q ∷ later) i j r t at there e = by (λ i j a b. fresh_a
     low i r at = omega (arith, fresh_low s (earlier ++ q ∷ []) later i r at, length_push earlier q)
 
     head : (r : Runner) → ◌≡◌ {A = Option Runner} (Some (length earlier, q)) (Some r) → length earlier ≡ r.0
-    head r at = ap (λ (o : Runner). o.0) (one_value (length earlier, q) r at)
+    head r at = ap (λ (o : Runner). o.0) (same_Some (length earlier, q) r at)
 
     by : ((i j : ℕ) → slice_get (fresh_after s (earlier ++ q ∷ []) later) i ≡ Some r → slice_get (fresh_after s (earlier ++ q ∷ []) later) j ≡ Some t → i ≡ j)
         → (b : Bool) (i j : ℕ) → slice_get ((if b then (length earlier, q) ∷ [] else []) ++ fresh_after s (earlier ++ q ∷ []) later) i ≡ Some r
@@ -124,16 +111,10 @@ answers_at-append place xs ys =
     ∙ map-append (λ (a : ℕ × Answer). a.1) (filter (λ a. a.0 == place) xs) (filter (λ a. a.0 == place) ys)
 
 pub answers_at-own : (place : ℕ) (a : Answer) → answers_at place ((place, a) ∷ []) ≡ a ∷ []
-answers_at-own place a = rw (test place) refl
-  where
-    test : (n : ℕ) → (n == n) ≡ true
-    test n = grind (arith, nat_tests)
+answers_at-own place a = rw (eq-eqb place place refl) refl
 
 pub answers_at-other : (place other : ℕ) (a : Answer) → other ≢ place → answers_at place ((other, a) ∷ []) ≡ []
-answers_at-other place other a n = rw (test other place n) refl
-  where
-    test : (m n : ℕ) → m ≢ n → (m == n) ≡ false
-    test m n d = grind (arith, nat_tests)
+answers_at-other place other a n = rw (ne_eqb other place n) refl
 
 -- ---- the steps made in a group, and all of them
 
@@ -144,7 +125,7 @@ module _ (base : StateView) (batch : Batch) (ordered : Bool) where
   made_one : (g : ℕ) (x : Running) (r : Runner) → forget x ≡ begun batch ordered r → (x.group ≡ g → length x.steps ≤ length x.answers) → made_in g x ≡ steps_in batch ordered g r
   made_one g x r e done = elim (cases_Bool (x.group == g)) [
     | inl t ↦
-        let all : take (length x.answers) x.steps ≡ x.steps = take_all (length x.answers) x.steps (done (grind (arith, nat_tests))) in
+        let all : take (length x.answers) x.steps ≡ x.steps = take_all (length x.answers) x.steps (done (eqb-true x.group g t)) in
         rw (t, same_test x.group (group_of batch ordered r) g true group_is t)
         (ap (map (λ step. (x.place, step))) all ∙ (λ i. map (λ step. (place_is i, step)) (steps_are i)))
     | inr t ↦ rw (t, same_test x.group (group_of batch ordered r) g false group_is t) refl
@@ -177,7 +158,7 @@ module _ (base : StateView) (batch : Batch) (ordered : Bool) where
     where
       one : (x : Running) → (x.group ≡ g → x.answers ≡ []) → made_in g x ≡ []
       one x h = elim (cases_Bool (x.group == g)) [
-        | inl t ↦ rw (t, h (grind (arith, nat_tests))) refl
+        | inl t ↦ rw (t, h (eqb-true x.group g t)) refl
         | inr t ↦ rw t refl
       ]
 
@@ -186,7 +167,4 @@ module _ (base : StateView) (batch : Batch) (ordered : Bool) where
   no_steps g rs apart = all_empty (steps_in batch ordered g) rs (λ i r at. one r (apart i r at))
     where
       one : (r : Runner) → group_of batch ordered r ≢ g → steps_in batch ordered g r ≡ []
-      one r n = rw (test (group_of batch ordered r) g n) refl
-        where
-          test : (m n : ℕ) → m ≢ n → (m == n) ≡ false
-          test m n d = grind (arith, nat_tests)
+      one r n = rw (ne_eqb (group_of batch ordered r) g n) refl

@@ -1,8 +1,8 @@
 -- Lists among which empty ones stand have the same orders.
-use Rattle.std.proofs.Common.{◌≡◌, ℕ, zero, suc, arith, Bool, true, false, List, [], ◌∷◌, map, length, drop, set, Some, refl, sym, ap, subst}
+use Rattle.std.proofs.Common.{◌≡◌, ℕ, zero, suc, Bool, true, false, List, [], ◌∷◌, map, length, drop, set, Some, refl, sym, ap, subst}
 use Rattle.std.specs.Prelude.{slice_get, filter, ◌==◌, if◌then◌else◌}
 use Rattle.std.specs.List.{AllByRecursion}
-use Rattle.std.proofs.lemmas.Bool.Decides.{nat_tests}
+use Rattle.std.proofs.lemmas.Bool.{eqb-true}
 use Rattle.item_steps.specs.Schedule.{Placed, IsInterleaving, placed}
 use Rattle.executor.specs.Running.{Running}
 use Rattle.executor.specs.GroupRun.{task_of, tasks_in}
@@ -43,14 +43,11 @@ pub group_is_spread : (group : ℕ) (running : List Running) → Each (λ r. r.g
 group_is_spread group [] untouched = end
 group_is_spread group (r ∷ running) untouched = by (r.group == group) refl (group_is_spread group running (λ i. untouched (suc i)))
   where
-    here : (m n : ℕ) → (m == n) ≡ true → m ≡ n
-    here m n e = grind (arith, nat_tests)
-
     by : (b : Bool) → (r.group == group) ≡ b → Spread (placed (tasks_in group running)) (map (left_in group) running)
         → Spread (placed (map task_of (if b then r ∷ filter (λ x. x.group == group) running else filter (λ x. x.group == group) running)))
         ((if b then at_place r.place (drop (length r.answers) r.steps) else []) ∷ map (left_in group) running)
     by false t s = more (placed (tasks_in group running)) (map (left_in group) running) s
     by true t s =
-        let none : length r.answers ≡ 0 = ap length (untouched 0 r refl (here r.group group t)) in
+        let none : length r.answers ≡ 0 = ap length (untouched 0 r refl (eqb-true r.group group t)) in
         subst (λ (n : ℕ). Spread (at_place r.place r.steps ∷ placed (tasks_in group running)) (at_place r.place (drop n r.steps) ∷ map (left_in group) running)) (sym none)
         (same (at_place r.place r.steps) (placed (tasks_in group running)) (map (left_in group) running) s)

@@ -23,7 +23,7 @@ use Rattle.executor.specs.Round.{first_place, runners}
 use Rattle.executor.specs.Work.{Progress, Worked, all_begun, begun}
 use Rattle.executor.specs.GroupRun.{task_of, tasks_in}
 use Rattle.executor.proofs.PartialLemmas.{Each, each-of-all, forget, Partial}
-use Rattle.executor.proofs.RoundLemmas.{map_get}
+use Rattle.round.proofs.Lists.{map_at}
 use Rattle.executor.proofs.WorkedLemmas.{worked-partial}
 use Rattle.executor.proofs.DoneLemmas.{place_within}
 
@@ -71,9 +71,9 @@ fresh_few s earlier (q ∷ later) =
 
 -- a group of a batch within the limits of a record, each of whose requests has few steps
 pub tasks_fit : (base : StateView) (batch : Batch) (ordered : Bool) (w : Progress) → Worked base batch ordered w → BatchFits batch → HaveFewSteps (all_begun base batch ordered)
-    → (first : Place) → first ≡ stamped (first_place base batch) 0 → (tasks : List Task) → tasks ≡ tasks_in w.group w.running → group_fits first tasks ≡ true
-tasks_fit base batch ordered w worked fits few first at tasks are =
-    (λ i. group_fits (at i) (are i)) ∙ and_from _ _ (le-leb _ most_requests most) (and_from _ _ (all_fit place w.group w.running each) (all_apart place w.group w.running p.places))
+    → (first : Place) → first ≡ stamped (first_place base batch) 0 → (lent : List Running) → lent ≡ w.running → (tasks : List Task) → tasks ≡ tasks_in w.group lent → group_fits first tasks ≡ true
+tasks_fit base batch ordered w worked fits few first at lent same tasks are =
+    (λ i. group_fits (at i) ((are ∙ ap (tasks_in w.group) same) i)) ∙ and_from _ _ (le-leb _ most_requests most) (and_from _ _ (all_fit place w.group w.running each) (all_apart place w.group w.running p.places))
   where
     place : Place
     place = stamped (first_place base batch) 0
@@ -89,7 +89,7 @@ tasks_fit base batch ordered w worked fits few first at tasks are =
 
     -- its steps are those that it began with
     steps_few : (i : ℕ) (x : Running) → slice_get w.running i ≡ Some x → length x.steps ≤ most_steps
-    steps_few i x there = each-of-all (λ (r : Running). length r.steps ≤ most_steps) (all_begun base batch ordered) few i (forget x) (ap (λ xs. slice_get xs i) (sym p.same) ∙ map_get forget w.running i x there)
+    steps_few i x there = each-of-all (λ (r : Running). length r.steps ≤ most_steps) (all_begun base batch ordered) few i (forget x) (ap (λ xs. slice_get xs i) (sym p.same) ∙ map_at forget w.running i x there)
 
     stamp : (i : ℕ) (x : Running) → slice_get w.running i ≡ Some x → place.stamp + x.place < 2 ^ 64
     stamp i x there = omega (arith, fits.last, fits.count, place_within base batch ordered w worked i x there)

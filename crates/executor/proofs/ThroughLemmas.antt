@@ -1,11 +1,11 @@
 -- Work that is run to its end: one request after the other, and one group after the other.
-use Rattle.std.proofs.Common.{◌≡◌, ◌≢◌, ℕ, zero, suc, ◌+◌, ◌-◌, ◌<◌, ◌≤◌, Bool, true, false, List, [], ◌∷◌, ◌++◌, map, length, set, get_or, Some, None, Option, refl, sym, ap, ◌∙◌, arith, subst, ◌⊎◌, inl, inr, filter, nat_lt}
+use Rattle.std.proofs.Common.{◌≡◌, ◌≢◌, ℕ, zero, suc, ◌+◌, ◌-◌, ◌<◌, ◌≤◌, Bool, true, false, List, [], ◌∷◌, ◌++◌, map, length, set, Some, None, Option, refl, sym, ap, ◌∙◌, arith, subst, ◌⊎◌, inl, inr, filter, nat_lt}
 use Rattle.std.specs.Prelude.{slice_get, IfSome, IsTrue, not, ◌||◌, ◌==◌, if◌then◌else◌}
 use Rattle.std.specs.List.{list_all}
 use Rattle.std.proofs.lemmas.List.{length_push, length-map, map-set}
-use Rattle.std.proofs.lemmas.Bool.{ltb-true, ltb-false, lt-ltb}
+use Rattle.std.proofs.lemmas.Bool.{eqb-true, ltb-true, ltb-false, lt-ltb}
 use Rattle.std.proofs.lemmas.Bool.Decides.{nat_tests}
-use Rattle.std.proofs.lemmas.Option.{slice_get_within, slice_get-get_or}
+use Rattle.std.proofs.lemmas.Option.{same_Some, slice_get_within}
 use Rattle.item_steps.specs.Schedule.{stamped}
 use Rattle.item_steps.specs.declared.step.Place.{Place}
 use Rattle.items.specs.Map.{Items}
@@ -15,29 +15,8 @@ use Rattle.executor.specs.Work.{Progress, WorkView, StepMade, StepDone, IsNext, 
 use Rattle.executor.specs.Ends.{Goes, MovesOn}
 use Rattle.executor.specs.declared.work.Ended.TheVariants.{On}
 use Rattle.executor.specs.Through.{IsNotLeft, StepMadeAt, RequestRan, later}
-use Rattle.executor.proofs.OrderLemmas.{set_same, get_set_same, get_set_other}
-
--- a request at an index that is within the list
-pub found_at : (running : List Running) (i : ℕ) → i < length running → (r : Running) × (slice_get running i ≡ Some r)
-found_at [] i l = absurd (omega (arith, l))
-found_at (r ∷ running) i l = (get_or (r ∷ running) i r, slice_get-get_or (r ∷ running) i r l)
-
-set_here : {X : Type 0} (xs : List X) (i : ℕ) (x : X) → slice_get xs i ≡ Some x → set xs i x ≡ xs
-set_here [] i x at = refl
-set_here (y ∷ xs) zero x at = let e : y ≡ x = cc at in ap (λ z. z ∷ xs) (sym e)
-set_here (y ∷ xs) (suc i) x at = ap (λ zs. y ∷ zs) (set_here xs i x at)
-
-get_mapped : (rs : List Running) (i : ℕ) (r : Running) → slice_get rs i ≡ Some r → slice_get (map (λ x. x.group) rs) i ≡ Some r.group
-get_mapped [] i r at = absurd (cc at)
-get_mapped (x ∷ rs) zero r at = ap (λ o. by o) at
-  where
-    by : Option Running → Option ℕ
-    by None = None
-    by (Some y) = Some y.group
-get_mapped (x ∷ rs) (suc i) r at = get_mapped rs i r at
-
-one : {X : Type 0} (a b : X) → ◌≡◌ {A = Option X} (Some a) (Some b) → a ≡ b
-one a b e = cc e
+use Rattle.round.proofs.Lists.{map_at, set_else, set_there}
+use Rattle.executor.proofs.OrderLemmas.{found_at, same_or_not, set_here, set_same}
 
 -- a step that was made on the items is a step made at the index
 pub step_at : (first : Place) (w : Progress) (i : ℕ) (r now : Running) (after : Items) → slice_get w.running i ≡ Some r → r.group ≡ w.group → StepDone r w.items (stamped first r.place) now after
@@ -78,7 +57,7 @@ went_none w i l =
 
 -- the request that went on stands at the index
 went_there : (w : Progress) (i : ℕ) (now : Progress) (g : Went w i now) → slice_get now.running i ≡ Some g.request
-went_there w i now g = ap (λ rs. slice_get rs i) g.others ∙ get_set_same w.running i g.old g.request g.there
+went_there w i now g = ap (λ rs. slice_get rs i) g.others ∙ set_there w.running i g.request g.old g.there
 
 -- the list after a step
 abbrev answer_of : (first : Place) (w : Progress) (place : ℕ) (now : Progress) → StepMade first w place now → Running
@@ -93,7 +72,7 @@ group_after first w place now m = ap (λ (p : Progress). p.group) m.now_is
 pub went_more : (first : Place) (w : Progress) (i : ℕ) (now next : Progress) → Went w i now → StepMadeAt first now i next → Went w i next
 went_more first w i now next g s =
     let m = s.made in
-    let same : g.request ≡ m.request = one g.request m.request (sym (went_there w i now g) ∙ ap (slice_get now.running) (sym s.its) ∙ m.there) in
+    let same : g.request ≡ m.request = same_Some g.request m.request (sym (went_there w i now g) ∙ ap (slice_get now.running) (sym s.its) ∙ m.there) in
     record {
       old = g.old;
       there = g.there;
@@ -113,7 +92,7 @@ fewer_left first w i now s =
     let here : slice_get w.running i ≡ Some m.request = ap (slice_get w.running) (sym s.its) ∙ m.there in
     let after : slice_get now.running i ≡ Some (answer_of first w s.place now m) =
     ap (λ rs. slice_get rs i) (running_after first w s.place now m ∙ ap (λ k. set w.running k (answer_of first w s.place now m)) s.its)
-    ∙ get_set_same w.running i m.request (answer_of first w s.place now m) here in
+    ∙ set_there w.running i (answer_of first w s.place now m) m.request here in
     let within = slice_get_within m.request.steps (length m.request.answers) m.step m.next in
     let longer : length (answer_of first w s.place now m).answers ≡ length m.request.answers + 1 = length_push m.request.answers (effect w.items m.step (stamped first s.place)).1 in
     let a : left_of (slice_get w.running i) ≡ length m.request.steps - length m.request.answers = ap left_of here in
@@ -145,24 +124,18 @@ pub through_more : (w : Progress) (i : ℕ) (now next : Progress) → i < length
 through_more w i now next l t r =
     let found = found_at now.running i l in
     let same : r.request.group ≡ found.0.group = subst (λ o. IfSome o (λ x. r.request.group ≡ x.group)) found.1 r.same_group in
-    let there : slice_get next.running i ≡ Some r.request = ap (λ rs. slice_get rs i) r.others ∙ get_set_same now.running i found.0 r.request found.1 in
+    let there : slice_get next.running i ≡ Some r.request = ap (λ rs. slice_get rs i) r.others ∙ set_there now.running i r.request found.0 found.1 in
     record {
       groups = ap (map (λ x. x.group)) r.others ∙ map-set (λ (x : Running). x.group) now.running i r.request
-          ∙ ap (set (map (λ x. x.group) now.running) i) same ∙ set_here (map (λ x. x.group) now.running) i found.0.group (get_mapped now.running i found.0 found.1) ∙ t.groups;
+          ∙ ap (set (map (λ x. x.group) now.running) i) same ∙ set_here (map (λ x. x.group) now.running) i found.0.group (map_at (λ (x : Running). x.group) now.running i found.0 found.1) ∙ t.groups;
       group = r.group ∙ t.group;
       earlier = λ j k. by j k there (same_or_not j i);
     }
   where
-    same_or_not : (a b : ℕ) → (a ≡ b) ⊎ (a ≢ b)
-    same_or_not zero zero = inl refl
-    same_or_not zero (suc b) = inr (λ e. omega arith)
-    same_or_not (suc a) zero = inr (λ e. omega arith)
-    same_or_not (suc a) (suc b) = elim (same_or_not a b) [ inl e ↦ inl (ap suc e) | inr d ↦ inr (λ e. d (omega arith)) ]
-
     by : (j : ℕ) → j < i + 1 → slice_get next.running i ≡ Some r.request → (j ≡ i) ⊎ (j ≢ i) → IsNotLeft next.group (slice_get next.running j)
     by j k there (inl e) = subst (IsNotLeft next.group) (sym (ap (slice_get next.running) e ∙ there)) (λ f. r.ran (f ∙ r.group))
     by j k there (inr d) =
-        let still : slice_get next.running j ≡ slice_get now.running j = ap (λ rs. slice_get rs j) r.others ∙ get_set_other now.running i j r.request (λ e. d (sym e)) in
+        let still : slice_get next.running j ≡ slice_get now.running j = ap (λ rs. slice_get rs j) r.others ∙ set_else now.running i r.request j d in
         subst (λ g. IsNotLeft g (slice_get next.running j)) (sym r.group) (subst (IsNotLeft now.group) (sym still) (t.earlier j (omega (arith, k, d))))
 
 -- where all requests ran the group is done
@@ -175,7 +148,7 @@ all_ran group (r ∷ running) h = rw (here r (h 0 (omega arith))) (all_ran group
       where
         by : (b : Bool) → (x.group == group) ≡ b → (not b || is_done x) ≡ true
         by false e = refl
-        by true e = d (grind (arith, nat_tests))
+        by true e = d (eqb-true x.group group e)
 
 -- requests in the same groups are as many in later ones
 pub same_later : (group : ℕ) (xs ys : List Running) → map (λ r. r.group) xs ≡ map (λ r. r.group) ys → length (filter (λ r. nat_lt group r.group) xs) ≡ length (filter (λ r. nat_lt group r.group) ys)
@@ -212,7 +185,7 @@ no_more low high l (r ∷ rs) = by (nat_lt high r.group) refl (nat_lt low r.grou
 fewer : (low : ℕ) (rs : List Running) (i : ℕ) (r : Running) → slice_get rs i ≡ Some r → low < r.group → length (filter (λ x. nat_lt r.group x.group) rs) < length (filter (λ x. nat_lt low x.group) rs)
 fewer low [] i r at l = absurd (cc at)
 fewer low (x ∷ rs) zero r at l =
-    let here : x ≡ r = one x r at in
+    let here : x ≡ r = same_Some x r at in
     subst (λ (y : Running). length (filter (λ z. nat_lt r.group z.group) (y ∷ rs)) < length (filter (λ z. nat_lt low z.group) (y ∷ rs))) (sym here)
     (rw (not_after r.group, lt-ltb low r.group l) (let more = no_more low r.group (omega (arith, l)) rs in omega (arith, more)))
   where

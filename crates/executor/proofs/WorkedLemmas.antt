@@ -1,10 +1,9 @@
 -- Whatever steps were made, they are a beginning of a round; and at the end they are a round.
-use Rattle.std.proofs.Common.{◌≡◌, ◌≢◌, ℕ, zero, suc, ◌+◌, ◌-◌, ◌<◌, ◌≤◌, Bool, true, false, List, [], ◌∷◌, ◌++◌, map, length, take, set, get_or, Some, Option, refl, sym, ap, ◌∙◌, arith, subst, ◌⊎◌, inl, inr, append_assoc}
-use Rattle.std.specs.Prelude.{slice_get, All, IsTrue, not, ◌||◌, ◌==◌, nat_le}
+use Rattle.std.proofs.Common.{◌≡◌, ◌≢◌, ℕ, suc, ◌+◌, ◌-◌, ◌<◌, ◌≤◌, Bool, true, false, List, [], ◌∷◌, ◌++◌, map, length, take, set, get_or, Some, Option, refl, sym, ap, ◌∙◌, arith, subst, ◌⊎◌, inl, inr, append_assoc}
+use Rattle.std.specs.Prelude.{slice_get, All, IsTrue, not, ◌||◌, ◌==◌}
 use Rattle.std.specs.List.{range_with_len, list_all, zip}
 use Rattle.std.proofs.lemmas.List.{append-nil, map-append, length_push, take_more, map-set}
-use Rattle.std.proofs.lemmas.Bool.{cases_Bool, leb-true, and_parts, ltb-true, ltb-false, lt-ltb}
-use Rattle.std.proofs.lemmas.Bool.Decides.{nat_tests}
+use Rattle.std.proofs.lemmas.Bool.{cases_order, eq-eqb, leb-true, ltb-true, ltb-false, lt-ltb}
 use Rattle.std.proofs.lemmas.Option.{slice_get_within, get_or_from_slice_get}
 use Rattle.items.specs.Map.{Items, alive}
 use Rattle.item_steps.specs.Effect.{effect}
@@ -20,9 +19,10 @@ use Rattle.executor.specs.declared.answered.Answered.{Answered}
 use Rattle.executor.specs.Round.{runners, moment_of, first_place, group_of, steps_in, answered, Round}
 use Rattle.executor.specs.Work.{Progress, begun, all_begun, next_step, is_done, is_group_done, started, comes_after, IsFirst, IsNext, IsLast, StepMade, Worked, began, stepped, moved, replied, replies_of, made}
 use Rattle.item_steps.proofs.ScheduleLemmas.{items_push, answers_push}
-use Rattle.executor.proofs.OrderLemmas.{order_push, get_set_same, get_set_other}
+use Rattle.round.proofs.Lists.{list_all_at, map_at, set_else, set_there}
+use Rattle.executor.proofs.OrderLemmas.{order_push, same_or_not, set_here}
 use Rattle.executor.proofs.PartialLemmas.{Each, each-of-all, all-of-each, made_in, forget, first, groups_run, Partial}
-use Rattle.executor.proofs.RoundLemmas.{groups_append, groups_empty, range_parts, range_at, get_map, map_get, each_set, same_or_not, fresh_apart, answers_at-append, answers_at-own, answers_at-other, made_all, none_made, no_steps}
+use Rattle.executor.proofs.RoundLemmas.{groups_append, groups_empty, range_parts, range_at, get_map, each_set, fresh_apart, answers_at-append, answers_at-own, answers_at-other, made_all, none_made, no_steps}
 
 module _ (base : StateView) (batch : Batch) (ordered : Bool) where
   abbrev there : List Runner
@@ -40,7 +40,7 @@ module _ (base : StateView) (batch : Batch) (ordered : Bool) where
 
   -- groups below the first are empty
   below_first : (group : ℕ) → IsFirst (all_begun base batch ordered) group → Each (λ r. group ≤ group_of batch ordered r) there
-  below_first group least i r at = each-of-all (λ (x : Running). group ≤ x.group) (all_begun base batch ordered) least i (begun batch ordered r) (map_get (begun batch ordered) there i r at)
+  below_first group least i r at = each-of-all (λ (x : Running). group ≤ x.group) (all_begun base batch ordered) least i (begun batch ordered r) (map_at (begun batch ordered) there i r at)
 
   partial-began : (group : ℕ) → IsFirst (all_begun base batch ordered) group → Partial base batch ordered (started base batch ordered group)
   partial-began group least = record {
@@ -68,19 +68,11 @@ module _ (base : StateView) (batch : Batch) (ordered : Bool) where
   made_more g x step a here next =
       let within = slice_get_within x.steps (length x.answers) step next in
       let is : get_or x.steps (length x.answers) step ≡ step = get_or_from_slice_get x.steps (length x.answers) step step next in
-      rw (test x.group g here)
+      rw (eq-eqb x.group g here)
       (ap (λ k. map (λ s. (x.place, s)) (take k x.steps)) (length_push x.answers a)
       ∙ ap (map (λ s. (x.place, s))) (take_more x.steps (length x.answers) step within)
       ∙ map-append (λ s. (x.place, s)) (take (length x.answers) x.steps) (get_or x.steps (length x.answers) step ∷ [])
       ∙ ap (λ s. map (λ s. (x.place, s)) (take (length x.answers) x.steps) ++ (x.place, s) ∷ []) is)
-    where
-      test : (m n : ℕ) → m ≡ n → (m == n) ≡ true
-      test m n e = grind (arith, nat_tests)
-
-  set_here : {X : Type 0} (xs : List X) (i : ℕ) (x : X) → slice_get xs i ≡ Some x → set xs i x ≡ xs
-  set_here [] i x at = refl
-  set_here (y ∷ xs) zero x at = let e : y ≡ x = cc at in ap (λ z. z ∷ xs) (sym e)
-  set_here (y ∷ xs) (suc i) x at = ap (λ zs. y ∷ zs) (set_here xs i x at)
 
   module _ (w : Progress) (place : ℕ) (p : Partial base batch ordered w) (index : ℕ) (x : Running) (step : Step)
       (inside : slice_get w.running index ≡ Some x) (its : x.place ≡ place) (in_group : x.group ≡ w.group) (next : next_step x ≡ Some step) where
@@ -123,21 +115,21 @@ module _ (base : StateView) (batch : Batch) (ordered : Bool) where
     before : (j : ℕ) (z : Running) → slice_get running_after j ≡ Some z → (y : Running) × (slice_get w.running j ≡ Some y) × (y.place ≡ z.place)
     before j z at = elim (same_or_not index j) [
       | inl e ↦
-          let is : ◌≡◌ {A = Option Running} (Some after) (Some z) = sym (get_set_same w.running index x after inside) ∙ ap (slice_get running_after) e ∙ at in
+          let is : ◌≡◌ {A = Option Running} (Some after) (Some z) = sym (set_there w.running index after x inside) ∙ ap (slice_get running_after) e ∙ at in
           let one : after ≡ z = cc is in
           (x, ap (slice_get w.running) (sym e) ∙ inside, ap (λ (y : Running). y.place) one)
-      | inr d ↦ (z, sym (get_set_other w.running index j after d) ∙ at, refl)
+      | inr d ↦ (z, sym (set_else w.running index after j (λ e. d (sym e))) ∙ at, refl)
     ]
 
     interleaves_after : IsInterleaving (map (made_in w.group) running_after) order_after
     interleaves_after =
-        let more = order_push (map (made_in w.group) w.running) p.order index (made_in w.group x) (place, step) p.interleaves (map_get (made_in w.group) w.running index x inside) in
+        let more = order_push (map (made_in w.group) w.running) p.order index (made_in w.group x) (place, step) p.interleaves (map_at (made_in w.group) w.running index x inside) in
         let one : made_in w.group after ≡ made_in w.group x ++ (place, step) ∷ [] = made_more w.group x step answer in_group next ∙ ap (λ k. made_in w.group x ++ (k, step) ∷ []) its in
         subst (λ (lists : List (List Placed)). IsInterleaving lists order_after) (sym (map-set (made_in w.group) w.running index after ∙ ap (set (map (made_in w.group) w.running) index) one)) more
 
     partial-step : Partial base batch ordered (record { items = (effect w.items step (stamped (first base batch ordered) place)).0; running = running_after; group = w.group })
     partial-step = record {
-      same = map-set forget w.running index after ∙ set_here (map forget w.running) index (forget x) (map_get forget w.running index x inside) ∙ p.same;
+      same = map-set forget w.running index after ∙ set_here (map forget w.running) index (forget x) (map_at forget w.running index x inside) ∙ p.same;
       start = p.start;
       earlier = p.earlier;
       order = order_after;
@@ -159,17 +151,9 @@ module _ (base : StateView) (batch : Batch) (ordered : Bool) where
 
   -- ---- the end of a group
 
-  each_of_list_all : (f : Running → Bool) (xs : List Running) → list_all f xs ≡ true → Each (λ x. f x ≡ true) xs
-  each_of_list_all f [] h i x at = absurd (cc at)
-  each_of_list_all f (y ∷ xs) h zero x at = let e : y ≡ x = cc at in ap f (sym e) ∙ (and_parts (f y) (list_all f xs) h).0
-  each_of_list_all f (y ∷ xs) h (suc i) x at = each_of_list_all f xs (and_parts (f y) (list_all f xs) h).1 i x at
-
   pub group_is_done : (w : Progress) → IsTrue (is_group_done w) → Each (λ x. x.group ≡ w.group → length x.steps ≤ length x.answers) w.running
-  group_is_done w done i x at e = one (x.group == w.group) (test x.group w.group e) (each_of_list_all (λ r. not (r.group == w.group) || is_done r) w.running done i x at)
+  group_is_done w done i x at e = one (x.group == w.group) (eq-eqb x.group w.group e) (list_all_at (λ r. not (r.group == w.group) || is_done r) w.running done i x at)
     where
-      test : (m n : ℕ) → m ≡ n → (m == n) ≡ true
-      test m n e = grind (arith, nat_tests)
-
       one : (b : Bool) → b ≡ true → (not b || is_done x) ≡ true → length x.steps ≤ length x.answers
       one true e h = leb-true (length x.steps) (length x.answers) h
       one false e h = absurd (cc e)
@@ -177,7 +161,7 @@ module _ (base : StateView) (batch : Batch) (ordered : Bool) where
   -- a request that runs is one of the batch's, in the same group
   running_of : (w : Progress) → Partial base batch ordered w → (i : ℕ) (r : Runner) → slice_get there i ≡ Some r → (x : Running) × (slice_get w.running i ≡ Some x) × (x.group ≡ group_of batch ordered r)
   running_of w p i r at =
-      let x = get_map forget w.running i (begun batch ordered r) (ap (λ xs. slice_get xs i) p.same ∙ map_get (begun batch ordered) there i r at) in
+      let x = get_map forget w.running i (begun batch ordered r) (ap (λ xs. slice_get xs i) p.same ∙ map_at (begun batch ordered) there i r at) in
       (x.0, x.1, ap (λ (y : Running). y.group) (sym x.2))
 
   steps_interleave : (w : Progress) (p : Partial base batch ordered w) → IsTrue (is_group_done w) → IsInterleaving (map (steps_in batch ordered w.group) there) p.order
@@ -219,7 +203,7 @@ module _ (base : StateView) (batch : Batch) (ordered : Bool) where
     interleaves = none_made base batch ordered group w.running (λ i x at e. p.above i x at (omega (arith, e, above)));
     answers = λ i x at. p.answers i x at ∙ ap (answers_at x.place) (answers_same w p ∙ sym (append-nil (answers_now w p)));
     above = λ i x at l. p.above i x at (omega (arith, l, above));
-    below = λ i x at l. by_group i x at l (same_or_not x.group w.group);
+    below = λ i x at l. by_group i x at l (cases_order x.group w.group);
     within = p.within;
     places = p.places;
   }
@@ -230,24 +214,10 @@ module _ (base : StateView) (batch : Batch) (ordered : Bool) where
       least : Each (λ (y : Running). w.group < y.group → group ≤ y.group) w.running
       least i x at l = each-of-all (λ (y : Running). comes_after (Some w.group) y.group ≡ true → group ≤ y.group) w.running next.least i x at (lt-ltb w.group x.group l)
 
-      by_group : (i : ℕ) (x : Running) → slice_get w.running i ≡ Some x → x.group < group → (x.group ≡ w.group) ⊎ (x.group ≢ w.group) → length x.steps ≤ length x.answers
-      by_group i x at l (inl e) = group_is_done w done i x at e
-      by_group i x at l (inr d) = p.below i x at (under (least i x at))
-        where
-          under : (w.group < x.group → group ≤ x.group) → x.group < w.group
-          under h = elim (below_or_not x.group w.group) [
-            | inl l' ↦ l'
-            | inr g ↦ absurd (omega (arith, l, h (omega (arith, g, apart x.group w.group d g))))
-          ]
-            where
-              below_or_not : (m n : ℕ) → (m < n) ⊎ (n ≤ m)
-              below_or_not m n = elim (cases_Bool (nat_le n m)) [
-                | inl t ↦ inr (leb-true n m t)
-                | inr f ↦ inl (grind (arith, nat_tests))
-              ]
-
-              apart : (m n : ℕ) → m ≢ n → n ≤ m → n < m
-              apart m n d g = grind (arith, nat_tests)
+      by_group : (i : ℕ) (x : Running) → slice_get w.running i ≡ Some x → x.group < group → (x.group ≡ w.group) ⊎ ((x.group < w.group) ⊎ (w.group < x.group)) → length x.steps ≤ length x.answers
+      by_group i x at l (inl same) = group_is_done w done i x at same
+      by_group i x at l (inr (inl low)) = p.below i x at low
+      by_group i x at l (inr (inr high)) = absurd (omega (arith, l, least i x at high))
 
   pub worked-partial : (w : Progress) → Worked base batch ordered w → Partial base batch ordered w
   worked-partial w (began group least) = partial-began group least

@@ -41,9 +41,12 @@ followed old batch sessions items = with_token (record {
 abbrev pub first_place : StateView → Batch → Place
 first_place old batch = record { moment = moment_of old batch; stamp = 64 * batch.n }
 
--- the group in which a request runs: that of the mixer, or in an ordered batch one by itself, in batch order
+-- the group of the request at the place: that of the mixer's numbers, or in an ordered batch one by itself, in batch order
+abbrev pub group_in : Bool → List ℕ → ℕ → ℕ
+group_in ordered numbers place = if ordered then place else slice_index numbers place
+
 abbrev pub group_of : Batch → Bool → Runner → ℕ
-group_of batch ordered r = if ordered then r.0 else slice_index (numbers_of batch.requests) r.0
+group_of batch ordered r = group_in ordered (numbers_of batch.requests) r.0
 
 -- the steps of each request that are in the group
 abbrev pub steps_in : Batch → Bool → ℕ → Runner → List Placed

@@ -1,5 +1,5 @@
 -- A batch that is being executed.
-use Rattle.std.specs.Prelude.{◌≡◌, ℕ, ◌+◌, ◌≤◌, List, [], ◌∷◌, ◌++◌, map, length, min, All, Bool, true, false, IsTrue, not, ◌||◌, ◌&&◌, ◌==◌, nat_le, nat_lt, Option, Some, None, slice_get, slice_set, slice_index, if◌then◌else◌, refl}
+use Rattle.std.specs.Prelude.{◌≡◌, ℕ, ◌+◌, ◌≤◌, List, [], ◌∷◌, ◌++◌, map, length, min, All, Bool, true, false, IsTrue, not, ◌||◌, ◌&&◌, ◌==◌, nat_le, nat_lt, Option, Some, None, slice_get, slice_set, refl}
 use Rattle.std.specs.List.{list_all, zip, flat_map}
 use Rattle.std.specs.Coded.{Coded, code_by, coded×, coded_list, coded_ℕ, coded_bool}
 use Rattle.items.specs.Map.{Items, alive}
@@ -10,13 +10,14 @@ use Rattle.item_steps.specs.declared.step.Place.{Place}
 use Rattle.item_steps.specs.declared.step.Step.{Step}
 use Rattle.sessions.specs.declared.request.Request.{Request}
 use Rattle.batches.specs.declared.batch.Batch.{Batch}
+use Rattle.mixer.specs.Groups.{numbers_of}
 use Rattle.wire.specs.Batch.{batch_text, BatchFits}
 use Rattle.token.specs.Digest.{digest}
 use Rattle.executor.specs.declared.answered.Answered.{Answered}
 use Rattle.executor.specs.Running.{Running, HaveFewSteps}
 use Rattle.executor.specs.State.{StateView, with_token}
 use Rattle.executor.specs.Fresh.{Runner}
-use Rattle.executor.specs.Round.{runners, moment_of, first_place, group_of, kept_after}
+use Rattle.executor.specs.Round.{runners, moment_of, first_place, group_in, kept_after}
 
 -- What was done of a batch so far: the items now, the requests that run, and the group that runs now.
 pub record Progress : Type 0 where
@@ -24,13 +25,12 @@ pub record Progress : Type 0 where
   pub running : List Running
   pub group : ℕ
 
--- a request that has not yet made a step
-abbrev pub begun : Batch → Bool → Runner → Running
-begun batch ordered r = record { place = r.0; group = group_of batch ordered r; steps = steps r.1.command; answers = [] }
-
--- the same, where the numbers of the groups are given
+-- a request that has not yet made a step, where the mixer gave these numbers
 abbrev pub begun_in : Bool → List ℕ → Runner → Running
-begun_in ordered numbers r = record { place = r.0; group = if ordered then r.0 else slice_index numbers r.0; steps = steps r.1.command; answers = [] }
+begun_in ordered numbers r = record { place = r.0; group = group_in ordered numbers r.0; steps = steps r.1.command; answers = [] }
+
+abbrev pub begun : Batch → Bool → Runner → Running
+begun batch ordered r = begun_in ordered (numbers_of batch.requests) r
 
 -- the requests that run, before the first step
 abbrev pub all_begun : StateView → Batch → Bool → List Running

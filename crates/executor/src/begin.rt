@@ -1,11 +1,12 @@
 //! The requests of a batch that run, before their first step.
 
-ghost use Rattle.std.specs.Prelude.{◌≡◌, ◌==◌, ◌≤◌, ◌<◌, ◌^◌, [], true, false, ◌++◌, IfOk, OnOk, length, take, map, slice_index, if◌then◌else◌};
+ghost use Rattle.std.specs.Prelude.{◌≡◌, ◌==◌, ◌≤◌, ◌<◌, ◌^◌, [], true, false, ◌++◌, IfOk, OnOk, length, take, map};
 ghost use Rattle.std.specs.List.{list_any};
 ghost use Rattle.item_steps.specs.Steps.{steps};
 ghost use Rattle.mixer.specs.Groups.{numbers_of};
 ghost use Rattle.executor.specs.State.{StateView};
 ghost use Rattle.executor.specs.Fresh.{runs as runs_after, runner_at, fresh};
+ghost use Rattle.executor.specs.Round.{group_in};
 ghost use Rattle.executor.specs.Work.{all_begun, begun_in};
 ghost use Rattle.executor.specs.Running.{HaveFewSteps};
 
@@ -42,7 +43,7 @@ fn numbers_if(alloc: Global, requests: &[Request], ordered: bool) -> Result<Vec<
 
 /// The group of the request at the place: by itself in an ordered batch.
 fn group_at(ordered: bool, numbers: &[usize], place: usize) -> usize
-    ensures { result ≡ (if ordered then place else slice_index numbers.now place) }
+    ensures { result ≡ group_in ordered numbers.now place }
 {
     if ordered {
         return place;
@@ -93,7 +94,15 @@ fn begin_with(
     let mut running = Vec::new(alloc);
     for (place, request) in requests.iter().enumerate() {
         let earlier = &requests[..place];
-        add_running(alloc, sessions, earlier, request, ordered, numbers, &mut running)?;
+        add_running(
+            alloc,
+            sessions,
+            earlier,
+            request,
+            ordered,
+            numbers,
+            &mut running,
+        )?;
     }
     Ok(running)
 }

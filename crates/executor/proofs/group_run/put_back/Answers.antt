@@ -1,8 +1,9 @@
 use Rattle.std.proofs.Common.{◌≡◌, ◌<◌, ◌-◌, suc, length, get_or, set, Some, sym, ap, ◌∙◌, arith, subst}
 use Rattle.std.specs.Prelude.{slice_get}
+use Rattle.std.proofs.lemmas.List.{get_or_default, length-set, nil_from_length}
 use Rattle.std.proofs.lemmas.Option.{slice_get-get_or}
 use Rattle.executor.specs.Running.{Running}
-use Rattle.executor.proofs.PutBackLemmas.{PutSoFar, put_none, put_own, put_other, put_some, put_all, set_length, same_read, no_items}
+use Rattle.executor.proofs.PutBackLemmas.{PutSoFar, put_none, put_own, put_other, put_some, put_all}
 use Rattle.executor.proofs.group_run.put_back.Goals as goal
 
 pub loop-left-init : goal.loop-left-init
@@ -19,9 +20,9 @@ loop-left-preserved-in-Some c =
     let found : Running = get_or l.running (l.left - 1) c.index-running-left-in-Some.result in
     let there : slice_get l.running (l.left - 1) ≡ Some found = slice_get-get_or l.running (l.left - 1) c.index-running-left-in-Some.result inside in
     let group : found.group ≡ c.args.group =
-    ap (λ (r : Running). r.group) (same_read l.running (l.left - 1) c.index-running-left-in-Some.result c.index-running-left.result inside) ∙ sym c.group.ensures ∙ c.if-group.true in
+    ap (λ (r : Running). r.group) (get_or_default l.running (l.left - 1) c.index-running-left-in-Some.result c.index-running-left.result inside) ∙ sym c.group.ensures ∙ c.if-group.true in
     record {
-      within = omega (arith, more, l.invariant.within, set_length l.running (l.left - 1) c.put_back.new.self);
+      within = omega (arith, more, l.invariant.within, length-set l.running (l.left - 1) c.put_back.new.self);
       put = λ before answers_to e f.
           subst (λ (r : Running). PutSoFar c.args.group before answers_to (l.left - 1) (set l.running (l.left - 1) r) c.pop.new.self.items) (sym c.put_back.ensures)
           (put_own c.args.group before answers_to (l.left - 1) l.running l.ran.items c.pop.new.self.items c.in-Some.last found
@@ -40,7 +41,7 @@ loop-left-preserved-in_default c =
       put = λ before answers_to e f.
           absurd (put_some c.args.group before answers_to (l.left - 1) l.running l.ran.items found
           (subst (λ n. PutSoFar c.args.group before answers_to n l.running l.ran.items) more (l.invariant.put before answers_to e f)) there (sym c.group.ensures ∙ c.if-group.true)
-          (no_items l.ran.items (sym l.ran.ok.0 ∙ c.in_default.ensures.cases.0)));
+          (nil_from_length l.ran.items (sym l.ran.ok.0 ∙ c.in_default.ensures.cases.0)));
     }
 
 pub loop-left-preserved : goal.loop-left-preserved

@@ -1,10 +1,11 @@
 use Rattle.std.proofs.Common.{◌≡◌, ◌++◌, ◌∷◌, [], ◌<◌, ◌+◌, suc, List, length, get_or, set, Some, sym, ap, ◌∙◌, arith, subst}
 use Rattle.std.specs.Prelude.{slice_get}
+use Rattle.std.proofs.lemmas.List.{get_or_default}
 use Rattle.std.proofs.lemmas.Option.{slice_get-get_or}
 use Rattle.item_steps.specs.declared.group.Task.{Task}
 use Rattle.executor.specs.Running.{Running}
 use Rattle.executor.specs.GroupRun.{task_of}
-use Rattle.executor.proofs.PutBackLemmas.{TakenSoFar, taken_none, taken_own, taken_other, taken_all, same_read}
+use Rattle.executor.proofs.PutBackLemmas.{TakenSoFar, taken_none, taken_own, taken_other, taken_all}
 use Rattle.executor.proofs.group_run.take_tasks.Goals as goal
 use Rattle.executor.proofs.group_run.take_tasks.Goals.{then-group+in_ok-push, else-group}
 
@@ -22,7 +23,7 @@ loop-i-preserved c =
           let found : Running = get_or l.running l.i w.index-running-i-then-group.result in
           let there : slice_get l.running l.i ≡ Some found = slice_get-get_or l.running l.i w.index-running-i-then-group.result inside in
           let group : found.group ≡ c.args.group =
-          ap (λ (r : Running). r.group) (same_read l.running l.i w.index-running-i-then-group.result c.index-running-i.result inside) ∙ sym c.group.ensures ∙ w.if-group.true in
+          ap (λ (r : Running). r.group) (get_or_default l.running l.i w.index-running-i-then-group.result c.index-running-i.result inside) ∙ sym c.group.ensures ∙ w.if-group.true in
           let running : c.if-group.running ≡ set l.running l.i (record found { steps = [] }) = w.running-is ∙ ap (set l.running l.i) w.take_task.ensures.emptied in
           let tasks : c.if-group.tasks.items ≡ l.tasks.items ++ task_of found ∷ [] = ap (λ v. v.items) w.tasks-is ∙ w.in_ok-push.ensures.items ∙ ap (λ t. l.tasks.items ++ t ∷ []) w.take_task.ensures.task in
           subst (λ (p : List Running × List Task). TakenSoFar c.args.group c.args.running.now (suc l.i) p.0 p.1) (λ i. (sym running i, sym tasks i))

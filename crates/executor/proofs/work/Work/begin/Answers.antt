@@ -8,28 +8,26 @@ use Rattle.executor.proofs.DoneLemmas.{none_run, none_done, none_last}
 use Rattle.executor.specs.GroupRun.{IsUntouched}
 use Rattle.executor.proofs.RanLemmas.{untouched_started}
 use Rattle.executor.proofs.work.Work.begin.Goals as goal
+use Rattle.executor.proofs.work.Work.begin.Goals.{In-None}
+
+-- where there is no first group no request runs
+none : (c : In-None) → all_begun c.args.base.now.state c.args.batch c.args.ordered ≡ []
+none c =
+    sym (c.in_ok-running.ensures.begun c.args.base.now.state (sym c.sessions.ensures.sessions))
+    ∙ none_run c.in_ok-running.running.items (subst (λ (rs : List Running). IsLast rs None) c.deref.ensures.value (c.in-None.ensures.none refl))
 
 pub complete-requires-clause-done : goal.complete-requires-clause-done
 complete-requires-clause-done c =
-    let all : c.in_ok-running.running.items ≡ all_begun c.args.base.now.state c.args.batch c.args.ordered = c.in_ok-running.ensures.begun c.args.base.now.state (sym c.sessions.ensures.sessions) in
-    let none : all_begun c.args.base.now.state c.args.batch c.args.ordered ≡ [] =
-    sym all ∙ none_run c.in_ok-running.running.items (subst (λ (rs : List Running). IsLast rs None) c.deref.ensures.value (c.in-None.ensures.none refl)) in
     subst (λ (v : WorkView). IsTrue (is_group_done v.progress)) (sym c.in_ok-work-in-None.ensures)
-    (none_done (all_begun c.args.base.now.state c.args.batch c.args.ordered) (alive c.args.base.now.state.items (moment_of c.args.base.now.state c.args.batch)) none)
+    (none_done _ (alive c.args.base.now.state.items (moment_of c.args.base.now.state c.args.batch)) (none (goal.at.complete-requires-clause-done c).In-None))
 
 pub complete-requires-clause-last : goal.complete-requires-clause-last
 complete-requires-clause-last c =
-    let all : c.in_ok-running.running.items ≡ all_begun c.args.base.now.state c.args.batch c.args.ordered = c.in_ok-running.ensures.begun c.args.base.now.state (sym c.sessions.ensures.sessions) in
-    let none : all_begun c.args.base.now.state c.args.batch c.args.ordered ≡ [] =
-    sym all ∙ none_run c.in_ok-running.running.items (subst (λ (rs : List Running). IsLast rs None) c.deref.ensures.value (c.in-None.ensures.none refl)) in
-    subst (λ (v : WorkView). IsLast v.progress.running (Some v.progress.group)) (sym c.in_ok-work-in-None.ensures) (none_last (all_begun c.args.base.now.state c.args.batch c.args.ordered) none)
+    subst (λ (v : WorkView). IsLast v.progress.running (Some v.progress.group)) (sym c.in_ok-work-in-None.ensures) (none_last _ (none (goal.at.complete-requires-clause-last c).In-None))
 
 pub returns-in_ok-complete-in-None-clause-begins : goal.returns-in_ok-complete-in-None-clause-begins
 returns-in_ok-complete-in-None-clause-begins c =
-    let all : c.in_ok-running.running.items ≡ all_begun c.args.base.now.state c.args.batch c.args.ordered = c.in_ok-running.ensures.begun c.args.base.now.state (sym c.sessions.ensures.sessions) in
-    let none : all_begun c.args.base.now.state c.args.batch c.args.ordered ≡ [] =
-    sym all ∙ none_run c.in_ok-running.running.items (subst (λ (rs : List Running). IsLast rs None) c.deref.ensures.value (c.in-None.ensures.none refl)) in
-    (none, c.in_ok-complete-in-None.ensures.tentative ∙ ap tentative_of c.in_ok-work-in-None.ensures)
+    (none (goal.at.returns-in_ok-complete-in-None-clause-begins c).In-None, c.in_ok-complete-in-None.ensures.tentative ∙ ap tentative_of c.in_ok-work-in-None.ensures)
 
 pub returns-in_ok-started-in-Some-clause-afresh : goal.returns-in_ok-started-in-Some-clause-afresh
 returns-in_ok-started-in-Some-clause-afresh c =

@@ -1,10 +1,8 @@
-use Rattle.std.proofs.Common.{◌≡◌, List, length, map, take, drop, ◌++◌, sym, ap, ◌∙◌, subst, rules}
-use Rattle.std.proofs.lemmas.List.{length-map}
-use Rattle.executor.specs.Running.{Running}
-use Rattle.executor.specs.Work.{Progress, WorkView}
+use Rattle.std.proofs.Common.{sym, ap, ◌∙◌, subst, rules}
+use Rattle.executor.specs.Work.{WorkView}
 use Rattle.executor.specs.Through.{later}
-use Rattle.executor.specs.GroupRun.{emptied, tasks_in, IsUntouched}
-use Rattle.executor.proofs.RanLemmas.{RoundDone, round_done, written_back}
+use Rattle.executor.specs.GroupRun.{IsUntouched}
+use Rattle.executor.proofs.RanLemmas.{RoundDone, round_done, written}
 use Rattle.executor.proofs.TaskLemmas.{tasks_fit}
 use Rattle.executor.proofs.work.Work.run_round.Given.{Over}
 use Rattle.executor.proofs.work.Work.run_round.Goals as goal
@@ -12,27 +10,23 @@ use Rattle.executor.proofs.work.Work.run_round.Goals.{After-put_back}
 
 -- what the round leaves
 left_by : (g : Over) (c : After-put_back g) → RoundDone c.self.inside.base.state c.self.inside.batch c.self.inside.ordered (record { items = c.self.inside.pages; running = c.self.inside.running.items; group = c.self.inside.group }) c.in_ok-pages.pages
-    (take c.self.inside.running.len (c.put_back.new.running ++ drop (length c.put_back.new.running) (take c.self.inside.running.len (c.take_tasks.new.running ++ drop (length c.take_tasks.new.running) c.self.inside.running.items))))
+    (written c.self.inside.running.len c.put_back.new.running (written c.self.inside.running.len c.take_tasks.new.running c.self.inside.running.items))
 left_by g c =
-    let w : Progress = record { items = c.self.inside.pages; running = c.self.inside.running.items; group = c.self.inside.group } in
-    let untouched = subst (λ (v : WorkView). IsUntouched v.progress) (sym c.self.view_is) c.requires.afresh in
-    let taken : c.take_tasks.new.running ≡ map (emptied w.group) w.running = c.in_ok-tasks.ensures.emptied ∙ ap (map (emptied w.group)) c.as_mut_slice.ensures.value in
-    let tasks : c.in_ok-tasks.tasks.items ≡ tasks_in w.group w.running = c.in_ok-tasks.ensures.tasks ∙ ap (tasks_in w.group) c.as_mut_slice.ensures.value in
-    let first : take c.self.inside.running.len (c.take_tasks.new.running ++ drop (length c.take_tasks.new.running) w.running) ≡ c.take_tasks.new.running =
-    written_back c.self.inside.running.len c.take_tasks.new.running w.running c.self.inside.running.ok.0 (ap length taken ∙ length-map w.running (emptied w.group)) in
-    let d = round_done c.self.inside.base.state c.self.inside.batch c.self.inside.ordered w c.self.invariant.worked untouched c.place_of-first.result c.place_of-first.ensures c.in_ok-tasks.tasks.items tasks
-    c.in_ok-pages.pages c.in_ok-pages.ran.items c.in_ok-pages.ensures.runs c.in_ok-pages.ensures.tasks c.put_back.new.running
-    (λ answers_to are. c.put_back.ensures w.running answers_to (c.as_mut_slice-2.ensures.value ∙ first ∙ taken) are) in
-    let put : length c.put_back.new.running ≡ length c.take_tasks.new.running = search rules in
-    subst (λ (rs : List Running). RoundDone c.self.inside.base.state c.self.inside.batch c.self.inside.ordered w c.in_ok-pages.pages rs)
-    (sym (ap (λ (rs : List Running). take c.self.inside.running.len (c.put_back.new.running ++ drop (length c.put_back.new.running) rs)) first
-    ∙ written_back c.self.inside.running.len c.put_back.new.running c.take_tasks.new.running (c.self.inside.running.ok.0 ∙ sym (ap length taken ∙ length-map w.running (emptied w.group))) put)) d
+    round_done c.self.inside.base.state c.self.inside.batch c.self.inside.ordered _ c.self.invariant.worked (subst (λ (v : WorkView). IsUntouched v.progress) (sym c.self.view_is) c.requires.afresh)
+    c.place_of-first.result c.place_of-first.ensures c.self.inside.running.len _ _ _ c.in_ok-pages.pages c.in_ok-pages.ran.items _ _ (record {
+      whole = c.self.inside.running.ok.0;
+      same = c.as_mut_slice.ensures.value;
+      taken_is = c.in_ok-tasks.ensures.emptied;
+      tasks_are = c.in_ok-tasks.ensures.tasks;
+      again_is = c.as_mut_slice-2.ensures.value;
+      long = search rules;
+      puts = c.put_back.ensures;
+    }) c.in_ok-pages.ensures.runs c.in_ok-pages.ensures.tasks
 
 pub run_group-requires-clause-fits : goal.run_group-requires-clause-fits
 run_group-requires-clause-fits g c lifetimes live =
-    let w : Progress = record { items = c.self.inside.pages; running = c.self.inside.running.items; group = c.self.inside.group } in
-    let tasks : c.in_ok-tasks.tasks.items ≡ tasks_in w.group w.running = c.in_ok-tasks.ensures.tasks ∙ ap (tasks_in w.group) c.as_mut_slice.ensures.value in
-    tasks_fit c.self.inside.base.state c.self.inside.batch c.self.inside.ordered w c.self.invariant.worked c.self.invariant.fits c.self.invariant.few c.place_of-first.result c.place_of-first.ensures c.in_ok-tasks.tasks.items tasks
+    tasks_fit c.self.inside.base.state c.self.inside.batch c.self.inside.ordered _ c.self.invariant.worked c.self.invariant.fits c.self.invariant.few c.place_of-first.result c.place_of-first.ensures
+    _ c.as_mut_slice.ensures.value _ c.in_ok-tasks.ensures.tasks
 
 pub invariant_of-result : goal.invariant_of-result
 invariant_of-result g c = record { worked = (left_by g c.before).worked; fits = c.self.invariant.fits; next = c.self.invariant.next; few = c.self.invariant.few }
