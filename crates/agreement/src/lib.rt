@@ -8,6 +8,7 @@
 mod laws;
 
 pub use laws::{
-    at_most_one_is_chosen, chosen_is_backed, chosen_is_kept, list_is_backed,
-    list_is_what_is_chosen, list_only_grows, logs_begin_the_list, told_is_chosen,
+    at_most_one_is_chosen, chosen_is_backed, chosen_is_kept, handled_is_done, list_is_backed,
+    list_is_what_is_chosen, list_only_grows, logs_begin_the_list, opened_is_done,
+    refused_is_stopped, told_is_chosen,
 };
