@@ -12,6 +12,3 @@ mod single;
 
 pub use fault::FirstFault;
 pub use single::first;
-
-#[cfg(test)]
-mod tests;

@@ -14,6 +14,3 @@ mod held;
 
 pub use batch::{Batch, GREATEST_NUMBER, MOST_REQUESTS, Requests};
 pub use gather::Gather;
-
-#[cfg(test)]
-mod tests;

@@ -22,6 +22,3 @@ pub use log::Log;
 pub use node::{Letter, Node};
 pub use standing::Standing;
 pub use votes::{Verdict, VoteKey, Votes};
-
-#[cfg(test)]
-mod tests;

@@ -40,6 +40,3 @@ pub use state::{Parts, State};
 pub use tentative::{Committed, Tentative};
 pub use through::run_through;
 pub use work::{Ended, Work};
-
-#[cfg(test)]
-mod tests;

@@ -9,6 +9,3 @@ mod memory;
 
 pub use crate::keeper::Keeper;
 pub use memory::MemKeeper;
-
-#[cfg(test)]
-mod tests;

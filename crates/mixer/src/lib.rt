@@ -13,6 +13,3 @@ mod conflict;
 mod groups;
 
 pub use groups::{group_numbers, mix};
-
-#[cfg(test)]
-mod tests;

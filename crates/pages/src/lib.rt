@@ -26,6 +26,3 @@ pub use number::{PAGES, page_of};
 pub use page::Page;
 pub use pages::Pages;
 pub use snapshot::Snapshot;
-
-#[cfg(test)]
-mod tests;

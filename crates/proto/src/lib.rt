@@ -32,6 +32,3 @@ pub use reader::Reader;
 pub use reply::{Found, Reply, Values};
 pub use turn::{Notice, Turn};
 pub use writing::write_reply;
-
-#[cfg(test)]
-mod tests;

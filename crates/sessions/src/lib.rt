@@ -16,6 +16,3 @@ mod sessions;
 pub use laws::kept_request_is_not_fresh;
 pub use request::Request;
 pub use sessions::{Kept, Sessions};
-
-#[cfg(test)]
-mod tests;

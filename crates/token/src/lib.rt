@@ -56,6 +56,3 @@ impl Token {
         }))
     }
 }
-
-#[cfg(test)]
-mod tests;

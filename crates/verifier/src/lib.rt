@@ -20,6 +20,3 @@ pub use laws::{
     decrees_are_learned_in_order, records_outlive_a_crash, unfit_input_changes_nothing,
     views_never_fall,
 };
-
-#[cfg(test)]
-mod tests;

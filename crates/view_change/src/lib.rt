@@ -7,6 +7,3 @@
 mod promises;
 
 pub use promises::{Choice, Promise, Promises};
-
-#[cfg(test)]
-mod tests;

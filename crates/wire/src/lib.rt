@@ -37,6 +37,3 @@ pub use page::{Entries, put_page};
 pub use record::{Record, digest, read, write};
 pub use sink::Sink;
 pub use token::{InnerText, TokenText};
-
-#[cfg(test)]
-mod tests;

@@ -12,6 +12,3 @@ mod workers;
 pub use digests::refresh_all;
 pub use rounds::run;
 pub use workers::Workers;
-
-#[cfg(test)]
-mod tests;

@@ -1,4 +1,4 @@
-use super::*;
+use batches::{GREATEST_NUMBER, Gather};
 use proto::{Command, Fault, Key, Reply, Update};
 use sessions::{Request, Sessions};
 use std::alloc::{AllocError, Global};

@@ -1,4 +1,4 @@
-use super::*;
+use mixer::mix;
 use proto::{Block, Command, Key, Keys, StoreVerb, Update};
 use sessions::Request;
 use std::alloc::{AllocError, Global};

@@ -1,4 +1,3 @@
-use super::*;
 use item_steps::{Answer, Place, Step, Steps, Task, apply};
 use items::{Item, PlainStore};
 use pages::{Page, Pages};
@@ -13,6 +12,7 @@ use std::test::*;
 use std::thread;
 use std::thread::Threads;
 use std::time::Duration;
+use workers::{Workers, refresh_all, run};
 
 /// The key of these bytes, or else `k`.
 fn key(alloc: Global, bytes: &[u8]) -> Result<Key, AllocError> {

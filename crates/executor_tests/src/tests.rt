@@ -1,6 +1,6 @@
-use super::*;
 use batches::Batch;
 use decrees::Decree;
+use executor::{Answered, Base, Committed, Ended, Tentative, Work, run_through};
 use proto::{Fault, Reply};
 use std::alloc::{AllocError, Global};
 use std::test::Fail;

@@ -1,9 +1,9 @@
-use super::*;
 use batches::Batch;
 use proto::{Command, Fault, Reply};
 use sessions::Sessions;
 use std::alloc::Global;
 use std::test::Fail;
+use wire::{Entries, Record, read, write};
 
 /// Whether the bytes are the record of a value, which is then written as just these bytes.
 fn is_record<T: Record + Drop>(alloc: Global, bytes: &[u8]) -> Result<bool, Fail> {

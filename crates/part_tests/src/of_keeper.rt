@@ -1,4 +1,4 @@
-use super::*;
+use keeper::{Keeper, MemKeeper};
 use std::test::Fail;
 
 fn found(keeper: &MemKeeper) -> &[u8] {

@@ -1,6 +1,7 @@
 //! Rows of batches that run on several threads.
 
 use super::*;
+use executor::execute;
 use proto::Values;
 use round::{Gate, NoGate};
 use std::rt::Clock;

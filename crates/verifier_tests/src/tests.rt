@@ -1,12 +1,12 @@
 ghost use Rattle.std.specs.Prelude.{◌≤◌, ◌<◌, ◌*◌};
 
-use super::*;
 use decrees::{Ballot, Decree, Letter, Node};
 use keeper::{Keeper, MemKeeper};
 use proto::Fault;
 use std::alloc::{AllocError, Global};
 use std::test::Fail;
 use token::Token;
+use verifier::{Input, Verifier};
 
 mod network;
 mod records;

@@ -1,6 +1,6 @@
 ghost use Rattle.std.specs.Prelude.{◌<◌};
 
-use super::*;
+use decrees::{Decree, Log, Standing, Verdict, VoteKey, Votes};
 use proto::Fault;
 use std::alloc::Global;
 use std::test::Fail;

@@ -1,5 +1,5 @@
-use super::*;
 use proto::{Command, Key, Reply, Update};
+use sessions::{Request, Sessions};
 use std::alloc::{AllocError, Global};
 use std::test::Fail;
 

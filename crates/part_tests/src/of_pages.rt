@@ -1,5 +1,5 @@
-use super::*;
 use items::{Item, PlainStore, Store};
+use pages::{PAGES, Pages, Snapshot, page_of};
 use proto::{Block, Key, is_key_text};
 use rand_core::SeedableRng;
 use rand_core::utils::NextWord;

@@ -1,7 +1,7 @@
-use super::*;
 use decrees::Decree;
 use std::test::Fail;
 use token::Token;
+use view_change::{Choice, Promise, Promises};
 
 fn commit(byte: u8) -> Decree {
     Decree::Commit {

@@ -1,6 +1,6 @@
-use super::*;
 use sha2::{Digest, Sha256};
 use std::test::Fail;
+use token::{Token, page_digest, root};
 use wire::{Record, Sink, read, write};
 
 #[test]

@@ -1,4 +1,4 @@
-use super::*;
+use app::{FirstFault, first};
 use std::alloc::{AllocError, Global};
 use std::io;
 use std::io::{ErrorKind, Read, Write};

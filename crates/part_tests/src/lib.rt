@@ -1,0 +1,29 @@
+//! Tests of the crates that `app` stands on, of `app`, and of those below `verifier`: worked examples,
+//! and each call that asks for memory made once with ample memory, which no contract can promise.
+//!
+//! They call what is public, and stand in a crate of their own: a crate that has tests is proved once
+//! more with them.
+#![tactic(auto)]
+
+#[cfg(test)]
+mod of_app;
+#[cfg(test)]
+mod of_batches;
+#[cfg(test)]
+mod of_decrees;
+#[cfg(test)]
+mod of_keeper;
+#[cfg(test)]
+mod of_mixer;
+#[cfg(test)]
+mod of_pages;
+#[cfg(test)]
+mod of_proto;
+#[cfg(test)]
+mod of_sessions;
+#[cfg(test)]
+mod of_token;
+#[cfg(test)]
+mod of_view_change;
+#[cfg(test)]
+mod of_wire;
