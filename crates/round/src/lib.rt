@@ -7,7 +7,7 @@
 //! It stands on `pages` and `item_steps`, and on `atomic_table` for the word of the tickets. The layer
 //! above opens a round, has its steps made by as many threads as it likes, and uses `Round::close`: an Ok
 //! gives pages and answers that some interleaving of the group's steps leads to. No thread is started
-//! here; the tests with threads are those of `workers`.
+//! here: see `workers`.
 #![tactic(auto)]
 
 mod close;

@@ -51,6 +51,21 @@ fn suspected(alloc: Global, verifier: &mut Verifier<MemKeeper>) -> Result<usize,
     Ok(letters.len())
 }
 
+/// The view of a verifier that is opened again with the keeper of this one.
+fn view_again(
+    alloc: Global,
+    verifier: Verifier<MemKeeper>,
+    id: u8,
+    u: u8,
+) -> Result<(Verifier<MemKeeper>, u64), Fail>
+    requires few { u < 4 }
+    requires member { id ≤ 2 * u }
+{
+    let again = opened(alloc, id, u, verifier.end())?;
+    let view = again.view();
+    Ok((again, view))
+}
+
 /// The record, copied.
 fn record_of(alloc: Global, verifier: &mut Verifier<MemKeeper>) -> Result<Vec<u8>, AllocError> {
     Vec::from_slice(alloc, verifier.keeper().load().unwrap_or(&[]))

@@ -2,6 +2,15 @@
 
 use super::*;
 
+/// What the verifier answers to the letter.
+fn answered(
+    alloc: Global,
+    verifier: &mut Verifier<MemKeeper>,
+    letter: &Letter<Ballot>,
+) -> Result<Vec<Letter<Ballot>>, Fault> {
+    verifier.handle(alloc, Input::Letter(*letter))
+}
+
 /// Hands the letter over so many times, and gives all answers.
 fn handed(
     alloc: Global,
@@ -11,7 +20,7 @@ fn handed(
 ) -> Result<Vec<Letter<Ballot>>, Fault> {
     let mut answers = Vec::new(alloc);
     for _ in 0..times {
-        let more = verifier.handle(alloc, Input::Letter(*letter))?;
+        let more = answered(alloc, verifier, letter)?;
         answers.extend_from_slice(&more)?;
     }
     Ok(answers)

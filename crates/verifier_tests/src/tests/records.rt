@@ -25,9 +25,9 @@ fn the_record_of_one_rollback(rt: HostRuntime) -> Result<(), Fail> {
         Ballot::Decided { place, decree },
     )?;
     let bytes: &[u8] = &[1, 86, 1, 1, 0, 0, 0, 0, 0, 0, 0, 1, 0, 0, 0, 0, 1, 0];
-    assert_eq!(rt; verifier.keeper().load(), Some(bytes));
-    let again = opened(rt.alloc(), 1, 1, verifier.end())?;
-    assert_eq!(rt; again.view(), 1);
+    assert_eq!(rt; record_of(rt.alloc(), &mut verifier)?.as_slice(), bytes);
+    let (again, view) = view_again(rt.alloc(), verifier, 1, 1)?;
+    assert_eq!(rt; view, 1);
     assert_eq!(rt; again.known(), 1);
     Ok(())
 }

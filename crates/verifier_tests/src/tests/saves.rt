@@ -138,16 +138,21 @@ fn the_first_save_fails(rt: HostRuntime) -> Result<(), Fail> {
     Ok(())
 }
 
+/// Whether the verifier stops where its next save fails.
+fn stops_at_a_failed_save(alloc: Global, verifier: &mut Verifier<MemKeeper>) -> bool {
+    verifier.keeper().fail_next();
+    suspected(alloc, verifier).is_err()
+}
+
 /// Votes and the lead are lost at a crash.
 #[test]
 fn a_leader_that_was_stopped(rt: HostRuntime) -> Result<(), Fail> {
     let mut verifier = opened(rt.alloc(), 0, 0, MemKeeper::new(rt.alloc()))?;
     let executor = Node::Executor(0);
     assert_eq!(rt; told(rt.alloc(), &mut verifier, executor, TOKEN)?, 1);
-    verifier.keeper().fail_next();
-    assert_eq!(rt; suspected(rt.alloc(), &mut verifier).is_err(), true);
-    let mut again = opened(rt.alloc(), 0, 0, verifier.end())?;
-    assert_eq!(rt; again.view(), 0);
+    assert_eq!(rt; stops_at_a_failed_save(rt.alloc(), &mut verifier), true);
+    let (mut again, view) = view_again(rt.alloc(), verifier, 0, 0)?;
+    assert_eq!(rt; view, 0);
     assert_eq!(rt; told(rt.alloc(), &mut again, executor, TOKEN)?, 0);
     Ok(())
 }
