@@ -14,6 +14,8 @@ mod of_decrees;
 #[cfg(test)]
 mod of_keeper;
 #[cfg(test)]
+mod of_link;
+#[cfg(test)]
 mod of_mixer;
 #[cfg(test)]
 mod of_pages;
