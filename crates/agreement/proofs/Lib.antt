@@ -16,5 +16,7 @@ pub mod Machine
 pub mod Grows
 pub mod ChosenList
 pub mod Proved
+pub mod ReadBack
 pub mod Seats
+pub mod SomePlay
 mod Rows

@@ -1,14 +1,16 @@
 -- What the code's verifier promises are the machine's lines.
-use Rattle.std.proofs.Common.{◌≡◌, ℕ, Bool, true, false, [], Some, refl, sym, ◌∙◌, ap, if◌then◌else◌}
+use Rattle.std.proofs.Common.{◌≡◌, ℕ, zero, suc, Bool, true, false, List, [], ◌∷◌, Option, Some, None, slice_get, slice_set, refl, sym, ◌∙◌, ap, subst, option_and_then, if◌then◌else◌}
 use Rattle.verifier.specs.declared.input.Input.{Input}
 use Rattle.verifier.specs.State.{State, first_state, down}
 use Rattle.verifier.specs.Lines.{restarted}
 use Rattle.verifier.specs.Step.{step}
 use Rattle.verifier.specs.Record.{record_text, IsRecord}
-use Rattle.verifier.specs.Seat.{Seat, outcome, handled}
+use Rattle.verifier.specs.Seat.{Seat, Opens, outcome, handled}
 use Rattle.verifier.proofs.RowLemmas.{row_of, row-IsRecord}
-use Rattle.agreement.specs.Machine.{saved_after}
-use Rattle.agreement.specs.Seats.{HandledIsDone, RefusedIsStopped, OpenedIsDone}
+use Rattle.agreement.specs.Machine.{Slot, New, Up, Stopped, Machine, StopsBefore, saved_after, opened, reached}
+use Rattle.agreement.specs.Laws.{recorded}
+use Rattle.agreement.specs.Seats.{IsIn, HandledIsDone, RefusedIsStopped, OpenedIsDone, ReopenedIsDone, RefusedOpenIsStopped}
+use Rattle.agreement.proofs.ReadBack.{record_fresh}
 
 abbrev seat_of : ℕ → ℕ → State → State → ℕ → Seat
 seat_of u id s saved failures = record { id = id; u = u; state = s; up = true; saved = Some (record_text u id saved); failures = failures }
@@ -52,3 +54,23 @@ opened_is_done = record {
         o.2 ∙ ap (λ (z : State). (restarted u id z).letters) state,
       );
 }
+
+pub reopened_is_done : ReopenedIsDone
+reopened_is_done u events id saved old seat letters at stopped o =
+    let fresh = record_fresh u events id saved (ap (option_and_then recorded) at) in
+    let read : Opens u id (Some (record_text u id (down saved))) old.failures seat letters = subst (λ kept. Opens u id kept old.failures seat letters) stopped.3 o in
+    subst (λ (z : State). IsIn u id (Up (restarted u id z).state (saved_after z (restarted u id z))) seat × (letters ≡ (restarted u id z).letters)) (sym fresh) (opened_is_done.again u id old.failures saved seat letters read)
+
+-- what stands at a place is put there again
+set_same : (xs : List Slot) (v : ℕ) (s : Slot) → slice_get xs v ≡ Some s → slice_set xs v s ≡ xs
+set_same [] v s e = absurd (cc)
+set_same (x ∷ xs) zero s e = let same : x ≡ s = cc in ap (λ (y : Slot). y ∷ xs) (sym same)
+set_same (x ∷ xs) (suc v) s e = ap (λ (ys : List Slot). x ∷ ys) (set_same xs v s e)
+
+pub refused_open_is_stopped : RefusedOpenIsStopped
+refused_open_is_stopped u id m New before after at kept same = (same ∙ kept, ap (opened u m id StopsBefore) at)
+refused_open_is_stopped u id m (Up s saved) before after at kept same = absurd kept
+refused_open_is_stopped u id m (Stopped saved) before after at kept same = (
+  same ∙ kept,
+  ap (opened u m id StopsBefore) at ∙ ap (λ (vs : List Slot). record m { verifiers = vs }) (set_same m.verifiers id (Stopped saved) at),
+)

@@ -1,11 +1,14 @@
 -- What holds of every reached machine, whatever its events.
-use Rattle.std.specs.Prelude.{◌≡◌, ℕ, ◌-◌, ◌<◌, ◌≤◌, ◌⊎◌, ◌↔◌, Bool, IsTrue, not, List, ◌++◌, take, Option, None, Some, slice_get, option_and_then}
+use Rattle.std.specs.Prelude.{◌≡◌, ℕ, ◌-◌, ◌^◌, ◌<◌, ◌≤◌, ◌⊎◌, ◌↔◌, Bool, IsTrue, not, List, ◌++◌, length, take, Option, None, Some, slice_get, option_and_then}
+use Rattle.token.specs.declared.Token as token
 use Rattle.decrees.specs.declared.decree.Decree.{Decree}
+use Rattle.decrees.specs.declared.decree.Decree.TheVariants.{Commit}
 use Rattle.decrees.specs.declared.ballot.Ballot.TheVariants.{Decided}
 use Rattle.decrees.specs.declared.node.Node.TheVariants.{Verifier}
 use Rattle.decrees.specs.Count.{count_below, members}
 use Rattle.decrees.specs.Standing.{decree_at, is_log}
-use Rattle.verifier.specs.State.{State, next_place}
+use Rattle.verifier.specs.State.{State, next_place, down}
+use Rattle.verifier.specs.Record.{record_text, IsRecord}
 use Rattle.agreement.specs.Letters.{Sent, Chosen, Backed, RestsOn}
 use Rattle.agreement.specs.Machine.{Slot, New, Up, Stopped, Event, reached, letters_of}
 use Rattle.agreement.specs.ChosenList.{chosen}
@@ -13,6 +16,10 @@ use Rattle.agreement.specs.ChosenList.{chosen}
 -- two decrees that are chosen at one place are the same
 abbrev pub AtMostOne : Type 0
 AtMostOne = (u : ℕ) (events : List Event) (place : ℕ) (a b : Decree) → Chosen u (letters_of u events) place a → Chosen u (letters_of u events) place b → a ≡ b
+
+-- in some play a Commit is chosen
+abbrev pub SomethingIsChosen : Type 0
+SomethingIsChosen = (u : ℕ) → u < 4 → (events : List Event) × ((t : token.Token) × Chosen u (letters_of u events) 1 (Commit 1 t))
 
 -- each chosen decree is backed
 abbrev pub AllBacked : Type 0
@@ -67,3 +74,11 @@ LogsAreChosen = (u : ℕ) (events : List Event) (v : ℕ) (saved : State) → re
 -- more events only add to its end
 abbrev pub ListGrows : Type 0
 ListGrows = (u : ℕ) (events more : List Event) → (new : List Decree) × (chosen u (letters_of u (events ++ more)) ≡ chosen u (letters_of u events) ++ new)
+
+-- what a record has is all that a crash leaves, and its bytes are read as just that
+pub record IsReadBack (u v : ℕ) (saved : State) : Type 0 where
+  pub fresh : saved ≡ down saved
+  pub read : length saved.log < 2 ^ 32 → IsRecord u v (record_text u v saved) saved
+
+abbrev pub RecordsAreReadBack : Type 0
+RecordsAreReadBack = (u : ℕ) (events : List Event) (v : ℕ) (saved : State) → record_of (reached u events).verifiers v ≡ Some saved → IsReadBack u v saved

@@ -1,5 +1,5 @@
 -- The verifiers of the machine are those of the code: what `verifier` promises of its calls are the machine's lines.
-use Rattle.std.specs.Prelude.{◌≡◌, ℕ, true, not, IsTrue, [], Some, None}
+use Rattle.std.specs.Prelude.{◌≡◌, ℕ, true, not, IsTrue, List, [], Option, Some, None, slice_get}
 use Rattle.verifier.specs.declared.input.Input.{Input}
 use Rattle.verifier.specs.State.{State, first_state, down}
 use Rattle.verifier.specs.Lines.{restarted}
@@ -7,7 +7,7 @@ use Rattle.verifier.specs.Step.{step}
 use Rattle.verifier.specs.Record.{record_text}
 use Rattle.verifier.specs.Seat.{Seat, outcome, handled, Opens}
 use Rattle.agreement.specs.Letters.{Letters}
-use Rattle.agreement.specs.Machine.{Slot, New, Up, Stopped, saved_after}
+use Rattle.agreement.specs.Machine.{Slot, New, Up, Stopped, Machine, StopsBefore, Event, Restart, saved_after, happens, reached}
 
 -- verifier `id` of the machine is this one of the code
 abbrev pub IsIn : ℕ → ℕ → Slot → Seat → Type 0
@@ -31,3 +31,21 @@ pub record OpenedIsDone : Type 0 where
       → IsIn u id (Up (first_state u id) (down (first_state u id))) seat × (letters ≡ [])
   pub again : (u id failures : ℕ) (s : State) (seat : Seat) (letters : Letters) → Opens u id (Some (record_text u id (down s))) failures seat letters
       → IsIn u id (Up (restarted u id (down s)).state (saved_after (down s) (restarted u id (down s)))) seat × (letters ≡ (restarted u id (down s)).letters)
+
+-- a verifier that has stopped is opened with what its slot has: an Ok of `open` over its record is a Restart of it that is done
+abbrev pub ReopenedIsDone : Type 0
+ReopenedIsDone = (u : ℕ) (events : List Event) (id : ℕ) (saved : State) (old seat : Seat) (letters : Letters)
+    → slice_get (reached u events).verifiers id ≡ Some (Stopped saved) → IsIn u id (Stopped saved) old → Opens u id old.saved old.failures seat letters
+    → IsIn u id (Up (restarted u id saved).state (saved_after saved (restarted u id saved))) seat × (letters ≡ (restarted u id saved).letters)
+
+-- what the keeper has of a verifier that is not up
+abbrev pub IsKept : ℕ → ℕ → Slot → Option (List ℕ) → Type 0
+IsKept u id New kept = kept ≡ None
+IsKept u id (Up s saved) kept = ⊥
+IsKept u id (Stopped saved) kept = kept ≡ Some (record_text u id saved)
+
+-- an Err of `open` leaves what the keeper has, so it is a Restart that stops before anything is saved, which changes nothing
+abbrev pub RefusedOpenIsStopped : Type 0
+RefusedOpenIsStopped = (u id : ℕ) (m : Machine) (slot : Slot) (before after : Option (List ℕ))
+    → slice_get m.verifiers id ≡ Some slot → IsKept u id slot before → after ≡ before
+    → IsKept u id slot after × (happens u m (Restart id StopsBefore) ≡ m)

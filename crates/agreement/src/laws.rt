@@ -1,11 +1,17 @@
 //! Laws of every reached machine. The functions do nothing: what each says is its contract.
 
-ghost use Rattle.agreement.specs.Seats.{HandledIsDone, RefusedIsStopped, OpenedIsDone};
-ghost use Rattle.agreement.specs.Laws.{AtMostOne, AllBacked, AllKept, ToldIsChosen, ListIsChosen, ListIsBacked, LogsAreChosen, ListGrows};
+ghost use Rattle.agreement.specs.Seats.{HandledIsDone, RefusedIsStopped, OpenedIsDone, ReopenedIsDone, RefusedOpenIsStopped};
+ghost use Rattle.agreement.specs.Laws.{AtMostOne, SomethingIsChosen, AllBacked, AllKept, ToldIsChosen, ListIsChosen, ListIsBacked, LogsAreChosen, ListGrows, RecordsAreReadBack};
 
 /// At each place at most one decree is chosen.
 pub fn at_most_one_is_chosen()
     ensures { AtMostOne }
+{}
+
+/// For one, three, five and seven verifiers there is a play in which a Commit is chosen: so what is
+/// said here of chosen decrees is said of something.
+pub fn something_is_chosen()
+    ensures { SomethingIsChosen }
 {}
 
 /// Each chosen decree is backed: decrees are chosen at all places before it, and where it is a
@@ -48,6 +54,12 @@ pub fn list_only_grows()
     ensures { ListGrows }
 {}
 
+/// A record of the machine has just what a crash leaves. Its bytes are read as that, where it has
+/// fewer than 2^32 decrees.
+pub fn records_are_read_back()
+    ensures { RecordsAreReadBack }
+{}
+
 /// Where a verifier of the machine is one of the code, an Ok of `Verifier::handle` is a step that is
 /// done, with its letters and its record.
 pub fn handled_is_done()
@@ -62,4 +74,16 @@ pub fn refused_is_stopped()
 /// An Ok of `Verifier::open` is a Restart that is done: of a new verifier, or from its record.
 pub fn opened_is_done()
     ensures { OpenedIsDone }
+{}
+
+/// An Ok of `Verifier::open` with the record of a verifier that has stopped is a Restart of it that
+/// is done.
+pub fn reopened_is_done()
+    ensures { ReopenedIsDone }
+{}
+
+/// An Err of `Verifier::open` is a Restart in which the verifier stops before its first save, if it
+/// has one: it changes nothing.
+pub fn refused_open_is_stopped()
+    ensures { RefusedOpenIsStopped }
 {}

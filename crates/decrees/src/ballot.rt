@@ -3,7 +3,7 @@ use token::Token;
 
 /// What executors and verifiers say to come to a decree. A view is a turn of one verifier to lead,
 /// a place is the number of a decree.
-#[derive(Clone, Copy, Debug, PartialEq, Eq)]
+#[derive(Clone, Copy, PartialEq, Eq)]
 pub enum Ballot {
     /// An executor's state after batch `n` of this epoch has this token; `previous` is the token of
     /// the state before.

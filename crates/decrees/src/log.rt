@@ -11,7 +11,7 @@ const LIMIT: usize = u32::MAX as usize;
 
 /// The decrees that are known, from the first one on without a gap. It has at most `2^32 - 1` of
 /// them.
-#[derive(Debug, Drop)]
+#[derive(Drop)]
 pub struct Log {
     decrees: Vec<Decree>,
     standing: Standing,

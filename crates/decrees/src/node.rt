@@ -1,5 +1,5 @@
 /// A node. Executors and verifiers are numbered from 0 to `2u`, clients from 1.
-#[derive(Clone, Copy, Debug, PartialEq, Eq)]
+#[derive(Clone, Copy, PartialEq, Eq)]
 pub enum Node {
     Client(u16),
     Executor(u8),
@@ -7,7 +7,7 @@ pub enum Node {
 }
 
 /// What one node says to another.
-#[derive(Clone, Copy, Debug, PartialEq, Eq, Drop)]
+#[derive(Clone, Copy, PartialEq, Eq, Drop)]
 pub struct Letter<B> {
     pub from: Node,
     pub to: Node,

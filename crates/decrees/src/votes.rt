@@ -9,7 +9,7 @@ use std::marker::Model;
 use token::Token;
 
 /// What names a vote: at most one is kept for each executor, number and epoch over each token (its bytes).
-#[derive(Clone, Copy, Debug, PartialEq, Eq, Hash)]
+#[derive(Clone, Copy, PartialEq, Eq, Hash)]
 pub struct VoteKey {
     pub epoch: u64,
     pub n: u64,

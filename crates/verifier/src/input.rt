@@ -1,7 +1,7 @@
 use decrees::{Ballot, Letter};
 
 /// What a verifier is given.
-#[derive(Clone, Copy, Debug, PartialEq, Eq)]
+#[derive(Clone, Copy, PartialEq, Eq)]
 pub enum Input {
     /// A letter to it.
     Letter(Letter<Ballot>),

@@ -2,7 +2,7 @@
 //!
 //! It stands on `view_change`, `decrees` and `keeper`. The layer above uses `Verifier::handle`: an Ok
 //! is the written step, state, letters in order and saved record, and after an error the verifier
-//! is stopped with the old record or the new one.
+//! is stopped with the record that it had before that call.
 #![tactic(auto)]
 
 mod input;

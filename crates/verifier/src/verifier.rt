@@ -86,7 +86,7 @@ impl<K: Keeper> Model for Verifier<K> {
 }
 
 impl<K: Keeper> Verifier<K> {
-    ghost use Rattle.std.specs.Prelude.{◌≡◌, ◌*◌, ◌-◌, ◌^◌, ◌<◌, ◌≤◌, ◌⊎◌, Some, None, IfOk, IfErr, IsOk, OnErr, OnOk, Err, IsTrue, not, length, true, []};
+    ghost use Rattle.std.specs.Prelude.{◌≡◌, ◌*◌, ◌-◌, ◌^◌, ◌<◌, ◌≤◌, ◌⊎◌, Some, None, IfOk, IfErr, IsOk, IsSome, OnErr, OnOk, Err, IsTrue, not, length, true, false, []};
     ghost use Rattle.std.specs.Borrow.{sem};
     ghost use Rattle.verifier.specs.Step.{fits};
     ghost use Rattle.verifier.specs.Lines.{restarted};
@@ -94,10 +94,13 @@ impl<K: Keeper> Verifier<K> {
     ghost use Rattle.verifier.specs.Lent.{LendsKeeper};
 
     /// Opens the verifier `id` of `2u + 1`. Where the keeper has no record it is new, and its first
-    /// record is saved. Else it goes on from its record, and asks the others for what it does not
-    /// know. BadRecord: the record is not one of this verifier. Stopped: the first save failed, or
-    /// its failure could not be counted. NoMemory: memory was wanting. A refused call hands the keeper back, with the record as
-    /// before.
+    /// record is saved. Else it goes on from its record, saves nothing, and asks the others for what
+    /// it does not know.
+    ///
+    /// BadRecord: the record is not one of this verifier. Stopped: there was no record, and the first
+    /// save failed, or its failure could not be counted. NoMemory: memory was wanting, and no save
+    /// failed. A refused call hands the keeper back with the record as before; one that had a record
+    /// is handed back untouched.
     pub fn open(
         alloc: Global,
         id: u8,
@@ -109,6 +112,8 @@ impl<K: Keeper> Verifier<K> {
         ensures opened { IfOk result (λ opened. Opens u id (K.saved keeper) (K.failed keeper) opened.0 opened.1.items) }
         ensures unreadable { IfErr result (λ refused. refused.0 ≡ Fault.BadRecord → IsUnreadable u id (K.saved keeper)) }
         ensures stopped { IfErr result (λ refused. refused.0 ≡ Fault.Stopped → (K.failed keeper < K.failed refused.1) ⊎ (K.failed keeper ≡ 2 ^ 64 - 1)) }
+        ensures none_failed { IfErr result (λ refused. refused.0 ≡ Fault.NoMemory → K.failed refused.1 ≡ K.failed keeper) }
+        ensures untouched { IsSome (K.saved keeper) → IfErr result (λ refused. refused.1 ≡ keeper) }
         ensures saved { IfErr result (λ refused. K.saved refused.1 ≡ K.saved keeper) }
         ensures counted { IfErr result (λ refused. K.failed keeper ≤ K.failed refused.1) }
         ensures only { IfErr result (λ refused. (refused.0 ≡ Fault.NoMemory) ⊎ (refused.0 ≡ Fault.BadRecord) ⊎ (refused.0 ≡ Fault.Stopped)) }
@@ -131,6 +136,7 @@ impl<K: Keeper> Verifier<K> {
         ensures opened { IfOk result (λ opened. Opens u id None (K.failed keeper) opened.0 opened.1.items) }
         ensures only { IfErr result (λ refused. (refused.0 ≡ Fault.NoMemory) ⊎ (refused.0 ≡ Fault.Stopped)) }
         ensures stopped { IfErr result (λ refused. refused.0 ≡ Fault.Stopped → (K.failed keeper < K.failed refused.1) ⊎ (K.failed keeper ≡ 2 ^ 64 - 1)) }
+        ensures none_failed { IfErr result (λ refused. refused.0 ≡ Fault.NoMemory → K.failed refused.1 ≡ K.failed keeper) }
         ensures saved { IfErr result (λ refused. K.saved refused.1 ≡ K.saved keeper) }
         ensures counted { IfErr result (λ refused. K.failed keeper ≤ K.failed refused.1) }
     {
@@ -186,6 +192,7 @@ impl<K: Keeper> Verifier<K> {
         ensures same { OnErr result ((self.new.id ≡ self.old.id) × (self.new.u ≡ self.old.u)) }
         ensures old_record { OnErr result (self.new.saved ≡ self.old.saved) }
         ensures counted { self.old.failures ≤ self.new.failures }
+        ensures unsaved { (outcome self.old input).saves ≡ false → self.new.failures ≡ self.old.failures }
         ensures no_memory { result ≡ Err Fault.NoMemory → self.new.failures ≡ self.old.failures }
         ensures stopped { result ≡ Err Fault.Stopped → (self.old.failures < self.new.failures) ⊎ IsAtLimit self.old input }
         ensures only { IfErr result (λ fault. (fault ≡ Fault.NoMemory) ⊎ (fault ≡ Fault.Stopped)) }
@@ -201,9 +208,10 @@ impl<K: Keeper> Verifier<K> {
     /// Does the step of the input, and gives its letters in order. What has to be saved is saved
     /// before they leave. An input that fits no line of the step changes nothing.
     ///
-    /// After an error the verifier is stopped for good, and its record is the old one. Stopped: it
-    /// was stopped before, or a save failed, or a counter is at its limit; NoMemory: memory was
-    /// wanting in this call.
+    /// After an error the verifier is stopped for good, and its record is the old one; where it was
+    /// stopped before, nothing of it changes. Stopped: it was stopped before, or a save failed, or a
+    /// counter is at its limit; NoMemory: memory was wanting in this call, and no save failed. Where
+    /// the step saves nothing, no save is tried.
     pub fn handle(&mut self, alloc: Global, input: Input) -> Result<Vec<Letter<Ballot>>, Fault>
         ensures done { IfOk result (λ letters. self.new ≡ handled self.old input) }
         ensures letters { IfOk result (λ letters. letters.items ≡ (outcome self.old input).letters) }
@@ -215,9 +223,11 @@ impl<K: Keeper> Verifier<K> {
         ensures same { OnErr result ((self.new.id ≡ self.old.id) × (self.new.u ≡ self.old.u)) }
         ensures old_record { OnErr result (self.new.saved ≡ self.old.saved) }
         ensures counted { self.old.failures ≤ self.new.failures }
+        ensures unsaved { (outcome self.old input).saves ≡ false → self.new.failures ≡ self.old.failures }
 
         // When each comes.
         ensures stopped_before { IsTrue (not self.old.up) → result ≡ Err Fault.Stopped }
+        ensures unchanged { IsTrue (not self.old.up) → self.new ≡ self.old }
         ensures save_failed { self.old.failures < self.new.failures → result ≡ Err Fault.Stopped }
         ensures stopped { result ≡ Err Fault.Stopped → IsTrue (not self.old.up) ⊎ (self.old.failures < self.new.failures) ⊎ IsAtLimit self.old input }
         ensures only { IfErr result (λ fault. (fault ≡ Fault.NoMemory) ⊎ (fault ≡ Fault.Stopped)) }

@@ -1,5 +1,5 @@
-//! Tests of `verifier` by its public calls: verifiers whose letters are carried by hand, records that
-//! are cut or changed, saves that fail.
+//! Tests of `verifier` by its public calls: schedules, which are played line by line, and records that
+//! are cut or changed.
 #![tactic(auto)]
 
 #[cfg(test)]

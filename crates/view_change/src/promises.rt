@@ -10,7 +10,7 @@ use std::marker::Model;
 
 /// What a verifier has promised to a leader: how many decrees it knows, and what it has accepted,
 /// and in which view, for the place after them.
-#[derive(Clone, Copy, Debug, PartialEq, Eq)]
+#[derive(Clone, Copy, PartialEq, Eq)]
 pub struct Promise {
     pub from: u8,
     pub known: u64,
@@ -29,7 +29,7 @@ pub enum Choice {
 }
 
 /// The promises that a leader has in its view, at most one of a sender: the first one stays.
-#[derive(Debug, Drop)]
+#[derive(Drop)]
 pub struct Promises {
     promises: Vec<Promise>,
 }

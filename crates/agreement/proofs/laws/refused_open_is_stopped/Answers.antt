@@ -1,0 +1,5 @@
+use Rattle.agreement.proofs.Seats.{refused_open_is_stopped}
+use Rattle.agreement.proofs.laws.refused_open_is_stopped.Goals as goal
+
+pub returns : goal.returns
+returns c = refused_open_is_stopped

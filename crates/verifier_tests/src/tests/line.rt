@@ -1,0 +1,138 @@
+//! The words of a line.
+
+use decrees::{Ballot, Decree, Node};
+use std::alloc::{AllocError, Global};
+use token::Token;
+
+pub fn words(alloc: Global, text: &str) -> Result<Vec<&str>, AllocError> {
+    text.split_whitespace().collect(alloc)
+}
+
+/// The node that a word names: `v1`, `e0` or `c9`.
+pub fn node(word: &str) -> Option<Node> {
+    let number = word.get(1..)?;
+    if word.starts_with('v') {
+        return Some(Node::Verifier(number.parse().ok()?));
+    }
+    if word.starts_with('e') {
+        return Some(Node::Executor(number.parse().ok()?));
+    }
+    Some(Node::Client(number.parse().ok()?))
+}
+
+/// The number of the verifier that a word names.
+pub fn verifier(word: &str) -> Option<u8> {
+    match node(word)? {
+        Node::Verifier(id) => Some(id),
+        _ => None,
+    }
+}
+
+/// The number after this name, which stands at this place.
+pub fn number(words: &[&str], at: usize, name: &str) -> Option<u64> {
+    if *words.get(at)? != name {
+        return None;
+    }
+    words.get(at.wrapping_add(1))?.parse().ok()
+}
+
+/// The token of 32 bytes that are this number.
+fn token(words: &[&str], at: usize, name: &str) -> Option<Token> {
+    let byte = u8::try_from(number(words, at, name)?).ok()?;
+    Some(Token([byte; 32]))
+}
+
+/// `rollback` or `commit 1 token 7`.
+fn decree(words: &[&str]) -> Option<Decree> {
+    if *words.first()? == "rollback" {
+        return Some(Decree::Rollback);
+    }
+    let n = number(words, 0, "commit")?;
+    let token = token(words, 2, "token")?;
+    Some(Decree::Commit { n, token })
+}
+
+/// `nothing` or `view 0 commit 1 token 7`.
+fn accepted(words: &[&str]) -> Option<Option<(u64, Decree)>> {
+    if *words.first()? == "nothing" {
+        return Some(None);
+    }
+    let view = number(words, 0, "view")?;
+    let decree = decree(words.get(2..)?)?;
+    Some(Some((view, decree)))
+}
+
+/// `token 7 of batch 1 epoch 1 over 0`.
+fn token_said(words: &[&str]) -> Option<Ballot> {
+    let token = token(words, 0, "token")?;
+    let n = number(words, 3, "batch")?;
+    let epoch = number(words, 5, "epoch")?;
+    let previous = self::token(words, 7, "over")?;
+    Some(Ballot::Token {
+        epoch,
+        n,
+        previous,
+        token,
+    })
+}
+
+/// `accept view 0 place 1 rollback`.
+fn accept(words: &[&str]) -> Option<Ballot> {
+    let view = number(words, 1, "view")?;
+    let place = number(words, 3, "place")?;
+    let decree = decree(words.get(5..)?)?;
+    Some(Ballot::Accept {
+        view,
+        place,
+        decree,
+    })
+}
+
+/// `accepted view 0 place 1 rollback`.
+fn accepted_said(words: &[&str]) -> Option<Ballot> {
+    let view = number(words, 1, "view")?;
+    let place = number(words, 3, "place")?;
+    let decree = decree(words.get(5..)?)?;
+    Some(Ballot::Accepted {
+        view,
+        place,
+        decree,
+    })
+}
+
+/// `decided place 1 rollback`.
+fn decided(words: &[&str]) -> Option<Ballot> {
+    let place = number(words, 1, "place")?;
+    let decree = decree(words.get(3..)?)?;
+    Some(Ballot::Decided { place, decree })
+}
+
+/// `promise view 1 knows 0 accepted nothing`.
+fn promise(words: &[&str]) -> Option<Ballot> {
+    let view = number(words, 1, "view")?;
+    let known = number(words, 3, "knows")?;
+    let accepted = accepted(words.get(6..)?)?;
+    Some(Ballot::Promise {
+        view,
+        known,
+        accepted,
+    })
+}
+
+/// What a letter says.
+pub fn ballot(words: &[&str]) -> Option<Ballot> {
+    match *words.first()? {
+        "token" => token_said(words),
+        "accept" => accept(words),
+        "accepted" => accepted_said(words),
+        "decided" => decided(words),
+        "promise" => promise(words),
+        "change" => Some(Ballot::Change {
+            view: number(words, 1, "view")?,
+        }),
+        "ask" => Some(Ballot::Ask {
+            place: number(words, 1, "place")?,
+        }),
+        _ => None,
+    }
+}
