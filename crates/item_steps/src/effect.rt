@@ -10,7 +10,7 @@ use proto::{BLOCK_LIMIT, Block, Reply, StoreVerb, Update};
 use std::alloc::{AllocError, Global};
 
 /// What an update does to the item of its key.
-#[derive(Debug, Drop)]
+#[derive(Drop)]
 pub enum Change {
     Leave,
     Put(Item),

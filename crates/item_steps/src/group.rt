@@ -7,7 +7,7 @@ use std::alloc::AllocError;
 use std::marker::Model;
 
 /// The steps of one request, in order.
-#[derive(Debug, Drop)]
+#[derive(Drop)]
 pub struct Steps {
     steps: Vec<Step>,
 }
@@ -36,14 +36,14 @@ impl Steps {
 }
 
 /// A request of a batch by its place, and its steps.
-#[derive(Debug, Drop)]
+#[derive(Drop)]
 pub struct Task {
     pub place: u32,
     pub steps: Steps,
 }
 
 /// The requests that run at once.
-#[derive(Debug, Drop)]
+#[derive(Drop)]
 pub struct Group {
     tasks: Vec<Task>,
 }

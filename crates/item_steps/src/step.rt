@@ -7,21 +7,21 @@ use proto::{Command, Found, Key, Reply, Update, Values};
 use std::alloc::{AllocError, Global};
 
 /// One read or one update of one key.
-#[derive(Debug, Drop)]
+#[derive(Drop)]
 pub enum Step {
     Read(Key),
     Update(Update),
 }
 
 /// What a step gave.
-#[derive(Debug, Drop)]
+#[derive(Drop)]
 pub enum Answer {
     Seen(Option<Item>),
     Did(Reply),
 }
 
 /// The moment of a step's batch, and the stamp of its request.
-#[derive(Clone, Copy, Debug, PartialEq, Eq)]
+#[derive(Clone, Copy, PartialEq, Eq)]
 pub struct Place {
     pub moment: u32,
     pub stamp: u64,

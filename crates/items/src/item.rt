@@ -5,7 +5,7 @@ use proto::Block;
 use std::alloc::AllocError;
 
 /// What is kept under a key.
-#[derive(Debug, Drop)]
+#[derive(Drop)]
 pub struct Item {
     pub block: Block,
     pub flags: u32,

@@ -37,16 +37,19 @@ reads_close bytes (Close notice ∷ turns) left rest turn new h e c k d = absurd
 reads_close bytes (Say notice ∷ turns) left rest turn new h e c k d = (h.0, h.1, reads_close h.0 turns left rest turn new h.2 e c k d)
 reads_close bytes (Ask command quiet ∷ turns) left rest turn new h e c k d = (h.0, h.1, reads_close h.0 turns left rest turn new h.2 e c k d)
 
-none_at_stage : (header : Option Header) (line block : List ℕ) (d : ℕ) → IsStageOf header line block d → next_turn (line ++ (zeros d ++ block)) ≡ None
+none_at_stage : (size : Option ℕ) (line block : List ℕ) (d : ℕ) → IsStageOf size line block d → next_turn (line ++ (zeros d ++ block)) ≡ None
 none_at_stage None line block d i = ap next_turn (rw (i.none_dropped, i.no_block) (append-nil line)) ∙ next_none line i.one_line i.short
-none_at_stage (Some h) line block d b = ap next_turn (sym (append-nil (line ++ (zeros d ++ block)))) ∙ next_more h line block d b [] (omega (arith, b.partial))
+none_at_stage (Some size) line block d i = ap next_turn (sym (append-nil (line ++ (zeros d ++ block)))) ∙ next_more i.0 line block d i.2 [] (omega (arith, i.2.partial))
 
-kept_at_stage : (header : Option Header) (line block : List ℕ) (d : ℕ) → IsStageOf header line block d → kept_of (line ++ (zeros d ++ block)) ≡ line ++ (zeros d ++ block)
+kept_at_stage : (size : Option ℕ) (line block : List ℕ) (d : ℕ) → IsStageOf size line block d → kept_of (line ++ (zeros d ++ block)) ≡ line ++ (zeros d ++ block)
 kept_at_stage None line block d i =
     let only : line ++ (zeros d ++ block) ≡ line = rw (i.none_dropped, i.no_block) (append-nil line) in
     ap kept_of only ∙ kept_plain line i.one_line ∙ sym only
-kept_at_stage (Some h) line block d b = ap kept_of (sym (append-nil (line ++ (zeros d ++ block)))) ∙ kept_more h line block d b [] ∙ none_more (nat_lt block_limit h.size)
+kept_at_stage (Some size) line block d i = ap kept_of (sym (append-nil (line ++ (zeros d ++ block)))) ∙ kept_more i.0 line block d i.2 [] ∙ none_more (nat_lt block_limit h.size)
   where
+    h : Header
+    h = i.0
+
     least : min (h.size - d) 0 ≡ 0
     least = grind (arith, nat_tests)
 
@@ -61,8 +64,8 @@ pub begins : (s : Stage) (piece : List ℕ) → IsStage s → IsReading (bytes_o
 begins s piece i = record {
   left = bytes_of s;
   so_far = refl;
-  none = none_at_stage s.header s.line s.block s.dropped i;
-  kept = sym (kept_at_stage s.header s.line s.block s.dropped i);
+  none = none_at_stage s.size s.line s.block s.dropped i;
+  kept = sym (kept_at_stage s.size s.line s.block s.dropped i);
   same = λ more. refl;
   stage = i;
 }
@@ -108,11 +111,11 @@ closed_keeps bytes (Ask command quiet ∷ turns) new r c = closed_keeps r.0 turn
 
 -- what stands is at most a line and a block at the limit, with their ends
 pub held_within : (s : Stage) → IsStage s → length s.line + length s.block ≤ 67586
-held_within s i = by s.header s.line s.block s.dropped i
+held_within s i = by s.size s.line s.block s.dropped i
   where
-    by : (header : Option Header) (line block : List ℕ) (d : ℕ) → IsStageOf header line block d → length line + length block ≤ 67586
+    by : (size : Option ℕ) (line block : List ℕ) (d : ℕ) → IsStageOf size line block d → length line + length block ≤ 67586
     by None line block d i = rw i.no_block (omega (arith, i.short))
-    by (Some h) line block d b = rw (b.line_is, length-append b.text (10 ∷ [])) (in_block h line block d b (nat_lt block_limit h.size) refl)
+    by (Some size) line block d i = rw (i.2.line_is, length-append i.2.text (10 ∷ [])) (in_block i.0 line block d i.2 (nat_lt block_limit i.0.size) refl)
       where
         in_block : (h : Header) (line block : List ℕ) (d : ℕ) (b : InBlock h line block d) (big : Bool) → nat_lt block_limit h.size ≡ big → length b.text + 1 + length block ≤ 67586
         in_block h line block d b true is = some block d b.partial (b.blank is) b.short

@@ -11,7 +11,8 @@ use Rattle.proto.specs.declared.turn.Notice.TheVariants.{LineTooLong}
 use Rattle.proto.specs.declared.stage.Cut.{Cut}
 use Rattle.proto.specs.declared.stage.Cut.TheVariants.{End, TooLong, Open}
 use Rattle.proto.specs.declared.line.Header.{Header}
-use Rattle.proto.specs.declared.line.Line.TheVariants.{Opens}
+use Rattle.proto.specs.declared.line.Line.{Line}
+use Rattle.proto.specs.declared.line.Line.TheVariants.{Whole, Opens}
 use Rattle.proto.specs.declared.stage.Stage.{Stage}
 
 abbrev pub HasNoNewline : List ℕ → Type 0
@@ -36,12 +37,18 @@ pub record InLine (line block : List ℕ) (dropped : ℕ) : Type 0 where
   pub no_block : block ≡ []
   pub none_dropped : dropped ≡ 0
 
-abbrev pub IsStageOf : Option Header → List ℕ → List ℕ → ℕ → Type 0
+-- part of a line stands, or a storage line whose block has this size
+abbrev pub IsStageOf : Option ℕ → List ℕ → List ℕ → ℕ → Type 0
 IsStageOf None line block dropped = InLine line block dropped
-IsStageOf (Some h) line block dropped = InBlock h line block dropped
+IsStageOf (Some size) line block dropped = (h : Header) × (h.size ≡ size) × InBlock h line block dropped
 
 abbrev pub IsStage : Stage → Type 0
-IsStage s = IsStageOf s.header s.line s.block s.dropped
+IsStage s = IsStageOf s.size s.line s.block s.dropped
+
+-- a block follows the line
+abbrev pub OpensBlock : Line → Type 0
+OpensBlock (Whole turn) = ⊥
+OpensBlock (Opens h) = Unit {0}
 
 -- the bytes that it stands for
 abbrev pub bytes_of : Stage → List ℕ
@@ -52,14 +59,14 @@ abbrev pub Takes : List ℕ → List ℕ → Stage → Type 0
 Takes bytes piece new = (next_turn (bytes ++ piece) ≡ None) × (bytes_of new ≡ kept_of (bytes ++ piece))
 
 -- neither the line nor the block ends in the piece
-abbrev pub GoesOn : Option Header → List ℕ → List ℕ → ℕ → List ℕ → Type 0
+abbrev pub GoesOn : Option ℕ → List ℕ → List ℕ → ℕ → List ℕ → Type 0
 GoesOn None line block dropped piece = HasNoNewline (line ++ piece) × (length (line ++ piece) < line_limit)
-GoesOn (Some h) line block dropped piece = dropped + length block + length piece < h.size + 2
+GoesOn (Some size) line block dropped piece = dropped + length block + length piece < size + 2
 
 -- the block and its end are there with the piece, if a block stands
-abbrev pub BlockEnds : Option Header → List ℕ → ℕ → List ℕ → Type 0
+abbrev pub BlockEnds : Option ℕ → List ℕ → ℕ → List ℕ → Type 0
 BlockEnds None block dropped piece = Unit {0}
-BlockEnds (Some h) block dropped piece = h.size + 2 ≤ dropped + length block + length piece
+BlockEnds (Some size) block dropped piece = size + 2 ≤ dropped + length block + length piece
 
 -- A step took n bytes of the piece, and gave this turn, or none so far. Where it gave none and more is there, it dropped nothing.
 abbrev pub StepGives : List ℕ → List ℕ → Option Turn → ℕ → Stage → Type 0

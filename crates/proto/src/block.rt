@@ -8,7 +8,7 @@ use std::marker::Model;
 pub const BLOCK_LIMIT: usize = 65536;
 
 /// The data of an item, or the block of a storage line: at most `BLOCK_LIMIT` bytes.
-#[derive(Debug, Drop)]
+#[derive(Drop)]
 pub struct Block {
     bytes: Vec<u8>,
 }

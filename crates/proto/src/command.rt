@@ -6,7 +6,7 @@ use crate::key::{Key, Keys};
 use std::alloc::AllocError;
 
 /// Which storage line it is.
-#[derive(Clone, Copy, Debug, PartialEq, Eq)]
+#[derive(Clone, Copy, PartialEq, Eq)]
 pub enum StoreVerb {
     Set,
     Add,
@@ -16,7 +16,7 @@ pub enum StoreVerb {
 }
 
 /// A command that changes one key.
-#[derive(Debug, Drop)]
+#[derive(Drop)]
 pub enum Update {
     Store {
         verb: StoreVerb,
@@ -50,7 +50,7 @@ pub enum Update {
 }
 
 /// What a client asks.
-#[derive(Debug, Drop)]
+#[derive(Drop)]
 pub enum Command {
     Get(Keys),
     /// With the unique of each item.

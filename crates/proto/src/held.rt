@@ -1,27 +1,44 @@
-ghost use Rattle.std.specs.Prelude.{◌≡◌, ◌++◌, [], length, take, OnOk, OnErr};
+ghost use Rattle.std.specs.Prelude.{◌≡◌, ◌≤◌, ◌+◌, ◌++◌, [], length, take, IfOk, OnOk, OnErr};
+ghost use Rattle.proto.specs.Limits.{block_limit};
 
-use std::alloc::AllocError;
+use std::alloc::{AllocError, Global};
 use std::marker::Model;
 
-/// Bytes that are held until the turn that they belong to ends.
-#[derive(Debug, Drop)]
+/// Bytes that are held until the turn that they belong to ends. Nothing else in a reader owns memory.
+/// Room is asked for at most for a block at its limit and the two bytes after it.
+#[derive(Drop)]
 pub struct Held {
     bytes: Vec<u8>,
 }
 
 impl Model for Held {
-    ghost use Rattle.std.specs.Prelude.{List, ℕ};
+    ghost use Rattle.std.specs.Prelude.{◌≡◌, List, ℕ};
 
     ghost Value = { List ℕ };
 
     ghost view = { λ a. a.bytes.items };
+
+    // Nothing stands beside the bytes.
+    ghost invariant = { λ a. a ≡ record { bytes = a.bytes } };
 }
 
 impl Held {
-    pub fn new(bytes: Vec<u8>) -> Held
-        ensures { result ≡ bytes.items }
+    pub fn new(alloc: Global) -> Held
+        ensures { result ≡ [] }
     {
-        Held { bytes }
+        Held {
+            bytes: Vec::new(alloc),
+        }
+    }
+
+    /// With room for so many bytes.
+    pub fn with_room(alloc: Global, room: usize) -> Result<Held, AllocError>
+        requires { room ≤ block_limit + 2 }
+        ensures { IfOk result (λ held. held ≡ []) }
+    {
+        Ok(Held {
+            bytes: Vec::with_capacity(alloc, room)?,
+        })
     }
 
     pub fn as_slice(&self) -> &[u8]
@@ -50,6 +67,7 @@ impl Held {
 
     /// Makes room for so many more bytes.
     pub fn reserve(&mut self, more: usize) -> Result<(), AllocError>
+        requires { more ≤ block_limit + 2 }
         ensures { self.new ≡ self.old }
     {
         self.bytes.reserve(more)

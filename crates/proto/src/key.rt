@@ -9,7 +9,7 @@ use std::cmp::Ordering;
 use std::marker::Model;
 
 /// A key: 1 to 250 bytes, each a printing one that is no space.
-#[derive(Debug, Drop)]
+#[derive(Drop)]
 pub struct Key {
     bytes: Vec<u8>,
 }
@@ -68,7 +68,7 @@ impl Key {
 }
 
 /// The keys of a line of `get`: 1 to 64 of them.
-#[derive(Debug, Drop)]
+#[derive(Drop)]
 pub struct Keys {
     keys: Vec<Key>,
 }

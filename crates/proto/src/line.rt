@@ -1,14 +1,11 @@
 //! What a line asks by itself.
 
-ghost use Rattle.std.specs.Prelude.{◌≡◌};
-
 use crate::command::StoreVerb;
 use crate::key::Key;
 use crate::turn::Turn;
-use std::alloc::AllocError;
 
 /// The line of a storage command: its block follows.
-#[derive(Debug, Drop)]
+#[derive(Drop)]
 pub struct Header {
     pub kind: Kind,
     pub key: Key,
@@ -19,7 +16,7 @@ pub struct Header {
 }
 
 /// The command of a storage line.
-#[derive(Clone, Copy, Debug, PartialEq, Eq)]
+#[derive(Clone, Copy, PartialEq, Eq)]
 pub enum Kind {
     Plain(StoreVerb),
     /// With the unique that is asked for.
@@ -27,7 +24,7 @@ pub enum Kind {
 }
 
 /// What a line is.
-#[derive(Debug, Drop)]
+#[derive(Drop)]
 pub enum Line {
     /// A turn by itself.
     Whole(Turn),
@@ -36,7 +33,7 @@ pub enum Line {
 }
 
 /// The names of commands.
-#[derive(Clone, Copy, Debug, PartialEq, Eq)]
+#[derive(Clone, Copy, PartialEq, Eq)]
 pub enum Name {
     Store(StoreVerb),
     Cas,
@@ -48,19 +45,4 @@ pub enum Name {
     Decr,
     Version,
     Quit,
-}
-
-impl Clone for Header {
-    ghost is_clone = { λ header copy. copy ≡ header };
-
-    fn clone(&self) -> Result<Header, AllocError> {
-        Ok(Header {
-            kind: self.kind,
-            key: self.key.clone()?,
-            flags: self.flags,
-            exptime: self.exptime,
-            size: self.size,
-            quiet: self.quiet,
-        })
-    }
 }

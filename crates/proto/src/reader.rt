@@ -11,23 +11,23 @@ use std::marker::Model;
 
 /// Reads a client's stream. It keeps what came of the next turn: at most 65,536 + 2,050 bytes. The
 /// bytes of a block above the limit are only counted.
-#[derive(Debug, Drop)]
+#[derive(Drop)]
 pub struct Reader {
     stage: Stage,
     closed: bool,
 }
 
 impl Model for Reader {
-    ghost use Rattle.std.specs.Prelude.{◌≡◌, [], true};
     ghost use Rattle.proto.specs.Reader.{Reading};
 
     ghost Value = { Reading };
 
-    ghost use Rattle.proto.specs.Stage.{IsStage, bytes_of, reading};
+    ghost use Rattle.proto.specs.Stage.{reading};
+    ghost use Rattle.proto.specs.Inside.{IsReader};
 
     ghost view = { λ a. reading a.stage a.closed };
 
-    ghost invariant = { λ a. IsStage a.stage × (a.closed ≡ true → bytes_of a.stage ≡ []) };
+    ghost invariant = { IsReader };
 }
 
 /// Reads all of the piece, or up to a Close: the turns, and whether the last one closes.

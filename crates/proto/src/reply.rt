@@ -7,7 +7,7 @@ use std::alloc::AllocError;
 use std::marker::Model;
 
 /// One item that a `get` found, and its unique for a `gets`.
-#[derive(Debug, Drop)]
+#[derive(Drop)]
 pub struct Found {
     pub key: Key,
     pub flags: u32,
@@ -16,7 +16,7 @@ pub struct Found {
 }
 
 /// What a line of `get` found, in the order of its keys: at most as many items as it has keys, 64.
-#[derive(Debug, Drop)]
+#[derive(Drop)]
 pub struct Values {
     found: Vec<Found>,
 }
@@ -50,7 +50,7 @@ impl Values {
 }
 
 /// The answer to a command.
-#[derive(Debug, Drop)]
+#[derive(Drop)]
 pub enum Reply {
     Stored,
     NotStored,

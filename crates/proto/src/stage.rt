@@ -1,10 +1,12 @@
 //! What stands of the turn that comes next.
 
-ghost use Rattle.std.specs.Prelude.{◌≡◌, ◌≤◌, ◌<◌, ◌+◌, ◌-◌, ◌^◌, ◌++◌, ◌∷◌, [], length, take, drop, IfOk, OnOk, OnErr, None, IsSome, min, nat_lt, if◌then◌else◌};
+ghost use Rattle.std.specs.Prelude.{◌≡◌, ◌≤◌, ◌<◌, ◌+◌, ◌-◌, ◌^◌, ◌++◌, ◌∷◌, [], length, take, drop, IfOk, OnOk, OnErr, None, Some, min, nat_lt, if◌then◌else◌};
 ghost use Rattle.std.specs.Bool.{OnTrue, OnFalse};
 ghost use Rattle.proto.specs.Limits.{block_limit};
+ghost use Rattle.proto.specs.Line.{meaning};
+ghost use Rattle.proto.specs.declared.line.Line.TheVariants.{Opens};
 ghost use Rattle.proto.specs.Grammar.{block_turn, filled, line_limit};
-ghost use Rattle.proto.specs.Stage.{HasNoNewline, InLine, InBlock, IsStage, bytes_of, StepGives, Takes, GoesOn, BlockEnds, FindsNewline, Cuts};
+ghost use Rattle.proto.specs.Stage.{HasNoNewline, InLine, OpensBlock, IsStage, IsStageOf, bytes_of, StepGives, Takes, GoesOn, BlockEnds, FindsNewline, Cuts};
 
 use crate::block::{BLOCK_LIMIT, Block};
 use crate::command::{Command, Update};
@@ -19,18 +21,21 @@ use std::mem;
 /// How many bytes a line has at most, with its newline.
 const LINE_LIMIT: usize = 2048;
 
-/// A line, or a storage line and part of its block.
-#[derive(Debug, Drop)]
+/// A line, or a storage line and part of its block. What the line asks beside the size of its block
+/// is read once more when the block ends.
+#[derive(Drop)]
 pub struct Stage {
+    /// With its newline, where a block follows.
     pub line: Held,
-    pub header: Option<Header>,
     pub block: Held,
+    /// How many bytes the block has, where the line opens one.
+    pub size: Option<u32>,
     /// How many bytes of the block are only counted.
     pub dropped: usize,
 }
 
 /// How a line goes on in a piece.
-#[derive(Debug, Drop)]
+#[derive(Drop)]
 enum Cut {
     /// The place of its newline.
     End(usize),
@@ -114,12 +119,12 @@ fn end_turn(header: Header, mut held: Held) -> Turn
 }
 
 /// How many of the next bytes of a block are only counted.
-fn skip_of(header: &Header, dropped: usize, n: usize) -> usize
-    requires { dropped ≤ header.now.size }
-    ensures skip { result ≡ (if nat_lt block_limit header.now.size then min (header.now.size - dropped) n else 0) }
+fn skip_of(size: u32, dropped: usize, n: usize) -> usize
+    requires { dropped ≤ size }
+    ensures skip { result ≡ (if nat_lt block_limit size then min (size - dropped) n else 0) }
     ensures fits { dropped + result < 2 ^ 32 }
 {
-    let size = header.size as usize;
+    let size = size as usize;
     if size > BLOCK_LIMIT {
         (size - dropped).min(n)
     } else {
@@ -128,9 +133,24 @@ fn skip_of(header: &Header, dropped: usize, n: usize) -> usize
 }
 
 /// How many bytes of a block, with the two after it, are held at most.
-fn room_of(header: &Header) -> usize {
-    let size = header.size as usize;
+fn room_of(size: u32) -> usize
+    ensures { result ≤ block_limit + 2 }
+{
+    let size = size as usize;
     if size > BLOCK_LIMIT { 2 } else { size + 2 }
+}
+
+/// What a correct storage line asks, of the line with its newline.
+fn header_of(alloc: Global, line: &[u8]) -> Result<Header, AllocError>
+    requires some { 0 < length line.now }
+    requires opens { OpensBlock (meaning (take (length line.now - 1) line.now)) }
+    ensures { IfOk result (λ header. Opens header ≡ meaning (take (length line.now - 1) line.now)) }
+{
+    let (text, _) = line.split_at(line.len() - 1);
+    match line_meaning(alloc, text)? {
+        Line::Opens(header) => Ok(header),
+        Line::Whole(_) => unreachable!(),
+    }
 }
 
 impl Stage {
@@ -139,9 +159,9 @@ impl Stage {
         ensures empty { bytes_of result ≡ [] }
     {
         Stage {
-            line: Held::new(Vec::new(alloc)),
-            header: None,
-            block: Held::new(Vec::new(alloc)),
+            line: Held::new(alloc),
+            block: Held::new(alloc),
+            size: None,
             dropped: 0,
         }
     }
@@ -150,16 +170,16 @@ impl Stage {
     pub fn copy(&self, alloc: Global) -> Result<Stage, AllocError>
         ensures { IfOk result (λ copy. copy ≡ self.now) }
     {
-        let room = match &self.header {
+        let room = match self.size {
             None => 0,
-            Some(header) => room_of(header),
+            Some(size) => room_of(size),
         };
-        let mut block = Held::new(Vec::with_capacity(alloc, room)?);
+        let mut block = Held::with_room(alloc, room)?;
         block.extend(self.block.as_slice())?;
         Ok(Stage {
             line: self.line.clone()?,
-            header: self.header.clone()?,
             block,
+            size: self.size,
             dropped: self.dropped,
         })
     }
@@ -167,13 +187,13 @@ impl Stage {
     /// Whether neither the line nor the block ends in the piece.
     pub fn goes_on(&self, piece: &[u8]) -> bool
         requires { IsStage self.now }
-        ensures goes { OnTrue result (GoesOn self.now.header self.now.line self.now.block self.now.dropped piece.now) }
-        ensures ends { OnFalse result (BlockEnds self.now.header self.now.block self.now.dropped piece.now) }
+        ensures goes { OnTrue result (GoesOn self.now.size self.now.line self.now.block self.now.dropped piece.now) }
+        ensures ends { OnFalse result (BlockEnds self.now.size self.now.block self.now.dropped piece.now) }
     {
-        match &self.header {
+        match self.size {
             None => { piece.len() < LINE_LIMIT - self.line.len() && newline_in(piece).is_none() }
-            Some(header) => {
-                let need = header.size as usize + 2 - self.dropped - self.block.len();
+            Some(size) => {
+                let need = size as usize + 2 - self.dropped - self.block.len();
                 piece.len() < need
             }
         }
@@ -182,15 +202,15 @@ impl Stage {
     /// Adds a piece in which neither the line nor the block ends. An `Err` changes nothing.
     pub fn extend(&mut self, piece: &[u8]) -> Result<(), AllocError>
         requires stage { IsStage self.old }
-        requires goes_on { GoesOn self.old.header self.old.line self.old.block self.old.dropped piece.now }
+        requires goes_on { GoesOn self.old.size self.old.line self.old.block self.old.dropped piece.now }
         ensures takes { OnOk result (Takes (bytes_of self.old) piece.now self.new) }
         ensures stage { IsStage self.new }
         ensures err { OnErr result (self.new ≡ self.old) }
     {
-        match &self.header {
+        match self.size {
             None => self.line.extend(piece),
-            Some(header) => {
-                let skip = skip_of(header, self.dropped, piece.len());
+            Some(size) => {
+                let skip = skip_of(size, self.dropped, piece.len());
                 let (_, keep) = piece.split_at(skip);
                 self.block.extend(keep)?;
                 self.dropped += skip;
@@ -204,7 +224,7 @@ impl Stage {
         alloc: Global,
         piece: &[u8],
     ) -> Result<(Option<Turn>, usize), AllocError>
-        requires none { self.old.header ≡ None }
+        requires none { self.old.size ≡ None }
         requires line { InLine self.old.line self.old.block self.old.dropped }
         requires some { 0 < length piece.now }
         ensures gives { IfOk result (λ r. StepGives (bytes_of self.old) piece.now r.0 r.1 self.new) }
@@ -228,9 +248,9 @@ impl Stage {
                         Ok((Some(turn), at + 1))
                     }
                     Line::Opens(header) => {
-                        self.block.reserve(room_of(&header))?;
+                        self.block.reserve(room_of(header.size))?;
                         self.line.extend(b"\n".as_slice())?;
-                        self.header = Some(header);
+                        self.size = Some(header.size);
                         Ok((None, at + 1))
                     }
                 }
@@ -242,22 +262,23 @@ impl Stage {
     fn end_block(
         &mut self,
         alloc: Global,
-        header: Header,
+        size: u32,
         piece: &[u8],
     ) -> Result<(Option<Turn>, usize), AllocError>
-        requires none { self.old.header ≡ None }
-        requires inside { InBlock header self.old.line self.old.block self.old.dropped }
-        requires ends { header.size + 2 ≤ self.old.dropped + length self.old.block + length piece.now }
+        requires inside { IsStageOf (Some size) self.old.line self.old.block self.old.dropped }
+        requires ends { size + 2 ≤ self.old.dropped + length self.old.block + length piece.now }
         ensures gives { IfOk result (λ r. StepGives (bytes_of self.old) piece.now r.0 r.1 self.new) }
         ensures stage { OnOk result (IsStage self.new) }
     {
-        let n = header.size as usize + 2 - self.dropped - self.block.len();
+        let n = size as usize + 2 - self.dropped - self.block.len();
         let (front, _) = piece.split_at(n);
-        let skip = skip_of(&header, self.dropped, n);
+        let skip = skip_of(size, self.dropped, n);
         let (_, keep) = front.split_at(skip);
         self.block.extend(keep)?;
-        let held = mem::replace(&mut self.block, Held::new(Vec::new(alloc)));
+        let header = header_of(alloc, self.line.as_slice())?;
+        let held = mem::replace(&mut self.block, Held::new(alloc));
         self.line.clear();
+        self.size = None;
         self.dropped = 0;
         Ok((Some(end_turn(header, held)), n))
     }
@@ -269,13 +290,13 @@ impl Stage {
         ensures gives { IfOk result (λ r. StepGives (bytes_of self.old) piece.now r.0 r.1 self.new) }
         ensures stage { OnOk result (IsStage self.new) }
     {
-        if self.header.is_some() && self.goes_on(piece) {
+        if self.size.is_some() && self.goes_on(piece) {
             self.extend(piece)?;
             return Ok((None, piece.len()));
         }
-        match self.header.take() {
+        match self.size {
             None => self.step_line(alloc, piece),
-            Some(header) => self.end_block(alloc, header, piece),
+            Some(size) => self.end_block(alloc, size, piece),
         }
     }
 }

@@ -1,4 +1,4 @@
-use Rattle.std.proofs.Common.{◌≡◌, ◌≤◌, ◌++◌, sym, ap, ◌∙◌, rules, subst}
+use Rattle.std.proofs.Common.{◌≡◌, ◌≤◌, ◌++◌, refl, sym, ap, ◌∙◌, rules, subst}
 use Rattle.proto.specs.Reader.{Reads}
 use Rattle.proto.specs.Stage.{IsStage, bytes_of, reading}
 use Rattle.proto.proofs.ReaderLemmas.{closed_keeps, held_within}
@@ -7,13 +7,17 @@ use Rattle.proto.proofs.reader.Reader.feed.Goals as goal
 pub read_piece-requires : goal.read_piece-requires
 read_piece-requires c =
     let same : c.in_ok-stage.stage ≡ c.self.inside.stage = search rules in
-    subst IsStage (sym same) c.self.invariant.0
+    subst IsStage (sym same) c.self.invariant.stage
 
 pub returns-in_err-turns-clause-held : goal.returns-in_err-turns-clause-held
-returns-in_err-turns-clause-held c = subst (λ r. r.held ≤ 67586) c.self.view_is (held_within c.self.inside.stage c.self.invariant.0)
+returns-in_err-turns-clause-held c = subst (λ r. r.held ≤ 67586) c.self.view_is (held_within c.self.inside.stage c.self.invariant.stage)
 
 pub invariant_of-self-2 : goal.invariant_of-self-2
-invariant_of-self-2 c = (c.in_ok-turns.ensures.stage, λ closed. closed_keeps _ c.in_ok-turns.turns.items _ c.in_ok-turns.ensures.reads closed)
+invariant_of-self-2 c = record {
+  whole = refl;
+  stage = c.in_ok-turns.ensures.stage;
+  keeps_none = λ closed. closed_keeps _ c.in_ok-turns.turns.items _ c.in_ok-turns.ensures.reads closed;
+}
 
 pub returns-clause-turns : goal.returns-clause-turns
 returns-clause-turns c = λ is_open.
