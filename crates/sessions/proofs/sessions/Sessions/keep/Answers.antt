@@ -10,7 +10,7 @@ pub invariant_of-self : goal.invariant_of-self
 invariant_of-self c = (
   put_sorted nat_cmp_total c.put_entry.result c.self.inside.entries.items _ c.args.request.now.client _ c.self.invariant.0 c.put_entry.ensures.ok c.put_entry.ensures.err,
   fit_after c.put_entry.result c.self.inside.entries.items _ c.args.request.now.client _ c.self.invariant.1 c.args.request.now.is_client (record { number = c.args.request.now.is_numbered })
-  c.put_entry.ensures.ok c.put_entry.ensures.err,
+      c.put_entry.ensures.ok c.put_entry.ensures.err,
 )
 
 pub returns-clause-ok : goal.returns-clause-ok
