@@ -1,5 +1,5 @@
 -- What a cut takes out of what waits.
-use Rattle.std.specs.Prelude.{ℕ, ◌≤◌, List, [], ◌∷◌, filter, take, length, All, IsTrue, Bool, false, not, ◌&&◌, ◌==◌, nat_le, Option, Some, None}
+use Rattle.std.specs.Prelude.{◌≡◌, ℕ, ◌≤◌, List, [], ◌∷◌, filter, take, length, All, IsTrue, Bool, false, not, ◌&&◌, ◌==◌, nat_le, Option, Some, None}
 use Rattle.std.specs.List.{list_any}
 use Rattle.std.specs.Option.{option_map_or}
 use Rattle.std.specs.FinMap as map
@@ -22,10 +22,18 @@ left limit sessions waiting =
     let batch = taken limit sessions waiting in
     filter (λ r. not (is_past sessions r) && not (list_any (λ b. b.client == r.client) batch)) waiting
 
--- the batch of these requests, if there are any
-abbrev pub batch_of : ℕ → ℕ → ℕ → List Request → Option Batch
-batch_of epoch n moment [] = None
-batch_of epoch n moment (r ∷ rs) = Some (record { epoch = epoch; n = n; moment = moment; requests = r ∷ rs })
+-- the batch has this epoch, number and moment, and these requests, of which there is at least one
+pub record IsBatchOf (epoch n moment : ℕ) (requests : List Request) (batch : Batch) : Type 0 where
+  pub epoch_is : batch.epoch ≡ epoch
+  pub n_is : batch.n ≡ n
+  pub moment_is : batch.moment ≡ moment
+  pub requests_are : batch.requests ≡ requests
+  pub some : 1 ≤ length requests
+
+-- it is the batch of these requests, and there is none where there are no requests
+abbrev pub IsCut : ℕ → ℕ → ℕ → List Request → Option Batch → Type 0
+IsCut epoch n moment requests None = requests ≡ []
+IsCut epoch n moment requests (Some batch) = IsBatchOf epoch n moment requests batch
 
 -- up to so many requests, at most one a client, and each the next of its client
 pub record Fits (limit : ℕ) (sessions : Replies) (requests : List Request) : Type 0 where

@@ -1,4 +1,5 @@
-ghost use Rattle.std.specs.Prelude.{◌≡◌, ◌↔◌, [], length, IsTrue};
+ghost use Rattle.std.specs.Prelude.{◌≡◌, ◌≤◌, ◌↔◌, [], length, IsTrue};
+ghost use Rattle.batches.specs.Limits.{most_requests, greatest_number};
 
 use sessions::Request;
 use std::alloc::AllocError;
@@ -10,30 +11,35 @@ pub const MOST_REQUESTS: usize = 64;
 /// The greatest number of a batch: the stamps of its requests, 64 times the number and more, fit.
 pub const GREATEST_NUMBER: u64 = (1 << 58) - 1;
 
-/// The requests of a batch, in its order.
+/// The requests of a batch, in its order: up to `MOST_REQUESTS`.
 #[derive(Debug, Drop)]
 pub struct Requests {
     requests: Vec<Request>,
 }
 
 impl Model for Requests {
-    ghost use Rattle.std.specs.Prelude.{List};
+    ghost use Rattle.std.specs.Prelude.{List, ◌≤◌, length};
     ghost use Rattle.sessions.specs.declared.request.Request.{Request};
+    ghost use Rattle.batches.specs.Limits.{most_requests};
 
     ghost Value = { List Request };
 
     ghost view = { λ a. a.requests.items };
+
+    ghost invariant = { λ a. length a.requests.items ≤ most_requests };
 }
 
 impl Requests {
     pub fn new(requests: Vec<Request>) -> Requests
+        requires { length requests.items ≤ most_requests }
         ensures { result ≡ requests.items }
     {
         Requests { requests }
     }
 
     pub fn as_slice(&self) -> &[Request]
-        ensures { result.now ≡ self.now }
+        ensures requests { result.now ≡ self.now }
+        ensures limit { length self.now ≤ most_requests }
     {
         self.requests.as_slice()
     }
@@ -61,13 +67,16 @@ impl Clone for Requests {
     }
 }
 
-/// Requests that are executed together.
+/// Requests that are executed together. Batches are numbered from 1 to `GREATEST_NUMBER`.
 #[derive(Debug, Drop)]
 pub struct Batch {
     pub epoch: u64,
     pub n: u64,
     pub moment: u32,
     pub requests: Requests,
+    pub ghost first: { 1 ≤ n },
+    pub ghost last: { n ≤ greatest_number },
+    pub ghost few: { length requests ≤ most_requests },
 }
 
 impl Clone for Batch {

@@ -29,7 +29,8 @@ impl Model for Gather {
 impl Gather {
     ghost use Rattle.std.specs.Prelude.{◌≡◌, ◌≤◌, ◌<◌, ◌↔◌, [], length, IsTrue, IfOk, IfErr, IfSome, OnOk, OnErr};
     ghost use Rattle.batches.specs.Waiting.{IsOneEach, added};
-    ghost use Rattle.batches.specs.Cut.{taken, left, batch_of, Fits};
+    ghost use Rattle.batches.specs.Cut.{taken, left, IsCut, Fits};
+    ghost use Rattle.batches.specs.Limits.{most_requests, greatest_number};
 
     pub fn new(alloc: Global) -> Gather
         ensures { result ≡ [] }
@@ -78,14 +79,14 @@ impl Gather {
         sessions: &Sessions,
     ) -> Result<Option<Batch>, Fault>
         requires { 1 ≤ n }
-        ensures batch { IfOk result (λ batch. batch
-            ≡ batch_of epoch n moment (taken MOST_REQUESTS sessions.now self.old)) }
-        ensures left { OnOk result (self.new ≡ left MOST_REQUESTS sessions.now self.old) }
+        ensures batch { IfOk result (λ batch.
+            IsCut epoch n moment (taken most_requests sessions.now self.old) batch) }
+        ensures left { OnOk result (self.new ≡ left most_requests sessions.now self.old) }
         ensures fits { IfOk result (λ batch. IfSome batch
-            (λ b. Fits MOST_REQUESTS sessions.now b.requests)) }
+            (λ b. Fits most_requests sessions.now b.requests)) }
 
-        ensures full { (result ≡ Err Fault.Full) ↔ (GREATEST_NUMBER < n) }
-        ensures no_memory { n ≤ GREATEST_NUMBER → IfErr result (λ fault. fault ≡ Fault.NoMemory) }
+        ensures full { (result ≡ Err Fault.Full) ↔ (greatest_number < n) }
+        ensures no_memory { n ≤ greatest_number → IfErr result (λ fault. fault ≡ Fault.NoMemory) }
         ensures err { OnErr result (self.new ≡ self.old) }
     {
         if n > GREATEST_NUMBER {
@@ -105,9 +106,9 @@ impl Gather {
 
     fn take_fresh(&mut self, alloc: Global, sessions: &Sessions) -> Result<Vec<Request>, AllocError>
         ensures taken { IfOk result (λ requests. requests.items
-            ≡ taken MOST_REQUESTS sessions.now self.old) }
-        ensures left { OnOk result (self.new ≡ left MOST_REQUESTS sessions.now self.old) }
-        ensures fits { IfOk result (λ requests. Fits MOST_REQUESTS sessions.now requests.items) }
+            ≡ taken most_requests sessions.now self.old) }
+        ensures left { OnOk result (self.new ≡ left most_requests sessions.now self.old) }
+        ensures fits { IfOk result (λ requests. Fits most_requests sessions.now requests.items) }
         ensures err { OnErr result (self.new ≡ self.old) }
     {
         let len = self.held.len();

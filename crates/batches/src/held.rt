@@ -4,6 +4,7 @@ ghost use Rattle.std.specs.Prelude.{◌≡◌, ◌≤◌, ◌++◌, ◌∷◌, [
 ghost use Rattle.indexmap.specs.IndexMap.{values, index_map_len, spare};
 ghost use Rattle.batches.specs.Waiting.{IsOneEach, keyed, added, is_later};
 ghost use Rattle.batches.specs.Cut.{is_past, taken as first, left as others};
+ghost use Rattle.batches.specs.Limits.{most_requests};
 
 use crate::batch::MOST_REQUESTS;
 use indexmap::IndexMap;
@@ -67,10 +68,10 @@ pub fn part(
     requires one_each { IsOneEach (values waiting) }
     requires none_taken { taken.old.items ≡ [] }
     requires none_left { left.old.entries ≡ [] }
-    requires taken_fit { min (index_map_len waiting) MOST_REQUESTS ≤ vec_capacity taken.old }
+    requires taken_fit { min (index_map_len waiting) most_requests ≤ vec_capacity taken.old }
     requires left_fit { index_map_len waiting ≤ spare left.old }
-    ensures taken { taken.new.items ≡ first MOST_REQUESTS sessions.now (values waiting) }
-    ensures left { left.new.entries ≡ keyed (others MOST_REQUESTS sessions.now (values waiting)) }
+    ensures taken { taken.new.items ≡ first most_requests sessions.now (values waiting) }
+    ensures left { left.new.entries ≡ keyed (others most_requests sessions.now (values waiting)) }
 {
     for request in waiting.into_values() {
         if taken.len() < MOST_REQUESTS && sessions.fresh(&request) {

@@ -11,6 +11,8 @@
 mod batch;
 mod gather;
 mod held;
+mod laws;
 
 pub use batch::{Batch, GREATEST_NUMBER, MOST_REQUESTS, Requests};
 pub use gather::Gather;
+pub use laws::limits_of_a_batch;

@@ -1,14 +1,16 @@
-ghost use Rattle.std.specs.Prelude.{◌≡◌};
+ghost use Rattle.std.specs.Prelude.{◌≡◌, ◌≤◌};
 
 use proto::Command;
 use std::alloc::AllocError;
 
-/// What a client asks. A client's requests are numbered from 1.
+/// What a client asks. Clients are numbered from 1, and so are the requests of each.
 #[derive(Debug, Drop)]
 pub struct Request {
     pub client: u16,
     pub number: u64,
     pub command: Command,
+    pub ghost is_client: { 1 ≤ client },
+    pub ghost is_numbered: { 1 ≤ number },
 }
 
 impl Clone for Request {

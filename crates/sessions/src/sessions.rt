@@ -1,6 +1,6 @@
 ghost use Rattle.std.specs.Prelude.{◌≡◌};
 
-use crate::entries::{find_entry, put_entry};
+use crate::entries::{are_few, find_entry, put_entry};
 use crate::request::Request;
 use proto::Reply;
 use std::alloc::{AllocError, Global};
@@ -31,11 +31,12 @@ pub struct Sessions {
 }
 
 impl Model for Sessions {
-    ghost use Rattle.std.specs.Prelude.{IsTrue};
+    ghost use Rattle.std.specs.Prelude.{IsTrue, All};
     ghost use Rattle.std.specs.Coded.{coded_ℕ};
     ghost use Rattle.std.specs.FinMap as map;
     ghost use Rattle.std.specs.Ordering.{nat_cmp};
     ghost use Rattle.sessions.specs.declared.sessions.Kept.{Kept};
+    ghost use Rattle.sessions.specs.Limits.{SessionFits};
     ghost use Rattle.sessions.specs.contracts.sessions.Kept as last;
 
     ghost Value = { map.FinMap nat_cmp Kept };
@@ -44,14 +45,15 @@ impl Model for Sessions {
 
     ghost view = { λ a. map.from_sorted a.entries.items };
 
-    ghost invariant = { λ a. IsTrue (map.is_sorted nat_cmp a.entries.items) };
+    ghost invariant = { λ a. IsTrue (map.is_sorted nat_cmp a.entries.items) × All SessionFits a.entries.items };
 }
 
 impl Sessions {
-    ghost use Rattle.std.specs.Prelude.{◌≡◌, IsTrue, OnOk, OnErr, MatchOption, option_copied};
+    ghost use Rattle.std.specs.Prelude.{◌≡◌, ◌≤◌, IsTrue, IsOk, OnOk, OnErr, MatchOption, option_copied, length, All, is_some};
     ghost use Rattle.std.specs.Ordering.{nat_cmp};
     ghost use Rattle.std.specs.FinMap as map;
     ghost use Rattle.sessions.specs.Fresh.{is_next};
+    ghost use Rattle.sessions.specs.Limits.{SessionFits};
 
     /// Sessions of no client.
     pub fn new(alloc: Global) -> Sessions
@@ -63,20 +65,26 @@ impl Sessions {
     }
 
     /// Sessions of these clients, which rise strictly: what `entries` gave, put together again.
+    /// Clients and the numbers of their requests begin at 1.
     pub fn of_sorted(entries: Vec<(u16, Kept)>) -> Sessions
-        requires { IsTrue (map.is_sorted nat_cmp entries.items) }
+        requires sorted { IsTrue (map.is_sorted nat_cmp entries.items) }
+        requires fit { All SessionFits entries.items }
         ensures sessions { result ≡ map.from_sorted entries.items }
         ensures entries { map.entries result ≡ entries.items }
     {
         Sessions { entries }
     }
 
-    /// What is kept of each client, by rising clients.
+    /// What is kept of each client, by rising clients: of up to 65,536 clients.
     pub fn entries(&self) -> &[(u16, Kept)]
         ensures entries { result.now ≡ map.entries self.now }
         ensures sorted { IsTrue (map.is_sorted nat_cmp result.now) }
+        ensures fit { All SessionFits result.now }
+        ensures few { length result.now ≤ 65536 }
     {
-        self.entries.as_slice()
+        let entries = self.entries.as_slice();
+        are_few(entries);
+        entries
     }
 
     /// Whether the request is the next of its client: its number is 1 above the last kept, or 1
@@ -91,12 +99,13 @@ impl Sessions {
         }
     }
 
-    /// Keeps the reply of a request that ran, in place of what was kept of its client. Where
-    /// memory is wanting nothing changes.
+    /// Keeps the reply of a request that ran, in place of what was kept of its client. Only a
+    /// client of whom nothing was kept takes memory; where it is wanting nothing changes.
     pub fn keep(&mut self, request: &Request, reply: Reply) -> Result<(), AllocError>
         ensures ok { OnOk result (self.new
             ≡ map.insert self.old request.now.client (record { number = request.now.number; reply = reply })) }
         ensures err { OnErr result (self.new ≡ self.old) }
+        ensures known { IsTrue (is_some (map.get self.old request.now.client)) → IsOk result }
     {
         let kept = Kept {
             number: request.number,

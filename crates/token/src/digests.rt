@@ -1,6 +1,6 @@
 ghost use Rattle.std.specs.Prelude.{◌≡◌};
 ghost use Rattle.wire.specs.Item.{page_text, PageFits};
-ghost use Rattle.wire.specs.Batch.{batch_text, BatchFits};
+ghost use Rattle.wire.specs.Batch.{batch_text};
 ghost use Rattle.wire.specs.Session.{sessions_text, SessionsFit};
 ghost use Rattle.token.specs.Digest.{digest as digest_of};
 
@@ -27,17 +27,17 @@ pub fn page_digest(entries: &[(Key, Item)]) -> [u8; 32]
 /// The digest of a batch.
 #[tactic(auto, unfolding(crate::specs::Digest::digest))]
 pub fn batch_digest(batch: &Batch) -> [u8; 32]
-    requires { BatchFits batch.now }
     ensures { result ≡ digest_of (batch_text batch.now) }
 {
     digest(batch)
 }
 
-/// The digest of what is kept of all clients.
+/// The digest of what is kept of all clients, which always has a text.
 #[tactic(auto, unfolding(crate::specs::Digest::digest))]
 pub fn sessions_digest(sessions: &Sessions) -> [u8; 32]
-    requires { SessionsFit sessions.now }
-    ensures { result ≡ digest_of (sessions_text sessions.now) }
+    ensures digest { result ≡ digest_of (sessions_text sessions.now) }
+    ensures fit { SessionsFit sessions.now }
 {
+    let _entries = sessions.entries();
     digest(sessions)
 }

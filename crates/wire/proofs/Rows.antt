@@ -2,7 +2,7 @@
 use Rattle.std.proofs.Common.{◌≡◌, ℕ, List, ◌∷◌, ◌++◌, sym, ◌∙◌, ap, subst, Option, Some, None}
 use Rattle.std.specs.Prelude.{IfSome}
 use Rattle.proto.specs.declared.fault.Fault.{Fault}
-use Rattle.wire.specs.Record.{IsPrefixFree, NoFront, Refused}
+use Rattle.wire.specs.Record.{IsPrefixFree, NoFront, Refused, Always}
 use Rattle.wire.specs.FrontLaws.{tail_of}
 use Rattle.wire.proofs.Values.{Refused-weaker}
 
@@ -34,4 +34,13 @@ unfit fits {text} free bytes y rest e wrong = record {
   none = λ v after f here.
       let both = free.apart y v rest after (sym e ∙ here) in
       wrong (subst fits (sym both.0) f);
+}
+
+-- the row that was read is no value's, and nothing else stands there
+pub no_value : {X Y : Type 0} {row : X → List ℕ} → IsPrefixFree row → (text : Y → List ℕ) (to : Y → X) → ((y : Y) → text y ≡ row (to y)) → (bytes : List ℕ) (x : X) (rest : List ℕ) → bytes ≡ row x ++ rest
+    → ((y : Y) → to y ≡ x → ⊥) → NoFront Always text bytes
+no_value {row = row} free text to same bytes x rest e wrong = record {
+  none = λ v after f here.
+      let both = free.apart x (to v) rest after (sym e ∙ (here ∙ ap (λ (t : List ℕ). t ++ after) (same v))) in
+      wrong v (sym both.0);
 }

@@ -10,7 +10,8 @@ use Rattle.proto.specs.declared.fault.Fault.{Fault}
 use Rattle.sessions.specs.declared.sessions.Kept.{Kept}
 use Rattle.wire.specs.Record.{NoFront, Refused}
 use Rattle.wire.specs.Field.{list_text, ListFits}
-use Rattle.wire.specs.Session.{session_text, sessions_text, SessionFits, SessionsFit, KeptFits}
+use Rattle.sessions.specs.Limits.{KeptFits, SessionFits}
+use Rattle.wire.specs.Session.{session_text, sessions_text, SessionsFit}
 use Rattle.wire.specs.FrontLaws.{tail_of}
 use Rattle.wire.specs.FieldLaws.{list_prefix_free}
 use Rattle.wire.specs.SessionLaws.{session_prefix_free}

@@ -1,5 +1,5 @@
 -- Commands and requests.
-use Rattle.std.specs.Prelude.{ℕ, ◌≤◌, List, ◌∷◌, ◌++◌}
+use Rattle.std.specs.Prelude.{ℕ, List, ◌∷◌, ◌++◌}
 use Rattle.std.specs.Int.{w16, w32, w64}
 use Rattle.proto.specs.declared.command.StoreVerb.{StoreVerb}
 use Rattle.proto.specs.declared.command.StoreVerb.TheVariants.{Set, Add, Replace, Append, Prepend}
@@ -34,8 +34,3 @@ command_text (command.Update update) = update_text update
 
 abbrev pub request_text : Request → List ℕ
 request_text r = num w16 r.client ++ num w64 r.number ++ command_text r.command
-
--- clients and the numbers of their requests begin at 1
-pub record RequestFits (r : Request) : Type 0 where
-  pub client : 1 ≤ r.client
-  pub number : 1 ≤ r.number

@@ -1,7 +1,8 @@
 -- No command is spelled at the front of another, nor a request.
 use Rattle.std.proofs.Common.{◌≡◌, ℕ, ◌≤◌, ℤ, List, ◌∷◌, ◌++◌, refl, sym, ◌∙◌, ap, arith}
 use Rattle.std.specs.Prelude.{nat_eq, nat_lt, if◌then◌else◌}
-use Rattle.std.specs.Int.{w32, w64}
+use Rattle.std.proofs.Props.{props}
+use Rattle.std.specs.Int.{w16, w32, w64}
 use Rattle.proto.specs.declared.command.StoreVerb.{StoreVerb}
 use Rattle.proto.specs.declared.command.StoreVerb.TheVariants.{Set, Add, Replace, Append, Prepend}
 use Rattle.proto.specs.declared.command.Update.{Update}
@@ -17,7 +18,7 @@ use Rattle.wire.specs.FrontLaws.{tail_of, head_of, Passes, same_numbers}
 use Rattle.wire.specs.NumberLaws.{num_signed_prefix_free}
 use Rattle.wire.specs.BlockLaws.{block_prefix_free}
 use Rattle.wire.specs.KeyLaws.{key_prefix_free, keys_prefix_free}
-use Rattle.wire.specs.RowLaws.{u16_free, u32_free, u64_free, followed, made_of}
+use Rattle.wire.specs.RowLaws.{u16_free, u32_free, u64_free, followed, made_within}
 
 -- the fields of a storage line
 abbrev pub store_row : ((List ℕ × ℕ) × ℤ) × List ℕ → List ℕ
@@ -170,12 +171,24 @@ command_apart (command.Update u) (command.Gets y) r s e = absurd (let h : mark_o
 pub command_prefix_free : IsPrefixFree command_text
 command_prefix_free = record { apart = command_apart }
 
+-- the fields of a request
+abbrev pub request_row : (ℕ × ℕ) × Command → List ℕ
+request_row p = num w16 p.0.0 ++ num w64 p.0.1 ++ command_text p.1
+
+pub request_row_free : IsPrefixFree request_row
+request_row_free = followed (followed u16_free u64_free) command_prefix_free
+
+abbrev AreFirst : (ℕ × ℕ) × Command → Type 0
+AreFirst p = (1 ≤ p.0.0) × (1 ≤ p.0.1)
+
 pub request_prefix_free : IsPrefixFree request_text
-request_prefix_free = made_of
-    (followed (followed u16_free u64_free) command_prefix_free)
+request_prefix_free = made_within {limits = AreFirst}
+    request_row_free
+    (λ (p : (ℕ × ℕ) × Command). hlevel props)
     request_text
     (λ r. ((r.client, r.number), r.command))
-    (λ p. record { client = p.0.0; number = p.0.1; command = p.1 })
+    (λ r. (r.is_client, r.is_numbered))
+    (λ p limits. record { client = p.0.0; number = p.0.1; command = p.1; is_client = limits.0; is_numbered = limits.1 })
     (λ r. refl)
     (λ r. refl)
 

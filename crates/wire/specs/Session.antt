@@ -1,9 +1,10 @@
 -- What is kept of each client.
-use Rattle.std.specs.Prelude.{ℕ, ◌≤◌, List, ◌∷◌, ◌++◌}
+use Rattle.std.specs.Prelude.{ℕ, List, ◌∷◌, ◌++◌}
 use Rattle.std.specs.Int.{w16, w64}
 use Rattle.std.specs.Ordering.{nat_cmp}
 use Rattle.std.specs.FinMap.{FinMap, entries}
 use Rattle.sessions.specs.declared.sessions.Kept.{Kept}
+use Rattle.sessions.specs.Limits.{SessionFits}
 use Rattle.wire.specs.Number.{num}
 use Rattle.wire.specs.Field.{list_text, ListFits}
 use Rattle.wire.specs.Reply.{reply_text}
@@ -11,15 +12,8 @@ use Rattle.wire.specs.Reply.{reply_text}
 abbrev pub kept_text : Kept → List ℕ
 kept_text kept = num w64 kept.number ++ reply_text kept.reply
 
-pub record KeptFits (kept : Kept) : Type 0 where
-  pub number : 1 ≤ kept.number
-
 abbrev pub session_text : ℕ × Kept → List ℕ
 session_text session = num w16 session.0 ++ kept_text session.1
-
-pub record SessionFits (session : ℕ × Kept) : Type 0 where
-  pub client : 1 ≤ session.0
-  pub kept : KeptFits session.1
 
 -- by rising clients
 unfoldable pub sessions_text : FinMap nat_cmp Kept → List ℕ

@@ -1,21 +1,19 @@
 ghost use Rattle.std.specs.Prelude.{◌≡◌};
-ghost use Rattle.wire.specs.Batch.{batch_text, BatchFits};
+ghost use Rattle.wire.specs.Record.{Always};
+ghost use Rattle.wire.specs.Batch.{batch_text};
 ghost use Rattle.wire.specs.BatchLaws.{batch_prefix_free};
 
 use crate::front::take_mark;
 use crate::listed::{Listed, put_list};
 use crate::record::Record;
 use crate::sink::Sink;
-use batches::{Batch, Requests};
+use batches::{Batch, GREATEST_NUMBER, MOST_REQUESTS, Requests};
 use proto::Fault;
 use sessions::Request;
 use std::alloc::Global;
 
-/// The number of the last batch: the stamps of its requests are below 2^64.
-const LAST_BATCH: u64 = 288230376151711743;
-
 impl Record for Batch {
-    ghost fits = { BatchFits };
+    ghost fits = { Always };
 
     ghost spelling = { batch_text };
 
@@ -37,10 +35,10 @@ impl Record for Batch {
         if n == 0 {
             return Err(Fault::BadRecord);
         }
-        if LAST_BATCH < n {
+        if GREATEST_NUMBER < n {
             return Err(Fault::BadRecord);
         }
-        if 64 < requests.len() {
+        if MOST_REQUESTS < requests.len() {
             return Err(Fault::BadRecord);
         }
         let batch = Batch {

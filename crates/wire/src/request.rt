@@ -1,5 +1,6 @@
 ghost use Rattle.std.specs.Prelude.{◌≡◌};
-ghost use Rattle.wire.specs.Command.{request_text, RequestFits};
+ghost use Rattle.wire.specs.Record.{Always};
+ghost use Rattle.wire.specs.Command.{request_text};
 ghost use Rattle.wire.specs.CommandLaws.{request_prefix_free};
 
 use crate::record::Record;
@@ -9,7 +10,7 @@ use sessions::Request;
 use std::alloc::Global;
 
 impl Record for Request {
-    ghost fits = { RequestFits };
+    ghost fits = { Always };
 
     ghost spelling = { request_text };
 
@@ -22,17 +23,17 @@ impl Record for Request {
     fn take<'b>(alloc: Global, bytes: &'b [u8]) -> Result<(Request, &'b [u8]), Fault> {
         let (row, rest) = <((u16, u64), Command)>::take(alloc, bytes)?;
         let ((client, number), command) = row;
+        if client == 0 {
+            return Err(Fault::BadRecord);
+        }
+        if number == 0 {
+            return Err(Fault::BadRecord);
+        }
         let request = Request {
             client,
             number,
             command,
         };
-        if request.client == 0 {
-            return Err(Fault::BadRecord);
-        }
-        if request.number == 0 {
-            return Err(Fault::BadRecord);
-        }
         Ok((request, rest))
     }
 

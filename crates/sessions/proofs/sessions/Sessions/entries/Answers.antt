@@ -5,6 +5,6 @@ use Rattle.proto.proofs.MapLemmas.{as_t}
 use Rattle.sessions.proofs.sessions.Sessions.entries.Goals as goal
 
 pub returns-clause-entries : goal.returns-clause-entries
-returns-clause-entries c = c.as_slice.ensures.value
-    ∙ sym (entries-from_sorted nat_cmp c.self.inside.entries.items (as_t _ c.self.invariant))
+returns-clause-entries c = c.as_slice-entries.ensures.value
+    ∙ sym (entries-from_sorted nat_cmp c.self.inside.entries.items (as_t _ c.self.invariant.0))
     ∙ ap entries c.self.view_is

@@ -1,6 +1,7 @@
 use Rattle.std.proofs.Common.{arith, refl}
 use Rattle.std.proofs.lemmas.Result.{err_from_is_err_and}
-use Rattle.wire.specs.Session.{kept_text, KeptFits}
+use Rattle.sessions.specs.Limits.{KeptFits}
+use Rattle.wire.specs.Session.{kept_text}
 use Rattle.wire.specs.SessionLaws.{kept_prefix_free}
 use Rattle.wire.proofs.Rows.{no_row, unfit}
 use Rattle.wire.proofs.session.KeptRecord.take.Goals as goal
