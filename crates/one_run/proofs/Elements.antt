@@ -1,9 +1,8 @@
--- Elements of lists, and lists of which each element is in another.
-use Rattle.std.proofs.Common.{map, ◌≡◌, zero, suc, ◌⊎◌, inl, inr, ⊎_elim, List, [], ◌∷◌, ◌++◌, refl, sym, subst, arith}
-use Rattle.std.specs.Prelude.{Contains, flat_map}
-use Rattle.std.proofs.lemmas.List.Concat.{flat_map-cons}
+-- Elements of lists, and lists of which each element is in another or is such a one.
+use Rattle.std.proofs.Common.{map, ◌≡◌, zero, suc, ◌⊎◌, inl, inr, ⊎_elim, List, [], ◌∷◌, ◌++◌, refl, subst, arith}
+use Rattle.std.specs.Prelude.{Contains}
 use Rattle.std.proofs.lemmas.List.Elements.{Contains-append_left, Contains-append_right, Contains-append_cases}
-use Rattle.one_run.specs.Met.{AreAmong}
+use Rattle.one_run.specs.Met.{AreAmong, AreAll}
 
 module _ {X : Type 0} where
   pub in_head : (x : X) (xs : List X) → Contains (x ∷ xs) x
@@ -32,21 +31,11 @@ module _ {X : Type 0} where
   pub among_tail : (x : X) (xs all : List X) → AreAmong (x ∷ xs) all → AreAmong xs all
   among_tail x xs all h y c = h y (in_tail x y xs c)
 
-  pub among_both : (xs ys all : List X) → AreAmong xs all → AreAmong ys all → AreAmong (xs ++ ys) all
-  among_both xs ys all h k x c = ⊎_elim (h x) (k x) (Contains-append_cases xs ys x c)
+  pub all_both : (such : X → Type 0) (xs ys : List X) → AreAll xs such → AreAll ys such → AreAll (xs ++ ys) such
+  all_both such xs ys h k x c = ⊎_elim (h x) (k x) (Contains-append_cases xs ys x c)
 
-  pub among_cons : (x : X) (xs all : List X) → Contains all x → AreAmong xs all → AreAmong (x ∷ xs) all
-  among_cons x xs all h k y c = ⊎_elim (λ (e : x ≡ y). subst (Contains all) e h) (k y) (first_or_other x y xs c)
-
--- what is made of an element is among what is made of all
-pub among_flat_map : {X Y : Type 0} (f : X → List Y) (xs : List X) (x : X) → Contains xs x → AreAmong (f x) (flat_map f xs)
-among_flat_map f [] x c z h = absurd (in_none x c)
-among_flat_map f (x ∷ xs) y c z h =
-    subst (λ l. Contains l z) (sym (flat_map-cons f x xs))
-    (⊎_elim
-    (λ (e : x ≡ y). Contains-append_left (f x) (flat_map f xs) z (subst (λ w. Contains (f w) z) (sym e) h))
-    (λ (t : Contains xs y). Contains-append_right (f x) (flat_map f xs) z (among_flat_map f xs y t z h))
-    (first_or_other x y xs c))
+  pub all_cons : (such : X → Type 0) (x : X) (xs : List X) → such x → AreAll xs such → AreAll (x ∷ xs) such
+  all_cons such x xs h k y c = ⊎_elim (λ (e : x ≡ y). subst such e h) (k y) (first_or_other x y xs c)
 
 -- an element of a mapped list is made of one of the list
 pub in_map : {X Y : Type 0} (f : X → Y) (xs : List X) (y : Y) → Contains (map f xs) y → (x : X) × Contains xs x × (f x ≡ y)

@@ -1,6 +1,6 @@
 -- Small lists of decrees and their runs, computed.
 use Rattle.std.proofs.Common.{◌+◌, ◌∙◌, ◌≡◌, inl, inr, false, List, [], ◌∷◌, length, replicate, Some, refl, arith, take, ℕ, ◌<◌, true, map, ap, sym, subst, ◌++◌, None}
-use Rattle.std.specs.Prelude.{slice_get, All, ◌&&◌, ◌==◌, if◌then◌else◌}
+use Rattle.std.specs.Prelude.{Contains, slice_get, All, ◌&&◌, ◌==◌, if◌then◌else◌}
 use Rattle.std.specs.FinMap.{empty, get, get-empty}
 use Rattle.token.specs.declared.Token.{Token}
 use Rattle.token.specs.Digest.{digest}
@@ -37,11 +37,11 @@ use Rattle.one_run.proofs.Elements.{in_head, in_none}
 
 -- ---- no Commit, no round
 
-nothing_chosen : IsRunOf [] [] []
-nothing_chosen = record { follows = tt; one_each = refl; states_met = λ s c. absurd (in_none s c) }
+nothing_chosen : IsRunOf (Contains []) (Contains []) [] []
+nothing_chosen = record { follows = tt; one_each = refl; states_met = λ s c. absurd (in_none s c); known_rounds = λ e c. absurd (in_none e c) }
 
-rollbacks_add_none : IsRunOf [] (Rollback ∷ Rollback ∷ []) []
-rollbacks_add_none = record { follows = tt; one_each = refl; states_met = λ s c. absurd (in_none s c) }
+rollbacks_add_none : IsRunOf (Contains []) (Contains []) (Rollback ∷ Rollback ∷ []) []
+rollbacks_add_none = record { follows = tt; one_each = refl; states_met = λ s c. absurd (in_none s c); known_rounds = λ e c. absurd (in_none e c) }
 
 abbrev sevens : Token
 sevens = record { 0 = replicate 32 7 }
@@ -115,11 +115,12 @@ second_is_state = record {
   token = λ l. refl;
 }
 
-second_is_made : IsMade met (standing (take 1 decrees)) (Commit 1 second.token)
+second_is_made : IsMade (Contains met) (Contains (executed ∷ [])) (standing (take 1 decrees)) (Commit 1 second.token)
 second_is_made = record {
   old = first_state;
   executed = executed;
   is_over = is_over;
+  known_round = in_head executed [];
   old_known = inl refl;
   old_number = refl;
   old_token = refl;
@@ -129,8 +130,12 @@ second_is_made = record {
 }
 
 -- so the run has that round alone
-has_one_round : IsRunOf met decrees (executed ∷ [])
-has_one_round = record { follows = (is_over, tt); one_each = refl; states_met = λ s c. c }
+has_one_round : IsRunOf (Contains met) (Contains (executed ∷ [])) decrees (executed ∷ [])
+has_one_round = record { follows = (is_over, tt); one_each = refl; states_met = λ s c. c; known_rounds = λ e c. c }
+
+-- a round that is none of those that were executed is in no run, whatever state it made
+not_executed : (other : Executed) → other.new ≡ second → IsRunOf (Contains met) (Contains []) decrees (other ∷ []) → ⊥
+not_executed other same run = in_none other (run.known_rounds other (in_head other []))
 
 its_states : states_of (executed ∷ []) ≡ first_state ∷ second ∷ []
 its_states = refl

@@ -1,7 +1,7 @@
 -- Where texts have distinct digests, a token tells the state.
-use Rattle.std.proofs.Common.{◌≡◌, ℕ, zero, suc, ◌<◌, ◌⊎◌, inl, inr, List, [], ◌∷◌, ◌++◌, refl, sym, ap, ◌∙◌, subst, arith}
-use Rattle.std.specs.Prelude.{flat_map}
-use Rattle.std.proofs.lemmas.List.Elements.{All-contains}
+use Rattle.std.proofs.Common.{◌≡◌, ℕ, zero, suc, ◌<◌, ◌⊎◌, inl, inr, ⊎_elim, List, [], ◌∷◌, ◌++◌, refl, sym, ap, ◌∙◌, subst, arith}
+use Rattle.std.specs.Prelude.{Contains}
+use Rattle.std.proofs.lemmas.List.Elements.{Contains-append_left, Contains-append_right, Contains-append_cases}
 use Rattle.wire.specs.declared.token.TokenText.{TokenText}
 use Rattle.wire.specs.Session.{sessions_text}
 use Rattle.wire.specs.Token.{token_text}
@@ -10,11 +10,11 @@ use Rattle.wire.specs.BatchLaws.{batch_prefix_free}
 use Rattle.wire.specs.Batch.{batch_text}
 use Rattle.wire.specs.TokenLaws.{token_prefix_free}
 use Rattle.pages.specs.Page.{page_digest, of_each}
-use Rattle.executor.specs.State.{StateView, IsState, first_state, token_of, with_token}
-use Rattle.one_run.specs.Texts.{page_texts, inner_texts, told_by, texts_of, Distinct}
+use Rattle.executor.specs.State.{StateView, first_state, token_of, with_token}
+use Rattle.one_run.specs.Texts.{page_texts, inner_texts, told_by, texts_of, Distinct, IsTextOf}
 use Rattle.one_run.specs.Met.{AreAmong, IsKnown, ToldApart}
 use Rattle.one_run.specs.Laws.{NumberAndTokenTell, TokenTells, StateTellsBatch}
-use Rattle.one_run.proofs.Elements.{among_left, among_right, among_head, among_tail, among_flat_map}
+use Rattle.one_run.proofs.Elements.{among_left, among_right, among_head, among_tail}
 use Rattle.one_run.proofs.Trees.{same_value, same_items}
 
 -- the texts of the inner nodes over the pages of a state
@@ -24,7 +24,7 @@ nodes_of s = inner_texts 6 (of_each (page_digest s.items))
 abbrev last_two : StateView → List (List ℕ)
 last_two s = sessions_text s.sessions ∷ token_text (told_by s) ∷ []
 
-module _ (texts : List (List ℕ)) (distinct : Distinct texts) where
+module _ (texts : List (List ℕ)) (distinct : Distinct (Contains texts)) where
   -- what tokens are digests of is the same where they are
   same_told : (s t : StateView) → AreAmong (last_two s) texts → AreAmong (last_two t) texts → token_of s ≡ token_of t → told_by s ≡ told_by t
   same_told s t p q e =
@@ -61,29 +61,44 @@ module _ (texts : List (List ℕ)) (distinct : Distinct texts) where
         items = items i;
       }
 
-pub token_tells : TokenTells
-token_tells met s t apart (inl first) known low low' e = let none = ap (λ (x : StateView). x.number) first in absurd (omega (arith, none))
-token_tells met s t apart (inr c) (inl first) low low' e = let none = ap (λ (x : StateView). x.number) first in absurd (omega (arith, none))
-token_tells met s t apart (inr c) (inr d) low low' e =
-    same_state (flat_map texts_of met) apart.distinct s t (among_flat_map texts_of met s c) (among_flat_map texts_of met t d)
-    ((All-contains IsState met s apart.states c).token low)
-    ((All-contains IsState met t apart.states d).token low')
-    e
+module _ (met : StateView → Type 0) (apart : ToldApart met) where
+  -- the texts of two states that were met are told apart
+  of_two : (s t : StateView) → met s → met t → Distinct (Contains (texts_of s ++ texts_of t))
+  of_two s t c d a b p q e = apart.distinct a b (from a p) (from b q) e
+    where
+      from : (text : List ℕ) → Contains (texts_of s ++ texts_of t) text → IsTextOf met text
+      from text h = ⊎_elim (λ x. (s, c, x)) (λ x. (t, d, x)) (Contains-append_cases (texts_of s) (texts_of t) text h)
 
--- only the first state has number 0
-pub is_first : (met : List StateView) (s : StateView) → ToldApart met → IsKnown met s → s.number ≡ 0 → s ≡ first_state
-is_first met s apart (inl first) none = first
-is_first met s apart (inr c) none = (All-contains IsState met s apart.states c).first none
+  pub tells : (s t : StateView) → IsKnown met s → IsKnown met t → 0 < s.number → 0 < t.number → s.token ≡ t.token → s ≡ t
+  tells s t (inl first) known low low' e = let none = ap (λ (x : StateView). x.number) first in absurd (omega (arith, none))
+  tells s t (inr c) (inl first) low low' e = let none = ap (λ (x : StateView). x.number) first in absurd (omega (arith, none))
+  tells s t (inr c) (inr d) low low' e =
+      same_state (texts_of s ++ texts_of t) (of_two s t c d) s t (λ x h. Contains-append_left (texts_of s) (texts_of t) x h) (λ x h. Contains-append_right (texts_of s) (texts_of t) x h)
+      ((apart.states s c).token low)
+      ((apart.states t d).token low')
+      e
+
+  -- only the first state has number 0
+  pub is_first : (s : StateView) → IsKnown met s → s.number ≡ 0 → s ≡ first_state
+  is_first s (inl first) none = first
+  is_first s (inr c) none = (apart.states s c).first none
 
 zero_or_more : (n : ℕ) → (n ≡ 0) ⊎ (0 < n)
 zero_or_more zero = inl refl
 zero_or_more (suc n) = inr (omega arith)
 
+module _ (met : StateView → Type 0) (apart : ToldApart met) where
+  pub both_tell : (s t : StateView) → IsKnown met s → IsKnown met t → s.number ≡ t.number → s.token ≡ t.token → s ≡ t
+  both_tell s t known known' n e = elim (zero_or_more s.number) [
+    | inl none ↦ is_first met apart s known none ∙ sym (is_first met apart t known' (sym n ∙ none))
+    | inr some ↦ tells met apart s t known known' some (subst (λ k. 0 < k) n some) e
+  ]
+
+pub token_tells : TokenTells
+token_tells met s t apart c d low low' e = tells (Contains met) apart s t c d low low' e
+
 pub number_and_token_tell : NumberAndTokenTell
-number_and_token_tell met s t apart known known' n e = elim (zero_or_more s.number) [
-  | inl none ↦ is_first met s apart known none ∙ sym (is_first met t apart known' (sym n ∙ none))
-  | inr some ↦ token_tells met s t apart known known' some (subst (λ k. 0 < k) n some) e
-]
+number_and_token_tell met s t apart c d n e = both_tell (Contains met) apart s t c d n e
 
 pub state_tells_batch : StateTellsBatch
 state_tells_batch texts old before e other distinct c d round round' same =

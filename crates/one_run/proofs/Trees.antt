@@ -1,5 +1,6 @@
 -- Where texts have distinct digests, the root of a tree tells its leaves, and the digests of pages tell the items.
 use Rattle.std.proofs.Common.{◌≡◌, ℕ, zero, suc, ◌*◌, ◌^◌, List, [], ◌∷◌, ◌++◌, map, length, refl, sym, ap, ◌∙◌, arith}
+use Rattle.std.specs.Prelude.{Contains}
 use Rattle.std.specs.List.{range_with_len}
 use Rattle.std.specs.FinMap.{from_sorted}
 use Rattle.std.proofs.Math.Nat.{pow-succ'}
@@ -41,7 +42,7 @@ same_only (x ∷ x' ∷ xs) ys l k e = absurd (omega arith)
 same_only (x ∷ []) [] l k e = absurd (omega arith)
 same_only (x ∷ []) (y ∷ y' ∷ ys) l k e = absurd (omega arith)
 
-module _ (texts : List (List ℕ)) (distinct : Distinct texts) where
+module _ (texts : List (List ℕ)) (distinct : Distinct (Contains texts)) where
   -- one level tells the one below
   same_below : (m : ℕ) (xs ys : List (List ℕ)) → length xs ≡ 2 * m → length ys ≡ 2 * m → AreAmong (pair_texts xs) texts → AreAmong (pair_texts ys) texts → level xs ≡ level ys → xs ≡ ys
   same_below zero [] [] l k p q e = refl

@@ -6,31 +6,32 @@ use Rattle.decrees.specs.declared.decree.Decree.TheVariants.{Commit, Rollback}
 use Rattle.decrees.specs.declared.standing.Standing.{Standing}
 use Rattle.decrees.specs.Standing.{standing, decree_at}
 use Rattle.executor.specs.State.{StateView, first_state}
-use Rattle.one_run.specs.Met.{AreAmong, IsKnown}
+use Rattle.one_run.specs.Met.{AreAll, IsKnown}
 use Rattle.one_run.specs.Run.{Executed, IsOver, IsRunFrom, made_in}
 
--- A state of this number and token that was met, and that a round made of the one that stands.
-pub record Made (met : List StateView) (s : Standing) (n : ℕ) (token : Token) : Type 0 where
+-- A state of this number and token that was met, and that one of the rounds that were executed made of the one that stands.
+pub record Made (met : StateView → Type 0) (rounds : Executed → Type 0) (s : Standing) (n : ℕ) (token : Token) : Type 0 where
   pub old : StateView
   pub executed : Executed
   pub is_over : IsOver old executed
+  pub known_round : rounds executed
   -- the state before is the standing one
   pub old_known : IsKnown met old
   pub old_number : old.number ≡ s.n
   pub old_token : old.token ≡ s.token
   -- and the state after is that of the Commit
-  pub new_met : Contains met executed.new
+  pub new_met : met executed.new
   pub new_number : executed.new.number ≡ n
   pub new_token : executed.new.token ≡ token
 
 -- what a decree needs, where this stands before it
-abbrev pub IsMade : List StateView → Standing → Decree → Type 0
-IsMade met s (Commit n token) = Made met s n token
-IsMade met s Rollback = Unit {0}
+abbrev pub IsMade : (StateView → Type 0) → (Executed → Type 0) → Standing → Decree → Type 0
+IsMade met rounds s (Commit n token) = Made met rounds s n token
+IsMade met rounds s Rollback = Unit {0}
 
 -- each decree has it, over what those before it stand for
-abbrev pub AllMade : List StateView → List Decree → Type 0
-AllMade met decrees = (place : ℕ) (d : Decree) → decree_at decrees place ≡ Some d → IsMade met (standing (take (place - 1) decrees)) d
+abbrev pub AllMade : (StateView → Type 0) → (Executed → Type 0) → List Decree → Type 0
+AllMade met rounds decrees = (place : ℕ) (d : Decree) → decree_at decrees place ≡ Some d → IsMade met rounds (standing (take (place - 1) decrees)) d
 
 -- the number and the token of each Commit, in order
 abbrev pub commits : List Decree → List (ℕ × Token)
@@ -43,11 +44,12 @@ abbrev pub known_by : List Executed → List (ℕ × Token)
 known_by run = map (λ e. (e.new.number, e.new.token)) run
 
 -- The run of these decrees: its rounds follow one another from the first state, there is one for each
--- Commit, with its number and token, and their states were met.
-pub record IsRunOf (met : List StateView) (decrees : List Decree) (run : List Executed) : Type 0 where
+-- Commit, with its number and token, each was executed, and their states were met.
+pub record IsRunOf (met : StateView → Type 0) (rounds : Executed → Type 0) (decrees : List Decree) (run : List Executed) : Type 0 where
   pub follows : IsRunFrom first_state run
   pub one_each : known_by run ≡ commits decrees
-  pub states_met : AreAmong (made_in run) met
+  pub states_met : AreAll (made_in run) met
+  pub known_rounds : AreAll run rounds
 
 -- the state is the first, or a Commit of its number and token is among the decrees
 abbrev pub IsCommitted : List Decree → StateView → Type 0

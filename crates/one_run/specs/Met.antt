@@ -1,17 +1,26 @@
 -- States that were met, by any node at any time.
-use Rattle.std.specs.Prelude.{◌≡◌, ◌⊎◌, List, All, Contains, flat_map}
-use Rattle.executor.specs.State.{StateView, IsState, first_state}
-use Rattle.one_run.specs.Texts.{texts_of, Distinct}
+use Rattle.std.specs.Prelude.{◌≡◌, ◌⊎◌, ◌<◌, List, Contains}
+use Rattle.executor.specs.State.{StateView, first_state, with_token}
+use Rattle.one_run.specs.Texts.{Distinct, IsTextOf}
 
 -- each of these is one of those
 abbrev pub AreAmong : {X : Type 0} → List X → List X → Type 0
 AreAmong {X} these those = (x : X) → Contains these x → Contains those x
 
--- the state is the first one, or was met
-abbrev pub IsKnown : List StateView → StateView → Type 0
-IsKnown met s = (s ≡ first_state) ⊎ Contains met s
+-- each of these is such a one
+abbrev pub AreAll : {X : Type 0} → List X → (X → Type 0) → Type 0
+AreAll {X} these such = (x : X) → Contains these x → such x
 
--- Digests tell these states apart: each has what every state keeps, and their texts have distinct digests.
-pub record ToldApart (met : List StateView) : Type 0 where
-  pub states : All IsState met
-  pub distinct : Distinct (flat_map texts_of met)
+-- the state is the first one, or was met
+abbrev pub IsKnown : (StateView → Type 0) → StateView → Type 0
+IsKnown met s = (s ≡ first_state) ⊎ met s
+
+-- only the first state has number 0, and each other has the token of its parts
+pub record IsTold (s : StateView) : Type 0 where
+  pub first : s.number ≡ 0 → s ≡ first_state
+  pub token : 0 < s.number → s ≡ with_token s
+
+-- Digests tell these states apart: each has the token of its parts, and their texts have distinct digests.
+pub record ToldApart (met : StateView → Type 0) : Type 0 where
+  pub states : (s : StateView) → met s → IsTold s
+  pub distinct : Distinct (IsTextOf met)

@@ -40,5 +40,9 @@ abbrev pub texts_of : StateView → List (List ℕ)
 texts_of s = page_texts s.items ++ (inner_texts 6 (of_each (page_digest s.items)) ++ sessions_text s.sessions ∷ token_text (told_by s) ∷ [])
 
 -- two of these texts that have one digest are one text
-abbrev pub Distinct : List (List ℕ) → Type 0
-Distinct texts = (a b : List ℕ) → Contains texts a → Contains texts b → digest a ≡ digest b → a ≡ b
+abbrev pub Distinct : (List ℕ → Type 0) → Type 0
+Distinct text = (a b : List ℕ) → text a → text b → digest a ≡ digest b → a ≡ b
+
+-- a text of one of these states
+abbrev pub IsTextOf : (StateView → Type 0) → List ℕ → Type 0
+IsTextOf met text = (s : StateView) × met s × Contains (texts_of s) text

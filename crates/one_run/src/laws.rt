@@ -16,14 +16,16 @@ pub fn token_tells_the_state()
     ensures batch { StateTellsBatch }
 {}
 
-/// Decrees of which each Commit is of a state that was met, and that a round made of the standing
-/// one, have a run: one round for each Commit, in order. All runs of them have the same states.
+/// Decrees of which each Commit is of a state that was met, and that a round that was executed made of
+/// the standing one, have a run: one of the rounds that were executed for each Commit, in order. All
+/// runs of them have the same states.
 pub fn decrees_have_one_run()
     ensures has { HasRun }
     ensures one { OneRun }
 {}
 
-/// Where more decrees are chosen and more states met, a run of them begins with the run before.
+/// Where more decrees are chosen, more states met and more rounds executed, a run of them begins with
+/// the run before.
 pub fn more_decrees_extend_the_run()
     ensures { RunGrows }
 {}
