@@ -4,19 +4,23 @@ use Rattle.std.specs.Prelude.{◌==◌}
 use Rattle.std.proofs.lemmas.Bool.Decides.{nat_tests}
 use Rattle.std.proofs.lemmas.List.{append-nil}
 use Rattle.proto.specs.declared.fault.Fault.{Fault}
+use Rattle.items.specs.Map.{Items}
 use Rattle.sessions.specs.declared.request.Request.{Request}
 use Rattle.sessions.specs.Fresh.{Replies}
 use Rattle.batches.specs.declared.batch.Batch.{Batch}
 use Rattle.wire.specs.Record.{NoFront, Refused}
 use Rattle.wire.specs.Batch.{batch_text, BatchFits}
 use Rattle.wire.specs.BatchLaws.{batch_prefix_free}
+use Rattle.wire.specs.Session.{sessions_text}
 use Rattle.wire.proofs.Values.{Refused-weaker}
 use Rattle.executor.specs.declared.answered.Answered.{Answered}
 use Rattle.executor.specs.State.{StateView}
 use Rattle.executor.specs.Fresh.{fresh}
 use Rattle.executor.specs.Work.{TentativeView}
 use Rattle.executor.specs.Kept.{kept_for, AreKept, LackOne, Follows, IsOver}
-use Rattle.executor.specs.Records.{after_text, member_text, OneMember}
+use Rattle.executor.specs.declared.head.Head.{Head}
+use Rattle.executor.specs.Records.{head_of, head_text, changes_text, after_text, member_text, OneMember, WholeMember, BaseIsTold}
+use Rattle.executor.specs.HeadLaws.{head_prefix_free}
 use Rattle.executor.proofs.RecordLemmas.{after_free}
 use Rattle.executor.proofs.ReplyLemmas.{one_list}
 
@@ -98,8 +102,31 @@ module _ (base : StateView) (bytes : List ℕ) (batch : Batch) (rest : List ℕ)
           got ∙ ap (λ (t : List ℕ). batch_text batch ++ t) (more ∙ (ap (λ (t : List ℕ). after_text base.items after ++ t) none
           ∙ (append-nil (after_text base.items after) ∙ ap (λ (b : StateView). after_text b.items after) (sym shared))))
 
+pub whole_member : WholeMember
+whole_member t u rest others over same =
+    let both = batch_prefix_free.apart t.batch u.batch (after_text t.before.items t.after ++ rest) (after_text u.before.items u.after ++ others)
+    (sym (append_assoc (batch_text t.batch) (after_text t.before.items t.after) rest) ∙ (same ∙ append_assoc (batch_text u.batch) (after_text u.before.items u.after) others)) in
+    let after = (after_free t.before.items).apart t.after u.after rest others (both.1 ∙ ap (λ (b : StateView). after_text b.items u.after ++ others) (sym over)) in
+    ((λ i. batch_text (both.0 i) ++ after_text (over i).items (after.0 i)), after.1)
+
 pub one_member : OneMember
 one_member t u over same =
-    let both = batch_prefix_free.apart t.batch u.batch (after_text t.before.items t.after ++ []) (after_text u.before.items u.after ++ [])
-    (sym (append_assoc (batch_text t.batch) (after_text t.before.items t.after) []) ∙ (ap (λ (x : List ℕ). x ++ []) same ∙ append_assoc (batch_text u.batch) (after_text u.before.items u.after) [])) in
-    (both.0, ((after_free t.before.items).apart t.after u.after [] [] (both.1 ∙ ap (λ (b : StateView). after_text b.items u.after ++ []) (sym over))).0)
+    let both = batch_prefix_free.apart t.batch u.batch (after_text t.before.items t.after) (after_text u.before.items u.after) same in
+    let after = (after_free t.before.items).apart t.after u.after [] [] (ap (λ (x : List ℕ). x ++ []) (both.1 ∙ ap (λ (b : StateView). after_text b.items u.after) (sym over))) in
+    (both.0, after.0)
+
+-- a head stands first
+head_first : (before : Items) (s : StateView) → after_text before s ≡ head_text (head_of s) ++ (sessions_text s.sessions ++ changes_text before s.items)
+unfolding after_text
+head_first before s = append_assoc (head_text (head_of s)) (sessions_text s.sessions) (changes_text before s.items)
+
+pub base_is_told : BaseIsTold
+base_is_told t u is other same =
+    let both = batch_prefix_free.apart t.batch u.batch (after_text t.before.items t.after) (after_text u.before.items u.after) same in
+    let heads = head_prefix_free.apart (head_of t.after) (head_of u.after)
+    (sessions_text t.after.sessions ++ changes_text t.before.items t.after.items) (sessions_text u.after.sessions ++ changes_text u.before.items u.after.items)
+    (sym (head_first t.before.items t.after) ∙ (both.1 ∙ head_first u.before.items u.after)) in
+    let number : t.batch.n ≡ u.batch.n = ap (λ (b : Batch). b.n) both.0 in (
+      omega (arith, is.next, other.next, number),
+      ap (λ (s : StateView). s.previous) (sym is.after.is) ∙ (ap (λ (h : Head). h.previous) heads.0 ∙ ap (λ (s : StateView). s.previous) other.after.is),
+    )

@@ -19,6 +19,7 @@ use Rattle.pages.specs.Joined.{IsOwn}
 use Rattle.executor.specs.declared.head.Head.{Head}
 use Rattle.executor.specs.State.{StateView}
 use Rattle.executor.specs.Work.{TentativeView}
+use Rattle.executor.specs.Kept.{IsTentative}
 
 -- what a state is told by
 abbrev pub head_of : StateView → Head
@@ -64,3 +65,11 @@ MakesPage p entries (Err e) = Refused e ((m : Items) → IsOwn p m → entries_o
 -- over one state, records tell batches apart, and what they led to
 abbrev pub OneMember : Type 0
 OneMember = (t u : TentativeView) → t.before ≡ u.before → member_text t ≡ member_text u → (t.batch ≡ u.batch) × (t.after ≡ u.after)
+
+-- over one state, no record begins another's
+abbrev pub WholeMember : Type 0
+WholeMember = (t u : TentativeView) (rest others : List ℕ) → t.before ≡ u.before → member_text t ++ rest ≡ member_text u ++ others → (member_text t ≡ member_text u) × (rest ≡ others)
+
+-- a record tells the number and the token of the state that it is over
+abbrev pub BaseIsTold : Type 0
+BaseIsTold = (t u : TentativeView) → IsTentative t → IsTentative u → member_text t ≡ member_text u → (t.before.number ≡ u.before.number) × (t.before.token ≡ u.before.token)

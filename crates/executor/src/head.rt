@@ -15,7 +15,7 @@ use token::Token;
 use wire::{Record, Sink};
 
 /// All of a state but its sessions and its items.
-#[derive(Clone, Copy, Debug, PartialEq, Eq)]
+#[derive(Clone, Copy, PartialEq, Eq)]
 pub struct Head {
     pub number: u64,
     pub previous: Token,

@@ -35,7 +35,7 @@ pub use answered::Answered;
 pub use base::Base;
 pub use laws::{ordered_batch_has_one_round, orders_determine_the_round};
 pub use on_threads::execute;
-pub use record_laws::{members_are_told_apart, states_are_told_apart};
+pub use record_laws::{members_are_told_apart, members_tell_their_base, states_are_told_apart};
 pub use state::{Parts, State};
 pub use tentative::{Committed, Tentative};
 pub use through::run_through;

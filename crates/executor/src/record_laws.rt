@@ -1,7 +1,7 @@
 //! What the records keep apart. The functions do nothing: what they say is their contracts.
 
 ghost use Rattle.wire.specs.Record.{IsPrefixFree, OneValue};
-ghost use Rattle.executor.specs.Records.{state_text, OneMember};
+ghost use Rattle.executor.specs.Records.{state_text, OneMember, WholeMember, BaseIsTold};
 
 /// Different states have different records, and no record begins another's.
 pub fn states_are_told_apart()
@@ -10,7 +10,14 @@ pub fn states_are_told_apart()
 {}
 
 /// Tentative states over one state have the same record only where their batches and the states
-/// that these led to are the same.
+/// that these led to are the same; and no record of one begins another's.
 pub fn members_are_told_apart()
-    ensures { OneMember }
+    ensures one { OneMember }
+    ensures whole { WholeMember }
+{}
+
+/// The record of a tentative state tells the number and the token of the state that it is over. So over
+/// a base of another number or another token `Tentative::restore` refuses it.
+pub fn members_tell_their_base()
+    ensures { BaseIsTold }
 {}

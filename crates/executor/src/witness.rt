@@ -1,6 +1,13 @@
-//! Two misuses of a tentative state do not compile: this file would not, if they did.
+//! Misuses of what is not committed yet do not compile: this file would not, if they did.
+//!
+//! Each of these breaks it: `Drop` on `Tentative`; `Debug` on `Base`, `Work` or `Tentative`; on one of
+//! these three a function of its own with the name `reply`, `replies`, `state`, `sessions` or `after`,
+//! whatever it takes and gives.
 
+use crate::base::Base;
 use crate::tentative::Tentative;
+use crate::work::Work;
+use std::fmt::Debug;
 
 /// A tentative state has to be committed or undone: if it could be dropped, these two would overlap.
 trait HasToBeSpent {}
@@ -9,20 +16,70 @@ impl HasToBeSpent for Tentative {}
 
 impl<T: Drop> HasToBeSpent for T {}
 
+/// What is printed shows no reply: if one of the three could be printed, it would overlap with the last.
+trait IsNotPrinted {}
+
+impl IsNotPrinted for Base {}
+
+impl IsNotPrinted for Work {}
+
+impl IsNotPrinted for Tentative {}
+
+impl<T: Debug> IsNotPrinted for T {}
+
 #[derive(Drop)]
 struct NotShown;
 
-/// A tentative state shows no reply: a call `replies` of its own would be taken in the place of this.
+/// Nothing shows a reply, nor what would lend one: a function of the type's own would be taken in the
+/// place of one of these.
 trait HidesReplies {
-    fn replies(&self) -> NotShown;
-}
+    fn reply(&self) -> NotShown {
+        NotShown
+    }
 
-impl HidesReplies for Tentative {
     fn replies(&self) -> NotShown {
+        NotShown
+    }
+
+    fn state(&self) -> NotShown {
+        NotShown
+    }
+
+    fn sessions(&self) -> NotShown {
+        NotShown
+    }
+
+    fn after(&self) -> NotShown {
         NotShown
     }
 }
 
-fn no_replies(tentative: &Tentative) -> NotShown {
-    tentative.replies()
+impl HidesReplies for Base {}
+
+impl HidesReplies for Work {}
+
+impl HidesReplies for Tentative {}
+
+fn base_shows_none(base: &Base) {
+    let _: NotShown = Base::reply(base);
+    let _: NotShown = Base::replies(base);
+    let _: NotShown = Base::state(base);
+    let _: NotShown = Base::sessions(base);
+    let _: NotShown = Base::after(base);
+}
+
+fn work_shows_none(work: &Work) {
+    let _: NotShown = Work::reply(work);
+    let _: NotShown = Work::replies(work);
+    let _: NotShown = Work::state(work);
+    let _: NotShown = Work::sessions(work);
+    let _: NotShown = Work::after(work);
+}
+
+fn tentative_shows_none(tentative: &Tentative) {
+    let _: NotShown = Tentative::reply(tentative);
+    let _: NotShown = Tentative::replies(tentative);
+    let _: NotShown = Tentative::state(tentative);
+    let _: NotShown = Tentative::sessions(tentative);
+    let _: NotShown = Tentative::after(tentative);
 }

@@ -1,7 +1,12 @@
 //! Is told of each step, inside the lock of its page and after it.
+//!
+//! No contract says that a gate is called: what it is told, how often, and on which side of the unlock
+//! is only tested (`executor_tests`). A gate is for tests and measures, and nothing that is promised may
+//! rest on one.
 
-/// Is called at each step: `inside` within the lock of the step's page, once the step was made, and
-/// `outside` after the lock. It may look and wait; it changes nothing of the round.
+/// Is called at each step that was made: `inside` within the lock of the step's page, and `outside`
+/// after the lock. Both are told the page, from 0 to 63, and the request's place. It may look and wait;
+/// it changes nothing of the round.
 pub trait Gate {
     fn inside(&self, page: usize, place: u32);
 
@@ -9,7 +14,7 @@ pub trait Gate {
 }
 
 /// Does nothing.
-#[derive(Clone, Copy, Debug)]
+#[derive(Clone, Copy)]
 pub struct NoGate;
 
 impl Gate for NoGate {

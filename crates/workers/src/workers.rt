@@ -5,7 +5,7 @@ use std::marker::Model;
 const MOST_WORKERS: usize = 16;
 
 /// How many threads work at once: 1 to 16, the caller's thread being one of them.
-#[derive(Clone, Copy, Debug)]
+#[derive(Clone, Copy)]
 pub struct Workers {
     count: usize,
 }
