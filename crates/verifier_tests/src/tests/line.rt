@@ -136,3 +136,40 @@ pub fn ballot(words: &[&str]) -> Option<Ballot> {
         _ => None,
     }
 }
+
+fn hexadecimal(word: &str) -> Option<u8> {
+    u8::from_str_radix(word, 16).ok()
+}
+
+fn push_times(byte: u8, times: u8, all: &mut Vec<u8>) -> Option<()> {
+    for _ in 0..times {
+        if all.push(byte).is_err() {
+            return None;
+        }
+    }
+    Some(())
+}
+
+/// The bytes of a word: `07`, or `07x32` for 32 of them.
+fn push_bytes(word: &str, all: &mut Vec<u8>) -> Option<()> {
+    match word.split_once('x') {
+        Some((byte, times)) => push_times(hexadecimal(byte)?, times.parse().ok()?, all),
+        None => push_times(hexadecimal(word)?, 1, all),
+    }
+}
+
+fn push_all(words: &[&str], all: &mut Vec<u8>) -> Option<()> {
+    for word in words {
+        push_bytes(*word, all)?;
+    }
+    Some(())
+}
+
+/// Bytes in hexadecimal: `01 56 00x8`.
+pub fn bytes(alloc: Global, words: &[&str]) -> Option<Vec<u8>> {
+    let mut all = Vec::new(alloc);
+    match push_all(words, &mut all) {
+        Some(()) => Some(all),
+        None => None,
+    }
+}

@@ -1,24 +1,24 @@
 //! The verifiers of a schedule, and what they have to answer.
 
-use super::line::{ballot, node, number, verifier, words};
+use super::line::{ballot, bytes, node, number, verifier, words};
 use decrees::{Ballot, Letter, Node};
-use keeper::MemKeeper;
+use keeper::{Keeper, MemKeeper};
 use proto::Fault;
 use std::alloc::Global;
 use std::mem;
 use verifier::{Input, Verifier};
 
-/// A verifier, or what it left when it could not be opened.
+/// A verifier that was opened, or the keeper of one that was not.
 #[derive(Drop)]
-enum Seat {
+pub enum Seat {
     Open(Verifier<MemKeeper>),
     Closed(MemKeeper),
 }
 
-/// What an input was answered with.
-type Answer = Result<Vec<Letter<Ballot>>, Fault>;
+/// What an input is answered with.
+pub type Answer = Result<Vec<Letter<Ballot>>, Fault>;
 
-/// Opens a verifier with the keeper of this one.
+/// Opens a verifier of these numbers with the keeper of this seat.
 fn reopened(alloc: Global, id: u8, u: u8, seat: Seat) -> (Seat, Answer) {
     let keeper = match seat {
         Seat::Open(verifier) => verifier.end(),
@@ -34,56 +34,64 @@ fn reopened(alloc: Global, id: u8, u: u8, seat: Seat) -> (Seat, Answer) {
 }
 
 impl Seat {
-    fn open(&mut self, alloc: Global, id: u8, u: u8) -> Answer {
+    pub fn open(&mut self, alloc: Global, id: u8, u: u8) -> Answer {
         let seat = mem::replace(self, Seat::Closed(MemKeeper::new(alloc)));
         let (seat, answer) = reopened(alloc, id, u, seat);
         *self = seat;
         answer
     }
 
-    fn handle(&mut self, alloc: Global, input: Input) -> Answer {
+    fn handle(&mut self, alloc: Global, input: Input) -> Option<Answer> {
         match self {
-            Seat::Open(verifier) => verifier.handle(alloc, input),
-            Seat::Closed(_) => Err(Fault::BadRecord),
+            Seat::Open(verifier) => Some(verifier.handle(alloc, input)),
+            Seat::Closed(_) => None,
         }
     }
 
-    fn fail_next(&mut self) {
+    fn keeper(&mut self) -> &mut MemKeeper {
         match self {
-            Seat::Open(verifier) => verifier.keeper().fail_next(),
-            Seat::Closed(keeper) => keeper.fail_next(),
+            Seat::Open(verifier) => verifier.keeper(),
+            Seat::Closed(keeper) => keeper,
         }
     }
 
-    /// Whether it is as the words say: `up in view 1 knows 0`, or `stopped in view 0 knows 0`.
+    /// Puts a keeper with this record in its place.
+    pub fn find(&mut self, alloc: Global, record: &[u8]) -> Option<()> {
+        let mut keeper = MemKeeper::new(alloc);
+        let saved = keeper.save(record);
+        *self = Seat::Closed(keeper);
+        saved.ok()
+    }
+
+    /// Whether it is as the words say: `stopped`, or `up in view 1 knows 0`.
     fn is(&self, words: &[&str]) -> Option<bool> {
         let Seat::Open(verifier) = self else {
             return None;
         };
-        let is_up = *words.first()? == "up";
+        if *words.first()? == "stopped" {
+            return Some(!verifier.is_up());
+        }
         let view = number(words, 2, "view")?;
         let known = number(words, 4, "knows")?;
-        Some(verifier.is_up() == is_up && verifier.view() == view && verifier.known() == known)
+        Some(verifier.is_up() && verifier.view() == view && verifier.known() == known)
     }
 }
 
-/// The verifiers, and what the latest input was answered with and no line has said yet.
+/// The verifiers, what the latest input was answered with, and how many of its letters were said.
 #[derive(Drop)]
 struct Play {
     alloc: Global,
     u: u8,
     seats: Vec<Seat>,
-    answer: Answer,
+    letters: Vec<Letter<Ballot>>,
     said: usize,
+    fault: Option<Fault>,
 }
 
 impl Play {
     /// Whether all of the latest answer was said.
     fn is_said(&self) -> bool {
-        match &self.answer {
-            Ok(letters) => letters.len() == self.said,
-            Err(_) => self.said == 1,
-        }
+        self.fault.is_none() && self.letters.len() == self.said
     }
 
     fn set_up(&mut self, u: u64) -> Option<()> {
@@ -97,38 +105,64 @@ impl Play {
     }
 
     fn answers(&mut self, answer: Answer) {
-        self.answer = answer;
         self.said = 0;
+        self.letters.clear();
+        match answer {
+            Ok(letters) => self.letters = letters,
+            Err(fault) => self.fault = Some(fault),
+        }
+    }
+
+    fn seat(&mut self, id: u8) -> Option<&mut Seat> {
+        self.seats.get_mut(usize::from(id))
     }
 
     /// Hands the input to the verifier.
     fn give(&mut self, id: u8, input: Input) -> Option<()> {
         let alloc = self.alloc;
-        let answer = self.seats.get_mut(usize::from(id))?.handle(alloc, input);
+        let answer = self.seat(id)?.handle(alloc, input)?;
         self.answers(answer);
         Some(())
     }
 
     fn open(&mut self, id: u8) -> Option<()> {
         let (alloc, u) = (self.alloc, self.u);
-        let answer = self.seats.get_mut(usize::from(id))?.open(alloc, id, u);
+        let answer = self.seat(id)?.open(alloc, id, u);
         self.answers(answer);
         Some(())
     }
 
-    /// What happens to a verifier: `opens`, `suspects`, `fails its next save` or `is ..`.
+    /// The record of the verifier is of these bytes.
+    fn has(&mut self, id: u8, words: &[&str]) -> Option<()> {
+        let record = bytes(self.alloc, words)?;
+        let is_so = self.seat(id)?.keeper().load() == Some(&record);
+        is_so.then_some(())
+    }
+
+    fn find(&mut self, id: u8, words: &[&str]) -> Option<()> {
+        let alloc = self.alloc;
+        let record = bytes(alloc, words)?;
+        self.seat(id)?.find(alloc, &record)
+    }
+
+    fn is(&mut self, id: u8, words: &[&str]) -> Option<()> {
+        let is_so = self.seat(id)?.is(words)?;
+        is_so.then_some(())
+    }
+
+    /// What happens to a verifier, or holds of it.
     fn happens(&mut self, id: u8, words: &[&str]) -> Option<()> {
+        let more = words.get(1..)?;
         match *words.first()? {
             "opens" => self.open(id),
             "suspects" => self.give(id, Input::Suspect),
             "fails" => {
-                self.seats.get_mut(usize::from(id))?.fail_next();
+                self.seat(id)?.keeper().fail_next();
                 Some(())
             }
-            "is" => {
-                let words = words.get(1..)?;
-                if self.seats.get(usize::from(id))?.is(words)? { Some(()) } else { None }
-            }
+            "is" => self.is(id, more),
+            "has" => self.has(id, more),
+            "finds" => self.find(id, more),
             _ => None,
         }
     }
@@ -155,25 +189,31 @@ impl Play {
 
     /// The next letter of the answer is this one.
     fn says(&mut self, letter: Letter<Ballot>) -> Option<()> {
-        match &self.answer {
-            Ok(letters) if letters.get(self.said) == Some(&letter) => {
-                self.said = self.said.wrapping_add(1);
-                Some(())
-            }
-            _ => None,
+        if self.letters.get(self.said) != Some(&letter) {
+            return None;
         }
+        self.said = self.said.wrapping_add(1);
+        Some(())
     }
 
-    /// The answer is Stopped.
-    fn says_stopped(&mut self) -> Option<()> {
-        self.said = 1;
-        if matches!(self.answer, Err(Fault::Stopped)) { Some(()) } else { None }
+    /// The answer is this fault: `stopped`, or `bad record`.
+    fn says_fault(&mut self, words: &[&str]) -> Option<()> {
+        let fault = if *words.first()? == "stopped" {
+            Fault::Stopped
+        } else {
+            Fault::BadRecord
+        };
+        if self.fault != Some(fault) {
+            return None;
+        }
+        self.fault = None;
+        Some(())
     }
 
-    /// What is answered: a letter to each of the nodes, or `stopped`.
+    /// What is answered: a letter to each of the nodes, or a fault.
     fn output(&mut self, head: &[&str], body: Option<Ballot>) -> Option<()> {
         let Some(body) = body else {
-            return self.says_stopped();
+            return self.says_fault(head);
         };
         let from = node(*head.first()?)?;
         for to in head.get(2..)? {
@@ -216,8 +256,9 @@ pub fn first_wrong(alloc: Global, text: &str) -> Option<usize> {
         alloc,
         u: 0,
         seats: Vec::new(alloc),
-        answer: Ok(Vec::new(alloc)),
+        letters: Vec::new(alloc),
         said: 0,
+        fault: None,
     };
     play.first_wrong(text)
 }

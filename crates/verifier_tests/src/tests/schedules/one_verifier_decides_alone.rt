@@ -1,5 +1,6 @@
 pub const TEXT: &str = "
-# One verifier of one: it proposes to itself, accepts, hears of it, and tells the executor.
+# One verifier and one executor: it proposes to itself, accepts, hears of that, and tells the
+# executor.
 u 0
 v0 opens
 e0 > v0: token 7 of batch 1 epoch 1 over 0
