@@ -11,7 +11,7 @@ pub const MOST_REQUESTS: usize = 64;
 pub const GREATEST_NUMBER: u64 = (1 << 58) - 1;
 
 /// The requests of a batch, in its order.
-#[derive(Debug, Drop)]
+#[derive(Drop)]
 pub struct Requests {
     requests: Vec<Request>,
 }
@@ -62,7 +62,7 @@ impl Clone for Requests {
 }
 
 /// Requests that are executed together.
-#[derive(Debug, Drop)]
+#[derive(Drop)]
 pub struct Batch {
     pub epoch: u64,
     pub n: u64,

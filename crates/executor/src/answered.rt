@@ -1,7 +1,7 @@
 use proto::Reply;
 
 /// What is answered to a request that ran: its place in the batch, and its client's number for it.
-#[derive(Debug, Drop)]
+#[derive(Drop)]
 pub struct Answered {
     pub place: u32,
     pub client: u16,

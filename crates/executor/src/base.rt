@@ -9,7 +9,7 @@ use std::alloc::{AllocError, Global};
 use token::Token;
 
 /// A state to execute a batch over. It shows no reply.
-#[derive(Debug, Drop)]
+#[derive(Drop)]
 pub struct Base {
     pub(crate) state: State,
 }

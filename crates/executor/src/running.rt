@@ -18,7 +18,7 @@ use std::mem;
 
 /// A request that runs: its place in the batch, the group that it is in, its steps, and the answers
 /// to those that were made.
-#[derive(Debug, Drop)]
+#[derive(Drop)]
 pub struct Running {
     place: u32,
     group: usize,

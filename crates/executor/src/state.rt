@@ -13,7 +13,7 @@ use std::marker::Model;
 use token::{Token, batch_digest, sessions_digest};
 
 /// A state of the server: its items and sessions, and the token by which it is known.
-#[derive(Debug, Drop)]
+#[derive(Drop)]
 pub struct State {
     number: u64,
     previous: Token,
@@ -26,7 +26,7 @@ pub struct State {
 }
 
 /// What a state is made of, without its token.
-#[derive(Debug, Drop)]
+#[derive(Drop)]
 pub struct Parts {
     pub number: u64,
     pub previous: Token,

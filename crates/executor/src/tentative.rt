@@ -39,7 +39,7 @@ impl Model for Tentative {
 }
 
 /// A state that the verifiers decided on, and the replies of the batch that led to it.
-#[derive(Debug, Drop)]
+#[derive(Drop)]
 pub struct Committed {
     pub(crate) state: State,
     pub(crate) replies: Vec<Answered>,

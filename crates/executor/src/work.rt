@@ -31,7 +31,7 @@ use workers::Workers;
 
 /// A batch that is being executed over its base: its requests run group by group, and the steps of
 /// one group in any order that the caller asks for. It may be dropped.
-#[derive(Debug, Drop)]
+#[derive(Drop)]
 pub struct Work {
     base: Base,
     batch: Batch,

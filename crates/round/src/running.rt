@@ -16,7 +16,7 @@ use std::alloc::{AllocError, Global};
 use std::marker::Model;
 
 /// A request that ran, and the answers to its steps.
-#[derive(Debug, Drop)]
+#[derive(Drop)]
 pub struct Ran {
     task: Task,
     answers: Vec<Answer>,
@@ -48,7 +48,7 @@ impl Ran {
 }
 
 /// A request, and the answers to the steps that it made.
-#[derive(Debug, Drop)]
+#[derive(Drop)]
 pub(crate) struct Running {
     task: Task,
     answers: Vec<Answer>,

@@ -4,7 +4,7 @@ use proto::Command;
 use std::alloc::AllocError;
 
 /// What a client asks. A client's requests are numbered from 1.
-#[derive(Debug, Drop)]
+#[derive(Drop)]
 pub struct Request {
     pub client: u16,
     pub number: u64,
