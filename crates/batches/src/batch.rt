@@ -12,7 +12,7 @@ pub const MOST_REQUESTS: usize = 64;
 pub const GREATEST_NUMBER: u64 = (1 << 58) - 1;
 
 /// The requests of a batch, in its order: up to `MOST_REQUESTS`.
-#[derive(Debug, Drop)]
+#[derive(Drop)]
 pub struct Requests {
     requests: Vec<Request>,
 }
@@ -68,7 +68,7 @@ impl Clone for Requests {
 }
 
 /// Requests that are executed together. Batches are numbered from 1 to `GREATEST_NUMBER`.
-#[derive(Debug, Drop)]
+#[derive(Drop)]
 pub struct Batch {
     pub epoch: u64,
     pub n: u64,

@@ -8,7 +8,7 @@ use std::marker::Model;
 use std::mem;
 
 /// The requests that wait for a batch: at most one a client, in the order of arrival.
-#[derive(Debug, Drop)]
+#[derive(Drop)]
 pub struct Gather {
     held: IndexMap<u16, Request>,
 }

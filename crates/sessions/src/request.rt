@@ -4,7 +4,7 @@ use proto::Command;
 use std::alloc::AllocError;
 
 /// What a client asks. Clients are numbered from 1, and so are the requests of each.
-#[derive(Debug, Drop)]
+#[derive(Drop)]
 pub struct Request {
     pub client: u16,
     pub number: u64,

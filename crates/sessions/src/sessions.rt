@@ -7,7 +7,7 @@ use std::alloc::{AllocError, Global};
 use std::marker::Model;
 
 /// The number of a client's last request that ran, and its reply.
-#[derive(Debug, Drop)]
+#[derive(Drop)]
 pub struct Kept {
     pub number: u64,
     pub reply: Reply,
@@ -25,7 +25,7 @@ impl Clone for Kept {
 }
 
 /// The last reply of each client.
-#[derive(Debug, Drop)]
+#[derive(Drop)]
 pub struct Sessions {
     entries: Vec<(u16, Kept)>,
 }

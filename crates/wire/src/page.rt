@@ -16,7 +16,7 @@ use std::alloc::Global;
 use std::marker::Model;
 
 /// The entries of a page, by strictly rising keys.
-#[derive(Debug, Drop)]
+#[derive(Drop)]
 pub struct Entries {
     entries: Vec<(Key, Item)>,
 }
