@@ -1,9 +1,14 @@
+ghost use Rattle.std.specs.Prelude.{◌≤◌};
+
 use proto::{Command, Key, Reply, Update};
 use sessions::{Request, Sessions};
 use std::alloc::{AllocError, Global};
 use std::test::Fail;
 
-fn ask(alloc: Global, client: u16, number: u64) -> Result<Request, AllocError> {
+fn ask(alloc: Global, client: u16, number: u64) -> Result<Request, AllocError>
+    requires client { 1 ≤ client }
+    requires number { 1 ≤ number }
+{
     let mut bytes = Vec::new(alloc);
     bytes.push(b'k')?;
     let key = Key::new(bytes);
@@ -15,17 +20,37 @@ fn ask(alloc: Global, client: u16, number: u64) -> Result<Request, AllocError> {
     })
 }
 
+/// Whether the client's request is the next.
+fn is_next(alloc: Global, sessions: &Sessions, client: u16, number: u64) -> Result<bool, AllocError>
+    requires client { 1 ≤ client }
+    requires number { 1 ≤ number }
+{
+    Ok(sessions.fresh(&ask(alloc, client, number)?))
+}
+
+fn keep(
+    alloc: Global,
+    sessions: &mut Sessions,
+    client: u16,
+    number: u64,
+    reply: Reply,
+) -> Result<(), AllocError>
+    requires client { 1 ≤ client }
+    requires number { 1 ≤ number }
+{
+    sessions.keep(&ask(alloc, client, number)?, reply)
+}
+
 #[test]
 fn requests_of_a_client_run_in_order(rt: HostRuntime) -> Result<(), Fail> {
     let alloc = rt.alloc();
     let mut sessions = Sessions::new(alloc);
-    assert!(rt; !sessions.fresh(&ask(alloc, 7, 0)?));
-    assert!(rt; sessions.fresh(&ask(alloc, 7, 1)?));
-    assert!(rt; !sessions.fresh(&ask(alloc, 7, 2)?));
-    sessions.keep(&ask(alloc, 7, 1)?, Reply::Stored)?;
-    assert!(rt; !sessions.fresh(&ask(alloc, 7, 1)?));
-    assert!(rt; sessions.fresh(&ask(alloc, 7, 2)?));
-    assert!(rt; sessions.fresh(&ask(alloc, 8, 1)?));
+    assert!(rt; is_next(alloc, &sessions, 7, 1)?);
+    assert!(rt; !is_next(alloc, &sessions, 7, 2)?);
+    keep(alloc, &mut sessions, 7, 1, Reply::Stored)?;
+    assert!(rt; !is_next(alloc, &sessions, 7, 1)?);
+    assert!(rt; is_next(alloc, &sessions, 7, 2)?);
+    assert!(rt; is_next(alloc, &sessions, 8, 1)?);
     Ok(())
 }
 
@@ -33,9 +58,22 @@ fn requests_of_a_client_run_in_order(rt: HostRuntime) -> Result<(), Fail> {
 fn after_the_last_number_nothing_is_fresh(rt: HostRuntime) -> Result<(), Fail> {
     let alloc = rt.alloc();
     let mut sessions = Sessions::new(alloc);
-    sessions.keep(&ask(alloc, 7, u64::MAX)?, Reply::Stored)?;
-    assert!(rt; !sessions.fresh(&ask(alloc, 7, 0)?));
-    assert!(rt; !sessions.fresh(&ask(alloc, 7, u64::MAX)?));
+    keep(alloc, &mut sessions, 7, u64::MAX, Reply::Stored)?;
+    assert!(rt; !is_next(alloc, &sessions, 7, 1)?);
+    assert!(rt; !is_next(alloc, &sessions, 7, u64::MAX)?);
+    Ok(())
+}
+
+fn keep_three(alloc: Global, sessions: &mut Sessions) -> Result<(), AllocError> {
+    keep(alloc, sessions, 9, 1, Reply::Deleted)?;
+    keep(alloc, sessions, 3, 1, Reply::NotFound)?;
+    keep(alloc, sessions, 9, 2, Reply::Number(4))
+}
+
+fn clients_of(sessions: &Sessions, clients: &mut Vec<u16>) -> Result<(), AllocError> {
+    for entry in sessions.entries() {
+        clients.push(entry.0)?;
+    }
     Ok(())
 }
 
@@ -43,17 +81,43 @@ fn after_the_last_number_nothing_is_fresh(rt: HostRuntime) -> Result<(), Fail> {
 fn what_is_kept_is_found_again(rt: HostRuntime) -> Result<(), Fail> {
     let alloc = rt.alloc();
     let mut sessions = Sessions::new(alloc);
-    sessions.keep(&ask(alloc, 9, 1)?, Reply::Deleted)?;
-    sessions.keep(&ask(alloc, 3, 1)?, Reply::NotFound)?;
-    sessions.keep(&ask(alloc, 9, 2)?, Reply::Number(4))?;
+    keep_three(alloc, &mut sessions)?;
     let copy = sessions.clone()?;
     let mut clients = Vec::new(alloc);
-    for entry in copy.entries() {
-        clients.push(entry.0)?;
-    }
+    clients_of(&copy, &mut clients)?;
     assert_eq!(rt; clients.as_slice(), [3u16, 9].as_slice());
     assert!(rt; matches!(copy.kept(9), Some((2, &Reply::Number(4)))));
     assert!(rt; matches!(copy.kept(3), Some((1, &Reply::NotFound))));
     assert!(rt; copy.kept(4).is_none());
+    Ok(())
+}
+
+/// Keeps request 1 of each of a thousand clients, from the last to the first, with the client as the reply.
+fn keep_a_thousand(alloc: Global, sessions: &mut Sessions) -> Result<(), AllocError> {
+    for below in 0..1000u16 {
+        let client = 1000 - below;
+        keep(alloc, sessions, client, 1, Reply::Number(u64::from(client)))?;
+    }
+    Ok(())
+}
+
+/// Whether what is kept of the client is request 1 and the client.
+fn is_kept(sessions: &Sessions, client: u16) -> bool {
+    match sessions.kept(client) {
+        Some((1, Reply::Number(number))) => *number == u64::from(client),
+        _ => false,
+    }
+}
+
+#[test]
+fn a_thousand_clients_are_kept(rt: HostRuntime) -> Result<(), Fail> {
+    let alloc = rt.alloc();
+    let mut sessions = Sessions::new(alloc);
+    keep_a_thousand(alloc, &mut sessions)?;
+    assert_eq!(rt; sessions.entries().len(), 1000);
+    for client in 1..1001u16 {
+        assert!(rt; is_kept(&sessions, client));
+    }
+    assert!(rt; sessions.kept(1001).is_none());
     Ok(())
 }
