@@ -1,5 +1,5 @@
 -- What the code's verifier promises are the machine's lines.
-use Rattle.std.proofs.Common.{◌≡◌, ℕ, zero, suc, Bool, true, false, List, [], ◌∷◌, Option, Some, None, slice_get, slice_set, refl, sym, ◌∙◌, ap, subst, option_and_then, if◌then◌else◌}
+use Rattle.std.proofs.Common.{◌≡◌, ℕ, zero, suc, Bool, true, false, List, [], ◌∷◌, Some, slice_get, slice_set, refl, sym, ◌∙◌, ap, subst, option_and_then, if◌then◌else◌}
 use Rattle.verifier.specs.declared.input.Input.{Input}
 use Rattle.verifier.specs.State.{State, first_state, down}
 use Rattle.verifier.specs.Lines.{restarted}
@@ -7,7 +7,7 @@ use Rattle.verifier.specs.Step.{step}
 use Rattle.verifier.specs.Record.{record_text, IsRecord}
 use Rattle.verifier.specs.Seat.{Seat, Opens, outcome, handled}
 use Rattle.verifier.proofs.RowLemmas.{row_of, row-IsRecord}
-use Rattle.agreement.specs.Machine.{Slot, New, Up, Stopped, Machine, StopsBefore, saved_after, opened, reached}
+use Rattle.agreement.specs.Machine.{Slot, New, Up, Stopped, StopsBefore, saved_after, opened}
 use Rattle.agreement.specs.Laws.{recorded}
 use Rattle.agreement.specs.Seats.{IsIn, HandledIsDone, RefusedIsStopped, OpenedIsDone, ReopenedIsDone, RefusedOpenIsStopped}
 use Rattle.agreement.proofs.ReadBack.{record_fresh}

@@ -323,8 +323,8 @@ impl Memory {
         if !self.leads || view != self.view || self.promises.has(promise.from) {
             return Ok(nothing(alloc));
         }
-        let letters = self.asked_if_behind(alloc, id, promise.from, promise.known)?;
         self.promises.add(promise)?;
+        let letters = self.asked_if_behind(alloc, id, promise.from, promise.known)?;
         self.try_to_propose(alloc, u, id, false, letters)
     }
 
@@ -412,8 +412,8 @@ impl Memory {
         if !self.tally.is_accepted(u, accepted.view, &decree) {
             return Ok(nothing(alloc));
         }
-        let letters = to_others_and_executors(alloc, u, id, Ballot::Decided { place, decree })?;
         self.learn(decree)?;
+        let letters = to_others_and_executors(alloc, u, id, Ballot::Decided { place, decree })?;
         Ok(self.try_to_propose(alloc, u, id, true, letters)?)
     }
 

@@ -94,8 +94,8 @@ impl<K: Keeper> Verifier<K> {
     ghost use Rattle.verifier.specs.Lent.{LendsKeeper};
 
     /// Opens the verifier `id` of `2u + 1`. Where the keeper has no record it is new, and its first
-    /// record is saved. Else it goes on from its record, saves nothing, and asks the others for what
-    /// it does not know.
+    /// record is saved. Else it goes on from its record, which it leaves as it is, and asks the others
+    /// for what it does not know.
     ///
     /// BadRecord: the record is not one of this verifier. Stopped: there was no record, and the first
     /// save failed, or its failure could not be counted. NoMemory: memory was wanting, and no save
@@ -111,7 +111,7 @@ impl<K: Keeper> Verifier<K> {
         requires member { id ≤ 2 * u }
         ensures opened { IfOk result (λ opened. Opens u id (K.saved keeper) (K.failed keeper) opened.0 opened.1.items) }
         ensures unreadable { IfErr result (λ refused. refused.0 ≡ Fault.BadRecord → IsUnreadable u id (K.saved keeper)) }
-        ensures stopped { IfErr result (λ refused. refused.0 ≡ Fault.Stopped → (K.failed keeper < K.failed refused.1) ⊎ (K.failed keeper ≡ 2 ^ 64 - 1)) }
+        ensures stopped { IfErr result (λ refused. refused.0 ≡ Fault.Stopped → (K.saved keeper ≡ None) × ((K.failed keeper < K.failed refused.1) ⊎ (K.failed keeper ≡ 2 ^ 64 - 1))) }
         ensures none_failed { IfErr result (λ refused. refused.0 ≡ Fault.NoMemory → K.failed refused.1 ≡ K.failed keeper) }
         ensures untouched { IsSome (K.saved keeper) → IfErr result (λ refused. refused.1 ≡ keeper) }
         ensures saved { IfErr result (λ refused. K.saved refused.1 ≡ K.saved keeper) }
@@ -210,8 +210,8 @@ impl<K: Keeper> Verifier<K> {
     ///
     /// After an error the verifier is stopped for good, and its record is the old one; where it was
     /// stopped before, nothing of it changes. Stopped: it was stopped before, or a save failed, or a
-    /// counter is at its limit; NoMemory: memory was wanting in this call, and no save failed. Where
-    /// the step saves nothing, no save is tried.
+    /// counter is at its limit; NoMemory: memory was wanting in this call, and no save failed. No
+    /// save fails either where the step saves nothing.
     pub fn handle(&mut self, alloc: Global, input: Input) -> Result<Vec<Letter<Ballot>>, Fault>
         ensures done { IfOk result (λ letters. self.new ≡ handled self.old input) }
         ensures letters { IfOk result (λ letters. letters.items ≡ (outcome self.old input).letters) }

@@ -10,14 +10,13 @@ pub fn words(alloc: Global, text: &str) -> Result<Vec<&str>, AllocError> {
 
 /// The node that a word names: `v1`, `e0` or `c9`.
 pub fn node(word: &str) -> Option<Node> {
-    let number = word.get(1..)?;
-    if word.starts_with('v') {
-        return Some(Node::Verifier(number.parse().ok()?));
+    let number = word.get(1..)?.parse::<u8>().ok()?;
+    match word.get(..1)? {
+        "v" => Some(Node::Verifier(number)),
+        "e" => Some(Node::Executor(number)),
+        "c" => Some(Node::Client(u16::from(number))),
+        _ => None,
     }
-    if word.starts_with('e') {
-        return Some(Node::Executor(number.parse().ok()?));
-    }
-    Some(Node::Client(number.parse().ok()?))
 }
 
 /// The number of the verifier that a word names.
@@ -137,8 +136,20 @@ pub fn ballot(words: &[&str]) -> Option<Ballot> {
     }
 }
 
+fn digit(digit: u8) -> Option<u8> {
+    match digit {
+        b'0'..=b'9' => Some(digit - b'0'),
+        b'A'..=b'F' => Some(digit - b'A' + 10),
+        _ => None,
+    }
+}
+
+/// The byte of two hexadecimal digits.
 fn hexadecimal(word: &str) -> Option<u8> {
-    u8::from_str_radix(word, 16).ok()
+    match *word.as_bytes() {
+        [high, low] => Some(digit(high)?.wrapping_mul(16).wrapping_add(digit(low)?)),
+        _ => None,
+    }
 }
 
 fn push_times(byte: u8, times: u8, all: &mut Vec<u8>) -> Option<()> {
