@@ -3,6 +3,12 @@
 #![tactic(auto)]
 
 #[cfg(test)]
+mod gates;
+#[cfg(test)]
+mod of_executor;
+#[cfg(test)]
+mod of_gates;
+#[cfg(test)]
 mod of_workers;
 #[cfg(test)]
-mod tests;
+mod tasks;

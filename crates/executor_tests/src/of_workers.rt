@@ -1,104 +1,16 @@
-use item_steps::{Answer, Place, Step, Steps, Task, apply};
+use crate::gates::Order;
+use crate::tasks::{add_get, add_incr, add_set, set};
+use item_steps::{Answer, Place, Task, apply};
 use items::{Item, PlainStore};
 use pages::{Page, Pages};
-use proto::{Block, Fault, Key, Reply, StoreVerb, Update, is_key_text};
-use round::{Gate, NoGate, Ran};
+use proto::{Fault, Reply};
+use round::{NoGate, Ran};
 use std::alloc::{AllocError, Global};
-use std::rt::Clock;
-use std::sync::atomic::AtomicU64;
-use std::sync::atomic::Ordering::SeqCst;
+use std::mem;
 use std::sync::{Mutex, Wait};
 use std::test::*;
-use std::thread;
 use std::thread::Threads;
-use std::time::Duration;
 use workers::{Workers, refresh_all, run};
-
-/// The key of these bytes, or else `k`.
-fn key(alloc: Global, bytes: &[u8]) -> Result<Key, AllocError> {
-    if is_key_text(bytes) {
-        return Ok(Key::new(Vec::from_slice(alloc, bytes)?));
-    }
-    Ok(Key::new(vec![in alloc; b'k']?))
-}
-
-/// Stores a number of one digit.
-fn set(alloc: Global, bytes: &[u8], digit: u8) -> Result<Step, AllocError> {
-    Ok(Step::Update(Update::Store {
-        verb: StoreVerb::Set,
-        key: key(alloc, bytes)?,
-        flags: 0,
-        exptime: 0,
-        block: Block::from_slice(alloc, &[digit])?,
-    }))
-}
-
-fn incr(alloc: Global, bytes: &[u8]) -> Result<Step, AllocError> {
-    Ok(Step::Update(Update::Incr {
-        key: key(alloc, bytes)?,
-        delta: 1,
-    }))
-}
-
-/// A request that reads keys of one byte each.
-fn get(alloc: Global, place: u32, keys: &[u8]) -> Result<Task, AllocError> {
-    let mut steps = Vec::new(alloc);
-    for byte in keys {
-        steps.push(Step::Read(key(alloc, &[*byte])?))?;
-    }
-    Ok(Task {
-        place,
-        steps: Steps::new(steps),
-    })
-}
-
-/// A request of one step.
-fn one(alloc: Global, place: u32, step: Step) -> Result<Task, AllocError> {
-    let mut steps = Vec::new(alloc);
-    steps.push(step)?;
-    Ok(Task {
-        place,
-        steps: Steps::new(steps),
-    })
-}
-
-/// Notes the places in the order in which their steps were inside.
-#[derive(Drop)]
-struct Order<'a, R: Wait> {
-    rt: &'a R,
-    places: Mutex<Vec<u32>>,
-}
-
-impl<R: Wait> Gate for Order<'_, R> {
-    fn inside(&self, _page: usize, place: u32) {
-        let _ = self.places.lock(self.rt).push(place);
-    }
-
-    fn outside(&self, _page: usize, _place: u32) {}
-}
-
-/// Each step waits, inside its page's lock, until another was seen inside.
-#[derive(Drop)]
-struct Meets<'a, R: Clock> {
-    rt: &'a R,
-    inside: AtomicU64,
-    met: AtomicU64,
-}
-
-impl<R: Clock> Gate for Meets<'_, R> {
-    fn inside(&self, _page: usize, _place: u32) {
-        self.inside.fetch_add(1, SeqCst);
-        for _ in 0..100000u32 {
-            if self.inside.load(SeqCst) > 1 {
-                self.met.fetch_add(1, SeqCst);
-                return;
-            }
-            thread::sleep(self.rt, Duration::from_micros(100));
-        }
-    }
-
-    fn outside(&self, _page: usize, _place: u32) {}
-}
 
 fn is_same_item(a: &Item, b: &Item) -> bool {
     a.block.as_slice() == b.block.as_slice() && a.unique == b.unique && a.due == b.due
@@ -118,6 +30,14 @@ fn are_same(a: &[Answer], b: &[Answer]) -> bool {
     a.len() == b.len() && a.iter().zip(b).all(|(a, b)| is_same(a, b))
 }
 
+/// The place of a request of the group at this base.
+fn place_of(base: Place, task: &Task) -> Place {
+    Place {
+        moment: base.moment,
+        stamp: base.stamp.wrapping_add(u64::from(task.place)),
+    }
+}
+
 /// The next step of a request on the plain store; its answer goes to the others.
 fn replay_one(
     alloc: Global,
@@ -126,17 +46,13 @@ fn replay_one(
     base: Place,
     answers: &mut Vec<Answer>,
 ) -> Result<(), AllocError> {
-    let at = Place {
-        moment: base.moment,
-        stamp: base.stamp.wrapping_add(u64::from(task.place)),
-    };
     if let Some(step) = task.steps.as_slice().get(answers.len()) {
-        answers.push(apply(alloc, plain, step, at)?)?;
+        answers.push(apply(alloc, plain, step, place_of(base, task))?)?;
     }
     Ok(())
 }
 
-/// The answers to each request, the request at place `p` being the one at position `p`, where the
+/// Adds the answers to each request, the request at place `p` being the one at position `p`, where the
 /// steps are made one after the other in the order of these places.
 fn replay(
     alloc: Global,
@@ -144,8 +60,8 @@ fn replay(
     group: &[Task],
     base: Place,
     order: &[u32],
-) -> Result<Vec<Vec<Answer>>, AllocError> {
-    let mut answers = Vec::new(alloc);
+    answers: &mut Vec<Vec<Answer>>,
+) -> Result<(), AllocError> {
     for _task in group {
         answers.push(Vec::new(alloc))?;
     }
@@ -155,37 +71,89 @@ fn replay(
             replay_one(alloc, plain, task, base, given)?;
         }
     }
-    Ok(answers)
+    Ok(())
 }
 
-/// Runs the group by so many workers, and says whether the order that the gate saw gives the same
-/// answers on the plain store.
-fn is_replayed<R: Threads + Wait + Sync>(
-    rt: &R,
+/// Whether the requests were answered as on the plain store in this order.
+fn is_replay(
     alloc: Global,
-    pages: Pages,
     plain: &mut PlainStore,
-    group: Vec<Task>,
+    group: &[Task],
     base: Place,
-    workers: usize,
-) -> Result<(Pages, Vec<Ran>, bool), Fault> {
-    let Some(workers) = Workers::new(workers) else {
-        return Err(Fault::Unfit);
-    };
-    let gate = Order {
-        rt,
-        places: Mutex::new(Vec::new(alloc)),
-    };
-    let kept = group.clone()?;
-    let (pages, answers) = run(rt, alloc, pages, group, base, workers, &gate)?;
-    let order = gate.places.into_inner();
-    let replayed = replay(alloc, plain, &kept, base, &order)?;
-    let same = answers.len() == replayed.len()
-        && answers
+    order: &[u32],
+    ran: &[Ran],
+) -> bool {
+    let mut replayed = Vec::new(alloc);
+    let done = replay(alloc, plain, group, base, order, &mut replayed).is_ok();
+    done && ran.len() == replayed.len()
+        && ran
             .iter()
             .zip(&replayed)
-            .all(|(a, b)| are_same(a.answers(), b));
-    Ok((pages, answers, same))
+            .all(|(a, b)| are_same(a.answers(), b))
+}
+
+/// The same items, on pages and on the plain store.
+#[derive(Drop)]
+struct Both {
+    pages: Pages,
+    plain: PlainStore,
+}
+
+impl Both {
+    fn new(alloc: Global) -> Result<Both, AllocError> {
+        Ok(Both {
+            pages: Pages::new(alloc)?,
+            plain: PlainStore::new(alloc),
+        })
+    }
+
+    /// Runs the group on the pages by so many workers. The order that the gate saw goes to `order`.
+    fn run<R: Threads + Wait + Sync>(
+        &mut self,
+        rt: &R,
+        alloc: Global,
+        group: Vec<Task>,
+        base: Place,
+        workers: Workers,
+        order: &mut Vec<u32>,
+    ) -> Result<Vec<Ran>, Fault> {
+        let pages = mem::replace(&mut self.pages, Pages::new(alloc)?);
+        let gate = Order {
+            rt,
+            places: Mutex::new(Vec::new(alloc)),
+        };
+        let (pages, ran) = run(rt, alloc, pages, group, base, workers, &gate)?;
+        self.pages = pages;
+        *order = gate.places.into_inner();
+        Ok(ran)
+    }
+
+    /// Runs the group by so many workers, and says whether the order that the gate saw gives the same
+    /// answers on the plain store.
+    fn is_replayed<R: Threads + Wait + Sync>(
+        &mut self,
+        rt: &R,
+        alloc: Global,
+        group: &Vec<Task>,
+        base: Place,
+        workers: usize,
+    ) -> Result<(Vec<Ran>, bool), Fault> {
+        let Some(workers) = Workers::new(workers) else {
+            return Err(Fault::Unfit);
+        };
+        let mut order = Vec::new(alloc);
+        let ran = self.run(rt, alloc, group.clone()?, base, workers, &mut order)?;
+        let same = is_replay(alloc, &mut self.plain, group, base, &order, &ran);
+        Ok((ran, same))
+    }
+}
+
+/// Where a round of this number begins.
+fn base_of(number: u64) -> Place {
+    Place {
+        moment: 5,
+        stamp: number.wrapping_mul(64),
+    }
 }
 
 /// Whether the answer saw an item with a stamp of 64 or more.
@@ -197,124 +165,138 @@ fn is_new(answers: &[Answer], index: usize) -> bool {
 }
 
 /// Two sets of `a` and `b`, at these places.
-fn sets(alloc: Global, group: &mut Vec<Task>, first: u32) -> Result<(), AllocError> {
-    group.push(one(alloc, first, set(alloc, b"a", b'1')?)?)?;
-    group.push(one(alloc, first.wrapping_add(1), set(alloc, b"b", b'1')?)?)?;
-    Ok(())
+fn add_sets(alloc: Global, group: &mut Vec<Task>, first: u32) -> Result<(), AllocError> {
+    add_set(alloc, group, first, b"a", b'1')?;
+    add_set(alloc, group, first.wrapping_add(1), b"b", b'1')
+}
+
+/// Two readers of `a` and `b` behind two other keys, in two orders, and two writers.
+fn add_crossing(alloc: Global, group: &mut Vec<Task>) -> Result<(), AllocError> {
+    add_get(alloc, group, 0, b"xyab")?;
+    add_get(alloc, group, 1, b"xyba")?;
+    add_sets(alloc, group, 2)
+}
+
+/// Whether `a` and `b` are set as on the plain store.
+fn are_set<R: Threads + Wait + Sync>(
+    rt: &R,
+    alloc: Global,
+    both: &mut Both,
+) -> Result<bool, Fault> {
+    let mut group = Vec::new(alloc);
+    add_sets(alloc, &mut group, 0)?;
+    let (_, same) = both.is_replayed(rt, alloc, &group, base_of(0), 1)?;
+    Ok(same)
+}
+
+/// Whether the first reader saw the new `a` and the old `b`, and the second the new `b` and the old `a`.
+fn cross(ran: &[Ran]) -> bool {
+    match ran {
+        [one, two, _, _] => {
+            let (one, two) = (one.answers(), two.answers());
+            is_new(one, 2) && !is_new(one, 3) && is_new(two, 2) && !is_new(two, 3)
+        }
+        _ => true,
+    }
 }
 
 /// Whether two readers that cross two writers never saw one write each in different orders.
-fn readers_agree<R: Threads + Wait + Sync>(rt: &R, alloc: Global) -> Result<bool, Fault> {
-    let mut plain = PlainStore::new(alloc);
-    let mut old = Vec::new(alloc);
-    sets(alloc, &mut old, 0)?;
-    let first = Place {
-        moment: 5,
-        stamp: 0,
-    };
-    let (pages, _, same) = is_replayed(rt, alloc, Pages::new(alloc)?, &mut plain, old, first, 1)?;
-    let mut group = Vec::new(alloc);
-    group.push(get(alloc, 0, b"xyab")?)?;
-    group.push(get(alloc, 1, b"xyba")?)?;
-    sets(alloc, &mut group, 2)?;
-    let then = Place {
-        moment: 5,
-        stamp: 64,
-    };
-    let (_, answers, again) = is_replayed(rt, alloc, pages, &mut plain, group, then, 4)?;
-    let [one, two, _, _] = answers.as_slice() else {
-        return Ok(false);
-    };
-    let one_saw = is_new(one.answers(), 2) && !is_new(one.answers(), 3);
-    let two_saw = is_new(two.answers(), 2) && !is_new(two.answers(), 3);
-    Ok(same && again && !(one_saw && two_saw))
-}
-
-/// 64 requests: each other one gets a key of its own and then a shared one, the others count one up.
-fn mixed(alloc: Global) -> Result<Vec<Task>, AllocError> {
-    let mut group = Vec::new(alloc);
-    for place in 0..32u32 {
-        let shared = b'0' + (place % 8) as u8;
-        group.push(get(alloc, 2 * place, &[b'A' + place as u8, shared])?)?;
-        group.push(one(alloc, 2 * place + 1, incr(alloc, &[shared])?)?)?;
-    }
-    Ok(group)
-}
-
-/// Shared keys that count from 0.
-fn counters(alloc: Global) -> Result<Vec<Task>, AllocError> {
-    let mut group = Vec::new(alloc);
-    for place in 0..8u32 {
-        let shared = b'0' + place as u8;
-        group.push(one(alloc, place, set(alloc, &[shared], b'0')?)?)?;
-    }
-    Ok(group)
-}
-
-/// Whether each of so many rounds over one state is replayed.
-fn rounds_agree<R: Threads + Wait + Sync>(
+fn readers_agree<R: Threads + Wait + Sync>(
     rt: &R,
     alloc: Global,
-    rounds: u64,
+    both: &mut Both,
 ) -> Result<bool, Fault> {
-    let mut plain = PlainStore::new(alloc);
-    let begin = Place {
-        moment: 5,
-        stamp: 0,
-    };
-    let (mut pages, _, mut all) = is_replayed(
-        rt,
-        alloc,
-        Pages::new(alloc)?,
-        &mut plain,
-        counters(alloc)?,
-        begin,
-        16,
-    )?;
-    for number in 0..rounds {
-        let base = Place {
-            moment: 5,
-            stamp: number.wrapping_mul(64),
-        };
-        let (now, _, same) = is_replayed(rt, alloc, pages, &mut plain, mixed(alloc)?, base, 16)?;
-        pages = now;
-        all = all && same;
-    }
-    Ok(all)
+    let mut group = Vec::new(alloc);
+    add_crossing(alloc, &mut group)?;
+    let (ran, same) = both.is_replayed(rt, alloc, &group, base_of(1), 4)?;
+    Ok(same && !cross(&ran))
+}
+
+fn set_and_read<R: Threads + Wait + Sync>(rt: &R, alloc: Global) -> Result<bool, Fault> {
+    let mut both = Both::new(alloc)?;
+    let set = are_set(rt, alloc, &mut both) == Ok(true);
+    Ok(set && readers_agree(rt, alloc, &mut both) == Ok(true))
 }
 
 #[test]
 fn readers_never_cross(rt: HostRuntime) -> Result<(), Fail> {
     for _ in 0..500u32 {
-        assert!(rt; readers_agree(&rt, rt.alloc()) == Ok(true));
+        assert!(rt; set_and_read(&rt, rt.alloc()) == Ok(true));
     }
     Ok(())
 }
 
-#[test]
-fn two_are_inside_at_once(rt: HostRuntime) -> Result<(), Fail> {
-    let alloc = rt.alloc();
-    let gate = Meets {
-        rt: &rt,
-        inside: AtomicU64::new(0),
-        met: AtomicU64::new(0),
-    };
-    let mut group = Vec::new(alloc);
-    group.push(one(alloc, 0, set(alloc, b"C", b'1')?)?)?;
-    group.push(one(alloc, 1, set(alloc, b"E", b'1')?)?)?;
-    let base = Place {
-        moment: 5,
-        stamp: 0,
-    };
-    let two = Workers::new(2).unwrap();
-    let done = run(&rt, alloc, Pages::new(alloc)?, group, base, two, &gate).is_ok();
-    assert!(rt; done && gate.met.load(SeqCst) == 2);
+/// 64 requests: each other one gets a key of its own and then a shared one, the others count one up.
+fn add_mixed(alloc: Global, group: &mut Vec<Task>) -> Result<(), AllocError> {
+    for place in 0..32u32 {
+        let shared = b'0' + (place % 8) as u8;
+        add_get(alloc, group, 2 * place, &[b'A' + place as u8, shared])?;
+        add_incr(alloc, group, 2 * place + 1, &[shared])?;
+    }
     Ok(())
+}
+
+/// Shared keys that count from 0.
+fn add_counters(alloc: Global, group: &mut Vec<Task>) -> Result<(), AllocError> {
+    for place in 0..8u32 {
+        add_set(alloc, group, place, &[b'0' + place as u8], b'0')?;
+    }
+    Ok(())
+}
+
+/// Whether the shared keys are set as on the plain store.
+fn are_counters_set<R: Threads + Wait + Sync>(
+    rt: &R,
+    alloc: Global,
+    both: &mut Both,
+) -> Result<bool, Fault> {
+    let mut group = Vec::new(alloc);
+    add_counters(alloc, &mut group)?;
+    let (_, same) = both.is_replayed(rt, alloc, &group, base_of(0), 16)?;
+    Ok(same)
+}
+
+/// Whether each of so many rounds of the group is replayed.
+fn rounds_agree<R: Threads + Wait + Sync>(
+    rt: &R,
+    alloc: Global,
+    both: &mut Both,
+    group: &Vec<Task>,
+    rounds: u64,
+) -> Result<bool, Fault> {
+    let mut all = true;
+    for number in 0..rounds {
+        let (_, same) = both.is_replayed(rt, alloc, group, base_of(number), 16)?;
+        all = all && same;
+    }
+    Ok(all)
+}
+
+fn mixed_rounds_agree<R: Threads + Wait + Sync>(
+    rt: &R,
+    alloc: Global,
+    both: &mut Both,
+    rounds: u64,
+) -> Result<bool, Fault> {
+    let mut group = Vec::new(alloc);
+    add_mixed(alloc, &mut group)?;
+    rounds_agree(rt, alloc, both, &group, rounds)
+}
+
+/// Whether each of so many rounds over one state is replayed.
+fn count_and_read<R: Threads + Wait + Sync>(
+    rt: &R,
+    alloc: Global,
+    rounds: u64,
+) -> Result<bool, Fault> {
+    let mut both = Both::new(alloc)?;
+    let set = are_counters_set(rt, alloc, &mut both) == Ok(true);
+    Ok(set && mixed_rounds_agree(rt, alloc, &mut both, rounds) == Ok(true))
 }
 
 #[test]
 fn orders_of_many_rounds_replay(rt: HostRuntime) -> Result<(), Fail> {
-    assert!(rt; rounds_agree(&rt, rt.alloc(), 1000) == Ok(true));
+    assert!(rt; count_and_read(&rt, rt.alloc(), 1000) == Ok(true));
     Ok(())
 }
 
@@ -326,30 +308,50 @@ fn is_same_digest(a: &Page, b: &Page) -> bool {
     }
 }
 
+fn write_each(alloc: Global, pages: &mut Pages) -> Result<(), AllocError> {
+    for byte in 48..112u8 {
+        apply(alloc, pages, &set(alloc, &[byte], b'1')?, base_of(1))?;
+    }
+    Ok(())
+}
+
 /// Pages of which each was written.
 fn written_pages(alloc: Global) -> Result<Vec<Page>, AllocError> {
-    let base = Place {
-        moment: 5,
-        stamp: 64,
-    };
     let mut pages = Pages::new(alloc)?;
-    for byte in 48..112u8 {
-        apply(alloc, &mut pages, &set(alloc, &[byte], b'1')?, base)?;
-    }
+    write_each(alloc, &mut pages)?;
     Ok(pages.part())
+}
+
+/// Whether so many workers make the digests that one thread makes of these pages.
+fn make_the_same<R: Threads + Sync>(
+    rt: &R,
+    pages: &mut [Page],
+    alone: &mut [Page],
+    workers: Workers,
+) -> bool {
+    let written = pages.len() == 64 && pages.iter().all(|page| page.digest().is_none());
+    for page in alone.iter_mut() {
+        page.refresh();
+    }
+    refresh_all(rt, pages, workers);
+    written && pages.iter().zip(&*alone).all(|(a, b)| is_same_digest(a, b))
+}
+
+fn workers_make_the_same<R: Threads + Sync>(
+    rt: &R,
+    alloc: Global,
+    workers: Workers,
+) -> Result<bool, AllocError> {
+    let mut pages = written_pages(alloc)?;
+    let mut alone = pages.clone()?;
+    Ok(make_the_same(rt, pages.as_mut_slice(), alone.as_mut_slice(), workers))
 }
 
 #[test]
 fn workers_make_the_digests_of_one_thread(rt: HostRuntime) -> Result<(), Fail> {
     for count in [1usize, 3, 16] {
-        let mut pages = written_pages(rt.alloc())?;
-        let mut alone = pages.clone()?;
-        assert!(rt; pages.len() == 64 && pages.iter().all(|page| page.digest().is_none()));
-        for page in alone.iter_mut() {
-            page.refresh();
-        }
-        refresh_all(&rt, pages.as_mut_slice(), Workers::new(count).unwrap());
-        assert!(rt; pages.iter().zip(&alone).all(|(a, b)| is_same_digest(a, b)));
+        let workers = Workers::new(count).unwrap();
+        assert!(rt; workers_make_the_same(&rt, rt.alloc(), workers)?);
     }
     Ok(())
 }
@@ -361,18 +363,30 @@ fn there_are_1_to_16_workers(rt: HostRuntime) -> Result<(), Fail> {
     Ok(())
 }
 
+/// Two of these four requests have place 1.
+fn add_unfit(alloc: Global, group: &mut Vec<Task>) -> Result<(), AllocError> {
+    add_sets(alloc, group, 0)?;
+    add_sets(alloc, group, 1)
+}
+
+fn run_unfit<R: Threads + Wait + Sync>(rt: &R, alloc: Global) -> Result<(), Fault> {
+    let mut group = Vec::new(alloc);
+    add_unfit(alloc, &mut group)?;
+    let two = Workers::new(2).unwrap();
+    run(
+        rt,
+        alloc,
+        Pages::new(alloc)?,
+        group,
+        base_of(0),
+        two,
+        &NoGate,
+    )?;
+    Ok(())
+}
+
 #[test]
 fn unfit_groups_are_refused(rt: HostRuntime) -> Result<(), Fail> {
-    let alloc = rt.alloc();
-    let base = Place {
-        moment: 5,
-        stamp: 0,
-    };
-    let mut twice = Vec::new(alloc);
-    sets(alloc, &mut twice, 0)?;
-    sets(alloc, &mut twice, 1)?;
-    let two = Workers::new(2).unwrap();
-    let refused = run(&rt, alloc, Pages::new(alloc)?, twice, base, two, &NoGate);
-    assert!(rt; matches!(refused, Err(Fault::Unfit)));
+    assert!(rt; run_unfit(&rt, rt.alloc()) == Err(Fault::Unfit));
     Ok(())
 }
