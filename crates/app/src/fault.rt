@@ -1,3 +1,7 @@
+ghost use Rattle.std.specs.Prelude.{◌≡◌};
+ghost use Rattle.proto.specs.declared.fault.Fault.TheVariants.{NoMemory};
+ghost use Rattle.app.specs.declared.fault.FirstFault.TheVariants.{Own};
+
 use proto::Fault;
 use std::alloc::AllocError;
 use std::io;
@@ -18,12 +22,16 @@ pub enum FirstFault {
 }
 
 impl From<Fault> for FirstFault {
+    ghost from_gives = { λ fault e. e ≡ Own fault };
+
     fn from(fault: Fault) -> FirstFault {
         FirstFault::Own(fault)
     }
 }
 
 impl From<AllocError> for FirstFault {
+    ghost from_gives = { λ _ e. e ≡ Own NoMemory };
+
     fn from(_e: AllocError) -> FirstFault {
         FirstFault::Own(Fault::NoMemory)
     }

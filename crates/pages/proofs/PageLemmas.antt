@@ -1,5 +1,5 @@
 -- What the text of a page asks of its items, and edits that leave the items as they are.
-use Rattle.std.proofs.Common.{◌≡◌, ℕ, suc, ◌+◌, ◌-◌, ◌<◌, ◌≤◌, ◌^◌, ◌⊎◌, inl, inr, Bool, true, false, cond, not, List, [], ◌∷◌, length, Some, None, Option, refl, sym, ap, ◌∙◌, arith, subst}
+use Rattle.std.proofs.Common.{◌≡◌, ℕ, suc, ◌+◌, ◌≤◌, ◌⊎◌, inl, inr, Bool, true, false, cond, not, List, [], ◌∷◌, length, Some, None, Option, refl, sym, ap, ◌∙◌, arith, subst}
 use Rattle.std.specs.Prelude.{filter}
 use Rattle.std.specs.Option.{is_some, option_copied}
 use Rattle.std.specs.Borrow.{Bor}
@@ -14,7 +14,7 @@ use Rattle.items.specs.declared.item.Item.{Item}
 use Rattle.items.specs.Map.{Items, by_bytes, alive, is_alive}
 use Rattle.wire.specs.Item.{PageFits}
 use Rattle.pages.specs.Due.{NoneDueBefore}
-use Rattle.pages.specs.Page.{IsPage}
+use Rattle.pages.specs.Page.{IsPage, HasRoom, most_entries}
 use Rattle.pages.proofs.KeyLemmas.{same_key, all_keys}
 use Rattle.pages.proofs.JoinedLemmas.{no_items}
 
@@ -49,13 +49,18 @@ length-insert : (m : Items) (k : List ℕ) (v : Item) → length (entries (inser
 length-insert m k v = sym (len-entries (insert m k v)) ∙ len-insert nat_list_cmp_total m k v ∙ ap (λ n. cond (is_some (get m k)) n (n + 1)) (len-entries m)
 
 -- an item for which there is room, or that stands in the place of another
-pub fits-insert : (m : Items) (k : List ℕ) (v : Item) → PageFits (entries m) → (length (entries m) < 2 ^ 32 - 1) ⊎ (is_some (get m k) ≡ true) → PageFits (entries (insert m k v))
+pub fits-insert : (m : Items) (k : List ℕ) (v : Item) → PageFits (entries m) → HasRoom m k → PageFits (entries (insert m k v))
 fits-insert m k v fits (inl few) = by (is_some (get m k)) refl
   where
     by : (b : Bool) → is_some (get m k) ≡ b → PageFits (entries (insert m k v))
     by true e = omega (arith, fits, length-insert m k v ∙ ap (λ b. cond b (length (entries m)) (length (entries m) + 1)) e)
     by false e = omega (arith, few, length-insert m k v ∙ ap (λ b. cond b (length (entries m)) (length (entries m) + 1)) e)
 fits-insert m k v fits (inr there) = omega (arith, fits, length-insert m k v ∙ ap (λ b. cond b (length (entries m)) (length (entries m) + 1)) there)
+
+-- where a page has as many as it may have, there is room at its keys alone
+pub room-there : (m : Items) (k : List ℕ) → most_entries ≤ length (entries m) → HasRoom m k → is_some (get m k) ≡ true
+room-there m k full (inl few) = absurd (omega (arith, full, few))
+room-there m k full (inr there) = there
 
 pub fits-remove : (m : Items) (k : List ℕ) → PageFits (entries m) → PageFits (entries (remove m k))
 fits-remove m k fits = subst PageFits (sym (entries-remove m k)) (fits-filter _ (entries m) fits)

@@ -1,8 +1,9 @@
 -- The page of a key, the page's part of a map, and what is kept of a page.
-use Rattle.std.specs.Prelude.{◌≡◌, ℕ, List, Option, Some, IfSome, map, sum, filter, ◌%◌, ◌==◌, refl}
+use Rattle.std.specs.Prelude.{◌≡◌, ◌<◌, ◌⊎◌, ℕ, length, IsTrue, List, Option, Some, IfSome, map, sum, filter, ◌%◌, ◌==◌, refl}
 use Rattle.std.specs.Coded.{Coded, code_by, coded×, coded_option, coded_list, coded_ℕ}
 use Rattle.std.specs.List.{range_with_len}
-use Rattle.std.specs.FinMap.{entries, from_sorted}
+use Rattle.std.specs.FinMap.{entries, from_sorted, get}
+use Rattle.std.specs.Option.{is_some}
 use Rattle.items.specs.declared.item.Item.{Item}
 use Rattle.items.specs.Map.{Items}
 use Rattle.wire.specs.Item.{page_text, PageFits}
@@ -11,6 +12,14 @@ use Rattle.pages.specs.Due.{NoneDueBefore}
 
 abbrev pub page_count : ℕ
 page_count = 64
+
+-- how many entries a page has at most
+abbrev pub most_entries : ℕ
+most_entries = 4294967295
+
+-- a page of these items may have one at the key: it has one there, or fewer than it has at most
+abbrev pub HasRoom : Items → List ℕ → Type 0
+HasRoom m key = (length (entries m) < most_entries) ⊎ IsTrue (is_some (get m key))
 
 -- the sum of its bytes, modulo the number of pages
 abbrev pub page_number : List ℕ → ℕ

@@ -3,10 +3,9 @@ ghost use Rattle.std.specs.Option.{option_copied};
 ghost use Rattle.std.specs.List.{list_all};
 ghost use Rattle.std.specs.FinMap as map;
 ghost use Rattle.items.specs.Map.{alive, is_alive};
-ghost use Rattle.items.specs.declared.item.Item as item_type;
 ghost use Rattle.wire.specs.Item.{PageFits};
 ghost use Rattle.token.specs.Digest.{root_of};
-ghost use Rattle.pages.specs.Page.{page_number, items_digest, refreshed};
+ghost use Rattle.pages.specs.Page.{page_number, items_digest, refreshed, most_entries, HasRoom};
 ghost use Rattle.pages.specs.Joined.{IsOwn};
 
 use crate::due::{is_ahead, sooner, soonest_of};
@@ -20,14 +19,14 @@ use std::sync::Arc;
 use token::page_digest;
 use wire::Entries;
 
-/// The text of a page counts at most so many entries.
+/// How many entries a page has at most: its text counts them by four bytes.
 const MOST_ENTRIES: usize = 4294967295;
 
 /// One page: a store by itself.
 ///
 /// Its items are shared with its clones. Where they are, the first write copies them, so a clone
 /// keeps what it had. The digest of the items is kept until a write.
-#[derive(Debug, Drop)]
+#[derive(Drop)]
 pub struct Page {
     store: Arc<PlainStore, Global>,
     digest: Option<[u8; 32]>,
@@ -182,9 +181,11 @@ impl Page {
         Ok(())
     }
 
-    /// Whether a page's text can count the entries after a put at this key.
+    /// Whether the page may have an item at this key: it has one there, or fewer entries than it has
+    /// at most.
     fn has_room(&self, key: &Key) -> bool
-        ensures { IsTrue result → (item : item_type.Item) → PageFits (map.entries (map.insert self.now.items key.now item)) }
+        ensures limit { MOST_ENTRIES ≡ most_entries }
+        ensures room { IsTrue result ↔ HasRoom self.now.items key.now }
     {
         self.entries().len() < MOST_ENTRIES || self.get(key).is_some()
     }
@@ -211,7 +212,8 @@ impl Store for Page {
         self.store.get(key)
     }
 
-    /// Refused, as for want of memory, where it would be the page's entry above 2^32 - 1.
+    /// Refused for want of memory, or in the same way where the page has 2^32 - 1 entries and none at
+    /// the key.
     fn put(&mut self, key: Key, item: Item) -> Result<(), AllocError>
         ensures ok { OnOk result (self.new ≡ record { items = map.insert self.old.items key item; digest = None }) }
         ensures err { OnErr result (self.new ≡ self.old) }

@@ -14,7 +14,7 @@ use std::alloc::{AllocError, Global};
 use std::marker::Model;
 
 /// A store of 64 pages, each in the order of its keys.
-#[derive(Debug, Drop)]
+#[derive(Drop)]
 pub struct Pages {
     pages: Vec<Page>,
 }
@@ -137,7 +137,8 @@ impl Store for Pages {
         self.pages[page_of(key)].get(key)
     }
 
-    /// Refused, as for want of memory, where it would be a page's entry above 2^32 - 1.
+    /// Refused for want of memory, or in the same way where the key's page has 2^32 - 1 entries and
+    /// none at the key.
     fn put(&mut self, key: Key, item: Item) -> Result<(), AllocError> {
         let page = &mut self.pages[page_of(&key)];
         page.put(key, item)

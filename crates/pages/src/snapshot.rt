@@ -13,7 +13,7 @@ use std::alloc::AllocError;
 use std::marker::Model;
 
 /// Pages that are kept as they are, each beside its digest, and the root over the digests.
-#[derive(Debug, Drop)]
+#[derive(Drop)]
 pub struct Snapshot {
     pages: Vec<Page>,
     root: [u8; 32],

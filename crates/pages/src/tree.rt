@@ -15,7 +15,7 @@ const NODES: usize = 2 * PAGES;
 /// those that differ.
 ///
 /// Node 1 is the root, and the nodes below node `n` are `2n` and `2n + 1`. The leaves are the last 64.
-#[derive(Debug, Drop)]
+#[derive(Drop)]
 pub(crate) struct Tree {
     nodes: Vec<[u8; 32]>,
 }

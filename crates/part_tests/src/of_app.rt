@@ -1,4 +1,5 @@
 use app::{FirstFault, first};
+use proto::Fault;
 use std::alloc::{AllocError, Global};
 use std::io;
 use std::io::{ErrorKind, Read, Write};
@@ -12,12 +13,25 @@ fn given(alloc: Global, input: &[u8]) -> Result<Vec<u8>, Fail> {
     Ok(out)
 }
 
+fn add_parts(parts: &[&[u8]], all: &mut Vec<u8>) -> Result<(), AllocError> {
+    for part in parts {
+        all.extend_from_slice(*part)?;
+    }
+    Ok(())
+}
+
 fn joined(alloc: Global, parts: &[&[u8]]) -> Result<Vec<u8>, AllocError> {
     let mut all = Vec::new(alloc);
-    for part in parts {
-        all.extend_from_slice(part)?;
-    }
+    add_parts(parts, &mut all)?;
     Ok(all)
+}
+
+/// Whether one server gives the joined parts of a text for the joined parts of an input.
+fn gives(alloc: Global, input: &[&[u8]], output: &[&[u8]]) -> Result<bool, Fail> {
+    let input = joined(alloc, input)?;
+    let wanted = joined(alloc, output)?;
+    let text = given(alloc, input.as_slice())?;
+    Ok(text.as_slice() == wanted.as_slice())
 }
 
 #[test]
@@ -78,66 +92,47 @@ fn small_rows(rt: HostRuntime) -> Result<(), Fail> {
 
 #[test]
 fn keys_at_their_limits(rt: HostRuntime) -> Result<(), Fail> {
-    let longest = vec![in rt.alloc(); b'k'; 250]?;
-    let line = joined(
-        rt.alloc(),
-        &[
-            b"get ",
-            longest.as_slice(),
-            b"\r\nget k",
-            longest.as_slice(),
-            b"\r\n",
-        ],
-    )?;
-    let text = given(rt.alloc(), line.as_slice())?;
-    assert_eq!(rt;
-        text.as_slice(),
-        b"END\r\nCLIENT_ERROR bad command line format\r\n".as_slice()
-    );
+    let longest = [b'k'; 250];
+    let longer = [b'k'; 251];
+    let output: &[u8] = b"END\r\nCLIENT_ERROR bad command line format\r\n";
+    let input: [&[u8]; 5] = [b"get ", &longest, b"\r\nget ", &longer, b"\r\n"];
+    assert!(rt; gives(rt.alloc(), &input, &[output])?);
 
-    let mut many = joined(rt.alloc(), &[b"get"])?;
-    for _ in 0..64usize {
-        many.extend_from_slice(b" a".as_slice())?;
-    }
-    let lines = joined(
-        rt.alloc(),
-        &[many.as_slice(), b"\r\n", many.as_slice(), b" a\r\n"],
-    )?;
-    let text = given(rt.alloc(), lines.as_slice())?;
-    assert_eq!(rt;
-        text.as_slice(),
-        b"END\r\nCLIENT_ERROR bad command line format\r\n".as_slice()
-    );
+    let names = [*b" a"; 64];
+    let most = names.as_flattened();
+    let input: [&[u8]; 5] = [b"get", most, b"\r\nget", most, b" a\r\n"];
+    assert!(rt; gives(rt.alloc(), &input, &[output])?);
     Ok(())
+}
+
+/// Whether blocks at the limit are stored, and those above it are not.
+fn keeps_the_limit(alloc: Global, block: &[u8]) -> Result<bool, Fail> {
+    let (_, shorter) = block.split_at(block.len().min(1));
+    gives(
+        alloc,
+        &[
+            b"set a 0 0 65536\r\n",
+            block,
+            b"\r\nset a 0 0 65537\r\n",
+            block,
+            b"x\r\nappend a 0 0 1\r\nx\r\nget a\r\nset b 0 0 65535\r\n",
+            shorter,
+            b"\r\nappend b 0 0 1\r\nx\r\nappend b 0 0 1\r\nx\r\nget b\r\n",
+        ],
+        &[
+            b"STORED\r\nSERVER_ERROR object too large for cache\r\nSERVER_ERROR object too large for cache\r\nVALUE a 0 65536\r\n",
+            block,
+            b"\r\nEND\r\nSTORED\r\nSTORED\r\nSERVER_ERROR object too large for cache\r\nVALUE b 0 65536\r\n",
+            block,
+            b"\r\nEND\r\n",
+        ],
+    )
 }
 
 #[test]
 fn blocks_at_their_limit(rt: HostRuntime) -> Result<(), Fail> {
     let block = vec![in rt.alloc(); b'x'; 65536]?;
-    let input = joined(
-        rt.alloc(),
-        &[
-            b"set a 0 0 65536\r\n",
-            block.as_slice(),
-            b"\r\nset a 0 0 65537\r\n",
-            block.as_slice(),
-            b"x\r\nappend a 0 0 1\r\nx\r\nget a\r\nset b 0 0 65535\r\n",
-            &block.as_slice()[1..],
-            b"\r\nappend b 0 0 1\r\nx\r\nappend b 0 0 1\r\nx\r\nget b\r\n",
-        ],
-    )?;
-    let text = given(rt.alloc(), input.as_slice())?;
-    let wanted = joined(
-        rt.alloc(),
-        &[
-            b"STORED\r\nSERVER_ERROR object too large for cache\r\nSERVER_ERROR object too large for cache\r\nVALUE a 0 65536\r\n",
-            block.as_slice(),
-            b"\r\nEND\r\nSTORED\r\nSTORED\r\nSERVER_ERROR object too large for cache\r\nVALUE b 0 65536\r\n",
-            block.as_slice(),
-            b"\r\nEND\r\n",
-        ],
-    )?;
-    assert!(rt; text.as_slice() == wanted.as_slice());
+    assert!(rt; keeps_the_limit(rt.alloc(), block.as_slice())?);
     Ok(())
 }
 
@@ -244,6 +239,28 @@ fn a_write_that_fails(rt: HostRuntime) -> Result<(), Fail> {
             }
             Err(_) => assert!(rt; false, "another fault"),
         }
+    }
+    Ok(())
+}
+
+#[test]
+fn faults_of_first_as_they_are_printed(rt: HostRuntime) -> Result<(), Fail> {
+    let rows = [
+        (FirstFault::from(AllocError), "1 NoMemory"),
+        (FirstFault::from(Fault::NoMemory), "1 NoMemory"),
+        (FirstFault::from(Fault::NotOpen), "7 NotOpen"),
+        (
+            FirstFault::Read(io::Error::new(ErrorKind::Other, "frail")),
+            "frail",
+        ),
+        (
+            FirstFault::Write(io::Error::new(ErrorKind::Other, "full")),
+            "full",
+        ),
+    ];
+    for (fault, text) in rows {
+        let printed = format!(in rt.alloc(); "{fault}")?;
+        assert_eq!(rt; printed.as_str(), text);
     }
     Ok(())
 }

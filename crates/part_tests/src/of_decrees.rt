@@ -2,7 +2,7 @@ ghost use Rattle.std.specs.Prelude.{◌<◌};
 
 use decrees::{Decree, Log, Standing, Verdict, VoteKey, Votes};
 use proto::Fault;
-use std::alloc::Global;
+use std::alloc::{AllocError, Global};
 use std::test::Fail;
 use token::Token;
 
@@ -20,17 +20,23 @@ fn token(byte: u8) -> Token {
     Token([byte; 32])
 }
 
-/// The verdict where the executors from 0 on have these tokens for the first number.
-fn verdict(alloc: Global, u: u8, tokens: &[u8]) -> Result<Verdict, Fail>
-    requires { u < 4 }
-{
-    let mut votes = Votes::new(alloc);
+/// Adds these tokens for the first number, of the executors from 0 on, and later others of the same.
+fn add_votes(votes: &mut Votes, tokens: &[u8]) -> Result<(), AllocError> {
     let mut executor = 0;
     for byte in tokens {
         votes.add(key(1, 1, executor), token(*byte))?;
         votes.add(key(1, 1, executor), token(99))?;
         executor = executor.wrapping_add(1);
     }
+    Ok(())
+}
+
+/// The verdict where the executors from 0 on have these tokens for the first number.
+fn verdict(alloc: Global, u: u8, tokens: &[u8]) -> Result<Verdict, Fail>
+    requires { u < 4 }
+{
+    let mut votes = Votes::new(alloc);
+    add_votes(&mut votes, tokens)?;
     Ok(votes.verdict(&Standing::first(), u))
 }
 
@@ -55,12 +61,17 @@ fn verdicts(rt: HostRuntime) -> Result<(), Fail> {
     Ok(())
 }
 
+/// Votes of another epoch, of another number, and of one that is no executor of a set of one.
+fn add_others(votes: &mut Votes) -> Result<(), AllocError> {
+    votes.add(key(2, 1, 0), token(7))?;
+    votes.add(key(1, 2, 0), token(7))?;
+    votes.add(key(1, 1, 1), token(7))
+}
+
 #[test]
 fn votes_that_do_not_count(rt: HostRuntime) -> Result<(), Fail> {
     let mut votes = Votes::new(rt.alloc());
-    votes.add(key(2, 1, 0), token(7))?;
-    votes.add(key(1, 2, 0), token(7))?;
-    votes.add(key(1, 1, 1), token(7))?;
+    add_others(&mut votes)?;
     assert_eq!(rt; votes.verdict(&Standing::first(), 0), Verdict::Wait);
     votes.drop_old(&Standing {
         n: 1,

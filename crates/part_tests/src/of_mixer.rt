@@ -1,3 +1,4 @@
+use item_steps::Group;
 use mixer::mix;
 use proto::{Block, Command, Key, Keys, StoreVerb, Update};
 use sessions::Request;
@@ -15,15 +16,27 @@ fn key(alloc: Global, name: u8) -> Result<Key, AllocError> {
     Ok(Key::new(bytes))
 }
 
-/// A `get` of one to three keys.
-fn get(alloc: Global, names: [u8; 3], len: usize) -> Result<Command, AllocError> {
-    let mut keys = Vec::new(alloc);
-    keys.push(key(alloc, names[0])?)?;
-    if len > 1 {
-        keys.push(key(alloc, names[1])?)?;
+/// What a request asks: to read these names, to set one, or to count one up.
+#[derive(Clone, Copy)]
+enum Asks {
+    Get(&'static [u8]),
+    Set(u8),
+    Incr(u8),
+}
+
+fn add_keys(alloc: Global, names: &[u8], keys: &mut Vec<Key>) -> Result<(), AllocError> {
+    for name in names {
+        keys.push(key(alloc, *name)?)?;
     }
-    if len > 2 {
-        keys.push(key(alloc, names[2])?)?;
+    Ok(())
+}
+
+/// A `get` of these names: of no more than 64, and of at least one.
+fn get(alloc: Global, names: &[u8]) -> Result<Command, AllocError> {
+    let mut keys = Vec::new(alloc);
+    add_keys(alloc, names, &mut keys)?;
+    if keys.is_empty() || keys.len() > 64 {
+        return set(alloc, b'k');
     }
     Ok(Command::Get(Keys::new(keys)))
 }
@@ -45,61 +58,77 @@ fn incr(alloc: Global, name: u8) -> Result<Command, AllocError> {
     }))
 }
 
-fn ask(requests: &mut Vec<Request>, command: Command) -> Result<(), AllocError> {
-    requests.push(Request {
-        client: 1,
-        number: 1,
-        command,
-    })?;
+fn command(alloc: Global, asks: Asks) -> Result<Command, AllocError> {
+    match asks {
+        Asks::Get(names) => get(alloc, names),
+        Asks::Set(name) => set(alloc, name),
+        Asks::Incr(name) => incr(alloc, name),
+    }
+}
+
+fn add_requests(
+    alloc: Global,
+    asked: &[Asks],
+    requests: &mut Vec<Request>,
+) -> Result<(), AllocError> {
+    for asks in asked {
+        requests.push(Request {
+            client: 1,
+            number: 1,
+            command: command(alloc, *asks)?,
+        })?;
+    }
     Ok(())
 }
 
-/// The places of each group, and a bar after each.
-fn places(alloc: Global, requests: &[Request]) -> Result<Vec<u8>, AllocError> {
-    let mut out = Vec::new(alloc);
-    if requests.len() > 9 {
-        return Ok(out);
-    }
-    for group in &mix(alloc, requests)? {
+/// Adds the places of each group, and a bar after each.
+fn add_places(groups: &[Group], out: &mut Vec<u8>) -> Result<(), AllocError> {
+    for group in groups {
         for task in group.as_slice() {
             out.push(b"0123456789"[(task.place % 10) as usize])?;
         }
         out.push(b'|')?;
+    }
+    Ok(())
+}
+
+/// The groups of at most nine requests, by their places.
+fn places(alloc: Global, asked: &[Asks]) -> Result<Vec<u8>, AllocError> {
+    let mut requests = Vec::new(alloc);
+    add_requests(alloc, asked, &mut requests)?;
+    let mut out = Vec::new(alloc);
+    if requests.len() <= 9 {
+        let groups = mix(alloc, requests.as_slice())?;
+        add_places(groups.as_slice(), &mut out)?;
     }
     Ok(out)
 }
 
 #[test]
 fn each_request_comes_after_those_it_conflicts_with(rt: HostRuntime) -> Result<(), Fail> {
-    let alloc = rt.alloc();
-    let mut requests = Vec::new(alloc);
-    ask(&mut requests, set(alloc, b'a')?)?;
-    ask(&mut requests, get(alloc, [b'a', b'b', b'c'], 2)?)?;
-    ask(&mut requests, set(alloc, b'b')?)?;
-    ask(&mut requests, get(alloc, [b'c', b'b', b'a'], 1)?)?;
-    let groups = places(alloc, &requests)?;
+    let groups = places(
+        rt.alloc(),
+        &[
+            Asks::Set(b'a'),
+            Asks::Get(b"ab"),
+            Asks::Set(b'b'),
+            Asks::Get(b"c"),
+        ],
+    )?;
     assert_eq!(rt; groups.as_slice(), b"03|1|2|".as_slice());
     Ok(())
 }
 
 #[test]
 fn a_conflict_on_a_third_key_is_overlooked(rt: HostRuntime) -> Result<(), Fail> {
-    let alloc = rt.alloc();
-    let mut requests = Vec::new(alloc);
-    ask(&mut requests, get(alloc, [b'x', b'y', b'c'], 3)?)?;
-    ask(&mut requests, set(alloc, b'c')?)?;
-    let groups = places(alloc, &requests)?;
+    let groups = places(rt.alloc(), &[Asks::Get(b"xyc"), Asks::Set(b'c')])?;
     assert_eq!(rt; groups.as_slice(), b"01|".as_slice());
     Ok(())
 }
 
 #[test]
 fn two_counts_of_one_key_are_apart(rt: HostRuntime) -> Result<(), Fail> {
-    let alloc = rt.alloc();
-    let mut requests = Vec::new(alloc);
-    ask(&mut requests, incr(alloc, b'n')?)?;
-    ask(&mut requests, incr(alloc, b'n')?)?;
-    let groups = places(alloc, &requests)?;
+    let groups = places(rt.alloc(), &[Asks::Incr(b'n'), Asks::Incr(b'n')])?;
     assert_eq!(rt; groups.as_slice(), b"0|1|".as_slice());
     Ok(())
 }

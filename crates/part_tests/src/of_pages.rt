@@ -195,30 +195,82 @@ fn parted_pages_are_stores(rt: HostRuntime) -> Result<(), Fail> {
     Ok(())
 }
 
+/// One of 1,000 keys, each of the page 44.
+fn nth_key(alloc: Global, n: usize) -> Result<Key, AllocError> {
+    let digits = [n / 100 % 10, n / 10 % 10, n % 10];
+    let last = 92 - digits[0] - digits[1] - digits[2];
+    key(
+        alloc,
+        &[
+            b'0' + digits[0] as u8,
+            b'0' + digits[1] as u8,
+            b'0' + digits[2] as u8,
+            last as u8,
+        ],
+    )
+}
+
+fn put_nth(alloc: Global, pages: &mut Pages, n: usize) -> Result<(), AllocError> {
+    let item = Item {
+        block: Block::from_slice(alloc, b"5")?,
+        flags: n as u32,
+        due: None,
+        unique: 64,
+    };
+    pages.put(nth_key(alloc, n)?, item)
+}
+
+/// Whether the key has the item that was put for it.
+fn has_nth(alloc: Global, pages: &Pages, n: usize) -> Result<bool, AllocError> {
+    let key = nth_key(alloc, n)?;
+    Ok(pages.get(&key).is_some_and(|item| item.flags as usize == n))
+}
+
+#[test]
+fn a_page_of_1000_items(rt: HostRuntime) -> Result<(), Fail> {
+    let mut pages = Pages::new(rt.alloc())?;
+    for n in 0..1000usize {
+        put_nth(rt.alloc(), &mut pages, n)?;
+    }
+    assert_eq!(rt; pages.page(44).len(), 1000);
+    for n in 0..1000usize {
+        assert!(rt; has_nth(rt.alloc(), &pages, n)?, "item {n}");
+    }
+    Ok(())
+}
+
+/// So many random steps, each from the last state.
+fn add_states(
+    alloc: Global,
+    words: &mut Lcg64Xsh32,
+    states: &mut Vec<(Snapshot, PlainStore)>,
+    steps: u32,
+) -> Result<(), AllocError> {
+    for step in 0..steps {
+        let change = any_change(alloc, words)?;
+        if let Some((kept, plain)) = states.last() {
+            let next = changed(kept, plain, &change)?;
+            states.push(next)?;
+        }
+    }
+    Ok(())
+}
+
+fn last_agrees(states: &[(Snapshot, PlainStore)]) -> bool {
+    states.last().is_some_and(|state| agree(&state.0, &state.1))
+}
+
 #[test]
 fn random_steps_with_undo(rt: HostRuntime) -> Result<(), Fail> {
     let alloc = rt.alloc();
     let mut words = Lcg64Xsh32::seed_from_u64(20);
     let mut states = vec![in alloc; (Pages::new(alloc)?.seal(), PlainStore::new(alloc))]?;
     for tens in 0..100u32 {
-        for step in 0..10u32 {
-            let Some((kept, plain)) = states.last() else {
-                return Ok(());
-            };
-            let change = any_change(alloc, &mut words)?;
-            let next = changed(kept, plain, &change)?;
-            states.push(next)?;
-        }
-        let Some((kept, plain)) = states.last() else {
-            return Ok(());
-        };
-        assert!(rt; agree(kept, plain), "before undo {tens}");
+        add_states(alloc, &mut words, &mut states, 10)?;
+        assert!(rt; last_agrees(states.as_slice()), "before undo {tens}");
         let back = 1 + (words.next_word() % 9) as usize;
         states.truncate(states.len().saturating_sub(back));
-        let Some((kept, plain)) = states.last() else {
-            return Ok(());
-        };
-        assert!(rt; agree(kept, plain), "after undo {tens}");
+        assert!(rt; last_agrees(states.as_slice()), "after undo {tens}");
     }
     Ok(())
 }

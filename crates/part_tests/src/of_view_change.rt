@@ -1,4 +1,7 @@
+ghost use Rattle.std.specs.Prelude.{◌<◌};
+
 use decrees::Decree;
+use std::alloc::{AllocError, Global};
 use std::test::Fail;
 use token::Token;
 use view_change::{Choice, Promise, Promises};
@@ -18,30 +21,48 @@ fn promise(from: u8, known: u64, accepted: Option<(u64, Decree)>) -> Promise {
     }
 }
 
+fn add_all(promises: &mut Promises, added: &[Promise]) -> Result<(), AllocError> {
+    for promise in added {
+        promises.add(*promise)?;
+    }
+    Ok(())
+}
+
+/// The choice of one that knows so many decrees, after these promises.
+fn choice(alloc: Global, added: &[Promise], known: u64, u: u8) -> Result<Choice, AllocError>
+    requires { u < 4 }
+{
+    let mut promises = Promises::new(alloc);
+    add_all(&mut promises, added)?;
+    Ok(promises.choice(known, u))
+}
+
 #[test]
 fn choices(rt: HostRuntime) -> Result<(), Fail> {
-    let mut promises = Promises::new(rt.alloc());
-    assert_eq!(rt; promises.choice(0, 1), Choice::Wait);
-    promises.add(promise(2, 0, None))?;
-    promises.add(promise(2, 0, Some((9, commit(9)))))?;
-    assert_eq!(rt; promises.choice(0, 1), Choice::Wait);
-    promises.add(promise(1, 0, None))?;
-    assert_eq!(rt; promises.choice(0, 1), Choice::Free);
-    promises.add(promise(0, 0, Some((0, commit(5)))))?;
-    assert_eq!(rt; promises.choice(0, 1), Choice::Must(commit(5)));
-    assert_eq!(rt; promises.choice(1, 1), Choice::Free);
-    assert_eq!(rt; promises.choice(0, 2), Choice::Must(commit(5)));
+    let all = [
+        promise(2, 0, None),
+        promise(2, 0, Some((9, commit(9)))),
+        promise(1, 0, None),
+        promise(0, 0, Some((0, commit(5)))),
+    ];
+    assert_eq!(rt; choice(rt.alloc(), &[], 0, 1)?, Choice::Wait);
+    assert_eq!(rt; choice(rt.alloc(), &all[..2], 0, 1)?, Choice::Wait);
+    assert_eq!(rt; choice(rt.alloc(), &all[..3], 0, 1)?, Choice::Free);
+    assert_eq!(rt; choice(rt.alloc(), &all, 0, 1)?, Choice::Must(commit(5)));
+    assert_eq!(rt; choice(rt.alloc(), &all, 1, 1)?, Choice::Free);
+    assert_eq!(rt; choice(rt.alloc(), &all, 0, 2)?, Choice::Must(commit(5)));
     Ok(())
 }
 
 #[test]
 fn the_highest_view_of_the_lowest_sender(rt: HostRuntime) -> Result<(), Fail> {
-    let mut promises = Promises::new(rt.alloc());
-    promises.add(promise(4, 3, Some((7, commit(4)))))?;
-    promises.add(promise(3, 3, Some((8, commit(3)))))?;
-    promises.add(promise(1, 3, Some((8, commit(1)))))?;
-    promises.add(promise(0, 2, Some((9, commit(9)))))?;
-    assert_eq!(rt; promises.choice(3, 2), Choice::Must(commit(1)));
-    assert_eq!(rt; promises.choice(2, 2), Choice::Wait);
+    let all = [
+        promise(4, 3, Some((7, commit(4)))),
+        promise(3, 3, Some((8, commit(3)))),
+        promise(1, 3, Some((8, commit(1)))),
+        promise(0, 2, Some((9, commit(9)))),
+    ];
+    assert_eq!(rt; choice(rt.alloc(), &all, 3, 2)?, Choice::Must(commit(1)));
+    assert_eq!(rt; choice(rt.alloc(), &all, 2, 2)?, Choice::Wait);
     Ok(())
 }
