@@ -12,13 +12,13 @@ use verifier::{Input, Verifier};
 
 /// A verifier that was opened, or the keeper of one that was not.
 #[derive(Drop)]
-pub enum Seat {
+enum Seat {
     Open(Verifier<MemKeeper>),
     Closed(MemKeeper),
 }
 
 /// What an input is answered with.
-pub type Answer = Result<Vec<Letter<Ballot>>, Fault>;
+type Answer = Result<Vec<Letter<Ballot>>, Fault>;
 
 fn opened(alloc: Global, id: u8, u: u8, keeper: MemKeeper) -> (Seat, Answer)
     requires few { u < 4 }
@@ -39,7 +39,7 @@ impl Seat {
     }
 
     /// Opens the verifier of these numbers with the keeper that it had.
-    pub fn open(&mut self, alloc: Global, id: u8, u: u8) -> Answer {
+    fn open(&mut self, alloc: Global, id: u8, u: u8) -> Answer {
         if 3 < u || 2 * u < id {
             return Err(Fault::BadRecord);
         }
@@ -64,7 +64,7 @@ impl Seat {
     }
 
     /// Puts a keeper with this record in its place.
-    pub fn find(&mut self, alloc: Global, record: &[u8]) -> Option<()> {
+    fn find(&mut self, alloc: Global, record: &[u8]) -> Option<()> {
         let mut keeper = MemKeeper::new(alloc);
         let saved = keeper.save(record);
         *self = Seat::Closed(keeper);
