@@ -1,5 +1,4 @@
-//! Tests of `verifier` by its public calls: schedules, which are played line by line, and records that
-//! are cut or changed.
+//! Tests of `verifier` by its public calls: schedules, which are played line by line.
 #![tactic(auto)]
 
 #[cfg(test)]

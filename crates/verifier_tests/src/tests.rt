@@ -4,7 +4,6 @@ use std::test::Fail;
 
 mod line;
 mod play;
-mod records;
 mod schedules;
 
 #[test]

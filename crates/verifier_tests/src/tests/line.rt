@@ -8,9 +8,13 @@ pub fn words(alloc: Global, text: &str) -> Result<Vec<&str>, AllocError> {
     text.split_whitespace().collect(alloc)
 }
 
+fn parsed(word: &str) -> Option<u64> {
+    word.parse().ok()
+}
+
 /// The node that a word names: `v1`, `e0` or `c9`.
 pub fn node(word: &str) -> Option<Node> {
-    let number = word.get(1..)?.parse::<u8>().ok()?;
+    let number = u8::try_from(parsed(word.get(1..)?)?).ok()?;
     match word.get(..1)? {
         "v" => Some(Node::Verifier(number)),
         "e" => Some(Node::Executor(number)),
@@ -32,7 +36,7 @@ pub fn number(words: &[&str], at: usize, name: &str) -> Option<u64> {
     if *words.get(at)? != name {
         return None;
     }
-    words.get(at.wrapping_add(1))?.parse().ok()
+    parsed(words.get(at.wrapping_add(1))?)
 }
 
 /// The token of 32 bytes that are this number.
@@ -152,7 +156,7 @@ fn hexadecimal(word: &str) -> Option<u8> {
     }
 }
 
-fn push_times(byte: u8, times: u8, all: &mut Vec<u8>) -> Option<()> {
+fn push_times(byte: u8, times: u64, all: &mut Vec<u8>) -> Option<()> {
     for _ in 0..times {
         if all.push(byte).is_err() {
             return None;
@@ -164,7 +168,7 @@ fn push_times(byte: u8, times: u8, all: &mut Vec<u8>) -> Option<()> {
 /// The bytes of a word: `07`, or `07x32` for 32 of them.
 fn push_bytes(word: &str, all: &mut Vec<u8>) -> Option<()> {
     match word.split_once('x') {
-        Some((byte, times)) => push_times(hexadecimal(byte)?, times.parse().ok()?, all),
+        Some((byte, times)) => push_times(hexadecimal(byte)?, parsed(times)?, all),
         None => push_times(hexadecimal(word)?, 1, all),
     }
 }

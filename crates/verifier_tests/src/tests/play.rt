@@ -1,5 +1,7 @@
 //! The verifiers of a schedule, and what they have to answer.
 
+ghost use Rattle.std.specs.Prelude.{◌<◌, ◌≤◌, ◌*◌};
+
 use super::line::{ballot, bytes, node, number, verifier, words};
 use decrees::{Ballot, Letter, Node};
 use keeper::{Keeper, MemKeeper};
@@ -10,23 +12,18 @@ use verifier::{Input, Verifier};
 
 /// A verifier that was opened, or the keeper of one that was not.
 #[derive(Drop)]
-pub enum Seat {
+enum Seat {
     Open(Verifier<MemKeeper>),
     Closed(MemKeeper),
 }
 
 /// What an input is answered with.
-pub type Answer = Result<Vec<Letter<Ballot>>, Fault>;
+type Answer = Result<Vec<Letter<Ballot>>, Fault>;
 
-/// Opens a verifier of these numbers with the keeper of this seat.
-fn reopened(alloc: Global, id: u8, u: u8, seat: Seat) -> (Seat, Answer) {
-    let keeper = match seat {
-        Seat::Open(verifier) => verifier.end(),
-        Seat::Closed(keeper) => keeper,
-    };
-    if 3 < u || 2 * u < id {
-        return (Seat::Closed(keeper), Err(Fault::BadRecord));
-    }
+fn opened(alloc: Global, id: u8, u: u8, keeper: MemKeeper) -> (Seat, Answer)
+    requires few { u < 4 }
+    requires member { id ≤ 2 * u }
+{
     match Verifier::open(alloc, id, u, keeper) {
         Ok((verifier, letters)) => (Seat::Open(verifier), Ok(letters)),
         Err((fault, keeper)) => (Seat::Closed(keeper), Err(fault)),
@@ -34,9 +31,20 @@ fn reopened(alloc: Global, id: u8, u: u8, seat: Seat) -> (Seat, Answer) {
 }
 
 impl Seat {
-    pub fn open(&mut self, alloc: Global, id: u8, u: u8) -> Answer {
+    fn into_keeper(self) -> MemKeeper {
+        match self {
+            Seat::Open(verifier) => verifier.end(),
+            Seat::Closed(keeper) => keeper,
+        }
+    }
+
+    /// Opens the verifier of these numbers with the keeper that it had.
+    fn open(&mut self, alloc: Global, id: u8, u: u8) -> Answer {
+        if 3 < u || 2 * u < id {
+            return Err(Fault::BadRecord);
+        }
         let seat = mem::replace(self, Seat::Closed(MemKeeper::new(alloc)));
-        let (seat, answer) = reopened(alloc, id, u, seat);
+        let (seat, answer) = opened(alloc, id, u, seat.into_keeper());
         *self = seat;
         answer
     }
@@ -56,7 +64,7 @@ impl Seat {
     }
 
     /// Puts a keeper with this record in its place.
-    pub fn find(&mut self, alloc: Global, record: &[u8]) -> Option<()> {
+    fn find(&mut self, alloc: Global, record: &[u8]) -> Option<()> {
         let mut keeper = MemKeeper::new(alloc);
         let saved = keeper.save(record);
         *self = Seat::Closed(keeper);

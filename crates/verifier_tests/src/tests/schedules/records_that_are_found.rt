@@ -43,6 +43,28 @@ v1 finds 01 56 01 01 00x8 00 00x3 01 01 00x7 02 07x32
 v1 opens
   bad record
 
+# More decrees than there are, and fewer.
+v1 finds 01 56 01 01 00x8 00 00x3 02 00
+v1 opens
+  bad record
+v1 finds 01 56 01 01 00x8 00 00x3 01 00 00
+v1 opens
+  bad record
+v1 finds 01 56 01 01 00x8 00 01 00x3 00
+v1 opens
+  bad record
+
+# What is accepted is cut: its view, its number, its token.
+v1 finds 01 56 01 01 00x8 01 00x7
+v1 opens
+  bad record
+v1 finds 01 56 01 01 00x8 01 00x8 01 00x7
+v1 opens
+  bad record
+v1 finds 01 56 01 01 00x8 01 00x8 01 00x8 07x31
+v1 opens
+  bad record
+
 # A byte too few, a byte too many, and no byte at all.
 v1 finds 01 56 01 01 00x8 00 00x3
 v1 opens
