@@ -8,70 +8,24 @@ use token::Token;
 use wire::read;
 
 mod records;
+mod rows;
 mod threads;
 
-/// What a client asks, by its request 1. Each key has one byte.
-#[derive(Clone, Copy)]
-enum Ask<'a> {
-    /// `set` to the data `5`, with an exptime.
-    Set(u8, i32),
-    Get(&'a [u8]),
-    Gets(&'a [u8]),
-}
+use rows::*;
 
-/// The record of batch `n` at a moment, without its requests.
-fn add_head(bytes: &mut Vec<u8>, n: u8, moment: u32, count: u8) -> Result<(), AllocError> {
-    bytes.extend_from_slice(&[4, 0, 0, 0, 0, 0, 0, 0, 1, 0, 0, 0, 0, 0, 0, 0, n])?;
-    bytes.extend_from_slice(moment.to_be_bytes().as_slice())?;
-    bytes.extend_from_slice(&[0, 0, 0, count])
-}
-
-fn add_set(bytes: &mut Vec<u8>, client: u8, key: u8, exptime: i32) -> Result<(), AllocError> {
-    bytes.extend_from_slice(&[0, client, 0, 0, 0, 0, 0, 0, 0, 1, 2, 1, key, 0, 0, 0, 0])?;
-    bytes.extend_from_slice(exptime.to_be_bytes().as_slice())?;
-    bytes.extend_from_slice(&[0, 0, 0, 1, b'5'])
-}
-
-/// A `get` has verb 0, a `gets` 1.
-fn add_get(bytes: &mut Vec<u8>, client: u8, verb: u8, keys: &[u8]) -> Result<(), AllocError> {
-    bytes.extend_from_slice(&[0, client, 0, 0, 0, 0, 0, 0, 0, 1, verb, 0, 0, 0])?;
-    bytes.push((keys.len() % 64) as u8)?;
-    for key in keys {
-        bytes.extend_from_slice(&[1, *key])?;
-    }
-    Ok(())
-}
-
-fn add_ask(bytes: &mut Vec<u8>, client: u8, ask: &Ask<'_>) -> Result<(), AllocError> {
-    match ask {
-        Ask::Set(key, exptime) => add_set(bytes, client, *key, *exptime),
-        Ask::Get(keys) => add_get(bytes, client, 0, keys),
-        Ask::Gets(keys) => add_get(bytes, client, 1, keys),
-    }
-}
-
-/// The record of batch `n` at a moment: each request is of another client, the first of client
-/// 1 in batch 1, and of client 65 in batch 2.
-fn add_batch(bytes: &mut Vec<u8>, n: u8, moment: u32, asks: &[Ask<'_>]) -> Result<(), AllocError> {
-    add_head(bytes, n, moment, (asks.len() % 65) as u8)?;
-    let mut client = n.wrapping_sub(1).wrapping_mul(64);
-    for ask in asks {
-        client = client.wrapping_add(1);
-        add_ask(bytes, client, ask)?;
-    }
-    Ok(())
-}
-
-fn batch_bytes(alloc: Global, n: u8, moment: u32, asks: &[Ask<'_>]) -> Result<Vec<u8>, AllocError> {
-    let mut bytes = Vec::new(alloc);
-    add_batch(&mut bytes, n, moment, asks)?;
-    Ok(bytes)
+/// Adds a `set` of the key, by a client's request 1.
+fn add_set(bytes: &mut Vec<u8>, client: u8, key: u8) -> Result<(), AllocError> {
+    bytes.extend_from_slice(&[
+        0, client, 0, 0, 0, 0, 0, 0, 0, 1, 2, 1, key, 0, 0, 0, 0, 0, 0, 0, 0, 0, 0, 0, 1, b'5',
+    ])
 }
 
 fn add_full_batch(bytes: &mut Vec<u8>) -> Result<(), AllocError> {
-    add_head(bytes, 1, 1000, 64)?;
+    bytes.extend_from_slice(&[
+        4, 0, 0, 0, 0, 0, 0, 0, 1, 0, 0, 0, 0, 0, 0, 0, 1, 0, 0, 3, 232, 0, 0, 0, 64,
+    ])?;
     for key in 33..97u8 {
-        add_set(bytes, key - 32, key, 0)?;
+        add_set(bytes, key - 32, key)?;
     }
     Ok(())
 }
@@ -120,20 +74,15 @@ fn committed(alloc: Global, base: &Base, bytes: &[u8], ordered: bool) -> Result<
     }
 }
 
-/// The state that batch 1 makes of the first one, committed.
-fn after_first(alloc: Global, asks: &[Ask<'_>]) -> Result<Committed, Fault> {
-    let bytes = batch_bytes(alloc, 1, 1000, asks)?;
-    over_first(alloc, bytes.as_slice())
-}
-
-fn over_first(alloc: Global, bytes: &[u8]) -> Result<Committed, Fault> {
+/// The state that a batch makes of the first one, committed.
+fn after_first(alloc: Global, bytes: &[u8]) -> Result<Committed, Fault> {
     let first = Base::first(alloc)?;
     committed(alloc, &first, bytes, false)
 }
 
 /// The base after batch 1.
-fn base_after(alloc: Global, asks: &[Ask<'_>]) -> Result<Base, Fault> {
-    let committed = after_first(alloc, asks)?;
+fn base_after(alloc: Global, bytes: &[u8]) -> Result<Base, Fault> {
+    let committed = after_first(alloc, bytes)?;
     Ok(committed.base()?)
 }
 
@@ -168,27 +117,14 @@ fn shown_over(alloc: Global, base: &Base, bytes: &[u8], ordered: bool) -> Result
 }
 
 /// The replies of batch 1.
-fn shown(alloc: Global, asks: &[Ask<'_>], ordered: bool) -> Result<[u8; 4], Fault> {
+fn shown(alloc: Global, bytes: &[u8], ordered: bool) -> Result<[u8; 4], Fault> {
     let base = Base::first(alloc)?;
-    shown_next(alloc, &base, 1, 1000, asks, ordered)
-}
-
-fn shown_next(
-    alloc: Global,
-    base: &Base,
-    n: u8,
-    moment: u32,
-    asks: &[Ask<'_>],
-    ordered: bool,
-) -> Result<[u8; 4], Fault> {
-    let bytes = batch_bytes(alloc, n, moment, asks)?;
-    shown_over(alloc, base, bytes.as_slice(), ordered)
+    shown_over(alloc, &base, bytes, ordered)
 }
 
 #[test]
 fn an_item_that_is_due_at_once_is_not_found_by_a_later_group(rt: HostRuntime) -> Result<(), Fail> {
-    let asks = [Ask::Set(b'a', -1), Ask::Get(b"a")];
-    assert_eq!(rt; shown(rt.alloc(), &asks, false)?, *b"s0..");
+    assert!(rt; shown(rt.alloc(), DUE_AT_ONCE, false) == Ok(*b"s0.."));
     Ok(())
 }
 
@@ -201,7 +137,7 @@ fn token_of(alloc: Global, base: &Base, bytes: &[u8]) -> Result<Token, Fault> {
 fn the_state_of_number_0(rt: HostRuntime) -> Result<(), Fail> {
     let committed = Committed::first(rt.alloc())?;
     assert!(rt; is_first(committed.state()));
-    assert_eq!(rt; marks(committed.replies()), *b"....");
+    assert!(rt; committed.replies().is_empty());
     Ok(())
 }
 
@@ -216,9 +152,9 @@ fn is_first(state: &State) -> bool {
 }
 
 /// The token of batch 1.
-fn first_token(alloc: Global, asks: &[Ask<'_>]) -> Result<Token, Fault> {
-    let committed = after_first(alloc, asks)?;
-    Ok(committed.state().token())
+fn first_token(alloc: Global, bytes: &[u8]) -> Result<Token, Fault> {
+    let base = Base::first(alloc)?;
+    token_of(alloc, &base, bytes)
 }
 
 #[test]
@@ -230,10 +166,7 @@ fn the_token_of_one_set(rt: HostRuntime) -> Result<(), Fail> {
         0x47, 0x84, 0x93, 0x21, 0xb4, 0x09, 0x9e, 0x34, 0xd9, 0x2e, 0x8b, 0x19, 0xea, 0x0d, 0x26,
         0x2f, 0x4e,
     ];
-    assert_eq!(rt;
-        first_token(rt.alloc(), &[Ask::Set(b'a', 0)])?,
-        Token(expected)
-    );
+    assert!(rt; first_token(rt.alloc(), ONE_SET) == Ok(Token(expected)));
     Ok(())
 }
 
@@ -256,26 +189,26 @@ fn latest_of(state: &State, keys: [u8; 3]) -> [u64; 3] {
 
 fn after_full_batch(alloc: Global) -> Result<Committed, Fault> {
     let bytes = full_batch(alloc)?;
-    over_first(alloc, bytes.as_slice())
+    after_first(alloc, bytes.as_slice())
 }
 
-/// The state after one more `set` of `a`.
-fn after_one_more(alloc: Global, full: &Committed) -> Result<Committed, Fault> {
+/// The greatest uniques on these keys' pages after one more `set` of `a`.
+fn latest_with_one_more(alloc: Global, full: &Committed, keys: [u8; 3]) -> Result<[u64; 3], Fault> {
     let base = full.base()?;
-    one_more(alloc, &base)
+    let later = committed(alloc, &base, SET_MORE, false)?;
+    Ok(latest_of(later.state(), keys))
 }
 
-fn one_more(alloc: Global, base: &Base) -> Result<Committed, Fault> {
-    let more = batch_bytes(alloc, 2, 1000, &[Ask::Set(b'a', 0)])?;
-    committed(alloc, base, more.as_slice(), false)
+/// Those of three keys after the full batch, and of three after one more `set`.
+fn stamps(alloc: Global) -> Result<([u64; 3], [u64; 3]), Fault> {
+    let full = after_full_batch(alloc)?;
+    let first = latest_of(full.state(), *b"!_`");
+    Ok((first, latest_with_one_more(alloc, &full, *b"_`a")?))
 }
 
 #[test]
 fn stamps_are_64_times_the_number_and_the_place(rt: HostRuntime) -> Result<(), Fail> {
-    let full = after_full_batch(rt.alloc())?;
-    assert_eq!(rt; latest_of(full.state(), *b"!_`"), [64, 126, 127]);
-    let later = after_one_more(rt.alloc(), &full)?;
-    assert_eq!(rt; latest_of(later.state(), *b"_`a"), [126, 127, 128]);
+    assert!(rt; stamps(rt.alloc()) == Ok(([64, 126, 127], [126, 127, 128])));
     Ok(())
 }
 
@@ -312,47 +245,43 @@ fn finished_backwards(alloc: Global, work: Work) -> Result<Token, Fault> {
     }
 }
 
-/// The tokens of the full batch: by its groups, and the last request first.
-fn two_tokens(alloc: Global, bytes: &[u8]) -> Result<(Token, Token), Fault> {
+/// Whether the full batch comes to one token by its groups and with the last request first.
+fn is_one_token(alloc: Global, bytes: &[u8]) -> Result<bool, Fault> {
     let base = Base::first(alloc)?;
-    let through = token_of(alloc, &base, bytes);
-    Ok((through?, token_backwards(alloc, &base, bytes)?))
+    let backwards = token_backwards(alloc, &base, bytes);
+    Ok(backwards.is_ok() && token_of(alloc, &base, bytes) == backwards)
+}
+
+fn full_batch_has_one_token(alloc: Global) -> Result<bool, Fault> {
+    let bytes = full_batch(alloc)?;
+    is_one_token(alloc, bytes.as_slice())
 }
 
 #[test]
 fn steps_that_do_not_conflict_lead_to_one_token_in_any_order(rt: HostRuntime) -> Result<(), Fail> {
-    let bytes = full_batch(rt.alloc())?;
-    let (through, backwards) = two_tokens(rt.alloc(), bytes.as_slice())?;
-    assert_eq!(rt; through, backwards);
+    assert!(rt; full_batch_has_one_token(rt.alloc()) == Ok(true));
     Ok(())
 }
-
-/// `set a`, `get a y c` and `set c` of three clients.
-const THIRD_KEY: [Ask<'static>; 3] = [Ask::Set(b'a', 0), Ask::Get(b"ayc"), Ask::Set(b'c', 0)];
 
 #[test]
 fn groups_and_batch_order_differ_where_a_third_key_is_overlooked(
     rt: HostRuntime,
 ) -> Result<(), Fail> {
-    assert_eq!(rt; shown(rt.alloc(), &THIRD_KEY, false)?, *b"s2s.");
-    assert_eq!(rt; shown(rt.alloc(), &THIRD_KEY, true)?, *b"s1s.");
+    assert!(rt; shown(rt.alloc(), THIRD_KEY, false) == Ok(*b"s2s."));
+    assert!(rt; shown(rt.alloc(), THIRD_KEY, true) == Ok(*b"s1s."));
     Ok(())
 }
 
-/// What a `get a` of batch 2 finds at the moment before an item is due, and at that moment.
-fn found_around(alloc: Global, due: u8) -> Result<([u8; 4], [u8; 4]), Fault> {
-    // An exptime of more than 30 days is a moment by itself.
-    let base = base_after(alloc, &[Ask::Set(due, 2592001)])?;
-    let before = shown_next(alloc, &base, 2, 2592000, &[Ask::Get(b"a")], false);
-    Ok((
-        before?,
-        shown_next(alloc, &base, 2, 2592001, &[Ask::Get(b"a")], false)?,
-    ))
+/// What a `get a` of batch 2 finds after a batch 1.
+fn found_after(alloc: Global, first: &[u8], then: &[u8]) -> Result<[u8; 4], Fault> {
+    let base = base_after(alloc, first)?;
+    shown_over(alloc, &base, then, false)
 }
 
 #[test]
 fn an_item_is_found_until_it_is_due(rt: HostRuntime) -> Result<(), Fail> {
-    assert_eq!(rt; found_around(rt.alloc(), b'a')?, (*b"1...", *b"0..."));
+    assert!(rt; found_after(rt.alloc(), DUE_LATER, GET_BEFORE_IT_IS_DUE) == Ok(*b"1..."));
+    assert!(rt; found_after(rt.alloc(), DUE_LATER, GET_ONCE_IT_IS_DUE) == Ok(*b"0..."));
     Ok(())
 }
 
@@ -364,7 +293,7 @@ fn add_requests(gather: &mut Gather, batch: &Batch) -> Result<(), AllocError> {
     Ok(())
 }
 
-/// How many requests are cut for the batch after the base, out of those of this record.
+/// How many requests are cut for the batch after the base.
 fn cut_of(alloc: Global, base: &Base, gather: &mut Gather) -> Result<usize, Fault> {
     match base.cut(alloc, gather, 1, 1000)? {
         Some(batch) => Ok(batch.requests.len()),
@@ -372,37 +301,52 @@ fn cut_of(alloc: Global, base: &Base, gather: &mut Gather) -> Result<usize, Faul
     }
 }
 
-fn waiting(alloc: Global, gather: &mut Gather, asks: &[Ask<'_>]) -> Result<(), Fault> {
-    let bytes = batch_bytes(alloc, 1, 1000, asks)?;
-    let batch = read::<Batch>(alloc, bytes.as_slice())?;
+fn add_waiting(alloc: Global, gather: &mut Gather, bytes: &[u8]) -> Result<(), Fault> {
+    let batch = read::<Batch>(alloc, bytes)?;
     Ok(add_requests(gather, &batch)?)
+}
+
+/// How many of the requests of this record are cut over the base, and how many after these.
+fn two_cuts(alloc: Global, base: &Base, bytes: &[u8]) -> Result<(usize, usize), Fault> {
+    let mut gather = Gather::new(alloc);
+    add_waiting(alloc, &mut gather, bytes)?;
+    cut_twice(alloc, base, &mut gather)
+}
+
+fn cut_twice(alloc: Global, base: &Base, gather: &mut Gather) -> Result<(usize, usize), Fault> {
+    let first = cut_of(alloc, base, gather)?;
+    Ok((first, cut_of(alloc, base, gather)?))
+}
+
+fn cuts_over_first(alloc: Global, bytes: &[u8]) -> Result<(usize, usize), Fault> {
+    let base = Base::first(alloc)?;
+    two_cuts(alloc, &base, bytes)
 }
 
 #[test]
 fn a_batch_is_cut_of_those_that_wait(rt: HostRuntime) -> Result<(), Fail> {
-    let base = Base::first(rt.alloc())?;
-    let mut gather = Gather::new(rt.alloc());
-    waiting(rt.alloc(), &mut gather, &THIRD_KEY)?;
-    assert_eq!(rt; cut_of(rt.alloc(), &base, &mut gather)?, 3);
-    assert_eq!(rt; cut_of(rt.alloc(), &base, &mut gather)?, 0);
+    assert!(rt; cuts_over_first(rt.alloc(), THIRD_KEY) == Ok((3, 0)));
     Ok(())
 }
 
-/// Makes batch 1 of these, and lends the tentative state as a base.
-fn base_of_tentative(alloc: Global, asks: &[Ask<'_>]) -> Result<(Token, Base), Fault> {
-    let bytes = batch_bytes(alloc, 1, 1000, asks)?;
+/// The token of the tentative state of batch 1, and that state as a base.
+fn base_of_tentative(alloc: Global, bytes: &[u8]) -> Result<(Token, Base), Fault> {
     let first = Base::first(alloc)?;
-    let tentative = run(alloc, &first, bytes.as_slice(), false)?;
+    let tentative = run(alloc, &first, bytes, false)?;
     let base = tentative.base();
     let token = undone(tentative);
     Ok((token, base?))
 }
 
+/// Whether that base has the number and the token of the state, and what a `get` finds over it.
+fn found_over_tentative(alloc: Global) -> Result<(bool, [u8; 4]), Fault> {
+    let (token, base) = base_of_tentative(alloc, THIRD_KEY)?;
+    let known = base.number() == 1 && base.token() == token;
+    Ok((known, shown_over(alloc, &base, GET_THREE, false)?))
+}
+
 #[test]
 fn a_tentative_state_is_a_base(rt: HostRuntime) -> Result<(), Fail> {
-    let (token, base) = base_of_tentative(rt.alloc(), &THIRD_KEY)?;
-    assert_eq!(rt; (base.number(), base.token()), (1, token));
-    let found = shown_next(rt.alloc(), &base, 2, 1000, &[Ask::Get(b"axc")], false)?;
-    assert_eq!(rt; found, *b"2...");
+    assert!(rt; found_over_tentative(rt.alloc()) == Ok((true, *b"2...")));
     Ok(())
 }

@@ -46,7 +46,7 @@ fn the_record_of_the_first_state(rt: HostRuntime) -> Result<(), Fail> {
 
 /// The state after batch 1 of one `set`.
 fn after_one_set(alloc: Global) -> Result<Committed, Fault> {
-    after_first(alloc, &[Ask::Set(b'a', 0)])
+    after_first(alloc, ONE_SET)
 }
 
 /// The head of its record, and its sessions: client 1 was answered `STORED`.
@@ -93,16 +93,9 @@ fn add_undone(bytes: &mut Vec<u8>, tentative: Tentative) -> Result<(), AllocErro
 }
 
 /// The record of the tentative state that a batch makes of a base.
-fn member_of(
-    alloc: Global,
-    base: &Base,
-    n: u8,
-    moment: u32,
-    asks: &[Ask<'_>],
-) -> Result<Vec<u8>, Fault> {
-    let batch = batch_bytes(alloc, n, moment, asks)?;
+fn member_of(alloc: Global, base: &Base, batch: &[u8]) -> Result<Vec<u8>, Fault> {
     let mut bytes = Vec::new(alloc);
-    add_undone(&mut bytes, run(alloc, base, batch.as_slice(), false)?)?;
+    add_undone(&mut bytes, run(alloc, base, batch, false)?)?;
     Ok(bytes)
 }
 
@@ -132,7 +125,7 @@ fn add_member(
     committed: &Committed,
     first_page: &[u8],
 ) -> Result<(), AllocError> {
-    add_batch(bytes, 1, 1000, &[Ask::Set(b'a', 0)])?;
+    bytes.extend_from_slice(ONE_SET)?;
     add_record_head(bytes, committed)?;
     bytes.extend_from_slice(first_page)?;
     bytes.extend_from_slice(&[0; 32])?;
@@ -158,7 +151,7 @@ fn a_member_is_restored_over_its_base(rt: HostRuntime) -> Result<(), Fail> {
 /// Whether the bytes are the record of batch 1 of one `set`.
 fn is_member_of_first(alloc: Global, bytes: &[u8]) -> Result<bool, Fault> {
     let base = Base::first(alloc)?;
-    let own = member_of(alloc, &base, 1, 1000, &[Ask::Set(b'a', 0)])?;
+    let own = member_of(alloc, &base, ONE_SET)?;
     Ok(own.as_slice() == bytes && is_member(alloc, &base, bytes)?)
 }
 
@@ -168,14 +161,19 @@ fn is_spelling(alloc: Global, base: &Base, first_page: &[u8]) -> Result<bool, Fa
     is_member(alloc, base, bytes.as_slice())
 }
 
+/// Whether it is one for page 0 as the same, written out, with another mark, and with a byte too many.
+fn spellings(alloc: Global) -> Result<[bool; 4], Fault> {
+    let base = Base::first(alloc)?;
+    let same = is_spelling(alloc, &base, &[0]);
+    let written_out = is_spelling(alloc, &base, &[1, 0, 0, 0, 0, 0]);
+    let marked = is_spelling(alloc, &base, &[2]);
+    let longer = is_spelling(alloc, &base, &[0, 0]);
+    Ok([same?, written_out?, marked?, longer?])
+}
+
 #[test]
 fn a_page_that_is_the_same_has_one_spelling(rt: HostRuntime) -> Result<(), Fail> {
-    let base = Base::first(rt.alloc())?;
-    assert!(rt; is_spelling(rt.alloc(), &base, &[0])?);
-    let written_out: &[u8] = &[1, 0, 0, 0, 0, 0];
-    for other in [written_out, &[2], &[0, 0]] {
-        assert!(rt; !is_spelling(rt.alloc(), &base, other)?);
-    }
+    assert!(rt; spellings(rt.alloc()) == Ok([true, false, false, false]));
     Ok(())
 }
 
@@ -216,9 +214,9 @@ fn a_member_that_is_cut_or_changed_is_refused(rt: HostRuntime) -> Result<(), Fai
     Ok(())
 }
 
-/// Whether the record is one over the base after batch 1 of one `set` of this key.
-fn is_over(alloc: Global, bytes: &[u8], key: u8) -> Result<bool, Fault> {
-    let base = base_after(alloc, &[Ask::Set(key, 0)])?;
+/// Whether the record is one over the base after this batch 1.
+fn is_over(alloc: Global, bytes: &[u8], first: &[u8]) -> Result<bool, Fault> {
+    let base = base_after(alloc, first)?;
     is_member(alloc, &base, bytes)
 }
 
@@ -229,15 +227,21 @@ fn is_over_first(alloc: Global, bytes: &[u8]) -> Result<bool, Fault> {
 
 /// The record of batch 2 of one `set`, over the base after one `set` of `a`.
 fn second_member(alloc: Global) -> Result<Vec<u8>, Fault> {
-    let base = base_after(alloc, &[Ask::Set(b'a', 0)])?;
-    member_of(alloc, &base, 2, 900, &[Ask::Set(b'c', 0)])
+    let base = base_after(alloc, ONE_SET)?;
+    member_of(alloc, &base, SET_AT_AN_EARLIER_MOMENT)
+}
+
+/// Whether that record is one over its base, over one with another token, and over one of another number.
+fn over_which(alloc: Global) -> Result<[bool; 3], Fault> {
+    let bytes = second_member(alloc)?;
+    let own = is_over(alloc, bytes.as_slice(), ONE_SET);
+    let other = is_over(alloc, bytes.as_slice(), SET_OF_B);
+    let first = is_over_first(alloc, bytes.as_slice());
+    Ok([own?, other?, first?])
 }
 
 #[test]
 fn a_member_is_refused_over_another_base(rt: HostRuntime) -> Result<(), Fail> {
-    let bytes = second_member(rt.alloc())?;
-    assert!(rt; is_over(rt.alloc(), bytes.as_slice(), b'a')?);
-    assert!(rt; !is_over(rt.alloc(), bytes.as_slice(), b'b')?);
-    assert!(rt; !is_over_first(rt.alloc(), bytes.as_slice())?);
+    assert!(rt; over_which(rt.alloc()) == Ok([true, false, false]));
     Ok(())
 }

@@ -33,40 +33,32 @@ fn on_threads<R: Threads + Wait + Sync, G: Gate + Sync>(
 fn shown_by_four<R: Threads + Wait + Sync>(
     rt: &R,
     alloc: Global,
-    asks: &[Ask<'_>],
+    bytes: &[u8],
     ordered: bool,
 ) -> Result<[u8; 4], Fault> {
-    let bytes = batch_bytes(alloc, 1, 1000, asks)?;
     let base = Base::first(alloc)?;
-    match commit(on_threads(rt, alloc, &base, bytes.as_slice(), ordered, 4, &NoGate)?) {
+    match commit(on_threads(rt, alloc, &base, bytes, ordered, 4, &NoGate)?) {
         None => Err(Fault::NotOpen),
         Some(committed) => Ok(marks(committed.replies())),
     }
 }
 
 #[test]
-fn several_groups_run_one_after_the_other(rt: HostRuntime) -> Result<(), Fail> {
-    let asks = [
-        Ask::Set(b'a', 0),
-        Ask::Get(b"a"),
-        Ask::Get(b"b"),
-        Ask::Set(b'b', 0),
-    ];
-    assert_eq!(rt; shown_by_four(&rt, rt.alloc(), &asks, false)?, *b"s10s");
+fn two_groups_run_one_after_the_other(rt: HostRuntime) -> Result<(), Fail> {
+    assert!(rt; shown_by_four(&rt, rt.alloc(), TWO_GROUPS, false) == Ok(*b"s10s"));
     Ok(())
 }
 
 #[test]
 fn an_ordered_batch_runs_in_its_order(rt: HostRuntime) -> Result<(), Fail> {
-    assert_eq!(rt; shown_by_four(&rt, rt.alloc(), &THIRD_KEY, true)?, *b"s1s.");
+    assert!(rt; shown_by_four(&rt, rt.alloc(), THIRD_KEY, true) == Ok(*b"s1s."));
     Ok(())
 }
 
 #[test]
 fn a_batch_of_no_request_has_no_group(rt: HostRuntime) -> Result<(), Fail> {
-    for ordered in [false, true] {
-        assert_eq!(rt; shown_by_four(&rt, rt.alloc(), &[], ordered)?, *b"....");
-    }
+    assert!(rt; shown_by_four(&rt, rt.alloc(), NO_REQUEST, false) == Ok(*b"...."));
+    assert!(rt; shown_by_four(&rt, rt.alloc(), NO_REQUEST, true) == Ok(*b"...."));
     Ok(())
 }
 
@@ -111,16 +103,14 @@ fn run_two<R: Threads + Wait + Sync, G: Gate + Sync>(
     alloc: Global,
     gate: &G,
 ) -> Result<Token, Fault> {
-    let bytes = batch_bytes(alloc, 1, 1000, &[Ask::Set(b'C', 0), Ask::Set(b'E', 0)])?;
     let base = Base::first(alloc)?;
-    Ok(undone(on_threads(rt, alloc, &base, bytes.as_slice(), false, 2, gate)?))
+    Ok(undone(on_threads(rt, alloc, &base, SETS_OF_TWO_PAGES, false, 2, gate)?))
 }
 
 #[test]
 fn two_workers_are_inside_at_once(rt: HostRuntime) -> Result<(), Fail> {
     let gate = Meets::new(&rt);
-    assert!(rt; run_two(&rt, rt.alloc(), &gate).is_ok());
-    assert_eq!(rt; gate.met(), 2);
+    assert!(rt; run_two(&rt, rt.alloc(), &gate).is_ok() && gate.met() == 2);
     Ok(())
 }
 
@@ -174,21 +164,13 @@ fn are_crossed<R: Threads + Wait + Sync>(
     Ok(false)
 }
 
-/// Batch 2: two clients read `a` and `b` behind two other keys, in two orders, and two set them.
-fn crossing_batch(alloc: Global) -> Result<Vec<u8>, AllocError> {
-    let asks = [
-        Ask::Gets(b"xyab"),
-        Ask::Gets(b"xyba"),
-        Ask::Set(b'a', 0),
-        Ask::Set(b'b', 0),
-    ];
-    batch_bytes(alloc, 2, 1000, &asks)
+fn batches_cross<R: Threads + Wait + Sync>(rt: &R, alloc: Global) -> Result<bool, Fault> {
+    let base = base_after(alloc, SET_OF_A_AND_B)?;
+    are_crossed(rt, alloc, &base, CROSSING, 100)
 }
 
 #[test]
 fn readers_never_cross_in_a_batch(rt: HostRuntime) -> Result<(), Fail> {
-    let base = base_after(rt.alloc(), &[Ask::Set(b'a', 0), Ask::Set(b'b', 0)])?;
-    let bytes = crossing_batch(rt.alloc())?;
-    assert!(rt; !are_crossed(&rt, rt.alloc(), &base, bytes.as_slice(), 100)?);
+    assert!(rt; batches_cross(&rt, rt.alloc()) == Ok(false));
     Ok(())
 }
