@@ -2,7 +2,6 @@
 use Rattle.std.proofs.Common.{◌≡◌, ℕ, zero, suc, ◌<◌, ◌≤◌, Bool, true, false, List, [], ◌∷◌, ◌++◌, map, length, set, Some, None, Option, refl, sym, ap, ◌∙◌, arith, subst, inl, inr, append_assoc}
 use Rattle.std.specs.Prelude.{slice_get, All, IsTrue, IfSome, if◌then◌else◌, not, ◌&&◌, ◌==◌}
 use Rattle.std.specs.List.{zip}
-use Rattle.std.specs.FinMap.{entries}
 use Rattle.std.proofs.lemmas.List.Concat.{flat_map-cons}
 use Rattle.std.proofs.Math.Nat.{eq-or-lt_of_le}
 use Rattle.std.proofs.lemmas.Bool.{and_parts, eqb-true, ltb-false, not-true}
@@ -19,17 +18,14 @@ use Rattle.executor.specs.Running.{Running}
 use Rattle.token.specs.Digest.{digest}
 use Rattle.executor.specs.State.{StateView, with_token}
 use Rattle.executor.specs.Fresh.{Runner, runs, fresh_after}
-use Rattle.executor.specs.Round.{runners, kept_after, answered, moment_of, Round}
+use Rattle.executor.specs.Round.{runners, moment_of, Round}
 use Rattle.executor.specs.Work.{Progress, begun, all_begun, is_group_done, comes_after, IsFirst, IsNext, IsLast, Worked, began, made, replied, replied_to, replies_of, replies_to, is_done, is_ready, StepDone, StepMade}
 use Rattle.executor.proofs.PartialLemmas.{Each, each-of-all, all-of-each, forget}
 use Rattle.round.proofs.Lists.{map_at}
 use Rattle.executor.proofs.OrderLemmas.{found_at}
 use Rattle.executor.proofs.RoundLemmas.{get_map}
-use Rattle.wire.specs.Batch.{BatchFits, batch_text}
-use Rattle.wire.specs.Command.{RequestFits}
-use Rattle.wire.specs.Session.{SessionFits, SessionsFit}
+use Rattle.wire.specs.Batch.{batch_text}
 use Rattle.executor.proofs.WorkedLemmas.{worked-partial, group_is_done, done_is_round}
-use Rattle.executor.proofs.FitLemmas.{AnswersFit, kept_fit}
 
 get_middle : (earlier later : List Request) (q : Request) → slice_get (earlier ++ q ∷ later) (length earlier) ≡ Some q
 get_middle [] later q = refl
@@ -124,22 +120,6 @@ found_ready running lent i group place same there ready =
       subst (λ o. IfSome o (λ r. is_ready group place r ≡ true)) found.1 ready,
       subst (λ (xs : List Running). i < length xs) same there,
     )
-
--- the sessions that keep the replies have a text
-pub sessions_fit_after : (base : StateView) (batch : Batch) (ordered : Bool) (w : Progress) → Worked base batch ordered w → IsTrue (is_group_done w) → IsLast w.running (Some w.group) → BatchFits batch → SessionsFit base.sessions
-    → (s : Replies) → s ≡ kept_after base.sessions (replies_to batch.requests w.running) → length (entries s) ≤ 65536 → SessionsFit s
-sessions_fit_after base batch ordered w worked done last fits sessions s same few =
-    let round = done_is_round base batch ordered w worked done last in
-    let one : Each AnswersFit (replies_of base batch w.running) = λ i a at.
-    (let r = get_map (answered round.answers) (runners base batch) i a (ap (λ xs. slice_get xs i) (sym round.replied) ∙ at) in
-    let fit = each-of-all RequestFits batch.requests fits.each r.0.0 r.0.1 (each_at base batch ordered i r.0 r.1) in
-    subst AnswersFit (sym r.2) (record { client = fit.client; number = fit.number })) in
-    let all : Each AnswersFit (replies_to batch.requests w.running) = subst (λ (rs : List Answered). Each AnswersFit rs) (sym (same_replies base batch ordered w worked)) one in
-    let each = kept_fit base.sessions (replies_to batch.requests w.running) (each-of-all SessionFits (entries base.sessions) sessions.each) all in
-    record {
-      count = omega (arith, few);
-      each = all-of-each SessionFits (entries s) (subst (λ (t : Replies). Each SessionFits (entries t)) (sym same) each);
-    }
 
 -- a group that comes first
 pub first_is : (running : List Running) (group : ℕ) → IsNext running None group → IsFirst running group

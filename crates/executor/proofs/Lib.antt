@@ -6,7 +6,6 @@ pub mod WorkedLemmas
 pub mod KeptLemmas
 pub mod GroupLemmas
 pub mod DoneLemmas
-pub mod FitLemmas
 pub mod ThroughLemmas
 pub mod GroupRunLemmas
 pub mod SpreadLemmas

@@ -8,8 +8,8 @@ use Rattle.items.specs.Map.{Items}
 use Rattle.sessions.specs.declared.request.Request.{Request}
 use Rattle.sessions.specs.Fresh.{Replies}
 use Rattle.batches.specs.declared.batch.Batch.{Batch}
-use Rattle.wire.specs.Record.{NoFront, Refused}
-use Rattle.wire.specs.Batch.{batch_text, BatchFits}
+use Rattle.wire.specs.Record.{Always, NoFront, Refused}
+use Rattle.wire.specs.Batch.{batch_text}
 use Rattle.wire.specs.BatchLaws.{batch_prefix_free}
 use Rattle.wire.specs.Session.{sessions_text}
 use Rattle.wire.proofs.Values.{Refused-weaker}
@@ -33,8 +33,8 @@ empty_is (x ∷ xs) e =
 abbrev pub NoMember : StateView → List ℕ → Type 0
 NoMember base bytes = (t : TentativeView) → IsOver base t → bytes ≡ member_text t → ⊥
 
-pub no_batch : (base : StateView) (bytes : List ℕ) (e : Fault) → Refused e (NoFront BatchFits batch_text bytes) → Refused e (NoMember base bytes)
-no_batch base bytes e = Refused-weaker e (λ (none : NoFront BatchFits batch_text bytes) t over same. none.none t.batch (after_text t.before.items t.after) over.is.fits same)
+pub no_batch : (base : StateView) (bytes : List ℕ) (e : Fault) → Refused e (NoFront Always batch_text bytes) → Refused e (NoMember base bytes)
+no_batch base bytes e = Refused-weaker e (λ (none : NoFront Always batch_text bytes) t over same. none.none t.batch (after_text t.before.items t.after) tt same)
 
 -- the same of what was lent
 pub same_lack : {s s' before before' : Replies} {rs rs' : List Request} (e : Fault) → s ≡ s' → before ≡ before' → rs ≡ rs' → Refused e (LackOne s (fresh before rs)) → Refused e (LackOne s' (fresh before' rs'))
@@ -86,10 +86,9 @@ module _ (base : StateView) (bytes : List ℕ) (batch : Batch) (rest : List ℕ)
           let listed = one_list replies t.replies (sym kept ∙ kept_again t over same) in
           λ i. record { before = (shared ∙ sym over.over) i; batch = both.0 i; after = is i; replies = listed i }
 
-      pub is_over : BatchFits batch → batch.n ≡ base.number + 1 → Follows base batch after → IsOver base found
-      is_over fits next follows = record {
+      pub is_over : batch.n ≡ base.number + 1 → Follows base batch after → IsOver base found
+      is_over next follows = record {
         is = record {
-          fits = fits;
           next = next ∙ ap (λ (b : StateView). b.number + 1) (sym shared);
           after = subst (λ (b : StateView). Follows b batch after) (sym shared) follows;
           kept = subst (λ (b : StateView). AreKept after.sessions (fresh b.sessions batch.requests) replies) (sym shared) kept;

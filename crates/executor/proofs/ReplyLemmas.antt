@@ -1,5 +1,5 @@
 -- Replies that sessions keep.
-use Rattle.std.proofs.Common.{◌≡◌, ◌≢◌, ℕ, ◌+◌, ◌<◌, Bool, true, false, cond, List, [], ◌∷◌, ◌++◌, map, length, take, drop, get_or, Option, Some, None, refl, sym, ap, ◌∙◌, arith, subst}
+use Rattle.std.proofs.Common.{◌≡◌, ◌≢◌, ℕ, ◌+◌, ◌<◌, Bool, true, false, cond, List, [], ◌∷◌, ◌++◌, map, length, take, drop, get_or, Option, Some, None, refl, sym, ap, ◌∙◌, arith}
 use Rattle.std.specs.Prelude.{if◌then◌else◌, not, ◌&&◌, ◌||◌, ◌==◌}
 use Rattle.std.specs.List.{list_any}
 use Rattle.std.specs.Ordering.{nat_cmp, eq_by_cmp}
@@ -166,8 +166,8 @@ round_kept base batch ordered after replies round =
     λ i. (ap (λ s. map (kept_for s) (runners base batch)) (sym sessions) ∙ (kept ∙ ap (map Some) (sym round.replied))) i
 
 -- the state that a batch makes of another
-pub follows_of : (old : StateView) (batch : Batch) (s : StateView) (sessions : Replies) (items : Items) → s ≡ followed old batch sessions items → SessionsFit sessions → Follows old batch s
+pub follows_of : (old : StateView) (batch : Batch) (s : StateView) (sessions : Replies) (items : Items) → s ≡ followed old batch sessions items → SessionsFit s.sessions → Follows old batch s
 follows_of old batch s sessions items e fit =
     let same : s.sessions ≡ sessions = ap (λ (x : StateView). x.sessions) e in
     let all : s.items ≡ items = ap (λ (x : StateView). x.items) e in
-    record { is = e ∙ (λ i. followed old batch (sym same i) (sym all i)); sessions_fit = subst SessionsFit (sym same) fit }
+    record { is = e ∙ (λ i. followed old batch (sym same i) (sym all i)); sessions_fit = fit }

@@ -12,7 +12,6 @@ use Rattle.item_steps.specs.declared.step.Place.{Place}
 use Rattle.sessions.specs.declared.request.Request.{Request}
 use Rattle.sessions.specs.Fresh.{Replies}
 use Rattle.batches.specs.declared.batch.Batch.{Batch}
-use Rattle.wire.specs.Batch.{BatchFits}
 use Rattle.pages.specs.Page.{PageState, refreshed}
 use Rattle.pages.specs.Joined.{parts, items_of}
 use Rattle.round.specs.Sittings.{task_fits, are_apart, group_fits, most_requests, most_steps}
@@ -70,9 +69,9 @@ fresh_few s earlier (q ∷ later) =
     ]
 
 -- a group of a batch within the limits of a record, each of whose requests has few steps
-pub tasks_fit : (base : StateView) (batch : Batch) (ordered : Bool) (w : Progress) → Worked base batch ordered w → BatchFits batch → HaveFewSteps (all_begun base batch ordered)
+pub tasks_fit : (base : StateView) (batch : Batch) (ordered : Bool) (w : Progress) → Worked base batch ordered w → HaveFewSteps (all_begun base batch ordered)
     → (first : Place) → first ≡ stamped (first_place base batch) 0 → (lent : List Running) → lent ≡ w.running → (tasks : List Task) → tasks ≡ tasks_in w.group lent → group_fits first tasks ≡ true
-tasks_fit base batch ordered w worked fits few first at lent same tasks are =
+tasks_fit base batch ordered w worked few first at lent same tasks are =
     (λ i. group_fits (at i) ((are ∙ ap (tasks_in w.group) same) i)) ∙ and_from _ _ (le-leb _ most_requests most) (and_from _ _ (all_fit place w.group w.running each) (all_apart place w.group w.running p.places))
   where
     place : Place
@@ -85,14 +84,14 @@ tasks_fit base batch ordered w worked fits few first at lent same tasks are =
     count = sym (length-map w.running forget) ∙ ap length p.same ∙ length-map (runners base batch) (begun batch ordered)
 
     most : length (tasks_in w.group w.running) ≤ most_requests
-    most = omega (arith, no_more place w.group w.running, count, fresh_few base.sessions [] batch.requests, fits.count)
+    most = omega (arith, no_more place w.group w.running, count, fresh_few base.sessions [] batch.requests, batch.few)
 
     -- its steps are those that it began with
     steps_few : (i : ℕ) (x : Running) → slice_get w.running i ≡ Some x → length x.steps ≤ most_steps
     steps_few i x there = each-of-all (λ (r : Running). length r.steps ≤ most_steps) (all_begun base batch ordered) few i (forget x) (ap (λ xs. slice_get xs i) (sym p.same) ∙ map_at forget w.running i x there)
 
     stamp : (i : ℕ) (x : Running) → slice_get w.running i ≡ Some x → place.stamp + x.place < 2 ^ 64
-    stamp i x there = omega (arith, fits.last, fits.count, place_within base batch ordered w worked i x there)
+    stamp i x there = omega (arith, batch.last, batch.few, place_within base batch ordered w worked i x there)
 
     each : Each (λ r. task_fits place (task_of r) ≡ true) w.running
     each i x there = and_from (nat_le (length x.steps) most_steps) (nat_lt (place.stamp + x.place) (2 ^ 64)) (le-leb (length x.steps) most_steps (steps_few i x there)) (lt-ltb (place.stamp + x.place) (2 ^ 64) (stamp i x there))

@@ -6,7 +6,6 @@ use Rattle.sessions.specs.declared.sessions.Kept.{Kept}
 use Rattle.batches.specs.declared.batch.Batch.{Batch}
 use Rattle.proto.specs.declared.fault.Fault.{Fault}
 use Rattle.wire.specs.Record.{Refused}
-use Rattle.wire.specs.Batch.{BatchFits}
 use Rattle.wire.specs.Session.{SessionsFit}
 use Rattle.executor.specs.declared.answered.Answered.{Answered}
 use Rattle.executor.specs.State.{StateView, IsState, first_state}
@@ -43,7 +42,6 @@ pub record Follows (old : StateView) (batch : Batch) (s : StateView) : Type 0 wh
 -- What every tentative state keeps: its batch is the next, its state what the batch makes of the state
 -- before, and its replies are those that the sessions keep for the requests that ran.
 pub record IsTentative (t : TentativeView) : Type 0 where
-  pub fits : BatchFits t.batch
   pub next : t.batch.n ≡ t.before.number + 1
   pub after : Follows t.before t.batch t.after
   pub kept : AreKept t.after.sessions (runners t.before t.batch) t.replies

@@ -11,7 +11,7 @@ use Rattle.item_steps.specs.declared.step.Step.{Step}
 use Rattle.sessions.specs.declared.request.Request.{Request}
 use Rattle.batches.specs.declared.batch.Batch.{Batch}
 use Rattle.mixer.specs.Groups.{numbers_of}
-use Rattle.wire.specs.Batch.{batch_text, BatchFits}
+use Rattle.wire.specs.Batch.{batch_text}
 use Rattle.token.specs.Digest.{digest}
 use Rattle.executor.specs.declared.answered.Answered.{Answered}
 use Rattle.executor.specs.Running.{Running, HaveFewSteps}
@@ -191,7 +191,6 @@ committed_code state answered =
 -- What all work keeps: it was begun over its base with the base's next batch, and went on by steps and ends of groups.
 pub record IsWork (w : WorkView) : Type 0 where
   pub worked : Worked w.base w.batch w.ordered w.progress
-  pub fits : BatchFits w.batch
   pub next : w.batch.n ≡ w.base.number + 1
   -- a group of its requests fits a round
   pub few : HaveFewSteps (all_begun w.base w.batch w.ordered)

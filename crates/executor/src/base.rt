@@ -1,9 +1,10 @@
 ghost use Rattle.std.specs.Prelude.{◌≡◌, ◌+◌, ◌<◌, ◌≤◌, ◌^◌, ◌↔◌, Err, IfOk, IfErr, IfSome, OnOk, OnErr};
-ghost use Rattle.batches.specs.Cut.{taken, left, batch_of, Fits};
+ghost use Rattle.batches.specs.Cut.{taken, left, IsCut, Fits};
+ghost use Rattle.batches.specs.Limits.{most_requests, greatest_number};
 ghost use Rattle.executor.specs.State.{first_state};
 
 use crate::state::State;
-use batches::{Batch, GREATEST_NUMBER, Gather, MOST_REQUESTS};
+use batches::{Batch, Gather};
 use proto::Fault;
 use std::alloc::{AllocError, Global};
 use token::Token;
@@ -58,12 +59,12 @@ impl Base {
         epoch: u64,
         moment: u32,
     ) -> Result<Option<Batch>, Fault>
-        ensures batch { IfOk result (λ batch. batch
-            ≡ batch_of epoch (self.now.state.number + 1) moment (taken MOST_REQUESTS self.now.state.sessions gather.old)) }
-        ensures fits { IfOk result (λ batch. IfSome batch (λ b. Fits MOST_REQUESTS self.now.state.sessions b.requests)) }
-        ensures left { OnOk result (gather.new ≡ left MOST_REQUESTS self.now.state.sessions gather.old) }
-        ensures full { (result ≡ Err Fault.Full) ↔ (GREATEST_NUMBER < self.now.state.number + 1) }
-        ensures no_memory { self.now.state.number + 1 ≤ GREATEST_NUMBER → IfErr result (λ fault. fault ≡ Fault.NoMemory) }
+        ensures batch { IfOk result (λ batch.
+            IsCut epoch (self.now.state.number + 1) moment (taken most_requests self.now.state.sessions gather.old) batch) }
+        ensures fits { IfOk result (λ batch. IfSome batch (λ b. Fits most_requests self.now.state.sessions b.requests)) }
+        ensures left { OnOk result (gather.new ≡ left most_requests self.now.state.sessions gather.old) }
+        ensures full { (result ≡ Err Fault.Full) ↔ (greatest_number < self.now.state.number + 1) }
+        ensures no_memory { self.now.state.number + 1 ≤ greatest_number → IfErr result (λ fault. fault ≡ Fault.NoMemory) }
         ensures err { OnErr result (gather.new ≡ gather.old) }
     {
         let number = self.state.number() + 1;

@@ -114,7 +114,6 @@ pub fn begin_all(
     batch: &Batch,
     ordered: bool,
 ) -> Result<Vec<Running>, AllocError>
-    requires { length batch.now.requests ≤ 64 }
     ensures begun { IfOk result (λ running. (base : StateView) → base.sessions ≡ sessions.now
         → running.items ≡ all_begun base batch.now ordered) }
     ensures few { IfOk result (λ running. HaveFewSteps running.items) }

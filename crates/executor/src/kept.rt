@@ -1,18 +1,15 @@
 //! The replies to the requests that ran, and the sessions that keep them.
 
-ghost use Rattle.std.specs.Prelude.{◌≡◌, ◌≤◌, ◌<◌, ◌-◌, ◌++◌, ℕ, IsTrue, slice_index_or, Some, IfOk, OnOk, length, slice_get, All};
-ghost use Rattle.std.specs.Ordering.{nat_cmp};
-ghost use Rattle.std.specs.FinMap.{is_sorted};
+ghost use Rattle.std.specs.Prelude.{◌≡◌, ◌++◌, Some, IfOk, OnOk, length, slice_get, All};
 ghost use Rattle.item_steps.specs.Steps.{steps};
 ghost use Rattle.sessions.specs.declared.request.Request.{Request};
-ghost use Rattle.sessions.specs.declared.sessions.Kept.{Kept};
 ghost use Rattle.executor.specs.Round.{kept_after};
 ghost use Rattle.executor.specs.Work.{replied, replied_at, replies_to};
 
 use crate::answered::Answered;
 use crate::running::Running;
 use item_steps::reply_of;
-use sessions::{Kept, Request, Sessions};
+use sessions::{Request, Sessions};
 use std::alloc::{AllocError, Global};
 
 /// The reply to a request all of whose steps were made.
@@ -70,22 +67,4 @@ pub fn answer_all(
         add_answer(alloc, requests, r, sessions, &mut replies)?;
     }
     Ok(replies)
-}
-
-/// Clients that rise to this one are no more than there are numbers of clients. It does nothing.
-fn rise_to(entries: &[(u16, Kept)], last: u16)
-    requires rising { IsTrue (is_sorted nat_cmp entries.now) }
-    requires some { 0 < length entries.now }
-    requires last { (d : ℕ × Kept) → (slice_index_or entries.now (length entries.now - 1) d).0 ≡ last }
-    ensures { length entries.now ≤ 65536 }
-{}
-
-/// There are no more sessions than numbers of clients. It does nothing.
-pub fn are_few(entries: &[(u16, Kept)])
-    requires { IsTrue (is_sorted nat_cmp entries.now) }
-    ensures { length entries.now ≤ 65536 }
-{
-    if !entries.is_empty() {
-        rise_to(entries, entries[entries.len() - 1].0);
-    }
 }

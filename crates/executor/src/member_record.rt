@@ -1,7 +1,6 @@
 //! The record of a tentative state, as a member of a chain.
 
 ghost use Rattle.std.specs.Prelude.{◌≡◌, ◌++◌, OnOk, OnErr, IfOk};
-ghost use Rattle.wire.specs.Batch.{BatchFits};
 ghost use Rattle.wire.specs.Record.{Puts, Reads, Takes};
 ghost use Rattle.executor.specs.Work.{TentativeView};
 ghost use Rattle.executor.specs.Kept.{Follows, IsTentative, IsOver};
@@ -39,7 +38,6 @@ fn take_after<'b>(
     batch: &Batch,
     bytes: &'b [u8],
 ) -> Result<(State, &'b [u8]), Fault>
-    requires { BatchFits batch.now }
     ensures { Takes (Follows before.now batch.now) (after_text before.now.items) bytes.now result }
 {
     let ((head, sessions), rest) = <(Head, Sessions)>::take(alloc, bytes)?;

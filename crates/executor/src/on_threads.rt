@@ -1,5 +1,4 @@
 ghost use Rattle.std.specs.Prelude.{◌≡◌, ◌+◌, IfOk};
-ghost use Rattle.wire.specs.Batch.{BatchFits};
 ghost use Rattle.executor.specs.Round.{Round};
 ghost use Rattle.executor.specs.Through.{IsMade};
 
@@ -20,8 +19,7 @@ use workers::Workers;
 /// the workers make the digests of the pages that were written, where these are eight or more. The
 /// gate is told of each step.
 ///
-/// The batch has the number after the base's, and is within the limits of a record. The only error
-/// is want of memory.
+/// The batch has the number after the base's. The only error is want of memory.
 pub fn execute<R: Threads + Wait + Sync, G: Gate + Sync>(
     rt: &R,
     alloc: Global,
@@ -31,7 +29,6 @@ pub fn execute<R: Threads + Wait + Sync, G: Gate + Sync>(
     workers: Workers,
     gate: &G,
 ) -> Result<Tentative, AllocError>
-    requires fits { BatchFits batch }
     requires next { batch.n ≡ base.now.state.number + 1 }
     ensures made { IfOk result (λ tentative. IsMade base.now.state batch ordered tentative) }
     ensures round { IfOk result (λ tentative. Round base.now.state batch ordered tentative.after tentative.replies) }

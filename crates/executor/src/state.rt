@@ -1,5 +1,4 @@
 ghost use Rattle.std.specs.Prelude.{◌≡◌, ◌<◌, ◌^◌, IfOk};
-ghost use Rattle.wire.specs.Batch.{BatchFits};
 ghost use Rattle.wire.specs.Session.{SessionsFit};
 ghost use Rattle.executor.specs.State.{IsState, first_state, with_token};
 ghost use Rattle.executor.specs.Parts.{parts_of};
@@ -173,7 +172,6 @@ impl State {
     /// The state of these parts, with its token computed from them. Its number is from 1 to 2^58 - 1.
     pub fn of_parts(parts: Parts) -> State
         requires number { (0 < parts.number) × (parts.number < 2 ^ 58) }
-        requires sessions { SessionsFit parts.sessions }
         ensures { result ≡ with_token (parts_of parts) }
     {
         let token = Token::new(
@@ -208,11 +206,10 @@ impl State {
 
     /// The state that a batch makes of this one, with its token.
     pub fn followed_by(&self, batch: &Batch, sessions: Sessions, pages: Snapshot) -> State
-        requires batch { BatchFits batch.now }
-        requires sessions { SessionsFit sessions }
-        ensures { result ≡ followed self.now batch.now sessions pages }
+        ensures followed { result ≡ followed self.now batch.now sessions pages }
+        ensures fit { SessionsFit result.sessions }
     {
-        State::of_parts(Parts {
+        let state = State::of_parts(Parts {
             number: batch.n,
             previous: self.token,
             epoch: batch.epoch,
@@ -220,6 +217,8 @@ impl State {
             moment: batch.moment.max(self.moment),
             sessions,
             pages,
-        })
+        });
+        state.is_state();
+        state
     }
 }

@@ -1,5 +1,4 @@
 ghost use Rattle.std.specs.Prelude.{◌≡◌, ◌<◌, ◌^◌, ◌↔◌, [], false, IfOk, IfErr, IsOk};
-ghost use Rattle.wire.specs.Session.{SessionsFit};
 ghost use Rattle.executor.specs.State.{first_state, with_token};
 ghost use Rattle.executor.specs.Parts.{parts_of};
 ghost use Rattle.decrees.specs.declared.decree.Decree.TheVariants.{Commit};
@@ -145,7 +144,6 @@ impl Committed {
     /// Its number is from 1 to 2^58 - 1.
     pub fn of_parts(alloc: Global, parts: Parts) -> Committed
         requires number { (0 < parts.number) × (parts.number < 2 ^ 58) }
-        requires sessions { SessionsFit parts.sessions }
         ensures { result ≡ record { state = with_token (parts_of parts); replies = [] } }
     {
         Committed {

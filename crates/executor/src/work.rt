@@ -1,7 +1,6 @@
 ghost use Rattle.std.specs.Prelude.{◌≡◌, ◌≤◌, ◌<◌, ◌+◌, ◌*◌, ◌^◌, [], None, Some, true, false, IfOk, OnOk, OnErr, IsTrue, IfSome, slice_get, length, not, ◌&&◌, ◌||◌, ◌==◌};
 ghost use Rattle.std.specs.List.{list_all};
 ghost use Rattle.std.specs.Bool.{OnTrue, OnFalse};
-ghost use Rattle.wire.specs.Batch.{BatchFits};
 ghost use Rattle.item_steps.specs.Schedule.{stamped};
 ghost use Rattle.executor.specs.Round.{first_place, moment_of, Round};
 ghost use Rattle.executor.specs.Work.{StepMade, HasNoStep, tentative_of, is_group_done as group_done, IsFirst, IsNext, IsLast, is_ready, all_begun, started};
@@ -15,7 +14,7 @@ use crate::begin::begin_all;
 use crate::crew::{refresh, run_group};
 use crate::group_run::{put_back, take_tasks};
 use crate::groups::{is_group_done, next_group};
-use crate::kept::{answer_all, are_few};
+use crate::kept::answer_all;
 use crate::running::Running;
 use crate::tentative::Tentative;
 use batches::Batch;
@@ -91,7 +90,6 @@ fn ready_at(running: &[Running], group: usize, place: u32) -> Option<usize>
 
 /// Where the request at the place runs. The stamps of a batch's requests begin at 64 times its number.
 fn place_of(base: &Base, batch: &Batch, place: u32) -> Place
-    requires number { batch.now.n < 2 ^ 58 }
     requires place { place < 64 }
     ensures { result ≡ stamped (first_place base.now.state batch.now) place }
 {
@@ -110,7 +108,6 @@ impl Work {
         running: Vec<Running>,
         group: usize,
     ) -> Result<Work, AllocError>
-        requires fits { BatchFits batch }
         requires next { batch.n ≡ base.now.state.number + 1 }
         requires running { running.items ≡ all_begun base.now.state batch ordered }
         requires few { HaveFewSteps running.items }
@@ -138,15 +135,13 @@ impl Work {
     /// and groups without requests are taken out. Where no request runs the batch is done at once.
     /// An ordered batch runs each request by itself, in batch order.
     ///
-    /// The batch has the number after the base's, and is within the limits of a record. The only
-    /// error is want of memory.
+    /// The batch has the number after the base's. The only error is want of memory.
     pub fn begin(
         alloc: Global,
         base: &Base,
         batch: Batch,
         ordered: bool,
     ) -> Result<Ended, AllocError>
-        requires fits { BatchFits batch }
         requires next { batch.n ≡ base.now.state.number + 1 }
         ensures begins { IfOk result (λ ended. Begins base.now.state batch ordered ended) }
         ensures round { IfOk result (λ ended. DoneIsRound base.now.state batch ordered ended) }
@@ -214,7 +209,6 @@ impl Work {
         } = self;
         let mut sessions = base.state.sessions().clone()?;
         let replies = answer_all(alloc, batch.requests.as_slice(), &running, &mut sessions)?;
-        are_few(sessions.entries());
         let after = base.state.followed_by(&batch, sessions, pages.seal());
         Ok(Tentative {
             before: base,

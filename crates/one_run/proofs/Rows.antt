@@ -1,5 +1,5 @@
 -- Small lists of decrees and their runs, computed.
-use Rattle.std.proofs.Common.{◌+◌, ◌∙◌, ◌≡◌, inl, inr, false, List, [], ◌∷◌, length, replicate, Some, refl, arith, take, ℕ, ◌<◌, true, map, ap, sym, subst, ◌++◌, None}
+use Rattle.std.proofs.Common.{◌+◌, ◌∙◌, ◌≡◌, inl, inr, false, List, [], ◌∷◌, length, replicate, Some, refl, arith, take, ℕ, ◌<◌, ◌≤◌, true, map, ap, sym, subst, ◌++◌, None}
 use Rattle.std.specs.Prelude.{Contains, slice_get, All, ◌&&◌, ◌==◌, if◌then◌else◌}
 use Rattle.std.specs.FinMap.{empty, get, get-empty}
 use Rattle.token.specs.declared.Token.{Token}
@@ -8,6 +8,7 @@ use Rattle.decrees.specs.declared.decree.Decree.{Decree}
 use Rattle.decrees.specs.declared.decree.Decree.TheVariants.{Commit, Rollback}
 use Rattle.decrees.specs.Standing.{standing}
 use Rattle.batches.specs.declared.batch.Batch.{Batch}
+use Rattle.batches.specs.Limits.{most_requests, greatest_number}
 use Rattle.wire.specs.Batch.{batch_text}
 use Rattle.executor.specs.State.{StateView, IsState, first_state, with_token}
 use Rattle.executor.specs.declared.answered.Answered.{Answered}
@@ -63,8 +64,17 @@ inner_nodes = refl
 
 -- ---- one Commit, one round: a batch without requests, over the first state, in epoch 2
 
+one_first : 1 ≤ 1
+one_first = omega arith
+
+one_last : 1 ≤ greatest_number
+one_last = omega arith
+
+none_few : length {A = Request} [] ≤ most_requests
+none_few = omega arith
+
 abbrev batch : Batch
-batch = record { epoch = 2; n = 1; moment = 1000; requests = [] }
+batch = record { epoch = 2; n = 1; moment = 1000; requests = []; first = one_first; last = one_last; few = none_few }
 
 abbrev second : StateView
 second = with_token (record {
@@ -149,10 +159,13 @@ is_of_run = refl
 -- ---- one request: client 1 asks for a key that is not there, in an ordered batch
 
 abbrev request : Request
-request = record { client = 1; number = 1; command = command.Get ((97 ∷ []) ∷ []) }
+request = record { client = 1; number = 1; command = command.Get ((97 ∷ []) ∷ []); is_client = one_first; is_numbered = one_first }
+
+one_few : length (request ∷ []) ≤ most_requests
+one_few = omega arith
 
 abbrev asking : Batch
-asking = record { epoch = 1; n = 1; moment = 1000; requests = request ∷ [] }
+asking = record { epoch = 1; n = 1; moment = 1000; requests = request ∷ []; first = one_first; last = one_last; few = one_few }
 
 abbrev its_step : List Placed
 its_step = map (λ step. (0, step)) (steps request.command)

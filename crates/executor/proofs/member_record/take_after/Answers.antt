@@ -31,7 +31,7 @@ returns-then-ne c =
     c.in_ok-head.ensures.1 more
     (λ f.
     let made : c.followed_by-state.result ≡ followed c.args.before.now c.args.batch.now c.in_ok-head.sessions c.in_ok-pages.pages =
-    c.followed_by-state.ensures ∙ ap (λ (m : Items). followed c.args.before.now c.args.batch.now c.in_ok-head.sessions m) c.seal.ensures in
+    c.followed_by-state.ensures.followed ∙ ap (λ (m : Items). followed c.args.before.now c.args.batch.now c.in_ok-head.sessions m) c.seal.ensures in
     let same : c.head.result ≡ c.in_ok-head.head = c.head.ensures ∙ ap head_of (made ∙ sym f.is) in
     heads_alike c.head.result c.in_ok-head.head same (sym c.ne.ensures ∙ c.if-ne.true))
 
@@ -43,9 +43,9 @@ returns c =
     c.in_ok-pages.ensures.1 ∙ ap (λ (m : Items). changes_text m c.in_ok-pages.pages ++ c.in_ok-pages.rest.now) c.pages.ensures in
     let read = read_so (changes_text c.args.before.now.items) (Follows c.args.before.now c.args.batch.now) c.args.bytes.now (changes_free c.args.before.now.items) c.in_ok-head.head c.in_ok-head.sessions c.in_ok-pages.pages c.in_ok-head.rest.now c.in_ok-pages.rest.now
     c.in_ok-head.ensures.1 more in
-    let follows = follows_of c.args.before.now c.args.batch.now c.followed_by-state.result c.in_ok-head.sessions c.seal.result c.followed_by-state.ensures c.in_ok-head.ensures.0.1 in
+    let follows = follows_of c.args.before.now c.args.batch.now c.followed_by-state.result c.in_ok-head.sessions c.seal.result c.followed_by-state.ensures.followed c.followed_by-state.ensures.fit in
     let head : c.in_ok-head.head ≡ head_of c.followed_by-state.result = sym same ∙ c.head.ensures in
-    let sessions : c.in_ok-head.sessions ≡ c.followed_by-state.result.sessions = sym (ap (λ s. s.sessions) c.followed_by-state.ensures) in
-    let items : c.in_ok-pages.pages ≡ c.followed_by-state.result.items = sym (ap (λ s. s.items) c.followed_by-state.ensures ∙ c.seal.ensures) in
+    let sessions : c.in_ok-head.sessions ≡ c.followed_by-state.result.sessions = sym (ap (λ s. s.sessions) c.followed_by-state.ensures.followed) in
+    let items : c.in_ok-pages.pages ≡ c.followed_by-state.result.items = sym (ap (λ s. s.items) c.followed_by-state.ensures.followed ∙ c.seal.ensures) in
     let whole : state_of c.in_ok-head.head c.in_ok-head.sessions c.in_ok-pages.pages ≡ c.followed_by-state.result = (λ i. state_of (head i) (sessions i) (items i)) in
     (follows, read ∙ ap (λ s. after_text c.args.before.now.items s ++ c.in_ok-pages.rest.now) whole)

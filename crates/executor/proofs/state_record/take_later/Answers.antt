@@ -58,10 +58,7 @@ returns c =
           ∙ ap (λ s. state_text s ++ c.in_ok-pages.rest.now) whole,
     )
 
-pub of_parts-state-requires-clause-number : goal.of_parts-state-requires-clause-number
-of_parts-state-requires-clause-number c =
+pub of_parts-state-requires : goal.of_parts-state-requires
+of_parts-state-requires c =
     let here : c.parts.result.number ≡ c.in_ok-head.head.number = ap (λ p. p.number) c.parts.ensures in
-    (omega (arith, here, c.if-head-eq0.false), omega (arith, here, c.if-head-gt-GREATEST_NUMBER.false))
-
-pub of_parts-state-requires-clause-sessions : goal.of_parts-state-requires-clause-sessions
-of_parts-state-requires-clause-sessions c = rw c.parts.ensures c.in_ok-head.ensures.0.1
+    record { number = (omega (arith, here, c.if-head-eq0.false), omega (arith, here, c.if-head-gt-GREATEST_NUMBER.false)) }

@@ -10,7 +10,6 @@ invariant_of-self c =
     let next = subst (λ (v : WorkView). IsNext v.progress.running (Some v.progress.group) c.args.group) (sym c.self.view_is) c.requires.next in
     record {
       worked = moved (record { items = c.self.inside.pages; running = c.self.inside.running.items; group = c.self.inside.group }) c.args.group c.self.invariant.worked done next;
-      fits = c.self.invariant.fits;
       next = c.self.invariant.next;
       few = c.self.invariant.few;
     }

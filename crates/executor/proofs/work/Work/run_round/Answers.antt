@@ -25,11 +25,11 @@ left_by g c =
 
 pub run_group-requires-clause-fits : goal.run_group-requires-clause-fits
 run_group-requires-clause-fits g c lifetimes live =
-    tasks_fit c.self.inside.base.state c.self.inside.batch c.self.inside.ordered _ c.self.invariant.worked c.self.invariant.fits c.self.invariant.few c.place_of-first.result c.place_of-first.ensures
+    tasks_fit c.self.inside.base.state c.self.inside.batch c.self.inside.ordered _ c.self.invariant.worked c.self.invariant.few c.place_of-first.result c.place_of-first.ensures
     _ c.as_mut_slice.ensures.value _ c.in_ok-tasks.ensures.tasks
 
 pub invariant_of-result : goal.invariant_of-result
-invariant_of-result g c = record { worked = (left_by g c.before).worked; fits = c.self.invariant.fits; next = c.self.invariant.next; few = c.self.invariant.few }
+invariant_of-result g c = record { worked = (left_by g c.before).worked; next = c.self.invariant.next; few = c.self.invariant.few }
 
 pub returns-clause-done : goal.returns-clause-done
 returns-clause-done g c = (left_by g c.before).done

@@ -17,7 +17,6 @@ invariant_of-result c =
     record {
       worked = subst (λ (b : StateView). Worked b c.args.batch c.args.ordered (record { items = c.drop_due.new.self; running = c.args.running.items; group = c.args.group })) (sym base_is)
           (started_work c.args.base.now.state c.args.batch c.args.ordered c.args.group c.drop_due.new.self c.args.running.items now c.requires.running c.requires.first);
-      fits = c.requires.fits;
       next = c.requires.next ∙ ap (λ (b : StateView). b.number + 1) (sym base_is);
       few = subst (λ (b : StateView). HaveFewSteps (all_begun b c.args.batch c.args.ordered)) (sym base_is) (subst HaveFewSteps c.requires.running c.requires.few);
     }

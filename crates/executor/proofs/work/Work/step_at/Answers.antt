@@ -11,13 +11,13 @@ use Rattle.executor.proofs.ThroughLemmas.{step_at}
 use Rattle.executor.proofs.work.Work.step_at.Goals as goal
 use Rattle.executor.proofs.work.Work.step_at.Goals.{In_ok-step}
 
-pub place_of-at-requires-clause-place : goal.place_of-at-requires-clause-place
-place_of-at-requires-clause-place c =
+pub place_of-at-requires : goal.place_of-at-requires
+place_of-at-requires c =
     let w : Progress = record { items = c.self.inside.pages; running = c.self.inside.running.items; group = c.self.inside.group } in
     let ready = subst (λ (v : WorkView). IsReadyAt v.progress c.args.i) (sym c.self.view_is) c.requires.ready in
     let is : c.index.result.now ≡ ready.request = c.index.ensures ∙ get_or_from_slice_get c.self.inside.running.items c.args.i ready.request c.index.result.now ready.there in
     let within = place_within c.self.inside.base.state c.self.inside.batch c.self.inside.ordered w c.self.invariant.worked c.args.i ready.request ready.there in
-    omega (arith, c.place.ensures, ap (λ (r : Running). r.place) is, within, c.self.invariant.fits.count)
+    omega (arith, c.place.ensures, ap (λ (r : Running). r.place) is, within, c.self.inside.batch.few)
 
 pub index_mut-requires : goal.index_mut-requires
 index_mut-requires c =
@@ -50,7 +50,7 @@ pub invariant_of-self-2 : goal.invariant_of-self-2
 invariant_of-self-2 c =
     let w : Progress = record { items = c.self.inside.pages; running = c.self.inside.running.items; group = c.self.inside.group } in
     let m = made c in
-    record { worked = stepped w _ m.place c.self.invariant.worked m.made; fits = c.self.invariant.fits; next = c.self.invariant.next; few = c.self.invariant.few }
+    record { worked = stepped w _ m.place c.self.invariant.worked m.made; next = c.self.invariant.next; few = c.self.invariant.few }
 
 pub returns-clause-made : goal.returns-clause-made
 returns-clause-made c = subst (λ (v : WorkView). StepMadeAt (first_place v.base v.batch) v.progress c.args.i (record { items = c.step.new.pages; running = set c.self.inside.running.items c.args.i c.step.new.self; group = c.self.inside.group })) c.self.view_is (made c)
