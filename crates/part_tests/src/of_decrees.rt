@@ -1,5 +1,3 @@
-ghost use Rattle.std.specs.Prelude.{◌<◌};
-
 use decrees::{Decree, Log, Standing, Verdict, VoteKey, Votes};
 use proto::Fault;
 use std::alloc::{AllocError, Global};
@@ -31,33 +29,31 @@ fn add_votes(votes: &mut Votes, tokens: &[u8]) -> Result<(), AllocError> {
     Ok(())
 }
 
-/// The verdict where the executors from 0 on have these tokens for the first number.
-fn verdict(alloc: Global, u: u8, tokens: &[u8]) -> Result<Verdict, Fail>
-    requires { u < 4 }
-{
+/// The verdict where the executors from 0 on have these tokens for the first number, and at most `u`,
+/// up to 3, may fail.
+fn verdict(alloc: Global, u: u8, tokens: &[u8]) -> Result<Verdict, AllocError> {
     let mut votes = Votes::new(alloc);
     add_votes(&mut votes, tokens)?;
-    Ok(votes.verdict(&Standing::first(), u))
+    Ok(votes.verdict(&Standing::first(), u.min(3)))
 }
 
 #[test]
 fn verdicts(rt: HostRuntime) -> Result<(), Fail> {
     let commit = Verdict::Commit(token(7));
-    assert_eq!(rt; verdict(rt.alloc(), 0, &[])?, Verdict::Wait);
-    assert_eq!(rt; verdict(rt.alloc(), 0, &[7])?, commit);
-    assert_eq!(rt; verdict(rt.alloc(), 1, &[7, 7])?, commit);
-    assert_eq!(rt; verdict(rt.alloc(), 1, &[7, 8])?, Verdict::Wait);
-    assert_eq!(rt; verdict(rt.alloc(), 1, &[7, 8, 9])?, Verdict::Hopeless);
-    assert_eq!(rt; verdict(rt.alloc(), 2, &[7, 7, 8, 8])?, Verdict::Wait);
-    assert_eq!(rt;
-        verdict(rt.alloc(), 2, &[7, 7, 8, 8, 9])?,
-        Verdict::Hopeless
-    );
-    assert_eq!(rt; verdict(rt.alloc(), 2, &[6, 7, 8, 9])?, Verdict::Hopeless);
-    assert_eq!(rt;
-        verdict(rt.alloc(), 3, &[7, 7, 8, 8, 9, 9])?,
-        Verdict::Hopeless
-    );
+    let rows: [(u8, &[u8], Verdict); 9] = [
+        (0, &[], Verdict::Wait),
+        (0, &[7], commit),
+        (1, &[7, 7], commit),
+        (1, &[7, 8], Verdict::Wait),
+        (1, &[7, 8, 9], Verdict::Hopeless),
+        (2, &[7, 7, 8, 8], Verdict::Wait),
+        (2, &[7, 7, 8, 8, 9], Verdict::Hopeless),
+        (2, &[6, 7, 8, 9], Verdict::Hopeless),
+        (3, &[7, 7, 8, 8, 9, 9], Verdict::Hopeless),
+    ];
+    for (u, tokens, wanted) in rows {
+        assert_eq!(rt; verdict(rt.alloc(), u, tokens)?, wanted);
+    }
     Ok(())
 }
 

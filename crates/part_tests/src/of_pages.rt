@@ -1,5 +1,5 @@
 use items::{Item, PlainStore, Store};
-use pages::{PAGES, Pages, Snapshot, page_of};
+use pages::{PAGES, Page, Pages, Snapshot, page_of};
 use proto::{Block, Key, is_key_text};
 use rand_core::SeedableRng;
 use rand_core::utils::NextWord;
@@ -151,47 +151,60 @@ fn pages_of_keys(rt: HostRuntime) -> Result<(), Fail> {
     Ok(())
 }
 
-#[test]
-fn digests_of_pages(rt: HostRuntime) -> Result<(), Fail> {
-    // SHA-256 of 00 00000000, by another program.
-    let empty: [u8; 32] = [
-        0x88, 0x55, 0x50, 0x8a, 0xad, 0xe1, 0x6e, 0xc5, 0x73, 0xd2, 0x1e, 0x6a, 0x48, 0x5d, 0xfd,
-        0x0a, 0x76, 0x24, 0x08, 0x5c, 0x1a, 0x14, 0xb5, 0xec, 0xdd, 0x64, 0x85, 0xde, 0x0c, 0x68,
-        0x39, 0xa4,
-    ];
-    let kept = Pages::new(rt.alloc())?.seal();
-    assert_eq!(rt; kept.digest(33), &empty);
-    let mut pages = kept.share()?.open();
+/// SHA-256 of 00 00000000, by another program.
+const EMPTY: [u8; 32] = [
+    0x88, 0x55, 0x50, 0x8a, 0xad, 0xe1, 0x6e, 0xc5, 0x73, 0xd2, 0x1e, 0x6a, 0x48, 0x5d, 0xfd, 0x0a,
+    0x76, 0x24, 0x08, 0x5c, 0x1a, 0x14, 0xb5, 0xec, 0xdd, 0x64, 0x85, 0xde, 0x0c, 0x68, 0x39, 0xa4,
+];
+
+/// SHA-256 of 00 00000001 01 61 00000000 00 0000000000000040 00000001 35, by another program.
+const ONE: [u8; 32] = [
+    0x73, 0xa7, 0x3c, 0x62, 0xab, 0x4e, 0x82, 0x0d, 0x79, 0x34, 0x33, 0xac, 0x48, 0x02, 0x54, 0x8e,
+    0x44, 0xfa, 0xf5, 0xc8, 0x78, 0x5e, 0xa2, 0x32, 0xe9, 0x7d, 0xc1, 0x0c, 0x1d, 0x4f, 0xdf, 0x19,
+];
+
+fn put_five(alloc: Global, pages: &mut Pages) -> Result<(), AllocError> {
     let item = Item {
-        block: Block::from_slice(rt.alloc(), b"5")?,
+        block: Block::from_slice(alloc, b"5")?,
         flags: 0,
         due: None,
         unique: 64,
     };
-    pages.put(key(rt.alloc(), b"a")?, item)?;
-    // SHA-256 of 00 00000001 01 61 00000000 00 0000000000000040 00000001 35, by another program.
-    let one: [u8; 32] = [
-        0x73, 0xa7, 0x3c, 0x62, 0xab, 0x4e, 0x82, 0x0d, 0x79, 0x34, 0x33, 0xac, 0x48, 0x02, 0x54,
-        0x8e, 0x44, 0xfa, 0xf5, 0xc8, 0x78, 0x5e, 0xa2, 0x32, 0xe9, 0x7d, 0xc1, 0x0c, 0x1d, 0x4f,
-        0xdf, 0x19,
-    ];
-    let after = pages.seal();
-    assert_eq!(rt; after.digest(33), &one);
-    assert_eq!(rt; after.digest(34), &empty);
-    assert_eq!(rt; kept.digest(33), &empty);
+    pages.put(key(alloc, b"a")?, item)
+}
+
+/// The pages with one item more.
+fn with_five(alloc: Global, kept: &Snapshot) -> Result<Snapshot, AllocError> {
+    let mut pages = kept.share()?.open();
+    put_five(alloc, &mut pages)?;
+    Ok(pages.seal())
+}
+
+#[test]
+fn digests_of_pages(rt: HostRuntime) -> Result<(), Fail> {
+    let kept = Pages::new(rt.alloc())?.seal();
+    let after = with_five(rt.alloc(), &kept)?;
+    assert_eq!(rt; after.digest(33), &ONE);
+    assert_eq!(rt; after.digest(34), &EMPTY);
+    assert_eq!(rt; kept.digest(33), &EMPTY);
     assert_eq!(rt; kept.page(33).len(), 0);
     assert_eq!(rt; after.page(33).len(), 1);
     Ok(())
 }
 
+/// Puts an item and removes one that is not there. Whether the item is there after that.
+fn put_and_remove(alloc: Global, page: &mut Page) -> Result<bool, AllocError> {
+    let item = any_item(alloc, &mut Lcg64Xsh32::seed_from_u64(3))?;
+    page.put(key(alloc, b"a")?, item)?;
+    page.remove(&key(alloc, b"b")?)?;
+    Ok(page.get(&key(alloc, b"a")?).is_some())
+}
+
 #[test]
 fn parted_pages_are_stores(rt: HostRuntime) -> Result<(), Fail> {
     let mut pages = Pages::new(rt.alloc())?.part();
-    let item = any_item(rt.alloc(), &mut Lcg64Xsh32::seed_from_u64(3))?;
-    pages[33].put(key(rt.alloc(), b"a")?, item)?;
-    assert!(rt; pages[33].digest().is_none() && pages[34].digest().is_some());
-    pages[33].remove(&key(rt.alloc(), b"b")?)?;
-    assert!(rt; pages[33].get(&key(rt.alloc(), b"a")?).is_some());
+    let there = put_and_remove(rt.alloc(), &mut pages[33])?;
+    assert!(rt; there && pages[33].digest().is_none() && pages[34].digest().is_some());
     Ok(())
 }
 

@@ -1,5 +1,3 @@
-ghost use Rattle.std.specs.Prelude.{◌<◌};
-
 use decrees::Decree;
 use std::alloc::{AllocError, Global};
 use std::test::Fail;
@@ -28,13 +26,11 @@ fn add_all(promises: &mut Promises, added: &[Promise]) -> Result<(), AllocError>
     Ok(())
 }
 
-/// The choice of one that knows so many decrees, after these promises.
-fn choice(alloc: Global, added: &[Promise], known: u64, u: u8) -> Result<Choice, AllocError>
-    requires { u < 4 }
-{
+/// The choice of one that knows so many decrees, after these promises; `u` is at most 3.
+fn choice(alloc: Global, added: &[Promise], known: u64, u: u8) -> Result<Choice, AllocError> {
     let mut promises = Promises::new(alloc);
     add_all(&mut promises, added)?;
-    Ok(promises.choice(known, u))
+    Ok(promises.choice(known, u.min(3)))
 }
 
 #[test]
@@ -45,12 +41,19 @@ fn choices(rt: HostRuntime) -> Result<(), Fail> {
         promise(1, 0, None),
         promise(0, 0, Some((0, commit(5)))),
     ];
-    assert_eq!(rt; choice(rt.alloc(), &[], 0, 1)?, Choice::Wait);
-    assert_eq!(rt; choice(rt.alloc(), &all[..2], 0, 1)?, Choice::Wait);
-    assert_eq!(rt; choice(rt.alloc(), &all[..3], 0, 1)?, Choice::Free);
-    assert_eq!(rt; choice(rt.alloc(), &all, 0, 1)?, Choice::Must(commit(5)));
-    assert_eq!(rt; choice(rt.alloc(), &all, 1, 1)?, Choice::Free);
-    assert_eq!(rt; choice(rt.alloc(), &all, 0, 2)?, Choice::Must(commit(5)));
+    // So many of them, what is known, and how many may fail.
+    let rows = [
+        (0usize, 0u64, 1u8, Choice::Wait),
+        (2, 0, 1, Choice::Wait),
+        (3, 0, 1, Choice::Free),
+        (4, 0, 1, Choice::Must(commit(5))),
+        (4, 1, 1, Choice::Free),
+        (4, 0, 2, Choice::Must(commit(5))),
+    ];
+    for (count, known, u, wanted) in rows {
+        let (added, _) = all.split_at(count.min(4));
+        assert_eq!(rt; choice(rt.alloc(), added, known, u)?, wanted);
+    }
     Ok(())
 }
 
