@@ -209,7 +209,7 @@ fn parted_pages_are_stores(rt: HostRuntime) -> Result<(), Fail> {
 }
 
 /// One of 1,000 keys, each of the page 44.
-fn nth_key(alloc: Global, n: usize) -> Result<Key, AllocError> {
+fn nth_key(alloc: Global, n: u32) -> Result<Key, AllocError> {
     let digits = [n / 100 % 10, n / 10 % 10, n % 10];
     let last = 92 - digits[0] - digits[1] - digits[2];
     key(
@@ -223,10 +223,10 @@ fn nth_key(alloc: Global, n: usize) -> Result<Key, AllocError> {
     )
 }
 
-fn put_nth(alloc: Global, pages: &mut Pages, n: usize) -> Result<(), AllocError> {
+fn put_nth(alloc: Global, pages: &mut Pages, n: u32) -> Result<(), AllocError> {
     let item = Item {
         block: Block::from_slice(alloc, b"5")?,
-        flags: n as u32,
+        flags: n,
         due: None,
         unique: 64,
     };
@@ -234,19 +234,19 @@ fn put_nth(alloc: Global, pages: &mut Pages, n: usize) -> Result<(), AllocError>
 }
 
 /// Whether the key has the item that was put for it.
-fn has_nth(alloc: Global, pages: &Pages, n: usize) -> Result<bool, AllocError> {
+fn has_nth(alloc: Global, pages: &Pages, n: u32) -> Result<bool, AllocError> {
     let key = nth_key(alloc, n)?;
-    Ok(pages.get(&key).is_some_and(|item| item.flags as usize == n))
+    Ok(pages.get(&key).is_some_and(|item| item.flags == n))
 }
 
 #[test]
 fn a_page_of_1000_items(rt: HostRuntime) -> Result<(), Fail> {
     let mut pages = Pages::new(rt.alloc())?;
-    for n in 0..1000usize {
+    for n in 0..1000u32 {
         put_nth(rt.alloc(), &mut pages, n)?;
     }
     assert_eq!(rt; pages.page(44).len(), 1000);
-    for n in 0..1000usize {
+    for n in 0..1000u32 {
         assert!(rt; has_nth(rt.alloc(), &pages, n)?, "item {n}");
     }
     Ok(())
