@@ -8,6 +8,8 @@
 #[cfg(test)]
 mod of_app;
 #[cfg(test)]
+mod of_base;
+#[cfg(test)]
 mod of_batches;
 #[cfg(test)]
 mod of_decrees;

@@ -1,0 +1,6 @@
+use Rattle.std.proofs.Common.{◌≡◌, take}
+use Rattle.base.specs.Pieces.{bytes_of}
+use Rattle.base.proofs.text.Text.joined.Given as goal
+
+abbrev pub invariant-loop-piece : goal.invariant-loop-piece
+invariant-loop-piece l = l.bytes.items ≡ bytes_of (take l.piece-index l.piece-items)
