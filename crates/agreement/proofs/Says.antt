@@ -57,7 +57,7 @@ pub Safe-more : {u : ℕ} {ls : Letters} (new : Letters) {w p : ℕ} {d : Decree
 Safe-more new (inl e) = inl e
 Safe-more {u} {ls} new {w} {p} {d} (inr s) = inr (record { best = s.best; asked = Quorum-weaker (Promises-more new w p s.best) s.asked; same = Repeats-more ls new w p d s.best s.same })
 
-RestsOn-more : (u : ℕ) (ls new : Letters) (before : List Decree) (d : Decree) → RestsOn u ls before d → RestsOn u (ls ++ new) before d
+pub RestsOn-more : (u : ℕ) (ls new : Letters) (before : List Decree) (d : Decree) → RestsOn u ls before d → RestsOn u (ls ++ new) before d
 RestsOn-more u ls new before Rollback h = tt
 RestsOn-more u ls new before (Commit n t) h = record { next = h.next; sent = Quorum-weaker (λ e s. Sent-left ls new s) h.sent }
 

@@ -1,6 +1,7 @@
 -- Every step keeps what holds, and the laws.
-use Rattle.std.proofs.Common.{◌≡◌, ◌≢◌, ℕ, zero, suc, ◌+◌, ◌-◌, ◌<◌, ◌≤◌, ◌⊎◌, Bool, true, false, List, [], ◌∷◌, ◌++◌, length, take, Option, Some, slice_get, slice_set, inl, inr, refl, sym, ◌∙◌, ap, subst, ⊎_elim, arith, replicate}
-use Rattle.std.specs.Prelude.{Contains, not, IsTrue}
+use Rattle.std.proofs.Common.{◌≡◌, ◌≢◌, ℕ, zero, suc, ◌-◌, ◌<◌, ◌≤◌, ◌⊎◌, List, [], ◌∷◌, ◌++◌, length, take, Option, Some, slice_get, slice_set, inl, inr, refl, sym, ◌∙◌, ap, subst, ⊎_elim, arith, replicate}
+use Rattle.std.proofs.lemmas.Option.{slice_get_within}
+use Rattle.std.specs.Prelude.{Contains}
 use Rattle.std.proofs.Math.ListN.{length-set}
 use Rattle.std.proofs.lemmas.Bool.{cases_order}
 use Rattle.std.proofs.lemmas.List.{length-replicate}
@@ -14,24 +15,25 @@ use Rattle.decrees.specs.declared.ballot.Ballot.TheVariants.{Token}
 use Rattle.decrees.specs.declared.node.Letter.{Letter}
 use Rattle.decrees.specs.declared.node.Node.{Node}
 use Rattle.decrees.specs.declared.node.Node.TheVariants.{Executor}
-use Rattle.decrees.specs.Count.{count_below, members}
-use Rattle.decrees.specs.Standing.{standing, decree_at}
-use Rattle.executor.specs.State.{StateView, first_state, with_token}
+use Rattle.decrees.specs.Count.{members}
+use Rattle.decrees.specs.Standing.{standing}
+use Rattle.executor.specs.State.{StateView}
 use Rattle.executor.specs.Work.{TentativeView}
-use Rattle.agreement.specs.Letters.{Letters, Sent, here, there, RestsOn, HasTokens, Quorum}
-use Rattle.agreement.proofs.Letters.{Sent-left, Sent-split}
-use Rattle.agreement.proofs.Count.{Quorum-weaker, Quorum-someone, Quorum-outside}
+use Rattle.agreement.specs.Letters.{Letters, Sent, here, there, RestsOn}
+use Rattle.agreement.proofs.Letters.{Sent-split}
+use Rattle.agreement.proofs.Says.{RestsOn-more}
+use Rattle.agreement.proofs.Count.{Quorum-someone, Quorum-outside}
 use Rattle.agreement.proofs.Places.{at_index}
 use Rattle.one_run.specs.Run.{Executed, IsOver}
 use Rattle.one_run.specs.Met.{IsKnown, IsTold, ToldApart}
-use Rattle.one_run.specs.Chosen.{Made, IsMade, AllMade, IsCommitted}
+use Rattle.one_run.specs.Chosen.{IsMade}
 use Rattle.one_run.proofs.Elements.{in_head, in_none, first_or_other}
 use Rattle.one_run.proofs.Tokens.{tells}
-use Rattle.custody.specs.Durable.{Durable, first_durable, tip, after, obeyed, executed_of, IsMember, In, first, later, Keeps}
+use Rattle.custody.specs.Durable.{Durable, first_durable, tip, obeyed, executed_of, IsMember, In, Keeps}
 use Rattle.custody.specs.Machine.{Machine, said_of, AreOthers, Next, Hear, Choose, Complete, Say, Obey, Take, first_machine, Reached}
-use Rattle.custody.specs.Laws.{ChosenIsMade, IsChosen, CommittedIsChosen, IsInCustody, LastCommitIsKept}
-use Rattle.custody.proofs.Log.{take_front, take_whole, some_at, within, get_push, length_push, stands_next, Numbered, rises_to, one_commit, last_commit}
-use Rattle.custody.proofs.Kept.{In-left, Path, start, step, Path-rises, member_number, member_previous, member_epoch, Chain, Chain-push, Chain-in, Fate, kept, passed, rolled, broken, ExecOk, ExecOk-met, ExecOk-log, stands_chosen, undone_rollback, undone_commit}
+use Rattle.custody.specs.Laws.{ChosenIsMade, CommittedIsChosen, LastCommitIsKept}
+use Rattle.custody.proofs.Log.{take_front, take_whole, some_at, get_push, stands_next, Numbered, rises_to, one_commit, last_commit}
+use Rattle.custody.proofs.Kept.{In-left, Path, start, step, Path-rises, member_previous, Chain-push, Chain-in, Fate, kept, passed, rolled, broken, ExecOk, ExecOk-met, ExecOk-log, stands_chosen, undone_rollback, undone_commit}
 
 -- a token that was said is of a state that a round made of one that was known
 pub record TokenMade (met : StateView → Type 0) (rounds : Executed → Type 0) (epoch n : ℕ) (previous t : token.Token) : Type 0 where
@@ -86,10 +88,6 @@ one_changed P xs e y others mine i x at = ⊎_elim
 
 -- ---- letters
 
-Rests-more : (u : ℕ) (ls new : Letters) (before : List Decree) (d : Decree) → RestsOn u ls before d → RestsOn u (ls ++ new) before d
-Rests-more u ls new before (Commit n t) r = record { next = r.next; sent = Quorum-weaker (λ e s. Sent-left ls new s) r.sent }
-Rests-more u ls new before Rollback r = tt
-
 -- letters that say what is in hand: a letter of this executor's chain, or no token
 ExecOk-letters : {log : List Decree} {ls : Letters} {met : StateView → Type 0} {rounds : Executed → Type 0} {e : ℕ} {x : Durable} (new : Letters)
     → ((epoch n : ℕ) (previous t : token.Token) → Sent new (Executor e) (Token epoch n previous t) → Fate log met x epoch n t) → ExecOk log ls met rounds e x → ExecOk log (ls ++ new) met rounds e x
@@ -107,7 +105,7 @@ ExecOk-letters {log} {ls} {met} {rounds} {e} {x} new own ok = record {
 heard : {u : ℕ} {m : Machine} (new : Letters) → AreOthers new → Good u m → Good u (record m { letters = m.letters ++ new })
 heard {u} {m} new others good = record {
   count = good.count;
-  rests = λ i d e. Rests-more u m.letters new (take i m.decrees) d (good.rests i d e);
+  rests = λ i d e. RestsOn-more u m.letters new (take i m.decrees) d (good.rests i d e);
   said = λ e epoch n previous t s. ⊎_elim (λ l. good.said e epoch n previous t l) (λ r. absurd (others e epoch n previous t r)) (Sent-split m.letters new s);
   told = good.told;
   execs = λ e x at. ExecOk-letters new (λ epoch n previous t r. absurd (others e epoch n previous t r)) (good.execs e x at);
@@ -125,7 +123,7 @@ says {u} {m} e x t to good at has =
     let l : Letter Ballot = record { from = Executor e; to = to; body = said_of t } in
     record {
       count = good.count;
-      rests = λ i d g. Rests-more u m.letters (l ∷ []) (take i m.decrees) d (good.rests i d g);
+      rests = λ i d g. RestsOn-more u m.letters (l ∷ []) (take i m.decrees) d (good.rests i d g);
       said = λ j epoch n previous s sent. ⊎_elim (λ h. good.said j epoch n previous s h)
           (λ (h : Sent (l ∷ []) (Executor j) (Token epoch n previous s)).
           let same : said_of t ≡ Token epoch n previous s = (one_letter h).1 in
@@ -169,7 +167,7 @@ chooses {u} {m} d good may = record {
   count = good.count;
   rests = λ i c e. ⊎_elim
       (λ (l : slice_get m.decrees i ≡ Some c).
-      let below = within m.decrees i c l in
+      let below = slice_get_within m.decrees i c l in
       subst (λ ds. RestsOn u m.letters ds c) (sym (take_front m.decrees (d ∷ []) i (omega (arith, below)))) (good.rests i c l))
       (λ (p : (i ≡ length m.decrees) × (c ≡ d)).
       let same : take i (m.decrees ++ d ∷ []) ≡ m.decrees = take_front m.decrees (d ∷ []) i (omega (arith, p.0)) ∙ (ap (λ j. take j m.decrees) p.0 ∙ take_whole m.decrees) in
@@ -353,7 +351,7 @@ walk {u} {m} good apart f s j (step {t = t} p at prev number) e above =
     (λ (z : (standing (take j m.decrees)).n ≡ 0). absurd (omega (arith, rise, z, n_is, above)))
     (λ (l : (i : ℕ) × (slice_get m.decrees i ≡ Some (Commit (standing (take j m.decrees)).n (standing (take j m.decrees)).token))).
     walk good apart f t l.0 p (subst (λ (y : ℕ × token.Token). slice_get m.decrees l.0 ≡ Some (Commit y.0 y.1)) (λ i. (n_is i, of_token i)) l.1) above)
-    (last_commit m.decrees j (omega (arith, within m.decrees j (Commit s.number s.token) e)))
+    (last_commit m.decrees j (omega (arith, slice_get_within m.decrees j (Commit s.number s.token) e)))
 
 -- what is kept of the last Commit
 record Still (m : Machine) (x : Durable) (n : ℕ) (t : token.Token) : Type 0 where
@@ -373,7 +371,7 @@ still {u} {m} good apart i n e t x at last ok (passed h) =
     let up = rises_to (numbered good) x.known (length m.decrees) ok.known (omega arith) in
     absurd (omega (arith, h, last, up.0, ok.below, ap (λ (y : Standing). y.n) ok.stands, ap (λ ds. (standing ds).n) (take_whole m.decrees)))
 still {u} {m} good apart i n e t x at last ok (rolled k h a b) = ⊎_elim
-    (λ (l : k ≤ i). absurd (omega (arith, b, (rises_to (numbered good) k i l (omega (arith, within m.decrees i (Commit n t) at))).1)))
+    (λ (l : k ≤ i). absurd (omega (arith, b, (rises_to (numbered good) k i l (omega (arith, slice_get_within m.decrees i (Commit n t) at))).1)))
     (λ (l : i < k). absurd (omega (arith, a, (rises_to (numbered good) (suc i) k l h).0, ap (λ (y : Standing). y.n) (stands_next m.decrees i (Commit n t) at))))
     (either k i)
 still {u} {m} good apart i n e t x at last ok (broken f s other j p a b above g differs) =

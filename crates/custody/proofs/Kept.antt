@@ -1,6 +1,7 @@
 -- What an executor has said of a token, it keeps, or a decree that was chosen says why not.
-use Rattle.std.proofs.Common.{◌≡◌, ◌≢◌, ℕ, zero, suc, ◌+◌, ◌<◌, ◌≤◌, ◌⊎◌, Bool, true, false, List, [], ◌∷◌, ◌++◌, length, take, Some, slice_get, slice_set, inl, inr, refl, sym, ◌∙◌, ap, subst, ⊎_elim, arith}
-use Rattle.std.specs.Prelude.{◌==◌, ◌&&◌, if◌then◌else◌, Contains}
+use Rattle.std.proofs.Common.{◌≡◌, ℕ, zero, suc, ◌+◌, ◌<◌, ◌≤◌, ◌⊎◌, true, List, [], ◌∷◌, ◌++◌, length, take, Some, slice_get, inl, inr, refl, sym, ◌∙◌, ap, subst, ⊎_elim, arith}
+use Rattle.std.proofs.lemmas.Option.{slice_get_within}
+use Rattle.std.specs.Prelude.{◌==◌, ◌&&◌, Contains}
 use Rattle.std.proofs.lemmas.Slice.Eq.{bytes_eq-Decides}
 use Rattle.std.proofs.lemmas.List.Elements.{Contains-append_left}
 use Rattle.std.proofs.lemmas.Bool.{cond_both, and_parts, and_cases, eqb-true, false≢true, eq-eqb}
@@ -16,10 +17,10 @@ use Rattle.executor.specs.State.{StateView}
 use Rattle.executor.specs.Work.{TentativeView}
 use Rattle.agreement.specs.Letters.{Letters, Sent}
 use Rattle.one_run.specs.Met.{IsKnown}
-use Rattle.one_run.specs.Run.{Executed, IsOver}
+use Rattle.one_run.specs.Run.{Executed}
 use Rattle.one_run.specs.Chosen.{IsCommitted}
-use Rattle.custody.specs.Durable.{Durable, tip, after, committed, obeyed, executed_of, IsMember, In, first, later, Keeps}
-use Rattle.custody.proofs.Log.{take_front, within, get_front, length_push, stands_next, Numbered, last_commit}
+use Rattle.custody.specs.Durable.{Durable, tip, after, committed, executed_of, IsMember, In, first, later, Keeps}
+use Rattle.custody.proofs.Log.{take_front, get_front, length_push, stands_next, Numbered, last_commit}
 
 pub In-left : {X : Type 0} {x : X} (xs ys : List X) → In x xs → In x (xs ++ ys)
 In-left [] ys h = elim h [ ]
@@ -184,7 +185,7 @@ module _ {log : List Decree} {ls : Letters} {met : StateView → Type 0} {rounds
       let next = stands_next log x.known Rollback at in
       let same : standing (take (suc x.known) log) ≡ standing_after x.standing Rollback = next ∙ ap (λ st. standing_after st Rollback) (sym ok.stands) in
       record {
-        known = within log x.known Rollback at;
+        known = slice_get_within log x.known Rollback at;
         stands = sym same;
         below = ok.below;
         level = inl refl;
@@ -202,7 +203,7 @@ module _ {log : List Decree} {ls : Letters} {met : StateView → Type 0} {rounds
           let of_epoch : h.0.after.epoch ≡ s.epoch = ap (λ (y : StateView). y.epoch) h.2 in
           ⊎_elim
           (λ (none : x.chain ≡ []). absurd (none_in (subst (In h.0) none h.1)))
-          (λ (level : x.have.number ≡ x.standing.n). rolled (suc x.known) (within log x.known Rollback at)
+          (λ (level : x.have.number ≡ x.standing.n). rolled (suc x.known) (slice_get_within log x.known Rollback at)
           (omega (arith, ap (λ (y : Standing). y.n) same, r.above, number, b, level))
           (omega (arith, ap (λ (y : Standing). y.epoch) same, member_epoch r.member, of_epoch, d)))
           ok.level
@@ -240,7 +241,7 @@ module _ {log : List Decree} {ls : Letters} {met : StateView → Type 0} {rounds
 
       undone : (ms : List TentativeView) → x.chain ≡ ms → ((m : TentativeView) (rest : List TentativeView) → ms ≡ m ∷ rest → (m.after.number ≡ n → m.after.token ≡ t → ⊥)) → ExecOk log ls met rounds e (after x (Commit n t) x.have [])
       undone ms is differs = record {
-        known = within log x.known (Commit n t) at;
+        known = slice_get_within log x.known (Commit n t) at;
         stands = sym same;
         below = omega (arith, ok.below, next);
         level = inl refl;
@@ -272,7 +273,7 @@ module _ {log : List Decree} {ls : Letters} {met : StateView → Type 0} {rounds
           let of_token : m.after.token ≡ t = (λ i. record { 0 = bytes i }) in
           let chain : Chain met rounds x.standing.epoch x.have (m ∷ ms) = subst (Chain met rounds x.standing.epoch x.have) is ok.chain in
           record {
-            known = within log x.known (Commit n t) at;
+            known = slice_get_within log x.known (Commit n t) at;
             stands = sym same;
             below = omega (arith, of_first);
             level = inr of_first;

@@ -1,6 +1,7 @@
 -- Beginnings of the chosen decrees, and what stands after them.
-use Rattle.std.proofs.Common.{◌≡◌, ℕ, zero, suc, ◌+◌, ◌-◌, ◌<◌, ◌≤◌, ◌⊎◌, List, [], ◌∷◌, ◌++◌, length, take, fold, Some, slice_get, inl, inr, refl, sym, ◌∙◌, ap, subst, ⊎_elim, arith}
+use Rattle.std.proofs.Common.{◌≡◌, ℕ, zero, suc, ◌+◌, ◌-◌, ◌<◌, ◌≤◌, ◌⊎◌, List, [], ◌∷◌, ◌++◌, length, take, Some, slice_get, inl, inr, refl, sym, ◌∙◌, ap, subst, ⊎_elim, arith}
 use Rattle.std.proofs.lemmas.Bool.{cases_order}
+use Rattle.std.proofs.lemmas.Option.{slice_get_within}
 use Rattle.std.proofs.lemmas.List.Sums.{fold-append}
 use Rattle.token.specs.declared.Token as token
 use Rattle.decrees.specs.declared.decree.Decree.{Decree}
@@ -26,11 +27,6 @@ pub some_at : {A : Type 0} (xs : List A) (i : ℕ) → i < length xs → (x : A)
 some_at [] i h = absurd (omega arith)
 some_at (x ∷ xs) zero h = (x, refl)
 some_at (x ∷ xs) (suc i) h = some_at xs i (omega arith)
-
-pub within : {A : Type 0} (xs : List A) (i : ℕ) (x : A) → slice_get xs i ≡ Some x → i < length xs
-within [] i x e = absurd (cc)
-within (y ∷ xs) zero x e = omega arith
-within (y ∷ xs) (suc i) x e = omega (arith, within xs i x e)
 
 pub get_front : {A : Type 0} (xs ys : List A) (i : ℕ) (x : A) → slice_get xs i ≡ Some x → slice_get (xs ++ ys) i ≡ Some x
 get_front [] ys i x e = absurd (cc)
@@ -88,7 +84,7 @@ one_commit {log} ok i j n a b p q = ⊎_elim
   where
     apart : (i j : ℕ) (a b : token.Token) → i < j → slice_get log i ≡ Some (Commit n a) → slice_get log j ≡ Some (Commit n b) → ⊥
     apart i j a b l p q =
-        let up = rises_to ok (suc i) j (omega arith) (omega (arith, within log j (Commit n b) q)) in
+        let up = rises_to ok (suc i) j (omega arith) (omega (arith, slice_get_within log j (Commit n b) q)) in
         omega (arith, up.0, ap (λ (x : Standing). x.n) (stands_next log i (Commit n a) p), ok.next j n b q)
 
 -- what stands was committed last
