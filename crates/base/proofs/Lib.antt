@@ -1,5 +1,3 @@
-pub mod Lists
-pub mod Tests
 pub mod Sorted
 pub mod MapLemmas
 mod PieceLemmas

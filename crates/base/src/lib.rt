@@ -2,8 +2,8 @@
 //! limits, and texts in pieces that are shared.
 //!
 //! It stands on no other crate. The layers above use `SortedMap` (a clone copies pointers, and none
-//! of the keys and values), `Listed`, and `Text`; and, in proofs, what is known of lists by their
-//! places (`Lists`) and of entries that are sorted by their keys (`Sorted`, `MapLemmas`).
+//! of the keys and values), `Listed`, and `Text`; and, in proofs, what is known of entries that are
+//! sorted by their keys (`Sorted`, `MapLemmas`).
 #![tactic(auto)]
 
 mod entries;
