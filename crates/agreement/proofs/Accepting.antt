@@ -4,13 +4,13 @@ use Rattle.decrees.specs.declared.decree.Decree.{Decree}
 use Rattle.decrees.specs.declared.ballot.Ballot.{Ballot}
 use Rattle.decrees.specs.declared.ballot.Ballot.TheVariants.{Accept, Accepted, Decided, Promise}
 use Rattle.decrees.specs.declared.node.Node.TheVariants.{Verifier}
-use Rattle.verifier.specs.State.{State, next_place}
+use Rattle.verifier.specs.State.{VerifierState, next_place}
 use Rattle.agreement.specs.Letters.{Letters, Sent}
 use Rattle.agreement.proofs.Letters.{Sent-left, AtLeast, LettersOk}
 use Rattle.agreement.proofs.Stand.{Stand, Chosen-more, Grounds-more}
 use Rattle.agreement.proofs.Says.{Says, old_or_said, Safe-more, Backed-more}
 
-module _ {u : ℕ} {ls : Letters} (new : Letters) {v : ℕ} {s : State} (d : Decree) (has : s.accepted ≡ Some (s.view, d)) (says : Says v (Accepted s.view (next_place s) d) new) (ok : LettersOk u ls) (st : Stand u ls v s) where
+module _ {u : ℕ} {ls : Letters} (new : Letters) {v : ℕ} {s : VerifierState} (d : Decree) (has : s.accepted ≡ Some (s.view, d)) (says : Says v (Accepted s.view (next_place s) d) new) (ok : LettersOk u ls) (st : Stand u ls v s) where
   old : (x : ℕ) (y : Ballot) → ((y ≡ Accepted s.view (next_place s) d) → ⊥) → Sent (ls ++ new) (Verifier x) y → Sent ls (Verifier x) y
   old x y apart h = ⊎_elim (λ l. l) (λ e. absurd (apart e.1)) (old_or_said ls says h)
 

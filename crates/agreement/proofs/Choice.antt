@@ -11,13 +11,13 @@ use Rattle.decrees.specs.declared.ballot.Ballot.TheVariants.{Accept}
 use Rattle.decrees.specs.declared.node.Node.TheVariants.{Verifier}
 use Rattle.decrees.specs.declared.votes.Verdict.{Verdict}
 use Rattle.decrees.specs.declared.votes.Verdict.TheVariants as verdict_variant
-use Rattle.decrees.specs.Count.{members, is_quorum}
+use Rattle.decrees.specs.Count.{member_count, is_quorum}
 use Rattle.decrees.specs.Standing.{standing}
 use Rattle.decrees.specs.Votes.{verdict}
 use Rattle.view_change.specs.declared.promises.Promise.{Promise}
 use Rattle.view_change.specs.declared.promises.Choice.TheVariants as choice_variant
 use Rattle.view_change.specs.Promises.{promise_of, has_promised, accepted_at, higher, best_below, is_enough, choice}
-use Rattle.verifier.specs.State.{State, next_place}
+use Rattle.verifier.specs.State.{VerifierState, next_place}
 use Rattle.verifier.specs.Lines.{by_verdict, by_choice, proposal}
 use Rattle.agreement.specs.Letters.{Letters, Sent, Backed}
 use Rattle.agreement.proofs.Letters.{NoHigher, Repeats, Promises, Safe, LettersOk}
@@ -73,27 +73,27 @@ best-from known ps (suc n) b e = ⊎_elim
     by (Some p) is h = let a = accepted_at-some known p b h in (n, p, is, a.0, a.1)
 
 -- the accepted decree of the highest view among the promises
-abbrev best_of : ℕ → State → Option (ℕ × Decree)
-best_of u s = best_below (length s.log) s.promises (members u)
+abbrev best_of : ℕ → VerifierState → Option (ℕ × Decree)
+best_of u s = best_below (length s.log) s.promises (member_count u)
 
 -- what may be proposed where nothing was accepted
-abbrev fresh_of : ℕ → State → Option Decree
+abbrev fresh_of : ℕ → VerifierState → Option Decree
 fresh_of u s = by_verdict ((standing s.log).n + 1) s.doubt (verdict u (standing s.log) s.votes)
 
 -- where a decree to propose comes from
-abbrev pub Source : ℕ → State → Decree → Option (ℕ × Decree) → Type 0
+abbrev pub Source : ℕ → VerifierState → Decree → Option (ℕ × Decree) → Type 0
 Source u s d (Some b) = d ≡ b.1
 Source u s d None = fresh_of u s ≡ Some d
 
 -- what it is that lets a leader propose
-pub record MayPropose (u : ℕ) (s : State) (d : Decree) : Type 0 where
+pub record MayPropose (u : ℕ) (s : VerifierState) (d : Decree) : Type 0 where
   pub leads : s.leads ≡ true
   pub fresh : s.proposed ≡ false
   pub enough : IsTrue (is_quorum u (has_promised s.promises))
   pub level : Each (λ p. p.known ≤ length s.log) s.promises
   pub source : Source u s d (best_of u s)
 
-pub MayPropose-from : (u : ℕ) (s : State) (d : Decree) → proposal u s ≡ Some d → MayPropose u s d
+pub MayPropose-from : (u : ℕ) (s : VerifierState) (d : Decree) → proposal u s ≡ Some d → MayPropose u s d
 MayPropose-from u s d = cond_both (s.leads && not s.proposed) (by_choice (choice u (length s.log) s.promises) (fresh_of u s)) None (λ o. o ≡ Some d → MayPropose u s d)
     (λ free. cond_both (is_enough u (length s.log) s.promises) (option_map_or (λ b. choice_variant.Must b.1) (best_of u s) choice_variant.Free) choice_variant.Wait (λ c. by_choice c (fresh_of u s) ≡ Some d → MayPropose u s d)
     (λ enough is.
@@ -117,11 +117,11 @@ has-one : (o : Option Promise) → is_some o ≡ true → (p : Promise) × (o �
 has-one None e = absurd (false≢true e)
 has-one (Some p) e = (p, refl)
 
-module _ {u : ℕ} {ls : Letters} {v : ℕ} {s : State} {d : Decree} (ok : LettersOk u ls) (st : Stand u ls v s) (may : MayPropose u s d) where
+module _ {u : ℕ} {ls : Letters} {v : ℕ} {s : VerifierState} {d : Decree} (ok : LettersOk u ls) (st : Stand u ls v s) (may : MayPropose u s d) where
   -- a decree of the best promise was proposed in its view, for the next place
   was_proposed : (b : ℕ × Decree) → best_of u s ≡ Some b → (b.0 ≤ s.view) × ((l : ℕ) × Sent ls (Verifier l) (Accept b.0 (next_place s) b.1))
   was_proposed b is =
-      let f = best-from (length s.log) s.promises (members u) b is in
+      let f = best-from (length s.log) s.promises (member_count u) b is in
       let p = f.1 in
       let h = found_first (λ (q : Promise). q.from == f.0) (Heard ls s.view) s.promises p f.2 (st.grounds.heard may.leads) in
       ⊎_elim
@@ -132,7 +132,7 @@ module _ {u : ℕ} {ls : Letters} {v : ℕ} {s : State} {d : Decree} (ok : Lette
       h.1
 
   module _ (up : s.view ≡ 0 → ⊥) where
-    asked_one : (x : ℕ) → x < members u → has_promised s.promises x ≡ true → Promises ls s.view (next_place s) (best_of u s) x
+    asked_one : (x : ℕ) → x < member_count u → has_promised s.promises x ≡ true → Promises ls s.view (next_place s) (best_of u s) x
     asked_one x below e =
         let one = has-one (promise_of s.promises x) e in
         let p = one.0 in
@@ -142,7 +142,7 @@ module _ {u : ℕ} {ls : Letters} {v : ℕ} {s : State} {d : Decree} (ok : Lette
           p.accepted,
           subst (λ y. Sent ls (Verifier y) (ballot.Promise s.view p.known p.accepted)) (eqb-true p.from x h.0) sent,
           omega (arith, h.1.1),
-          λ same. best-bounds (length s.log) s.promises (members u) x p below one.1 (omega (arith, same)),
+          λ same. best-bounds (length s.log) s.promises (member_count u) x p below one.1 (omega (arith, same)),
         )
 
     repeats : (o : Option (ℕ × Decree)) → best_of u s ≡ o → Source u s d o → Repeats ls s.view (next_place s) d o
@@ -151,14 +151,14 @@ module _ {u : ℕ} {ls : Letters} {v : ℕ} {s : State} {d : Decree} (ok : Lette
         let was = was_proposed b is in
         let l = was.1.0 in
         let apart : (b.0 ≡ s.view → ⊥) = λ same.
-        let mine : l ≡ v = sym (ok.leader l b.0 (next_place s) b.1 was.1.1) ∙ (ap (λ y. y % members u) same ∙ st.grounds.leads may.leads) in
+        let mine : l ≡ v = sym (ok.leader l b.0 (next_place s) b.1 was.1.1) ∙ (ap (λ y. y % member_count u) same ∙ st.grounds.leads may.leads) in
         ⊎_elim
         (λ (q : next_place s ≤ length s.log). omega arith)
         (λ (q : (next_place s ≡ next_place s) × (s.proposed ≡ true)). absurd (false≢true (sym may.fresh ∙ q.1)))
         ((st.owns.proposed b.0 (next_place s) b.1 (subst (λ y. Sent ls (Verifier y) (Accept b.0 (next_place s) b.1)) mine was.1.1)).1 may.leads same) in
         (omega (arith, was.0, apart), source, was.1)
 
-pub proposal_is_safe : {u : ℕ} {ls : Letters} {v : ℕ} {s : State} {d : Decree} → LettersOk u ls → Stand u ls v s → MayPropose u s d → (s.view ≡ 0) ⊎ Safe u ls s.view (next_place s) d
+pub proposal_is_safe : {u : ℕ} {ls : Letters} {v : ℕ} {s : VerifierState} {d : Decree} → LettersOk u ls → Stand u ls v s → MayPropose u s d → (s.view ≡ 0) ⊎ Safe u ls s.view (next_place s) d
 proposal_is_safe {u} {ls} {v} {s} {d} ok st may = ⊎_elim inl
     (λ (up : s.view ≡ 0 → ⊥). inr (record {
       best = best_of u s;
@@ -168,7 +168,7 @@ proposal_is_safe {u} {ls} {v} {s} {d} ok st may = ⊎_elim inl
     (cases_eq s.view 0)
 
 -- a Commit by the votes is of the next number and has its tokens
-by_votes : {u : ℕ} {ls : Letters} {v : ℕ} (s : State) (d : Decree) → Stand u ls v s → (x : Verdict) → verdict u (standing s.log) s.votes ≡ x → by_verdict ((standing s.log).n + 1) s.doubt x ≡ Some d → Backed u ls (next_place s) d
+by_votes : {u : ℕ} {ls : Letters} {v : ℕ} (s : VerifierState) (d : Decree) → Stand u ls v s → (x : Verdict) → verdict u (standing s.log) s.votes ≡ x → by_verdict ((standing s.log).n + 1) s.doubt x ≡ Some d → Backed u ls (next_place s) d
 by_votes {u} {ls} {v} s d st (verdict_variant.Commit t) is e =
     let same : decree.Commit ((standing s.log).n + 1) t ≡ d = cc in
     subst (Backed u ls (next_place s)) same (record { before = s.log; all = refl; chosen = st.grounds.log_chosen; rests = verdict_has_tokens (standing s.log) s.votes t st.grounds.voted is })
@@ -180,7 +180,7 @@ by_votes {u} {ls} {v} s d st verdict_variant.Wait is e = cond_both s.doubt (Some
     (λ _ h. absurd (cc))
     e
 
-pub proposal_is_backed : {u : ℕ} {ls : Letters} {v : ℕ} {s : State} {d : Decree} → LettersOk u ls → Stand u ls v s → MayPropose u s d → Backed u ls (next_place s) d
+pub proposal_is_backed : {u : ℕ} {ls : Letters} {v : ℕ} {s : VerifierState} {d : Decree} → LettersOk u ls → Stand u ls v s → MayPropose u s d → Backed u ls (next_place s) d
 proposal_is_backed {u} {ls} {v} {s} {d} ok st may = by (best_of u s) refl may.source
   where
     by : (o : Option (ℕ × Decree)) → best_of u s ≡ o → Source u s d o → Backed u ls (next_place s) d

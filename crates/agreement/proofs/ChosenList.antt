@@ -11,7 +11,7 @@ use Rattle.decrees.specs.declared.ballot.Ballot.{Ballot}
 use Rattle.decrees.specs.declared.ballot.Ballot.TheVariants.{Token, Accept, Accepted, Decided, Ask, Change, Promise}
 use Rattle.decrees.specs.declared.node.Node.{Node}
 use Rattle.decrees.specs.declared.node.Node.TheVariants.{Client, Executor, Verifier}
-use Rattle.decrees.specs.Count.{count_below, members}
+use Rattle.decrees.specs.Count.{count_below, member_count}
 use Rattle.verifier.specs.Tally.{decree_eq}
 use Rattle.agreement.specs.Letters.{Letters, Sent, here, there, ChosenIn, Chosen}
 use Rattle.agreement.specs.ChosenList.{is_verifier, says_accepted, has_sent_accepted, is_chosen_in, chosen_by, chosen_among, chosen_at, place_of, last_place, before_gap, chosen_from}
@@ -60,9 +60,9 @@ sent-has (l ∷ ls) w p d v (there h) = or_right (is_verifier v l.from && says_a
 -- the test is true of what is chosen in the view
 is_chosen_in-true : (u : ℕ) (ls : Letters) (w p : ℕ) (d : Decree) → ChosenIn u ls w p d → is_chosen_in u ls w p d ≡ true
 is_chosen_in-true u ls w p d q =
-    let more = count_more q.member (has_sent_accepted ls w p d) (members u) (λ v below e. sent-has ls w p d v (q.each v below e)) in
+    let more = count_more q.member (has_sent_accepted ls w p d) (member_count u) (λ v below e. sent-has ls w p d v (q.each v below e)) in
     let enough = Quorum-enough q in
-    lt-ltb u (count_below (has_sent_accepted ls w p d) (members u)) (omega (arith, enough, more))
+    lt-ltb u (count_below (has_sent_accepted ls w p d) (member_count u)) (omega (arith, enough, more))
 
 -- and of nothing else
 is_chosen_in-says : (u : ℕ) (ls : Letters) (w p : ℕ) (d : Decree) → is_chosen_in u ls w p d ≡ true → ChosenIn u ls w p d

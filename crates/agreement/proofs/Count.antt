@@ -1,7 +1,7 @@
 -- Two quorums share a member.
 use Rattle.std.proofs.Common.{◌≡◌, ℕ, zero, suc, ◌+◌, ◌<◌, ◌≤◌, Bool, true, false, not, IsTrue, refl, ap, ⊎_elim, arith, if◌then◌else◌}
 use Rattle.std.proofs.lemmas.Bool.{cases_Bool, ltb-true}
-use Rattle.decrees.specs.Count.{count_below, members}
+use Rattle.decrees.specs.Count.{count_below, member_count}
 use Rattle.agreement.specs.Letters.{Quorum}
 
 pub count_true : (f : ℕ → Bool) (n : ℕ) → f n ≡ true → count_below f (suc n) ≡ count_below f n + 1
@@ -47,17 +47,17 @@ count_more f g (suc n) h =
     (cases_Bool (g n)))
     (cases_Bool (f n))
 
-pub Quorum-enough : {u : ℕ} {P : ℕ → Type 0} (q : Quorum u P) → u < count_below q.member (members u)
-Quorum-enough {u} {P} q = ltb-true u (count_below q.member (members u)) q.enough
+pub Quorum-enough : {u : ℕ} {P : ℕ → Type 0} (q : Quorum u P) → u < count_below q.member (member_count u)
+Quorum-enough {u} {P} q = ltb-true u (count_below q.member (member_count u)) q.enough
 
 pub Quorum-shared : {u : ℕ} {P Q : ℕ → Type 0} → Quorum u P → Quorum u Q → (v : ℕ) × P v × Q v
 Quorum-shared {u} {P} {Q} p q =
-    let s = shared p.member q.member (members u) (omega (arith, Quorum-enough p, Quorum-enough q)) in
+    let s = shared p.member q.member (member_count u) (omega (arith, Quorum-enough p, Quorum-enough q)) in
     (s.0, p.each s.0 s.1 s.2, q.each s.0 s.1 s.3)
 
 pub Quorum-someone : {u : ℕ} {P : ℕ → Type 0} → Quorum u P → (v : ℕ) × P v
 Quorum-someone {u} {P} p =
-    let s = someone p.member (members u) (omega (arith, Quorum-enough p)) in
+    let s = someone p.member (member_count u) (omega (arith, Quorum-enough p)) in
     (s.0, p.each s.0 s.1 s.2)
 
 pub Quorum-weaker : {u : ℕ} {P Q : ℕ → Type 0} → ((v : ℕ) → P v → Q v) → Quorum u P → Quorum u Q
@@ -71,7 +71,7 @@ count_rest f (suc n) = ⊎_elim
     (cases_Bool (f n))
 
 -- where at most u are lost, a quorum has a member that is not
-pub Quorum-outside : {u : ℕ} {P : ℕ → Type 0} (lost : ℕ → Bool) → count_below lost (members u) ≤ u → Quorum u P → (v : ℕ) × (v < members u) × IsTrue (not (lost v)) × P v
+pub Quorum-outside : {u : ℕ} {P : ℕ → Type 0} (lost : ℕ → Bool) → count_below lost (member_count u) ≤ u → Quorum u P → (v : ℕ) × (v < member_count u) × IsTrue (not (lost v)) × P v
 Quorum-outside {u} {P} lost few p =
-    let s = shared (λ v. not (lost v)) p.member (members u) (omega (arith, Quorum-enough p, count_rest lost (members u))) in
+    let s = shared (λ v. not (lost v)) p.member (member_count u) (omega (arith, Quorum-enough p, count_rest lost (member_count u))) in
     (s.0, s.1, s.2, p.each s.0 s.1 s.3)

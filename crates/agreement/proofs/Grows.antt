@@ -7,7 +7,7 @@ use Rattle.decrees.specs.declared.node.Node.{Node}
 use Rattle.decrees.specs.declared.node.Node.TheVariants.{Client, Executor, Verifier}
 use Rattle.verifier.specs.declared.input.Input.{Input}
 use Rattle.verifier.specs.declared.input.Input.TheVariants as input
-use Rattle.verifier.specs.State.{State, Outcome}
+use Rattle.verifier.specs.State.{VerifierState, OutcomeView}
 use Rattle.verifier.specs.Lines.{restarted}
 use Rattle.verifier.specs.Step.{step}
 use Rattle.agreement.specs.Letters.{Letters}
@@ -20,7 +20,7 @@ Begins ls all = (new : Letters) × (all ≡ ls ++ new)
 same : (ls : Letters) → Begins ls ls
 same ls = ([], sym (append-nil ls))
 
-settled_grows : (m : Machine) (v : ℕ) (saved : State) (o : Outcome) (luck : Luck) → Begins m.letters (settled m v saved o luck).letters
+settled_grows : (m : Machine) (v : ℕ) (saved : VerifierState) (o : OutcomeView) (luck : Luck) → Begins m.letters (settled m v saved o luck).letters
 settled_grows m v saved o Done = (o.letters, refl)
 settled_grows m v saved o StopsBefore = same m.letters
 settled_grows m v saved o StopsAfter = same m.letters

@@ -7,7 +7,7 @@ use Rattle.decrees.specs.declared.ballot.Ballot.{Ballot}
 use Rattle.decrees.specs.declared.ballot.Ballot.TheVariants.{Accept, Accepted, Decided, Promise}
 use Rattle.decrees.specs.declared.node.Node.{Node}
 use Rattle.decrees.specs.declared.node.Node.TheVariants.{Verifier}
-use Rattle.decrees.specs.Count.{members}
+use Rattle.decrees.specs.Count.{member_count}
 use Rattle.agreement.specs.Letters.{Letters, Sent, here, there, Quorum, ChosenIn, Chosen, Backed}
 use Rattle.agreement.proofs.Count.{Quorum-shared, Quorum-someone}
 
@@ -52,7 +52,7 @@ pub record Safe (u : ℕ) (ls : Letters) (view place : ℕ) (d : Decree) : Type 
 
 -- what holds of all letters
 pub record LettersOk (u : ℕ) (ls : Letters) : Type 0 where
-  pub leader : (v w p : ℕ) (d : Decree) → Sent ls (Verifier v) (Accept w p d) → w % members u ≡ v
+  pub leader : (v w p : ℕ) (d : Decree) → Sent ls (Verifier v) (Accept w p d) → w % member_count u ≡ v
   pub one : (v w p : ℕ) (d b : Decree) → Sent ls (Verifier v) (Accept w p d) → Sent ls (Verifier v) (Accept w p b) → d ≡ b
   pub accepted : (v w p : ℕ) (d : Decree) → Sent ls (Verifier v) (Accepted w p d) → (l : ℕ) × Sent ls (Verifier l) (Accept w p d)
   pub promised : (v w k x : ℕ) (d : Decree) → Sent ls (Verifier v) (Promise w k (Some (x, d))) → (x ≤ w) × ((l : ℕ) × Sent ls (Verifier l) (Accept x (k + 1) d))

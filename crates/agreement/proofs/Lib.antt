@@ -17,6 +17,6 @@ pub mod Grows
 pub mod ChosenList
 pub mod Proved
 pub mod ReadBack
-pub mod Seats
+pub mod Verifiers
 pub mod SomePlay
 mod Rows

@@ -8,15 +8,15 @@ use Rattle.decrees.specs.declared.ballot.Ballot.{Ballot}
 use Rattle.decrees.specs.declared.node.Letter.{Letter}
 use Rattle.decrees.specs.declared.node.Node.{Node}
 use Rattle.decrees.specs.declared.node.Node.TheVariants.{Client, Executor, Verifier}
-use Rattle.decrees.specs.Count.{members}
+use Rattle.decrees.specs.Count.{member_count}
 use Rattle.view_change.specs.Promises.{has_promised}
 use Rattle.verifier.specs.declared.input.Input.{Input}
 use Rattle.verifier.specs.declared.input.Input.TheVariants as input
-use Rattle.verifier.specs.State.{State, Outcome, first_promises, first_state, down}
+use Rattle.verifier.specs.State.{VerifierState, OutcomeView, first_promises, new_state, down}
 use Rattle.verifier.specs.Lines.{restarted}
 use Rattle.verifier.specs.Step.{step}
 use Rattle.agreement.specs.Letters.{Letters, Sent, here, there}
-use Rattle.agreement.specs.Machine.{Slot, New, Up, Stopped, Machine, Luck, Done, StopsBefore, StopsAfter, Event, Deliver, Suspect, Crash, Restart, Send, placed, saved_after, settled, given, reached_node, delivered, crashed, opened_new, opened, sent_by, happens, run, first_machine, reached}
+use Rattle.agreement.specs.Machine.{Slot, New, Up, Stopped, Machine, Luck, Done, StopsBefore, StopsAfter, Event, Deliver, Suspect, Crash, Restart, Send, with_slot, saved_after, settled, given, reached_node, delivered, crashed, opened_new, opened, sent_by, happens, run, first_machine, reached}
 use Rattle.agreement.proofs.Places.{at_within}
 use Rattle.agreement.proofs.Each.{Each, Each-push}
 use Rattle.agreement.proofs.Letters.{LettersOk}
@@ -28,13 +28,13 @@ use Rattle.agreement.proofs.Received.{MayCome, step_ok}
 
 -- what holds of a verifier: its state stands by its letters, or the first one, and its record is of its state
 abbrev pub SlotOk : ℕ → Letters → ℕ → Slot → Type 0
-SlotOk u ls v New = Stand u ls v (first_state u v)
+SlotOk u ls v New = Stand u ls v (new_state u v)
 SlotOk u ls v (Up s saved) = Stand u ls v s × (saved ≡ down s)
 SlotOk u ls v (Stopped saved) = Stand u ls v saved × (saved ≡ down saved)
 
 -- what holds of every reached machine
 pub record Good (u : ℕ) (m : Machine) : Type 0 where
-  pub count : length m.verifiers ≡ members u
+  pub count : length m.verifiers ≡ member_count u
   pub letters : LettersOk u m.letters
   pub stands : (v : ℕ) (slot : Slot) → slice_get m.verifiers v ≡ Some slot → SlotOk u m.letters v slot
 
@@ -49,7 +49,7 @@ SlotOk-plain u ls new v x (Up s saved) plain st = (Stand-plain new plain st.0, s
 SlotOk-plain u ls new v x (Stopped saved) plain st = (Stand-plain new plain st.0, st.1)
 
 -- a verifier that stops with the record of a state
-SlotOk-stopped : (u : ℕ) (ls : Letters) (v : ℕ) (saved s : State) → saved ≡ down s → Stand u ls v (down s) → SlotOk u ls v (Stopped saved)
+SlotOk-stopped : (u : ℕ) (ls : Letters) (v : ℕ) (saved s : VerifierState) → saved ≡ down s → Stand u ls v (down s) → SlotOk u ls v (Stopped saved)
 SlotOk-stopped u ls v saved s is st = (subst (Stand u ls v) (sym is) st, is ∙ ap down (sym is))
 
 get_set : (xs : List Slot) (v : ℕ) (n : Slot) (i : ℕ) (s : Slot) → slice_get (slice_set xs v n) i ≡ Some s → ((i ≡ v) × (s ≡ n)) ⊎ ((i ≢ v) × (slice_get xs i ≡ Some s))
@@ -71,7 +71,7 @@ changed {u} {m} v n new good only ok st = record {
 }
 
 -- one verifier is changed, with no letter
-placed_ok : {u : ℕ} {m : Machine} (v : ℕ) (n : Slot) → Good u m → SlotOk u m.letters v n → Good u (placed m v n)
+placed_ok : {u : ℕ} {m : Machine} (v : ℕ) (n : Slot) → Good u m → SlotOk u m.letters v n → Good u (with_slot m v n)
 placed_ok {u} {m} v n good st = record {
   count = length-set m.verifiers v n ∙ good.count;
   letters = good.letters;
@@ -82,10 +82,10 @@ placed_ok {u} {m} v n good st = record {
 }
 
 -- the record after a step is of the state after it
-saved_after-is : (s saved : State) (o : Outcome) → saved ≡ down s → KeepsRecord s o → saved_after saved o ≡ down o.state
+saved_after-is : (s saved : VerifierState) (o : OutcomeView) → saved ≡ down s → KeepsRecord s o → saved_after saved o ≡ down o.state
 saved_after-is s saved o is keeps = cond_both o.saves (down o.state) saved (λ z. z ≡ down o.state) (λ _. refl) (λ unsaved. is ∙ sym (keeps unsaved))
 
-settled_ok : {u : ℕ} {m : Machine} (v : ℕ) (s saved : State) (o : Outcome) (luck : Luck) → Good u m → Stand u m.letters v s → saved ≡ down s → KeepsRecord s o → StepOk u m.letters v o → Good u (settled m v saved o luck)
+settled_ok : {u : ℕ} {m : Machine} (v : ℕ) (s saved : VerifierState) (o : OutcomeView) (luck : Luck) → Good u m → Stand u m.letters v s → saved ≡ down s → KeepsRecord s o → StepOk u m.letters v o → Good u (settled m v saved o luck)
 settled_ok v s saved o Done good st is keeps ok = changed v (Up o.state (saved_after saved o)) o.letters good ok.only ok.letters (ok.stand, saved_after-is s saved o is keeps)
 settled_ok {u} {m} v s saved o StopsBefore good st is keeps ok = placed_ok v (Stopped saved) good (SlotOk-stopped u m.letters v saved s is (Stand-down st))
 settled_ok {u} {m} v s saved o StopsAfter good st is keeps ok = placed_ok v (Stopped (saved_after saved o)) good (SlotOk-stopped u m.letters v (saved_after saved o) o.state (saved_after-is s saved o is keeps) ok.saved)
@@ -120,10 +120,10 @@ crashed_ok {u} {m} v (Some (Up s saved)) good e =
     let st = good.stands v (Up s saved) e in
     placed_ok v (Stopped saved) good (SlotOk-stopped u m.letters v saved s st.1 (Stand-down st.0))
 
-opened_new_ok : {u : ℕ} {m : Machine} (v : ℕ) (luck : Luck) → Good u m → Stand u m.letters v (first_state u v) → Good u (opened_new u m v luck)
-opened_new_ok {u} v Done good st = placed_ok v (Up (first_state u v) (down (first_state u v))) good (st, refl)
+opened_new_ok : {u : ℕ} {m : Machine} (v : ℕ) (luck : Luck) → Good u m → Stand u m.letters v (new_state u v) → Good u (opened_new u m v luck)
+opened_new_ok {u} v Done good st = placed_ok v (Up (new_state u v) (down (new_state u v))) good (st, refl)
 opened_new_ok v StopsBefore good st = good
-opened_new_ok {u} {m} v StopsAfter good st = placed_ok v (Stopped (down (first_state u v))) good (SlotOk-stopped u m.letters v (down (first_state u v)) (first_state u v) refl (Stand-down st))
+opened_new_ok {u} {m} v StopsAfter good st = placed_ok v (Stopped (down (new_state u v))) good (SlotOk-stopped u m.letters v (down (new_state u v)) (new_state u v) refl (Stand-down st))
 
 opened_ok : {u : ℕ} {m : Machine} (v : ℕ) (luck : Luck) (o : Option Slot) → Good u m → slice_get m.verifiers v ≡ o → Good u (opened u m v luck o)
 opened_ok v luck None good e = good
@@ -168,13 +168,13 @@ first_heard ls (suc n) = cond_both (has_promised (first_promises n) n) (first_pr
     (λ _. Each-push (Heard ls 0) (first_promises n) (record { from = n; known = 0; accepted = None }) (first_heard ls n) (inl (refl, refl)))
 
 -- a new verifier, before any letter
-first_stand : (u v : ℕ) → Stand u [] v (first_state u v)
+first_stand : (u v : ℕ) → Stand u [] v (new_state u v)
 first_stand u v = record {
   grounds = record {
     log_chosen = λ p d e. let within = at_within [] p d e in absurd (omega (arith, within.0, within.1));
     accepted_sent = λ w d e. absurd (cc);
     leads = λ e. let same = eqb-true v 0 e in omega (arith, same);
-    heard = λ e. cond_both (v == 0) (first_promises (members u)) [] (Each (Heard [] 0)) (λ _. first_heard [] (members u)) (λ _. tt);
+    heard = λ e. cond_both (v == 0) (first_promises (member_count u)) [] (Each (Heard [] 0)) (λ _. first_heard [] (member_count u)) (λ _. tt);
     tallied = tt;
     voted = tt;
   };
@@ -192,7 +192,7 @@ all_new (suc n) (suc v) s e = all_new n v s e
 
 first_good : (u : ℕ) → Good u (first_machine u)
 first_good u = record {
-  count = length-replicate (members u) New;
+  count = length-replicate (member_count u) New;
   letters = record {
     leader = λ v w p d h. elim h [ ];
     one = λ v w p d b h. elim h [ ];
@@ -203,7 +203,7 @@ first_good u = record {
     backed = λ v w p d h. elim h [ ];
     decided = λ v p d h. elim h [ ];
   };
-  stands = λ v s e. subst (SlotOk u [] v) (sym (all_new (members u) v s e)) (first_stand u v);
+  stands = λ v s e. subst (SlotOk u [] v) (sym (all_new (member_count u) v s e)) (first_stand u v);
 }
 
 -- what holds of every machine that is reached

@@ -4,14 +4,14 @@ use Rattle.decrees.specs.declared.decree.Decree.{Decree}
 use Rattle.decrees.specs.declared.ballot.Ballot.{Ballot}
 use Rattle.decrees.specs.declared.ballot.Ballot.TheVariants.{Accept, Accepted, Decided, Promise}
 use Rattle.decrees.specs.declared.node.Node.TheVariants.{Verifier}
-use Rattle.decrees.specs.Count.{members}
-use Rattle.verifier.specs.State.{State, next_place}
+use Rattle.decrees.specs.Count.{member_count}
+use Rattle.verifier.specs.State.{VerifierState, next_place}
 use Rattle.agreement.specs.Letters.{Letters, Sent, Backed}
 use Rattle.agreement.proofs.Letters.{Sent-left, Safe, LettersOk}
 use Rattle.agreement.proofs.Stand.{Stand, Chosen-more, Grounds-more}
 use Rattle.agreement.proofs.Says.{Says, old_or_said, Safe-more, Backed-more}
 
-module _ {u : ℕ} {ls : Letters} (new : Letters) {v : ℕ} {s : State} (d : Decree) (leads : s.leads ≡ true) (fresh : s.proposed ≡ false) (safe : (s.view ≡ 0) ⊎ Safe u ls s.view (next_place s) d) (backed : Backed u ls (next_place s) d) (says : Says v (Accept s.view (next_place s) d) new) (ok : LettersOk u ls) (st : Stand u ls v s) where
+module _ {u : ℕ} {ls : Letters} (new : Letters) {v : ℕ} {s : VerifierState} (d : Decree) (leads : s.leads ≡ true) (fresh : s.proposed ≡ false) (safe : (s.view ≡ 0) ⊎ Safe u ls s.view (next_place s) d) (backed : Backed u ls (next_place s) d) (says : Says v (Accept s.view (next_place s) d) new) (ok : LettersOk u ls) (st : Stand u ls v s) where
   old : (x : ℕ) (y : Ballot) → ((y ≡ Accept s.view (next_place s) d) → ⊥) → Sent (ls ++ new) (Verifier x) y → Sent ls (Verifier x) y
   old x y apart h = ⊎_elim (λ l. l) (λ e. absurd (apart e.1)) (old_or_said ls says h)
 
@@ -29,7 +29,7 @@ module _ {u : ℕ} {ls : Letters} (new : Letters) {v : ℕ} {s : State} (d : Dec
         (λ (e : (x ≡ v) × (Accept w p b ≡ Accept s.view (next_place s) d)).
         let same = e.1 in
         let view : w ≡ s.view = cc in
-        subst (λ z. z % members u ≡ x) (sym view) (st.grounds.leads leads ∙ sym e.0))
+        subst (λ z. z % member_count u ≡ x) (sym view) (st.grounds.leads leads ∙ sym e.0))
         (old_or_said ls says h);
     one = λ x w p b f h k. ⊎_elim
         (λ l. ⊎_elim

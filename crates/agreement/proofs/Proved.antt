@@ -6,8 +6,8 @@ use Rattle.decrees.specs.declared.decree.Decree.TheVariants.{Commit, Rollback}
 use Rattle.decrees.specs.declared.ballot.Ballot.TheVariants.{Accept, Accepted}
 use Rattle.decrees.specs.declared.node.Node.TheVariants.{Verifier}
 use Rattle.decrees.specs.declared.standing.Standing.{Standing}
-use Rattle.decrees.specs.Standing.{first_standing, standing_after, standing, is_next, is_log_from, is_log, decree_at}
-use Rattle.verifier.specs.State.{State, next_place}
+use Rattle.decrees.specs.Standing.{first_standing, standing_after, standing, may_follow, is_log_from, is_log, decree_at}
+use Rattle.verifier.specs.State.{VerifierState, next_place}
 use Rattle.agreement.specs.Letters.{Letters, Sent, Chosen, RestsOn, Backed}
 use Rattle.agreement.specs.Machine.{Slot, New, Up, Stopped, Machine, Event, first_machine, reached, letters_of}
 use Rattle.agreement.specs.ChosenList.{last_place, chosen}
@@ -31,7 +31,7 @@ pub all_backed : AllBacked
 all_backed u events p d c = chosen_backed (reached_ok u events).letters p d c
 
 -- who accepted a decree that is chosen holds it
-accepts : {u : ℕ} {ls : Letters} {v : ℕ} (s : State) (p : ℕ) (d : Decree) → LettersOk u ls → Stand u ls v s → (c : Chosen u ls p d) → (a : Option (ℕ × Decree)) → s.accepted ≡ a → p ≡ next_place s → AtLeast c.0 a → Holds s p d
+accepts : {u : ℕ} {ls : Letters} {v : ℕ} (s : VerifierState) (p : ℕ) (d : Decree) → LettersOk u ls → Stand u ls v s → (c : Chosen u ls p d) → (a : Option (ℕ × Decree)) → s.accepted ≡ a → p ≡ next_place s → AtLeast c.0 a → Holds s p d
 accepts s p d ok st c None is place least = absurd least
 accepts {u} {ls} {v} s p d ok st c (Some b) is place least =
     let was = st.grounds.accepted_sent b.0 b.1 is in
@@ -39,7 +39,7 @@ accepts {u} {ls} {v} s p d ok st c (Some b) is place least =
     let same : b.1 ≡ d = sym (chosen_stays ok (suc b.0) c.0 b.0 was.1.0 p d b.1 (omega arith) least c.1 proposal) in
     inr (place, (b.0, subst (λ y. s.accepted ≡ Some (b.0, y)) same is))
 
-holds : {u : ℕ} {ls : Letters} {v : ℕ} (s : State) (p : ℕ) (d : Decree) → LettersOk u ls → Stand u ls v s → 1 ≤ p → (c : Chosen u ls p d) → Sent ls (Verifier v) (Accepted c.0 p d) → Holds s p d
+holds : {u : ℕ} {ls : Letters} {v : ℕ} (s : VerifierState) (p : ℕ) (d : Decree) → LettersOk u ls → Stand u ls v s → 1 ≤ p → (c : Chosen u ls p d) → Sent ls (Verifier v) (Accepted c.0 p d) → Holds s p d
 holds {u} {ls} {v} s p d ok st low c sent = ⊎_elim
     (λ (known : p ≤ length s.log).
     let at = within_at s.log p low known in
@@ -58,7 +58,7 @@ pub chosen_above : {u : ℕ} {ls : Letters} → LettersOk u ls → (p : ℕ) (d 
 chosen_above ok p d c = let all = (chosen_backed ok p d c).all in omega (arith, all)
 
 -- a record stands by the verifier's letters
-record_stands : (u : ℕ) (events : List Event) (v : ℕ) (saved : State) → record_of (reached u events).verifiers v ≡ Some saved → Stand u (letters_of u events) v saved
+record_stands : (u : ℕ) (events : List Event) (v : ℕ) (saved : VerifierState) → record_of (reached u events).verifiers v ≡ Some saved → Stand u (letters_of u events) v saved
 record_stands u events v saved has = by (slice_get (reached u events).verifiers v) refl has
   where
     by : (o : Option Slot) → slice_get (reached u events).verifiers v ≡ o → option_and_then recorded o ≡ Some saved → Stand u (letters_of u events) v saved
@@ -73,7 +73,7 @@ record_stands u events v saved has = by (slice_get (reached u events).verifiers 
         subst (Stand u (letters_of u events) v) same ((reached_ok u events).stands v (Stopped x) at).0
 
 -- who has said that it accepted a decree has a record
-has_record : (u : ℕ) (ls : Letters) (v : ℕ) (slot : Slot) (w p : ℕ) (d : Decree) → SlotOk u ls v slot → 1 ≤ p → Sent ls (Verifier v) (Accepted w p d) → (saved : State) × (recorded slot ≡ Some saved)
+has_record : (u : ℕ) (ls : Letters) (v : ℕ) (slot : Slot) (w p : ℕ) (d : Decree) → SlotOk u ls v slot → 1 ≤ p → Sent ls (Verifier v) (Accepted w p d) → (saved : VerifierState) × (recorded slot ≡ Some saved)
 has_record u ls v New w p d st low sent = absurd (⊎_elim
     (λ (z : p ≤ 0). omega (arith, low, z))
     (λ (z : (p ≡ 0 + 1) × ⊥). z.1)
@@ -81,7 +81,7 @@ has_record u ls v New w p d st low sent = absurd (⊎_elim
 has_record u ls v (Up s saved) w p d st low sent = (saved, refl)
 has_record u ls v (Stopped saved) w p d st low sent = (saved, refl)
 
-record_at : (slots : List Slot) (v : ℕ) (slot : Slot) (saved : State) → slice_get slots v ≡ Some slot → recorded slot ≡ Some saved → record_of slots v ≡ Some saved
+record_at : (slots : List Slot) (v : ℕ) (slot : Slot) (saved : VerifierState) → slice_get slots v ≡ Some slot → recorded slot ≡ Some saved → record_of slots v ≡ Some saved
 record_at slots v slot saved at has = ap (option_and_then recorded) at ∙ has
 
 pub all_kept : AllKept
@@ -148,20 +148,20 @@ list_rests {u} {ls} ok p d at =
     let b = chosen_backed ok p d (list_chosen u ls p d at) in
     subst (λ ds. RestsOn u ls ds d) (before_is ok p d at b) b.rests
 
-is_next-rests : (u : ℕ) (ls : Letters) (before : List Decree) (d : Decree) → RestsOn u ls before d → is_next (standing before) d ≡ true
-is_next-rests u ls before (Commit n t) r = eq-eqb n ((standing before).n + 1) r.next
-is_next-rests u ls before Rollback r = refl
+may_follow-rests : (u : ℕ) (ls : Letters) (before : List Decree) (d : Decree) → RestsOn u ls before d → may_follow (standing before) d ≡ true
+may_follow-rests u ls before (Commit n t) r = eq-eqb n ((standing before).n + 1) r.next
+may_follow-rests u ls before Rollback r = refl
 
-log_from : (s : Standing) (ds : List Decree) → ((i : ℕ) (d : Decree) → slice_get ds i ≡ Some d → is_next (fold standing_after s (take i ds)) d ≡ true) → is_log_from s ds ≡ true
+log_from : (s : Standing) (ds : List Decree) → ((i : ℕ) (d : Decree) → slice_get ds i ≡ Some d → may_follow (fold standing_after s (take i ds)) d ≡ true) → is_log_from s ds ≡ true
 log_from s [] h = refl
-log_from s (d ∷ ds) h = and_from (is_next s d) (is_log_from (standing_after s d) ds) (h 0 d refl) (log_from (standing_after s d) ds (λ i b e. h (suc i) b e))
+log_from s (d ∷ ds) h = and_from (may_follow s d) (is_log_from (standing_after s d) ds) (h 0 d refl) (log_from (standing_after s d) ds (λ i b e. h (suc i) b e))
 
 list_is_log : {u : ℕ} {ls : Letters} → LettersOk u ls → is_log (chosen u ls) ≡ true
 list_is_log {u} {ls} ok = log_from first_standing (chosen u ls)
     (λ i d e.
     let at = index_at (chosen u ls) (i + 1) i d refl e in
     let same : (i + 1) - 1 ≡ i = omega arith in
-    is_next-rests u ls (take i (chosen u ls)) d (subst (λ k. RestsOn u ls (take k (chosen u ls)) d) same (list_rests ok (i + 1) d at)))
+    may_follow-rests u ls (take i (chosen u ls)) d (subst (λ k. RestsOn u ls (take k (chosen u ls)) d) same (list_rests ok (i + 1) d at)))
 
 pub list_is_backed : ListIsBacked
 list_is_backed u events = record {

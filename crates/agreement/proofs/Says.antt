@@ -9,7 +9,7 @@ use Rattle.decrees.specs.declared.ballot.Ballot.{Ballot}
 use Rattle.decrees.specs.declared.ballot.Ballot.TheVariants.{Token, Accept, Accepted, Decided, Ask, Change, Promise}
 use Rattle.decrees.specs.declared.node.Node.{Node}
 use Rattle.decrees.specs.declared.node.Node.TheVariants.{Executor, Verifier}
-use Rattle.verifier.specs.State.{State, letter, to_verifiers_below, to_others_below, to_executors_below}
+use Rattle.verifier.specs.State.{VerifierState, letter, to_verifiers_below, to_others_below, to_executors_below}
 use Rattle.agreement.specs.Letters.{Letters, Sent, here, there, Chosen, RestsOn, Backed}
 use Rattle.agreement.proofs.Count.{Quorum-weaker}
 use Rattle.agreement.proofs.Letters.{Sent-left, Sent-split, Repeats, Promises, Safe, LettersOk}
@@ -109,7 +109,7 @@ module _ {u : ℕ} {ls : Letters} (new : Letters) {v : ℕ} (plain : PlainOf u l
     decided = λ x p d h. Chosen-more new (⊎_elim (λ l. ok.decided x p d l) (λ r. (plain x (Decided p d) r).1) (Sent-split ls new h));
   }
 
-  pub Stand-plain : {x : ℕ} {s : State} → Stand u ls x s → Stand u (ls ++ new) x s
+  pub Stand-plain : {x : ℕ} {s : VerifierState} → Stand u ls x s → Stand u (ls ++ new) x s
   Stand-plain {x} {s} st = record {
     grounds = Grounds-more new st.grounds;
     owns = record {

@@ -7,12 +7,12 @@ use Rattle.decrees.specs.declared.ballot.Ballot.{Ballot}
 use Rattle.decrees.specs.declared.ballot.Ballot.TheVariants as ballot
 use Rattle.decrees.specs.declared.ballot.Ballot.TheVariants.{Accept, Accepted}
 use Rattle.decrees.specs.declared.node.Node.TheVariants.{Executor, Verifier}
-use Rattle.decrees.specs.Count.{members}
+use Rattle.decrees.specs.Count.{member_count}
 use Rattle.decrees.specs.Standing.{standing}
 use Rattle.decrees.specs.Votes.{Vote, is_open}
 use Rattle.view_change.specs.declared.promises.Promise.{Promise}
 use Rattle.verifier.specs.declared.tally.Tallied.{Tallied}
-use Rattle.verifier.specs.State.{State, next_place, down, in_view}
+use Rattle.verifier.specs.State.{VerifierState, next_place, down, in_view}
 use Rattle.verifier.specs.Lines.{learn}
 use Rattle.agreement.specs.Letters.{Letters, Sent, Chosen, AllChosen}
 use Rattle.agreement.proofs.Count.{Quorum-weaker}
@@ -31,21 +31,21 @@ abbrev pub Cast : Letters → Vote → Type 0
 Cast ls x = Sent ls (Executor x.0.executor) (ballot.Token x.0.epoch x.0.n (record { 0 = x.0.previous }) x.1)
 
 -- what a verifier keeps has its grounds in letters
-pub record Grounds (u : ℕ) (ls : Letters) (v : ℕ) (s : State) : Type 0 where
+pub record Grounds (u : ℕ) (ls : Letters) (v : ℕ) (s : VerifierState) : Type 0 where
   pub log_chosen : AllChosen u ls s.log
   pub accepted_sent : (w : ℕ) (d : Decree) → s.accepted ≡ Some (w, d) → (w ≤ s.view) × ((l : ℕ) × Sent ls (Verifier l) (Accept w (next_place s) d))
-  pub leads : s.leads ≡ true → s.view % members u ≡ v
+  pub leads : s.leads ≡ true → s.view % member_count u ≡ v
   pub heard : s.leads ≡ true → Each (Heard ls s.view) s.promises
   pub tallied : Each (Told ls (next_place s)) s.tally
   pub voted : Each (Cast ls) s.votes
 
 -- a verifier stands by the letters that it sent
-pub record Owns (ls : Letters) (v : ℕ) (s : State) : Type 0 where
+pub record Owns (ls : Letters) (v : ℕ) (s : VerifierState) : Type 0 where
   pub kept : (w p : ℕ) (d : Decree) → Sent ls (Verifier v) (Accepted w p d) → (w ≤ s.view) × Covers (length s.log) s.accepted w p
   pub promised : (w k : ℕ) (a : Option (ℕ × Decree)) → Sent ls (Verifier v) (ballot.Promise w k a) → w ≤ s.view
   pub proposed : (w p : ℕ) (d : Decree) → Sent ls (Verifier v) (Accept w p d) → (w ≤ s.view) × (s.leads ≡ true → w ≡ s.view → (p ≤ length s.log) ⊎ ((p ≡ next_place s) × (s.proposed ≡ true)))
 
-pub record Stand (u : ℕ) (ls : Letters) (v : ℕ) (s : State) : Type 0 where
+pub record Stand (u : ℕ) (ls : Letters) (v : ℕ) (s : VerifierState) : Type 0 where
   pub grounds : Grounds u ls v s
   pub owns : Owns ls v s
 
@@ -53,7 +53,7 @@ pub record Stand (u : ℕ) (ls : Letters) (v : ℕ) (s : State) : Type 0 where
 pub Chosen-more : {u : ℕ} {ls : Letters} (new : Letters) {p : ℕ} {d : Decree} → Chosen u ls p d → Chosen u (ls ++ new) p d
 Chosen-more {u} {ls} new {p} {d} h = (h.0, Quorum-weaker (λ v s. Sent-left ls new s) h.1)
 
-pub Grounds-more : {u : ℕ} {ls : Letters} (new : Letters) {v : ℕ} {s : State} → Grounds u ls v s → Grounds u (ls ++ new) v s
+pub Grounds-more : {u : ℕ} {ls : Letters} (new : Letters) {v : ℕ} {s : VerifierState} → Grounds u ls v s → Grounds u (ls ++ new) v s
 Grounds-more {u} {ls} new {v} {s} g = record {
   log_chosen = λ p d e. Chosen-more new (g.log_chosen p d e);
   accepted_sent = λ w d e. let h = g.accepted_sent w d e in (h.0, (h.1.0, Sent-left ls new h.1.1));
@@ -71,7 +71,7 @@ not_mine : {ls : Letters} (new : Letters) (v x : ℕ) {b : Ballot} → OnlyFrom 
 not_mine {ls} new v x {b} only apart h = ⊎_elim (λ l. l) (λ r. absurd (apart (only x b r))) (Sent-split ls new h)
 
 -- letters of others change nothing of what this one sent
-pub Stand-of_other : {u : ℕ} {ls : Letters} (new : Letters) (v x : ℕ) {s : State} → OnlyFrom v new → x ≢ v → Stand u ls x s → Stand u (ls ++ new) x s
+pub Stand-of_other : {u : ℕ} {ls : Letters} (new : Letters) (v x : ℕ) {s : VerifierState} → OnlyFrom v new → x ≢ v → Stand u ls x s → Stand u (ls ++ new) x s
 Stand-of_other {u} {ls} new v x {s} only apart st = record {
   grounds = Grounds-more new st.grounds;
   owns = record {
@@ -82,7 +82,7 @@ Stand-of_other {u} {ls} new v x {s} only apart st = record {
 }
 
 -- it stops
-pub Stand-down : {u : ℕ} {ls : Letters} {v : ℕ} {s : State} → Stand u ls v s → Stand u ls v (down s)
+pub Stand-down : {u : ℕ} {ls : Letters} {v : ℕ} {s : VerifierState} → Stand u ls v s → Stand u ls v (down s)
 Stand-down {u} {ls} {v} {s} st = record {
   grounds = record {
     log_chosen = st.grounds.log_chosen;
@@ -100,12 +100,12 @@ Stand-down {u} {ls} {v} {s} st = record {
 }
 
 -- the view rises, or stays
-pub Stand-in_view : {u : ℕ} {ls : Letters} {v : ℕ} {s : State} (w : ℕ) → s.view ≤ w → Stand u ls v s → Stand u ls v (in_view s w)
+pub Stand-in_view : {u : ℕ} {ls : Letters} {v : ℕ} {s : VerifierState} (w : ℕ) → s.view ≤ w → Stand u ls v s → Stand u ls v (in_view s w)
 Stand-in_view {u} {ls} {v} {s} w le st = record {
   grounds = record {
     log_chosen = st.grounds.log_chosen;
     accepted_sent = λ x d e. let h = st.grounds.accepted_sent x d e in (omega (arith, h.0), h.1);
-    leads = λ e. let p = and_parts s.leads (w == s.view) e in subst (λ y. y % members u ≡ v) (sym (eqb-true w s.view p.1)) (st.grounds.leads p.0);
+    leads = λ e. let p = and_parts s.leads (w == s.view) e in subst (λ y. y % member_count u ≡ v) (sym (eqb-true w s.view p.1)) (st.grounds.leads p.0);
     heard = λ e. let p = and_parts s.leads (w == s.view) e in subst (λ y. Each (Heard ls y) s.promises) (sym (eqb-true w s.view p.1)) (st.grounds.heard p.0);
     tallied = st.grounds.tallied;
     voted = st.grounds.voted;
@@ -122,7 +122,7 @@ covers_more k x p w a d le (inl h) = inl h
 covers_more k x p w a d le (inr h) = inr (h.0, le)
 
 -- a proposal of the next place in this view is accepted
-pub Stand-accepting : {u : ℕ} {ls : Letters} {v : ℕ} {s : State} (l : ℕ) (d : Decree) → Sent ls (Verifier l) (Accept s.view (next_place s) d) → Stand u ls v s → Stand u ls v (record s { accepted = Some (s.view, d) })
+pub Stand-accepting : {u : ℕ} {ls : Letters} {v : ℕ} {s : VerifierState} (l : ℕ) (d : Decree) → Sent ls (Verifier l) (Accept s.view (next_place s) d) → Stand u ls v s → Stand u ls v (record s { accepted = Some (s.view, d) })
 Stand-accepting {u} {ls} {v} {s} l d sent st = record {
   grounds = record {
     log_chosen = st.grounds.log_chosen;
@@ -147,7 +147,7 @@ covers_known k x p m a e (inl h) = inl (omega (arith, e, h))
 covers_known k x p m a e (inr h) = inl (omega (arith, e, h.0))
 
 -- a decree that is chosen is learned
-pub Stand-learn : {u : ℕ} {ls : Letters} {v : ℕ} {s : State} (d : Decree) → Chosen u ls (next_place s) d → Stand u ls v s → Stand u ls v (learn s d)
+pub Stand-learn : {u : ℕ} {ls : Letters} {v : ℕ} {s : VerifierState} (d : Decree) → Chosen u ls (next_place s) d → Stand u ls v s → Stand u ls v (learn s d)
 Stand-learn {u} {ls} {v} {s} d chosen st = record {
   grounds = record {
     log_chosen = λ p b e. ⊎_elim

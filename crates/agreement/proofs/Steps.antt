@@ -9,13 +9,13 @@ use Rattle.decrees.specs.declared.ballot.Ballot.{Ballot}
 use Rattle.decrees.specs.declared.ballot.Ballot.TheVariants.{Token, Accept, Accepted, Decided, Ask, Change, Promise}
 use Rattle.decrees.specs.declared.node.Node.{Node}
 use Rattle.decrees.specs.declared.node.Node.TheVariants.{Executor, Verifier}
-use Rattle.decrees.specs.Count.{members}
-use Rattle.decrees.specs.Standing.{standing, is_next, decree_at}
+use Rattle.decrees.specs.Count.{member_count}
+use Rattle.decrees.specs.Standing.{standing, may_follow, decree_at}
 use Rattle.decrees.specs.Votes.{token_eq, is_open, vote_of, votes_with}
 use Rattle.view_change.specs.Promises.{has_promised, promises_with}
 use Rattle.verifier.specs.declared.tally.Tallied.{Tallied}
 use Rattle.verifier.specs.Tally.{decree_eq, is_tallied, tally_with, has_accepted, is_accepted}
-use Rattle.verifier.specs.State.{State, Outcome, next_place, letter, to_verifiers, to_others, to_executors, decided_from, stays, says, in_view, down, next_led}
+use Rattle.verifier.specs.State.{VerifierState, OutcomeView, next_place, letter, to_verifiers, to_others, to_executors, decided_from, stays, says, in_view, down, next_led}
 use Rattle.verifier.specs.Lines.{proposal, proposing, try_to_propose, vote_key, on_token, suspected, on_change, asked_if_behind, is_awaited, on_promise, told, on_accept, is_fitting, with_tally, on_accepted, on_decided, on_ask, restarted}
 use Rattle.verifier.proofs.ViewLemmas.{led_from-above}
 use Rattle.agreement.specs.Letters.{Letters, Sent, Chosen}
@@ -31,23 +31,23 @@ use Rattle.agreement.proofs.Choice.{MayPropose-from, proposal_is_safe, proposal_
 use Rattle.agreement.proofs.Tokens.{token_eq-true}
 
 -- what an outcome of verifier v keeps, whether the step is done or the verifier stops in it
-pub record StepOk (u : ℕ) (ls : Letters) (v : ℕ) (o : Outcome) : Type 0 where
+pub record StepOk (u : ℕ) (ls : Letters) (v : ℕ) (o : OutcomeView) : Type 0 where
   pub only : OnlyFrom v o.letters
   pub saved : Stand u ls v (down o.state)
   pub letters : LettersOk u (ls ++ o.letters)
   pub stand : Stand u (ls ++ o.letters) v o.state
 
-plain_step : {u : ℕ} {ls : Letters} {v : ℕ} {s : State} (saves : Bool) (new : Letters) → LettersOk u ls → Stand u ls v s → PlainOf u ls v new → StepOk u ls v (record { state = s; saves = saves; letters = new })
+plain_step : {u : ℕ} {ls : Letters} {v : ℕ} {s : VerifierState} (saves : Bool) (new : Letters) → LettersOk u ls → Stand u ls v s → PlainOf u ls v new → StepOk u ls v (record { state = s; saves = saves; letters = new })
 plain_step {u} {ls} {v} {s} saves new ok st p = record { only = λ x b h. (p x b h).0; saved = Stand-down st; letters = LettersOk-plain new p ok; stand = Stand-plain new p st }
 
-pub stays_ok : {u : ℕ} {ls : Letters} {v : ℕ} {s : State} → LettersOk u ls → Stand u ls v s → StepOk u ls v (stays s)
+pub stays_ok : {u : ℕ} {ls : Letters} {v : ℕ} {s : VerifierState} → LettersOk u ls → Stand u ls v s → StepOk u ls v (stays s)
 stays_ok {u} {ls} {v} {s} ok st = plain_step false [] ok st (PlainOf-none u ls v)
 
-says_ok : {u : ℕ} {ls : Letters} {v : ℕ} {s : State} (to : Node) (b : Ballot) → LettersOk u ls → Stand u ls v s → Plain u ls b → StepOk u ls v (says v s to b)
+says_ok : {u : ℕ} {ls : Letters} {v : ℕ} {s : VerifierState} (to : Node) (b : Ballot) → LettersOk u ls → Stand u ls v s → Plain u ls b → StepOk u ls v (says v s to b)
 says_ok {u} {ls} {v} {s} to b ok st p = plain_step false (letter v to b ∷ []) ok st (PlainOf-said u ls (Says-one v to b) p)
 
 -- a leader tries to propose, after plain letters
-try_ok : {u : ℕ} {ls : Letters} {v : ℕ} {s : State} (saves : Bool) (first : Letters) → LettersOk u ls → Stand u ls v s → PlainOf u ls v first → StepOk u ls v (try_to_propose u v s saves first)
+try_ok : {u : ℕ} {ls : Letters} {v : ℕ} {s : VerifierState} (saves : Bool) (first : Letters) → LettersOk u ls → Stand u ls v s → PlainOf u ls v first → StepOk u ls v (try_to_propose u v s saves first)
 try_ok {u} {ls} {v} {s} saves first ok st p = by (proposal u s) refl
   where
     by : (o : Option Decree) → proposal u s ≡ o → StepOk u ls v (proposing u v s saves first o)
@@ -55,7 +55,7 @@ try_ok {u} {ls} {v} {s} saves first ok st p = by (proposal u s) refl
     by (Some d) e =
         let may = MayPropose-from u s d e in
         let new = to_verifiers u v (Accept s.view (next_place s) d) in
-        let said = Says-verifiers (members u) v (Accept s.view (next_place s) d) in
+        let said = Says-verifiers (member_count u) v (Accept s.view (next_place s) d) in
         let ok1 = LettersOk-plain first p ok in
         let st1 = Stand-plain first p st in
         let safe = proposal_is_safe ok1 st1 may in
@@ -68,18 +68,18 @@ try_ok {u} {ls} {v} {s} saves first ok st p = by (proposal u s) refl
         }
 
 -- what a verifier knows is chosen, so it may tell it
-told_ok : {u : ℕ} {ls : Letters} {v : ℕ} {s : State} (to : Node) (place : ℕ) (o : Option Decree) → decree_at s.log place ≡ o → LettersOk u ls → Stand u ls v s → StepOk u ls v (record { state = s; saves = false; letters = told v to place o })
+told_ok : {u : ℕ} {ls : Letters} {v : ℕ} {s : VerifierState} (to : Node) (place : ℕ) (o : Option Decree) → decree_at s.log place ≡ o → LettersOk u ls → Stand u ls v s → StepOk u ls v (record { state = s; saves = false; letters = told v to place o })
 told_ok {u} {ls} {v} {s} to place None e ok st = stays_ok ok st
 told_ok {u} {ls} {v} {s} to place (Some d) e ok st = says_ok to (Decided place d) ok st (st.grounds.log_chosen place d e)
 
-pub on_accept_ok : {u : ℕ} {ls : Letters} {v : ℕ} {s : State} (from view place : ℕ) (d : Decree) → LettersOk u ls → Stand u ls v s → Sent ls (Verifier from) (Accept view place d) → StepOk u ls v (on_accept u v s from view place d)
+pub on_accept_ok : {u : ℕ} {ls : Letters} {v : ℕ} {s : VerifierState} (from view place : ℕ) (d : Decree) → LettersOk u ls → Stand u ls v s → Sent ls (Verifier from) (Accept view place d) → StepOk u ls v (on_accept u v s from view place d)
 on_accept_ok {u} {ls} {v} {s} from view place d ok st sent =
     cond_both ((place == 0) || nat_lt view s.view) (stays s) _ (StepOk u ls v) (λ _. stays_ok ok st)
     (λ old. cond_both (nat_lt (next_place s) place) (says v s (Verifier from) (Ask (next_place s))) _ (StepOk u ls v)
     (λ _. says_ok (Verifier from) (Ask (next_place s)) ok st tt)
     (λ high. cond_both (nat_lt place (next_place s)) (record { state = s; saves = false; letters = told v (Verifier from) place (decree_at s.log place) }) _ (StepOk u ls v)
     (λ _. told_ok (Verifier from) place (decree_at s.log place) refl ok st)
-    (λ low. cond_both (is_next (standing s.log) d) _ (stays s) (StepOk u ls v)
+    (λ low. cond_both (may_follow (standing s.log) d) _ (stays s) (StepOk u ls v)
     (λ _. accepts (not_below view s.view (or_none (place == 0) (nat_lt view s.view) old).1) (only_next place (next_place s) high low))
     (λ _. stays_ok ok st))))
   where
@@ -98,7 +98,7 @@ on_accept_ok {u} {ls} {v} {s} from view place d ok st sent =
         let st1 = Stand-in_view view le st in
         let st2 = Stand-accepting from d (subst (λ y. Sent ls (Verifier from) (Accept view y d)) same sent) st1 in
         let new = to_verifiers u v (Accepted view place d) in
-        let said : Says v (Accepted view (next_place s) d) new = subst (λ y. Says v (Accepted view y d) new) same (Says-verifiers (members u) v (Accepted view place d)) in
+        let said : Says v (Accepted view (next_place s) d) new = subst (λ y. Says v (Accepted view y d) new) same (Says-verifiers (member_count u) v (Accepted view place d)) in
         record {
           only = λ x b h. (said x b h).0;
           saved = Stand-down st2;
@@ -106,7 +106,7 @@ on_accept_ok {u} {ls} {v} {s} from view place d ok st sent =
           stand = Stand-accepted new d refl said ok st2;
         }
 
-pub on_change_ok : {u : ℕ} {ls : Letters} {v : ℕ} {s : State} (from view : ℕ) → LettersOk u ls → Stand u ls v s → StepOk u ls v (on_change v s from view)
+pub on_change_ok : {u : ℕ} {ls : Letters} {v : ℕ} {s : VerifierState} (from view : ℕ) → LettersOk u ls → Stand u ls v s → StepOk u ls v (on_change v s from view)
 on_change_ok {u} {ls} {v} {s} from view ok st =
     cond_both (nat_lt view s.view) (stays s) _ (StepOk u ls v)
     (λ _. stays_ok ok st)
@@ -121,7 +121,7 @@ on_change_ok {u} {ls} {v} {s} from view ok st =
       stand = Stand-promise new said ok st1;
     })
 
-Stand-with_promise : {u : ℕ} {ls : Letters} {v : ℕ} {s : State} (from k : ℕ) (a : Option (ℕ × Decree)) → Sent ls (Verifier from) (Promise s.view k a) → Stand u ls v s → Stand u ls v (record s { promises = promises_with s.promises (record { from = from; known = k; accepted = a }) })
+Stand-with_promise : {u : ℕ} {ls : Letters} {v : ℕ} {s : VerifierState} (from k : ℕ) (a : Option (ℕ × Decree)) → Sent ls (Verifier from) (Promise s.view k a) → Stand u ls v s → Stand u ls v (record s { promises = promises_with s.promises (record { from = from; known = k; accepted = a }) })
 Stand-with_promise {u} {ls} {v} {s} from k a sent st = record {
   grounds = record {
     log_chosen = st.grounds.log_chosen;
@@ -136,12 +136,12 @@ Stand-with_promise {u} {ls} {v} {s} from k a sent st = record {
   owns = record { kept = st.owns.kept; promised = st.owns.promised; proposed = st.owns.proposed };
 }
 
-asked_if_behind_ok : (u : ℕ) (ls : Letters) (v : ℕ) (s : State) (from count : ℕ) → PlainOf u ls v (asked_if_behind v s from count)
+asked_if_behind_ok : (u : ℕ) (ls : Letters) (v : ℕ) (s : VerifierState) (from count : ℕ) → PlainOf u ls v (asked_if_behind v s from count)
 asked_if_behind_ok u ls v s from count = cond_both (nat_lt (length s.log) count) _ [] (PlainOf u ls v)
     (λ _. PlainOf-said u ls (Says-one v (Verifier from) (Ask (length s.log + 1))) tt)
     (λ _. PlainOf-none u ls v)
 
-pub on_promise_ok : {u : ℕ} {ls : Letters} {v : ℕ} {s : State} (from view count : ℕ) (a : Option (ℕ × Decree)) → LettersOk u ls → Stand u ls v s → Sent ls (Verifier from) (Promise view count a) → StepOk u ls v (on_promise u v s from view count a)
+pub on_promise_ok : {u : ℕ} {ls : Letters} {v : ℕ} {s : VerifierState} (from view count : ℕ) (a : Option (ℕ × Decree)) → LettersOk u ls → Stand u ls v s → Sent ls (Verifier from) (Promise view count a) → StepOk u ls v (on_promise u v s from view count a)
 on_promise_ok {u} {ls} {v} {s} from view count a ok st sent =
     cond_both (is_awaited s from view) _ (stays s) (StepOk u ls v)
     (λ e.
@@ -164,7 +164,7 @@ Each-tally {ls} place tally t sent h = cond_both (is_tallied tally t.view t.from
     (λ _. h)
     (λ _. Each-push (Told ls place) tally t h sent)
 
-Stand-with_tally : {u : ℕ} {ls : Letters} {v : ℕ} {s : State} (from view : ℕ) (d : Decree) → Sent ls (Verifier from) (Accepted view (next_place s) d) → Stand u ls v s → Stand u ls v (with_tally s from view d)
+Stand-with_tally : {u : ℕ} {ls : Letters} {v : ℕ} {s : VerifierState} (from view : ℕ) (d : Decree) → Sent ls (Verifier from) (Accepted view (next_place s) d) → Stand u ls v s → Stand u ls v (with_tally s from view d)
 Stand-with_tally {u} {ls} {v} {s} from view d sent st = record {
   grounds = record {
     log_chosen = st.grounds.log_chosen;
@@ -193,25 +193,25 @@ tallied_is_chosen {u} {ls} tally view place d sent enough = (
   },
 )
 
-pub on_accepted_ok : {u : ℕ} {ls : Letters} {v : ℕ} {s : State} (from view place : ℕ) (d : Decree) → LettersOk u ls → Stand u ls v s → Sent ls (Verifier from) (Accepted view place d) → StepOk u ls v (on_accepted u v s from view place d)
+pub on_accepted_ok : {u : ℕ} {ls : Letters} {v : ℕ} {s : VerifierState} (from view place : ℕ) (d : Decree) → LettersOk u ls → Stand u ls v s → Sent ls (Verifier from) (Accepted view place d) → StepOk u ls v (on_accepted u v s from view place d)
 on_accepted_ok {u} {ls} {v} {s} from view place d ok st sent =
     cond_both (is_fitting s place d) _ (stays s) (StepOk u ls v)
     (λ fits.
-    let same = eqb-true place (next_place s) (and_parts (place == next_place s) (is_next (standing s.log) d) fits).0 in
+    let same = eqb-true place (next_place s) (and_parts (place == next_place s) (may_follow (standing s.log) d) fits).0 in
     let st1 = Stand-with_tally from view d (subst (λ y. Sent ls (Verifier from) (Accepted view y d)) same sent) st in
     cond_both (is_accepted u (with_tally s from view d).tally view d) _ (stays (with_tally s from view d)) (StepOk u ls v)
     (λ enough.
     let chosen = tallied_is_chosen (with_tally s from view d).tally view (next_place s) d st1.grounds.tallied enough in
-    let said = Says-both (to_others u v (Decided place d)) (to_executors u v (Decided place d)) (Says-others (members u) v (Decided place d)) (Says-executors (members u) v (Decided place d)) in
+    let said = Says-both (to_others u v (Decided place d)) (to_executors u v (Decided place d)) (Says-others (member_count u) v (Decided place d)) (Says-executors (member_count u) v (Decided place d)) in
     try_ok true (to_others u v (Decided place d) ++ to_executors u v (Decided place d)) ok (Stand-learn d chosen st) (PlainOf-said u ls said (subst (λ y. Chosen u ls y d) (sym same) chosen)))
     (λ _. stays_ok ok st1))
     (λ _. stays_ok ok st)
 
-pub on_decided_ok : {u : ℕ} {ls : Letters} {v : ℕ} {s : State} (from place : ℕ) (d : Decree) → LettersOk u ls → Stand u ls v s → Sent ls (Verifier from) (Decided place d) → StepOk u ls v (on_decided u v s from place d)
+pub on_decided_ok : {u : ℕ} {ls : Letters} {v : ℕ} {s : VerifierState} (from place : ℕ) (d : Decree) → LettersOk u ls → Stand u ls v s → Sent ls (Verifier from) (Decided place d) → StepOk u ls v (on_decided u v s from place d)
 on_decided_ok {u} {ls} {v} {s} from place d ok st sent =
     cond_both (is_fitting s place d) _ _ (StepOk u ls v)
     (λ fits.
-    let same = eqb-true place (next_place s) (and_parts (place == next_place s) (is_next (standing s.log) d) fits).0 in
+    let same = eqb-true place (next_place s) (and_parts (place == next_place s) (may_follow (standing s.log) d) fits).0 in
     try_ok true [] ok (Stand-learn d (subst (λ y. Chosen u ls y d) same (ok.decided from place d sent)) st) (PlainOf-none u ls v))
     (λ _. cond_both (nat_lt (next_place s) place) _ (stays s) (StepOk u ls v)
     (λ _. says_ok (Verifier from) (Ask (next_place s)) ok st tt)
@@ -226,7 +226,7 @@ decided_from_ok {u} {ls} v to place (d ∷ ds) all =
     (PlainOf-said u ls (Says-one v to (Decided place d)) (subst (λ y. Chosen u ls y d) here_at (all 0 d refl)))
     (decided_from_ok v to (place + 1) ds (λ i b e. let at : place + suc i ≡ (place + 1) + i = omega arith in subst (λ y. Chosen u ls y b) at (all (suc i) b e)))
 
-pub on_ask_ok : {u : ℕ} {ls : Letters} {v : ℕ} {s : State} (to : Node) (place : ℕ) → LettersOk u ls → Stand u ls v s → StepOk u ls v (on_ask v s to place)
+pub on_ask_ok : {u : ℕ} {ls : Letters} {v : ℕ} {s : VerifierState} (to : Node) (place : ℕ) → LettersOk u ls → Stand u ls v s → StepOk u ls v (on_ask v s to place)
 on_ask_ok {u} {ls} {v} {s} to place ok st =
     cond_both (place == 0) (stays s) _ (StepOk u ls v)
     (λ _. stays_ok ok st)
@@ -235,7 +235,7 @@ on_ask_ok {u} {ls} {v} {s} to place ok st =
     plain_step false (decided_from v to place (take 16 (drop (place - 1) s.log))) ok st
     (decided_from_ok v to place (take 16 (drop (place - 1) s.log)) (λ i d at. st.grounds.log_chosen (place + i) d (at_part s.log place 16 i d (omega (arith, apart)) at))))
 
-Stand-with_vote : {u : ℕ} {ls : Letters} {v : ℕ} {s : State} (executor epoch n : ℕ) (previous t : token.Token) → Sent ls (Executor executor) (Token epoch n previous t) → Stand u ls v s → Stand u ls v (record s { votes = votes_with s.votes (vote_key executor epoch n previous) t })
+Stand-with_vote : {u : ℕ} {ls : Letters} {v : ℕ} {s : VerifierState} (executor epoch n : ℕ) (previous t : token.Token) → Sent ls (Executor executor) (Token epoch n previous t) → Stand u ls v s → Stand u ls v (record s { votes = votes_with s.votes (vote_key executor epoch n previous) t })
 Stand-with_vote {u} {ls} {v} {s} executor epoch n previous t sent st = record {
   grounds = record {
     log_chosen = st.grounds.log_chosen;
@@ -250,13 +250,13 @@ Stand-with_vote {u} {ls} {v} {s} executor epoch n previous t sent st = record {
   owns = record { kept = st.owns.kept; promised = st.owns.promised; proposed = st.owns.proposed };
 }
 
-pub on_token_ok : {u : ℕ} {ls : Letters} {v : ℕ} {s : State} (executor epoch n : ℕ) (previous t : token.Token) → LettersOk u ls → Stand u ls v s → Sent ls (Executor executor) (Token epoch n previous t) → StepOk u ls v (on_token u v s executor epoch n previous t)
+pub on_token_ok : {u : ℕ} {ls : Letters} {v : ℕ} {s : VerifierState} (executor epoch n : ℕ) (previous t : token.Token) → LettersOk u ls → Stand u ls v s → Sent ls (Executor executor) (Token epoch n previous t) → StepOk u ls v (on_token u v s executor epoch n previous t)
 on_token_ok {u} {ls} {v} {s} executor epoch n previous t ok st sent =
     cond_both (is_open (standing s.log) (vote_key executor epoch n previous)) _ (stays s) (StepOk u ls v)
     (λ _. try_ok false [] ok (Stand-with_vote executor epoch n previous t sent st) (PlainOf-none u ls v))
     (λ _. stays_ok ok st)
 
-pub suspected_ok : {u : ℕ} {ls : Letters} {v : ℕ} {s : State} → LettersOk u ls → Stand u ls v s → StepOk u ls v (suspected u v s)
+pub suspected_ok : {u : ℕ} {ls : Letters} {v : ℕ} {s : VerifierState} → LettersOk u ls → Stand u ls v s → StepOk u ls v (suspected u v s)
 suspected_ok {u} {ls} {v} {s} ok st =
     let w = next_led u v s.view in
     let up : s.view + 1 ≤ w = led_from-above u v (s.view + 1) (2 * u) in
@@ -264,7 +264,7 @@ suspected_ok {u} {ls} {v} {s} ok st =
       grounds = record {
         log_chosen = st.grounds.log_chosen;
         accepted_sent = λ x d e. let h = st.grounds.accepted_sent x d e in (omega (arith, up, h.0), h.1);
-        leads = λ e. eqb-true (w % members u) v e;
+        leads = λ e. eqb-true (w % member_count u) v e;
         heard = λ e. tt;
         tallied = st.grounds.tallied;
         voted = st.grounds.voted;
@@ -275,7 +275,7 @@ suspected_ok {u} {ls} {v} {s} ok st =
         proposed = λ x p d h. let m = st.owns.proposed x p d h in (omega (arith, up, m.0), λ e same. absurd (omega (arith, up, m.0, same)));
       };
     } in
-    plain_step true (to_verifiers u v (Change w)) ok st1 (PlainOf-said u ls (Says-verifiers (members u) v (Change w)) tt)
+    plain_step true (to_verifiers u v (Change w)) ok st1 (PlainOf-said u ls (Says-verifiers (member_count u) v (Change w)) tt)
 
-pub restarted_ok : {u : ℕ} {ls : Letters} {v : ℕ} {s : State} → LettersOk u ls → Stand u ls v s → StepOk u ls v (restarted u v s)
-restarted_ok {u} {ls} {v} {s} ok st = plain_step false (to_others u v (Ask (next_place s))) ok (Stand-down st) (PlainOf-said u ls (Says-others (members u) v (Ask (next_place s))) tt)
+pub restarted_ok : {u : ℕ} {ls : Letters} {v : ℕ} {s : VerifierState} → LettersOk u ls → Stand u ls v s → StepOk u ls v (restarted u v s)
+restarted_ok {u} {ls} {v} {s} ok st = plain_step false (to_others u v (Ask (next_place s))) ok (Stand-down st) (PlainOf-said u ls (Says-others (member_count u) v (Ask (next_place s))) tt)

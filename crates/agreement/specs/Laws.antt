@@ -5,9 +5,9 @@ use Rattle.decrees.specs.declared.decree.Decree.{Decree}
 use Rattle.decrees.specs.declared.decree.Decree.TheVariants.{Commit}
 use Rattle.decrees.specs.declared.ballot.Ballot.TheVariants.{Decided}
 use Rattle.decrees.specs.declared.node.Node.TheVariants.{Verifier}
-use Rattle.decrees.specs.Count.{count_below, members}
+use Rattle.decrees.specs.Count.{count_below, member_count}
 use Rattle.decrees.specs.Standing.{decree_at, is_log}
-use Rattle.verifier.specs.State.{State, next_place, down}
+use Rattle.verifier.specs.State.{VerifierState, next_place, down}
 use Rattle.verifier.specs.Record.{record_text, IsRecord}
 use Rattle.agreement.specs.Letters.{Sent, Chosen, Backed, RestsOn}
 use Rattle.agreement.specs.Machine.{Slot, New, Up, Stopped, Event, reached, letters_of}
@@ -25,31 +25,31 @@ SomethingIsChosen = (u : ℕ) → u < 4 → (events : List Event) × ((t : token
 abbrev pub AllBacked : Type 0
 AllBacked = (u : ℕ) (events : List Event) (place : ℕ) (d : Decree) → Chosen u (letters_of u events) place d → Backed u (letters_of u events) place d
 
-abbrev pub recorded : Slot → Option State
+abbrev pub recorded : Slot → Option VerifierState
 recorded New = None
 recorded (Up s saved) = Some saved
 recorded (Stopped saved) = Some saved
 
 -- the record of a verifier, if it has one
-abbrev pub record_of : List Slot → ℕ → Option State
+abbrev pub record_of : List Slot → ℕ → Option VerifierState
 record_of slots v = option_and_then recorded (slice_get slots v)
 
 -- the decree stands at its place in the log, or is the accepted one of the place after it
-abbrev pub Holds : State → ℕ → Decree → Type 0
+abbrev pub Holds : VerifierState → ℕ → Decree → Type 0
 Holds s place d = (decree_at s.log place ≡ Some d) ⊎ ((place ≡ next_place s) × ((view : ℕ) × (s.accepted ≡ Some (view, d))))
 
 -- a verifier that is not lost, with a record that holds the decree
-pub record Kept (u : ℕ) (verifiers : List Slot) (lost : ℕ → Bool) (place : ℕ) (d : Decree) : Type 0 where
+pub record HeldByRecord (u : ℕ) (verifiers : List Slot) (lost : ℕ → Bool) (place : ℕ) (d : Decree) : Type 0 where
   pub verifier : ℕ
-  pub saved : State
-  pub is_member : verifier < members u
+  pub saved : VerifierState
+  pub is_member : verifier < member_count u
   pub not_lost : IsTrue (not (lost verifier))
   pub has_record : record_of verifiers verifier ≡ Some saved
   pub holds : Holds saved place d
 
 -- where at most u verifiers are lost, another keeps each chosen decree
 abbrev pub AllKept : Type 0
-AllKept = (u : ℕ) (events : List Event) (lost : ℕ → Bool) (place : ℕ) (d : Decree) → count_below lost (members u) ≤ u → Chosen u (letters_of u events) place d → Kept u (reached u events).verifiers lost place d
+AllKept = (u : ℕ) (events : List Event) (lost : ℕ → Bool) (place : ℕ) (d : Decree) → count_below lost (member_count u) ≤ u → Chosen u (letters_of u events) place d → HeldByRecord u (reached u events).verifiers lost place d
 
 -- what a verifier tells to be decided is chosen
 abbrev pub ToldIsChosen : Type 0
@@ -69,16 +69,16 @@ ListIsBacked = (u : ℕ) (events : List Event) → IsBackedList u events
 
 -- the log of each record is a beginning of the list
 abbrev pub LogsAreChosen : Type 0
-LogsAreChosen = (u : ℕ) (events : List Event) (v : ℕ) (saved : State) → record_of (reached u events).verifiers v ≡ Some saved → (more : List Decree) × (chosen u (letters_of u events) ≡ saved.log ++ more)
+LogsAreChosen = (u : ℕ) (events : List Event) (v : ℕ) (saved : VerifierState) → record_of (reached u events).verifiers v ≡ Some saved → (more : List Decree) × (chosen u (letters_of u events) ≡ saved.log ++ more)
 
 -- more events only add to its end
 abbrev pub ListGrows : Type 0
 ListGrows = (u : ℕ) (events more : List Event) → (new : List Decree) × (chosen u (letters_of u (events ++ more)) ≡ chosen u (letters_of u events) ++ new)
 
 -- what a record has is all that a crash leaves, and its bytes are read as just that
-pub record IsReadBack (u v : ℕ) (saved : State) : Type 0 where
+pub record IsReadBack (u v : ℕ) (saved : VerifierState) : Type 0 where
   pub fresh : saved ≡ down saved
   pub read : length saved.log < 2 ^ 32 → IsRecord u v (record_text u v saved) saved
 
 abbrev pub RecordsAreReadBack : Type 0
-RecordsAreReadBack = (u : ℕ) (events : List Event) (v : ℕ) (saved : State) → record_of (reached u events).verifiers v ≡ Some saved → IsReadBack u v saved
+RecordsAreReadBack = (u : ℕ) (events : List Event) (v : ℕ) (saved : VerifierState) → record_of (reached u events).verifiers v ≡ Some saved → IsReadBack u v saved

@@ -9,7 +9,7 @@ use Rattle.decrees.specs.declared.node.Letter.{Letter}
 use Rattle.decrees.specs.declared.node.Node.{Node}
 use Rattle.decrees.specs.declared.node.Node.TheVariants.{Executor, Verifier}
 use Rattle.decrees.specs.declared.standing.Standing.{Standing}
-use Rattle.decrees.specs.Count.{members, is_quorum}
+use Rattle.decrees.specs.Count.{member_count, is_quorum}
 use Rattle.decrees.specs.Standing.{standing, decree_at}
 
 abbrev pub Letters : Type 0
@@ -24,7 +24,7 @@ pub data Sent : Letters → Node → Ballot → Type 0 where
 pub record Quorum (u : ℕ) (P : ℕ → Type 0) : Type 0 where
   pub member : ℕ → Bool
   pub enough : IsTrue (is_quorum u member)
-  pub each : (v : ℕ) → v < members u → IsTrue (member v) → P v
+  pub each : (v : ℕ) → v < member_count u → IsTrue (member v) → P v
 
 -- more than u verifiers have accepted the decree for the place in this view
 abbrev pub ChosenIn : ℕ → Letters → ℕ → ℕ → Decree → Type 0

@@ -2,4 +2,4 @@ pub mod Letters
 pub mod Machine
 pub mod ChosenList
 pub mod Laws
-pub mod Seats
+pub mod Verifiers

@@ -4,10 +4,10 @@ use Rattle.decrees.specs.declared.ballot.Ballot.{Ballot}
 use Rattle.decrees.specs.declared.node.Letter.{Letter}
 use Rattle.decrees.specs.declared.node.Node.{Node}
 use Rattle.decrees.specs.declared.node.Node.TheVariants.{Client, Executor, Verifier}
-use Rattle.decrees.specs.Count.{members}
+use Rattle.decrees.specs.Count.{member_count}
 use Rattle.verifier.specs.declared.input.Input.{Input}
 use Rattle.verifier.specs.declared.input.Input.TheVariants as input
-use Rattle.verifier.specs.State.{State, Outcome, first_state, down}
+use Rattle.verifier.specs.State.{VerifierState, OutcomeView, new_state, down}
 use Rattle.verifier.specs.Lines.{restarted}
 use Rattle.verifier.specs.Step.{step}
 use Rattle.agreement.specs.Letters.{Letters}
@@ -15,8 +15,8 @@ use Rattle.agreement.specs.Letters.{Letters}
 -- A verifier: one that was not opened yet and has no record; one that is up, with its state and its record; or one that has stopped, with its record. A record is of the view, the log and the accepted decree of a state, and so it is what `down` leaves of that.
 pub data Slot : Type 0 where
   New : Slot
-  Up : (state saved : State) → Slot
-  Stopped : (saved : State) → Slot
+  Up : (state saved : VerifierState) → Slot
+  Stopped : (saved : VerifierState) → Slot
 
 pub record Machine : Type 0 where
   pub verifiers : List Slot
@@ -40,18 +40,18 @@ pub data Event : Type 0 where
   -- a node that is no verifier sends a letter, whatever it says
   Send : (l : Letter Ballot) → Event
 
-abbrev pub placed : Machine → ℕ → Slot → Machine
-placed m v slot = record m { verifiers = slice_set m.verifiers v slot }
+abbrev pub with_slot : Machine → ℕ → Slot → Machine
+with_slot m v slot = record m { verifiers = slice_set m.verifiers v slot }
 
 -- the record after a step that is done
-abbrev pub saved_after : State → Outcome → State
+abbrev pub saved_after : VerifierState → OutcomeView → VerifierState
 saved_after saved o = if o.saves then down o.state else saved
 
 -- a step of a verifier with this record
-abbrev pub settled : Machine → ℕ → State → Outcome → Luck → Machine
+abbrev pub settled : Machine → ℕ → VerifierState → OutcomeView → Luck → Machine
 settled m v saved o Done = record { verifiers = slice_set m.verifiers v (Up o.state (saved_after saved o)); letters = m.letters ++ o.letters }
-settled m v saved o StopsBefore = placed m v (Stopped saved)
-settled m v saved o StopsAfter = placed m v (Stopped (saved_after saved o))
+settled m v saved o StopsBefore = with_slot m v (Stopped saved)
+settled m v saved o StopsAfter = with_slot m v (Stopped (saved_after saved o))
 
 -- a verifier that is up is given the input
 abbrev pub given : ℕ → Machine → ℕ → Input → Luck → Option Slot → Machine
@@ -74,13 +74,13 @@ abbrev pub crashed : Machine → ℕ → Option Slot → Machine
 crashed m v None = m
 crashed m v (Some New) = m
 crashed m v (Some (Stopped saved)) = m
-crashed m v (Some (Up s saved)) = placed m v (Stopped saved)
+crashed m v (Some (Up s saved)) = with_slot m v (Stopped saved)
 
 -- a verifier that has saved nothing saves its first state and is up, or stops
 abbrev pub opened_new : ℕ → Machine → ℕ → Luck → Machine
-opened_new u m v Done = placed m v (Up (first_state u v) (down (first_state u v)))
+opened_new u m v Done = with_slot m v (Up (new_state u v) (down (new_state u v)))
 opened_new u m v StopsBefore = m
-opened_new u m v StopsAfter = placed m v (Stopped (down (first_state u v)))
+opened_new u m v StopsAfter = with_slot m v (Stopped (down (new_state u v)))
 
 -- one that has a record goes on from it
 abbrev pub opened : ℕ → Machine → ℕ → Luck → Option Slot → Machine
@@ -107,7 +107,7 @@ run u (e ∷ es) m = run u es (happens u m e)
 
 -- no verifier was opened yet, and no letter was sent
 abbrev pub first_machine : ℕ → Machine
-first_machine u = record { verifiers = replicate (members u) New; letters = [] }
+first_machine u = record { verifiers = replicate (member_count u) New; letters = [] }
 
 abbrev pub reached : ℕ → List Event → Machine
 reached u events = run u events (first_machine u)

@@ -1,6 +1,6 @@
 //! Laws of every reached machine. The functions do nothing: what each says is its contract.
 
-ghost use Rattle.agreement.specs.Seats.{HandledIsDone, RefusedIsStopped, OpenedIsDone, ReopenedIsDone, RefusedOpenIsStopped};
+ghost use Rattle.agreement.specs.Verifiers.{HandledIsDone, RefusedIsStopped, OpenedIsDone, ReopenedIsDone, RefusedOpenIsStopped};
 ghost use Rattle.agreement.specs.Laws.{AtMostOne, SomethingIsChosen, AllBacked, AllKept, ToldIsChosen, ListIsChosen, ListIsBacked, LogsAreChosen, ListGrows, RecordsAreReadBack};
 
 /// At each place at most one decree is chosen.

@@ -1,5 +1,5 @@
 -- One memcached server that takes one request a batch, each batch at moment 1000.
-use Rattle.std.specs.Prelude.{ℕ, ◌+◌, ◌*◌, List, [], ◌∷◌, ◌++◌, map, take, Option, if◌then◌else◌}
+use Rattle.std.specs.Prelude.{ℕ, ◌+◌, List, [], ◌∷◌, ◌++◌, map, take, Option, if◌then◌else◌}
 use Rattle.std.specs.Io.KnownBytes.{Appends}
 use Rattle.std.specs.FinMap.{empty}
 use Rattle.proto.specs.declared.command.Command.{Command}
@@ -9,16 +9,17 @@ use Rattle.proto.specs.declared.turn.Turn.TheVariants.{Ask, Say, Close}
 use Rattle.proto.specs.Grammar.{Spells, is_close}
 use Rattle.proto.specs.Text.{notice_text, given_text}
 use Rattle.items.specs.Map.{Items, alive}
+use Rattle.batches.specs.Stamp.{first_stamp}
 use Rattle.item_steps.specs.Steps.{steps, reply}
 use Rattle.item_steps.specs.Schedule.{Placed, items_after, answers_in, answers_at}
-use Rattle.item_steps.specs.declared.step.Place.{Place}
+use Rattle.item_steps.specs.declared.step.Stamp.{Stamp}
 
 abbrev pub the_moment : ℕ
 the_moment = 1000
 
 -- where the one request of batch n runs
-abbrev pub place_of_batch : ℕ → Place
-place_of_batch n = record { moment = the_moment; stamp = 64 * n }
+abbrev pub place_of_batch : ℕ → Stamp
+place_of_batch n = record { moment = the_moment; stamp = first_stamp n }
 
 -- the steps of the one request, which has place 0
 abbrev pub steps_at_0 : Command → List Placed

@@ -1,5 +1,5 @@
 ghost use Rattle.std.specs.Prelude.{◌≡◌};
-ghost use Rattle.proto.specs.declared.fault.Fault.TheVariants.{NoMemory};
+ghost use Rattle.base.specs.declared.fault.Fault.TheVariants.{NoMemory};
 ghost use Rattle.app.specs.declared.fault.FirstFault.TheVariants.{Own};
 
 use proto::Fault;

@@ -2,7 +2,8 @@ ghost use Rattle.std.specs.Prelude.{◌≡◌, ◌++◌, ◌⊎◌, length, map,
 ghost use Rattle.item_steps.specs.Schedule.{items_after, answers_in, answers_at};
 ghost use Rattle.app.specs.First.{the_moment, place_of_batch, items_then, reply_then, turn_text, items_after_turn, next_batch};
 
-use item_steps::{Answer, Place, Step, apply, reply_of, steps_of};
+use batches::MOST_REQUESTS;
+use item_steps::{Answer, Stamp, Step, apply, reply_of, steps_of};
 use items::Store;
 use pages::Pages;
 use proto::{Command, Fault, Reply, Turn, write_reply};
@@ -11,16 +12,13 @@ use std::alloc::{AllocError, Global};
 /// The moment of every batch.
 const MOMENT: u32 = 1000;
 
-/// A batch has so many places.
-const PLACES: u64 = 64;
-
 /// Where batch `n` runs. `Full` where its stamps are 2^64 or more.
-fn base_of(n: u64) -> Result<Place, Fault>
+fn base_of(n: u64) -> Result<Stamp, Fault>
     ensures ok { IfOk result (λ base. base ≡ place_of_batch n) }
     ensures only { IfErr result (λ fault. fault ≡ Fault.Full) }
 {
-    match n.checked_mul(PLACES) {
-        Some(stamp) => Ok(Place {
+    match n.checked_mul(MOST_REQUESTS as u64) {
+        Some(stamp) => Ok(Stamp {
             moment: MOMENT,
             stamp,
         }),
@@ -32,7 +30,7 @@ fn base_of(n: u64) -> Result<Place, Fault>
 fn run_steps(
     alloc: Global,
     pages: &mut Pages,
-    at: Place,
+    at: Stamp,
     steps: &[Step],
 ) -> Result<Vec<Answer>, AllocError>
     ensures pages { OnOk result (pages.new ≡ items_after at pages.old (map (λ step. (0, step)) steps.now)) }

@@ -36,7 +36,7 @@ fn answer_turns<W: Write>(alloc: Global, turns: &[Turn], writer: &mut W) -> Resu
 /// the turns that the bytes spell, in order. Each request is a batch by itself, numbered from 1, at
 /// moment 1000. Nothing is read after a Close.
 ///
-/// `Read` only where a read failed, `Write` only where a write failed, `Own` else: want of memory.
+/// `Read` only where a read failed, `Write` only where a write failed, `Own` else: a failed allocation.
 /// On any error a beginning of the text was written.
 pub fn first<R: Read, W: Write>(
     alloc: Global,

@@ -1,3 +1,4 @@
 pub mod Sorted
 pub mod MapLemmas
 mod PieceLemmas
+pub mod ListLemmas

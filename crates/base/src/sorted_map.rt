@@ -82,7 +82,7 @@ impl<K: MapKey, V> SortedMap<K, V> {
     }
 
     /// Puts the entry in place of the one that has its key, or between the others. Only a key that
-    /// is new takes memory; where it is wanting nothing changes.
+    /// is new takes memory; where an allocation fails nothing changes.
     pub fn put(&mut self, entry: Entry<K, V>) -> Result<(), AllocError>
     where
         K: Drop,
@@ -95,7 +95,7 @@ impl<K: MapKey, V> SortedMap<K, V> {
         put_entry(&mut self.entries, entry)
     }
 
-    /// Puts an entry of its own for the key. It takes memory for the entry; where it is wanting
+    /// Puts an entry of its own for the key. It takes memory for the entry; where an allocation fails
     /// nothing changes.
     pub fn insert(&mut self, key: K, value: V) -> Result<(), AllocError>
     where

@@ -1,6 +1,7 @@
 -- Requests under the keys of their clients.
-use Rattle.std.proofs.Common.{◌≡◌, ℕ, true, false, cond, not, List, [], ◌∷◌, ◌++◌, filter, find, nat_eq, nat_lt, Some, IsTrue, Result, Ok, Err, OnOk, OnErr, refl, sym, ap, subst, ◌∙◌, arith}
-use Rattle.std.specs.List.{AllByRecursion, IsDistinct}
+use Rattle.std.proofs.Common.{◌≡◌, ℕ, zero, suc, Bool, true, false, cond, not, ◌&&◌, List, [], ◌∷◌, ◌++◌, take, filter, find, nat_eq, nat_lt, Some, IsTrue, Result, Ok, Err, OnOk, OnErr, refl, sym, ap, subst, ◌∙◌, arith}
+use Rattle.std.specs.List.{AllByRecursion, IsDistinct, list_all}
+use Rattle.std.proofs.lemmas.Bool.{and_parts}
 use Rattle.std.specs.Map.{keys_of, values_of, lookup, remove_entry}
 use Rattle.std.specs.Option.{option_map_or}
 use Rattle.std.proofs.lemmas.Bool.Decides.{nat_tests}
@@ -10,7 +11,7 @@ use Rattle.std.proofs.lemmas.Map.Keys.{IsDistinct-head, IsDistinct-tail}
 use Rattle.sessions.specs.declared.request.Request.{Request}
 use Rattle.sessions.specs.Fresh.{Replies, is_next}
 use Rattle.batches.specs.Waiting.{clients_of, IsOneEach, keyed, added, is_later}
-use Rattle.batches.specs.Cut.{taken, Fits}
+use Rattle.batches.specs.Cut.{taken, left, is_past, waits_on, Fits}
 use Rattle.batches.proofs.OneEachLemmas.{one_each-filter, one_each-take}
 
 values_of-keyed : (rs : List Request) → values_of (keyed rs) ≡ rs
@@ -79,6 +80,29 @@ added_later r es e later =
     ∙ ap (λ xs. xs ++ (r.client, r) ∷ []) (filter-keyed r.client (values_of es))
     ∙ sym (keyed-push others r)
     ∙ ap (λ b. keyed (cond b (others ++ r ∷ []) (values_of es))) (sym later)
+
+not_so : (b : Bool) → not b ≡ true → b ≡ false
+not_so true e = cc e
+not_so false e = refl
+
+take_none : (n : ℕ) → take {A = Request} n [] ≡ []
+take_none zero = refl
+take_none (suc n) = refl
+
+none_next : (sessions : Replies) (rs : List Request) → list_all (waits_on sessions) rs ≡ true → filter (is_next sessions) rs ≡ []
+none_next sessions [] h = refl
+none_next sessions (r ∷ rs) h = rw (not_so (is_next sessions r) (and_parts _ _ (and_parts _ _ h).0).0) (none_next sessions rs (and_parts _ _ h).1)
+
+none_past : (sessions : Replies) (rs : List Request) → list_all (waits_on sessions) rs ≡ true → filter (λ r. not (is_past sessions r) && true) rs ≡ rs
+none_past sessions [] h = refl
+none_past sessions (r ∷ rs) h = rw ((and_parts (not (is_next sessions r)) _ (and_parts _ _ h).0).1) (ap (λ xs. r ∷ xs) (none_past sessions rs (and_parts _ _ h).1))
+
+-- where all wait on, none is taken, and all are left
+pub none_taken : (limit : ℕ) (sessions : Replies) (waiting : List Request) → list_all (waits_on sessions) waiting ≡ true → taken limit sessions waiting ≡ []
+none_taken limit sessions waiting h = ap (take limit) (none_next sessions waiting h) ∙ take_none limit
+
+pub all_left : (limit : ℕ) (sessions : Replies) (waiting : List Request) → list_all (waits_on sessions) waiting ≡ true → left limit sessions waiting ≡ waiting
+all_left limit sessions waiting h = rw (none_taken limit sessions waiting h) (none_past sessions waiting h)
 
 -- what a cut takes is fit for a batch
 pub fits : (limit : ℕ) (sessions : Replies) (waiting : List Request) → IsOneEach waiting → Fits limit sessions (taken limit sessions waiting)

@@ -46,7 +46,7 @@ one_each-filter p (r ∷ rs) h = elim (p r) as (λ b. IsOneEach (cond b (r ∷ f
   | false ↦ one_each-filter p rs (others_apart r rs h)
 ]
 
-one_each_none : IsOneEach []
+pub one_each_none : IsOneEach []
 unfolding IsDistinct
 one_each_none = tt
 

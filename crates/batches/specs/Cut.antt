@@ -1,5 +1,5 @@
 -- What a cut takes out of what waits.
-use Rattle.std.specs.Prelude.{◌≡◌, ℕ, ◌≤◌, List, [], ◌∷◌, filter, take, length, All, IsTrue, Bool, false, not, ◌&&◌, ◌==◌, nat_le, Option, Some, None}
+use Rattle.std.specs.Prelude.{◌≡◌, ℕ, ◌≤◌, List, [], filter, take, length, All, IsTrue, Bool, false, not, ◌&&◌, ◌==◌, nat_le, Option, Some, None}
 use Rattle.std.specs.List.{list_any}
 use Rattle.std.specs.Option.{option_map_or}
 use Rattle.std.specs.FinMap as map
@@ -11,6 +11,10 @@ use Rattle.batches.specs.Waiting.{IsOneEach}
 -- whether the client's last request that ran has this number or a higher one
 abbrev pub is_past : Replies → Request → Bool
 is_past sessions r = option_map_or (λ kept. nat_le r.number kept.number) (map.get sessions r.client) false
+
+-- whether the request is neither its client's next nor past
+abbrev pub waits_on : Replies → Request → Bool
+waits_on sessions r = not (is_next sessions r) && not (is_past sessions r)
 
 -- the first that are their client's next, up to the limit
 abbrev pub taken : ℕ → Replies → List Request → List Request

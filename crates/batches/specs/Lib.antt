@@ -1,3 +1,3 @@
-pub mod Limits
 pub mod Waiting
 pub mod Cut
+pub mod Stamp

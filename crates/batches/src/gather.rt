@@ -1,5 +1,5 @@
 use crate::batch::{Batch, GREATEST_NUMBER, MOST_REQUESTS, Requests};
-use crate::held::{add_request, part};
+use crate::held::{add_request, all_wait_on, part};
 use indexmap::IndexMap;
 use proto::Fault;
 use sessions::{Request, Sessions};
@@ -30,8 +30,8 @@ impl Gather {
     ghost use Rattle.std.specs.Prelude.{◌≡◌, ◌≤◌, ◌<◌, ◌↔◌, [], length, IsTrue, IfOk, IfErr, IfSome, OnOk, OnErr};
     ghost use Rattle.batches.specs.Waiting.{IsOneEach, added};
     ghost use Rattle.batches.specs.Cut.{taken, left, IsCut, Fits};
-    ghost use Rattle.batches.specs.Limits.{most_requests, greatest_number};
 
+    /// Nothing waits.
     pub fn new(alloc: Global) -> Gather
         ensures { result ≡ [] }
     {
@@ -48,6 +48,7 @@ impl Gather {
         self.held.len()
     }
 
+    /// Whether nothing waits.
     pub fn is_empty(&self) -> bool
         ensures { IsTrue result ↔ (self.now ≡ []) }
     {
@@ -55,7 +56,7 @@ impl Gather {
     }
 
     /// A request comes. Where the client's request that waits has the same number or a higher one,
-    /// it is ignored; a later one takes its place and goes last. Where memory is wanting nothing
+    /// it is ignored; a later one takes its place and goes last. Where an allocation fails nothing
     /// changes.
     pub fn add(&mut self, request: Request) -> Result<(), AllocError>
         ensures ok { OnOk result (self.new ≡ added request self.old) }
@@ -64,9 +65,10 @@ impl Gather {
         add_request(&mut self.held, request)
     }
 
-    /// Takes the first 64 requests that are the next of their clients into a batch, and drops those
+    /// Takes the first `MOST_REQUESTS` requests that are the next of their clients into a batch, and drops those
     /// that ran already. The others wait on, in their order. There is no batch where none is next;
-    /// those that ran are dropped all the same.
+    /// those that ran are dropped all the same. Where none is next and none ran, what waits is only
+    /// looked through.
     ///
     /// `Full` comes exactly where `n` is above `GREATEST_NUMBER`. After it and after `NoMemory`
     /// nothing has changed.
@@ -80,13 +82,13 @@ impl Gather {
     ) -> Result<Option<Batch>, Fault>
         requires { 1 ≤ n }
         ensures batch { IfOk result (λ batch.
-            IsCut epoch n moment (taken most_requests sessions.now self.old) batch) }
-        ensures left { OnOk result (self.new ≡ left most_requests sessions.now self.old) }
+            IsCut epoch n moment (taken MOST_REQUESTS sessions.now self.old) batch) }
+        ensures left { OnOk result (self.new ≡ left MOST_REQUESTS sessions.now self.old) }
         ensures fits { IfOk result (λ batch. IfSome batch
-            (λ b. Fits most_requests sessions.now b.requests)) }
+            (λ b. Fits MOST_REQUESTS sessions.now b.requests)) }
 
-        ensures full { (result ≡ Err Fault.Full) ↔ (greatest_number < n) }
-        ensures no_memory { n ≤ greatest_number → IfErr result (λ fault. fault ≡ Fault.NoMemory) }
+        ensures full { (result ≡ Err Fault.Full) ↔ (GREATEST_NUMBER < n) }
+        ensures no_memory { n ≤ GREATEST_NUMBER → IfErr result (λ fault. fault ≡ Fault.NoMemory) }
         ensures err { OnErr result (self.new ≡ self.old) }
     {
         if n > GREATEST_NUMBER {
@@ -104,13 +106,18 @@ impl Gather {
         }))
     }
 
+    /// The requests of the next batch. Where none is next and none ran already, what waits is not
+    /// touched; else what waits on is put together anew.
     fn take_fresh(&mut self, alloc: Global, sessions: &Sessions) -> Result<Vec<Request>, AllocError>
         ensures taken { IfOk result (λ requests. requests.items
-            ≡ taken most_requests sessions.now self.old) }
-        ensures left { OnOk result (self.new ≡ left most_requests sessions.now self.old) }
-        ensures fits { IfOk result (λ requests. Fits most_requests sessions.now requests.items) }
+            ≡ taken MOST_REQUESTS sessions.now self.old) }
+        ensures left { OnOk result (self.new ≡ left MOST_REQUESTS sessions.now self.old) }
+        ensures fits { IfOk result (λ requests. Fits MOST_REQUESTS sessions.now requests.items) }
         ensures err { OnErr result (self.new ≡ self.old) }
     {
+        if all_wait_on(&self.held, sessions) {
+            return Ok(Vec::new(alloc));
+        }
         let len = self.held.len();
         let mut taken = Vec::with_capacity(alloc, len.min(MOST_REQUESTS))?;
         let mut left = IndexMap::with_capacity(alloc, len)?;

@@ -1,10 +1,11 @@
 //! Requests under their clients, in the order of arrival.
 
+ghost use Rattle.std.specs.List.{list_all};
 ghost use Rattle.std.specs.Prelude.{◌≡◌, ◌≤◌, ◌++◌, ◌∷◌, [], nat_eq, length, min, filter, not, vec_capacity, OnOk, OnErr};
 ghost use Rattle.indexmap.specs.IndexMap.{values, index_map_len, spare};
 ghost use Rattle.batches.specs.Waiting.{IsOneEach, keyed, added, is_later};
-ghost use Rattle.batches.specs.Cut.{is_past, taken as first, left as others};
-ghost use Rattle.batches.specs.Limits.{most_requests};
+ghost use Rattle.batches.specs.Cut.{is_past, waits_on, taken as first, left as others};
+ghost use Rattle.batches.specs.declared.batch.TheConstants.{MOST_REQUESTS};
 
 use crate::batch::MOST_REQUESTS;
 use indexmap::IndexMap;
@@ -57,6 +58,25 @@ fn has_run(sessions: &Sessions, request: &Request) -> bool
     }
 }
 
+/// Whether the request is neither the next of its client nor has run.
+fn is_ahead(sessions: &Sessions, request: &Request) -> bool
+    ensures { result ≡ waits_on sessions.now request.now }
+{
+    !sessions.fresh(request) && !has_run(sessions, request)
+}
+
+/// Whether no request is the next of its client, and none has run.
+pub fn all_wait_on(waiting: &IndexMap<u16, Request>, sessions: &Sessions) -> bool
+    ensures { result ≡ list_all (waits_on sessions.now) (values waiting.now) }
+{
+    for request in waiting.values() {
+        if !is_ahead(sessions, request) {
+            return false;
+        }
+    }
+    true
+}
+
 /// Parts what waits into the requests of the next batch and those that wait on. There is room for
 /// both, so no memory is needed.
 pub fn part(
@@ -68,10 +88,10 @@ pub fn part(
     requires one_each { IsOneEach (values waiting) }
     requires none_taken { taken.old.items ≡ [] }
     requires none_left { left.old.entries ≡ [] }
-    requires taken_fit { min (index_map_len waiting) most_requests ≤ vec_capacity taken.old }
+    requires taken_fit { min (index_map_len waiting) MOST_REQUESTS ≤ vec_capacity taken.old }
     requires left_fit { index_map_len waiting ≤ spare left.old }
-    ensures taken { taken.new.items ≡ first most_requests sessions.now (values waiting) }
-    ensures left { left.new.entries ≡ keyed (others most_requests sessions.now (values waiting)) }
+    ensures taken { taken.new.items ≡ first MOST_REQUESTS sessions.now (values waiting) }
+    ensures left { left.new.entries ≡ keyed (others MOST_REQUESTS sessions.now (values waiting)) }
 {
     for request in waiting.into_values() {
         if taken.len() < MOST_REQUESTS && sessions.fresh(&request) {

@@ -1,12 +1,11 @@
-//! The limits of a batch, as numbers. The function does nothing: what it says is its contract.
+//! A law of the limits. The function does nothing: what it says is its contract.
 
-ghost use Rattle.std.specs.Prelude.{◌≡◌};
-ghost use Rattle.batches.specs.Limits.{most_requests, greatest_number};
+ghost use Rattle.std.specs.Prelude.{◌≡◌, ◌+◌, ◌*◌, ◌^◌};
 
 use crate::batch::{GREATEST_NUMBER, MOST_REQUESTS};
 
-/// A batch has 64 requests at most, and its number is 2^58 - 1 at most.
-pub fn limits_of_a_batch()
-    ensures requests { MOST_REQUESTS ≡ most_requests }
-    ensures number { GREATEST_NUMBER ≡ greatest_number }
+/// The stamps of a batch's requests are `MOST_REQUESTS` times its number, and one more for each: up
+/// to the greatest number they are just the numbers below 2^64.
+pub fn stamps_are_below_2_to_64()
+    ensures { MOST_REQUESTS * (GREATEST_NUMBER + 1) ≡ 2 ^ 64 }
 {}

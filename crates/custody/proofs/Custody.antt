@@ -15,9 +15,9 @@ use Rattle.decrees.specs.declared.ballot.Ballot.TheVariants.{Token}
 use Rattle.decrees.specs.declared.node.Letter.{Letter}
 use Rattle.decrees.specs.declared.node.Node.{Node}
 use Rattle.decrees.specs.declared.node.Node.TheVariants.{Executor}
-use Rattle.decrees.specs.Count.{members}
+use Rattle.decrees.specs.Count.{member_count}
 use Rattle.decrees.specs.Standing.{standing}
-use Rattle.executor.specs.State.{StateView}
+use Rattle.states.specs.State.{StateView}
 use Rattle.executor.specs.Work.{TentativeView}
 use Rattle.agreement.specs.Letters.{Letters, Sent, here, there, RestsOn}
 use Rattle.agreement.proofs.Letters.{Sent-split}
@@ -30,7 +30,7 @@ use Rattle.one_run.specs.Chosen.{IsMade}
 use Rattle.one_run.proofs.Elements.{in_head, in_none, first_or_other}
 use Rattle.one_run.proofs.Tokens.{tells}
 use Rattle.custody.specs.Durable.{Durable, first_durable, tip, obeyed, executed_of, IsMember, In, Keeps}
-use Rattle.custody.specs.Machine.{Machine, said_of, AreOthers, Next, Hear, Choose, Complete, Say, Obey, Take, first_machine, Reached}
+use Rattle.custody.specs.Machine.{ExecutorMachine, said_of, AreOthers, Next, Hear, Choose, Complete, Say, Obey, Take, first_executor_machine, Reached}
 use Rattle.custody.specs.Laws.{ChosenIsMade, CommittedIsChosen, LastCommitIsKept}
 use Rattle.custody.proofs.Log.{take_front, take_whole, some_at, get_push, stands_next, Numbered, rises_to, one_commit, last_commit}
 use Rattle.custody.proofs.Kept.{In-left, Path, start, step, Path-rises, member_previous, Chain-push, Chain-in, Fate, kept, passed, rolled, broken, ExecOk, ExecOk-met, ExecOk-log, stands_chosen, undone_rollback, undone_commit}
@@ -62,14 +62,14 @@ TokenMade-more met more rounds new h k epoch n previous t m = record {
   new_epoch = m.new_epoch;
 }
 
-pub record Good (u : ℕ) (m : Machine) : Type 0 where
-  pub count : length m.executors ≡ members u
+pub record Good (u : ℕ) (m : ExecutorMachine) : Type 0 where
+  pub count : length m.executors ≡ member_count u
   pub rests : (i : ℕ) (d : Decree) → slice_get m.decrees i ≡ Some d → RestsOn u m.letters (take i m.decrees) d
   pub said : (e epoch n : ℕ) (previous t : token.Token) → Sent m.letters (Executor e) (Token epoch n previous t) → TokenMade (Contains m.met) (Contains m.rounds) epoch n previous t
   pub told : (s : StateView) → Contains m.met s → IsTold s
   pub execs : (e : ℕ) (x : Durable) → slice_get m.executors e ≡ Some x → ExecOk m.decrees m.letters (Contains m.met) (Contains m.rounds) e x
 
-numbered : {u : ℕ} {m : Machine} → Good u m → Numbered m.decrees
+numbered : {u : ℕ} {m : ExecutorMachine} → Good u m → Numbered m.decrees
 numbered good = record { next = λ i n t e. let r = good.rests i (Commit n t) e in omega (arith, r.next) }
 
 get_set : (xs : List Durable) (v : ℕ) (n : Durable) (i : ℕ) (s : Durable) → slice_get (slice_set xs v n) i ≡ Some s → ((i ≡ v) × (s ≡ n)) ⊎ ((i ≢ v) × (slice_get xs i ≡ Some s))
@@ -102,7 +102,7 @@ ExecOk-letters {log} {ls} {met} {rounds} {e} {x} new own ok = record {
   fate = λ epoch n previous t s. ⊎_elim (λ l. ok.fate epoch n previous t l) (λ r. own epoch n previous t r) (Sent-split ls new s);
 }
 
-heard : {u : ℕ} {m : Machine} (new : Letters) → AreOthers new → Good u m → Good u (record m { letters = m.letters ++ new })
+heard : {u : ℕ} {m : ExecutorMachine} (new : Letters) → AreOthers new → Good u m → Good u (record m { letters = m.letters ++ new })
 heard {u} {m} new others good = record {
   count = good.count;
   rests = λ i d e. RestsOn-more u m.letters new (take i m.decrees) d (good.rests i d e);
@@ -115,7 +115,7 @@ one_letter : {l : Letter Ballot} {x : Node} {b : Ballot} → Sent (l ∷ []) x b
 one_letter (here e f) = (e, f)
 one_letter (there h) = elim h [ ]
 
-says : {u : ℕ} {m : Machine} (e : ℕ) (x : Durable) (t : TentativeView) (to : Node) → Good u m → slice_get m.executors e ≡ Some x → In t x.chain
+says : {u : ℕ} {m : ExecutorMachine} (e : ℕ) (x : Durable) (t : TentativeView) (to : Node) → Good u m → slice_get m.executors e ≡ Some x → In t x.chain
     → Good u (record m { letters = m.letters ++ record { from = Executor e; to = to; body = said_of t } ∷ [] })
 says {u} {m} e x t to good at has =
     let mine = good.execs e x at in
@@ -162,7 +162,7 @@ says {u} {m} e x t to good at has =
 
 -- ---- decrees
 
-chooses : {u : ℕ} {m : Machine} (d : Decree) → Good u m → RestsOn u m.letters m.decrees d → Good u (record m { decrees = m.decrees ++ d ∷ [] })
+chooses : {u : ℕ} {m : ExecutorMachine} (d : Decree) → Good u m → RestsOn u m.letters m.decrees d → Good u (record m { decrees = m.decrees ++ d ∷ [] })
 chooses {u} {m} d good may = record {
   count = good.count;
   rests = λ i c e. ⊎_elim
@@ -237,7 +237,7 @@ made_told old e over = record { first = λ z. absurd (omega (arith, over.next, z
 more_told : (met : List StateView) (s : StateView) → ((x : StateView) → Contains met x → IsTold x) → IsTold s → (x : StateView) → Contains (met ++ s ∷ []) x → IsTold x
 more_told met s h k x c = ⊎_elim (h x) (λ r. ⊎_elim (λ (e : s ≡ x). subst IsTold e k) (λ n. absurd (in_none x n)) (first_or_other s x [] r)) (Contains-append_cases met (s ∷ []) x c)
 
-next_ok : {u : ℕ} {m : Machine} (now : Machine) → Good u m → Next u m now → Good u now
+next_ok : {u : ℕ} {m : ExecutorMachine} (now : ExecutorMachine) → Good u m → Next u m now → Good u now
 next_ok now good (Hear new others) = heard new others good
 next_ok now good (Choose d may) = chooses d good may
 next_ok {u} {m} now good (Complete e x t at level member) =
@@ -279,13 +279,13 @@ all_first zero x i e = absurd (cc)
 all_first (suc n) x zero e = cc
 all_first (suc n) x (suc i) e = all_first n x i e
 
-begun : (u : ℕ) → Good u (first_machine u)
+begun : (u : ℕ) → Good u (first_executor_machine u)
 begun u = record {
-  count = length-replicate (members u) first_durable;
+  count = length-replicate (member_count u) first_durable;
   rests = λ i d e. absurd (cc e);
   said = λ e epoch n previous t s. elim s [ ];
   told = λ s c. absurd (in_none s c);
-  execs = λ e x at. subst (ExecOk [] [] (Contains []) (Contains []) e) (all_first (members u) x e at) (record {
+  execs = λ e x at. subst (ExecOk [] [] (Contains []) (Contains []) e) (all_first (member_count u) x e at) (record {
     known = omega arith;
     stands = refl;
     below = omega arith;
@@ -297,13 +297,13 @@ begun u = record {
   });
 }
 
-pub reached_ok : (u : ℕ) (before : List Machine) (m : Machine) → Reached u before m → Good u m
+pub reached_ok : (u : ℕ) (before : List ExecutorMachine) (m : ExecutorMachine) → Reached u before m → Good u m
 reached_ok u [] m r = subst (Good u) (sym r) (begun u)
 reached_ok u (v ∷ vs) m r = next_ok m (reached_ok u vs v r.0) r.1
 
 -- ---- the laws
 
-made_of_tokens : {u : ℕ} {m : Machine} (good : Good u m) (before : List Decree) (d : Decree) → RestsOn u m.letters before d → IsMade (Contains m.met) (Contains m.rounds) (standing before) d
+made_of_tokens : {u : ℕ} {m : ExecutorMachine} (good : Good u m) (before : List Decree) (d : Decree) → RestsOn u m.letters before d → IsMade (Contains m.met) (Contains m.rounds) (standing before) d
 made_of_tokens {u} {m} good before (Commit n t) r =
     let who = Quorum-someone r.sent in
     let made = good.said who.0 (standing before).epoch n (standing before).token t who.1 in
@@ -334,7 +334,7 @@ pub committed_is_chosen : CommittedIsChosen
 committed_is_chosen u before m e x r at = let ok = (reached_ok u before m r).execs e x at in record { known = ok.have_known; committed = ok.have_chosen }
 
 -- from a committed state down to one that leads to it, tokens are those of Commits
-walk : {u : ℕ} {m : Machine} (good : Good u m) → ToldApart (Contains m.met) → (f s : StateView) (j : ℕ) → Path (Contains m.met) f s → slice_get m.decrees j ≡ Some (Commit s.number s.token) → 0 < f.number
+walk : {u : ℕ} {m : ExecutorMachine} (good : Good u m) → ToldApart (Contains m.met) → (f s : StateView) (j : ℕ) → Path (Contains m.met) f s → slice_get m.decrees j ≡ Some (Commit s.number s.token) → 0 < f.number
     → (i : ℕ) × (slice_get m.decrees i ≡ Some (Commit f.number f.token))
 walk good apart f s j (start h) e above = (j, e)
 walk {u} {m} good apart f s j (step {t = t} p at prev number) e above =
@@ -354,7 +354,7 @@ walk {u} {m} good apart f s j (step {t = t} p at prev number) e above =
     (last_commit m.decrees j (omega (arith, slice_get_within m.decrees j (Commit s.number s.token) e)))
 
 -- what is kept of the last Commit
-record Still (m : Machine) (x : Durable) (n : ℕ) (t : token.Token) : Type 0 where
+record Still (m : ExecutorMachine) (x : Durable) (n : ℕ) (t : token.Token) : Type 0 where
   state : StateView
   keeps : Keeps x state
   is_met : Contains m.met state
@@ -364,7 +364,7 @@ record Still (m : Machine) (x : Durable) (n : ℕ) (t : token.Token) : Type 0 wh
 either : (a b : ℕ) → (a ≤ b) ⊎ (b < a)
 either a b = ⊎_elim (λ (e : a ≡ b). inl (omega (arith, e))) (⊎_elim (λ (e : a < b). inl (omega (arith, e))) (λ (e : b < a). inr e)) (cases_order a b)
 
-still : {u : ℕ} {m : Machine} (good : Good u m) → ToldApart (Contains m.met) → (i n e : ℕ) (t : token.Token) (x : Durable) → slice_get m.decrees i ≡ Some (Commit n t) → (standing m.decrees).n ≡ n
+still : {u : ℕ} {m : ExecutorMachine} (good : Good u m) → ToldApart (Contains m.met) → (i n e : ℕ) (t : token.Token) (x : Durable) → slice_get m.decrees i ≡ Some (Commit n t) → (standing m.decrees).n ≡ n
     → ExecOk m.decrees m.letters (Contains m.met) (Contains m.rounds) e x → Fate m.decrees (Contains m.met) x (standing (take i m.decrees)).epoch n t → Still m x n t
 still good apart i n e t x at last ok (kept s h k a b d) = record { state = s; keeps = h; is_met = k; number = b; of_token = a }
 still {u} {m} good apart i n e t x at last ok (passed h) =

@@ -13,7 +13,7 @@ use Rattle.decrees.specs.declared.ballot.Ballot.TheVariants.{Token}
 use Rattle.decrees.specs.declared.node.Node.TheVariants.{Executor}
 use Rattle.decrees.specs.Standing.{standing, standing_after}
 use Rattle.decrees.specs.Votes.{token_eq}
-use Rattle.executor.specs.State.{StateView}
+use Rattle.states.specs.State.{StateView}
 use Rattle.executor.specs.Work.{TentativeView}
 use Rattle.agreement.specs.Letters.{Letters, Sent}
 use Rattle.one_run.specs.Met.{IsKnown}

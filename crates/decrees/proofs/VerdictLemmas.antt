@@ -5,7 +5,7 @@ use Rattle.std.specs.Option.{option_map_or}
 use Rattle.token.specs.declared.Token.{Token}
 use Rattle.decrees.specs.declared.standing.Standing.{Standing}
 use Rattle.decrees.specs.declared.votes.Verdict.TheVariants.{Commit, Hopeless, Wait}
-use Rattle.decrees.specs.Count.{members}
+use Rattle.decrees.specs.Count.{member_count}
 use Rattle.decrees.specs.Votes.{Vote, support, heard, backed, backed_below, is_hopeless}
 use Rattle.decrees.specs.Laws.{CommitIsBacked}
 
@@ -38,4 +38,4 @@ module _ (u : ℕ) (s : Standing) (votes : List Vote) where
 
 pub commit_is_backed : CommitIsBacked
 commit_is_backed u s votes token h =
-    backed_support u s votes (members u) token (by_verdict u s votes (backed u s votes) (is_hopeless u s votes) token h)
+    backed_support u s votes (member_count u) token (by_verdict u s votes (backed u s votes) (is_hopeless u s votes) token h)

@@ -7,9 +7,9 @@ count_below test zero = 0
 count_below test (suc n) = count_below test n + (if test n then 1 else 0)
 
 -- there are as many verifiers, and as many executors, where at most u of them may fail
-abbrev pub members : ℕ → ℕ
-members u = 2 * u + 1
+abbrev pub member_count : ℕ → ℕ
+member_count u = 2 * u + 1
 
 -- more than u of the members pass the test, so that any two such sets share a member
 abbrev pub is_quorum : ℕ → (ℕ → Bool) → Bool
-is_quorum u test = nat_lt u (count_below test (members u))
+is_quorum u test = nat_lt u (count_below test (member_count u))

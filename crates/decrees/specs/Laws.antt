@@ -5,7 +5,7 @@ use Rattle.decrees.specs.declared.decree.Decree.{Decree}
 use Rattle.decrees.specs.declared.standing.Standing.{Standing}
 use Rattle.decrees.specs.declared.votes.Verdict.TheVariants.{Commit}
 use Rattle.decrees.specs.Count.{is_quorum}
-use Rattle.decrees.specs.Standing.{standing, is_next, is_log}
+use Rattle.decrees.specs.Standing.{standing, may_follow, is_log}
 use Rattle.decrees.specs.Votes.{Vote, verdict, has_token}
 
 -- where the verdict is to commit a token, more than u executors have that token for the next number
@@ -14,4 +14,4 @@ CommitIsBacked = (u : ℕ) (s : Standing) (votes : List Vote) (token : Token) �
 
 -- with one decree more it is a log exactly where it was one and the decree may come next
 abbrev pub GrowsByOne : Type 0
-GrowsByOne = (log : List Decree) (d : Decree) → is_log (log ++ d ∷ []) ≡ (is_log log && is_next (standing log) d)
+GrowsByOne = (log : List Decree) (d : Decree) → is_log (log ++ d ∷ []) ≡ (is_log log && may_follow (standing log) d)

@@ -3,4 +3,4 @@ pub mod Standing
 pub mod Votes
 pub mod Laws
 pub mod Record
-pub mod RecordLaws
+pub mod RecordProofs

@@ -1,5 +1,5 @@
 -- The text of a decree in a record.
-use Rattle.std.specs.Prelude.{ℕ, List, [], ◌∷◌, ◌++◌}
+use Rattle.std.specs.Prelude.{ℕ, List, [], ◌∷◌, ◌++◌, flat_map}
 use Rattle.std.specs.Int.{w64}
 use Rattle.wire.specs.Number.{num, fixed}
 use Rattle.decrees.specs.declared.decree.Decree.{Decree}
@@ -13,3 +13,7 @@ commit_text c = num w64 c.0 ++ fixed 32 c.1
 abbrev pub decree_text : Decree → List ℕ
 decree_text Rollback = 0 ∷ []
 decree_text (Commit n token) = 1 ∷ commit_text (n, token.0)
+
+-- the texts of these decrees, one after another
+abbrev pub decrees_text : List Decree → List ℕ
+decrees_text decrees = flat_map decree_text decrees

@@ -17,14 +17,14 @@ abbrev pub standing : List Decree → Standing
 standing log = fold standing_after first_standing log
 
 -- the decree may come next: a Commit is of the number after the standing one
-abbrev pub is_next : Standing → Decree → Bool
-is_next s (Commit n token) = n == (s.n + 1)
-is_next s Rollback = true
+abbrev pub may_follow : Standing → Decree → Bool
+may_follow s (Commit n token) = n == (s.n + 1)
+may_follow s Rollback = true
 
 -- each decree could come next where it stands
 abbrev pub is_log_from : Standing → List Decree → Bool
 is_log_from s [] = true
-is_log_from s (d ∷ ds) = is_next s d && is_log_from (standing_after s d) ds
+is_log_from s (d ∷ ds) = may_follow s d && is_log_from (standing_after s d) ds
 
 abbrev pub is_log : List Decree → Bool
 is_log log = is_log_from first_standing log
@@ -34,7 +34,7 @@ abbrev pub decree_at : List Decree → ℕ → Option Decree
 decree_at log place = if place == 0 then None else slice_get log (place - 1)
 
 -- what a log keeps beside its decrees is what they stand for, and its numbers count them
-pub record Keeps (log : List Decree) (kept : Standing) : Type 0 where
+pub record IsStandingOf (log : List Decree) (kept : Standing) : Type 0 where
   pub is_standing : kept ≡ standing log
   pub begun : 1 ≤ kept.epoch
   pub counted : kept.n + kept.epoch ≡ length log + 1

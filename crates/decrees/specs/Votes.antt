@@ -8,7 +8,7 @@ use Rattle.decrees.specs.declared.standing.Standing.{Standing}
 use Rattle.decrees.specs.declared.votes.VoteKey.{VoteKey}
 use Rattle.decrees.specs.declared.votes.Verdict.{Verdict}
 use Rattle.decrees.specs.declared.votes.Verdict.TheVariants.{Wait, Commit, Hopeless}
-use Rattle.decrees.specs.Count.{count_below, members}
+use Rattle.decrees.specs.Count.{count_below, member_count}
 
 -- what names a vote, with its token
 abbrev pub Vote : Type 0
@@ -49,7 +49,7 @@ has_token s votes token executor = option_map_or (λ other. token_eq other token
 
 -- how many executors have the token
 abbrev pub support : ℕ → Standing → List Vote → Token → ℕ
-support u s votes token = count_below (has_token s votes token) (members u)
+support u s votes token = count_below (has_token s votes token) (member_count u)
 
 -- how many executors have the token that this one has
 abbrev pub support_of : ℕ → Standing → List Vote → ℕ → ℕ
@@ -62,7 +62,7 @@ greatest_below u s votes (suc e) = max (greatest_below u s votes e) (support_of 
 
 -- how many executors were not heard
 abbrev pub silent : ℕ → Standing → List Vote → ℕ
-silent u s votes = count_below (λ e. is_none (heard s votes e)) (members u)
+silent u s votes = count_below (λ e. is_none (heard s votes e)) (member_count u)
 
 -- the token of the first executor whose token more than u have
 abbrev pub backed_below : ℕ → Standing → List Vote → ℕ → Option Token
@@ -74,11 +74,11 @@ backed_below u s votes (suc e) =
 
 -- a token that more than u executors have
 abbrev pub backed : ℕ → Standing → List Vote → Option Token
-backed u s votes = backed_below u s votes (members u)
+backed u s votes = backed_below u s votes (member_count u)
 
 -- no token can come to more than u executors any more
 abbrev pub is_hopeless : ℕ → Standing → List Vote → Bool
-is_hopeless u s votes = nat_le (greatest_below u s votes (members u) + silent u s votes) u
+is_hopeless u s votes = nat_le (greatest_below u s votes (member_count u) + silent u s votes) u
 
 abbrev pub verdict : ℕ → Standing → List Vote → Verdict
 verdict u s votes = option_map_or (λ token. Commit token) (backed u s votes) (if is_hopeless u s votes then Hopeless else Wait)

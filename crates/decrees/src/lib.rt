@@ -8,8 +8,10 @@
 
 mod ballot;
 mod decree;
+mod heard;
 mod laws;
 mod log;
+mod log_text;
 mod node;
 mod record;
 mod standing;

@@ -1,6 +1,6 @@
 ghost use Rattle.std.specs.Prelude.{◌≡◌, ⊤};
 ghost use Rattle.decrees.specs.Record.{decree_text};
-ghost use Rattle.decrees.specs.RecordLaws.{decree_prefix_free};
+ghost use Rattle.decrees.specs.RecordProofs.{decree_prefix_free};
 
 use crate::decree::Decree;
 use proto::Fault;
@@ -12,7 +12,7 @@ use wire::{Record, Sink};
 impl Record for Decree {
     ghost fits = { λ _. ⊤ };
 
-    ghost spelling = { decree_text };
+    ghost encoding = { decree_text };
 
     fn put<S: Sink>(&self, sink: &mut S) -> Result<(), S::Refusal> {
         match self {

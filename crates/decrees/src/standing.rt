@@ -1,5 +1,5 @@
 ghost use Rattle.std.specs.Prelude.{◌≡◌, ◌<◌, ◌^◌, ◌-◌};
-ghost use Rattle.decrees.specs.Standing.{first_standing, standing_after as after, is_next as next};
+ghost use Rattle.decrees.specs.Standing.{first_standing, standing_after as after, may_follow as next};
 
 use crate::decree::Decree;
 use token::Token;
@@ -28,7 +28,7 @@ impl Standing {
     }
 
     /// Whether the decree may come next: a Commit has to be of the number after the standing one.
-    pub fn is_next(&self, decree: &Decree) -> bool
+    pub fn may_follow(&self, decree: &Decree) -> bool
         ensures { result ≡ next self.now decree.now }
     {
         match decree {

@@ -1,7 +1,7 @@
-ghost use Rattle.std.specs.Prelude.{◌≡◌, ◌<◌, ◌≤◌, ◌^◌, ◌-◌, [], IsTrue, IsOk, OnOk, OnErr, is_some};
-ghost use Rattle.decrees.specs.Votes.{votes_with, vote_of, open_votes, heard as heard_from, has_token as has, support as support_for, support_of, silent as silent_of, greatest_below, backed as backed_by, verdict as verdict_by};
-ghost use Rattle.decrees.specs.Count.{members};
+ghost use Rattle.std.specs.Prelude.{◌≡◌, ◌<◌, ◌^◌, ◌-◌, [], IsTrue, IsOk, OnOk, OnErr, is_some};
+ghost use Rattle.decrees.specs.Votes.{votes_with, vote_of, open_votes, heard as heard_from, verdict as verdict_by};
 
+use crate::heard::{Heard, MOST_EXECUTORS};
 use crate::standing::Standing;
 use indexmap::IndexMap;
 use std::alloc::{AllocError, Global};
@@ -75,7 +75,8 @@ impl Votes {
             .retain(|key, _| standing.epoch <= key.epoch && standing.n < key.n);
     }
 
-    fn heard(&self, standing: &Standing, executor: u8) -> Option<Token>
+    /// The executor's token for the number after the standing one.
+    fn token_of(&self, standing: &Standing, executor: u8) -> Option<Token>
         requires { standing.now.n < 2 ^ 64 - 1 }
         ensures { result ≡ heard_from standing.now self.now executor }
     {
@@ -88,97 +89,36 @@ impl Votes {
         self.votes.get(&key).copied()
     }
 
-    fn has_token(&self, standing: &Standing, token: &Token, executor: u8) -> bool
+    /// Reads the vote of each executor for the number after the standing one.
+    fn heard<'v>(&'v self, standing: &'v Standing) -> Heard<'v>
         requires { standing.now.n < 2 ^ 64 - 1 }
-        ensures { result ≡ has standing.now self.now token.now executor }
+        ensures votes { result.votes.now ≡ self.now }
+        ensures standing { result.standing.now ≡ standing.now }
     {
-        match self.heard(standing, executor) {
-            Some(other) => other == *token,
-            None => false,
+        let mut tokens = [None; MOST_EXECUTORS];
+        for executor in 0..MOST_EXECUTORS {
+            tokens[executor] = self.token_of(standing, executor as u8);
         }
-    }
-
-    fn support(&self, u: u8, standing: &Standing, token: &Token) -> usize
-        requires few { u < 4 }
-        requires numbered { standing.now.n < 2 ^ 64 - 1 }
-        ensures value { result ≡ support_for u standing.now self.now token.now }
-        ensures bound { result ≤ 7 }
-    {
-        let mut count = 0;
-        for executor in 0..2 * u + 1 {
-            if self.has_token(standing, token, executor) {
-                count += 1;
-            }
+        Heard {
+            votes: self,
+            standing,
+            tokens,
         }
-        count
-    }
-
-    fn support_of(&self, u: u8, standing: &Standing, executor: u8) -> usize
-        requires few { u < 4 }
-        requires numbered { standing.now.n < 2 ^ 64 - 1 }
-        ensures value { result ≡ support_of u standing.now self.now executor }
-        ensures bound { result ≤ 7 }
-    {
-        match self.heard(standing, executor) {
-            Some(token) => self.support(u, standing, &token),
-            None => 0,
-        }
-    }
-
-    fn silent(&self, u: u8, standing: &Standing) -> usize
-        requires few { u < 4 }
-        requires numbered { standing.now.n < 2 ^ 64 - 1 }
-        ensures value { result ≡ silent_of u standing.now self.now }
-        ensures bound { result ≤ 7 }
-    {
-        let mut count = 0;
-        for executor in 0..2 * u + 1 {
-            if self.heard(standing, executor).is_none() {
-                count += 1;
-            }
-        }
-        count
-    }
-
-    fn greatest(&self, u: u8, standing: &Standing) -> usize
-        requires few { u < 4 }
-        requires numbered { standing.now.n < 2 ^ 64 - 1 }
-        ensures value { result ≡ greatest_below u standing.now self.now (members u) }
-        ensures bound { result ≤ 7 }
-    {
-        let mut greatest = 0;
-        for executor in 0..2 * u + 1 {
-            greatest = greatest.max(self.support_of(u, standing, executor));
-        }
-        greatest
-    }
-
-    fn backed(&self, u: u8, standing: &Standing) -> Option<Token>
-        requires few { u < 4 }
-        requires numbered { standing.now.n < 2 ^ 64 - 1 }
-        ensures { result ≡ backed_by u standing.now self.now }
-    {
-        let mut backed = None;
-        for executor in 0..2 * u + 1 {
-            if backed.is_none() && usize::from(u) < self.support_of(u, standing, executor) {
-                backed = self.heard(standing, executor);
-            }
-        }
-        backed
     }
 
     /// What the votes say of the number after the standing one: of the executors 0 to `2u`, those
     /// count that were heard of it, in the standing epoch and over the standing token. A vote over
     /// another token counts as not heard.
-    pub fn verdict(&self, standing: &Standing, u: u8) -> Verdict
+    pub fn verdict(&self, u: u8, standing: &Standing) -> Verdict
         requires few { u < 4 }
         requires numbered { standing.now.n < 2 ^ 64 - 1 }
         ensures { result ≡ verdict_by u standing.now self.now }
     {
-        if let Some(token) = self.backed(u, standing) {
+        let heard = self.heard(standing);
+        if let Some(token) = heard.backed(u) {
             return Verdict::Commit(token);
         }
-        if self.greatest(u, standing) + self.silent(u, standing) <= usize::from(u) {
+        if heard.greatest(u) + heard.silent(u) <= usize::from(u) {
             Verdict::Hopeless
         } else {
             Verdict::Wait

@@ -1,4 +1,3 @@
-pub mod StateLemmas
 pub mod OrderLemmas
 pub mod PartialLemmas
 pub mod RoundLemmas
@@ -7,14 +6,13 @@ pub mod KeptLemmas
 pub mod GroupLemmas
 pub mod DoneLemmas
 pub mod ThroughLemmas
+pub mod LeftLemmas
 pub mod GroupRunLemmas
 pub mod SpreadLemmas
 pub mod RanLemmas
 pub mod PutBackLemmas
-pub mod PageTextLemmas
-pub mod EntryLemmas
-pub mod RecordLemmas
 pub mod ReplyLemmas
 pub mod MemberLemmas
 pub mod OneRoundLemmas
 pub mod TaskLemmas
+pub mod OtherPageLemmas

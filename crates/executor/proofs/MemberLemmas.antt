@@ -3,25 +3,27 @@ use Rattle.std.proofs.Common.{◌≡◌, ℕ, true, arith, length, ◌∷◌, �
 use Rattle.std.specs.Prelude.{◌==◌}
 use Rattle.std.proofs.lemmas.Bool.Decides.{nat_tests}
 use Rattle.std.proofs.lemmas.List.{append-nil}
-use Rattle.proto.specs.declared.fault.Fault.{Fault}
+use Rattle.base.specs.declared.fault.Fault.{Fault}
 use Rattle.items.specs.Map.{Items}
 use Rattle.sessions.specs.declared.request.Request.{Request}
 use Rattle.sessions.specs.Fresh.{Replies}
 use Rattle.batches.specs.declared.batch.Batch.{Batch}
-use Rattle.wire.specs.Record.{Always, NoFront, Refused}
+use Rattle.wire.specs.Record.{Always, NoPrefix, Refused}
 use Rattle.wire.specs.Batch.{batch_text}
 use Rattle.wire.specs.BatchLaws.{batch_prefix_free}
 use Rattle.wire.specs.Session.{sessions_text}
 use Rattle.wire.proofs.Values.{Refused-weaker}
 use Rattle.executor.specs.declared.answered.Answered.{Answered}
-use Rattle.executor.specs.State.{StateView}
-use Rattle.executor.specs.Fresh.{fresh}
+use Rattle.states.specs.State.{StateView}
+use Rattle.executor.specs.Fresh.{runners_among}
 use Rattle.executor.specs.Work.{TentativeView}
-use Rattle.executor.specs.Kept.{kept_for, AreKept, LackOne, Follows, IsOver}
-use Rattle.executor.specs.declared.head.Head.{Head}
-use Rattle.executor.specs.Records.{head_of, head_text, changes_text, after_text, member_text, OneMember, WholeMember, BaseIsTold}
-use Rattle.executor.specs.HeadLaws.{head_prefix_free}
-use Rattle.executor.proofs.RecordLemmas.{after_free}
+use Rattle.states.specs.Followed.{IsSuccessor}
+use Rattle.executor.specs.Kept.{kept_for, AreKept, LackOne, IsTentativeOver}
+use Rattle.states.specs.declared.head.Head.{Head}
+use Rattle.states.specs.StateRecord.{head_of_state, head_text, changes_text, after_text}
+use Rattle.executor.specs.MemberRecord.{member_text, OneMember, WholeMember, BaseIsTold}
+use Rattle.states.specs.HeadProofs.{head_prefix_free}
+use Rattle.states.proofs.RecordLemmas.{after_free}
 use Rattle.executor.proofs.ReplyLemmas.{one_list}
 
 pub empty_is : (xs : List ℕ) → (length xs == 0) ≡ true → xs ≡ []
@@ -31,20 +33,20 @@ empty_is (x ∷ xs) e =
 
 -- no tentative state over the base has this record
 abbrev pub NoMember : StateView → List ℕ → Type 0
-NoMember base bytes = (t : TentativeView) → IsOver base t → bytes ≡ member_text t → ⊥
+NoMember base bytes = (t : TentativeView) → IsTentativeOver base t → bytes ≡ member_text t → ⊥
 
-pub no_batch : (base : StateView) (bytes : List ℕ) (e : Fault) → Refused e (NoFront Always batch_text bytes) → Refused e (NoMember base bytes)
-no_batch base bytes e = Refused-weaker e (λ (none : NoFront Always batch_text bytes) t over same. none.none t.batch (after_text t.before.items t.after) tt same)
+pub no_batch : (base : StateView) (bytes : List ℕ) (e : Fault) → Refused e (NoPrefix Always batch_text bytes) → Refused e (NoMember base bytes)
+no_batch base bytes e = Refused-weaker e (λ (none : NoPrefix Always batch_text bytes) t over same. none.none t.batch (after_text t.before.items t.after) tt same)
 
 -- the same of what was lent
-pub same_lack : {s s' before before' : Replies} {rs rs' : List Request} (e : Fault) → s ≡ s' → before ≡ before' → rs ≡ rs' → Refused e (LackOne s (fresh before rs)) → Refused e (LackOne s' (fresh before' rs'))
-same_lack {s} {s'} {before} {before'} {rs} {rs'} e a b c = subst (λ (p : (Replies × Replies) × List Request). Refused e (LackOne p.0.0 (fresh p.0.1 p.1))) {x = ((s, before), rs)} {y = ((s', before'), rs')} (λ i. ((a i, b i), c i))
+pub same_lack : {s s' before before' : Replies} {rs rs' : List Request} (e : Fault) → s ≡ s' → before ≡ before' → rs ≡ rs' → Refused e (LackOne s (runners_among before rs)) → Refused e (LackOne s' (runners_among before' rs'))
+same_lack {s} {s'} {before} {before'} {rs} {rs'} e a b c = subst (λ (p : (Replies × Replies) × List Request). Refused e (LackOne p.0.0 (runners_among p.0.1 p.1))) {x = ((s, before), rs)} {y = ((s', before'), rs')} (λ i. ((a i, b i), c i))
 
-pub same_kept : {s s' before before' : Replies} {rs rs' : List Request} (replies : List Answered) → s ≡ s' → before ≡ before' → rs ≡ rs' → AreKept s (fresh before rs) replies → AreKept s' (fresh before' rs') replies
-same_kept {s} {s'} {before} {before'} {rs} {rs'} replies a b c = subst (λ (p : (Replies × Replies) × List Request). AreKept p.0.0 (fresh p.0.1 p.1) replies) {x = ((s, before), rs)} {y = ((s', before'), rs')} (λ i. ((a i, b i), c i))
+pub same_kept : {s s' before before' : Replies} {rs rs' : List Request} (replies : List Answered) → s ≡ s' → before ≡ before' → rs ≡ rs' → AreKept s (runners_among before rs) replies → AreKept s' (runners_among before' rs') replies
+same_kept {s} {s'} {before} {before'} {rs} {rs'} replies a b c = subst (λ (p : (Replies × Replies) × List Request). AreKept p.0.0 (runners_among p.0.1 p.1) replies) {x = ((s, before), rs)} {y = ((s', before'), rs')} (λ i. ((a i, b i), c i))
 
 module _ (base : StateView) (bytes : List ℕ) (batch : Batch) (rest : List ℕ) (got : bytes ≡ batch_text batch ++ rest) where
-  same_batch : (t : TentativeView) → IsOver base t → bytes ≡ member_text t → (batch ≡ t.batch) × (rest ≡ after_text base.items t.after)
+  same_batch : (t : TentativeView) → IsTentativeOver base t → bytes ≡ member_text t → (batch ≡ t.batch) × (rest ≡ after_text base.items t.after)
   same_batch t over same =
       let both = batch_prefix_free.apart batch t.batch rest (after_text t.before.items t.after) (sym got ∙ same) in
       (both.0, both.1 ∙ ap (λ (b : StateView). after_text b.items t.after) over.over)
@@ -52,46 +54,46 @@ module _ (base : StateView) (bytes : List ℕ) (batch : Batch) (rest : List ℕ)
   pub other_number : (batch.n ≡ base.number + 1 → ⊥) → NoMember base bytes
   other_number wrong t over same = wrong (ap (λ (b : Batch). b.n) (same_batch t over same).0 ∙ (over.is.next ∙ ap (λ (b : StateView). b.number + 1) over.over))
 
-  pub no_after : (e : Fault) → Refused e (NoFront (Follows base batch) (after_text base.items) rest) → Refused e (NoMember base bytes)
-  no_after e = Refused-weaker e (λ (none : NoFront (Follows base batch) (after_text base.items) rest) t over same.
+  pub no_after : (e : Fault) → Refused e (NoPrefix (IsSuccessor base batch) (after_text base.items) rest) → Refused e (NoMember base bytes)
+  no_after e = Refused-weaker e (λ (none : NoPrefix (IsSuccessor base batch) (after_text base.items) rest) t over same.
       let both = same_batch t over same in
-      none.none t.after [] (subst (λ (b : StateView). Follows b batch t.after) over.over (subst (λ (b : Batch). Follows t.before b t.after) (sym both.0) over.is.after))
+      none.none t.after [] (subst (λ (b : StateView). IsSuccessor b batch t.after) over.over (subst (λ (b : Batch). IsSuccessor t.before b t.after) (sym both.0) over.is.after))
       (both.1 ∙ sym (append-nil (after_text base.items t.after))))
 
   module _ (after : StateView) (left : List ℕ) (more : rest ≡ after_text base.items after ++ left) where
-    same_after : (t : TentativeView) → IsOver base t → bytes ≡ member_text t → (after ≡ t.after) × (left ≡ [])
+    same_after : (t : TentativeView) → IsTentativeOver base t → bytes ≡ member_text t → (after ≡ t.after) × (left ≡ [])
     same_after t over same = (after_free base.items).apart after t.after left [] (sym more ∙ ((same_batch t over same).1 ∙ sym (append-nil (after_text base.items t.after))))
 
     pub too_long : (left ≡ [] → ⊥) → NoMember base bytes
     too_long wrong t over same = wrong (same_after t over same).1
 
     -- what a tentative state's sessions keep
-    kept_again : (t : TentativeView) → IsOver base t → bytes ≡ member_text t → AreKept after.sessions (fresh base.sessions batch.requests) t.replies
+    kept_again : (t : TentativeView) → IsTentativeOver base t → bytes ≡ member_text t → AreKept after.sessions (runners_among base.sessions batch.requests) t.replies
     kept_again t over same =
         let both = same_batch t over same in
         let is = (same_after t over same).0 in
-        (λ i. map (kept_for (is i).sessions) (fresh (sym over.over i).sessions (both.0 i).requests)) ∙ over.is.kept
+        (λ i. map (kept_for (is i).sessions) (runners_among (sym over.over i).sessions (both.0 i).requests)) ∙ over.is.kept
 
-    pub no_reply : (e : Fault) → Refused e (LackOne after.sessions (fresh base.sessions batch.requests)) → Refused e (NoMember base bytes)
-    no_reply e = Refused-weaker e (λ (none : LackOne after.sessions (fresh base.sessions batch.requests)) t over same. none t.replies (kept_again t over same))
+    pub no_reply : (e : Fault) → Refused e (LackOne after.sessions (runners_among base.sessions batch.requests)) → Refused e (NoMember base bytes)
+    no_reply e = Refused-weaker e (λ (none : LackOne after.sessions (runners_among base.sessions batch.requests)) t over same. none t.replies (kept_again t over same))
 
-    module _ (before : StateView) (shared : before ≡ base) (replies : List Answered) (kept : AreKept after.sessions (fresh base.sessions batch.requests) replies) where
+    module _ (before : StateView) (shared : before ≡ base) (replies : List Answered) (kept : AreKept after.sessions (runners_among base.sessions batch.requests) replies) where
       abbrev found : TentativeView
       found = record { before = before; batch = batch; after = after; replies = replies }
 
-      pub same_member : (t : TentativeView) → IsOver base t → bytes ≡ member_text t → found ≡ t
+      pub same_member : (t : TentativeView) → IsTentativeOver base t → bytes ≡ member_text t → found ≡ t
       same_member t over same =
           let both = same_batch t over same in
           let is = (same_after t over same).0 in
           let listed = one_list replies t.replies (sym kept ∙ kept_again t over same) in
           λ i. record { before = (shared ∙ sym over.over) i; batch = both.0 i; after = is i; replies = listed i }
 
-      pub is_over : batch.n ≡ base.number + 1 → Follows base batch after → IsOver base found
+      pub is_over : batch.n ≡ base.number + 1 → IsSuccessor base batch after → IsTentativeOver base found
       is_over next follows = record {
         is = record {
           next = next ∙ ap (λ (b : StateView). b.number + 1) (sym shared);
-          after = subst (λ (b : StateView). Follows b batch after) (sym shared) follows;
-          kept = subst (λ (b : StateView). AreKept after.sessions (fresh b.sessions batch.requests) replies) (sym shared) kept;
+          after = subst (λ (b : StateView). IsSuccessor b batch after) (sym shared) follows;
+          kept = subst (λ (b : StateView). AreKept after.sessions (runners_among b.sessions batch.requests) replies) (sym shared) kept;
         };
         over = shared;
       }
@@ -115,14 +117,14 @@ one_member t u over same =
     (both.0, after.0)
 
 -- a head stands first
-head_first : (before : Items) (s : StateView) → after_text before s ≡ head_text (head_of s) ++ (sessions_text s.sessions ++ changes_text before s.items)
+head_first : (before : Items) (s : StateView) → after_text before s ≡ head_text (head_of_state s) ++ (sessions_text s.sessions ++ changes_text before s.items)
 unfolding after_text
-head_first before s = append_assoc (head_text (head_of s)) (sessions_text s.sessions) (changes_text before s.items)
+head_first before s = append_assoc (head_text (head_of_state s)) (sessions_text s.sessions) (changes_text before s.items)
 
 pub base_is_told : BaseIsTold
 base_is_told t u is other same =
     let both = batch_prefix_free.apart t.batch u.batch (after_text t.before.items t.after) (after_text u.before.items u.after) same in
-    let heads = head_prefix_free.apart (head_of t.after) (head_of u.after)
+    let heads = head_prefix_free.apart (head_of_state t.after) (head_of_state u.after)
     (sessions_text t.after.sessions ++ changes_text t.before.items t.after.items) (sessions_text u.after.sessions ++ changes_text u.before.items u.after.items)
     (sym (head_first t.before.items t.after) ∙ (both.1 ∙ head_first u.before.items u.after)) in
     let number : t.batch.n ≡ u.batch.n = ap (λ (b : Batch). b.n) both.0 in (

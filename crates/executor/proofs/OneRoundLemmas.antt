@@ -6,13 +6,14 @@ use Rattle.std.proofs.lemmas.Bool.{eqb-true}
 use Rattle.items.specs.Map.{Items, alive}
 use Rattle.item_steps.specs.Steps.{steps}
 use Rattle.item_steps.specs.Schedule.{Placed, IsInterleaving, items_after, answers_in}
-use Rattle.item_steps.specs.declared.step.Place.{Place}
+use Rattle.item_steps.specs.declared.step.Stamp.{Stamp}
 use Rattle.item_steps.specs.declared.step.Answer.{Answer}
 use Rattle.batches.specs.declared.batch.Batch.{Batch}
 use Rattle.executor.specs.declared.answered.Answered.{Answered}
-use Rattle.executor.specs.State.{StateView, with_token}
+use Rattle.states.specs.State.{StateView, with_token}
 use Rattle.executor.specs.Fresh.{Runner}
-use Rattle.executor.specs.Round.{runners, moment_of, first_place, steps_in, GroupsRun, answered, kept_after, Round}
+use Rattle.states.specs.Followed.{moment_of}
+use Rattle.executor.specs.Round.{runners, first_place, steps_in, GroupsRun, answered, kept_after, Round}
 use Rattle.executor.specs.Orders.{orders_in, orders_of}
 use Rattle.round.proofs.Lists.{set_else}
 use Rattle.executor.proofs.OrderLemmas.{same_or_not}
@@ -22,7 +23,7 @@ use Rattle.executor.proofs.RoundLemmas.{get_map, all_empty, fresh_apart}
 -- ---- groups in the same orders
 
 -- groups that run in the same orders lead to the same items and answers
-groups_same : (f : ℕ → List (List Placed)) (base : Place) (gs hs : List ℕ) (m k new now : Items) (seen also : List (ℕ × Answer)) → m ≡ k
+groups_same : (f : ℕ → List (List Placed)) (base : Stamp) (gs hs : List ℕ) (m k new now : Items) (seen also : List (ℕ × Answer)) → m ≡ k
     → (a : GroupsRun f base m gs new seen) (b : GroupsRun f base k hs now also)
     → orders_in f base m gs new seen a ≡ orders_in f base k hs now also b → (new ≡ now) × (seen ≡ also)
 groups_same f base [] [] m k new now seen also e a b same = (a.0 ∙ e ∙ sym b.0, a.1 ∙ sym b.1)

@@ -5,12 +5,13 @@ use Rattle.std.specs.List.{range_with_len}
 use Rattle.std.proofs.lemmas.Option.{slice_get_within, get_or_from_slice_get, slice_get-get_or}
 use Rattle.items.specs.Map.{Items, alive}
 use Rattle.item_steps.specs.Schedule.{Placed, IsInterleaving, items_after, answers_in, answers_at}
-use Rattle.item_steps.specs.declared.step.Place.{Place}
+use Rattle.item_steps.specs.declared.step.Stamp.{Stamp}
 use Rattle.item_steps.specs.declared.step.Answer.{Answer}
 use Rattle.batches.specs.declared.batch.Batch.{Batch}
-use Rattle.executor.specs.Running.{Running}
-use Rattle.executor.specs.State.{StateView}
-use Rattle.executor.specs.Round.{runners, moment_of, first_place, steps_in, GroupsRun}
+use Rattle.executor.specs.BatchRequest.{BatchRequest}
+use Rattle.states.specs.State.{StateView}
+use Rattle.states.specs.Followed.{moment_of}
+use Rattle.executor.specs.Round.{runners, first_place, steps_in, GroupsRun}
 use Rattle.executor.specs.Work.{Progress, all_begun}
 
 -- what holds of each member of a list
@@ -24,14 +25,14 @@ pub all-of-each : {X : Type 0} (P : X → Type 0) (xs : List X) → Each P xs �
 all-of-each P xs h i d l = h i (get_or xs i d) (slice_get-get_or xs i d l)
 
 -- the steps that a request of the group has made
-abbrev pub made_in : ℕ → Running → List Placed
+abbrev pub made_in : ℕ → BatchRequest → List Placed
 made_in group r = if r.group == group then map (λ step. (r.place, step)) (take (length r.answers) r.steps) else []
 
-abbrev pub forget : Running → Running
+abbrev pub forget : BatchRequest → BatchRequest
 forget r = record { place = r.place; group = r.group; steps = r.steps; answers = [] }
 
 module _ (base : StateView) (batch : Batch) (ordered : Bool) where
-  abbrev pub first : Place
+  abbrev pub first : Stamp
   first = first_place base batch
 
   abbrev pub groups_run : Items → List ℕ → Items → List (ℕ × Answer) → Type 0
@@ -50,4 +51,4 @@ module _ (base : StateView) (batch : Batch) (ordered : Bool) where
     pub above : Each (λ r. w.group < r.group → r.answers ≡ []) w.running
     pub below : Each (λ r. r.group < w.group → length r.steps ≤ length r.answers) w.running
     pub within : Each (λ r. length r.answers ≤ length r.steps) w.running
-    pub places : (i j : ℕ) (r s : Running) → slice_get w.running i ≡ Some r → slice_get w.running j ≡ Some s → r.place ≡ s.place → i ≡ j
+    pub places : (i j : ℕ) (r s : BatchRequest) → slice_get w.running i ≡ Some r → slice_get w.running j ≡ Some s → r.place ≡ s.place → i ≡ j

@@ -5,17 +5,17 @@ use Rattle.std.proofs.lemmas.Bool.{eqb-true, ltb-true}
 use Rattle.std.proofs.lemmas.List.{length-map, take_at}
 use Rattle.items.specs.Map.{Items}
 use Rattle.item_steps.specs.Schedule.{placed, stamped, answers_in, answers_at, GroupRuns}
-use Rattle.item_steps.specs.declared.step.Place.{Place}
+use Rattle.item_steps.specs.declared.step.Stamp.{Stamp}
 use Rattle.item_steps.specs.declared.step.Answer.{Answer}
 use Rattle.item_steps.specs.declared.group.Task.{Task}
 use Rattle.batches.specs.declared.batch.Batch.{Batch}
-use Rattle.executor.specs.Running.{Running}
-use Rattle.executor.specs.State.{StateView}
+use Rattle.executor.specs.BatchRequest.{BatchRequest}
+use Rattle.states.specs.State.{StateView}
 use Rattle.executor.specs.Round.{first_place, runners}
 use Rattle.executor.specs.Work.{Progress, Worked, IsNext, is_group_done, started, begun, all_begun}
 use Rattle.round.specs.Sittings.{Running as RanTask}
 use Rattle.executor.specs.Through.{later}
-use Rattle.executor.specs.GroupRun.{task_of, tasks_in, emptied, answered_by, ran_of, IsUntouched}
+use Rattle.executor.specs.GroupRun.{task_of_request, tasks_in, emptied, answered_by, ran_of, IsUntouched}
 use Rattle.item_steps.proofs.ScheduleLemmas.{stamped_first}
 use Rattle.executor.proofs.PartialLemmas.{Each, each-of-all, all-of-each}
 use Rattle.executor.proofs.RoundLemmas.{get_map}
@@ -25,7 +25,7 @@ use Rattle.executor.proofs.ThroughLemmas.{same_later}
 use Rattle.executor.proofs.SpreadLemmas.{spread_orders, group_is_spread}
 
 -- to a request that was not begun nothing else is answered
-answers_are : (group : ℕ) (all : List (ℕ × Answer)) (running : List Running) → Each (λ r. r.group ≡ group → r.answers ≡ []) running
+answers_are : (group : ℕ) (all : List (ℕ × Answer)) (running : List BatchRequest) → Each (λ r. r.group ≡ group → r.answers ≡ []) running
     → map (with_answers group all) running ≡ map (answered_by group (λ task. answers_at task.place all)) running
 answers_are group all [] untouched = refl
 answers_are group all (r ∷ running) untouched = (λ i. one (r.group == group) refl i ∷ answers_are group all running (λ j. untouched (suc j)) i)
@@ -45,7 +45,7 @@ pub record GroupRan (base : StateView) (batch : Batch) (ordered : Bool) (w : Pro
 pub group_ran : (base : StateView) (batch : Batch) (ordered : Bool) (w : Progress) → Worked base batch ordered w → IsUntouched w → (now : Items) (answers : List (List Answer))
     → GroupRuns (first_place base batch) w.items (tasks_in w.group w.running) now answers → GroupRan base batch ordered w now answers
 group_ran base batch ordered w worked untouched now answers runs =
-    let each = each-of-all (λ (r : Running). r.group ≡ w.group → r.answers ≡ []) w.running untouched in
+    let each = each-of-all (λ (r : BatchRequest). r.group ≡ w.group → r.answers ≡ []) w.running untouched in
     let orders = spread_orders runs.order (placed (tasks_in w.group w.running)) (map (left_in w.group) w.running) (group_is_spread w.group w.running each) runs.interleaves in
     let r = ran base batch ordered runs.order w worked orders in
     let all : List (ℕ × Answer) = answers_in (first_place base batch) w.items runs.order in
@@ -64,13 +64,13 @@ pub untouched_next : (base : StateView) (batch : Batch) (ordered : Bool) (w : Pr
 untouched_next base batch ordered w worked next n =
     let p = worked-partial base batch ordered w worked in
     let above : w.group < next = ltb-true w.group next n.above in
-    all-of-each (λ (r : Running). r.group ≡ next → r.answers ≡ []) w.running (λ i r at g. p.above i r at (omega (arith, above, g)))
+    all-of-each (λ (r : BatchRequest). r.group ≡ next → r.answers ≡ []) w.running (λ i r at g. p.above i r at (omega (arith, above, g)))
 
 -- no step was made of a batch that was just begun
 pub untouched_started : (base : StateView) (batch : Batch) (ordered : Bool) (group : ℕ) → IsUntouched (started base batch ordered group)
 untouched_started base batch ordered group =
-    all-of-each (λ (r : Running). r.group ≡ group → r.answers ≡ []) (all_begun base batch ordered)
-    (λ i r at g. (let b = get_map (begun batch ordered) (runners base batch) i r at in ap (λ (x : Running). x.answers) b.2))
+    all-of-each (λ (r : BatchRequest). r.group ≡ group → r.answers ≡ []) (all_begun base batch ordered)
+    (λ i r at g. (let b = get_map (begun batch ordered) (runners base batch) i r at in ap (λ (x : BatchRequest). x.answers) b.2))
 
 -- ---- what a round of a group leaves of its work
 
@@ -85,40 +85,40 @@ zip_ran answers_to (r ∷ ran) (t ∷ tasks) e f =
     let later_answers : map (λ x. x.answers) ran ≡ map answers_to tasks = cc f in
     (λ i. record { task = task i; answers = answers i } ∷ zip_ran answers_to ran tasks later_tasks later_answers i)
 
-groups_kept : (group : ℕ) (answers_to : Task → List Answer) (running : List Running) → map (λ r. r.group) (map (answered_by group answers_to) running) ≡ map (λ r. r.group) running
+groups_kept : (group : ℕ) (answers_to : Task → List Answer) (running : List BatchRequest) → map (λ r. r.group) (map (answered_by group answers_to) running) ≡ map (λ r. r.group) running
 groups_kept group answers_to [] = refl
 groups_kept group answers_to (r ∷ running) = (λ i. one (r.group == group) i ∷ groups_kept group answers_to running i)
   where
-    one : (b : Bool) → (if b then record r { answers = answers_to (task_of r) } else r).group ≡ r.group
+    one : (b : Bool) → (if b then record r { answers = answers_to (task_of_request r) } else r).group ≡ r.group
     one true = refl
     one false = refl
 
--- a list of so many members after its front was lent and written
-abbrev pub written : ℕ → List Running → List Running → List Running
+-- a list of so many members after its first ones were lent and written
+abbrev pub written : ℕ → List BatchRequest → List BatchRequest → List BatchRequest
 written count new old = take count (new ++ drop (length new) old)
 
-pub record RoundDone (base : StateView) (batch : Batch) (ordered : Bool) (w : Progress) (now : Items) (running : List Running) : Type 0 where
+pub record RoundDone (base : StateView) (batch : Batch) (ordered : Bool) (w : Progress) (now : Items) (running : List BatchRequest) : Type 0 where
   pub worked : Worked base batch ordered (record { items = now; running = running; group = w.group })
   pub done : IsTrue (is_group_done (record { items = now; running = running; group = w.group }))
   pub left : later (record { items = now; running = running; group = w.group }) ≡ later w
 
 -- The steps were taken of a list of requests that was lent, and put back, with their answers, to one that was lent again.
-pub record Lent (w : Progress) (count : ℕ) (lent taken : List Running) (tasks : List Task) (ran : List RanTask) (again put : List Running) : Type 0 where
+pub record Lent (w : Progress) (count : ℕ) (lent taken : List BatchRequest) (tasks : List Task) (ran : List RanTask) (again put : List BatchRequest) : Type 0 where
   pub whole : count ≡ length w.running
   pub same : lent ≡ w.running
   pub taken_is : taken ≡ map (emptied w.group) lent
   pub tasks_are : tasks ≡ tasks_in w.group lent
   pub again_is : again ≡ written count taken w.running
   pub long : length put ≡ length again
-  pub puts : (before : List Running) (answers_to : Task → List Answer) → again ≡ map (emptied w.group) before → ran ≡ map (ran_of answers_to) (tasks_in w.group before) → put ≡ map (answered_by w.group answers_to) before
+  pub puts : (before : List BatchRequest) (answers_to : Task → List Answer) → again ≡ map (emptied w.group) before → ran ≡ map (ran_of answers_to) (tasks_in w.group before) → put ≡ map (answered_by w.group answers_to) before
 
 pub round_done : (base : StateView) (batch : Batch) (ordered : Bool) (w : Progress) → Worked base batch ordered w → IsUntouched w
-    → (place : Place) → place ≡ stamped (first_place base batch) 0 → (count : ℕ) (lent taken : List Running) (tasks : List Task) (now : Items) (ran : List RanTask) (again put : List Running)
+    → (place : Stamp) → place ≡ stamped (first_place base batch) 0 → (count : ℕ) (lent taken : List BatchRequest) (tasks : List Task) (now : Items) (ran : List RanTask) (again put : List BatchRequest)
     → Lent w count lent taken tasks ran again put → GroupRuns place w.items tasks now (map (λ r. r.answers) ran) → map (λ r. r.task) ran ≡ tasks
     → RoundDone base batch ordered w now (written count put (written count taken w.running))
 round_done base batch ordered w worked untouched place at count lent taken tasks now ran again put l runs back =
     let are : tasks ≡ tasks_in w.group w.running = l.tasks_are ∙ ap (tasks_in w.group) l.same in
-    let from_first = subst (λ (p : Place). GroupRuns p w.items tasks now (map (λ r. r.answers) ran)) (at ∙ stamped_first (first_place base batch)) runs in
+    let from_first = subst (λ (p : Stamp). GroupRuns p w.items tasks now (map (λ r. r.answers) ran)) (at ∙ stamped_first (first_place base batch)) runs in
     let all = subst (λ (ts : List Task). GroupRuns (first_place base batch) w.items ts now (map (λ r. r.answers) ran)) are from_first in
     let g = group_ran base batch ordered w worked untouched now (map (λ r. r.answers) ran) all in
     let emptied_all : taken ≡ map (emptied w.group) w.running = l.taken_is ∙ ap (map (emptied w.group)) l.same in
@@ -126,10 +126,10 @@ round_done base batch ordered w worked untouched place at count lent taken tasks
     let again_is : again ≡ taken = l.again_is ∙ take_at taken (drop (length taken) w.running) count taken_long in
     let put_is : put ≡ map (answered_by w.group g.answers_to) w.running =
     l.puts w.running g.answers_to (again_is ∙ emptied_all) (zip_ran g.answers_to ran (tasks_in w.group w.running) (back ∙ are) g.each) in
-    let rest : List Running = written count taken w.running in
+    let rest : List BatchRequest = written count taken w.running in
     let is : written count put rest ≡ map (answered_by w.group g.answers_to) w.running = take_at put (drop (length put) rest) count (l.long ∙ ap length again_is ∙ taken_long) ∙ put_is in
     record {
-      worked = subst (λ (rs : List Running). Worked base batch ordered (record { items = now; running = rs; group = w.group })) (sym is) g.worked;
-      done = subst (λ (rs : List Running). IsTrue (is_group_done (record { items = now; running = rs; group = w.group }))) (sym is) g.done;
+      worked = subst (λ (rs : List BatchRequest). Worked base batch ordered (record { items = now; running = rs; group = w.group })) (sym is) g.worked;
+      done = subst (λ (rs : List BatchRequest). IsTrue (is_group_done (record { items = now; running = rs; group = w.group }))) (sym is) g.done;
       left = same_later w.group (written count put rest) w.running (ap (map (λ r. r.group)) is ∙ groups_kept w.group g.answers_to w.running);
     }

@@ -8,24 +8,22 @@ use Rattle.std.specs.FinMap.{get, insert, get-insert}
 use Rattle.std.proofs.lemmas.Bool.{eq-eqb}
 use Rattle.std.proofs.lemmas.Bool.Decides.{nat_tests}
 use Rattle.std.proofs.lemmas.List.{drop_more, length-take-le}
-use Rattle.proto.specs.declared.fault.Fault.{Fault}
+use Rattle.base.specs.declared.fault.Fault.{Fault}
 use Rattle.proto.specs.declared.reply.Reply.{Reply}
-use Rattle.items.specs.Map.{Items}
 use Rattle.item_steps.specs.Steps.{reply}
 use Rattle.item_steps.specs.Schedule.{answers_at}
 use Rattle.sessions.specs.declared.request.Request.{Request}
-use Rattle.sessions.specs.declared.sessions.Kept.{Kept}
+use Rattle.sessions.specs.declared.sessions.LastReply.{LastReply}
 use Rattle.sessions.specs.Fresh.{Replies, is_next}
 use Rattle.batches.specs.declared.batch.Batch.{Batch}
-use Rattle.wire.specs.Session.{SessionsFit}
 use Rattle.wire.specs.Record.{Refused}
 use Rattle.wire.proofs.Values.{Refused-weaker}
 use Rattle.pages.proofs.JoinedLemmas.{same_number}
 use Rattle.executor.specs.declared.answered.Answered.{Answered}
-use Rattle.executor.specs.State.{StateView}
-use Rattle.executor.specs.Fresh.{Runner, runs, fresh, fresh_after}
-use Rattle.executor.specs.Round.{Round, runners, answered, kept_after, followed}
-use Rattle.executor.specs.Kept.{kept_for, reply_kept, AreKept, LackOne, Follows}
+use Rattle.states.specs.State.{StateView}
+use Rattle.executor.specs.Fresh.{Runner, runs, runners_among, fresh_after}
+use Rattle.executor.specs.Round.{Round, runners, answered, kept_after}
+use Rattle.executor.specs.Kept.{kept_for, reply_kept, AreKept, LackOne}
 
 -- a list with none is not of replies alone
 none_among : (xs others : List Answered) (later : List (Option Answered)) → map Some xs ++ None ∷ later ≡ map Some others → ⊥
@@ -49,8 +47,8 @@ one_list (x ∷ xs) (y ∷ ys) e =
 
 -- where no reply is kept for a request that ran
 pub lacks : (s before : Replies) (requests : List Request) (place : ℕ) (q : Request) (replies : List Answered) → place < length requests → q ≡ get_or requests place q → runs before (take place requests) q ≡ true
-    → map Some replies ++ map (kept_for s) (fresh_after before (take place requests) (drop place requests)) ≡ map (kept_for s) (fresh before requests) → (e : Fault)
-    → Refused e (kept_for s (place, q) ≡ None) → Refused e (LackOne s (fresh before requests))
+    → map Some replies ++ map (kept_for s) (fresh_after before (take place requests) (drop place requests)) ≡ map (kept_for s) (runners_among before requests) → (e : Fault)
+    → Refused e (kept_for s (place, q) ≡ None) → Refused e (LackOne s (runners_among before requests))
 lacks s before requests place q replies within at ran so_far e = Refused-weaker e (λ (none : kept_for s (place, q) ≡ None) others kept.
     let here : drop place requests ≡ q ∷ drop (place + 1) requests = drop_more requests place q within ∙ ap (λ x. x ∷ drop (place + 1) requests) (sym at) in
     let long : length (take place requests) ≡ place = length-take-le place requests (omega (arith, within)) in
@@ -138,7 +136,7 @@ module _ (reply_to : Runner → Reply) where
   abbrev answer_to : Runner → Answered
   answer_to r = record { place = r.0; client = r.1.client; number = r.1.number; reply = reply_to r }
 
-  abbrev kept_of : Runner → Kept
+  abbrev kept_of : Runner → LastReply
   kept_of r = record { number = r.1.number; reply = reply_to r }
 
   -- what is kept of a client is not touched by replies to others
@@ -164,10 +162,3 @@ round_kept base batch ordered after replies round =
     let kept = all_kept (λ r. reply r.1.command (answers_at r.0 round.answers)) base.sessions (runners base batch) (clients_apart base.sessions [] batch.requests) in
     let sessions : kept_after base.sessions (map (answered round.answers) (runners base batch)) ≡ after.sessions = ap (kept_after base.sessions) (sym round.replied) ∙ sym round.sessions in
     λ i. (ap (λ s. map (kept_for s) (runners base batch)) (sym sessions) ∙ (kept ∙ ap (map Some) (sym round.replied))) i
-
--- the state that a batch makes of another
-pub follows_of : (old : StateView) (batch : Batch) (s : StateView) (sessions : Replies) (items : Items) → s ≡ followed old batch sessions items → SessionsFit s.sessions → Follows old batch s
-follows_of old batch s sessions items e fit =
-    let same : s.sessions ≡ sessions = ap (λ (x : StateView). x.sessions) e in
-    let all : s.items ≡ items = ap (λ (x : StateView). x.items) e in
-    record { is = e ∙ (λ i. followed old batch (sym same i) (sym all i)); sessions_fit = fit }

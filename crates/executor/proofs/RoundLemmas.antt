@@ -10,11 +10,11 @@ use Rattle.round.proofs.Lists.{set_there, set_else}
 use Rattle.items.specs.Map.{Items}
 use Rattle.item_steps.specs.Steps.{steps}
 use Rattle.item_steps.specs.Schedule.{Placed, items_after, answers_at}
-use Rattle.item_steps.specs.declared.step.Place.{Place}
+use Rattle.item_steps.specs.declared.step.Stamp.{Stamp}
 use Rattle.item_steps.specs.declared.step.Answer.{Answer}
 use Rattle.batches.specs.declared.batch.Batch.{Batch}
-use Rattle.executor.specs.Running.{Running}
-use Rattle.executor.specs.State.{StateView}
+use Rattle.executor.specs.BatchRequest.{BatchRequest}
+use Rattle.states.specs.State.{StateView}
 use Rattle.sessions.specs.declared.request.Request.{Request}
 use Rattle.sessions.specs.Fresh.{Replies}
 use Rattle.executor.specs.Fresh.{Runner, runs, fresh_after}
@@ -24,14 +24,14 @@ use Rattle.executor.proofs.OrderLemmas.{same_or_not}
 use Rattle.executor.proofs.PartialLemmas.{Each, made_in, forget}
 
 -- groups after groups
-pub groups_append : (f : ℕ → List (List Placed)) (base : Place) (m start now : Items) (gs hs : List ℕ) (seen more : List (ℕ × Answer))
+pub groups_append : (f : ℕ → List (List Placed)) (base : Stamp) (m start now : Items) (gs hs : List ℕ) (seen more : List (ℕ × Answer))
     → GroupsRun f base m gs start seen → GroupsRun f base start hs now more → GroupsRun f base m (gs ++ hs) now (seen ++ more)
 groups_append f base m start now [] hs seen more g h = subst (λ (x : Items × List (ℕ × Answer)). GroupsRun f base x.0 hs now (x.1 ++ more)) (λ i. (g.0 i, sym g.1 i)) h
 groups_append f base m start now (x ∷ gs) hs seen more g h =
     (g.0, g.1 ++ more, g.2, groups_append f base (items_after base m g.0) start now gs hs g.1 more g.3 h, ap (λ xs. xs ++ more) g.4 ∙ append_assoc _ g.1 more)
 
 -- groups in which nothing is to be done
-pub groups_empty : (f : ℕ → List (List Placed)) (base : Place) (m : Items) (gs : List ℕ) → ((i : ℕ) (g : ℕ) → slice_get gs i ≡ Some g → AllByRecursion (λ list. list ≡ []) (f g)) → GroupsRun f base m gs m []
+pub groups_empty : (f : ℕ → List (List Placed)) (base : Stamp) (m : Items) (gs : List ℕ) → ((i : ℕ) (g : ℕ) → slice_get gs i ≡ Some g → AllByRecursion (λ list. list ≡ []) (f g)) → GroupsRun f base m gs m []
 groups_empty f base m [] none = (refl, refl)
 groups_empty f base m (g ∷ gs) none = ([], [], none 0 g refl, groups_empty f base m gs (λ i. none (suc i)), refl)
 
@@ -84,6 +84,26 @@ fresh_low s earlier (q ∷ later) i r at = by (fresh_low s (earlier ++ q ∷ [])
     by low true (suc i) at = omega (arith, low i r at, length_push earlier q)
     by low false i at = omega (arith, low i r at, length_push earlier q)
 
+-- the requests that run stand in batch order
+pub fresh_rising : (s : Replies) (earlier later : List Request) (i j : ℕ) (r t : Runner) → slice_get (fresh_after s earlier later) i ≡ Some r → slice_get (fresh_after s earlier later) j ≡ Some t → i < j → r.0 < t.0
+fresh_rising s earlier [] i j r t at there l = absurd (cc at)
+fresh_rising s earlier (q ∷ later) i j r t at there l = by (λ i j a b l. fresh_rising s (earlier ++ q ∷ []) later i j r t a b l) (runs s earlier q) i j at there l
+  where
+    low : (i : ℕ) (r : Runner) → slice_get (fresh_after s (earlier ++ q ∷ []) later) i ≡ Some r → length earlier < r.0
+    low i r at = omega (arith, fresh_low s (earlier ++ q ∷ []) later i r at, length_push earlier q)
+
+    head : (r : Runner) → ◌≡◌ {A = Option Runner} (Some (length earlier, q)) (Some r) → length earlier ≡ r.0
+    head r at = ap (λ (o : Runner). o.0) (same_Some (length earlier, q) r at)
+
+    by : ((i j : ℕ) → slice_get (fresh_after s (earlier ++ q ∷ []) later) i ≡ Some r → slice_get (fresh_after s (earlier ++ q ∷ []) later) j ≡ Some t → i < j → r.0 < t.0)
+        → (b : Bool) (i j : ℕ) → slice_get ((if b then (length earlier, q) ∷ [] else []) ++ fresh_after s (earlier ++ q ∷ []) later) i ≡ Some r
+        → slice_get ((if b then (length earlier, q) ∷ [] else []) ++ fresh_after s (earlier ++ q ∷ []) later) j ≡ Some t → i < j → r.0 < t.0
+    by rising true zero zero at there l = absurd (omega (arith, l))
+    by rising true zero (suc j) at there l = omega (arith, head r at, low j t there)
+    by rising true (suc i) zero at there l = absurd (omega (arith, l))
+    by rising true (suc i) (suc j) at there l = rising i j at there (omega (arith, l))
+    by rising false i j at there l = rising i j at there l
+
 pub fresh_apart : (s : Replies) (earlier later : List Request) (i j : ℕ) (r t : Runner) → slice_get (fresh_after s earlier later) i ≡ Some r → slice_get (fresh_after s earlier later) j ≡ Some t → r.0 ≡ t.0 → i ≡ j
 fresh_apart s earlier [] i j r t at there e = absurd (cc at)
 fresh_apart s earlier (q ∷ later) i j r t at there e = by (λ i j a b. fresh_apart s (earlier ++ q ∷ []) later i j r t a b e) (runs s earlier q) i j at there
@@ -122,7 +142,7 @@ same_test : (m n g : ℕ) (b : Bool) → m ≡ n → (m == g) ≡ b → (n == g)
 same_test m n g b e t = ap (λ k. k == g) (sym e) ∙ t
 
 module _ (base : StateView) (batch : Batch) (ordered : Bool) where
-  made_one : (g : ℕ) (x : Running) (r : Runner) → forget x ≡ begun batch ordered r → (x.group ≡ g → length x.steps ≤ length x.answers) → made_in g x ≡ steps_in batch ordered g r
+  made_one : (g : ℕ) (x : BatchRequest) (r : Runner) → forget x ≡ begun batch ordered r → (x.group ≡ g → length x.steps ≤ length x.answers) → made_in g x ≡ steps_in batch ordered g r
   made_one g x r e done = elim (cases_Bool (x.group == g)) [
     | inl t ↦
         let all : take (length x.answers) x.steps ≡ x.steps = take_all (length x.answers) x.steps (done (eqb-true x.group g t)) in
@@ -132,15 +152,15 @@ module _ (base : StateView) (batch : Batch) (ordered : Bool) where
   ]
     where
       group_is : x.group ≡ group_of batch ordered r
-      group_is = ap (λ (y : Running). y.group) e
+      group_is = ap (λ (y : BatchRequest). y.group) e
 
       place_is : x.place ≡ r.0
-      place_is = ap (λ (y : Running). y.place) e
+      place_is = ap (λ (y : BatchRequest). y.place) e
 
       steps_are : x.steps ≡ steps r.1.command
-      steps_are = ap (λ (y : Running). y.steps) e
+      steps_are = ap (λ (y : BatchRequest). y.steps) e
 
-  pub made_all : (g : ℕ) (running : List Running) (rs : List Runner) → map forget running ≡ map (begun batch ordered) rs
+  pub made_all : (g : ℕ) (running : List BatchRequest) (rs : List Runner) → map forget running ≡ map (begun batch ordered) rs
       → Each (λ x. x.group ≡ g → length x.steps ≤ length x.answers) running → map (made_in g) running ≡ map (steps_in batch ordered g) rs
   made_all g [] [] e done = refl
   made_all g [] (r ∷ rs) e done = absurd (cc e)
@@ -153,10 +173,10 @@ module _ (base : StateView) (batch : Batch) (ordered : Bool) where
       (λ i. one i ∷ others i)
 
   -- nothing is made in a group of which no request has answers
-  pub none_made : (g : ℕ) (running : List Running) → Each (λ x. x.group ≡ g → x.answers ≡ []) running → AllByRecursion (λ list. list ≡ []) (map (made_in g) running)
+  pub none_made : (g : ℕ) (running : List BatchRequest) → Each (λ x. x.group ≡ g → x.answers ≡ []) running → AllByRecursion (λ list. list ≡ []) (map (made_in g) running)
   none_made g running none = all_empty (made_in g) running (λ i x at. one x (none i x at))
     where
-      one : (x : Running) → (x.group ≡ g → x.answers ≡ []) → made_in g x ≡ []
+      one : (x : BatchRequest) → (x.group ≡ g → x.answers ≡ []) → made_in g x ≡ []
       one x h = elim (cases_Bool (x.group == g)) [
         | inl t ↦ rw (t, h (eqb-true x.group g t)) refl
         | inr t ↦ rw t refl

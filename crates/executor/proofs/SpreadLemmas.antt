@@ -4,8 +4,8 @@ use Rattle.std.specs.Prelude.{slice_get, filter, ◌==◌, if◌then◌else◌}
 use Rattle.std.specs.List.{AllByRecursion}
 use Rattle.std.proofs.lemmas.Bool.{eqb-true}
 use Rattle.item_steps.specs.Schedule.{Placed, IsInterleaving, placed}
-use Rattle.executor.specs.Running.{Running}
-use Rattle.executor.specs.GroupRun.{task_of, tasks_in}
+use Rattle.executor.specs.BatchRequest.{BatchRequest}
+use Rattle.executor.specs.GroupRun.{task_of_request, tasks_in}
 use Rattle.executor.proofs.PartialLemmas.{Each}
 use Rattle.executor.proofs.GroupRunLemmas.{left_in, at_place}
 
@@ -39,12 +39,12 @@ spread_orders (x ∷ order) ls ms s h =
     (f.0, h.1, f.1, spread_orders order (set ls h.0 h.1) (set ms f.0 h.1) f.2 h.3)
 
 -- the steps of the group's requests stand among those of all requests
-pub group_is_spread : (group : ℕ) (running : List Running) → Each (λ r. r.group ≡ group → r.answers ≡ []) running → Spread (placed (tasks_in group running)) (map (left_in group) running)
+pub group_is_spread : (group : ℕ) (running : List BatchRequest) → Each (λ r. r.group ≡ group → r.answers ≡ []) running → Spread (placed (tasks_in group running)) (map (left_in group) running)
 group_is_spread group [] untouched = end
 group_is_spread group (r ∷ running) untouched = by (r.group == group) refl (group_is_spread group running (λ i. untouched (suc i)))
   where
     by : (b : Bool) → (r.group == group) ≡ b → Spread (placed (tasks_in group running)) (map (left_in group) running)
-        → Spread (placed (map task_of (if b then r ∷ filter (λ x. x.group == group) running else filter (λ x. x.group == group) running)))
+        → Spread (placed (map task_of_request (if b then r ∷ filter (λ x. x.group == group) running else filter (λ x. x.group == group) running)))
         ((if b then at_place r.place (drop (length r.answers) r.steps) else []) ∷ map (left_in group) running)
     by false t s = more (placed (tasks_in group running)) (map (left_in group) running) s
     by true t s =

@@ -8,54 +8,55 @@ use Rattle.std.proofs.lemmas.List.Elements.{All-push}
 use Rattle.items.specs.Map.{Items}
 use Rattle.item_steps.specs.Schedule.{stamped}
 use Rattle.item_steps.specs.declared.group.Task.{Task}
-use Rattle.item_steps.specs.declared.step.Place.{Place}
+use Rattle.item_steps.specs.declared.step.Stamp.{Stamp}
 use Rattle.sessions.specs.declared.request.Request.{Request}
 use Rattle.sessions.specs.Fresh.{Replies}
 use Rattle.batches.specs.declared.batch.Batch.{Batch}
 use Rattle.pages.specs.Page.{PageState, refreshed}
 use Rattle.pages.specs.Joined.{parts, items_of}
-use Rattle.round.specs.Sittings.{task_fits, are_apart, group_fits, most_requests, most_steps}
-use Rattle.executor.specs.Running.{Running, HaveFewSteps}
-use Rattle.executor.specs.State.{StateView}
+use Rattle.round.specs.Sittings.{task_fits, are_apart, group_fits}
+use Rattle.round.specs.declared.open.TheConstants.{MOST_TASKS, MOST_STEPS}
+use Rattle.executor.specs.BatchRequest.{BatchRequest, HaveFewSteps}
+use Rattle.states.specs.State.{StateView}
 use Rattle.executor.specs.Fresh.{Runner, fresh_after, runner_at, runs}
 use Rattle.executor.specs.Round.{first_place, runners}
 use Rattle.executor.specs.Work.{Progress, Worked, all_begun, begun}
-use Rattle.executor.specs.GroupRun.{task_of, tasks_in}
+use Rattle.executor.specs.GroupRun.{task_of_request, tasks_in}
 use Rattle.executor.proofs.PartialLemmas.{Each, each-of-all, forget, Partial}
 use Rattle.round.proofs.Lists.{map_at}
 use Rattle.executor.proofs.WorkedLemmas.{worked-partial}
 use Rattle.executor.proofs.DoneLemmas.{place_within}
 
-module _ (base : Place) (group : ℕ) where
+module _ (base : Stamp) (group : ℕ) where
   -- each request of the group
-  all_fit : (rs : List Running) → Each (λ r. task_fits base (task_of r) ≡ true) rs → list_all (task_fits base) (tasks_in group rs) ≡ true
+  all_fit : (rs : List BatchRequest) → Each (λ r. task_fits base (task_of_request r) ≡ true) rs → list_all (task_fits base) (tasks_in group rs) ≡ true
   all_fit [] fit = refl
-  all_fit (r ∷ rs) fit = elim (r.group == group) as (λ b. list_all (task_fits base) (map task_of (cond b (r ∷ filter (λ x. x.group == group) rs) (filter (λ x. x.group == group) rs))) ≡ true) [
-    | true ↦ and_from (task_fits base (task_of r)) _ (fit 0 r refl) (all_fit rs (λ i. fit (suc i)))
+  all_fit (r ∷ rs) fit = elim (r.group == group) as (λ b. list_all (task_fits base) (map task_of_request (cond b (r ∷ filter (λ x. x.group == group) rs) (filter (λ x. x.group == group) rs))) ≡ true) [
+    | true ↦ and_from (task_fits base (task_of_request r)) _ (fit 0 r refl) (all_fit rs (λ i. fit (suc i)))
     | false ↦ all_fit rs (λ i. fit (suc i))
   ]
 
   -- of another place than those of the group
-  is_apart : (place : ℕ) (rs : List Running) → Each (λ r. r.place ≢ place) rs → list_all (λ other. not (other.place == place)) (tasks_in group rs) ≡ true
+  is_apart : (place : ℕ) (rs : List BatchRequest) → Each (λ r. r.place ≢ place) rs → list_all (λ other. not (other.place == place)) (tasks_in group rs) ≡ true
   is_apart place [] apart = refl
   is_apart place (r ∷ rs) apart =
-      elim (r.group == group) as (λ b. list_all (λ other. not (other.place == place)) (map task_of (cond b (r ∷ filter (λ x. x.group == group) rs) (filter (λ x. x.group == group) rs))) ≡ true) [
+      elim (r.group == group) as (λ b. list_all (λ other. not (other.place == place)) (map task_of_request (cond b (r ∷ filter (λ x. x.group == group) rs) (filter (λ x. x.group == group) rs))) ≡ true) [
         | true ↦ and_from (not (r.place == place)) _ (ap not (ne_eqb r.place place (apart 0 r refl))) (is_apart place rs (λ i. apart (suc i)))
         | false ↦ is_apart place rs (λ i. apart (suc i))
       ]
 
-  all_apart : (rs : List Running) → ((i j : ℕ) (r s : Running) → slice_get rs i ≡ Some r → slice_get rs j ≡ Some s → r.place ≡ s.place → i ≡ j) → are_apart (tasks_in group rs) ≡ true
+  all_apart : (rs : List BatchRequest) → ((i j : ℕ) (r s : BatchRequest) → slice_get rs i ≡ Some r → slice_get rs j ≡ Some s → r.place ≡ s.place → i ≡ j) → are_apart (tasks_in group rs) ≡ true
   all_apart [] places = refl
   all_apart (r ∷ rs) places =
       let later = all_apart rs (λ i j x y at there e. let one = places (suc i) (suc j) x y at there e in omega arith) in
-      elim (r.group == group) as (λ b. are_apart (map task_of (cond b (r ∷ filter (λ x. x.group == group) rs) (filter (λ x. x.group == group) rs))) ≡ true) [
+      elim (r.group == group) as (λ b. are_apart (map task_of_request (cond b (r ∷ filter (λ x. x.group == group) rs) (filter (λ x. x.group == group) rs))) ≡ true) [
         | true ↦ and_from _ _ (is_apart r.place rs (λ i x at e. let one = places 0 (suc i) r x refl at (sym e) in omega arith)) later
         | false ↦ later
       ]
 
-  no_more : (rs : List Running) → length (tasks_in group rs) ≤ length rs
+  no_more : (rs : List BatchRequest) → length (tasks_in group rs) ≤ length rs
   no_more [] = omega arith
-  no_more (r ∷ rs) = elim (r.group == group) as (λ b. length (map task_of (cond b (r ∷ filter (λ x. x.group == group) rs) (filter (λ x. x.group == group) rs))) ≤ suc (length rs)) [
+  no_more (r ∷ rs) = elim (r.group == group) as (λ b. length (map task_of_request (cond b (r ∷ filter (λ x. x.group == group) rs) (filter (λ x. x.group == group) rs))) ≤ suc (length rs)) [
     | true ↦ omega (arith, no_more rs)
     | false ↦ omega (arith, no_more rs)
   ]
@@ -70,11 +71,11 @@ fresh_few s earlier (q ∷ later) =
 
 -- a group of a batch within the limits of a record, each of whose requests has few steps
 pub tasks_fit : (base : StateView) (batch : Batch) (ordered : Bool) (w : Progress) → Worked base batch ordered w → HaveFewSteps (all_begun base batch ordered)
-    → (first : Place) → first ≡ stamped (first_place base batch) 0 → (lent : List Running) → lent ≡ w.running → (tasks : List Task) → tasks ≡ tasks_in w.group lent → group_fits first tasks ≡ true
+    → (first : Stamp) → first ≡ stamped (first_place base batch) 0 → (lent : List BatchRequest) → lent ≡ w.running → (tasks : List Task) → tasks ≡ tasks_in w.group lent → group_fits first tasks ≡ true
 tasks_fit base batch ordered w worked few first at lent same tasks are =
-    (λ i. group_fits (at i) ((are ∙ ap (tasks_in w.group) same) i)) ∙ and_from _ _ (le-leb _ most_requests most) (and_from _ _ (all_fit place w.group w.running each) (all_apart place w.group w.running p.places))
+    (λ i. group_fits (at i) ((are ∙ ap (tasks_in w.group) same) i)) ∙ and_from _ _ (le-leb _ MOST_TASKS most) (and_from _ _ (all_fit place w.group w.running each) (all_apart place w.group w.running p.places))
   where
-    place : Place
+    place : Stamp
     place = stamped (first_place base batch) 0
 
     p : Partial base batch ordered w
@@ -83,18 +84,18 @@ tasks_fit base batch ordered w worked few first at lent same tasks are =
     count : length w.running ≡ length (runners base batch)
     count = sym (length-map w.running forget) ∙ ap length p.same ∙ length-map (runners base batch) (begun batch ordered)
 
-    most : length (tasks_in w.group w.running) ≤ most_requests
+    most : length (tasks_in w.group w.running) ≤ MOST_TASKS
     most = omega (arith, no_more place w.group w.running, count, fresh_few base.sessions [] batch.requests, batch.few)
 
     -- its steps are those that it began with
-    steps_few : (i : ℕ) (x : Running) → slice_get w.running i ≡ Some x → length x.steps ≤ most_steps
-    steps_few i x there = each-of-all (λ (r : Running). length r.steps ≤ most_steps) (all_begun base batch ordered) few i (forget x) (ap (λ xs. slice_get xs i) (sym p.same) ∙ map_at forget w.running i x there)
+    steps_few : (i : ℕ) (x : BatchRequest) → slice_get w.running i ≡ Some x → length x.steps ≤ MOST_STEPS
+    steps_few i x there = each-of-all (λ (r : BatchRequest). length r.steps ≤ MOST_STEPS) (all_begun base batch ordered) few i (forget x) (ap (λ xs. slice_get xs i) (sym p.same) ∙ map_at forget w.running i x there)
 
-    stamp : (i : ℕ) (x : Running) → slice_get w.running i ≡ Some x → place.stamp + x.place < 2 ^ 64
+    stamp : (i : ℕ) (x : BatchRequest) → slice_get w.running i ≡ Some x → place.stamp + x.place < 2 ^ 64
     stamp i x there = omega (arith, batch.last, batch.few, place_within base batch ordered w worked i x there)
 
-    each : Each (λ r. task_fits place (task_of r) ≡ true) w.running
-    each i x there = and_from (nat_le (length x.steps) most_steps) (nat_lt (place.stamp + x.place) (2 ^ 64)) (le-leb (length x.steps) most_steps (steps_few i x there)) (lt-ltb (place.stamp + x.place) (2 ^ 64) (stamp i x there))
+    each : Each (λ r. task_fits place (task_of_request r) ≡ true) w.running
+    each i x there = and_from (nat_le (length x.steps) MOST_STEPS) (nat_lt (place.stamp + x.place) (2 ^ 64)) (le-leb (length x.steps) MOST_STEPS (steps_few i x there)) (lt-ltb (place.stamp + x.place) (2 ^ 64) (stamp i x there))
 
 -- the items of pages that were lent to be refreshed
 pub same_parts : (m : Items) (old : List PageState) (n : ℕ) (new : List PageState) → items_of old ≡ parts m → n ≡ length old → new ≡ map refreshed old
@@ -105,11 +106,11 @@ same_parts m old n new are len is = ap items_of (take_at new (drop (length new) 
     same_items [] = refl
     same_items (page ∷ pages) = ap (λ ms. page.items ∷ ms) (same_items pages)
 
-pub few_push : (rs : List Running) (r : Running) → HaveFewSteps rs → length r.steps ≤ most_steps → HaveFewSteps (rs ++ r ∷ [])
-few_push rs r few one = All-push (λ (x : Running). length x.steps ≤ most_steps) rs r few one
+pub few_push : (rs : List BatchRequest) (r : BatchRequest) → HaveFewSteps rs → length r.steps ≤ MOST_STEPS → HaveFewSteps (rs ++ r ∷ [])
+few_push rs r few one = All-push (λ (x : BatchRequest). length x.steps ≤ MOST_STEPS) rs r few one
 
 -- one request more was begun
-pub begun_more : (f : Runner → Running) (s : Replies) (requests : List Request) (place : ℕ) (r : Request) (old new all : List Running) → place < length requests → r ≡ get_or requests place r
+pub begun_more : (f : Runner → BatchRequest) (s : Replies) (requests : List Request) (place : ℕ) (r : Request) (old new all : List BatchRequest) → place < length requests → r ≡ get_or requests place r
     → new ≡ old ++ map f (runner_at s (take place requests) (length (take place requests)) r) → old ++ map f (fresh_after s (take place requests) (drop place requests)) ≡ all
     → new ++ map f (fresh_after s (take (place + 1) requests) (drop (place + 1) requests)) ≡ all
 begun_more f s requests place r old new all within at is so_far =

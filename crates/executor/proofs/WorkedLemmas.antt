@@ -12,12 +12,13 @@ use Rattle.item_steps.specs.Schedule.{Placed, IsInterleaving, stamped, items_aft
 use Rattle.item_steps.specs.declared.step.Step.{Step}
 use Rattle.item_steps.specs.declared.step.Answer.{Answer}
 use Rattle.batches.specs.declared.batch.Batch.{Batch}
-use Rattle.executor.specs.Running.{Running}
-use Rattle.executor.specs.State.{StateView}
+use Rattle.executor.specs.BatchRequest.{BatchRequest}
+use Rattle.states.specs.State.{StateView}
 use Rattle.executor.specs.Fresh.{Runner}
 use Rattle.executor.specs.declared.answered.Answered.{Answered}
-use Rattle.executor.specs.Round.{runners, moment_of, first_place, group_of, steps_in, answered, Round}
-use Rattle.executor.specs.Work.{Progress, begun, all_begun, next_step, is_done, is_group_done, started, comes_after, IsFirst, IsNext, IsLast, StepMade, Worked, began, stepped, moved, replied, replies_of, made}
+use Rattle.states.specs.Followed.{moment_of}
+use Rattle.executor.specs.Round.{runners, first_place, group_of, steps_in, answered, Round}
+use Rattle.executor.specs.Work.{Progress, begun, all_begun, next_step, is_complete, is_group_done, started, comes_after, IsFirst, IsNext, IsLast, WorkStep, Worked, began, stepped, moved, replied, replies_of, state_made}
 use Rattle.item_steps.proofs.ScheduleLemmas.{items_push, answers_push}
 use Rattle.round.proofs.Lists.{list_all_at, map_at, set_else, set_there}
 use Rattle.executor.proofs.OrderLemmas.{order_push, same_or_not, set_here}
@@ -33,14 +34,14 @@ module _ (base : StateView) (batch : Batch) (ordered : Bool) where
   forget_begun (r ∷ rs) = ap (λ xs. begun batch ordered r ∷ xs) (forget_begun rs)
 
   -- each request that runs now is one of those that run
-  each_begun : (P : Running → Type 0) → ((r : Runner) → P (begun batch ordered r)) → Each P (all_begun base batch ordered)
+  each_begun : (P : BatchRequest → Type 0) → ((r : Runner) → P (begun batch ordered r)) → Each P (all_begun base batch ordered)
   each_begun P all i x at =
       let r = get_map (begun batch ordered) there i x at in
       subst P (sym r.2) (all r.0)
 
   -- groups below the first are empty
   below_first : (group : ℕ) → IsFirst (all_begun base batch ordered) group → Each (λ r. group ≤ group_of batch ordered r) there
-  below_first group least i r at = each-of-all (λ (x : Running). group ≤ x.group) (all_begun base batch ordered) least i (begun batch ordered r) (map_at (begun batch ordered) there i r at)
+  below_first group least i r at = each-of-all (λ (x : BatchRequest). group ≤ x.group) (all_begun base batch ordered) least i (begun batch ordered r) (map_at (begun batch ordered) there i r at)
 
   partial-began : (group : ℕ) → IsFirst (all_begun base batch ordered) group → Partial base batch ordered (started base batch ordered group)
   partial-began group least = record {
@@ -53,17 +54,17 @@ module _ (base : StateView) (batch : Batch) (ordered : Bool) where
     interleaves = none_made base batch ordered group (all_begun base batch ordered) (each_begun (λ x. x.group ≡ group → x.answers ≡ []) (λ r e. refl));
     answers = each_begun (λ x. x.answers ≡ answers_at x.place []) (λ r. refl);
     above = each_begun (λ x. group < x.group → x.answers ≡ []) (λ r l. refl);
-    below = λ i x at l. absurd (omega (arith, l, each-of-all (λ (y : Running). group ≤ y.group) (all_begun base batch ordered) least i x at));
+    below = λ i x at l. absurd (omega (arith, l, each-of-all (λ (y : BatchRequest). group ≤ y.group) (all_begun base batch ordered) least i x at));
     within = each_begun (λ x. length x.answers ≤ length x.steps) (λ r. omega arith);
     places = λ i j x y a b e.
         let r = get_map (begun batch ordered) there i x a in
         let t = get_map (begun batch ordered) there j y b in
-        fresh_apart base.sessions [] batch.requests i j r.0 t.0 r.1 t.1 (ap (λ (z : Running). z.place) (sym r.2) ∙ e ∙ ap (λ (z : Running). z.place) t.2);
+        fresh_apart base.sessions [] batch.requests i j r.0 t.0 r.1 t.1 (ap (λ (z : BatchRequest). z.place) (sym r.2) ∙ e ∙ ap (λ (z : BatchRequest). z.place) t.2);
   }
 
   -- ---- one step more
 
-  made_more : (g : ℕ) (x : Running) (step : Step) (a : Answer) → x.group ≡ g → next_step x ≡ Some step
+  made_more : (g : ℕ) (x : BatchRequest) (step : Step) (a : Answer) → x.group ≡ g → next_step x ≡ Some step
       → made_in g (record x { answers = x.answers ++ a ∷ [] }) ≡ made_in g x ++ (x.place, step) ∷ []
   made_more g x step a here next =
       let within = slice_get_within x.steps (length x.answers) step next in
@@ -74,15 +75,15 @@ module _ (base : StateView) (batch : Batch) (ordered : Bool) where
       ∙ map-append (λ s. (x.place, s)) (take (length x.answers) x.steps) (get_or x.steps (length x.answers) step ∷ [])
       ∙ ap (λ s. map (λ s. (x.place, s)) (take (length x.answers) x.steps) ++ (x.place, s) ∷ []) is)
 
-  module _ (w : Progress) (place : ℕ) (p : Partial base batch ordered w) (index : ℕ) (x : Running) (step : Step)
+  module _ (w : Progress) (place : ℕ) (p : Partial base batch ordered w) (index : ℕ) (x : BatchRequest) (step : Step)
       (inside : slice_get w.running index ≡ Some x) (its : x.place ≡ place) (in_group : x.group ≡ w.group) (next : next_step x ≡ Some step) where
     abbrev answer : Answer
     answer = (effect w.items step (stamped (first base batch ordered) place)).1
 
-    abbrev after : Running
+    abbrev after : BatchRequest
     after = record x { answers = x.answers ++ answer ∷ [] }
 
-    abbrev running_after : List Running
+    abbrev running_after : List BatchRequest
     running_after = set w.running index after
 
     abbrev order_after : List Placed
@@ -103,7 +104,7 @@ module _ (base : StateView) (batch : Batch) (ordered : Bool) where
         ∙ sym (answers_at-append x.place (p.earlier ++ answers_in (first base batch ordered) p.start p.order) ((place, answer) ∷ []))
         ∙ ap (answers_at x.place) (sym all_answers)
 
-    other_answers : (j : ℕ) (z : Running) → index ≢ j → slice_get w.running j ≡ Some z → z.answers ≡ answers_at z.place (p.earlier ++ answers_in (first base batch ordered) p.start order_after)
+    other_answers : (j : ℕ) (z : BatchRequest) → index ≢ j → slice_get w.running j ≡ Some z → z.answers ≡ answers_at z.place (p.earlier ++ answers_in (first base batch ordered) p.start order_after)
     other_answers j z apart at =
         p.answers j z at
         ∙ sym (append-nil (answers_at z.place (p.earlier ++ answers_in (first base batch ordered) p.start p.order)))
@@ -112,12 +113,12 @@ module _ (base : StateView) (batch : Batch) (ordered : Bool) where
         ∙ ap (answers_at z.place) (sym all_answers)
 
     -- the place of each request is as it was
-    before : (j : ℕ) (z : Running) → slice_get running_after j ≡ Some z → (y : Running) × (slice_get w.running j ≡ Some y) × (y.place ≡ z.place)
+    before : (j : ℕ) (z : BatchRequest) → slice_get running_after j ≡ Some z → (y : BatchRequest) × (slice_get w.running j ≡ Some y) × (y.place ≡ z.place)
     before j z at = elim (same_or_not index j) [
       | inl e ↦
-          let is : ◌≡◌ {A = Option Running} (Some after) (Some z) = sym (set_there w.running index after x inside) ∙ ap (slice_get running_after) e ∙ at in
+          let is : ◌≡◌ {A = Option BatchRequest} (Some after) (Some z) = sym (set_there w.running index after x inside) ∙ ap (slice_get running_after) e ∙ at in
           let one : after ≡ z = cc is in
-          (x, ap (slice_get w.running) (sym e) ∙ inside, ap (λ (y : Running). y.place) one)
+          (x, ap (slice_get w.running) (sym e) ∙ inside, ap (λ (y : BatchRequest). y.place) one)
       | inr d ↦ (z, sym (set_else w.running index after j (λ e. d (sym e))) ∙ at, refl)
     ]
 
@@ -146,23 +147,23 @@ module _ (base : StateView) (batch : Batch) (ordered : Bool) where
           p.places i j one.0 two.0 one.1 two.1 (one.2 ∙ e ∙ sym two.2);
     }
 
-  partial-stepped : (w now : Progress) (place : ℕ) → Partial base batch ordered w → StepMade (first_place base batch) w place now → Partial base batch ordered now
+  partial-stepped : (w now : Progress) (place : ℕ) → Partial base batch ordered w → WorkStep (first_place base batch) w place now → Partial base batch ordered now
   partial-stepped w now place p m = subst (λ (n : Progress). Partial base batch ordered n) (sym m.now_is) (partial-step w place p m.index m.request m.step m.there m.its m.in_group m.next)
 
   -- ---- the end of a group
 
   pub group_is_done : (w : Progress) → IsTrue (is_group_done w) → Each (λ x. x.group ≡ w.group → length x.steps ≤ length x.answers) w.running
-  group_is_done w done i x at e = one (x.group == w.group) (eq-eqb x.group w.group e) (list_all_at (λ r. not (r.group == w.group) || is_done r) w.running done i x at)
+  group_is_done w done i x at e = one (x.group == w.group) (eq-eqb x.group w.group e) (list_all_at (λ r. not (r.group == w.group) || is_complete r) w.running done i x at)
     where
-      one : (b : Bool) → b ≡ true → (not b || is_done x) ≡ true → length x.steps ≤ length x.answers
+      one : (b : Bool) → b ≡ true → (not b || is_complete x) ≡ true → length x.steps ≤ length x.answers
       one true e h = leb-true (length x.steps) (length x.answers) h
       one false e h = absurd (cc e)
 
   -- a request that runs is one of the batch's, in the same group
-  running_of : (w : Progress) → Partial base batch ordered w → (i : ℕ) (r : Runner) → slice_get there i ≡ Some r → (x : Running) × (slice_get w.running i ≡ Some x) × (x.group ≡ group_of batch ordered r)
+  running_of : (w : Progress) → Partial base batch ordered w → (i : ℕ) (r : Runner) → slice_get there i ≡ Some r → (x : BatchRequest) × (slice_get w.running i ≡ Some x) × (x.group ≡ group_of batch ordered r)
   running_of w p i r at =
       let x = get_map forget w.running i (begun batch ordered r) (ap (λ xs. slice_get xs i) p.same ∙ map_at (begun batch ordered) there i r at) in
-      (x.0, x.1, ap (λ (y : Running). y.group) (sym x.2))
+      (x.0, x.1, ap (λ (y : BatchRequest). y.group) (sym x.2))
 
   steps_interleave : (w : Progress) (p : Partial base batch ordered w) → IsTrue (is_group_done w) → IsInterleaving (map (steps_in batch ordered w.group) there) p.order
   steps_interleave w p done = subst (λ (lists : List (List Placed)). IsInterleaving lists p.order) (made_all base batch ordered w.group w.running there p.same (group_is_done w done)) p.interleaves
@@ -211,10 +212,10 @@ module _ (base : StateView) (batch : Batch) (ordered : Bool) where
       above : w.group < group
       above = ltb-true w.group group next.above
 
-      least : Each (λ (y : Running). w.group < y.group → group ≤ y.group) w.running
-      least i x at l = each-of-all (λ (y : Running). comes_after (Some w.group) y.group ≡ true → group ≤ y.group) w.running next.least i x at (lt-ltb w.group x.group l)
+      least : Each (λ (y : BatchRequest). w.group < y.group → group ≤ y.group) w.running
+      least i x at l = each-of-all (λ (y : BatchRequest). comes_after (Some w.group) y.group ≡ true → group ≤ y.group) w.running next.least i x at (lt-ltb w.group x.group l)
 
-      by_group : (i : ℕ) (x : Running) → slice_get w.running i ≡ Some x → x.group < group → (x.group ≡ w.group) ⊎ ((x.group < w.group) ⊎ (w.group < x.group)) → length x.steps ≤ length x.answers
+      by_group : (i : ℕ) (x : BatchRequest) → slice_get w.running i ≡ Some x → x.group < group → (x.group ≡ w.group) ⊎ ((x.group < w.group) ⊎ (w.group < x.group)) → length x.steps ≤ length x.answers
       by_group i x at l (inl same) = group_is_done w done i x at same
       by_group i x at l (inr (inl low)) = p.below i x at low
       by_group i x at l (inr (inr high)) = absurd (omega (arith, l, least i x at high))
@@ -226,24 +227,24 @@ module _ (base : StateView) (batch : Batch) (ordered : Bool) where
 
   -- ---- the end of the work
 
-  zip_replied : (answers : List (ℕ × Answer)) (rs : List Runner) (running : List Running) → map forget running ≡ map (begun batch ordered) rs → Each (λ x. x.answers ≡ answers_at x.place answers) running
+  zip_replied : (answers : List (ℕ × Answer)) (rs : List Runner) (running : List BatchRequest) → map forget running ≡ map (begun batch ordered) rs → Each (λ x. x.answers ≡ answers_at x.place answers) running
       → map (λ both. replied both.0 both.1) (zip rs running) ≡ map (answered answers) rs
   zip_replied answers [] running e h = refl
   zip_replied answers (r ∷ rs) [] e h = absurd (cc e)
   zip_replied answers (r ∷ rs) (x ∷ running) e h =
       let head : forget x ≡ begun batch ordered r = cc e in
       let tail : map forget running ≡ map (begun batch ordered) rs = cc e in
-      let place : x.place ≡ r.0 = ap (λ (y : Running). y.place) head in
+      let place : x.place ≡ r.0 = ap (λ (y : BatchRequest). y.place) head in
       let own : x.answers ≡ answers_at r.0 answers = h 0 x refl ∙ ap (λ k. answers_at k answers) place in
       let others = zip_replied answers rs running tail (λ i. h (suc i)) in
       (λ i. record { place = r.0; client = r.1.client; number = r.1.number; reply = reply r.1.command (own i) } ∷ others i)
 
   pub done_is_round : (w : Progress) → Worked base batch ordered w → IsTrue (is_group_done w) → IsLast w.running (Some w.group)
-      → Round base batch ordered (made base batch w) (replies_of base batch w.running)
+      → Round base batch ordered (state_made base batch w) (replies_of base batch w.running)
   done_is_round w worked done last =
       let p = worked-partial w worked in
       let low : Each (λ r. group_of batch ordered r < w.group + 1) there = λ i r at.
-      (let x = running_of w p i r at in omega (arith, x.2, ltb-false w.group x.0.group (each-of-all (λ (y : Running). comes_after (Some w.group) y.group ≡ false) w.running last i x.0 x.1))) in
+      (let x = running_of w p i r at in omega (arith, x.2, ltb-false w.group x.0.group (each-of-all (λ (y : BatchRequest). comes_after (Some w.group) y.group ≡ false) w.running last i x.0 x.1))) in
       record {
         groups = w.group + 1;
         all_run = all-of-each (λ r. group_of batch ordered r < w.group + 1) there low;
@@ -260,15 +261,15 @@ module _ (base : StateView) (batch : Batch) (ordered : Bool) where
       }
 
   -- where no request runs, the batch is done at once
-  pub nothing_is_round : (group : ℕ) → all_begun base batch ordered ≡ [] → Round base batch ordered (made base batch (started base batch ordered 0)) []
+  pub nothing_is_round : (group : ℕ) → all_begun base batch ordered ≡ [] → Round base batch ordered (state_made base batch (started base batch ordered 0)) []
   nothing_is_round group none =
       let w = started base batch ordered 0 in
-      let no_one : (P : Running → Type 0) → All P (all_begun base batch ordered) = λ P i d l. absurd (omega (arith, l, ap length none)) in
+      let no_one : (P : BatchRequest → Type 0) → All P (all_begun base batch ordered) = λ P i d l. absurd (omega (arith, l, ap length none)) in
       let worked : Worked base batch ordered w = began 0 (no_one (λ r. 0 ≤ r.group)) in
-      let done : is_group_done w ≡ true = ap (list_all (λ r. not (r.group == 0) || is_done r)) none in
+      let done : is_group_done w ≡ true = ap (list_all (λ r. not (r.group == 0) || is_complete r)) none in
       let no_replies : replies_of base batch (all_begun base batch ordered) ≡ [] = ap (λ xs. map (λ both. replied both.0 both.1) (zip there xs)) none ∙ zip_nil there in
-      subst (λ (rs : List Answered). Round base batch ordered (made base batch w) rs) no_replies (done_is_round w worked done (no_one (λ r. comes_after (Some 0) r.group ≡ false)))
+      subst (λ (rs : List Answered). Round base batch ordered (state_made base batch w) rs) no_replies (done_is_round w worked done (no_one (λ r. comes_after (Some 0) r.group ≡ false)))
     where
-      zip_nil : (rs : List Runner) → map (λ (both : Runner × Running). replied both.0 both.1) (zip rs []) ≡ []
+      zip_nil : (rs : List Runner) → map (λ (both : Runner × BatchRequest). replied both.0 both.1) (zip rs []) ≡ []
       zip_nil [] = refl
       zip_nil (r ∷ rs) = refl

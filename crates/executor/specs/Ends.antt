@@ -3,7 +3,7 @@ use Rattle.std.specs.Prelude.{◌≡◌, [], Bool, true, false, IsTrue, Some, No
 use Rattle.batches.specs.declared.batch.Batch.{Batch}
 use Rattle.executor.specs.declared.work.Ended.{Ended}
 use Rattle.executor.specs.declared.work.Ended.TheVariants.{On, Done}
-use Rattle.executor.specs.State.{StateView}
+use Rattle.states.specs.State.{StateView}
 use Rattle.executor.specs.Round.{Round}
 use Rattle.executor.specs.Work.{WorkView, all_begun, started, is_group_done, IsNext, IsLast, tentative_of}
 

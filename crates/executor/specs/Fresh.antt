@@ -22,5 +22,5 @@ fresh_after sessions earlier [] = []
 fresh_after sessions earlier (r ∷ later) = runner_at sessions earlier (length earlier) r ++ fresh_after sessions (earlier ++ r ∷ []) later
 
 -- the requests that run, by place
-abbrev pub fresh : Replies → List Request → List Runner
-fresh sessions requests = fresh_after sessions [] requests
+abbrev pub runners_among : Replies → List Request → List Runner
+runners_among sessions requests = fresh_after sessions [] requests

@@ -4,25 +4,25 @@ use Rattle.item_steps.specs.declared.group.Task.{Task}
 use Rattle.item_steps.specs.declared.step.Answer.{Answer}
 use Rattle.executor.specs.declared.work.Ended.{Ended}
 use Rattle.executor.specs.declared.work.Ended.TheVariants.{On, Done}
-use Rattle.executor.specs.Running.{Running}
+use Rattle.executor.specs.BatchRequest.{BatchRequest}
 use Rattle.executor.specs.Work.{Progress}
 use Rattle.round.specs.Sittings.{Running as Ran}
 
 -- the request as a round takes it
-abbrev pub task_of : Running → Task
-task_of r = record { place = r.place; steps = r.steps }
+abbrev pub task_of_request : BatchRequest → Task
+task_of_request r = record { place = r.place; steps = r.steps }
 
 -- the requests of the group, in batch order
-abbrev pub tasks_in : ℕ → List Running → List Task
-tasks_in group running = map task_of (filter (λ r. r.group == group) running)
+abbrev pub tasks_in : ℕ → List BatchRequest → List Task
+tasks_in group running = map task_of_request (filter (λ r. r.group == group) running)
 
 -- a request whose steps were taken, if it is in the group
-abbrev pub emptied : ℕ → Running → Running
+abbrev pub emptied : ℕ → BatchRequest → BatchRequest
 emptied group r = if r.group == group then record r { steps = [] } else r
 
 -- a request with its answers, if it is in the group
-abbrev pub answered_by : ℕ → (Task → List Answer) → Running → Running
-answered_by group answers_to r = if r.group == group then record r { answers = answers_to (task_of r) } else r
+abbrev pub answered_by : ℕ → (Task → List Answer) → BatchRequest → BatchRequest
+answered_by group answers_to r = if r.group == group then record r { answers = answers_to (task_of_request r) } else r
 
 -- a request that ran in a round, with its answers
 abbrev pub ran_of : (Task → List Answer) → Task → Ran

@@ -1,20 +1,19 @@
 -- What a tentative state and a restored state keep.
-use Rattle.std.specs.Prelude.{◌≡◌, ◌+◌, ◌<◌, List, [], map, Option, Some, None, Result, Ok, Err, ◌==◌, if◌then◌else◌}
+use Rattle.std.specs.Prelude.{◌≡◌, ◌+◌, List, [], map, Option, Some, None, Result, Ok, Err, ◌==◌, if◌then◌else◌}
 use Rattle.std.specs.FinMap.{get}
 use Rattle.sessions.specs.Fresh.{Replies}
-use Rattle.sessions.specs.declared.sessions.Kept.{Kept}
-use Rattle.batches.specs.declared.batch.Batch.{Batch}
-use Rattle.proto.specs.declared.fault.Fault.{Fault}
+use Rattle.sessions.specs.declared.sessions.LastReply.{LastReply}
+use Rattle.base.specs.declared.fault.Fault.{Fault}
 use Rattle.wire.specs.Record.{Refused}
-use Rattle.wire.specs.Session.{SessionsFit}
 use Rattle.executor.specs.declared.answered.Answered.{Answered}
-use Rattle.executor.specs.State.{StateView, IsState, first_state}
+use Rattle.states.specs.State.{StateView, IsState}
 use Rattle.executor.specs.Fresh.{Runner}
-use Rattle.executor.specs.Round.{runners, followed}
+use Rattle.states.specs.Followed.{IsSuccessor}
+use Rattle.executor.specs.Round.{runners}
 use Rattle.executor.specs.Work.{TentativeView, CommittedView}
 
 -- the reply to a request, where it is what is kept of the client
-abbrev pub reply_kept : Runner → Option Kept → Option Answered
+abbrev pub reply_kept : Runner → Option LastReply → Option Answered
 reply_kept r None = None
 reply_kept r (Some kept) = if kept.number == r.1.number then Some (record { place = r.0; client = r.1.client; number = r.1.number; reply = kept.reply }) else None
 
@@ -34,30 +33,17 @@ IsKeptReply sessions r (Err e) = Refused e (kept_for sessions r ≡ None)
 abbrev pub LackOne : Replies → List Runner → Type 0
 LackOne sessions requests = (replies : List Answered) → AreKept sessions requests replies → ⊥
 
--- a state that the batch makes of another, whose sessions have a text
-pub record Follows (old : StateView) (batch : Batch) (s : StateView) : Type 0 where
-  pub is : s ≡ followed old batch s.sessions s.items
-  pub sessions_fit : SessionsFit s.sessions
-
 -- What every tentative state keeps: its batch is the next, its state what the batch makes of the state
 -- before, and its replies are those that the sessions keep for the requests that ran.
 pub record IsTentative (t : TentativeView) : Type 0 where
   pub next : t.batch.n ≡ t.before.number + 1
-  pub after : Follows t.before t.batch t.after
+  pub after : IsSuccessor t.before t.batch t.after
   pub kept : AreKept t.after.sessions (runners t.before t.batch) t.replies
 
 -- a tentative state over this one
-pub record IsOver (base : StateView) (t : TentativeView) : Type 0 where
+pub record IsTentativeOver (base : StateView) (t : TentativeView) : Type 0 where
   pub is : IsTentative t
   pub over : t.before ≡ base
-
--- a state that no batch led to, and one that a batch led to
-abbrev pub IsFirst : StateView → Type 0
-IsFirst s = s ≡ first_state
-
-pub record IsLater (s : StateView) : Type 0 where
-  pub state : IsState s
-  pub later : 0 < s.number
 
 -- a committed state with no reply beside it
 pub record IsQuiet (c : CommittedView) : Type 0 where

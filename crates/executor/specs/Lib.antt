@@ -1,13 +1,10 @@
-pub mod State
-pub mod Parts
 pub mod Fresh
 pub mod Round
-pub mod Running
+pub mod BatchRequest
 pub mod Work
 pub mod Ends
 pub mod Through
 pub mod GroupRun
-pub mod Records
-pub mod HeadLaws
 pub mod Kept
+pub mod MemberRecord
 pub mod Orders

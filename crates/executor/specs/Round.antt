@@ -1,45 +1,30 @@
 -- What one batch makes of a state.
-use Rattle.std.specs.Prelude.{◌≡◌, ℕ, ◌*◌, ◌<◌, List, [], ◌∷◌, ◌++◌, map, fold, max, All, Bool, ◌==◌, slice_index, if◌then◌else◌}
+use Rattle.std.specs.Prelude.{◌≡◌, ℕ, ◌<◌, List, [], ◌∷◌, ◌++◌, map, fold, All, Bool, ◌==◌, slice_index, if◌then◌else◌}
 use Rattle.std.specs.List.{range_with_len}
 use Rattle.std.specs.FinMap as map_of
 use Rattle.items.specs.Map.{Items, alive}
 use Rattle.item_steps.specs.Steps.{steps, reply}
 use Rattle.item_steps.specs.Schedule.{Placed, IsInterleaving, items_after, answers_in, answers_at}
-use Rattle.item_steps.specs.declared.step.Place.{Place}
+use Rattle.item_steps.specs.declared.step.Stamp.{Stamp}
 use Rattle.item_steps.specs.declared.step.Answer.{Answer}
 use Rattle.sessions.specs.Fresh.{Replies}
 use Rattle.batches.specs.declared.batch.Batch.{Batch}
+use Rattle.batches.specs.Stamp.{first_stamp}
 use Rattle.mixer.specs.Groups.{numbers_of}
 use Rattle.wire.specs.Batch.{batch_text}
 use Rattle.token.specs.Digest.{digest}
 use Rattle.executor.specs.declared.answered.Answered.{Answered}
-use Rattle.executor.specs.State.{StateView, with_token}
-use Rattle.executor.specs.Fresh.{Runner, fresh}
+use Rattle.states.specs.State.{StateView, with_token}
+use Rattle.states.specs.Followed.{moment_of}
+use Rattle.executor.specs.Fresh.{Runner, runners_among}
 
 -- the requests of the batch that run over a state
 abbrev pub runners : StateView → Batch → List Runner
-runners old batch = fresh old.sessions batch.requests
-
--- the greater of the two moments
-abbrev pub moment_of : StateView → Batch → ℕ
-moment_of old batch = max batch.moment old.moment
-
--- the state that a batch makes of another, with its token
-abbrev pub followed : StateView → Batch → Replies → Items → StateView
-followed old batch sessions items = with_token (record {
-  number = batch.n;
-  previous = old.token;
-  epoch = batch.epoch;
-  batch = digest (batch_text batch);
-  moment = moment_of old batch;
-  token = old.token;
-  sessions = sessions;
-  items = items;
-})
+runners old batch = runners_among old.sessions batch.requests
 
 -- where place 0 of the batch runs
-abbrev pub first_place : StateView → Batch → Place
-first_place old batch = record { moment = moment_of old batch; stamp = 64 * batch.n }
+abbrev pub first_place : StateView → Batch → Stamp
+first_place old batch = record { moment = moment_of old batch; stamp = first_stamp batch.n }
 
 -- the group of the request at the place: that of the mixer's numbers, or in an ordered batch one by itself, in batch order
 abbrev pub group_in : Bool → List ℕ → ℕ → ℕ
@@ -53,7 +38,7 @@ abbrev pub steps_in : Batch → Bool → ℕ → Runner → List Placed
 steps_in batch ordered group r = if group_of batch ordered r == group then map (λ step. (r.0, step)) (steps r.1.command) else []
 
 -- So many groups, from this one on, run in order, the steps of each in some interleaving: the items after them, and all answers.
-abbrev pub GroupsRun : (ℕ → List (List Placed)) → Place → Items → List ℕ → Items → List (ℕ × Answer) → Type 0
+abbrev pub GroupsRun : (ℕ → List (List Placed)) → Stamp → Items → List ℕ → Items → List (ℕ × Answer) → Type 0
 GroupsRun steps_of base m [] now answers = (now ≡ m) × (answers ≡ [])
 GroupsRun steps_of base m (group ∷ groups) now answers = (order : List Placed) × (later : List (ℕ × Answer)) × IsInterleaving (steps_of group) order
     × GroupsRun steps_of base (items_after base m order) groups now later × (answers ≡ answers_in base m order ++ later)

@@ -4,13 +4,13 @@ ghost use Rattle.std.specs.Prelude.{◌≡◌, ◌==◌, ◌≤◌, ◌<◌, ◌
 ghost use Rattle.std.specs.List.{list_any};
 ghost use Rattle.item_steps.specs.Steps.{steps};
 ghost use Rattle.mixer.specs.Groups.{numbers_of};
-ghost use Rattle.executor.specs.State.{StateView};
-ghost use Rattle.executor.specs.Fresh.{runs as runs_after, runner_at, fresh};
+ghost use Rattle.states.specs.State.{StateView};
+ghost use Rattle.executor.specs.Fresh.{runs as runs_after, runner_at, runners_among};
 ghost use Rattle.executor.specs.Round.{group_in};
 ghost use Rattle.executor.specs.Work.{all_begun, begun_in};
-ghost use Rattle.executor.specs.Running.{HaveFewSteps};
+ghost use Rattle.executor.specs.BatchRequest.{HaveFewSteps};
 
-use crate::running::Running;
+use crate::batch_request::BatchRequest;
 use batches::Batch;
 use item_steps::{Steps, steps_of};
 use mixer::group_numbers;
@@ -63,7 +63,7 @@ fn add_running(
     request: &Request,
     ordered: bool,
     numbers: &[usize],
-    running: &mut Vec<Running>,
+    running: &mut Vec<BatchRequest>,
 ) -> Result<(), AllocError>
     requires { length earlier.now < 2 ^ 32 }
     ensures begun { OnOk result (running.new.items
@@ -76,7 +76,7 @@ fn add_running(
     let place = earlier.len();
     let steps = Steps::new(steps_of(alloc, &request.command)?);
     let group = group_at(ordered, numbers, place);
-    running.push(Running::new(alloc, place as u32, group, steps))?;
+    running.push(BatchRequest::new(alloc, place as u32, group, steps))?;
     Ok(())
 }
 
@@ -86,9 +86,9 @@ fn begin_with(
     requests: &[Request],
     ordered: bool,
     numbers: &[usize],
-) -> Result<Vec<Running>, AllocError>
+) -> Result<Vec<BatchRequest>, AllocError>
     requires { length requests.now ≤ 2 ^ 32 }
-    ensures begun { IfOk result (λ running. running.items ≡ map (begun_in ordered numbers.now) (fresh sessions.now requests.now)) }
+    ensures begun { IfOk result (λ running. running.items ≡ map (begun_in ordered numbers.now) (runners_among sessions.now requests.now)) }
     ensures few { IfOk result (λ running. HaveFewSteps running.items) }
 {
     let mut running = Vec::new(alloc);
@@ -113,7 +113,7 @@ pub fn begin_all(
     sessions: &Sessions,
     batch: &Batch,
     ordered: bool,
-) -> Result<Vec<Running>, AllocError>
+) -> Result<Vec<BatchRequest>, AllocError>
     ensures begun { IfOk result (λ running. (base : StateView) → base.sessions ≡ sessions.now
         → running.items ≡ all_begun base batch.now ordered) }
     ensures few { IfOk result (λ running. HaveFewSteps running.items) }

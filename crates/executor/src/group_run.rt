@@ -3,10 +3,10 @@
 ghost use Rattle.std.specs.Prelude.{◌≡◌, List, map, IfOk, OnOk};
 ghost use Rattle.item_steps.specs.declared.step.Answer.{Answer};
 ghost use Rattle.item_steps.specs.declared.group.Task as task_type;
-ghost use Rattle.executor.specs.Running.{Running as running_type};
+ghost use Rattle.executor.specs.BatchRequest.{BatchRequest as running_type};
 ghost use Rattle.executor.specs.GroupRun.{tasks_in, emptied, answered_by, ran_of};
 
-use crate::running::Running;
+use crate::batch_request::BatchRequest;
 use item_steps::Task;
 use round::Ran;
 use std::alloc::{AllocError, Global};
@@ -14,7 +14,7 @@ use std::alloc::{AllocError, Global};
 /// The requests of the group as a round takes them: their steps are taken out.
 pub fn take_tasks(
     alloc: Global,
-    running: &mut [Running],
+    running: &mut [BatchRequest],
     group: usize,
 ) -> Result<Vec<Task>, AllocError>
     ensures tasks { IfOk result (λ tasks. tasks.items ≡ tasks_in group running.old) }
@@ -30,7 +30,7 @@ pub fn take_tasks(
 }
 
 /// Puts the steps of the group's requests back, with their answers.
-pub fn put_back(running: &mut [Running], group: usize, ran: Vec<Ran>)
+pub fn put_back(running: &mut [BatchRequest], group: usize, ran: Vec<Ran>)
     ensures { (before : List running_type) (answers_to : task_type.Task → List Answer)
         → running.old ≡ map (emptied group) before
         → ran.items ≡ map (ran_of answers_to) (tasks_in group before)

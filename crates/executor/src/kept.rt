@@ -7,13 +7,13 @@ ghost use Rattle.executor.specs.Round.{kept_after};
 ghost use Rattle.executor.specs.Work.{replied, replied_at, replies_to};
 
 use crate::answered::Answered;
-use crate::running::Running;
+use crate::batch_request::BatchRequest;
 use item_steps::reply_of;
 use sessions::{Request, Sessions};
 use std::alloc::{AllocError, Global};
 
 /// The reply to a request all of whose steps were made.
-fn answer(alloc: Global, request: &Request, running: &Running) -> Result<Answered, AllocError>
+fn answer(alloc: Global, request: &Request, running: &BatchRequest) -> Result<Answered, AllocError>
     requires { length running.now.answers ≡ length (steps request.now.command) }
     ensures { IfOk result (λ answered. answered ≡ replied (running.now.place, request.now) running.now) }
 {
@@ -29,7 +29,7 @@ fn answer(alloc: Global, request: &Request, running: &Running) -> Result<Answere
 fn add_answer(
     alloc: Global,
     requests: &[Request],
-    running: &Running,
+    running: &BatchRequest,
     sessions: &mut Sessions,
     replies: &mut Vec<Answered>,
 ) -> Result<(), AllocError>
@@ -54,7 +54,7 @@ fn add_answer(
 pub fn answer_all(
     alloc: Global,
     requests: &[Request],
-    running: &[Running],
+    running: &[BatchRequest],
     sessions: &mut Sessions,
 ) -> Result<Vec<Answered>, AllocError>
     requires { All (λ r. (request : Request) → slice_get requests.now r.place ≡ Some request

@@ -3,7 +3,7 @@
 ghost use Rattle.std.specs.Prelude.{◌≡◌, ◌≤◌, ◌^◌, length, IfOk, IfErr};
 ghost use Rattle.std.specs.FinMap as map;
 ghost use Rattle.wire.specs.Record.{Refused};
-ghost use Rattle.executor.specs.Fresh.{fresh};
+ghost use Rattle.executor.specs.Fresh.{runners_among};
 ghost use Rattle.executor.specs.Kept.{IsKeptReply, AreKept, LackOne};
 
 use crate::answered::Answered;
@@ -36,8 +36,8 @@ pub fn kept_replies(
     sessions: &Sessions,
 ) -> Result<Vec<Answered>, Fault>
     requires { length requests.now ≤ 2 ^ 32 }
-    ensures kept { IfOk result (λ replies. AreKept sessions.now (fresh before.now requests.now) replies.items) }
-    ensures err { IfErr result (λ e. Refused e (LackOne sessions.now (fresh before.now requests.now))) }
+    ensures kept { IfOk result (λ replies. AreKept sessions.now (runners_among before.now requests.now) replies.items) }
+    ensures err { IfErr result (λ e. Refused e (LackOne sessions.now (runners_among before.now requests.now))) }
 {
     let mut replies = Vec::new(alloc);
     for (place, request) in requests.iter().enumerate() {

@@ -3,7 +3,7 @@
 ghost use Rattle.std.specs.Prelude.{◌≡◌, List, Bool, true};
 ghost use Rattle.batches.specs.declared.batch.Batch.{Batch};
 ghost use Rattle.executor.specs.declared.answered.Answered.{Answered};
-ghost use Rattle.executor.specs.State.{StateView};
+ghost use Rattle.states.specs.State.{StateView};
 ghost use Rattle.executor.specs.Round.{Round};
 ghost use Rattle.executor.specs.Orders.{orders_of};
 

@@ -1,53 +1,20 @@
 //! The record of a tentative state, as a member of a chain.
 
 ghost use Rattle.std.specs.Prelude.{◌≡◌, ◌++◌, OnOk, OnErr, IfOk};
-ghost use Rattle.wire.specs.Record.{Puts, Reads, Takes};
+ghost use Rattle.wire.specs.Record.{Puts, Reads};
 ghost use Rattle.executor.specs.Work.{TentativeView};
-ghost use Rattle.executor.specs.Kept.{Follows, IsTentative, IsOver};
-ghost use Rattle.executor.specs.Records.{after_text, member_text};
+ghost use Rattle.executor.specs.Kept.{IsTentative, IsTentativeOver};
+ghost use Rattle.executor.specs.MemberRecord.{member_text};
 
-use crate::base::Base;
-use crate::changes::{put_changes, take_changes};
-use crate::head::Head;
+use crate::base_state::Base;
 use crate::kept_replies::kept_replies;
-use crate::state::State;
 use crate::tentative::Tentative;
 use batches::Batch;
+use pages::PageSet;
 use proto::Fault;
-use sessions::Sessions;
+use states::State;
 use std::alloc::{AllocError, Global};
 use wire::{Record, Sink};
-
-impl State {
-    /// Writes its record over the state before it.
-    #[tactic(auto, unfolding(crate::specs::Records::after_text))]
-    fn put_after<S: Sink>(&self, before: &State, sink: &mut S) -> Result<(), S::Refusal>
-        ensures { OnOk result (Puts S.holds (after_text before.now.items self.now) sink.old sink.new) }
-    {
-        self.head().put(sink)?;
-        self.sessions().put(sink)?;
-        put_changes(before.pages(), self.pages(), sink)
-    }
-}
-
-/// The state that the batch makes of the one before, at the front of the bytes. What it did to the
-/// items and the sessions is read, and all else is computed.
-fn take_after<'b>(
-    alloc: Global,
-    before: &State,
-    batch: &Batch,
-    bytes: &'b [u8],
-) -> Result<(State, &'b [u8]), Fault>
-    ensures { Takes (Follows before.now batch.now) (after_text before.now.items) bytes.now result }
-{
-    let ((head, sessions), rest) = <(Head, Sessions)>::take(alloc, bytes)?;
-    let (pages, rest) = take_changes(alloc, before.pages(), rest)?;
-    let state = before.followed_by(batch, sessions, pages.seal());
-    if state.head() != head {
-        return Err(Fault::BadRecord);
-    }
-    Ok((state, rest))
-}
 
 impl Tentative {
     /// What is true of every tentative state. It does nothing.
@@ -57,15 +24,21 @@ impl Tentative {
         let _before = &self.before;
     }
 
-    fn put<S: Sink>(&self, sink: &mut S) -> Result<(), S::Refusal>
+    /// Writes its record as a member of a chain: its batch, and the state that it led to over the base.
+    /// A sink that takes shared pieces gets the texts that are kept of its sessions and of the pages
+    /// that are not the same; so a record in a text of pieces copies little. The sink may refuse it, as
+    /// where an allocation fails.
+    pub fn put<S: Sink>(&self, sink: &mut S) -> Result<(), S::Refusal>
         ensures { OnOk result (Puts S.holds (member_text self.now) sink.old sink.new) }
     {
         self.batch.put(sink)?;
-        self.after.put_after(&self.before.state, sink)
+        self.after
+            .state
+            .put_after(&self.before.state, &self.may_differ, sink)
     }
 
     /// Appends its record as a member of a chain: its batch, and the state that it led to over the
-    /// base. Where memory is wanting nothing is appended.
+    /// base. Where an allocation fails nothing is appended.
     pub fn write(&self, out: &mut Vec<u8>) -> Result<(), AllocError>
         ensures ok { OnOk result (out.new.items ≡ out.old.items ++ member_text self.now) }
         ensures err { OnErr result (out.new.items ≡ out.old.items) }
@@ -86,15 +59,15 @@ impl Tentative {
     /// the computed ones, and its sessions keep each request of its batch that ran; the replies are
     /// those that they keep. `NoMemory` is the only other error.
     pub fn restore(alloc: Global, base: &Base, bytes: &[u8]) -> Result<Tentative, Fault>
-        ensures reads { Reads (IsOver base.now.state) member_text bytes.now result }
-        ensures again { IfOk result (λ found. (tentative : TentativeView) → IsOver base.now.state tentative
+        ensures reads { Reads (IsTentativeOver base.now.state) member_text bytes.now result }
+        ensures again { IfOk result (λ found. (tentative : TentativeView) → IsTentativeOver base.now.state tentative
             → bytes.now ≡ member_text tentative → found ≡ tentative) }
     {
         let (batch, rest) = Batch::take(alloc, bytes)?;
         if batch.n != base.number() + 1 {
             return Err(Fault::BadRecord);
         }
-        let (after, rest) = take_after(alloc, &base.state, &batch, rest)?;
+        let (after, rest) = State::take_after(alloc, &base.state, &batch, rest)?;
         if !rest.is_empty() {
             return Err(Fault::BadRecord);
         }
@@ -104,8 +77,9 @@ impl Tentative {
         Ok(Tentative {
             before,
             batch,
-            after,
+            after: Base { state: after },
             replies,
+            may_differ: PageSet::all(),
         })
     }
 }

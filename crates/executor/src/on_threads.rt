@@ -1,8 +1,8 @@
 ghost use Rattle.std.specs.Prelude.{◌≡◌, ◌+◌, IfOk};
 ghost use Rattle.executor.specs.Round.{Round};
-ghost use Rattle.executor.specs.Through.{IsMade};
+ghost use Rattle.executor.specs.Through.{ComesOfWork};
 
-use crate::base::Base;
+use crate::base_state::Base;
 use crate::tentative::Tentative;
 use crate::work::{Ended, Work};
 use batches::Batch;
@@ -19,7 +19,7 @@ use workers::Workers;
 /// the workers make the digests of the pages that were written, where these are eight or more. The
 /// gate is told of each step.
 ///
-/// The batch has the number after the base's. The only error is want of memory.
+/// The batch has the number after the base's. It errs only where an allocation fails.
 pub fn execute<R: Threads + Wait + Sync, G: Gate + Sync>(
     rt: &R,
     alloc: Global,
@@ -30,7 +30,7 @@ pub fn execute<R: Threads + Wait + Sync, G: Gate + Sync>(
     gate: &G,
 ) -> Result<Tentative, AllocError>
     requires next { batch.n ≡ base.now.state.number + 1 }
-    ensures made { IfOk result (λ tentative. IsMade base.now.state batch ordered tentative) }
+    ensures made { IfOk result (λ tentative. ComesOfWork base.now.state batch ordered tentative) }
     ensures round { IfOk result (λ tentative. Round base.now.state batch ordered tentative.after tentative.replies) }
 {
     match Work::begin(alloc, base, batch, ordered)? {

@@ -1,13 +1,7 @@
-//! What the records keep apart. The functions do nothing: what they say is their contracts.
+//! What the records of tentative states identify. The functions do nothing: what they say is their
+//! contracts.
 
-ghost use Rattle.wire.specs.Record.{IsPrefixFree, OneValue};
-ghost use Rattle.executor.specs.Records.{state_text, OneMember, WholeMember, BaseIsTold};
-
-/// Different states have different records, and no record begins another's.
-pub fn states_are_told_apart()
-    ensures one { OneValue state_text }
-    ensures whole { IsPrefixFree state_text }
-{}
+ghost use Rattle.executor.specs.MemberRecord.{OneMember, WholeMember, BaseIsTold};
 
 /// Tentative states over one state have the same record only where their batches and the states
 /// that these led to are the same; and no record of one begins another's.

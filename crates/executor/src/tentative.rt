@@ -1,13 +1,14 @@
 ghost use Rattle.std.specs.Prelude.{◌≡◌, ◌<◌, ◌^◌, ◌↔◌, [], false, IfOk, IfErr, IsOk};
-ghost use Rattle.executor.specs.State.{first_state, with_token};
-ghost use Rattle.executor.specs.Parts.{parts_of};
+ghost use Rattle.states.specs.State.{initial_state, with_token};
+ghost use Rattle.states.specs.Parts.{parts_of};
 ghost use Rattle.decrees.specs.declared.decree.Decree.TheVariants.{Commit};
 
 use crate::answered::Answered;
-use crate::base::Base;
-use crate::state::{Parts, State};
+use crate::base_state::Base;
 use batches::Batch;
 use decrees::Decree;
+use pages::PageSet;
+use states::{Parts, State};
 use std::alloc::{AllocError, Global};
 use std::marker::Model;
 use token::Token;
@@ -17,12 +18,15 @@ use token::Token;
 pub struct Tentative {
     pub(crate) before: Base,
     pub(crate) batch: Batch,
-    pub(crate) after: State,
+    pub(crate) after: Base,
     pub(crate) replies: Vec<Answered>,
+    /// All other pages are the same before and after.
+    pub(crate) may_differ: PageSet,
 }
 
 impl Model for Tentative {
-    ghost use Rattle.executor.specs.contracts.state.State as made;
+    ghost use Rattle.pages.specs.Others.{AreSameBeside};
+    ghost use Rattle.states.specs.contracts.state.State as made;
     ghost use Rattle.executor.specs.contracts.answered.Answered as answered;
     ghost use Rattle.batches.specs.contracts.batch.Batch as taken;
     ghost use Rattle.executor.specs.Work.{TentativeView, tentative_code};
@@ -32,20 +36,21 @@ impl Model for Tentative {
 
     ghost coded = { tentative_code made.the_row.coded taken.the_row.coded answered.the_row.coded };
 
-    ghost view = { λ t. record { before = t.before.state; batch = t.batch; after = t.after; replies = t.replies.items } };
+    ghost view = { λ t. record { before = t.before.state; batch = t.batch; after = t.after.state; replies = t.replies.items } };
 
-    ghost invariant = { λ t. IsTentative (record { before = t.before.state; batch = t.batch; after = t.after; replies = t.replies.items }) };
+    ghost invariant = { λ t. IsTentative (record { before = t.before.state; batch = t.batch; after = t.after.state; replies = t.replies.items })
+        × AreSameBeside t.may_differ t.before.state.items t.after.state.items };
 }
 
 /// A state that the verifiers decided on, and the replies of the batch that led to it.
 #[derive(Drop)]
 pub struct Committed {
-    pub(crate) state: State,
+    pub(crate) base: Base,
     pub(crate) replies: Vec<Answered>,
 }
 
 impl Model for Committed {
-    ghost use Rattle.executor.specs.contracts.state.State as made;
+    ghost use Rattle.states.specs.contracts.state.State as made;
     ghost use Rattle.executor.specs.contracts.answered.Answered as answered;
     ghost use Rattle.executor.specs.Work.{CommittedView, committed_code};
 
@@ -53,7 +58,7 @@ impl Model for Committed {
 
     ghost coded = { committed_code made.the_row.coded answered.the_row.coded };
 
-    ghost view = { λ c. record { state = c.state; replies = c.replies.items } };
+    ghost view = { λ c. record { state = c.base.state; replies = c.replies.items } };
 }
 
 impl Tentative {
@@ -78,13 +83,11 @@ impl Tentative {
         false
     }
 
-    /// The tentative state as a base. Its pages are shared, and not copied.
-    pub fn base(&self) -> Result<Base, AllocError>
-        ensures { IfOk result (λ base. base.state ≡ self.now.after) }
+    /// The tentative state as a base, for the batch after its own. This takes no memory.
+    pub fn as_base(&self) -> &Base
+        ensures { result.now.state ≡ self.now.after }
     {
-        Ok(Base {
-            state: self.after.share()?,
-        })
+        &self.after
     }
 
     /// Commits by the decree of its own number and token, and by no other: then the replies can be
@@ -102,11 +105,12 @@ impl Tentative {
                     batch,
                     after,
                     replies,
+                    may_differ: _,
                 } = self;
                 drop(before);
                 drop(batch);
                 Ok(Committed {
-                    state: after,
+                    base: after,
                     replies,
                 })
             }
@@ -123,6 +127,7 @@ impl Tentative {
             batch: _,
             after,
             replies: _,
+            may_differ: _,
         } = self;
         drop(after);
         before
@@ -132,22 +137,24 @@ impl Tentative {
 impl Committed {
     /// The state of number 0, which no batch led to.
     pub fn first(alloc: Global) -> Result<Committed, AllocError>
-        ensures { IfOk result (λ committed. committed ≡ record { state = first_state; replies = [] }) }
+        ensures { IfOk result (λ committed. committed ≡ record { state = initial_state; replies = [] }) }
     {
         Ok(Committed {
-            state: State::first(alloc)?,
+            base: Base::first(alloc)?,
             replies: Vec::new(alloc),
         })
     }
 
-    /// A committed state that was sent: its token is computed from its parts. No reply comes with it.
+    /// A committed state that was sent: its token is recomputed from its parts. No reply comes with it.
     /// Its number is from 1 to 2^58 - 1.
     pub fn of_parts(alloc: Global, parts: Parts) -> Committed
         requires number { (0 < parts.number) × (parts.number < 2 ^ 58) }
         ensures { result ≡ record { state = with_token (parts_of parts); replies = [] } }
     {
         Committed {
-            state: State::of_parts(parts),
+            base: Base {
+                state: State::of_parts(alloc, parts),
+            },
             replies: Vec::new(alloc),
         }
     }
@@ -156,7 +163,7 @@ impl Committed {
     pub fn state(&self) -> &State
         ensures { result.now ≡ self.now.state }
     {
-        &self.state
+        &self.base.state
     }
 
     /// What is answered to each request of its batch that ran, by place.
@@ -166,12 +173,10 @@ impl Committed {
         self.replies.as_slice()
     }
 
-    /// The state as a base. Its pages are shared, and not copied.
-    pub fn base(&self) -> Result<Base, AllocError>
-        ensures { IfOk result (λ base. base.state ≡ self.now.state) }
+    /// The state as a base, for the batch after it. This takes no memory.
+    pub fn as_base(&self) -> &Base
+        ensures { result.now.state ≡ self.now.state }
     {
-        Ok(Base {
-            state: self.state.share()?,
-        })
+        &self.base
     }
 }

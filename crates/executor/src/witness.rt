@@ -1,10 +1,13 @@
 //! Misuses of what is not committed yet do not compile: this file would not, if they did.
 //!
+//! A `State` shows its sessions, and so the replies that they keep. So nothing lends the state of a
+//! `Base`, a `Work` or a `Tentative`; a `Tentative` lends its states as bases.
+//!
 //! Each of these breaks it: `Drop` on `Tentative`; `Debug` on `Base`, `Work` or `Tentative`; on one of
 //! these three a function of its own with the name `reply`, `replies`, `state`, `sessions` or `after`,
 //! whatever it takes and gives.
 
-use crate::base::Base;
+use crate::base_state::Base;
 use crate::tentative::Tentative;
 use crate::work::Work;
 use std::fmt::Debug;

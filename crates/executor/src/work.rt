@@ -1,24 +1,27 @@
-ghost use Rattle.std.specs.Prelude.{◌≡◌, ◌≤◌, ◌<◌, ◌+◌, ◌*◌, ◌^◌, [], None, Some, true, false, IfOk, OnOk, OnErr, IsTrue, IfSome, slice_get, length, not, ◌&&◌, ◌||◌, ◌==◌};
+ghost use Rattle.std.specs.Prelude.{◌≡◌, ◌≤◌, ◌<◌, ◌+◌, ◌^◌, ◌↔◌, ℕ, [], None, Some, true, false, IfOk, OnOk, OnErr, IsTrue, IfSome, slice_get, length, not, ◌&&◌, ◌||◌, ◌==◌};
 ghost use Rattle.std.specs.List.{list_all};
 ghost use Rattle.std.specs.Bool.{OnTrue, OnFalse};
+ghost use Rattle.batches.specs.declared.batch.TheConstants.{MOST_REQUESTS};
 ghost use Rattle.item_steps.specs.Schedule.{stamped};
-ghost use Rattle.executor.specs.Round.{first_place, moment_of, Round};
-ghost use Rattle.executor.specs.Work.{StepMade, HasNoStep, tentative_of, is_group_done as group_done, IsFirst, IsNext, IsLast, is_ready, all_begun, started};
+ghost use Rattle.states.specs.Followed.{moment_of};
+ghost use Rattle.executor.specs.Round.{first_place, Round};
+ghost use Rattle.executor.specs.Work.{WorkStep, HasStep, HasNoStep, tentative_of, is_group_done as group_done, IsFirst, IsNext, IsLast, is_ready, all_begun, started};
 ghost use Rattle.executor.specs.Ends.{Begins, Goes, DoneIsRound};
 ghost use Rattle.executor.specs.GroupRun.{IsUntouched, StartsAfresh};
-ghost use Rattle.executor.specs.Running.{HaveFewSteps};
-ghost use Rattle.executor.specs.Through.{IsReadyAt, IsNotLeft, StepMadeAt, RequestRan, later, IsMade, DoneIsMade};
+ghost use Rattle.executor.specs.BatchRequest.{HaveFewSteps};
+ghost use Rattle.executor.specs.Through.{IsReadyAt, WorkStepAt, later, ComesOfWork, DoneComesOfWork};
 
-use crate::base::Base;
+use crate::base_state::Base;
+use crate::batch_request::BatchRequest;
 use crate::begin::begin_all;
-use crate::crew::{refresh, run_group};
 use crate::group_run::{put_back, take_tasks};
-use crate::groups::{is_group_done, next_group};
+use crate::groups::{is_group_done, is_untouched, next_group, next_place};
 use crate::kept::answer_all;
-use crate::running::Running;
+use crate::may_differ::may_differ;
+use crate::parallel::{refresh, run_group};
 use crate::tentative::Tentative;
 use batches::Batch;
-use item_steps::Place;
+use item_steps::Stamp;
 use items::Store;
 use pages::Pages;
 use round::Gate;
@@ -26,6 +29,7 @@ use std::alloc::{AllocError, Global};
 use std::marker::Model;
 use std::sync::Wait;
 use std::thread::Threads;
+use token::Digested;
 use workers::Workers;
 
 /// A batch that is being executed over its base: its requests run group by group, and the steps of
@@ -36,7 +40,7 @@ pub struct Work {
     batch: Batch,
     ordered: bool,
     pages: Pages,
-    running: Vec<Running>,
+    running: Vec<BatchRequest>,
     group: usize,
 }
 
@@ -45,8 +49,8 @@ impl Model for Work {
     ghost use Rattle.std.specs.FinMap as map;
     ghost use Rattle.items.specs.contracts.item.Item as item;
     ghost use Rattle.batches.specs.contracts.batch.Batch as taken;
-    ghost use Rattle.executor.specs.contracts.state.State as made;
-    ghost use Rattle.executor.specs.contracts.running.Running as runs;
+    ghost use Rattle.states.specs.contracts.state.State as made;
+    ghost use Rattle.executor.specs.contracts.batch_request.BatchRequest as runs;
     ghost use Rattle.executor.specs.Work.{WorkView, IsWork, work_code};
 
     ghost Value = { WorkView };
@@ -75,7 +79,7 @@ pub enum Ended {
 }
 
 /// The request of the group at the place, if it has a step left.
-fn ready_at(running: &[Running], group: usize, place: u32) -> Option<usize>
+fn ready_at(running: &[BatchRequest], group: usize, place: u32) -> Option<usize>
     ensures there { IfSome result (λ i. i < length running.now) }
     ensures ready { IfSome result (λ i. IfSome (slice_get running.now i) (λ r. is_ready group place r ≡ true)) }
     ensures none { result ≡ None → list_all (λ r. not (is_ready group place r)) running.now ≡ true }
@@ -88,14 +92,14 @@ fn ready_at(running: &[Running], group: usize, place: u32) -> Option<usize>
     None
 }
 
-/// Where the request at the place runs. The stamps of a batch's requests begin at 64 times its number.
-fn place_of(base: &Base, batch: &Batch, place: u32) -> Place
-    requires place { place < 64 }
+/// Where the request at the place runs.
+fn place_of(base: &Base, batch: &Batch, place: u32) -> Stamp
+    requires place { place < MOST_REQUESTS }
     ensures { result ≡ stamped (first_place base.now.state batch.now) place }
 {
-    Place {
+    Stamp {
         moment: batch.moment.max(base.state.moment()),
-        stamp: 64 * batch.n + u64::from(place),
+        stamp: batch.first_stamp() + u64::from(place),
     }
 }
 
@@ -105,7 +109,7 @@ impl Work {
         base: &Base,
         batch: Batch,
         ordered: bool,
-        running: Vec<Running>,
+        running: Vec<BatchRequest>,
         group: usize,
     ) -> Result<Work, AllocError>
         requires next { batch.n ≡ base.now.state.number + 1 }
@@ -135,7 +139,7 @@ impl Work {
     /// and groups without requests are taken out. Where no request runs the batch is done at once.
     /// An ordered batch runs each request by itself, in batch order.
     ///
-    /// The batch has the number after the base's. The only error is want of memory.
+    /// The batch has the number after the base's. It errs only where an allocation fails.
     pub fn begin(
         alloc: Global,
         base: &Base,
@@ -145,7 +149,7 @@ impl Work {
         requires next { batch.n ≡ base.now.state.number + 1 }
         ensures begins { IfOk result (λ ended. Begins base.now.state batch ordered ended) }
         ensures round { IfOk result (λ ended. DoneIsRound base.now.state batch ordered ended) }
-        ensures made { IfOk result (λ ended. DoneIsMade base.now.state batch ordered ended) }
+        ensures made { IfOk result (λ ended. DoneComesOfWork base.now.state batch ordered ended) }
         ensures afresh { IfOk result StartsAfresh }
     {
         let running = begin_all(alloc, base.state.sessions(), &batch, ordered)?;
@@ -158,12 +162,50 @@ impl Work {
         }
     }
 
+    /// The base that the batch is executed over.
+    pub fn base(&self) -> &Base
+        ensures { result.now.state ≡ self.now.base }
+    {
+        &self.base
+    }
+
+    /// The batch that is executed.
+    pub fn batch(&self) -> &Batch
+        ensures { result.now ≡ self.now.batch }
+    {
+        &self.batch
+    }
+
+    /// Whether each request is a group by itself, in batch order.
+    pub fn is_ordered(&self) -> bool
+        ensures { result ≡ self.now.ordered }
+    {
+        self.ordered
+    }
+
+    /// Whether no step of the group that runs was made.
+    pub fn is_untouched(&self) -> bool
+        ensures { IsTrue result ↔ IsUntouched self.now.progress }
+    {
+        is_untouched(&self.running, self.group)
+    }
+
+    /// The lowest place at which a request of the group that runs has a step left, if one has: `step`
+    /// makes it.
+    pub fn next_place(&self) -> Option<u32>
+        ensures ready { IfSome result (λ place. HasStep self.now.progress place) }
+        ensures lowest { IfSome result (λ place. (lower : ℕ) → lower < place → HasNoStep self.now.progress lower) }
+        ensures none { (result ≡ None) ↔ IsTrue (group_done self.now.progress) }
+    {
+        next_place(&self.running, self.group)
+    }
+
     /// Goes on to the next group where no step of this one is left, and ends after the last one.
-    /// Where a step is left the work stays as it was. The only error is want of memory.
+    /// Where a step is left the work stays as it was. It errs only where an allocation fails.
     pub fn finish(self, alloc: Global) -> Result<Ended, AllocError>
         ensures goes { IfOk result (λ ended. Goes self ended) }
         ensures round { IfOk result (λ ended. DoneIsRound self.base self.batch self.ordered ended) }
-        ensures made { IfOk result (λ ended. DoneIsMade self.base self.batch self.ordered ended) }
+        ensures made { IfOk result (λ ended. DoneComesOfWork self.base self.batch self.ordered ended) }
         ensures afresh { IfOk result (λ ended. IsTrue (group_done self.progress) → StartsAfresh ended) }
     {
         if !is_group_done(&self.running, self.group) {
@@ -196,7 +238,7 @@ impl Work {
         requires done { IsTrue (group_done self.progress) }
         requires last { IsLast self.progress.running (Some self.progress.group) }
         ensures tentative { IfOk result (λ tentative. tentative ≡ tentative_of self) }
-        ensures made { IfOk result (λ tentative. IsMade self.base self.batch self.ordered tentative) }
+        ensures made { IfOk result (λ tentative. ComesOfWork self.base self.batch self.ordered tentative) }
         ensures round { IfOk result (λ tentative. Round self.base self.batch self.ordered tentative.after tentative.replies) }
     {
         let Work {
@@ -209,20 +251,25 @@ impl Work {
         } = self;
         let mut sessions = base.state.sessions().clone()?;
         let replies = answer_all(alloc, batch.requests.as_slice(), &running, &mut sessions)?;
-        let after = base.state.followed_by(&batch, sessions, pages.seal());
+        let digested = Digested::of_sessions(alloc, &sessions);
+        let differing = may_differ(&base, &batch);
+        let after = base
+            .state
+            .followed_by(&batch, sessions, digested, pages.seal());
         Ok(Tentative {
             before: base,
             batch,
-            after,
+            after: Base { state: after },
             replies,
+            may_differ: differing,
         })
     }
 
     /// Makes the next step of the request at the place, if it is in the group that runs and has one
-    /// left; else nothing changes, and the answer is false. Where memory is wanting nothing changes.
+    /// left; else nothing changes, and the answer is false. Where an allocation fails nothing changes.
     pub fn step(&mut self, alloc: Global, place: u32) -> Result<bool, AllocError>
         ensures made { IfOk result (λ done. done ≡ true
-            → StepMade (first_place self.old.base self.old.batch) self.old.progress place self.new.progress) }
+            → WorkStep (first_place self.old.base self.old.batch) self.old.progress place self.new.progress) }
         ensures others { self.new ≡ record self.old { progress = self.new.progress } }
         ensures none { IfOk result (λ done. done ≡ false
             → HasNoStep self.old.progress place × (self.new ≡ self.old)) }
@@ -235,65 +282,16 @@ impl Work {
         Ok(true)
     }
 
-    /// Makes the next step of the request at the index. Where memory is wanting nothing changes.
+    /// Makes the next step of the request at the index. Where an allocation fails nothing changes.
     fn step_at(&mut self, alloc: Global, i: usize) -> Result<(), AllocError>
         requires ready { IsReadyAt self.old.progress i }
-        ensures made { OnOk result (StepMadeAt (first_place self.old.base self.old.batch) self.old.progress i self.new.progress) }
+        ensures made { OnOk result (WorkStepAt (first_place self.old.base self.old.batch) self.old.progress i self.new.progress) }
         ensures others { self.new ≡ record self.old { progress = self.new.progress } }
         ensures err { OnErr result (self.new ≡ self.old) }
     {
         let at = place_of(&self.base, &self.batch, self.running[i].place());
         self.running[i].step(alloc, &mut self.pages, at)?;
         Ok(())
-    }
-
-    /// Makes each step that the request at the index has left, if it is in the group that runs.
-    fn run_request(&mut self, alloc: Global, i: usize) -> Result<(), AllocError>
-        requires there { i < length self.old.progress.running }
-        ensures ran { OnOk result (RequestRan self.old.progress i self.new.progress) }
-        ensures others { self.new ≡ record self.old { progress = self.new.progress } }
-    {
-        while self.is_left(i) {
-            self.step_at(alloc, i)?;
-        }
-        Ok(())
-    }
-
-    /// Whether the request at the index is in the group that runs and has a step left.
-    fn is_left(&self, i: usize) -> bool
-        requires there { i < length self.now.progress.running }
-        ensures left { result ≡ true → IsReadyAt self.now.progress i }
-        ensures none { result ≡ false → IsNotLeft self.now.progress.group (slice_get self.now.progress.running i) }
-    {
-        let request = &self.running[i];
-        request.group() == self.group && !request.is_done()
-    }
-
-    /// Makes each step that is left of the group that runs, those of one request after the other.
-    fn run_group(&mut self, alloc: Global) -> Result<(), AllocError>
-        ensures done { OnOk result (IsTrue (group_done self.new.progress)) }
-        ensures left { OnOk result (later self.new.progress ≡ later self.old.progress) }
-        ensures others { self.new ≡ record self.old { progress = self.new.progress } }
-    {
-        for i in 0..self.running.len() {
-            self.run_request(alloc, i)?;
-        }
-        Ok(())
-    }
-
-    /// Makes all steps that are left, group by group, and ends.
-    pub(crate) fn run(self, alloc: Global) -> Result<Tentative, AllocError>
-        ensures made { IfOk result (λ tentative. IsMade self.base self.batch self.ordered tentative) }
-        ensures round { IfOk result (λ tentative. Round self.base self.batch self.ordered tentative.after tentative.replies) }
-    {
-        let mut work = self;
-        loop {
-            work.run_group(alloc)?;
-            match work.finish(alloc)? {
-                Ended::On(next) => work = next,
-                Ended::Done(tentative) => return Ok(tentative),
-            }
-        }
     }
 
     /// Makes each step that is left of the group that runs, by a round of several workers.
@@ -357,8 +355,10 @@ impl Work {
         }
     }
 
-    /// Makes all steps that are left, each group by a round of several workers, and ends.
-    pub(crate) fn run_on_threads<R: Threads + Wait + Sync, G: Gate + Sync>(
+    /// Makes all steps that are left on at most so many threads at once, group by group, and ends: see
+    /// `execute`. No step of the group that runs was made before (`is_untouched`). The gate is told of
+    /// each step. It errs only where an allocation fails.
+    pub fn run_on_threads<R: Threads + Wait + Sync, G: Gate + Sync>(
         self,
         rt: &R,
         alloc: Global,
@@ -366,7 +366,7 @@ impl Work {
         gate: &G,
     ) -> Result<Tentative, AllocError>
         requires afresh { IsUntouched self.progress }
-        ensures made { IfOk result (λ tentative. IsMade self.base self.batch self.ordered tentative) }
+        ensures made { IfOk result (λ tentative. ComesOfWork self.base self.batch self.ordered tentative) }
         ensures round { IfOk result (λ tentative. Round self.base self.batch self.ordered tentative.after tentative.replies) }
     {
         let mut work = self;

@@ -1,7 +1,8 @@
 use batches::{Batch, Gather};
 use decrees::Decree;
-use executor::{Answered, Base, Committed, Ended, State, Tentative, Work, run_through};
+use executor::{Answered, Base, Committed, Ended, Tentative, Work};
 use proto::{Fault, Reply};
+use states::State;
 use std::alloc::{AllocError, Global};
 use std::test::Fail;
 use token::Token;
@@ -37,13 +38,45 @@ fn full_batch(alloc: Global) -> Result<Vec<u8>, AllocError> {
     Ok(bytes)
 }
 
-/// Runs a batch to its end.
-fn run(alloc: Global, base: &Base, bytes: &[u8], ordered: bool) -> Result<Tentative, Fault> {
+/// Begins a batch.
+fn begin(alloc: Global, base: &Base, bytes: &[u8], ordered: bool) -> Result<Ended, Fault> {
     let batch = read::<Batch>(alloc, bytes)?;
     if batch.n != base.number() + 1 {
         return Err(Fault::Unfit);
     }
-    Ok(run_through(alloc, base, batch, ordered)?)
+    Ok(Work::begin(alloc, base, batch, ordered)?)
+}
+
+/// Makes the steps of the group that runs, 4096 at most, always that of the lowest place.
+fn make_steps(alloc: Global, work: &mut Work) -> Result<(), AllocError> {
+    for _ in 0..4096u32 {
+        match work.next_place() {
+            None => return Ok(()),
+            Some(place) => drop(work.step(alloc, place)?),
+        }
+    }
+    Ok(())
+}
+
+/// Runs the groups of a batch one after the other, 64 at most.
+fn run_groups(alloc: Global, work: Work) -> Result<Tentative, Fault> {
+    let mut work = work;
+    for _ in 0..64u32 {
+        make_steps(alloc, &mut work)?;
+        match work.finish(alloc)? {
+            Ended::Done(tentative) => return Ok(tentative),
+            Ended::On(next) => work = next,
+        }
+    }
+    Err(Fault::NotOpen)
+}
+
+/// Runs a batch to its end, step by step.
+fn run(alloc: Global, base: &Base, bytes: &[u8], ordered: bool) -> Result<Tentative, Fault> {
+    match begin(alloc, base, bytes, ordered)? {
+        Ended::Done(tentative) => Ok(tentative),
+        Ended::On(work) => run_groups(alloc, work),
+    }
 }
 
 fn commit(tentative: Tentative) -> Option<Committed> {
@@ -83,7 +116,7 @@ fn after_first(alloc: Global, bytes: &[u8]) -> Result<Committed, Fault> {
 /// The base after batch 1.
 fn base_after(alloc: Global, bytes: &[u8]) -> Result<Base, Fault> {
     let committed = after_first(alloc, bytes)?;
-    Ok(committed.base()?)
+    Ok(committed.as_base().share()?)
 }
 
 /// How a reply looks: `s` for STORED, and 0, 1 or 2 for none, one or more items that a `get` found.
@@ -174,7 +207,7 @@ fn the_token_of_one_set(rt: HostRuntime) -> Result<(), Fail> {
 fn latest(state: &State, key: u8) -> u64 {
     let mut latest = 0;
     for entry in state.pages().page((key % 64) as usize) {
-        latest = entry.1.unique.max(latest);
+        latest = entry.value().unique.max(latest);
     }
     latest
 }
@@ -194,8 +227,7 @@ fn after_full_batch(alloc: Global) -> Result<Committed, Fault> {
 
 /// The greatest uniques on these keys' pages after one more `set` of `a`.
 fn latest_with_one_more(alloc: Global, full: &Committed, keys: [u8; 3]) -> Result<[u64; 3], Fault> {
-    let base = full.base()?;
-    let later = committed(alloc, &base, SET_MORE, false)?;
+    let later = committed(alloc, full.as_base(), SET_MORE, false)?;
     Ok(latest_of(later.state(), keys))
 }
 
@@ -226,11 +258,7 @@ fn run_group(alloc: Global, work: &mut Work) -> Result<(), AllocError> {
 
 /// The token of a batch of one group whose steps are made the last request first.
 fn token_backwards(alloc: Global, base: &Base, bytes: &[u8]) -> Result<Token, Fault> {
-    let batch = read::<Batch>(alloc, bytes)?;
-    if batch.n != base.number() + 1 {
-        return Err(Fault::Unfit);
-    }
-    match Work::begin(alloc, base, batch, false)? {
+    match begin(alloc, base, bytes, false)? {
         Ended::Done(tentative) => Ok(undone(tentative)),
         Ended::On(work) => finished_backwards(alloc, work),
     }
@@ -285,6 +313,34 @@ fn an_item_is_found_until_it_is_due(rt: HostRuntime) -> Result<(), Fail> {
     Ok(())
 }
 
+/// What work tells of its first group: whether no step was made before the first one and some after it,
+/// and which place comes next before and after that step.
+fn first_step(alloc: Global, bytes: &[u8]) -> Result<(bool, Option<u32>, Option<u32>), Fault> {
+    let base = Base::first(alloc)?;
+    match begin(alloc, &base, bytes, false)? {
+        Ended::Done(tentative) => {
+            drop(tentative.undo());
+            Err(Fault::NotOpen)
+        }
+        Ended::On(work) => step_of_first(alloc, work),
+    }
+}
+
+fn step_of_first(alloc: Global, work: Work) -> Result<(bool, Option<u32>, Option<u32>), Fault> {
+    let mut work = work;
+    let (untouched, next) = (work.is_untouched(), work.next_place());
+    let made = work.step(alloc, 0)? && !work.is_untouched();
+    Ok((untouched && made, next, work.next_place()))
+}
+
+#[test]
+fn work_tells_which_place_comes_next(rt: HostRuntime) -> Result<(), Fail> {
+    // The reader at place 1 is in the second group, and the writers are in the first.
+    assert!(rt; first_step(rt.alloc(), THIRD_KEY) == Ok((true, Some(0), Some(2))));
+    assert!(rt; first_step(rt.alloc(), ONE_SET) == Ok((true, Some(0), None)));
+    Ok(())
+}
+
 /// Adds each request of the batch to those that wait.
 fn add_requests(gather: &mut Gather, batch: &Batch) -> Result<(), AllocError> {
     for request in batch.requests.as_slice() {
@@ -333,7 +389,7 @@ fn a_batch_is_cut_of_those_that_wait(rt: HostRuntime) -> Result<(), Fail> {
 fn base_of_tentative(alloc: Global, bytes: &[u8]) -> Result<(Token, Base), Fault> {
     let first = Base::first(alloc)?;
     let tentative = run(alloc, &first, bytes, false)?;
-    let base = tentative.base();
+    let base = tentative.as_base().share();
     let token = undone(tentative);
     Ok((token, base?))
 }

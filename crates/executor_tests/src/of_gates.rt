@@ -2,7 +2,7 @@
 
 use crate::gates::{Counts, Meets, MeetsOutside, StaysInside};
 use crate::tasks::{add_get, add_set};
-use item_steps::{Place, Task};
+use item_steps::{Stamp, Task};
 use pages::Pages;
 use proto::Fault;
 use round::Gate;
@@ -12,7 +12,7 @@ use std::test::*;
 use std::thread::Threads;
 use workers::{Workers, run};
 
-/// Runs the group on pages without items, by so many workers.
+/// Runs the group on pages without items, by that many workers.
 fn run_through<R: Threads + Wait + Sync, G: Gate + Sync>(
     rt: &R,
     alloc: Global,
@@ -23,7 +23,7 @@ fn run_through<R: Threads + Wait + Sync, G: Gate + Sync>(
     let Some(workers) = Workers::new(workers) else {
         return Err(Fault::Unfit);
     };
-    let base = Place {
+    let base = Stamp {
         moment: 5,
         stamp: 0,
     };

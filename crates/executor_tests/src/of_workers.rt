@@ -1,6 +1,6 @@
 use crate::gates::Order;
 use crate::tasks::{add_get, add_incr, add_set, set};
-use item_steps::{Answer, Place, Task, apply};
+use item_steps::{Answer, Stamp, Task, apply};
 use items::{Item, PlainStore};
 use pages::{Page, Pages};
 use proto::{Fault, Reply};
@@ -31,8 +31,8 @@ fn are_same(a: &[Answer], b: &[Answer]) -> bool {
 }
 
 /// The place of a request of the group at this base.
-fn place_of(base: Place, task: &Task) -> Place {
-    Place {
+fn place_of(base: Stamp, task: &Task) -> Stamp {
+    Stamp {
         moment: base.moment,
         stamp: base.stamp.wrapping_add(u64::from(task.place)),
     }
@@ -43,7 +43,7 @@ fn replay_one(
     alloc: Global,
     plain: &mut PlainStore,
     task: &Task,
-    base: Place,
+    base: Stamp,
     answers: &mut Vec<Answer>,
 ) -> Result<(), AllocError> {
     if let Some(step) = task.steps.as_slice().get(answers.len()) {
@@ -58,7 +58,7 @@ fn replay(
     alloc: Global,
     plain: &mut PlainStore,
     group: &[Task],
-    base: Place,
+    base: Stamp,
     order: &[u32],
     answers: &mut Vec<Vec<Answer>>,
 ) -> Result<(), AllocError> {
@@ -79,7 +79,7 @@ fn is_replay(
     alloc: Global,
     plain: &mut PlainStore,
     group: &[Task],
-    base: Place,
+    base: Stamp,
     order: &[u32],
     ran: &[Ran],
 ) -> bool {
@@ -107,13 +107,13 @@ impl Both {
         })
     }
 
-    /// Runs the group on the pages by so many workers. The order that the gate saw goes to `order`.
+    /// Runs the group on the pages by that many workers. The order that the gate saw goes to `order`.
     fn run<R: Threads + Wait + Sync>(
         &mut self,
         rt: &R,
         alloc: Global,
         group: Vec<Task>,
-        base: Place,
+        base: Stamp,
         workers: Workers,
         order: &mut Vec<u32>,
     ) -> Result<Vec<Ran>, Fault> {
@@ -128,14 +128,14 @@ impl Both {
         Ok(ran)
     }
 
-    /// Runs the group by so many workers, and says whether the order that the gate saw gives the same
+    /// Runs the group by that many workers, and says whether the order that the gate saw gives the same
     /// answers on the plain store.
     fn is_replayed<R: Threads + Wait + Sync>(
         &mut self,
         rt: &R,
         alloc: Global,
         group: &Vec<Task>,
-        base: Place,
+        base: Stamp,
         workers: usize,
     ) -> Result<(Vec<Ran>, bool), Fault> {
         let Some(workers) = Workers::new(workers) else {
@@ -149,8 +149,8 @@ impl Both {
 }
 
 /// Where a round of this number begins.
-fn base_of(number: u64) -> Place {
-    Place {
+fn base_of(number: u64) -> Stamp {
+    Stamp {
         moment: 5,
         stamp: number.wrapping_mul(64),
     }
@@ -322,7 +322,7 @@ fn written_pages(alloc: Global) -> Result<Vec<Page>, AllocError> {
     Ok(pages.part())
 }
 
-/// Whether so many workers make the digests that one thread makes of these pages.
+/// Whether that many workers make the digests that one thread makes of these pages.
 fn make_the_same<R: Threads + Sync>(
     rt: &R,
     pages: &mut [Page],

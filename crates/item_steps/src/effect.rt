@@ -1,12 +1,12 @@
 ghost use Rattle.std.specs.Prelude.{◌≡◌, ℕ, IfOk, IfErr, OnOk, OnErr, ◌++◌, Some};
 ghost use Rattle.std.specs.Option.{option_copied};
-ghost use Rattle.item_steps.specs.Effect.{effect, updated, stored, joined, swapped, touched, recounted, counted, number_of, kept, new_item, changed_item};
-ghost use Rattle.item_steps.specs.declared.step.Place.{Place};
+ghost use Rattle.item_steps.specs.Effect.{effect, updated, stored, with_data, swapped, touched, recounted, counted, number_of, kept, new_item, changed_item};
+ghost use Rattle.item_steps.specs.declared.step.Stamp.{Stamp};
 
 use crate::number::{decimal_block, number_in};
-use crate::step::{Answer, Place, Step};
+use crate::step::{Answer, Stamp, Step};
 use items::{Item, Store, due_at};
-use proto::{BLOCK_LIMIT, Block, Reply, StoreVerb, Update};
+use proto::{Block, MOST_BLOCK_BYTES, Reply, StoreVerb, Update};
 use std::alloc::{AllocError, Global};
 
 /// What an update does to the item of its key.
@@ -22,7 +22,7 @@ pub fn apply<S: Store>(
     alloc: Global,
     store: &mut S,
     step: &Step,
-    place: Place,
+    place: Stamp,
 ) -> Result<Answer, AllocError>
     ensures contents { OnOk result (S.contents store.new ≡ (effect (S.contents store.old) step.now place).0) }
     ensures answer { IfOk result (λ answer. answer ≡ (effect (S.contents store.old) step.now place).1) }
@@ -61,7 +61,7 @@ fn keep(item: Item, moment: u32) -> Change
     }
 }
 
-fn item_of(place: Place, flags: u32, exptime: i32, block: &Block) -> Result<Item, AllocError>
+fn item_of(place: Stamp, flags: u32, exptime: i32, block: &Block) -> Result<Item, AllocError>
     ensures { IfOk result (λ item. item ≡ new_item place flags exptime block.now) }
 {
     let unique = place.stamp;
@@ -74,7 +74,7 @@ fn item_of(place: Place, flags: u32, exptime: i32, block: &Block) -> Result<Item
 }
 
 /// The item with other data; flags and due time stay.
-fn changed_item(old: &Item, place: Place, block: Block) -> Item
+fn changed_item(old: &Item, place: Stamp, block: Block) -> Item
     ensures { result ≡ changed_item place old.now block }
 {
     Item {
@@ -89,7 +89,7 @@ fn changed_item(old: &Item, place: Place, block: Block) -> Item
 fn update_item(
     alloc: Global,
     update: &Update,
-    place: Place,
+    place: Stamp,
     old: Option<&Item>,
 ) -> Result<(Change, Reply), AllocError>
     ensures { IfOk result (λ done. done ≡ updated update.now place (option_copied old.entry)) }
@@ -131,7 +131,7 @@ fn store_item(
     flags: u32,
     exptime: i32,
     block: &Block,
-    place: Place,
+    place: Stamp,
     old: Option<&Item>,
 ) -> Result<(Change, Reply), AllocError>
     ensures { IfOk result (λ done. done
@@ -158,19 +158,19 @@ fn store_item(
 fn join_items(
     alloc: Global,
     old: &Item,
-    place: Place,
+    place: Stamp,
     front: &[u8],
     back: &[u8],
 ) -> Result<(Change, Reply), AllocError>
-    ensures { IfOk result (λ done. done ≡ joined place old.now (front.now ++ back.now)) }
+    ensures { IfOk result (λ done. done ≡ with_data place old.now (front.now ++ back.now)) }
 {
-    if front.len() > BLOCK_LIMIT || back.len() > BLOCK_LIMIT - front.len() {
+    if front.len() > MOST_BLOCK_BYTES || back.len() > MOST_BLOCK_BYTES - front.len() {
         return Ok((Change::Leave, Reply::TooLarge));
     }
     let mut block = Vec::with_capacity(alloc, front.len() + back.len())?;
     block.extend_from_slice(front)?;
     block.extend_from_slice(back)?;
-    let item = changed_item(old, place, Block::new(block));
+    let item = changed_item(old, place, Block::new(block)?);
     Ok((Change::Put(item), Reply::Stored))
 }
 
@@ -179,7 +179,7 @@ fn swap_item(
     flags: u32,
     exptime: i32,
     block: &Block,
-    place: Place,
+    place: Stamp,
     old: Option<&Item>,
 ) -> Result<(Change, Reply), AllocError>
     ensures { IfOk result (λ done. done
@@ -197,7 +197,7 @@ fn swap_item(
     }
 }
 
-fn touch_item(exptime: i32, place: Place, old: Option<&Item>) -> Result<(Change, Reply), AllocError>
+fn touch_item(exptime: i32, place: Stamp, old: Option<&Item>) -> Result<(Change, Reply), AllocError>
     ensures { IfOk result (λ done. done ≡ touched exptime place (option_copied old.entry)) }
 {
     match old {
@@ -217,7 +217,7 @@ fn touch_item(exptime: i32, place: Place, old: Option<&Item>) -> Result<(Change,
 /// The item that stands with its number, or the reply where there is none.
 fn old_number(old: Option<&Item>) -> Result<(&Item, u64), Reply>
     ensures found { IfOk result (λ r. (option_copied old.entry ≡ Some r.0.now) × (number_of r.0.now.block ≡ Some r.1)) }
-    ensures missing { IfErr result (λ reply. (f : ℕ → ℕ) (place : Place)
+    ensures missing { IfErr result (λ reply. (f : ℕ → ℕ) (place : Stamp)
         → recounted f place (option_copied old.entry) ≡ (Change.Leave, reply)) }
 {
     match old {
@@ -232,7 +232,7 @@ fn old_number(old: Option<&Item>) -> Result<(&Item, u64), Reply>
 fn count_item(
     alloc: Global,
     old: &Item,
-    place: Place,
+    place: Stamp,
     value: u64,
 ) -> Result<(Change, Reply), AllocError>
     ensures { IfOk result (λ done. done ≡ counted (λ _. value) place old.now (Some value)) }

@@ -1,5 +1,5 @@
 ghost use Rattle.std.specs.Prelude.{◌≡◌, ◌≤◌, ◌++◌, IfOk, OnOk, length};
-ghost use Rattle.proto.specs.Limits.{values_limit};
+ghost use Rattle.proto.specs.declared.key.TheConstants.{MOST_KEYS};
 ghost use Rattle.item_steps.specs.Steps.{steps, reads, reply, value, values, found};
 
 use items::Item;
@@ -22,16 +22,16 @@ pub enum Answer {
 
 /// The moment of a step's batch, and the stamp of its request.
 #[derive(Clone, Copy, PartialEq, Eq)]
-pub struct Place {
+pub struct Stamp {
     pub moment: u32,
     pub stamp: u64,
 }
 
-/// The steps of a command, in order: 64 at most.
+/// The steps of a command, in order: `MOST_KEYS` at most.
 #[tactic(auto, using(crate::proofs::FewLemmas::as_many_reads))]
 pub fn steps_of(alloc: Global, command: &Command) -> Result<Vec<Step>, AllocError>
     ensures steps { IfOk result (λ list. list.items ≡ steps command.now) }
-    ensures few { IfOk result (λ list. length list.items ≤ 64) }
+    ensures few { IfOk result (λ list. length list.items ≤ MOST_KEYS) }
 {
     match command {
         Command::Get(keys) => reads_of(alloc, keys.as_slice()),
@@ -76,7 +76,7 @@ fn values_of(
     answers: &[Answer],
 ) -> Result<Values, AllocError>
     requires one_each { length answers.now ≡ length keys.now }
-    requires few { length keys.now ≤ values_limit }
+    requires few { length keys.now ≤ MOST_KEYS }
     ensures { IfOk result (λ list. list ≡ values with_unique keys.now answers.now) }
 {
     let mut list = Vec::new(alloc);

@@ -3,7 +3,7 @@ use Rattle.std.proofs.Common.{◌≡◌, ℕ, true, List, sym, ap, ◌∙◌}
 use Rattle.std.specs.FinMap.{is_sorted, entries, entries_sorted, get, get-entries, get-from_sorted}
 use Rattle.std.specs.Cmp.Lexicographic.{nat_list_cmp_total}
 use Rattle.std.proofs.lemmas.Map.Entries.{option_filter}
-use Rattle.proto.proofs.MapLemmas.{as_t, from_t, sorted_filter, find_filter}
+use Rattle.base.proofs.MapLemmas.{as_t, from_t, sorted_filter, find_filter}
 use Rattle.items.specs.Map.{Items, by_bytes, alive, is_alive}
 
 -- what stands at a key of the items that are alive

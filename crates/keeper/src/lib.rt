@@ -1,7 +1,8 @@
 //! Where a node keeps its record, so that it is found again after a crash.
 //!
-//! It stands on `proto` (`Fault`). The layer above uses `Keeper::save`: on Ok the record is the one
-//! that was given, and after an error it is the old one, whole, and the count of failures rose.
+//! It stands on `base` (`Text`) and `proto` (`Fault`). The layer above uses `Keeper::save`: on Ok the
+//! record is the text that was given, in its shared pieces, and after an error it is the old one,
+//! whole, and the count of failures rose. A keeper that was told to fail the next save does.
 #![tactic(auto)]
 
 mod keeper;

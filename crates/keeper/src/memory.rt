@@ -1,36 +1,33 @@
-ghost use Rattle.std.specs.Prelude.{◌≡◌, ◌<◌, ◌+◌, ◌^◌, ◌-◌, None, Some, true, false, OnOk, OnErr, Err, IfErr, IsTrue, not, option_map};
+ghost use Rattle.std.specs.Prelude.{◌≡◌, ◌<◌, ◌+◌, ◌^◌, ◌-◌, None, Some, true, false, OnOk, OnErr, Err, IsOk, IsTrue, not};
 
 use crate::keeper::Keeper;
+use base::Text;
 use proto::Fault;
-use std::alloc::Global;
 use std::marker::Model;
 
-/// Keeps its record in memory. For tests of what a node does when a save fails, it can be told to
-/// fail the next one.
+/// Keeps its record in memory: the very text that it was given, for which it takes no memory. For
+/// tests of what a node does when a save fails, it can be told to fail the next one.
 #[derive(Drop)]
 pub struct MemKeeper {
-    alloc: Global,
-    saved: Option<Vec<u8>>,
+    saved: Option<Text>,
     failures: u64,
     fails_next: bool,
 }
 
 impl Model for MemKeeper {
-    ghost use Rattle.std.specs.Prelude.{option_map};
     ghost use Rattle.keeper.specs.Kept.{Kept};
 
     ghost Value = { Kept };
 
-    ghost view = { λ k. record { saved = option_map (λ bytes. bytes.items) k.saved; failures = k.failures; fails_next = k.fails_next } };
+    ghost view = { λ k. record { saved = k.saved; failures = k.failures; fails_next = k.fails_next } };
 }
 
 impl MemKeeper {
     /// A keeper with no record yet.
-    pub fn new(alloc: Global) -> MemKeeper
+    pub fn new() -> MemKeeper
         ensures { result ≡ record { saved = None; failures = 0; fails_next = false } }
     {
         MemKeeper {
-            alloc,
             saved: None,
             failures: 0,
             fails_next: false,
@@ -50,11 +47,14 @@ impl Keeper for MemKeeper {
 
     ghost failed = { λ k. k.failures };
 
-    fn save(&mut self, bytes: &[u8]) -> Result<(), Fault>
+    ghost told = { λ k. k.fails_next };
+
+    /// Stopped: it was told to fail this save. It fails no other one.
+    fn save(&mut self, text: Text) -> Result<(), Fault>
         requires countable { self.old.failures < 2 ^ 64 - 1 }
-        ensures ok { OnOk result (self.new ≡ record self.old { saved = Some bytes.now }) }
+        ensures ok { OnOk result (self.new ≡ record self.old { saved = Some text }) }
         ensures told { IsTrue self.old.fails_next → result ≡ Err Fault.Stopped }
-        ensures not_told { IsTrue (not self.old.fails_next) → IfErr result (λ fault. fault ≡ Fault.NoMemory) }
+        ensures not_told { IsTrue (not self.old.fails_next) → IsOk result }
         ensures err { OnErr result (self.new ≡ record self.old { failures = self.old.failures + 1; fails_next = false }) }
     {
         if self.fails_next {
@@ -62,20 +62,12 @@ impl Keeper for MemKeeper {
             self.failures += 1;
             return Err(Fault::Stopped);
         }
-        match Vec::from_slice(self.alloc, bytes) {
-            Ok(copy) => {
-                self.saved = Some(copy);
-                Ok(())
-            }
-            Err(_) => {
-                self.failures += 1;
-                Err(Fault::NoMemory)
-            }
-        }
+        self.saved = Some(text);
+        Ok(())
     }
 
-    fn load(&self) -> Option<&[u8]> {
-        self.saved.as_ref().map(|bytes| bytes.as_slice())
+    fn load(&self) -> Option<&Text> {
+        self.saved.as_ref()
     }
 
     fn failures(&self) -> u64 {

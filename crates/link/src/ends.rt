@@ -32,7 +32,7 @@ impl<T: Drop> Model for Link<T> {
 }
 
 impl<T: Drop> Link<T> {
-    /// The first end of a link that nothing was put into. The only error is want of memory.
+    /// The first end of a link that nothing was put into. The only error is a failed allocation.
     pub fn new(alloc: Global) -> Result<Link<T>, AllocError>
         ensures { IfOk result (λ end. end ≡ fresh [] []) }
     {

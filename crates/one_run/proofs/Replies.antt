@@ -11,11 +11,11 @@ use Rattle.std.proofs.lemmas.Bool.Decides.{nat_tests}
 use Rattle.std.proofs.lemmas.List.Elements.{Contains-append_left, Contains-append_cases, Contains-push}
 use Rattle.std.proofs.lemmas.List.Folds.{list_any_at}
 use Rattle.sessions.specs.declared.request.Request.{Request}
-use Rattle.sessions.specs.declared.sessions.Kept.{Kept}
+use Rattle.sessions.specs.declared.sessions.LastReply.{LastReply}
 use Rattle.sessions.specs.Fresh.{Replies, next_number, is_next}
 use Rattle.batches.specs.declared.batch.Batch.{Batch}
 use Rattle.executor.specs.declared.answered.Answered.{Answered}
-use Rattle.executor.specs.State.{StateView, first_state}
+use Rattle.states.specs.State.{StateView, initial_state}
 use Rattle.executor.specs.Fresh.{Runner, runs, fresh_after}
 use Rattle.executor.specs.Round.{Round, runners, answered, kept_after}
 use Rattle.one_run.specs.Run.{Executed, IsOver, IsRunFrom, made_in}
@@ -102,15 +102,15 @@ module _ (old new : StateView) (batch : Batch) (ordered : Bool) (replies : List 
       sym w.2 ∙ (ap (answered round.answers) same ∙ v.2))
 
 -- what is kept of an answer
-abbrev kept_of : Answered → Kept
+abbrev kept_of : Answered → LastReply
 kept_of a = record { number = a.number; reply = a.reply }
 
 -- the number after one answer is kept
 number_step : (s : Replies) (a : Answered) (c : ℕ) → ((c ≡ a.client) × (next_number (insert s a.client (kept_of a)) c ≡ a.number + 1)) ⊎ (next_number (insert s a.client (kept_of a)) c ≡ next_number s c)
 number_step s a c =
     let got = get-insert nat_cmp_total s a.client (kept_of a) c in
-    let step : (b : Bool) → eq_by_cmp nat_cmp c a.client ≡ b → next_number (insert s a.client (kept_of a)) c ≡ option_map_or (λ (k : Kept). k.number + 1) (cond b (Some (kept_of a)) (get s c)) 1 =
-    λ b e. ap (λ o. option_map_or (λ (k : Kept). k.number + 1) o 1) (got ∙ ap (λ x. cond x (Some (kept_of a)) (get s c)) e) in
+    let step : (b : Bool) → eq_by_cmp nat_cmp c a.client ≡ b → next_number (insert s a.client (kept_of a)) c ≡ option_map_or (λ (k : LastReply). k.number + 1) (cond b (Some (kept_of a)) (get s c)) 1 =
+    λ b e. ap (λ o. option_map_or (λ (k : LastReply). k.number + 1) o 1) (got ∙ ap (λ x. cond x (Some (kept_of a)) (get s c)) e) in
     elim (cases_Bool (eq_by_cmp nat_cmp c a.client)) [
       | inl e ↦ inl (same_key c a.client e, step true e)
       | inr e ↦ inr (step false e)
@@ -137,7 +137,7 @@ module _ (f : ℕ → ℕ) where
             let got = get-insert nat_cmp_total s x.client (kept_of x) x.client in
             let own : eq_by_cmp nat_cmp x.client x.client ≡ true = grind (arith, nat_tests) in
             let now : next_number (insert s x.client (kept_of x)) x.client ≡ f x.client + 1 =
-            ap (λ o. option_map_or (λ (k : Kept). k.number + 1) o 1) (got ∙ ap (λ b. cond b (Some (kept_of x)) (get s x.client)) own) ∙ ap (λ n. n + 1) (h x (in_head x replies)) in
+            ap (λ o. option_map_or (λ (k : LastReply). k.number + 1) o 1) (got ∙ ap (λ b. cond b (Some (kept_of x)) (get s x.client)) own) ∙ ap (λ n. n + 1) (h x (in_head x replies)) in
             subst (λ (y : Answered). next_number (kept_after (insert s x.client (kept_of x)) replies) y.client ≡ f y.client + 1) same
             (stays (insert s x.client (kept_of x)) replies x.client rest now)
       ]
@@ -154,7 +154,7 @@ module _ (f : ℕ → ℕ) where
       (number_step s a c))
 
 -- what is kept after a round was kept before it, or was answered in it
-kept_from : (s : Replies) (replies : List Answered) (c : ℕ) (k : Kept) → get (kept_after s replies) c ≡ Some k → (get s c ≡ Some k) ⊎ ((a : Answered) × Contains replies a × (a.client ≡ c) × (kept_of a ≡ k))
+kept_from : (s : Replies) (replies : List Answered) (c : ℕ) (k : LastReply) → get (kept_after s replies) c ≡ Some k → (get s c ≡ Some k) ⊎ ((a : Answered) × Contains replies a × (a.client ≡ c) × (kept_of a ≡ k))
 kept_from s [] c k e = inl e
 kept_from s (a ∷ replies) c k e = elim (kept_from (insert s a.client (kept_of a)) replies c k e) [
   | inr (x, there, client, kept) ↦ inr (x, in_tail a x replies there, client, kept)
@@ -222,9 +222,9 @@ once old (e ∷ es) (suc i) (suc j) a b h g k client number =
     (ap suc later.0, later.1)
 
 pub answered_once : AnsweredOnce
-answered_once run i j a b h g k client number = once first_state run i j a b h g k client number
+answered_once run i j a b h g k client number = once initial_state run i j a b h g k client number
 
-was_given : (old : StateView) (run : List Executed) (n : ℕ) (s : StateView) (c : ℕ) (kept : Kept) → IsRunFrom old run → slice_get (old ∷ made_in run) n ≡ Some s → get s.sessions c ≡ Some kept
+was_given : (old : StateView) (run : List Executed) (n : ℕ) (s : StateView) (c : ℕ) (kept : LastReply) → IsRunFrom old run → slice_get (old ∷ made_in run) n ≡ Some s → get s.sessions c ≡ Some kept
     → (get old.sessions c ≡ Some kept) ⊎ WasGiven run n c kept
 was_given old run zero s c kept h at e = inl (ap (λ (x : StateView). get x.sessions c) (the_same old s at) ∙ e)
 was_given old [] (suc n) s c kept h at e = absurd (cc at)
@@ -254,7 +254,7 @@ was_given old (x ∷ run) (suc n) s c kept h at e = elim (was_given x.new run n 
 ]
 
 pub kept_was_given : KeptWasGiven
-kept_was_given run n s c kept h at e = elim (was_given first_state run n s c kept h at e) [
-  | inl first ↦ absurd (let none : get first_state.sessions c ≡ None = get-empty nat_cmp c in let some = sym none ∙ first in cc some)
+kept_was_given run n s c kept h at e = elim (was_given initial_state run n s c kept h at e) [
+  | inl first ↦ absurd (let none : get initial_state.sessions c ≡ None = get-empty nat_cmp c in let some = sym none ∙ first in cc some)
   | inr w ↦ w
 ]

@@ -8,13 +8,13 @@ use Rattle.decrees.specs.declared.decree.Decree.{Decree}
 use Rattle.decrees.specs.declared.decree.Decree.TheVariants.{Commit, Rollback}
 use Rattle.decrees.specs.Standing.{standing}
 use Rattle.batches.specs.declared.batch.Batch.{Batch}
-use Rattle.batches.specs.Limits.{most_requests, greatest_number}
+use Rattle.batches.specs.declared.batch.TheConstants.{MOST_REQUESTS, GREATEST_NUMBER}
 use Rattle.wire.specs.Batch.{batch_text}
-use Rattle.executor.specs.State.{StateView, IsState, first_state, with_token}
+use Rattle.states.specs.State.{StateView, IsState, initial_state, with_token}
 use Rattle.executor.specs.declared.answered.Answered.{Answered}
 use Rattle.executor.specs.Fresh.{Runner, runs}
 use Rattle.executor.specs.Round.{runners, group_of, first_place, steps_in, GroupsRun, answered, kept_after}
-use Rattle.item_steps.specs.declared.step.Place.{Place}
+use Rattle.item_steps.specs.declared.step.Stamp.{Stamp}
 use Rattle.item_steps.specs.declared.step.Answer.{Answer}
 use Rattle.item_steps.specs.declared.step.Answer.TheVariants.{Seen}
 use Rattle.item_steps.specs.Steps.{steps, value}
@@ -23,14 +23,14 @@ use Rattle.std.proofs.lemmas.Map.Entries.{option_filter}
 use Rattle.item_steps.specs.Schedule.{Placed, items_after, answers_in}
 use Rattle.items.specs.Map.{Items, alive, is_alive, by_bytes}
 use Rattle.sessions.specs.declared.request.Request.{Request}
-use Rattle.sessions.specs.declared.sessions.Kept.{Kept}
+use Rattle.sessions.specs.declared.sessions.LastReply.{LastReply}
 use Rattle.proto.specs.declared.command.Command.TheVariants as command
 use Rattle.proto.specs.declared.reply.Reply.TheVariants.{Values}
 use Rattle.std.specs.Option.{option_map_or}
 use Rattle.std.specs.Ordering.{nat_cmp}
 use Rattle.std.specs.List.{range_with_len}
 use Rattle.std.proofs.lemmas.List.Elements.{All-cons, All-nil}
-use Rattle.executor.proofs.StateLemmas.{first_is_state}
+use Rattle.states.proofs.StateLemmas.{first_is_state}
 use Rattle.one_run.specs.Texts.{inner_texts}
 use Rattle.one_run.specs.Run.{Executed, IsOver, states_of}
 use Rattle.one_run.specs.Chosen.{IsMade, commits, IsRunOf, IsCommitted}
@@ -67,10 +67,10 @@ inner_nodes = refl
 one_first : 1 ≤ 1
 one_first = omega arith
 
-one_last : 1 ≤ greatest_number
+one_last : 1 ≤ GREATEST_NUMBER
 one_last = omega arith
 
-none_few : length {A = Request} [] ≤ most_requests
+none_few : length {A = Request} [] ≤ MOST_REQUESTS
 none_few = omega arith
 
 abbrev batch : Batch
@@ -79,11 +79,11 @@ batch = record { epoch = 2; n = 1; moment = 1000; requests = []; first = one_fir
 abbrev second : StateView
 second = with_token (record {
   number = 1;
-  previous = first_state.token;
+  previous = initial_state.token;
   epoch = 2;
   batch = digest (batch_text batch);
   moment = 1000;
-  token = first_state.token;
+  token = initial_state.token;
   sessions = empty;
   items = alive empty 1000;
 })
@@ -91,7 +91,7 @@ second = with_token (record {
 abbrev executed : Executed
 executed = record { batch = batch; ordered = false; new = second; replies = [] }
 
-is_over : IsOver first_state executed
+is_over : IsOver initial_state executed
 is_over = record {
   next = refl;
   round = record {
@@ -127,7 +127,7 @@ second_is_state = record {
 
 second_is_made : IsMade (Contains met) (Contains (executed ∷ [])) (standing (take 1 decrees)) (Commit 1 second.token)
 second_is_made = record {
-  old = first_state;
+  old = initial_state;
   executed = executed;
   is_over = is_over;
   known_round = in_head executed [];
@@ -147,7 +147,7 @@ has_one_round = record { follows = (is_over, tt); one_each = refl; states_met = 
 not_executed : (other : Executed) → other.new ≡ second → IsRunOf (Contains met) (Contains []) decrees (other ∷ []) → ⊥
 not_executed other same run = in_none other (run.known_rounds other (in_head other []))
 
-its_states : states_of (executed ∷ []) ≡ first_state ∷ second ∷ []
+its_states : states_of (executed ∷ []) ≡ initial_state ∷ second ∷ []
 its_states = refl
 
 is_committed : IsCommitted decrees second
@@ -161,7 +161,7 @@ is_of_run = refl
 abbrev request : Request
 request = record { client = 1; number = 1; command = command.Get ((97 ∷ []) ∷ []); is_client = one_first; is_numbered = one_first }
 
-one_few : length (request ∷ []) ≤ most_requests
+one_few : length (request ∷ []) ≤ MOST_REQUESTS
 one_few = omega arith
 
 abbrev asking : Batch
@@ -171,10 +171,10 @@ abbrev its_step : List Placed
 its_step = map (λ step. (0, step)) (steps request.command)
 
 abbrev nothing : Items
-nothing = alive first_state.items 1000
+nothing = alive initial_state.items 1000
 
-abbrev place : Place
-place = first_place first_state asking
+abbrev place : Stamp
+place = first_place initial_state asking
 
 abbrev its_answers : List (ℕ × Answer)
 its_answers = answers_in place nothing its_step ++ []
@@ -185,28 +185,28 @@ reply = answered its_answers (0, request)
 abbrev asked : StateView
 asked = with_token (record {
   number = 1;
-  previous = first_state.token;
+  previous = initial_state.token;
   epoch = 1;
   batch = digest (batch_text asking);
   moment = 1000;
-  token = first_state.token;
-  sessions = kept_after first_state.sessions (reply ∷ []);
+  token = initial_state.token;
+  sessions = kept_after initial_state.sessions (reply ∷ []);
   items = items_after place nothing its_step;
 })
 
 -- it is the client's first request, so it runs
-it_is_next : runs first_state.sessions [] request ≡ true
+it_is_next : runs initial_state.sessions [] request ≡ true
 it_is_next =
-    let none : get first_state.sessions 1 ≡ None = get-empty nat_cmp 1 in
-    ap (λ o. (1 == option_map_or (λ (k : Kept). k.number + 1) o 1) && true) none
+    let none : get initial_state.sessions 1 ≡ None = get-empty nat_cmp 1 in
+    ap (λ o. (1 == option_map_or (λ (k : LastReply). k.number + 1) o 1) && true) none
 
-it_runs : runners first_state asking ≡ (0, request) ∷ []
+it_runs : runners initial_state asking ≡ (0, request) ∷ []
 it_runs = ap (λ b. (if b then (0, request) ∷ [] else []) ++ []) it_is_next
 
 abbrev executed_alone : Executed
 executed_alone = record { batch = asking; ordered = true; new = asked; replies = reply ∷ [] }
 
-its_round : IsOver first_state executed_alone
+its_round : IsOver initial_state executed_alone
 its_round = record {
   next = refl;
   round = record {
@@ -229,5 +229,5 @@ its_round = record {
 -- the reply says that nothing was found
 its_reply : reply.reply ≡ Values []
 its_reply =
-    let none : get nothing (97 ∷ []) ≡ None = get-alive first_state.items 1000 (97 ∷ []) ∙ ap (option_filter (is_alive 1000)) (get-empty by_bytes (97 ∷ [])) in
+    let none : get nothing (97 ∷ []) ≡ None = get-alive initial_state.items 1000 (97 ∷ []) ∙ ap (option_filter (is_alive 1000)) (get-empty by_bytes (97 ∷ [])) in
     ap (λ o. Values (value false (97 ∷ []) (Seen o) ++ [])) none

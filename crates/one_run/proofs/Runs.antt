@@ -8,7 +8,7 @@ use Rattle.decrees.specs.declared.decree.Decree.{Decree}
 use Rattle.decrees.specs.declared.decree.Decree.TheVariants.{Commit, Rollback}
 use Rattle.decrees.specs.declared.standing.Standing.{Standing}
 use Rattle.decrees.specs.Standing.{standing, first_standing, standing_after, decree_at}
-use Rattle.executor.specs.State.{StateView, first_state}
+use Rattle.states.specs.State.{StateView, initial_state}
 use Rattle.one_run.specs.Met.{AreAll, IsKnown, ToldApart}
 use Rattle.one_run.specs.Run.{Executed, IsOver, IsRunFrom, made_in, states_of, Extends}
 use Rattle.one_run.specs.Chosen.{IsMade, AllMade, IsRunOf, IsCommitted, commits, known_by}
@@ -110,13 +110,13 @@ module _ (met later_met : StateView → Type 0) (rounds later_rounds : Executed 
   pub grows : (ds more : List Decree) (run : List Executed) → ((s : StateView) → met s → later_met s) → ((e : Executed) → rounds e → later_rounds e) → ToldApart later_met → AllMade later_met later_rounds (ds ++ more) → IsRunOf met rounds ds run
       → (later : List Executed) × Extends run later × IsRunOf later_met later_rounds (ds ++ more) later
   grows ds more run among made_among apart made built =
-      let stands = end_stands first_standing first_state ds run (refl, refl) built.one_each in
+      let stands = end_stands first_standing initial_state ds run (refl, refl) built.one_each in
       let within : AreAll (made_in run) later_met = λ x c. among x (built.states_met x c) in
-      let rest = more_rounds later_met later_rounds apart more (standing ds) (end_of first_state run) (end_known later_met first_state run (inl refl) within) stands (made_later later_met later_rounds first_standing ds more (all_made_from later_met later_rounds (ds ++ more) made)) in (
+      let rest = more_rounds later_met later_rounds apart more (standing ds) (end_of initial_state run) (end_known later_met initial_state run (inl refl) within) stands (made_later later_met later_rounds first_standing ds more (all_made_from later_met later_rounds (ds ++ more) made)) in (
         run ++ rest.run,
         (rest.run, refl),
         record {
-          follows = run_on first_state run rest.run built.follows rest.follows;
+          follows = run_on initial_state run rest.run built.follows rest.follows;
           one_each = map-append (λ (e : Executed). (e.new.number, e.new.token)) run rest.run ∙ ((λ i. built.one_each i ++ rest.known i) ∙ sym (commits-append ds more));
           states_met = subst (λ l. AreAll l later_met) (sym (map-append (λ (e : Executed). e.new) run rest.run)) (all_both later_met (made_in run) (made_in rest.run) within rest.all_met);
           known_rounds = all_both later_rounds run rest.run (λ x c. made_among x (built.known_rounds x c)) rest.all_known;
@@ -128,7 +128,7 @@ run_grows met later_met rounds later_rounds ds more run among made_among apart m
 
 pub has : (met : StateView → Type 0) (rounds : Executed → Type 0) (ds : List Decree) → ToldApart met → AllMade met rounds ds → (run : List Executed) × IsRunOf met rounds ds run
 has met known ds apart made =
-    let rounds = more_rounds met known apart ds first_standing first_state (inl refl) (refl, refl) (all_made_from met known ds made) in
+    let rounds = more_rounds met known apart ds first_standing initial_state (inl refl) (refl, refl) (all_made_from met known ds made) in
     (rounds.run, record { follows = rounds.follows; one_each = rounds.known; states_met = rounds.all_met; known_rounds = rounds.all_known })
 
 pub has_run : HasRun
@@ -150,7 +150,7 @@ module _ (met : StateView → Type 0) (apart : ToldApart met) where
 
 pub one_run : OneRun
 one_run met rounds ds run other apart built same =
-    ap (λ (l : List StateView). first_state ∷ l) (same_states (Contains met) apart run other built.states_met same.states_met (built.one_each ∙ sym same.one_each))
+    ap (λ (l : List StateView). initial_state ∷ l) (same_states (Contains met) apart run other built.states_met same.states_met (built.one_each ∙ sym same.one_each))
 
 -- a Commit among decrees is one of their Commits
 commit_in : (ds : List Decree) (n : ℕ) (t : Token) → Contains ds (Commit n t) → Contains (commits ds) (n, t)
@@ -210,7 +210,7 @@ module _ (met : StateView → Type 0) (rounds : Executed → Type 0) where
       subst (λ (k : ℕ). slice_get (states_of run) k ≡ Some s) (sym none) (ap (λ (x : StateView). Some x) (sym (is_first met apart s c none)))
   of_run ds run s apart built c (inr committed) =
       let known = subst (λ l. Contains l (s.number, s.token)) (sym built.one_each) (commit_in ds s.number s.token committed) in
-      let f = find first_state run s.number s.token built.follows known in
+      let f = find initial_state run s.number s.token built.follows known in
       let same = both_tell met apart f.state s (inr (built.states_met f.state f.among)) c f.number f.token in
       let place : f.index ≡ s.number = omega (arith, f.counted) in
       subst (λ (k : ℕ). slice_get (states_of run) k ≡ Some s) place (f.there ∙ ap (λ (x : StateView). Some x) same)
@@ -229,11 +229,11 @@ end_number s (e ∷ es) h = omega (arith, end_number e.new es h.1, h.0.next)
 
 pub run_ends : RunEnds
 run_ends met rounds ds run built =
-    let stands = end_stands first_standing first_state ds run (refl, refl) built.one_each in
+    let stands = end_stands first_standing initial_state ds run (refl, refl) built.one_each in
     record {
-      count = omega (arith, end_number first_state run built.follows, stands.0);
-      last = end_of first_state run;
-      is_last = end_at first_state run;
+      count = omega (arith, end_number initial_state run built.follows, stands.0);
+      last = end_of initial_state run;
+      is_last = end_at initial_state run;
       number = stands.0;
       token = stands.1;
     }

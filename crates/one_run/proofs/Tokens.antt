@@ -8,9 +8,9 @@ use Rattle.wire.specs.Token.{token_text}
 use Rattle.wire.specs.SessionLaws.{sessions_prefix_free}
 use Rattle.wire.specs.BatchLaws.{batch_prefix_free}
 use Rattle.wire.specs.Batch.{batch_text}
-use Rattle.wire.specs.TokenLaws.{token_prefix_free}
+use Rattle.wire.specs.TokenLaws.{token_text_free}
 use Rattle.pages.specs.Page.{page_digest, of_each}
-use Rattle.executor.specs.State.{StateView, first_state, token_of, with_token}
+use Rattle.states.specs.State.{StateView, initial_state, token_of, with_token}
 use Rattle.one_run.specs.Texts.{page_texts, inner_texts, told_by, texts_of, Distinct, IsTextOf}
 use Rattle.one_run.specs.Met.{AreAmong, IsKnown, ToldApart}
 use Rattle.one_run.specs.Laws.{NumberAndTokenTell, TokenTells, StateTellsBatch}
@@ -28,7 +28,7 @@ module _ (texts : List (List ℕ)) (distinct : Distinct (Contains texts)) where
   -- what tokens are digests of is the same where they are
   same_told : (s t : StateView) → AreAmong (last_two s) texts → AreAmong (last_two t) texts → token_of s ≡ token_of t → told_by s ≡ told_by t
   same_told s t p q e =
-      same_value token_prefix_free (told_by s) (told_by t)
+      same_value token_text_free (told_by s) (told_by t)
       (distinct (token_text (told_by s)) (token_text (told_by t))
       (among_head (token_text (told_by s)) [] texts (among_tail (sessions_text s.sessions) (token_text (told_by s) ∷ []) texts p))
       (among_head (token_text (told_by t)) [] texts (among_tail (sessions_text t.sessions) (token_text (told_by t) ∷ []) texts q))
@@ -62,7 +62,7 @@ module _ (texts : List (List ℕ)) (distinct : Distinct (Contains texts)) where
       }
 
 module _ (met : StateView → Type 0) (apart : ToldApart met) where
-  -- the texts of two states that were met are told apart
+  -- the texts of two states that were met are identified
   of_two : (s t : StateView) → met s → met t → Distinct (Contains (texts_of s ++ texts_of t))
   of_two s t c d a b p q e = apart.distinct a b (from a p) (from b q) e
     where
@@ -79,7 +79,7 @@ module _ (met : StateView → Type 0) (apart : ToldApart met) where
       e
 
   -- only the first state has number 0
-  pub is_first : (s : StateView) → IsKnown met s → s.number ≡ 0 → s ≡ first_state
+  pub is_first : (s : StateView) → IsKnown met s → s.number ≡ 0 → s ≡ initial_state
   is_first s (inl first) none = first
   is_first s (inr c) none = (apart.states s c).first none
 

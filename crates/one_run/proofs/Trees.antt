@@ -20,7 +20,7 @@ use Rattle.one_run.specs.Texts.{page_texts, pair_texts, inner_texts, Distinct}
 use Rattle.one_run.specs.Met.{AreAmong}
 use Rattle.one_run.proofs.Elements.{among_head, among_tail, among_left, among_right}
 
--- whole texts of one kind are told apart
+-- whole texts of one kind are identified
 pub same_value : {X : Type 0} {text : X → List ℕ} → IsPrefixFree text → (v w : X) → text v ≡ text w → v ≡ w
 same_value {text = text} free v w e = (free.apart v w [] [] (ap (λ (t : List ℕ). t ++ []) e)).0
 

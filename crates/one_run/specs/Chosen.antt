@@ -5,7 +5,7 @@ use Rattle.decrees.specs.declared.decree.Decree.{Decree}
 use Rattle.decrees.specs.declared.decree.Decree.TheVariants.{Commit, Rollback}
 use Rattle.decrees.specs.declared.standing.Standing.{Standing}
 use Rattle.decrees.specs.Standing.{standing, decree_at}
-use Rattle.executor.specs.State.{StateView, first_state}
+use Rattle.states.specs.State.{StateView, initial_state}
 use Rattle.one_run.specs.Met.{AreAll, IsKnown}
 use Rattle.one_run.specs.Run.{Executed, IsOver, IsRunFrom, made_in}
 
@@ -46,7 +46,7 @@ known_by run = map (λ e. (e.new.number, e.new.token)) run
 -- The run of these decrees: its rounds follow one another from the first state, there is one for each
 -- Commit, with its number and token, each was executed, and their states were met.
 pub record IsRunOf (met : StateView → Type 0) (rounds : Executed → Type 0) (decrees : List Decree) (run : List Executed) : Type 0 where
-  pub follows : IsRunFrom first_state run
+  pub follows : IsRunFrom initial_state run
   pub one_each : known_by run ≡ commits decrees
   pub states_met : AreAll (made_in run) met
   pub known_rounds : AreAll run rounds

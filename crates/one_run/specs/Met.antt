@@ -1,6 +1,6 @@
 -- States that were met, by any node at any time.
 use Rattle.std.specs.Prelude.{◌≡◌, ◌⊎◌, ◌<◌, List, Contains}
-use Rattle.executor.specs.State.{StateView, first_state, with_token}
+use Rattle.states.specs.State.{StateView, initial_state, with_token}
 use Rattle.one_run.specs.Texts.{Distinct, IsTextOf}
 
 -- each of these is one of those
@@ -13,11 +13,11 @@ AreAll {X} these such = (x : X) → Contains these x → such x
 
 -- the state is the first one, or was met
 abbrev pub IsKnown : (StateView → Type 0) → StateView → Type 0
-IsKnown met s = (s ≡ first_state) ⊎ met s
+IsKnown met s = (s ≡ initial_state) ⊎ met s
 
 -- only the first state has number 0, and each other has the token of its parts
 pub record IsTold (s : StateView) : Type 0 where
-  pub first : s.number ≡ 0 → s ≡ first_state
+  pub first : s.number ≡ 0 → s ≡ initial_state
   pub token : 0 < s.number → s ≡ with_token s
 
 -- Digests tell these states apart: each has the token of its parts, and their texts have distinct digests.

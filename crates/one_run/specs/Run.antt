@@ -2,7 +2,7 @@
 use Rattle.std.specs.Prelude.{◌≡◌, ◌+◌, Bool, List, [], ◌∷◌, ◌++◌, map}
 use Rattle.batches.specs.declared.batch.Batch.{Batch}
 use Rattle.executor.specs.declared.answered.Answered.{Answered}
-use Rattle.executor.specs.State.{StateView, first_state}
+use Rattle.states.specs.State.{StateView, initial_state}
 use Rattle.executor.specs.Round.{Round}
 
 -- A batch that was executed, whether in batch order, and what it made.
@@ -28,7 +28,7 @@ made_in run = map (λ e. e.new) run
 
 -- the state after so many rounds stands at that place, from 0 on
 abbrev pub states_of : List Executed → List StateView
-states_of run = first_state ∷ made_in run
+states_of run = initial_state ∷ made_in run
 
 -- the rounds of the first run are a beginning of those of the later one
 abbrev pub Extends : List Executed → List Executed → Type 0

@@ -7,7 +7,7 @@ use Rattle.wire.specs.Session.{sessions_text}
 use Rattle.wire.specs.Token.{inner_text, token_text}
 use Rattle.token.specs.Digest.{digest, level, root_of}
 use Rattle.pages.specs.Page.{page_entries, page_digest, of_each}
-use Rattle.executor.specs.State.{StateView}
+use Rattle.states.specs.State.{StateView}
 
 -- of each page
 abbrev pub page_texts : Items → List (List ℕ)

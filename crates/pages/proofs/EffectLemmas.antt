@@ -6,7 +6,7 @@ use Rattle.std.proofs.lemmas.Option.{get_or_from_slice_get}
 use Rattle.proto.specs.Update.{key_of_update}
 use Rattle.items.specs.Map.{Items}
 use Rattle.item_steps.specs.Effect.{effect, changed, updated}
-use Rattle.item_steps.specs.declared.step.Place.{Place}
+use Rattle.item_steps.specs.declared.step.Stamp.{Stamp}
 use Rattle.item_steps.specs.declared.step.Step.{Step}
 use Rattle.item_steps.specs.declared.step.Step.TheVariants.{Read, Update}
 use Rattle.item_steps.specs.declared.step.Answer.TheVariants.{Seen, Did}
@@ -29,11 +29,11 @@ change-at pages a key Leave =
 change-at pages a key (Put item) = joined-insert pages a key item
 change-at pages a key Remove = joined-remove pages a key
 
-answer-at : (pages : List Items) (s : Step) (place : Place) → ArePages pages → (effect (joined pages) s place).1 ≡ (effect (page_at pages (step_key s)) s place).1
+answer-at : (pages : List Items) (s : Step) (place : Stamp) → ArePages pages → (effect (joined pages) s place).1 ≡ (effect (page_at pages (step_key s)) s place).1
 answer-at pages (Read key) place a = ap Seen (joined_at pages key a)
 answer-at pages (Update u) place a = ap (λ found. Did (updated u place found).1) (joined_at pages (key_of_update u) a)
 
-items-at : (pages : List Items) (s : Step) (place : Place) → ArePages pages
+items-at : (pages : List Items) (s : Step) (place : Stamp) → ArePages pages
     → ArePages (set pages (step_page s) (effect (page_at pages (step_key s)) s place).0) × (joined (set pages (step_page s) (effect (page_at pages (step_key s)) s place).0) ≡ (effect (joined pages) s place).0)
 items-at pages (Read key) place a = change-at pages a key Leave
 items-at pages (Update u) place a =
@@ -46,18 +46,18 @@ is_page : (pages : List Items) (p : ℕ) (m : Items) (s : Step) → step_page s 
 is_page pages p m s number here = ap (λ n. get_or pages n no_items) number ∙ get_or_from_slice_get pages p m no_items here
 
 -- a step answers what it answers on its page
-pub effect-answer : (pages : List Items) (p : ℕ) (m : Items) (s : Step) (place : Place) → ArePages pages → step_page s ≡ p → slice_get pages p ≡ Some m
+pub effect-answer : (pages : List Items) (p : ℕ) (m : Items) (s : Step) (place : Stamp) → ArePages pages → step_page s ≡ p → slice_get pages p ≡ Some m
     → (effect (joined pages) s place).1 ≡ (effect m s place).1
 effect-answer pages p m s place a number here = answer-at pages s place a ∙ ap (λ n. (effect n s place).1) (is_page pages p m s number here)
 
 -- it changes what it changes on its page
-pub effect-items : (pages : List Items) (p : ℕ) (m : Items) (s : Step) (place : Place) → ArePages pages → step_page s ≡ p → slice_get pages p ≡ Some m
+pub effect-items : (pages : List Items) (p : ℕ) (m : Items) (s : Step) (place : Stamp) → ArePages pages → step_page s ≡ p → slice_get pages p ≡ Some m
     → (effect (joined pages) s place).0 ≡ joined (slice_set pages p (effect m s place).0)
 effect-items pages p m s place a number here =
     sym (items-at pages s place a).1 ∙ (λ i. joined (set pages (number i) (effect (is_page pages p m s number here i) s place).0))
 
 -- and the pages are pages still
-pub effect-pages : (pages : List Items) (p : ℕ) (m : Items) (s : Step) (place : Place) → ArePages pages → step_page s ≡ p → slice_get pages p ≡ Some m
+pub effect-pages : (pages : List Items) (p : ℕ) (m : Items) (s : Step) (place : Stamp) → ArePages pages → step_page s ≡ p → slice_get pages p ≡ Some m
     → ArePages (slice_set pages p (effect m s place).0)
 effect-pages pages p m s place a number here =
     subst ArePages (λ i. set pages (number i) (effect (is_page pages p m s number here i) s place).0) (items-at pages s place a).0

@@ -6,4 +6,5 @@ pub mod PageLemmas
 pub mod DueLemmas
 pub mod OwnLemmas
 pub mod EffectLemmas
+pub mod OtherLemmas
 mod TreeLemmas

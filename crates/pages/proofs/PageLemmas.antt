@@ -1,6 +1,6 @@
 -- What the text of a page asks of its items, and edits that leave the items as they are.
 use Rattle.std.proofs.Common.{◌≡◌, ℕ, suc, ◌+◌, ◌≤◌, ◌⊎◌, inl, inr, Bool, true, false, cond, not, List, [], ◌∷◌, length, Some, None, Option, refl, sym, ap, ◌∙◌, arith, subst}
-use Rattle.std.specs.Prelude.{filter}
+use Rattle.std.specs.Prelude.{filter, IfSome}
 use Rattle.std.specs.Option.{is_some, option_copied}
 use Rattle.std.specs.Borrow.{Bor}
 use Rattle.std.specs.List.{list_all}
@@ -9,12 +9,14 @@ use Rattle.std.specs.Cmp.Lexicographic.{nat_list_cmp_total}
 use Rattle.std.specs.FinMap.{entries, entries_sorted, from_sorted, insert, remove, get, get-remove, len-entries, len-empty, len-insert, entries-from_sorted, nat_cmp-IsAntisymmetric, slice_cmp-IsAntisymmetric}
 use Rattle.std.specs.FinMap.Entries.{where_key}
 use Rattle.std.proofs.lemmas.Bool.{and_parts, and_from}
-use Rattle.proto.proofs.MapLemmas.{as_t, from_t, from_sorted_is, map_remove, sorted_filter, sorted_without}
+use Rattle.base.proofs.MapLemmas.{as_t, from_t, from_sorted_is, map_remove, sorted_filter, sorted_without}
 use Rattle.items.specs.declared.item.Item.{Item}
 use Rattle.items.specs.Map.{Items, by_bytes, alive, is_alive}
-use Rattle.wire.specs.Item.{PageFits}
+use Rattle.wire.specs.Item.{page_text, PageFits}
+use Rattle.token.specs.Digested.{DigestedView, IsDigested}
 use Rattle.pages.specs.Due.{NoneDueBefore}
-use Rattle.pages.specs.Page.{IsPage, HasRoom, most_entries}
+use Rattle.pages.specs.Page.{IsPage, HasRoom}
+use Rattle.pages.specs.declared.page.TheConstants.{MOST_ENTRIES}
 use Rattle.pages.proofs.KeyLemmas.{same_key, all_keys}
 use Rattle.pages.proofs.JoinedLemmas.{no_items}
 
@@ -58,7 +60,7 @@ fits-insert m k v fits (inl few) = by (is_some (get m k)) refl
 fits-insert m k v fits (inr there) = omega (arith, fits, length-insert m k v ∙ ap (λ b. cond b (length (entries m)) (length (entries m) + 1)) there)
 
 -- where a page has as many as it may have, there is room at its keys alone
-pub room-there : (m : Items) (k : List ℕ) → most_entries ≤ length (entries m) → HasRoom m k → is_some (get m k) ≡ true
+pub room-there : (m : Items) (k : List ℕ) → MOST_ENTRIES ≤ length (entries m) → HasRoom m k → is_some (get m k) ≡ true
 room-there m k full (inl few) = absurd (omega (arith, full, few))
 room-there m k full (inr there) = there
 
@@ -98,11 +100,11 @@ pub all-alive : (m : Items) (moment : ℕ) → alive m moment ≡ m → list_all
 all-alive m moment same =
     ap (list_all (λ e. is_alive moment e.1)) (sym (ap entries same) ∙ entries-alive m moment) ∙ all_filtered _ (entries m)
 
--- a page whose digest is to be made new
-pub page-written : (m n : Items) (soonest : Option ℕ) → m ≡ n → PageFits (entries n) → NoneDueBefore soonest n → IsPage (record { items = m; digest = None }) soonest
-page-written m n soonest same fits none = record {
+-- a page whose digest is to be recomputed
+pub page-written : (m n : Items) (kept : Option DigestedView) (soonest : Option ℕ) → m ≡ n → kept ≡ None → PageFits (entries n) → NoneDueBefore soonest n → IsPage m kept soonest
+page-written m n kept soonest same gone fits none = record {
   fits = subst (λ (k : Items). PageFits (entries k)) (sym same) fits;
-  from_scratch = tt;
+  from_scratch = subst (λ (k : Option DigestedView). IfSome k (IsDigested (page_text (entries m)))) (sym gone) tt;
   soonest_is = subst (NoneDueBefore soonest) (sym same) none;
 }
 

@@ -2,7 +2,7 @@
 use Rattle.std.proofs.Common.{◌≡◌, ℕ, zero, suc, ◌+◌, ◌<◌, ◌≤◌, List, [], ◌∷◌, ◌++◌, map, length, take, drop, get_or, set, Option, IsSome, Result, Ok, Err, OnOk, OnErr, refl, sym, ap, ◌∙◌, arith, subst}
 use Rattle.std.specs.FinMap.{entries}
 use Rattle.std.proofs.lemmas.List.{map-set, set-get_or, get_or-map, length-map, take_more, map_push}
-use Rattle.proto.proofs.ListLemmas.{next-same, next-changed}
+use Rattle.base.proofs.ListLemmas.{next-same, next-changed}
 use Rattle.items.specs.Map.{Items}
 use Rattle.pages.specs.Page.{PageState, page_count, page_entries, refreshed}
 use Rattle.pages.specs.Joined.{ArePages, AreSealed, joined, items_of}
@@ -55,7 +55,7 @@ items-refreshed : (pages : List PageState) → items_of (map refreshed pages) �
 items-refreshed [] = refl
 items-refreshed (page ∷ pages) = ap (λ (ms : List Items). page.items ∷ ms) (items-refreshed pages)
 
--- pages whose digests were made new contain what they did
+-- pages whose digests were recomputed contain what they did
 pub still-items : (pages new : List PageState) → new ≡ map refreshed pages → items_of new ≡ items_of pages
 still-items pages new is = ap items_of is ∙ items-refreshed pages
 

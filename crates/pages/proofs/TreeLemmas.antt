@@ -81,7 +81,7 @@ unmarked changed m i within not = (apart, sym (get_or-set_other changed m i true
     apart e = absurd (let yes : true ≡ false = sym (get_or-set_same changed m true false within) ∙ ap (λ (n : ℕ). get_or (set changed m true) n false) (sym e) ∙ not in cc)
 
 module _ (old nodes : List (List ℕ)) (changed : List Bool) (m : ℕ) (so_far : IsRenewed old nodes changed (m + 1)) (some : 0 < m) (few : m < page_count) where
-  -- a node that stands above a changed one is made new, and marked
+  -- a node that stands above a changed one is recomputed, and marked
   pub renewed-made : (d : List ℕ) → d ≡ digest (inner_text (record { left = get_or nodes (2 * m) []; right = get_or nodes (2 * m + 1) [] }))
       → IsRenewed old (set nodes m d) (set changed m true) m
   renewed-made d made = record {

@@ -1,25 +1,24 @@
 -- The page of a key, the page's part of a map, and what is kept of a page.
-use Rattle.std.specs.Prelude.{◌≡◌, ◌<◌, ◌⊎◌, ℕ, length, IsTrue, List, Option, Some, IfSome, map, sum, filter, ◌%◌, ◌==◌, refl}
+use Rattle.std.specs.Prelude.{◌<◌, ◌⊎◌, ℕ, length, IsTrue, List, Option, Some, IfSome, map, sum, filter, ◌%◌, ◌==◌, refl}
 use Rattle.std.specs.Coded.{Coded, code_by, coded×, coded_option, coded_list, coded_ℕ}
 use Rattle.std.specs.List.{range_with_len}
 use Rattle.std.specs.FinMap.{entries, from_sorted, get}
-use Rattle.std.specs.Option.{is_some}
+use Rattle.std.specs.Option.{is_some, option_map}
 use Rattle.items.specs.declared.item.Item.{Item}
 use Rattle.items.specs.Map.{Items}
 use Rattle.wire.specs.Item.{page_text, PageFits}
 use Rattle.token.specs.Digest.{digest}
+use Rattle.token.specs.declared.tree.TheConstants.{PAGES}
+use Rattle.token.specs.Digested.{DigestedView, IsDigested}
+use Rattle.pages.specs.declared.page.TheConstants.{MOST_ENTRIES}
 use Rattle.pages.specs.Due.{NoneDueBefore}
 
 abbrev pub page_count : ℕ
-page_count = 64
-
--- how many entries a page has at most
-abbrev pub most_entries : ℕ
-most_entries = 4294967295
+page_count = PAGES
 
 -- a page of these items may have one at the key: it has one there, or fewer than it has at most
 abbrev pub HasRoom : Items → List ℕ → Type 0
-HasRoom m key = (length (entries m) < most_entries) ⊎ IsTrue (is_some (get m key))
+HasRoom m key = (length (entries m) < MOST_ENTRIES) ⊎ IsTrue (is_some (get m key))
 
 -- the sum of its bytes, modulo the number of pages
 abbrev pub page_number : List ℕ → ℕ
@@ -46,7 +45,7 @@ pub record PageState : Type 0 where
   pub items : Items
   pub digest : Option (List ℕ)
 
--- a page is told apart by its items and what is kept of their digest
+-- a page is identified by its items and what is kept of their digest
 abbrev pub page_code : Coded Items → Coded PageState
 page_code items = code_by (Items × Option (List ℕ)) (coded× items (coded_option (coded_list coded_ℕ))) (λ a. (a.items, a.digest)) (λ p. record { items = p.0; digest = p.1 }) (λ _. refl)
 
@@ -54,12 +53,16 @@ page_code items = code_by (Items × Option (List ℕ)) (coded× items (coded_opt
 abbrev pub items_digest : Items → List ℕ
 items_digest m = digest (page_text (entries m))
 
--- a page whose digest was made new
+-- a page whose digest was recomputed
 abbrev pub refreshed : PageState → PageState
 refreshed page = record { items = page.items; digest = Some (items_digest page.items) }
 
--- Each page has a text, and where a digest is kept it is that of the items now; no item is due before the time that is kept.
-pub record IsPage (page : PageState) (soonest : Option ℕ) : Type 0 where
-  pub fits : PageFits (entries page.items)
-  pub from_scratch : IfSome page.digest (λ kept. kept ≡ items_digest page.items)
-  pub soonest_is : NoneDueBefore soonest page.items
+-- the digest that is kept beside a text, if one is
+abbrev pub digest_kept : Option DigestedView → Option (List ℕ)
+digest_kept digested = option_map (λ kept. kept.0) digested
+
+-- Each page has a text, and where a digest is kept it is that of the items now, and a text beside it is theirs; no item is due before the time that is kept.
+pub record IsPage (items : Items) (digested : Option DigestedView) (soonest : Option ℕ) : Type 0 where
+  pub fits : PageFits (entries items)
+  pub from_scratch : IfSome digested (IsDigested (page_text (entries items)))
+  pub soonest_is : NoneDueBefore soonest items

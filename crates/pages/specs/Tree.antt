@@ -1,5 +1,5 @@
 -- A tree over the digests of the pages, with all its nodes in one list: node 1 is the root, the nodes
--- below node k are 2k and 2k + 1, and the last 64 are the leaves.
+-- below node k are 2k and 2k + 1, and the last ones, as many as there are pages, are the leaves.
 use Rattle.std.specs.Prelude.{◌≡◌, ℕ, ◌+◌, ◌*◌, ◌<◌, List, [], length, drop, slice_index_or, Bool, false}
 use Rattle.wire.specs.Token.{inner_text}
 use Rattle.token.specs.Digest.{digest}

@@ -3,6 +3,7 @@
 ghost use Rattle.std.specs.Prelude.{◌≡◌, None};
 ghost use Rattle.pages.specs.Due.{is_ahead, sooner, soonest_from};
 
+use base::Entry;
 use items::Item;
 use proto::Key;
 
@@ -28,12 +29,12 @@ pub(crate) fn sooner(a: Option<u64>, b: Option<u64>) -> Option<u64>
 }
 
 /// The soonest time at which an item is due.
-pub(crate) fn soonest_of(entries: &[(Key, Item)]) -> Option<u64>
+pub(crate) fn soonest_of(entries: &[Entry<Key, Item>]) -> Option<u64>
     ensures { result ≡ soonest_from None entries.now }
 {
     let mut soonest = None;
     for entry in entries {
-        soonest = sooner(soonest, entry.1.due);
+        soonest = sooner(soonest, entry.value().due);
     }
     soonest
 }

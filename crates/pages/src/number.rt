@@ -2,9 +2,7 @@ ghost use Rattle.std.specs.Prelude.{◌≡◌, ◌≤◌, ◌<◌, length, sum};
 ghost use Rattle.pages.specs.Page.{page_number, page_count};
 
 use proto::Key;
-
-/// How many pages a store has.
-pub const PAGES: usize = 64;
+use token::PAGES;
 
 fn byte_sum(bytes: &[u8]) -> u32
     requires { length bytes.now ≤ 250 }
@@ -13,7 +11,7 @@ fn byte_sum(bytes: &[u8]) -> u32
     bytes.iter().map(|b| u32::from(*b)).sum()
 }
 
-/// The number of the page in which the key stands.
+/// The number of the page in which the key stands, from 0: the sum of its bytes modulo `PAGES`.
 pub fn page_of(key: &Key) -> usize
     ensures number { result ≡ page_number key.now }
     ensures small { result < page_count }

@@ -1,35 +1,42 @@
-ghost use Rattle.std.specs.Prelude.{◌≡◌, ◌==◌, ◌↔◌, None, IfOk, IfSome, OnOk, OnErr, IsTrue};
+ghost use Rattle.std.specs.Prelude.{◌≡◌, ◌+◌, ◌^◌, ◌==◌, ◌↔◌, None, IfOk, IfSome, OnOk, OnErr, IsTrue};
 ghost use Rattle.std.specs.Option.{option_copied};
 ghost use Rattle.std.specs.List.{list_all};
 ghost use Rattle.std.specs.FinMap as map;
 ghost use Rattle.items.specs.Map.{alive, is_alive};
-ghost use Rattle.wire.specs.Item.{PageFits};
+ghost use Rattle.base.specs.Pieces.{piece_bytes};
+ghost use Rattle.wire.specs.Item.{page_text, PageFits};
+ghost use Rattle.wire.specs.Record.{Puts};
 ghost use Rattle.token.specs.Digest.{root_of};
-ghost use Rattle.pages.specs.Page.{page_number, items_digest, refreshed, most_entries, HasRoom};
+ghost use Rattle.pages.specs.Page.{page_number, items_digest, refreshed, HasRoom};
+ghost use Rattle.pages.specs.declared.page.TheConstants.{MOST_ENTRIES};
 ghost use Rattle.pages.specs.Joined.{IsOwn};
 
 use crate::due::{is_ahead, sooner, soonest_of};
-use crate::number::{PAGES, page_of};
+use crate::number::page_of;
 use crate::tree::Tree;
+use base::{Entry, Piece};
 use items::{Item, PlainStore, Store};
 use proto::Key;
 use std::alloc::{AllocError, Global};
 use std::marker::Model;
 use std::sync::Arc;
-use token::page_digest;
-use wire::Entries;
+use token::{Digested, PAGES};
+use wire::{Entries, Sink, put_page};
 
 /// How many entries a page has at most: its text counts them by four bytes.
 const MOST_ENTRIES: usize = 4294967295;
 
 /// One page: a store by itself.
 ///
-/// Its items are shared with its clones. Where they are, the first write copies them, so a clone
-/// keeps what it had. The digest of the items is kept until a write.
+/// Its entries are shared with its clones. Where they are, the first write copies the pointers to
+/// them, so a clone keeps what it had. The digest of the items and, where there was memory for it,
+/// the text that it is of are kept until a write; clones share that text.
 #[derive(Drop)]
 pub struct Page {
+    alloc: Global,
     store: Arc<PlainStore, Global>,
-    digest: Option<[u8; 32]>,
+    /// Of the page's text; none where it is to be recomputed.
+    digested: Option<Digested>,
     /// No item is due before this time; where there is none, no item is due at all. A remove leaves
     /// it as it is, so it may be earlier than the first item is due.
     soonest: Option<u64>,
@@ -44,40 +51,47 @@ impl Model for Page {
     ghost use Rattle.std.specs.Coded.{coded_list, coded_ℕ};
     ghost use Rattle.std.specs.FinMap as map;
     ghost use Rattle.items.specs.contracts.item.Item as item;
-    ghost use Rattle.pages.specs.Page.{PageState, IsPage, page_code};
+    ghost use Rattle.pages.specs.Page.{PageState, IsPage, digest_kept, page_code};
 
     ghost Value = { PageState };
 
     ghost coded = { page_code (map.code (coded_list coded_ℕ) item.the_row.coded) };
 
-    ghost view = { λ a. record { items = arc_value a.store; digest = a.digest } };
+    ghost view = { λ a. record { items = arc_value a.store; digest = digest_kept a.digested } };
 
-    ghost invariant = { λ a. IsPage (record { items = arc_value a.store; digest = a.digest }) a.soonest };
+    ghost invariant = { λ a. IsPage (arc_value a.store) a.digested a.soonest };
 }
 
 /// Whether no item is due at the moment or before it.
-fn all_alive(entries: &[(Key, Item)], moment: u32) -> bool
+fn all_alive(entries: &[Entry<Key, Item>], moment: u32) -> bool
     ensures { result ≡ list_all (λ entry. is_alive moment entry.1) entries.now }
 {
-    entries.iter().all(|entry| entry.1.is_alive(moment))
+    entries.iter().all(|entry| entry.value().is_alive(moment))
 }
 
 /// Whether each key stands in the page of this number.
-fn all_of_page(entries: &[(Key, Item)], number: usize) -> bool
+fn all_of_page(entries: &[Entry<Key, Item>], number: usize) -> bool
     ensures { result ≡ list_all (λ entry. page_number entry.0 == number) entries.now }
 {
-    entries.iter().all(|entry| page_of(&entry.0) == number)
+    entries.iter().all(|entry| page_of(entry.key()) == number)
+}
+
+/// Lets go of the digest, and of the text beside it.
+fn forget(digested: &mut Option<Digested>)
+    ensures { digested.new ≡ None }
+{
+    *digested = None;
 }
 
 impl Page {
-    /// A page without items. The only error is want of memory.
+    /// A page without items. The only error is a failed allocation.
     pub fn new(alloc: Global) -> Result<Page, AllocError>
         ensures { IfOk result (λ page. page ≡ record { items = map.empty; digest = None }) }
     {
         Page::of_store(alloc, PlainStore::new(alloc))
     }
 
-    /// A page of these entries. The only error is want of memory.
+    /// A page of these entries. The only error is a failed allocation.
     pub fn from_entries(alloc: Global, entries: Entries) -> Result<Page, AllocError>
         requires { PageFits entries }
         ensures { IfOk result (λ page. page ≡ record { items = map.from_sorted entries; digest = None }) }
@@ -91,15 +105,16 @@ impl Page {
     {
         let soonest = soonest_of(store.as_slice());
         Ok(Page {
+            alloc,
             store: Arc::new(alloc, store)?,
-            digest: None,
+            digested: None,
             soonest,
             tree: None,
         })
     }
 
     /// Its entries, in the order of their keys. A page's text can be written of them.
-    pub fn entries(&self) -> &[(Key, Item)]
+    pub fn entries(&self) -> &[Entry<Key, Item>]
         ensures entries { result.now ≡ map.entries self.now.items }
         ensures fit { PageFits result.now }
     {
@@ -113,20 +128,45 @@ impl Page {
         all_of_page(self.entries(), number)
     }
 
-    /// The digest that is kept: none where it is to be made new.
+    /// The digest that is kept: none where it is to be recomputed.
     pub fn digest(&self) -> Option<&[u8; 32]>
         ensures kept { option_copied result ≡ self.now.digest }
         ensures from_scratch { IfSome result (λ kept. kept.now ≡ items_digest self.now.items) }
     {
-        self.digest.as_ref()
+        match &self.digested {
+            Some(digested) => Some(digested.digest()),
+            None => None,
+        }
     }
 
-    /// Makes the digest new where none is kept. This takes no memory.
+    /// The text that is kept beside the digest. None where the digest is to be recomputed, or where
+    /// there was no memory for the text when it was made.
+    pub fn text(&self) -> Option<&Piece>
+        ensures { IfSome result (λ piece. piece_bytes piece.now ≡ page_text (map.entries self.now.items)) }
+    {
+        match &self.digested {
+            Some(digested) => digested.text(),
+            None => None,
+        }
+    }
+
+    /// Writes the page's text: the piece that is kept, shared, or else the entries one by one.
+    pub fn put_text<S: Sink>(&self, sink: &mut S) -> Result<(), S::Refusal>
+        ensures { OnOk result (Puts S.holds (page_text (map.entries self.now.items)) sink.old sink.new) }
+    {
+        match self.text() {
+            Some(piece) => sink.share(piece),
+            None => put_page(self.entries(), sink),
+        }
+    }
+
+    /// Makes the digest new where none is kept, and keeps the text that it is of. Where there is no
+    /// memory for the text the digest is made without it; there is no error.
     pub fn refresh(&mut self)
         ensures { self.new ≡ refreshed self.old }
     {
-        if self.digest.is_none() {
-            self.digest = Some(page_digest(self.entries()));
+        if self.digested.is_none() {
+            self.digested = Some(Digested::of_page(self.alloc, self.store.as_slice()));
         }
     }
 
@@ -149,7 +189,7 @@ impl Page {
         self.tree.is_some()
     }
 
-    /// Keeps the tree over these digests of all pages. The only error is want of memory.
+    /// Keeps the tree over these digests of all pages. The only error is a failed allocation.
     pub(crate) fn keep_tree(
         &mut self,
         alloc: Global,
@@ -176,7 +216,7 @@ impl Page {
     {
         if !all_alive(self.entries(), moment) {
             Arc::make_mut(&mut self.store)?.retain_alive(moment);
-            self.digest = None;
+            forget(&mut self.digested);
         }
         Ok(())
     }
@@ -184,7 +224,7 @@ impl Page {
     /// Whether the page may have an item at this key: it has one there, or fewer entries than it has
     /// at most.
     fn has_room(&self, key: &Key) -> bool
-        ensures limit { MOST_ENTRIES ≡ most_entries }
+        ensures limit { MOST_ENTRIES + 1 ≡ 2 ^ 32 }
         ensures room { IsTrue result ↔ HasRoom self.now.items key.now }
     {
         self.entries().len() < MOST_ENTRIES || self.get(key).is_some()
@@ -197,8 +237,9 @@ impl Clone for Page {
     /// The same page, shared.
     fn clone(&self) -> Result<Page, AllocError> {
         Ok(Page {
+            alloc: self.alloc,
             store: Arc::try_clone(&self.store)?,
-            digest: self.digest,
+            digested: self.digested.clone()?,
             soonest: self.soonest,
             tree: self.tree.clone()?,
         })
@@ -212,7 +253,7 @@ impl Store for Page {
         self.store.get(key)
     }
 
-    /// Refused for want of memory, or in the same way where the page has 2^32 - 1 entries and none at
+    /// Refused where an allocation fails, or in the same way where the page has 2^32 - 1 entries and none at
     /// the key.
     fn put(&mut self, key: Key, item: Item) -> Result<(), AllocError>
         ensures ok { OnOk result (self.new ≡ record { items = map.insert self.old.items key item; digest = None }) }
@@ -223,7 +264,7 @@ impl Store for Page {
         }
         let due = item.due;
         Arc::make_mut(&mut self.store)?.put(key, item)?;
-        self.digest = None;
+        forget(&mut self.digested);
         self.soonest = sooner(self.soonest, due);
         Ok(())
     }
@@ -235,7 +276,7 @@ impl Store for Page {
     {
         if self.get(key).is_some() {
             Arc::make_mut(&mut self.store)?.remove(key)?;
-            self.digest = None;
+            forget(&mut self.digested);
         }
         Ok(())
     }

@@ -5,15 +5,17 @@ ghost use Rattle.wire.specs.Item.{PageFits};
 ghost use Rattle.pages.specs.Page.{page_entries, page_count, refreshed};
 ghost use Rattle.pages.specs.Joined.{ArePages, joined, parts, items_of};
 
-use crate::number::{PAGES, page_of};
+use crate::number::page_of;
 use crate::page::Page;
 use crate::snapshot::Snapshot;
+use base::Entry;
 use items::{Item, Store};
 use proto::Key;
 use std::alloc::{AllocError, Global};
 use std::marker::Model;
+use token::PAGES;
 
-/// A store of 64 pages, each in the order of its keys.
+/// A store of `PAGES` pages, each in the order of its keys.
 #[derive(Drop)]
 pub struct Pages {
     pages: Vec<Page>,
@@ -83,7 +85,7 @@ fn refresh_all(pages: &mut Vec<Page>)
 }
 
 impl Pages {
-    /// Pages without items. The only error is want of memory.
+    /// Pages without items. The only error is a failed allocation.
     pub fn new(alloc: Global) -> Result<Pages, AllocError>
         ensures { IfOk result (λ pages. pages ≡ map.empty) }
     {
@@ -92,7 +94,7 @@ impl Pages {
         Ok(Pages { pages })
     }
 
-    /// The 64 pages that these are together, in the order of their numbers. Page `p` has only keys
+    /// The `PAGES` pages that these are together, in the order of their numbers. Page `p` has only keys
     /// of number `p`.
     pub fn join(pages: Vec<Page>) -> Pages
         requires { ArePages (items_of pages.items) }
@@ -101,7 +103,7 @@ impl Pages {
         Pages { pages }
     }
 
-    /// The 64 pages, in the order of their numbers.
+    /// The pages, in the order of their numbers.
     pub fn part(self) -> Vec<Page>
         ensures { items_of result.items ≡ parts self }
     {
@@ -109,9 +111,10 @@ impl Pages {
         parts
     }
 
-    /// Keeps the pages as they are now. A digest is made new for each page that was written since
+    /// Keeps the pages as they are now. A digest is recomputed for each page that was written since
     /// the pages were last sealed, and for no other, and then the nodes of the tree above those that
-    /// changed. This takes no memory.
+    /// changed. Beside each such digest the page's text is kept where there is memory for it; there
+    /// is no error.
     pub fn seal(self) -> Snapshot
         ensures { result ≡ self }
     {
@@ -121,7 +124,7 @@ impl Pages {
     }
 
     /// The entries of a page, in the order of their keys. A page's text can be written of them.
-    pub fn page(&self, number: usize) -> &[(Key, Item)]
+    pub fn page(&self, number: usize) -> &[Entry<Key, Item>]
         requires { number < page_count }
         ensures entries { result.now ≡ page_entries self.now number }
         ensures fit { PageFits result.now }
@@ -137,7 +140,7 @@ impl Store for Pages {
         self.pages[page_of(key)].get(key)
     }
 
-    /// Refused for want of memory, or in the same way where the key's page has 2^32 - 1 entries and
+    /// Refused where an allocation fails, or in the same way where the key's page has 2^32 - 1 entries and
     /// none at the key.
     fn put(&mut self, key: Key, item: Item) -> Result<(), AllocError> {
         let page = &mut self.pages[page_of(&key)];

@@ -1,16 +1,23 @@
-ghost use Rattle.std.specs.Prelude.{◌≡◌, ◌<◌, IfOk};
-ghost use Rattle.wire.specs.Item.{PageFits};
+ghost use Rattle.std.specs.Prelude.{◌≡◌, ◌<◌, IfOk, IfSome, OnOk};
+ghost use Rattle.base.specs.Pieces.{piece_bytes};
+ghost use Rattle.wire.specs.Item.{page_text, PageFits};
+ghost use Rattle.wire.specs.Record.{Puts};
+ghost use Rattle.items.specs.Map.{alive};
 ghost use Rattle.token.specs.Digest.{root_of};
 ghost use Rattle.pages.specs.Page.{page_entries, page_digest, page_count, of_each};
-ghost use Rattle.pages.specs.Joined.{AreSealed, joined, items_of, root_of_pages};
+ghost use Rattle.pages.specs.Joined.{ArePages, AreSealed, joined, items_of, root_of_pages};
+ghost use Rattle.pages.specs.Others.{AreSameBeside};
 
-use crate::number::PAGES;
 use crate::page::Page;
+use crate::page_set::PageSet;
 use crate::pages::Pages;
+use base::{Entry, Piece};
 use items::Item;
 use proto::Key;
 use std::alloc::AllocError;
 use std::marker::Model;
+use token::PAGES;
+use wire::Sink;
 
 /// Pages that are kept as they are, each beside its digest, and the root over the digests.
 #[derive(Drop)]
@@ -80,6 +87,21 @@ fn grow_tree(pages: &mut Vec<Page>) -> Result<(), AllocError>
     Ok(())
 }
 
+/// The pages of which it is not known, without a look at the items, that nothing is due at the moment
+/// or before it.
+fn due_among(pages: &Vec<Page>, moment: u32) -> PageSet
+    requires { ArePages (items_of pages.now.items) }
+    ensures { AreSameBeside result (joined (items_of pages.now.items)) (alive (joined (items_of pages.now.items)) moment) }
+{
+    let mut due = PageSet::new();
+    for number in 0..PAGES {
+        if !pages[number].has_none_due(moment) {
+            due.add(number);
+        }
+    }
+    due
+}
+
 impl Snapshot {
     /// These pages, whose digests are all kept.
     pub(crate) fn of_sealed(mut pages: Vec<Page>) -> Snapshot
@@ -91,7 +113,7 @@ impl Snapshot {
     }
 
     /// The same pages, shared: no item is copied, but the digests are, 4 KB for the tree over them.
-    /// The only error is want of memory.
+    /// The only error is a failed allocation.
     pub fn share(&self) -> Result<Snapshot, AllocError>
         ensures { IfOk result (λ snapshot. snapshot ≡ self.now) }
     {
@@ -110,8 +132,16 @@ impl Snapshot {
         Pages::join(self.pages)
     }
 
+    /// The pages in which something may be due at the moment or before it: to drop what is due leaves
+    /// all others as they are. It looks at no item.
+    pub fn due_pages(&self, moment: u32) -> PageSet
+        ensures { AreSameBeside result self.now (alive self.now moment) }
+    {
+        due_among(&self.pages, moment)
+    }
+
     /// The entries of a page, in the order of their keys. A page's text can be written of them.
-    pub fn page(&self, number: usize) -> &[(Key, Item)]
+    pub fn page(&self, number: usize) -> &[Entry<Key, Item>]
         requires { number < page_count }
         ensures entries { result.now ≡ page_entries self.now number }
         ensures fit { PageFits result.now }
@@ -126,6 +156,23 @@ impl Snapshot {
         ensures { result.now ≡ page_digest self.now number }
     {
         digest_at(&self.pages, number)
+    }
+
+    /// The text of a page that is kept beside its digest. None where there was no memory for it when
+    /// the pages were sealed.
+    pub fn text(&self, number: usize) -> Option<&Piece>
+        requires { number < page_count }
+        ensures { IfSome result (λ piece. piece_bytes piece.now ≡ page_text (page_entries self.now number)) }
+    {
+        self.pages[number].text()
+    }
+
+    /// Writes the text of a page: the piece that is kept, shared, or else its entries one by one.
+    pub fn put_text<S: Sink>(&self, number: usize, sink: &mut S) -> Result<(), S::Refusal>
+        requires { number < page_count }
+        ensures { OnOk result (Puts S.holds (page_text (page_entries self.now number)) sink.old sink.new) }
+    {
+        self.pages[number].put_text(sink)
     }
 
     /// The root of the tree over the digests of the pages. It was made when the pages were sealed.

@@ -3,18 +3,18 @@ ghost use Rattle.token.specs.Digest.{root_of};
 ghost use Rattle.pages.specs.Page.{page_count};
 ghost use Rattle.pages.specs.Tree.{leaves, IsTree, IsAboveSame};
 
-use crate::number::PAGES;
 use std::alloc::{AllocError, Global};
 use std::marker::Model;
-use token::inner_digest;
+use token::{PAGES, inner_digest};
 
 /// The places of a tree over the digests of all pages. Place 0 is not used.
 const NODES: usize = 2 * PAGES;
 
-/// The tree over the digests of 64 pages, kept, so that other digests renew only what stands above
+/// The tree over the digests of all pages, kept, so that other digests renew only what stands above
 /// those that differ.
 ///
-/// Node 1 is the root, and the nodes below node `n` are `2n` and `2n + 1`. The leaves are the last 64.
+/// Node 1 is the root, and the nodes below node `n` are `2n` and `2n + 1`. The leaves are the last
+/// `PAGES`.
 #[derive(Drop)]
 pub(crate) struct Tree {
     nodes: Vec<[u8; 32]>,
@@ -65,7 +65,7 @@ fn renew_above(nodes: &mut [[u8; 32]], changed: &mut [bool; NODES])
 }
 
 impl Tree {
-    /// The tree over these digests. The only error is want of memory.
+    /// The tree over these digests. The only error is a failed allocation.
     pub(crate) fn new(alloc: Global, digests: &[[u8; 32]; PAGES]) -> Result<Tree, AllocError>
         ensures { IfOk result (λ tree. tree ≡ digests.now) }
     {
@@ -75,7 +75,7 @@ impl Tree {
         Ok(Tree { nodes })
     }
 
-    /// Makes it the tree over these digests. Of the nodes above the leaves just those are made new
+    /// Makes it the tree over these digests. Of the nodes above the leaves just those are recomputed
     /// that stand above a leaf that differs. This takes no memory.
     pub(crate) fn renew(&mut self, digests: &[[u8; 32]; PAGES])
         ensures { self.new ≡ digests.now }

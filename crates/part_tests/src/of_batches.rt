@@ -76,7 +76,7 @@ fn sixty_four_requests_make_one_batch(rt: HostRuntime) -> Result<(), Fail> {
     let alloc = rt.alloc();
     let mut gather = Gather::new(alloc);
     add_clients(alloc, &mut gather, 64)?;
-    let clients = cut_clients(alloc, &mut gather, &Sessions::new(alloc))?;
+    let clients = cut_clients(alloc, &mut gather, &Sessions::new(alloc)?)?;
     assert_eq!(rt; clients.len(), 64);
     assert!(rt; gather.is_empty());
     Ok(())
@@ -89,7 +89,7 @@ fn a_65th_client_waits_for_the_next_batch(rt: HostRuntime) -> Result<(), Fail> {
     add_clients(alloc, &mut gather, 65)?;
     let mut expected = Vec::new(alloc);
     first_numbers(64, &mut expected)?;
-    let sessions = Sessions::new(alloc);
+    let sessions = Sessions::new(alloc)?;
     let first = cut_clients(alloc, &mut gather, &sessions)?;
     assert_eq!(rt; first.as_slice(), expected.as_slice());
     assert_eq!(rt; gather.len(), 1);
@@ -112,7 +112,7 @@ fn add_seven(alloc: Global, gather: &mut Gather) -> Result<(), AllocError> {
 fn a_later_request_goes_last(rt: HostRuntime) -> Result<(), Fail> {
     let alloc = rt.alloc();
     let mut gather = Gather::new(alloc);
-    let mut sessions = Sessions::new(alloc);
+    let mut sessions = Sessions::new(alloc)?;
     keep(alloc, &mut sessions, 1, 1)?;
     keep(alloc, &mut sessions, 3, 1)?;
     add_seven(alloc, &mut gather)?;
@@ -127,11 +127,28 @@ fn a_later_request_goes_last(rt: HostRuntime) -> Result<(), Fail> {
     Ok(())
 }
 
+#[test]
+fn a_cut_that_finds_nothing_changes_nothing(rt: HostRuntime) -> Result<(), Fail> {
+    let alloc = rt.alloc();
+    let mut gather = Gather::new(alloc);
+    add(alloc, &mut gather, 1, 2)?;
+    add(alloc, &mut gather, 2, 3)?;
+    let mut sessions = Sessions::new(alloc)?;
+    let none = cut_clients(alloc, &mut gather, &sessions)?;
+    assert!(rt; none.is_empty());
+    assert_eq!(rt; gather.len(), 2);
+    keep(alloc, &mut sessions, 1, 1)?;
+    let one = cut_clients(alloc, &mut gather, &sessions)?;
+    assert_eq!(rt; one.as_slice(), [1u16].as_slice());
+    assert_eq!(rt; gather.len(), 1);
+    Ok(())
+}
+
 /// The number of the batch that is cut, where one is.
 fn cut_at(alloc: Global, gather: &mut Gather, n: u64) -> Result<Option<u64>, Fault>
     requires { 1 ≤ n }
 {
-    let batch = gather.cut(alloc, 1, n, 1000, &Sessions::new(alloc))?;
+    let batch = gather.cut(alloc, 1, n, 1000, &Sessions::new(alloc)?)?;
     match batch {
         Some(batch) => Ok(Some(batch.n)),
         None => Ok(None),

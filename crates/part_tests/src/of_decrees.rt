@@ -1,3 +1,4 @@
+use base::Text;
 use decrees::{Decree, Log, Standing, Verdict, VoteKey, Votes};
 use proto::Fault;
 use std::alloc::{AllocError, Global};
@@ -34,7 +35,7 @@ fn add_votes(votes: &mut Votes, tokens: &[u8]) -> Result<(), AllocError> {
 fn verdict(alloc: Global, u: u8, tokens: &[u8]) -> Result<Verdict, AllocError> {
     let mut votes = Votes::new(alloc);
     add_votes(&mut votes, tokens)?;
-    Ok(votes.verdict(&Standing::first(), u.min(3)))
+    Ok(votes.verdict(u.min(3), &Standing::first()))
 }
 
 #[test]
@@ -68,7 +69,7 @@ fn add_others(votes: &mut Votes) -> Result<(), AllocError> {
 fn votes_that_do_not_count(rt: HostRuntime) -> Result<(), Fail> {
     let mut votes = Votes::new(rt.alloc());
     add_others(&mut votes)?;
-    assert_eq!(rt; votes.verdict(&Standing::first(), 0), Verdict::Wait);
+    assert_eq!(rt; votes.verdict(0, &Standing::first()), Verdict::Wait);
     votes.drop_old(&Standing {
         n: 1,
         token: token(7),
@@ -77,7 +78,7 @@ fn votes_that_do_not_count(rt: HostRuntime) -> Result<(), Fail> {
     });
     votes.add(key(1, 1, 0), token(7))?;
     assert_eq!(rt;
-        votes.verdict(&Standing::first(), 0),
+        votes.verdict(0, &Standing::first()),
         Verdict::Commit(token(7))
     );
     Ok(())
@@ -114,5 +115,25 @@ fn a_log_and_what_it_stands_for(rt: HostRuntime) -> Result<(), Fail> {
             start: 2
         }
     );
+    Ok(())
+}
+
+#[test]
+fn a_text_of_more_than_one_piece(rt: HostRuntime) -> Result<(), Fail> {
+    let mut log = Log::new(rt.alloc());
+    for _ in 0..2500 {
+        log.learn(Decree::Rollback)?;
+    }
+    log.learn(Decree::Commit {
+        n: 1,
+        token: token(7),
+    })?;
+    let mut text = Text::new(rt.alloc());
+    log.append_text(&mut text)?;
+    let mut expected = vec![in rt.alloc(); 0u8; 2500]?;
+    expected.extend_from_slice(b"\x01\x00\x00\x00\x00\x00\x00\x00\x01".as_slice())?;
+    expected.extend_from_slice(&[7u8; 32])?;
+    let joined = text.joined(rt.alloc())?;
+    assert_eq!(rt; joined.as_slice(), expected.as_slice());
     Ok(())
 }

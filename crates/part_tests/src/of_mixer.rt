@@ -47,7 +47,7 @@ fn set(alloc: Global, name: u8) -> Result<Command, AllocError> {
         key: key(alloc, name)?,
         flags: 0,
         exptime: 0,
-        block: Block::new(Vec::new(alloc)),
+        block: Block::new(Vec::new(alloc))?,
     }))
 }
 

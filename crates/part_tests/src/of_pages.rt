@@ -1,6 +1,7 @@
+use base::{Entry, Text};
 use items::{Item, PlainStore, Store};
-use pages::{PAGES, Page, Pages, Snapshot, page_of};
-use proto::{Block, Key, is_key_text};
+use pages::{PAGES, Page, PageSet, Pages, Snapshot, page_of};
+use proto::{Block, Command, Key, Keys, Update, is_key_text};
 use rand_core::SeedableRng;
 use rand_core::utils::NextWord;
 use rand_pcg::Lcg64Xsh32;
@@ -91,17 +92,17 @@ fn put_entry(hasher: &mut Sha256, key: &Key, item: &Item) {
 }
 
 /// The digest of a page, from scratch: its text is spelled here.
-fn digest_of(entries: &[(Key, Item)], number: usize) -> [u8; 32] {
+fn digest_of(entries: &[Entry<Key, Item>], number: usize) -> [u8; 32] {
     let count = entries
         .iter()
-        .filter(|entry| page_of(&entry.0) == number)
+        .filter(|entry| page_of(entry.key()) == number)
         .count();
     let mut hasher = Sha256::new();
     put_number(&mut hasher, 0, 1);
     put_number(&mut hasher, count as u64, 4);
     for entry in entries {
-        if page_of(&entry.0) == number {
-            put_entry(&mut hasher, &entry.0, &entry.1);
+        if page_of(entry.key()) == number {
+            put_entry(&mut hasher, entry.key(), entry.value());
         }
     }
     hasher.finalize()
@@ -189,6 +190,66 @@ fn digests_of_pages(rt: HostRuntime) -> Result<(), Fail> {
     assert_eq!(rt; kept.digest(33), &EMPTY);
     assert_eq!(rt; kept.page(33).len(), 0);
     assert_eq!(rt; after.page(33).len(), 1);
+    Ok(())
+}
+
+fn has_text(kept: &Snapshot, number: usize, text: &[u8]) -> bool {
+    if PAGES <= number {
+        return false;
+    }
+    match kept.text(number) {
+        Some(piece) => piece.as_slice() == text,
+        None => false,
+    }
+}
+
+#[test]
+fn texts_of_pages(rt: HostRuntime) -> Result<(), Fail> {
+    let one =
+        b"\x00\x00\x00\x00\x01\x01\x61\x00\x00\x00\x00\x00\x00\x00\x00\x00\x00\x00\x00\x40\x00\x00\x00\x01\x35".as_slice();
+    let none = b"\x00\x00\x00\x00\x00".as_slice();
+    let after = with_five(rt.alloc(), &Pages::new(rt.alloc())?.seal())?;
+    let shared = after.share()?;
+    assert!(rt; has_text(&after, 33, one) && has_text(&shared, 33, one));
+    assert!(rt; has_text(&after, 34, none) && has_text(&shared, 34, none));
+    let mut record = Text::new(rt.alloc());
+    after.put_text(34, &mut record)?;
+    after.put_text(33, &mut record)?;
+    let joined = record.joined(rt.alloc())?;
+    assert_eq!(rt; joined.as_slice().get(..5), Some(none));
+    assert_eq!(rt; joined.as_slice().get(5..), Some(one));
+    Ok(())
+}
+
+/// The page 33 with an item that is due at 10, and all others without.
+fn with_a_due_item(alloc: Global) -> Result<Snapshot, AllocError> {
+    let item = Item {
+        block: Block::from_slice(alloc, b"5")?,
+        flags: 0,
+        due: Some(10),
+        unique: 64,
+    };
+    let mut pages = Pages::new(alloc)?;
+    pages.put(key(alloc, b"a")?, item)?;
+    Ok(pages.seal())
+}
+
+fn one_key(alloc: Global, bytes: &[u8]) -> Result<Keys, AllocError> {
+    Ok(Keys::new(vec![in alloc; key(alloc, bytes)?]?))
+}
+
+#[test]
+fn pages_that_may_differ(rt: HostRuntime) -> Result<(), Fail> {
+    let kept = with_a_due_item(rt.alloc())?;
+    assert!(rt; !kept.due_pages(9).has(33));
+    let mut may_differ = kept.due_pages(10);
+    assert!(rt; may_differ.has(33) && !may_differ.has(34) && !may_differ.has(35));
+    may_differ.add_command(&Command::Get(one_key(rt.alloc(), b"b")?));
+    may_differ.add_command(&Command::Update(Update::Delete {
+        key: key(rt.alloc(), b"c")?,
+    }));
+    assert!(rt; may_differ.has(33) && !may_differ.has(34) && may_differ.has(35));
+    assert!(rt; !PageSet::new().has(33));
     Ok(())
 }
 

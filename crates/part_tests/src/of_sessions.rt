@@ -44,7 +44,7 @@ fn keep(
 #[test]
 fn requests_of_a_client_run_in_order(rt: HostRuntime) -> Result<(), Fail> {
     let alloc = rt.alloc();
-    let mut sessions = Sessions::new(alloc);
+    let mut sessions = Sessions::new(alloc)?;
     assert!(rt; is_next(alloc, &sessions, 7, 1)?);
     assert!(rt; !is_next(alloc, &sessions, 7, 2)?);
     keep(alloc, &mut sessions, 7, 1, Reply::Stored)?;
@@ -57,7 +57,7 @@ fn requests_of_a_client_run_in_order(rt: HostRuntime) -> Result<(), Fail> {
 #[test]
 fn after_the_last_number_nothing_is_fresh(rt: HostRuntime) -> Result<(), Fail> {
     let alloc = rt.alloc();
-    let mut sessions = Sessions::new(alloc);
+    let mut sessions = Sessions::new(alloc)?;
     keep(alloc, &mut sessions, 7, u64::MAX, Reply::Stored)?;
     assert!(rt; !is_next(alloc, &sessions, 7, 1)?);
     assert!(rt; !is_next(alloc, &sessions, 7, u64::MAX)?);
@@ -72,7 +72,7 @@ fn keep_three(alloc: Global, sessions: &mut Sessions) -> Result<(), AllocError> 
 
 fn clients_of(sessions: &Sessions, clients: &mut Vec<u16>) -> Result<(), AllocError> {
     for entry in sessions.entries() {
-        clients.push(entry.0)?;
+        clients.push(*entry.key())?;
     }
     Ok(())
 }
@@ -80,7 +80,7 @@ fn clients_of(sessions: &Sessions, clients: &mut Vec<u16>) -> Result<(), AllocEr
 #[test]
 fn what_is_kept_is_found_again(rt: HostRuntime) -> Result<(), Fail> {
     let alloc = rt.alloc();
-    let mut sessions = Sessions::new(alloc);
+    let mut sessions = Sessions::new(alloc)?;
     keep_three(alloc, &mut sessions)?;
     let copy = sessions.clone()?;
     let mut clients = Vec::new(alloc);
@@ -88,6 +88,21 @@ fn what_is_kept_is_found_again(rt: HostRuntime) -> Result<(), Fail> {
     assert_eq!(rt; clients.as_slice(), [3u16, 9].as_slice());
     assert!(rt; matches!(copy.kept(9), Some((2, &Reply::Number(4)))));
     assert!(rt; matches!(copy.kept(3), Some((1, &Reply::NotFound))));
+    assert!(rt; copy.kept(4).is_none());
+    Ok(())
+}
+
+#[test]
+fn a_copy_stays_as_it_was(rt: HostRuntime) -> Result<(), Fail> {
+    let alloc = rt.alloc();
+    let mut sessions = Sessions::new(alloc)?;
+    keep_three(alloc, &mut sessions)?;
+    let copy = sessions.clone()?;
+    keep(alloc, &mut sessions, 9, 3, Reply::Stored)?;
+    keep(alloc, &mut sessions, 4, 1, Reply::Stored)?;
+    assert!(rt; matches!(sessions.kept(9), Some((3, &Reply::Stored))));
+    assert!(rt; matches!(sessions.kept(3), Some((1, &Reply::NotFound))));
+    assert!(rt; matches!(copy.kept(9), Some((2, &Reply::Number(4)))));
     assert!(rt; copy.kept(4).is_none());
     Ok(())
 }
@@ -112,7 +127,7 @@ fn is_kept(sessions: &Sessions, client: u16) -> bool {
 #[test]
 fn a_thousand_clients_are_kept(rt: HostRuntime) -> Result<(), Fail> {
     let alloc = rt.alloc();
-    let mut sessions = Sessions::new(alloc);
+    let mut sessions = Sessions::new(alloc)?;
     keep_a_thousand(alloc, &mut sessions)?;
     assert_eq!(rt; sessions.entries().len(), 1000);
     for client in 1..1001u16 {

@@ -1,6 +1,7 @@
+use sessions::Sessions;
 use sha2::{Digest, Sha256};
 use std::test::Fail;
-use token::{Token, page_digest, root};
+use token::{Digested, Token, page_digest, root};
 use wire::{Record, Sink, read, write};
 
 #[test]
@@ -63,5 +64,22 @@ fn root_of_64_pages(rt: HostRuntime) -> Result<(), Fail> {
         0x39, 0xa4,
     ];
     assert_eq!(rt; page_digest(&[]), empty);
+    Ok(())
+}
+
+#[test]
+fn digest_of_no_sessions(rt: HostRuntime) -> Result<(), Fail> {
+    let digested = Digested::of_sessions(rt.alloc(), &Sessions::new(rt.alloc())?);
+    // By another program, over the byte 03 and four bytes 00.
+    let expected: [u8; 32] = [
+        0xa6, 0x65, 0xe6, 0xb1, 0x15, 0xdd, 0x56, 0xfd, 0x3e, 0x0c, 0x89, 0xbe, 0x63, 0x1e, 0x6e,
+        0xda, 0x8e, 0x96, 0x66, 0xb8, 0x22, 0xe0, 0xbd, 0x70, 0x26, 0xbf, 0x08, 0x22, 0xc4, 0xbb,
+        0xc6, 0x8f,
+    ];
+    assert_eq!(rt; *digested.digest(), expected);
+    let copy = digested.clone()?;
+    assert!(rt;
+        copy.text().is_some_and(|piece| piece.as_slice() == b"\x03\x00\x00\x00\x00".as_slice())
+    );
     Ok(())
 }

@@ -30,7 +30,7 @@ fn add_all(promises: &mut Promises, added: &[Promise]) -> Result<(), AllocError>
 fn choice(alloc: Global, added: &[Promise], known: u64, u: u8) -> Result<Choice, AllocError> {
     let mut promises = Promises::new(alloc);
     add_all(&mut promises, added)?;
-    Ok(promises.choice(known, u.min(3)))
+    Ok(promises.choice(u.min(3), known))
 }
 
 #[test]

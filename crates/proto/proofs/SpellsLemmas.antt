@@ -6,9 +6,10 @@ use Rattle.std.proofs.lemmas.List.{append_assoc, append-nil, drop_all, length-ap
 use Rattle.std.proofs.lemmas.Bool.Decides.{nat_tests}
 use Rattle.std.proofs.lemmas.Bool.{cases_lt}
 use Rattle.proto.specs.Line.{meaning}
-use Rattle.proto.specs.Limits.{block_limit}
-use Rattle.proto.specs.Grammar.{next_turn, first_line, is_newline, turn_of_line, block_turn, Spells, line_limit}
-use Rattle.proto.specs.Reader.{kept_of, blanked, Reading, Reads}
+use Rattle.proto.specs.declared.block.TheConstants.{MOST_BLOCK_BYTES}
+use Rattle.proto.specs.Grammar.{next_turn, first_line, is_newline, turn_of_line, block_turn, Spells}
+use Rattle.proto.specs.declared.line.TheConstants.{MOST_LINE_BYTES}
+use Rattle.proto.specs.Reader.{kept_of, blanked, Reading, ReadsTurns}
 use Rattle.proto.specs.Stage.{HasNoNewline}
 use Rattle.proto.specs.declared.turn.Turn.{Turn}
 use Rattle.proto.specs.declared.turn.Turn.TheVariants.{Ask, Say, Close}
@@ -24,7 +25,7 @@ use Rattle.proto.proofs.NewlineLemmas.{is_ten}
 pub record Splits (bytes text after : List ℕ) : Type 0 where
   pub is : bytes ≡ text ++ 10 ∷ after
   pub one_line : HasNoNewline text
-  pub short : length text < line_limit
+  pub short : length text < MOST_LINE_BYTES
 
 record SplitsAt (n : ℕ) (bytes : List ℕ) : Type 0 where
   is : bytes ≡ before_first is_newline bytes ++ 10 ∷ after_first is_newline bytes
@@ -57,19 +58,19 @@ splits_at (suc n) (x ∷ bytes) h = by (λ (k : list_any is_newline (take n byte
 
 -- a first line, or none
 FirstLine : List ℕ → Option (List ℕ × List ℕ) → Type 0
-FirstLine bytes None = HasNoNewline (take line_limit bytes)
+FirstLine bytes None = HasNoNewline (take MOST_LINE_BYTES bytes)
 FirstLine bytes (Some line) = Splits bytes line.0 line.1
 
 first_line_is : (bytes : List ℕ) → FirstLine bytes (first_line bytes)
 unfolding FirstLine
-first_line_is bytes = by (list_any is_newline (take line_limit bytes)) refl
+first_line_is bytes = by (list_any is_newline (take MOST_LINE_BYTES bytes)) refl
   where
-    by : (b : Bool) → list_any is_newline (take line_limit bytes) ≡ b → FirstLine bytes (if b then Some (before_first is_newline bytes, after_first is_newline bytes) else None)
-    by true e = let s = splits_at line_limit bytes e in record { is = s.is; one_line = s.one_line; short = s.short }
+    by : (b : Bool) → list_any is_newline (take MOST_LINE_BYTES bytes) ≡ b → FirstLine bytes (if b then Some (before_first is_newline bytes, after_first is_newline bytes) else None)
+    by true e = let s = splits_at MOST_LINE_BYTES bytes e in record { is = s.is; one_line = s.one_line; short = s.short }
     by false e = e
 
 -- Either the bytes begin with a line, or not.
-pub by_first_line : (bytes : List ℕ) (P : Type 0) → ((text after : List ℕ) → Splits bytes text after → P) → (HasNoNewline (take line_limit bytes) → P) → P
+pub by_first_line : (bytes : List ℕ) (P : Type 0) → ((text after : List ℕ) → Splits bytes text after → P) → (HasNoNewline (take MOST_LINE_BYTES bytes) → P) → P
 unfolding FirstLine
 by_first_line bytes P split none = by (first_line bytes) (first_line_is bytes)
   where
@@ -102,7 +103,7 @@ turn_extends (Opens h) after more a turn e = by (nat_lt (length after) (h.size +
         let back : drop (h.size + 2) (after ++ more) ≡ drop (h.size + 2) after ++ more = drop-append-le (h.size + 2) after more there in
         rw (still, block, end, back) (ap (λ (r : Option (Turn × List ℕ)). let q = some_turn r in Some (q.0, q.1 ++ more)) is)
 
-next_short : (bytes : List ℕ) → HasNoNewline (take line_limit bytes) → length bytes < line_limit → next_turn bytes ≡ None
+next_short : (bytes : List ℕ) → HasNoNewline (take MOST_LINE_BYTES bytes) → length bytes < MOST_LINE_BYTES → next_turn bytes ≡ None
 unfolding next_turn
 next_short bytes h l = rw h (grind (arith, nat_tests))
 
@@ -111,12 +112,12 @@ next_extends bytes more a turn e = by_first_line bytes _
     (λ text after s.
     let here = sym (ap next_turn s.is ∙ next_line text after s.one_line s.short) ∙ e in
     ap next_turn (ap (λ xs. xs ++ more) s.is ∙ append_assoc text (10 ∷ after) more) ∙ next_line text (after ++ more) s.one_line s.short ∙ turn_extends (meaning text) after more a turn here)
-    (λ none. elim (cases_lt (length bytes) line_limit) [
+    (λ none. elim (cases_lt (length bytes) MOST_LINE_BYTES) [
       | inl short ↦ absurd (let f : None ≡ Some (turn, a) = sym (next_short bytes none short) ∙ e in cc)
       | inr long ↦
-          let first : take line_limit (bytes ++ more) ≡ take line_limit bytes = take-append-le line_limit bytes more long in
+          let first : take MOST_LINE_BYTES (bytes ++ more) ≡ take MOST_LINE_BYTES bytes = take-append-le MOST_LINE_BYTES bytes more long in
           next_long (bytes ++ more) (ap (list_any is_newline) first ∙ none) (rw (length-append bytes more) (omega (arith, long)))
-          ∙ ap (λ xs. Some (Close LineTooLong, xs)) (drop-append-le line_limit bytes more long)
+          ∙ ap (λ xs. Some (Close LineTooLong, xs)) (drop-append-le MOST_LINE_BYTES bytes more long)
           ∙ ap (λ (r : Option (Turn × List ℕ)). let q = some_turn r in Some (q.0, q.1 ++ more)) (sym (next_long bytes none long) ∙ e)
     ])
 
@@ -149,16 +150,16 @@ length_blank size after p = length-append (zeros (min size (length after)) ++ dr
     least m n = grind (arith, nat_tests)
 
 -- A block above the limit is told by its length and what stands behind it.
-same_big : (h : Header) (x y : List ℕ) → nat_lt block_limit h.size ≡ true → length x ≡ length y → drop h.size x ≡ drop h.size y → turn_of_line (Opens h) x ≡ turn_of_line (Opens h) y
+same_big : (h : Header) (x y : List ℕ) → nat_lt MOST_BLOCK_BYTES h.size ≡ true → length x ≡ length y → drop h.size x ≡ drop h.size y → turn_of_line (Opens h) x ≡ turn_of_line (Opens h) y
 same_big h x y big l e =
     let end : slice_range x h.size (h.size + 2) ≡ slice_range y h.size (h.size + 2) = ap (take (h.size + 2 - h.size)) e in
     let back : drop (h.size + 2) x ≡ drop (h.size + 2) y = sym (drop-drop 2 h.size x) ∙ ap (drop 2) e ∙ drop-drop 2 h.size y in
     rw (l, big, end, back) refl
 
-ahead : (text after p : List ℕ) → HasNoNewline text → length text < line_limit → (line : Line) → meaning text ≡ line
+ahead : (text after p : List ℕ) → HasNoNewline text → length text < MOST_LINE_BYTES → (line : Line) → meaning text ≡ line
     → (next_turn (blanked line text after ++ p) ≡ next_turn ((text ++ 10 ∷ after) ++ p)) × (kept_of (blanked line text after ++ p) ≡ kept_of ((text ++ 10 ∷ after) ++ p))
 ahead text after p o l (Whole turn) e = (refl, refl)
-ahead text after p o l (Opens h) e = by (nat_lt block_limit h.size) refl
+ahead text after p o l (Opens h) e = by (nat_lt MOST_BLOCK_BYTES h.size) refl
   where
     blank : List ℕ
     blank = zeros (min h.size (length after)) ++ drop h.size after
@@ -169,7 +170,7 @@ ahead text after p o l (Opens h) e = by (nat_lt block_limit h.size) refl
     kept_at : (x : List ℕ) → kept_of ((text ++ 10 ∷ x) ++ p) ≡ blanked (Opens h) text (x ++ p)
     kept_at x = ap kept_of (append_assoc text (10 ∷ x) p) ∙ kept_line text (x ++ p) o l ∙ ap (λ m. blanked m text (x ++ p)) e
 
-    by : (big : Bool) → nat_lt block_limit h.size ≡ big
+    by : (big : Bool) → nat_lt MOST_BLOCK_BYTES h.size ≡ big
         → (next_turn ((if big then text ++ 10 ∷ (zeros (min h.size (length after)) ++ drop h.size after) else text ++ 10 ∷ after) ++ p) ≡ next_turn ((text ++ 10 ∷ after) ++ p))
         × (kept_of ((if big then text ++ 10 ∷ (zeros (min h.size (length after)) ++ drop h.size after) else text ++ 10 ∷ after) ++ p) ≡ kept_of ((text ++ 10 ∷ after) ++ p))
     by false is = (refl, refl)
@@ -181,7 +182,7 @@ ahead text after p o l (Opens h) e = by (nat_lt block_limit h.size) refl
               ∙ rw (is, length_blank h.size after p, same_rest h.size after p) refl ∙ sym (kept_at after),
         )
 
-no_line_kept : (bytes : List ℕ) → HasNoNewline (take line_limit bytes) → kept_of bytes ≡ bytes
+no_line_kept : (bytes : List ℕ) → HasNoNewline (take MOST_LINE_BYTES bytes) → kept_of bytes ≡ bytes
 unfolding kept_of
 no_line_kept bytes h = rw h refl
 
@@ -196,14 +197,14 @@ kept_ahead bytes p = by_first_line bytes _
     ))
     (λ none. (ap (λ xs. next_turn (xs ++ p)) (no_line_kept bytes none), ap (λ xs. kept_of (xs ++ p)) (no_line_kept bytes none)))
 
-reads_along : (x y : List ℕ) (turns : List Turn) (new : Reading) → next_turn x ≡ next_turn y → kept_of x ≡ kept_of y → Reads x turns new → Reads y turns new
+reads_along : (x y : List ℕ) (turns : List Turn) (new : Reading) → next_turn x ≡ next_turn y → kept_of x ≡ kept_of y → ReadsTurns x turns new → ReadsTurns y turns new
 reads_along x y [] new n k r = (sym n ∙ r.0, r.1 ∙ k, r.2)
 reads_along x y (Close notice ∷ turns) new n k r = (r.0, sym n ∙ r.1, r.2, r.3, r.4)
 reads_along x y (Say notice ∷ turns) new n k r = (r.0, sym n ∙ r.1, r.2)
 reads_along x y (Ask command quiet ∷ turns) new n k r = (r.0, sym n ∙ r.1, r.2)
 
 -- What is read of a stream so far, and then of a piece after what was kept, is what is read of the longer stream.
-pub reads_on : (fed piece : List ℕ) (turns more : List Turn) (old new : Reading) → Reads fed turns old → old.closed ≡ false → Reads (old.kept ++ piece) more new → Reads (fed ++ piece) (turns ++ more) new
+pub reads_on : (fed piece : List ℕ) (turns more : List Turn) (old new : Reading) → ReadsTurns fed turns old → old.closed ≡ false → ReadsTurns (old.kept ++ piece) more new → ReadsTurns (fed ++ piece) (turns ++ more) new
 reads_on fed piece [] more old new r o n =
     let here = ap (λ xs. next_turn (xs ++ piece)) r.1 ∙ (kept_ahead fed piece).0 in
     let kept = ap (λ xs. kept_of (xs ++ piece)) r.1 ∙ (kept_ahead fed piece).1 in
@@ -213,14 +214,14 @@ reads_on fed piece (Say notice ∷ turns) more old new r o n = (r.0 ++ piece, ne
 reads_on fed piece (Ask command quiet ∷ turns) more old new r o n = (r.0 ++ piece, next_extends fed piece r.0 (Ask command quiet) r.1, reads_on r.0 piece turns more old new r.2 o n)
 
 -- after a Close more bytes change nothing
-pub reads_closed : (fed piece : List ℕ) (turns : List Turn) (old : Reading) → Reads fed turns old → old.closed ≡ true → Reads (fed ++ piece) turns old
+pub reads_closed : (fed piece : List ℕ) (turns : List Turn) (old : Reading) → ReadsTurns fed turns old → old.closed ≡ true → ReadsTurns (fed ++ piece) turns old
 reads_closed fed piece [] old r c = absurd (let f : false ≡ true = sym r.2 ∙ c in cc)
 reads_closed fed piece (Close notice ∷ turns) old r c = (r.0 ++ piece, next_extends fed piece r.0 (Close notice) r.1, r.2, r.3, r.4)
 reads_closed fed piece (Say notice ∷ turns) old r c = (r.0 ++ piece, next_extends fed piece r.0 (Say notice) r.1, reads_closed r.0 piece turns old r.2 c)
 reads_closed fed piece (Ask command quiet ∷ turns) old r c = (r.0 ++ piece, next_extends fed piece r.0 (Ask command quiet) r.1, reads_closed r.0 piece turns old r.2 c)
 
 -- what is read is what the bytes spell
-pub reads_spells : (bytes : List ℕ) (turns : List Turn) (new : Reading) → Reads bytes turns new → (rest : List ℕ) × Spells bytes turns rest
+pub reads_spells : (bytes : List ℕ) (turns : List Turn) (new : Reading) → ReadsTurns bytes turns new → (rest : List ℕ) × Spells bytes turns rest
 reads_spells bytes [] new r = (bytes, (r.0, refl))
 reads_spells bytes (Close notice ∷ turns) new r = (r.0, (r.1, r.2))
 reads_spells bytes (Say notice ∷ turns) new r = let s = reads_spells r.0 turns new r.2 in (s.0, (r.0, r.1, s.1))
@@ -275,11 +276,11 @@ next_shorter bytes a turn e = by_first_line bytes _
     let here = sym (ap next_turn s.is ∙ next_line text after s.one_line s.short) ∙ e in
     let less = line_shorter (meaning text) after a turn here in
     rw (s.is, length-append text (10 ∷ after)) (omega (arith, less)))
-    (λ none. elim (cases_lt (length bytes) line_limit) [
+    (λ none. elim (cases_lt (length bytes) MOST_LINE_BYTES) [
       | inl short ↦ absurd (let f : None ≡ Some (turn, a) = sym (next_short bytes none short) ∙ e in cc)
       | inr long ↦
-          let both = same_turn_and_rest (Close LineTooLong) turn (drop line_limit bytes) a (sym (next_long bytes none long) ∙ e) in
-          rw (sym both.1, length-drop line_limit bytes) (omega (arith, long))
+          let both = same_turn_and_rest (Close LineTooLong) turn (drop MOST_LINE_BYTES bytes) a (sym (next_long bytes none long) ∙ e) in
+          rw (sym both.1, length-drop MOST_LINE_BYTES bytes) (omega (arith, long))
     ])
 
 -- any bytes spell some turns

@@ -1,69 +1,70 @@
 ghost use Rattle.std.specs.Prelude.{◌≡◌, ◌≤◌, [], length, IfOk, IsTrue, ◌↔◌};
-ghost use Rattle.proto.specs.Limits.{block_limit};
 
 use std::alloc::{AllocError, Global};
 use std::marker::Model;
+use std::sync::Arc;
 
 /// How many bytes of data an item has at most.
-pub const BLOCK_LIMIT: usize = 65536;
+pub const MOST_BLOCK_BYTES: usize = 65536;
 
-/// The data of an item, or the block of a storage line: at most `BLOCK_LIMIT` bytes.
+/// The data of an item, or the block of a storage line: at most `MOST_BLOCK_BYTES` bytes. Clones
+/// share the bytes.
 #[derive(Drop)]
 pub struct Block {
-    bytes: Vec<u8>,
+    bytes: Arc<Vec<u8>, Global>,
 }
 
 impl Model for Block {
     ghost use Rattle.std.specs.Prelude.{List, ℕ, ◌≤◌, length};
-    ghost use Rattle.proto.specs.Limits.{block_limit};
+    ghost use Rattle.std.specs.Arc.{arc_value};
+    ghost use Rattle.proto.specs.declared.block.TheConstants.{MOST_BLOCK_BYTES};
 
     ghost Value = { List ℕ };
 
-    ghost view = { λ a. a.bytes.items };
+    ghost view = { λ a. (arc_value a.bytes).items };
 
-    ghost invariant = { λ a. length a.bytes.items ≤ block_limit };
+    ghost invariant = { λ a. length (arc_value a.bytes).items ≤ MOST_BLOCK_BYTES };
 }
 
 impl Block {
-    pub fn new(bytes: Vec<u8>) -> Block
-        requires { length bytes.items ≤ block_limit }
-        ensures { result ≡ bytes.items }
+    /// The block of these bytes, which are not copied. The only error is a failed allocation.
+    pub fn new(bytes: Vec<u8>) -> Result<Block, AllocError>
+        requires { length bytes.items ≤ MOST_BLOCK_BYTES }
+        ensures { IfOk result (λ block. block ≡ bytes.items) }
     {
-        Block { bytes }
-    }
-
-    pub fn from_slice(alloc: Global, bytes: &[u8]) -> Result<Block, AllocError>
-        requires { length bytes.now ≤ block_limit }
-        ensures { IfOk result (λ block. block ≡ bytes.now) }
-    {
+        let alloc = *bytes.allocator();
         Ok(Block {
-            bytes: Vec::from_slice(alloc, bytes)?,
+            bytes: Arc::new(alloc, bytes)?,
         })
     }
 
+    /// The block of a copy of these bytes. The only error is a failed allocation.
+    pub fn from_slice(alloc: Global, bytes: &[u8]) -> Result<Block, AllocError>
+        requires { length bytes.now ≤ MOST_BLOCK_BYTES }
+        ensures { IfOk result (λ block. block ≡ bytes.now) }
+    {
+        Block::new(Vec::from_slice(alloc, bytes)?)
+    }
+
+    /// The bytes.
     pub fn as_slice(&self) -> &[u8]
         ensures bytes { result.now ≡ self.now }
-        ensures limit { length self.now ≤ block_limit }
+        ensures limit { length self.now ≤ MOST_BLOCK_BYTES }
     {
         self.bytes.as_slice()
     }
 
-    pub fn into_vec(self) -> Vec<u8>
-        ensures bytes { result.items ≡ self }
-        ensures limit { length self ≤ block_limit }
-    {
-        self.bytes
-    }
-
+    /// Whether it has no byte.
     pub fn is_empty(&self) -> bool
         ensures { IsTrue result ↔ (self.now ≡ []) }
     {
         self.bytes.is_empty()
     }
 
+    /// How many bytes it has.
     pub fn len(&self) -> usize
         ensures len { result ≡ length self.now }
-        ensures limit { result ≤ block_limit }
+        ensures limit { result ≤ MOST_BLOCK_BYTES }
     {
         self.bytes.len()
     }
@@ -72,9 +73,11 @@ impl Block {
 impl Clone for Block {
     ghost is_clone = { λ block copy. copy ≡ block };
 
+    /// The same bytes, shared. It takes no memory, and fails only where a block has too many clones to
+    /// be counted.
     fn clone(&self) -> Result<Block, AllocError> {
         Ok(Block {
-            bytes: self.bytes.clone()?,
+            bytes: Arc::try_clone(&self.bytes)?,
         })
     }
 }

@@ -1,11 +1,11 @@
-ghost use Rattle.std.specs.Prelude.{◌≡◌};
+ghost use Rattle.std.specs.Prelude.{◌≡◌, IfOk};
 ghost use Rattle.proto.specs.Update.{key_of_update};
 
 use crate::block::Block;
 use crate::key::{Key, Keys};
 use std::alloc::AllocError;
 
-/// Which storage line it is.
+/// Which storage line it is (protocol.txt, "Storage commands").
 #[derive(Clone, Copy, PartialEq, Eq)]
 pub enum StoreVerb {
     Set,
@@ -49,7 +49,7 @@ pub enum Update {
     },
 }
 
-/// What a client asks.
+/// What a client asks. Times (`exptime`) are in seconds (protocol.txt, "Expiration times").
 #[derive(Drop)]
 pub enum Command {
     Get(Keys),
@@ -59,6 +59,7 @@ pub enum Command {
 }
 
 impl Update {
+    /// The one key that it changes.
     pub fn key(&self) -> &Key
         ensures { result.now ≡ key_of_update self.now }
     {
@@ -121,13 +122,19 @@ impl Clone for Update {
     }
 }
 
+fn copied(keys: &Keys) -> Result<Keys, AllocError>
+    ensures { IfOk result (λ copy. copy ≡ keys.now) }
+{
+    keys.clone()
+}
+
 impl Clone for Command {
     ghost is_clone = { λ command copy. copy ≡ command };
 
     fn clone(&self) -> Result<Command, AllocError> {
         Ok(match self {
-            Command::Get(keys) => Command::Get(keys.clone()?),
-            Command::Gets(keys) => Command::Gets(keys.clone()?),
+            Command::Get(keys) => Command::Get(copied(keys)?),
+            Command::Gets(keys) => Command::Gets(copied(keys)?),
             Command::Update(update) => Command::Update(update.clone()?),
         })
     }

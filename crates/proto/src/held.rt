@@ -1,5 +1,5 @@
 ghost use Rattle.std.specs.Prelude.{◌≡◌, ◌≤◌, ◌+◌, ◌++◌, [], length, take, IfOk, OnOk, OnErr};
-ghost use Rattle.proto.specs.Limits.{block_limit};
+ghost use Rattle.proto.specs.declared.block.TheConstants.{MOST_BLOCK_BYTES};
 
 use std::alloc::{AllocError, Global};
 use std::marker::Model;
@@ -33,7 +33,7 @@ impl Held {
 
     /// With room for so many bytes.
     pub fn with_room(alloc: Global, room: usize) -> Result<Held, AllocError>
-        requires { room ≤ block_limit + 2 }
+        requires { room ≤ MOST_BLOCK_BYTES + 2 }
         ensures { IfOk result (λ held. held ≡ []) }
     {
         Ok(Held {
@@ -67,7 +67,7 @@ impl Held {
 
     /// Makes room for so many more bytes.
     pub fn reserve(&mut self, more: usize) -> Result<(), AllocError>
-        requires { more ≤ block_limit + 2 }
+        requires { more ≤ MOST_BLOCK_BYTES + 2 }
         ensures { self.new ≡ self.old }
     {
         self.bytes.reserve(more)

@@ -2,13 +2,20 @@ ghost use Rattle.std.specs.Prelude.{◌≡◌, ◌≤◌, ◌↔◌, length, IsT
 ghost use Rattle.std.specs.Cmp.Lexicographic.{slice_cmp};
 ghost use Rattle.std.specs.Ordering.{nat_cmp};
 ghost use Rattle.std.specs.List.{list_all};
-ghost use Rattle.proto.specs.Key.{IsKey, is_key, is_key_byte as key_byte, AreKeys};
+ghost use Rattle.proto.specs.Key.{IsKey, is_key, is_key_byte as key_byte};
 
+use base::{Listed, MapKey};
 use std::alloc::AllocError;
 use std::cmp::Ordering;
 use std::marker::Model;
 
-/// A key: 1 to 250 bytes, each a printing one that is no space.
+/// How many bytes a key has at most (protocol.txt, "Keys").
+pub const MOST_KEY_BYTES: usize = 250;
+
+/// How many keys a line of `get` has at most.
+pub const MOST_KEYS: usize = 64;
+
+/// A key: 1 to `MOST_KEY_BYTES` bytes, each a printing one that is no space (protocol.txt, "Keys").
 #[derive(Drop)]
 pub struct Key {
     bytes: Vec<u8>,
@@ -38,14 +45,16 @@ fn are_key_bytes(bytes: &[u8]) -> bool
     bytes.iter().all(|b| is_key_byte(*b))
 }
 
-/// Whether the bytes may stand as a key.
+/// Whether the bytes may stand as a key: 1 to `MOST_KEY_BYTES`, and none a space or a control
+/// character (protocol.txt, "Keys").
 pub fn is_key_text(bytes: &[u8]) -> bool
     ensures { result ≡ is_key bytes.now }
 {
-    1 <= bytes.len() && bytes.len() <= 250 && are_key_bytes(bytes)
+    1 <= bytes.len() && bytes.len() <= MOST_KEY_BYTES && are_key_bytes(bytes)
 }
 
 impl Key {
+    /// The key of these bytes, which may stand as one (`is_key_text`).
     pub fn new(bytes: Vec<u8>) -> Key
         requires { IsKey bytes.items }
         ensures { result ≡ bytes.items }
@@ -53,6 +62,7 @@ impl Key {
         Key { bytes }
     }
 
+    /// Its bytes.
     pub fn as_slice(&self) -> &[u8]
         ensures bytes { result.now ≡ self.now }
         ensures valid { IsKey self.now }
@@ -60,6 +70,7 @@ impl Key {
         self.bytes.as_slice()
     }
 
+    /// The order of their bytes, from the first on.
     pub fn compare(&self, other: &Key) -> Ordering
         ensures { result ≡ slice_cmp nat_cmp self.now other.now }
     {
@@ -67,39 +78,8 @@ impl Key {
     }
 }
 
-/// The keys of a line of `get`: 1 to 64 of them.
-#[derive(Drop)]
-pub struct Keys {
-    keys: Vec<Key>,
-}
-
-impl Model for Keys {
-    ghost use Rattle.std.specs.Prelude.{List, ℕ};
-
-    ghost Value = { List (List ℕ) };
-
-    ghost use Rattle.proto.specs.Key.{AreKeys};
-
-    ghost view = { λ a. a.keys.items };
-
-    ghost invariant = { λ a. AreKeys a.keys.items };
-}
-
-impl Keys {
-    pub fn new(keys: Vec<Key>) -> Keys
-        requires { AreKeys keys.items }
-        ensures { result ≡ keys.items }
-    {
-        Keys { keys }
-    }
-
-    pub fn as_slice(&self) -> &[Key]
-        ensures keys { result.now ≡ self.now }
-        ensures valid { AreKeys self.now }
-    {
-        self.keys.as_slice()
-    }
-}
+/// The keys of a line of `get`: 1 to `MOST_KEYS` of them.
+pub type Keys = Listed<Key, 1, MOST_KEYS>;
 
 impl Clone for Key {
     ghost is_clone = { λ key copy. copy ≡ key };
@@ -107,16 +87,6 @@ impl Clone for Key {
     fn clone(&self) -> Result<Key, AllocError> {
         Ok(Key {
             bytes: self.bytes.clone()?,
-        })
-    }
-}
-
-impl Clone for Keys {
-    ghost is_clone = { λ keys copy. copy ≡ keys };
-
-    fn clone(&self) -> Result<Keys, AllocError> {
-        Ok(Keys {
-            keys: self.keys.clone()?,
         })
     }
 }
@@ -133,4 +103,48 @@ impl PartialEq for Key {
     fn eq(&self, other: &Key) -> bool {
         self.bytes.as_slice() == other.bytes.as_slice()
     }
+}
+
+impl Eq for Key {
+    ghost use Rattle.std.specs.Cmp.Lexicographic.{nat_list_eq_equiv};
+
+    ghost laws = { nat_list_eq_equiv };
+}
+
+impl PartialOrd for Key {
+    ghost use Rattle.std.specs.Prelude.{Some};
+    ghost use Rattle.std.specs.Ordering.{nat_cmp};
+    ghost use Rattle.std.specs.Cmp.Lexicographic.{slice_cmp, texts_po};
+
+    ghost partial_cmp = { λ a b. Some (slice_cmp nat_cmp a b) };
+
+    ghost laws = { texts_po };
+
+    fn partial_cmp(&self, other: &Key) -> Option<Ordering> {
+        Some(self.cmp(other))
+    }
+}
+
+impl Ord for Key {
+    ghost use Rattle.std.specs.Prelude.{refl};
+    ghost use Rattle.std.specs.Ordering.{nat_cmp};
+    ghost use Rattle.std.specs.Cmp.Lexicographic.{slice_cmp, nat_list_cmp_total, texts_ties};
+
+    ghost cmp = { slice_cmp nat_cmp };
+
+    ghost total = { nat_list_cmp_total };
+
+    ghost matches_partial_cmp = { λ a b. refl };
+
+    ghost matches_eq = { texts_ties };
+
+    fn cmp(&self, other: &Key) -> Ordering {
+        self.compare(other)
+    }
+}
+
+impl MapKey for Key {
+    ghost use Rattle.std.specs.FinMap.{nat_cmp-IsAntisymmetric, slice_cmp-IsAntisymmetric};
+
+    ghost only_equal_tie = { slice_cmp-IsAntisymmetric nat_cmp-IsAntisymmetric };
 }

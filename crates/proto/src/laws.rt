@@ -4,7 +4,7 @@
 ghost use Rattle.std.specs.Prelude.{◌≡◌, ◌++◌, List, ℕ, true, false};
 ghost use Rattle.proto.specs.declared.turn.Turn.{Turn};
 ghost use Rattle.proto.specs.Grammar.{Spells};
-ghost use Rattle.proto.specs.Reader.{Reads, Reading};
+ghost use Rattle.proto.specs.Reader.{ReadsTurns, Reading};
 
 /// One list of bytes spells one list of turns, and leaves one rest.
 pub fn one_list_is_spelled()
@@ -24,13 +24,13 @@ pub fn longer_bytes_spell_more()
 pub fn pieces_add_up()
     // A piece after what was kept goes on as the stream does.
     ensures more { (fed piece : List ℕ) (turns more : List Turn) (old new : Reading)
-        → Reads fed turns old → old.closed ≡ false → Reads (old.kept ++ piece) more new
-        → Reads (fed ++ piece) (turns ++ more) new }
+        → ReadsTurns fed turns old → old.closed ≡ false → ReadsTurns (old.kept ++ piece) more new
+        → ReadsTurns (fed ++ piece) (turns ++ more) new }
 
     // After a Close nothing changes.
     ensures closed { (fed piece : List ℕ) (turns : List Turn) (old : Reading)
-        → Reads fed turns old → old.closed ≡ true → Reads (fed ++ piece) turns old }
+        → ReadsTurns fed turns old → old.closed ≡ true → ReadsTurns (fed ++ piece) turns old }
 
     ensures spelled { (fed : List ℕ) (turns : List Turn) (old : Reading)
-        → Reads fed turns old → (rest : List ℕ) × Spells fed turns rest }
+        → ReadsTurns fed turns old → (rest : List ℕ) × Spells fed turns rest }
 {}

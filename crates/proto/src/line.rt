@@ -4,6 +4,9 @@ use crate::command::StoreVerb;
 use crate::key::Key;
 use crate::turn::Turn;
 
+/// How many bytes a line has at most, with its newline.
+pub const MOST_LINE_BYTES: usize = 2048;
+
 /// The line of a storage command: its block follows.
 #[derive(Drop)]
 pub struct Header {

@@ -1,16 +1,18 @@
 //! A client's stream, piece by piece.
 
 ghost use Rattle.std.specs.Prelude.{◌≡◌, ◌≤◌, ◌+◌, ◌++◌, [], true, false, IfOk, OnOk, OnErr};
-ghost use Rattle.proto.specs.Reader.{Reads, Reading};
-ghost use Rattle.proto.specs.Stage.{IsStage, bytes_of, reading};
+ghost use Rattle.proto.specs.Reader.{ReadsTurns, Reading};
+ghost use Rattle.proto.specs.declared.block.TheConstants.{MOST_BLOCK_BYTES};
+ghost use Rattle.proto.specs.declared.line.TheConstants.{MOST_LINE_BYTES};
+ghost use Rattle.proto.specs.Stage.{IsStage, staged, reading};
 
 use crate::stage::Stage;
 use crate::turn::Turn;
 use std::alloc::{AllocError, Global};
 use std::marker::Model;
 
-/// Reads a client's stream. It keeps what came of the next turn: at most 65,536 + 2,050 bytes. The
-/// bytes of a block above the limit are only counted.
+/// Reads a client's stream. It keeps what came of the next turn: at most `MOST_BLOCK_BYTES`,
+/// `MOST_LINE_BYTES` and two more. The bytes of a block above the limit are only counted.
 #[derive(Drop)]
 pub struct Reader {
     stage: Stage,
@@ -37,7 +39,7 @@ fn read_piece(
     piece: &[u8],
 ) -> Result<(Vec<Turn>, bool), AllocError>
     requires { IsStage stage.old }
-    ensures reads { IfOk result (λ r. Reads (bytes_of stage.old ++ piece.now) r.0.items (reading stage.new r.1)) }
+    ensures reads { IfOk result (λ r. ReadsTurns (staged stage.old ++ piece.now) r.0.items (reading stage.new r.1)) }
     ensures stage { OnOk result (IsStage stage.new) }
 {
     let mut turns = Vec::new(alloc);
@@ -58,6 +60,7 @@ fn read_piece(
 }
 
 impl Reader {
+    /// Of a stream of which nothing came yet.
     pub fn new(alloc: Global) -> Reader
         ensures kept { result.kept ≡ [] }
         ensures open { result.closed ≡ false }
@@ -69,14 +72,14 @@ impl Reader {
     }
 
     /// The turns that the next piece of the stream ends, in order. After a Close there are none,
-    /// whatever comes. The only error is want of memory, and it changes nothing.
+    /// whatever comes. The only error is a failed allocation, and it changes nothing.
     ///
     /// A piece in which no turn ends is added in place, and what was kept is copied only where one
     /// does, so the cost is linear in the bytes, however they are cut.
     pub fn feed(&mut self, alloc: Global, piece: &[u8]) -> Result<Vec<Turn>, AllocError>
-        ensures turns { IfOk result (λ turns. self.old.closed ≡ false → Reads (self.old.kept ++ piece.now) turns.items self.new) }
+        ensures turns { IfOk result (λ turns. self.old.closed ≡ false → ReadsTurns (self.old.kept ++ piece.now) turns.items self.new) }
         ensures closed { IfOk result (λ turns. self.old.closed ≡ true → (turns.items ≡ []) × (self.new ≡ self.old)) }
-        ensures held { self.new.held ≤ 65536 + 2050 }
+        ensures held { self.new.held ≤ MOST_BLOCK_BYTES + (MOST_LINE_BYTES + 2) }
         ensures err { OnErr result (self.new ≡ self.old) }
     {
         if self.closed {

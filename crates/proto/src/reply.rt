@@ -1,10 +1,9 @@
-ghost use Rattle.std.specs.Prelude.{◌≡◌, ◌≤◌, length};
-ghost use Rattle.proto.specs.Limits.{values_limit};
+ghost use Rattle.std.specs.Prelude.{◌≡◌, IfOk};
 
 use crate::block::Block;
-use crate::key::Key;
+use crate::key::{Key, MOST_KEYS};
+use base::Listed;
 use std::alloc::AllocError;
-use std::marker::Model;
 
 /// One item that a `get` found, and its unique for a `gets`.
 #[derive(Drop)]
@@ -15,41 +14,10 @@ pub struct Found {
     pub unique: Option<u64>,
 }
 
-/// What a line of `get` found, in the order of its keys: at most as many items as it has keys, 64.
-#[derive(Drop)]
-pub struct Values {
-    found: Vec<Found>,
-}
+/// What a line of `get` found, in the order of its keys: at most as many items as it has keys.
+pub type Values = Listed<Found, 0, MOST_KEYS>;
 
-impl Model for Values {
-    ghost use Rattle.std.specs.Prelude.{List, ◌≤◌, length};
-    ghost use Rattle.proto.specs.Limits.{values_limit};
-    ghost use Rattle.proto.specs.declared.reply.Found.{Found};
-
-    ghost Value = { List Found };
-
-    ghost view = { λ a. a.found.items };
-
-    ghost invariant = { λ a. length a.found.items ≤ values_limit };
-}
-
-impl Values {
-    pub fn new(found: Vec<Found>) -> Values
-        requires { length found.items ≤ values_limit }
-        ensures { result ≡ found.items }
-    {
-        Values { found }
-    }
-
-    pub fn as_slice(&self) -> &[Found]
-        ensures found { result.now ≡ self.now }
-        ensures limit { length self.now ≤ values_limit }
-    {
-        self.found.as_slice()
-    }
-}
-
-/// The answer to a command.
+/// The answer to a command. Its bytes are what `write_reply` adds.
 #[derive(Drop)]
 pub enum Reply {
     Stored,
@@ -77,14 +45,10 @@ impl Clone for Found {
     }
 }
 
-impl Clone for Values {
-    ghost is_clone = { λ values copy. copy ≡ values };
-
-    fn clone(&self) -> Result<Values, AllocError> {
-        Ok(Values {
-            found: self.found.clone()?,
-        })
-    }
+fn copied(values: &Values) -> Result<Values, AllocError>
+    ensures { IfOk result (λ copy. copy ≡ values.now) }
+{
+    values.clone()
 }
 
 impl Clone for Reply {
@@ -99,7 +63,7 @@ impl Clone for Reply {
             Reply::Deleted => Reply::Deleted,
             Reply::Touched => Reply::Touched,
             Reply::Number(number) => Reply::Number(*number),
-            Reply::Values(values) => Reply::Values(values.clone()?),
+            Reply::Values(values) => Reply::Values(copied(values)?),
             Reply::TooLarge => Reply::TooLarge,
             Reply::NotNumber => Reply::NotNumber,
         })

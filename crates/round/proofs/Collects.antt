@@ -7,7 +7,7 @@ use Rattle.std.proofs.lemmas.List.FromFn.{length-range_with_len}
 use Rattle.item_steps.specs.declared.group.Task.{Task}
 use Rattle.round.specs.declared.rule.Entry.{Entry}
 use Rattle.round.specs.Sittings.{Running, running_in, dealt}
-use Rattle.proto.proofs.ListLemmas.{snoc_same}
+use Rattle.std.proofs.lemmas.List.{same_from_push}
 use Rattle.round.proofs.Lists.{same_element, map_at}
 use Rattle.round.proofs.Follows.{set_by, take_next}
 use Rattle.round.proofs.Dealt.{dealt_push, range_at}
@@ -62,7 +62,7 @@ module _ (f : Task → Running) (callers : ℕ) (group : List Task) (n : ℕ) (s
         let is : x ≡ n % callers = range_at callers 0 (n % callers) x at ∙ zer in
         let whole = map_at (λ caller. map f (dealt callers caller (take (n + 1) group))) (range_with_len 0 callers) (n % callers) x at in
         let same = same_element (rest ++ r ∷ []) (map f (dealt callers x (take (n + 1) group))) (sym there ∙ ap (λ (l : List (List Running)). slice_get l (n % callers)) are ∙ whole) in
-        snoc_same rest (map f (dealt callers x (take n group))) r (f last.0) (same ∙ mine x is)
+        same_from_push rest (map f (dealt callers x (take n group))) r (f last.0) (same ∙ mine x is)
 
     pub taken_back : set lists (n % callers) rest ≡ lists_by f callers (take n group)
     taken_back =

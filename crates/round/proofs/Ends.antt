@@ -8,7 +8,7 @@ use Rattle.std.proofs.lemmas.List.{take_all, length-map}
 use Rattle.std.proofs.Math.Nat.{mod-lt}
 use Rattle.items.specs.Map.{Items}
 use Rattle.item_steps.specs.Schedule.{GroupRuns, items_after, answers_in, answers_at}
-use Rattle.item_steps.specs.declared.step.Place.{Place}
+use Rattle.item_steps.specs.declared.step.Stamp.{Stamp}
 use Rattle.item_steps.specs.declared.step.Answer.{Answer}
 use Rattle.item_steps.specs.declared.group.Task.{Task}
 use Rattle.pages.specs.Page.{page_count}
@@ -18,7 +18,7 @@ use Rattle.round.specs.declared.rule.Entry.{Entry}
 use Rattle.round.specs.declared.rule.Held.{Held}
 use Rattle.round.specs.Tickets.{touches, log_of, name_of_caller, Kinds, AreLogs}
 use Rattle.round.specs.Sittings.{Sitting, Running, dealt, log_at, given_at, running_in, is_done, has_ended, are_apart, Follows, IsSitting}
-use Rattle.round.specs.Orders.{AreHistories, AreOf, Ended, Gathered, placed_of, answered_of}
+use Rattle.round.specs.Orders.{AreHistories, AreOf, RoundResult, Gathered, placed_of, answered_of}
 use Rattle.round.proofs.Keeps.{caller_touches}
 use Rattle.round.proofs.Lists.{same_element, in_filter, filter_within, list_all_at, all_at, map_same}
 use Rattle.round.proofs.Replays.{Replayed, replays_held}
@@ -101,7 +101,7 @@ answers_given place (e ∷ es) = by (e.place == place) (answers_given place es)
     by false r = r
 
 -- what a round comes to is a run of its group
-pub group_runs : (base : Place) (m now : Items) (group : List Task) (seats : List Sitting) (answers : List (List Answer)) → Ended base m group seats now answers → GroupRuns base m group now answers
+pub group_runs : (base : Stamp) (m now : Items) (group : List Task) (seats : List Sitting) (answers : List (List Answer)) → RoundResult base m group seats now answers → GroupRuns base m group now answers
 group_runs base m now group seats answers e = record {
   order = map placed_of e.order;
   interleaves = e.interleaves;
@@ -189,7 +189,7 @@ all_complete group callers order seats names sat ended logs c few =
     subst (λ (x : List Task × List Entry). Complete x.0 x.1) (λ i. (tasks i, log i)) (complete_seat s is.follows (list_all_at has_ended seats ended c s r.1))
 
 -- What the pages and the seats of a round tell of it, once all its steps were made, with the order that the ticket word tells of.
-pub record Told (base : Place) (opening : Items) (group : List Task) (callers : ℕ) (order : List Entry) (now : List Items) (seats : List Sitting) : Type 0 where
+pub record Told (base : Stamp) (opening : Items) (group : List Task) (callers : ℕ) (order : List Entry) (now : List Items) (seats : List Sitting) : Type 0 where
   pub apart : are_apart group ≡ true
   pub some : 0 < callers
   pub names : map (λ (s : Sitting). s.caller) seats ≡ range_with_len 0 callers
@@ -201,7 +201,7 @@ pub record Told (base : Place) (opening : Items) (group : List Task) (callers : 
   pub histories : (hs : List Held) × AreHistories base opening 0 hs now × AreLogs order hs
   pub seated : (hs : List Held) × AreOf hs seats × AreLogs order hs
 
-module _ {base : Place} {opening : Items} {group : List Task} {callers : ℕ} {order : List Entry} {now : List Items} {seats : List Sitting} (t : Told base opening group callers order now seats) where
+module _ {base : Stamp} {opening : Items} {group : List Task} {callers : ℕ} {order : List Entry} {now : List Items} {seats : List Sitting} (t : Told base opening group callers order now seats) where
   logs : AllByRecursion (Seated order) seats
   logs = seated order t.seated.0 seats t.seated.1 t.seated.2
 
@@ -211,7 +211,7 @@ module _ {base : Place} {opening : Items} {group : List Task} {callers : ℕ} {o
   pub replayed : Replayed base (parts opening) order now
   replayed = replays_held base opening t.histories.0 now order t.wide t.kinds t.histories.1 t.histories.2
 
-  ends : Ended base opening group seats (joined now) (map (λ (task : Task). given_at task.place order) group)
+  ends : RoundResult base opening group seats (joined now) (map (λ (task : Task). given_at task.place order) group)
   ends = record {
     order = order;
     interleaves = interleaved order group (apart_from group t.apart) (complete group callers t.apart order t.kinds t.none complete_logs t.some);

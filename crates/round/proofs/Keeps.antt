@@ -9,7 +9,7 @@ use Rattle.atomic_table.proofs.Lists.{at_set, set_again}
 use Rattle.round.specs.declared.rule.Entry.{Entry}
 use Rattle.round.specs.declared.rule.Held.{Held}
 use Rattle.round.specs.declared.rule.View.{View}
-use Rattle.round.specs.Tickets.{touches, log_of, held, maker, name_view, pair_view, spent, both, page_part, caller_part, made, Hold, AreLogs, Kinds, Fits, Kept, Drew, Learned}
+use Rattle.round.specs.Tickets.{touches, log_of, held, maker, name_view, pair_view, spent, both, page_part, caller_part, made, Hold, AreLogs, Kinds, IsKnowledge, TicketRule, Drew, Learned}
 use Rattle.pages.specs.Page.{page_count}
 
 -- the new view, or one of those before it
@@ -125,7 +125,7 @@ next_count : (n l m : ℕ) → n ≡ l % 18446744073709551616 → m ≡ l + 1 �
 next_count n l m is more = omega arith
 
 pub draws : (id slots : ℕ) (e : Entry) (l m : List Entry) → e.page < page_count → page_count ≤ e.caller
-    → Allows (λ (s : State ℕ View). Kept s.words s.views) slots id (pair_view e.page l e.caller m, []) 0 (λ n. (n + 1) % 2 ^ 64) (Drew e (pair_view e.page l e.caller m, []))
+    → Allows (λ (s : State ℕ View). TicketRule s.words s.views) slots id (pair_view e.page l e.caller m, []) 0 (λ n. (n + 1) % 2 ^ 64) (Drew e (pair_view e.page l e.caller m, []))
 draws id slots e l m low high s k _ at _ =
     let v = pair_view e.page l e.caller m in
     let w = pair_view e.page (l ++ e ∷ []) e.caller (m ++ e ∷ []) in
@@ -148,7 +148,7 @@ draws id slots e l m low high s k _ at _ =
         counted = get_or-set_same s.words 0 ((n + 1) % 18446744073709551616) 0 (omega arith) ∙ next;
         kinds = kinds_push k.order e low high k.kinds;
         fits = λ j u is. ⊎_elim
-            (λ (t : (j ≡ id) × (w ≡ u)). subst (λ (x : ℕ × View). Fits (k.order ++ e ∷ []) k.owner k.master x.0 x.1) (λ i. (sym t.0 i, t.1 i))
+            (λ (t : (j ≡ id) × (w ≡ u)). subst (λ (x : ℕ × View). IsKnowledge (k.order ++ e ∷ []) k.owner k.master x.0 x.1) (λ i. (sym t.0 i, t.1 i))
             (record { holds = pair_longer k.order k.owner id e l m mine.holds; makes = λ is. absurd (not_true is) }))
             (λ (t : (j ≢ id) × (get_elem? s.views j ≡ some u)). let f = k.fits j u t.1 in
             record { holds = hold_longer k.order k.owner j id e u.held t.0 p c f.holds; makes = λ is. ((f.makes is).0, makes_longer k.order k.owner id e u.next p c (f.makes is).1) })
@@ -164,11 +164,11 @@ makes_kept order owner from to next all n le = let was = all n le in (ap (moved 
 makes_given : (order : List Entry) (owner : ℕ → Option ℕ) (name to next : ℕ) → ((n : ℕ) → next ≤ n → n ≢ name) → ((n : ℕ) → next ≤ n → (owner n ≡ none) × (log_of n order ≡ [])) → (n : ℕ) → next ≤ n → (given name to owner n ≡ none) × (log_of n order ≡ [])
 makes_given order owner name to next off all n le = let was = all n le in (given_else name to owner n (off n le) ∙ was.0, was.1)
 
-fits_spent : (order : List Entry) (owner : ℕ → Option ℕ) (master j : ℕ) (u : View) → spent ≡ u → Fits order owner master j u
-fits_spent order owner master j u is = subst (Fits order owner master j) is (record { holds = tt; makes = λ e. absurd (not_true e) })
+fits_spent : (order : List Entry) (owner : ℕ → Option ℕ) (master j : ℕ) (u : View) → spent ≡ u → IsKnowledge order owner master j u
+fits_spent order owner master j u is = subst (IsKnowledge order owner master j) is (record { holds = tt; makes = λ e. absurd (not_true e) })
 
 abbrev Rule : State ℕ View → Type 0
-Rule s = Kept s.words s.views
+Rule s = TicketRule s.words s.views
 
 -- all that a seat knows goes to a new seat
 pub moves : (id : ℕ) (v : View) → v.makes ≡ false → Splits Rule id v spent v
@@ -191,7 +191,7 @@ moves id v quiet s k at =
           (λ (x : (j ≢ id) × (get_elem? s.views j ≡ some u)). let f = k.fits j u x.1 in
           record { holds = hold_kept k.order k.owner id new j u.held x.0 f.holds; makes = λ e. ((f.makes e).0, makes_kept k.order k.owner id new u.next (f.makes e).1) })
           (at_set s.views id j spent u t.1))
-          (λ (t : (j ≡ new) × (v ≡ u)). subst (λ (x : ℕ × View). Fits k.order owner k.master x.0 x.1) (λ i. (sym t.0 i, t.1 i))
+          (λ (t : (j ≡ new) × (v ≡ u)). subst (λ (x : ℕ × View). IsKnowledge k.order owner k.master x.0 x.1) (λ i. (sym t.0 i, t.1 i))
           (record { holds = hold_moved k.order k.owner id new v.held mine.holds; makes = λ e. absurd (not_true (sym quiet ∙ e)) }))
           (at_push (set s.views id spent) v u j is);
     }
@@ -214,7 +214,7 @@ parts id p c l m apart s k at =
       kinds = k.kinds;
       fits = λ j u is. ⊎_elim
           (λ (t : (j < new) × (get_elem? (set s.views id a) j ≡ some u)). ⊎_elim
-          (λ (x : (j ≡ id) × (a ≡ u)). subst (λ (x : ℕ × View). Fits k.order owner k.master x.0 x.1) (λ i. (sym x.0 i, x.1 i))
+          (λ (x : (j ≡ id) × (a ≡ u)). subst (λ (x : ℕ × View). IsKnowledge k.order owner k.master x.0 x.1) (λ i. (sym x.0 i, x.1 i))
           (record { holds = (given_else c new k.owner p apart ∙ mine.holds.0, mine.holds.1, tt); makes = λ e. absurd (not_true e) }))
           (λ (x : (j ≢ id) × (get_elem? s.views j ≡ some u)). let f = k.fits j u x.1 in
           record {
@@ -222,7 +222,7 @@ parts id p c l m apart s k at =
             makes = λ e. ((f.makes e).0, makes_given k.order k.owner c new u.next (λ n le same. no_seat (k.owner n) id ((f.makes e).1 n le).0 (ap k.owner same ∙ mine.holds.2.0)) (f.makes e).1);
           })
           (at_set s.views id j a u t.1))
-          (λ (t : (j ≡ new) × (b ≡ u)). subst (λ (x : ℕ × View). Fits k.order owner k.master x.0 x.1) (λ i. (sym t.0 i, t.1 i))
+          (λ (t : (j ≡ new) × (b ≡ u)). subst (λ (x : ℕ × View). IsKnowledge k.order owner k.master x.0 x.1) (λ i. (sym t.0 i, t.1 i))
           (record { holds = (given_there c new k.owner, mine.holds.2.1, tt); makes = λ e. absurd (not_true e) }))
           (at_push (set s.views id a) b u j is);
     }
@@ -246,7 +246,7 @@ makes_name id v maker s k at =
       kinds = k.kinds;
       fits = λ j u is. ⊎_elim
           (λ (t : (j < new) × (get_elem? (set s.views id a) j ≡ some u)). ⊎_elim
-          (λ (x : (j ≡ id) × (a ≡ u)). subst (λ (x : ℕ × View). Fits k.order owner k.master x.0 x.1) (λ i. (sym x.0 i, x.1 i))
+          (λ (x : (j ≡ id) × (a ≡ u)). subst (λ (x : ℕ × View). IsKnowledge k.order owner k.master x.0 x.1) (λ i. (sym x.0 i, x.1 i))
           (record {
             holds = hold_given k.order k.owner v.next new id v.held (λ e. no_seat (k.owner v.next) id free.0 e) mine.holds;
             makes = λ e. ((mine.makes maker).0, λ n le. makes_given k.order k.owner v.next new (v.next + 1) (λ n' le' same. omega arith) (λ n' le'. all n' (omega arith)) n le);
@@ -257,7 +257,7 @@ makes_name id v maker s k at =
             makes = λ e. absurd (x.0 ((f.makes e).0 ∙ sym (mine.makes maker).0));
           })
           (at_set s.views id j a u t.1))
-          (λ (t : (j ≡ new) × (b ≡ u)). subst (λ (x : ℕ × View). Fits k.order owner k.master x.0 x.1) (λ i. (sym t.0 i, t.1 i))
+          (λ (t : (j ≡ new) × (b ≡ u)). subst (λ (x : ℕ × View). IsKnowledge k.order owner k.master x.0 x.1) (λ i. (sym t.0 i, t.1 i))
           (record { holds = (given_there v.next new k.owner, sym free.1, tt); makes = λ e. absurd (not_true e) }))
           (at_push (set s.views id a) b u j is);
     }
@@ -280,7 +280,7 @@ takes_in id other v w s k at apart there =
       fits = λ j u is. ⊎_elim
           (λ (t : (j ≡ other) × (spent ≡ u)). fits_spent k.order owner k.master j u t.1)
           (λ (t : (j ≢ other) × (get_elem? (set s.views id a) j ≡ some u)). ⊎_elim
-          (λ (x : (j ≡ id) × (a ≡ u)). subst (λ (x : ℕ × View). Fits k.order owner k.master x.0 x.1) (λ i. (sym x.0 i, x.1 i))
+          (λ (x : (j ≡ id) × (a ≡ u)). subst (λ (x : ℕ × View). IsKnowledge k.order owner k.master x.0 x.1) (λ i. (sym x.0 i, x.1 i))
           (record {
             holds = hold_append k.order owner id v.held w.held (hold_kept k.order k.owner other id id v.held (λ e. apart (sym e)) mine.holds) (hold_moved k.order k.owner other id w.held theirs.holds);
             makes = λ e. ((mine.makes e).0, makes_kept k.order k.owner other id v.next (mine.makes e).1);
@@ -315,7 +315,7 @@ learns id slots v s k _ at _ =
       (refl, record { order = k.order; kinds = k.kinds; logs = are_logs k.order k.owner id v.held mine.holds; none_to_come = λ e n' le. ((mine.makes e).1 n' le).1 }),
     )
 
-pub begins : (words : List ℕ) → words ≡ 0 ∷ [] → Kept words (maker 0 ∷ [])
+pub begins : (words : List ℕ) → words ≡ 0 ∷ [] → TicketRule words (maker 0 ∷ [])
 begins words is = record {
   order = [];
   owner = λ _. none;
@@ -326,8 +326,8 @@ begins words is = record {
   fits = only;
 }
   where
-    only : (seat : ℕ) (v : View) → get_elem? (maker 0 ∷ []) seat ≡ some v → Fits [] (λ _. none) 0 seat v
-    only zero v e = subst (Fits [] (λ _. none) 0 0) (some-injective _ _ e) (record { holds = tt; makes = λ _. (refl, λ n _. (refl, refl)) })
+    only : (seat : ℕ) (v : View) → get_elem? (maker 0 ∷ []) seat ≡ some v → IsKnowledge [] (λ _. none) 0 seat v
+    only zero v e = subst (IsKnowledge [] (λ _. none) 0 0) (some-injective _ _ e) (record { holds = tt; makes = λ _. (refl, λ n _. (refl, refl)) })
     only (suc seat) v e = absurd (some-ne-none v (sym e))
 
 -- the same, at a view that is known

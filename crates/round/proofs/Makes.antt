@@ -4,12 +4,13 @@ use Rattle.std.specs.Prelude.{slice_get, nat_le, nat_lt, ◌&&◌}
 use Rattle.std.specs.List.{list_all}
 use Rattle.std.proofs.lemmas.Bool.{and_parts, and_from, leb-true, ltb-true, le-leb, lt-ltb}
 use Rattle.std.proofs.lemmas.Option.{slice_get_within}
-use Rattle.item_steps.specs.declared.step.Place.{Place}
+use Rattle.item_steps.specs.declared.step.Stamp.{Stamp}
 use Rattle.item_steps.specs.declared.step.Step.{Step}
 use Rattle.item_steps.specs.declared.step.Answer.{Answer}
 use Rattle.item_steps.specs.declared.group.Task.{Task}
 use Rattle.round.specs.declared.rule.Entry.{Entry}
-use Rattle.round.specs.Sittings.{Running, running_in, next_of, is_done, given_at, dealt, task_fits, are_apart, group_fits, fits, most_callers, most_requests, Follows}
+use Rattle.round.specs.Sittings.{Running, running_in, next_of, is_done, given_at, dealt, task_fits, are_apart, group_fits, fits, Follows}
+use Rattle.round.specs.declared.open.TheConstants.{MOST_CALLERS, MOST_TASKS}
 use Rattle.round.proofs.Lists.{same_element, get_last, list_all_at}
 use Rattle.round.proofs.Interleaves.{apart_from}
 use Rattle.round.proofs.Dealt.{dealt_is, dealt_apart}
@@ -26,18 +27,18 @@ is_left r s next = by (leb (length r.task.steps) (length r.answers)) refl
     by true is = let most = leb-true (length r.task.steps) (length r.answers) is in let low = within in absurd (omega arith)
     by false is = is
 
-module _ (base : Place) (group : List Task) (callers : ℕ) (fit : fits base group callers ≡ true) where
-  both : (nat_lt 0 callers && nat_le callers most_callers ≡ true) × (group_fits base group ≡ true)
-  both = and_parts (nat_lt 0 callers && nat_le callers most_callers) (group_fits base group) fit
+module _ (base : Stamp) (group : List Task) (callers : ℕ) (fit : fits base group callers ≡ true) where
+  both : (nat_lt 0 callers && nat_le callers MOST_CALLERS ≡ true) × (group_fits base group ≡ true)
+  both = and_parts (nat_lt 0 callers && nat_le callers MOST_CALLERS) (group_fits base group) fit
 
   last_two : (list_all (task_fits base) group ≡ true) × (are_apart group ≡ true)
-  last_two = and_parts (list_all (task_fits base) group) (are_apart group) (and_parts (nat_le (length group) most_requests) (list_all (task_fits base) group && are_apart group) both.1).1
+  last_two = and_parts (list_all (task_fits base) group) (are_apart group) (and_parts (nat_le (length group) MOST_TASKS) (list_all (task_fits base) group && are_apart group) both.1).1
 
   pub fit_apart : are_apart group ≡ true
   fit_apart = last_two.1
 
   pub fit_some : 0 < callers
-  fit_some = ltb-true 0 callers (and_parts (nat_lt 0 callers) (nat_le callers most_callers) both.0).0
+  fit_some = ltb-true 0 callers (and_parts (nat_lt 0 callers) (nat_le callers MOST_CALLERS) both.0).0
 
   -- a request that was dealt fits
   pub fit_dealt : (caller index : ℕ) (t : Task) → slice_get (dealt callers caller group) index ≡ Some t → task_fits base t ≡ true
@@ -60,7 +61,7 @@ made_last old new step answer next is =
     )
 
 -- the seat after the step
-pub seat_after : (base : Place) (group : List Task) (callers caller : ℕ) → fits base group callers ≡ true → (running : List Running) (log : List Entry) → running ≡ map (running_in log) (dealt callers caller group)
+pub seat_after : (base : Stamp) (group : List Task) (callers caller : ℕ) → fits base group callers ≡ true → (running : List Running) (log : List Entry) → running ≡ map (running_in log) (dealt callers caller group)
     → Follows (dealt callers caller group) log → (index : ℕ) (task : Task) → slice_get (dealt callers caller group) index ≡ Some task
     → (e : Entry) → e.place ≡ task.place → next_of (running_in log task) ≡ Some e.step
     → (new : Running) → new ≡ record { task = task; answers = given_at task.place log ++ e.answer ∷ [] }
@@ -76,7 +77,7 @@ seat_after base group callers caller fit running log has follows index task ther
     )
 
 -- a group that fits does so with any number of callers
-pub callers_fit : (base : Place) (group : List Task) (callers : ℕ) → group_fits base group ≡ true → 0 < callers → callers ≤ most_callers → fits base group callers ≡ true
+pub callers_fit : (base : Stamp) (group : List Task) (callers : ℕ) → group_fits base group ≡ true → 0 < callers → callers ≤ MOST_CALLERS → fits base group callers ≡ true
 callers_fit base group callers fit some few =
-    and_from (nat_lt 0 callers && nat_le callers most_callers) (group_fits base group)
-    (and_from (nat_lt 0 callers) (nat_le callers most_callers) (lt-ltb 0 callers some) (le-leb callers most_callers few)) fit
+    and_from (nat_lt 0 callers && nat_le callers MOST_CALLERS) (group_fits base group)
+    (and_from (nat_lt 0 callers) (nat_le callers MOST_CALLERS) (lt-ltb 0 callers some) (le-leb callers MOST_CALLERS few)) fit

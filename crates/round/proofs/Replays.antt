@@ -9,7 +9,7 @@ use native.Mathlib.Decide.{ℕ_discrete}
 use Rattle.items.specs.Map.{Items}
 use Rattle.item_steps.specs.Effect.{effect}
 use Rattle.item_steps.specs.Schedule.{stamped, items_after, answers_in, history_answers}
-use Rattle.item_steps.specs.declared.step.Place.{Place}
+use Rattle.item_steps.specs.declared.step.Stamp.{Stamp}
 use Rattle.pages.specs.Page.{page_count, page_items}
 use Rattle.pages.specs.Joined.{ArePages, joined, parts}
 use Rattle.pages.specs.Step.{step_page}
@@ -31,7 +31,7 @@ log_else p e es low high off =
     ap (λ b. cond (b || (e.caller == p)) (e ∷ log_of p es) (log_of p es)) (ne_eqb e.page p off)
     ∙ ap (λ b. cond b (e ∷ log_of p es) (log_of p es)) (ne_eqb e.caller p (λ same. omega arith))
 
-module _ (base : Place) where
+module _ (base : Stamp) where
   -- each page has the history that the order gives it
   abbrev Paged : List Items → List Entry → List Items → Type 0
   Paged opening order now = (p : ℕ) → p < page_count → IsHistory base p (get_or opening p no_items) (log_of p order) (get_or now p no_items)
@@ -61,7 +61,7 @@ module _ (base : Place) where
       let low = kinds.0 in
       let high = kinds.1 in
       let page : Items = get_or opening e.page no_items in
-      let at : Place = stamped base e.place in
+      let at : Stamp = stamped base e.place in
       let after : Items = (effect page e.step at).0 in
       let wide : length opening ≡ page_count = are.0 in
       let mine : IsHistory base e.page page (e ∷ log_of e.page es) (get_or now e.page no_items) =

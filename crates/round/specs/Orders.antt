@@ -5,7 +5,7 @@ use Rattle.atomic_table.specs.Seated.{TableId}
 use Rattle.atomic_table.specs.declared.shared.Seat.{Seat}
 use Rattle.items.specs.Map.{Items}
 use Rattle.item_steps.specs.Schedule.{Placed, IsInterleaving, placed, items_after, answers_in}
-use Rattle.item_steps.specs.declared.step.Place.{Place}
+use Rattle.item_steps.specs.declared.step.Stamp.{Stamp}
 use Rattle.item_steps.specs.declared.step.Answer.{Answer}
 use Rattle.item_steps.specs.declared.group.Task.{Task}
 use Rattle.pages.specs.Page.{page_items}
@@ -23,7 +23,7 @@ abbrev pub answered_of : Entry → ℕ × Answer
 answered_of e = (e.place, e.answer)
 
 -- what is held is the history of the pages from number p on, which began as parts of this map
-abbrev pub AreHistories : Place → Items → ℕ → List Held → List Items → Type 0
+abbrev pub AreHistories : Stamp → Items → ℕ → List Held → List Items → Type 0
 AreHistories base opening p [] [] = Unit {0}
 AreHistories base opening p [] (m ∷ ms) = ⊥
 AreHistories base opening p (h ∷ hs) [] = ⊥
@@ -42,7 +42,7 @@ IsAsBefore table t u = (u.table_id ≡ table) × (u.me.1 ≡ []) × (u.me.0.make
 
 -- What a round comes to: there is one order in which each step of the group stands once, those of a request in their order and those of a
 -- seat as it made them; in that order the steps lead from the opening items to these, and answered what each request is given.
-pub record Ended (base : Place) (opening : Items) (group : List Task) (seats : List Sitting) (now : Items) (answers : List (List Answer)) : Type 0 where
+pub record RoundResult (base : Stamp) (opening : Items) (group : List Task) (seats : List Sitting) (now : Items) (answers : List (List Answer)) : Type 0 where
   pub order : List Entry
   pub interleaves : IsInterleaving (placed group) (map placed_of order)
   pub seated : AllByRecursion (λ s. s.log ≡ log_of (name_of_caller s.caller) order) seats
@@ -52,7 +52,7 @@ pub record Ended (base : Place) (opening : Items) (group : List Task) (seats : L
 
 -- What the pages and the seats of a round give once no step is left: there is one order of all steps, from which each caller's requests have
 -- their answers, and with the answers that it gives to each request the round comes to these items.
-pub record Gathered (base : Place) (opening : Items) (group : List Task) (callers : ℕ) (seats : List Sitting) (now : Items) (lists : List (List Running)) : Type 0 where
+pub record Gathered (base : Stamp) (opening : Items) (group : List Task) (callers : ℕ) (seats : List Sitting) (now : Items) (lists : List (List Running)) : Type 0 where
   pub order : List Entry
-  pub ended : Ended base opening group seats now (map (λ task. given_at task.place order) group)
+  pub ended : RoundResult base opening group seats now (map (λ task. given_at task.place order) group)
   pub requests : lists ≡ map (λ caller. map (running_in order) (dealt callers caller group)) (range_with_len 0 callers)

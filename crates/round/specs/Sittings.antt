@@ -3,10 +3,11 @@ use Rattle.std.specs.Prelude.{◌≡◌, ℕ, ◌+◌, ◌%◌, ◌<◌, ◌^◌
 use Rattle.std.specs.List.{list_any, list_all, range_with_len}
 use Rattle.atomic_table.specs.Seated.{TableId}
 use Rattle.atomic_table.specs.declared.shared.Seat.{Seat}
-use Rattle.item_steps.specs.declared.step.Place.{Place}
+use Rattle.item_steps.specs.declared.step.Stamp.{Stamp}
 use Rattle.item_steps.specs.declared.step.Step.{Step}
 use Rattle.item_steps.specs.declared.step.Answer.{Answer}
 use Rattle.item_steps.specs.declared.group.Task.{Task}
+use Rattle.round.specs.declared.open.TheConstants.{MOST_CALLERS, MOST_TASKS, MOST_STEPS}
 use Rattle.round.specs.declared.rule.Entry.{Entry}
 use Rattle.round.specs.declared.rule.View.{View}
 use Rattle.round.specs.Tickets.{name_view, name_of_caller, view_log}
@@ -85,7 +86,7 @@ pub record IsAtEnd (s : Sitting) (place : ℕ) : Type 0 where
   pub ended : next_of (running_in s.log task) ≡ None
 
 -- The next step of the request at the place was made, in the page of its key, and the seat has it with its answer.
-pub record StepMade (s : Sitting) (place : ℕ) (now : Sitting) : Type 0 where
+pub record SeatStep (s : Sitting) (place : ℕ) (now : Sitting) : Type 0 where
   pub index : ℕ
   pub task : Task
   pub entry : Entry
@@ -102,26 +103,17 @@ abbrev pub are_apart : List Task → Bool
 are_apart [] = true
 are_apart (task ∷ tasks) = list_all (λ other. not (other.place == task.place)) tasks && are_apart tasks
 
-abbrev pub most_callers : ℕ
-most_callers = 64
-
-abbrev pub most_requests : ℕ
-most_requests = 64
-
-abbrev pub most_steps : ℕ
-most_steps = 64
-
 -- at most so many steps, and a stamp below 2^64
-abbrev pub task_fits : Place → Task → Bool
-task_fits base task = nat_le (length task.steps) most_steps && nat_lt (base.stamp + task.place) (2 ^ 64)
+abbrev pub task_fits : Stamp → Task → Bool
+task_fits base task = nat_le (length task.steps) MOST_STEPS && nat_lt (base.stamp + task.place) (2 ^ 64)
 
 -- requests that a round takes
-abbrev pub group_fits : Place → List Task → Bool
-group_fits base group = nat_le (length group) most_requests && (list_all (task_fits base) group && are_apart group)
+abbrev pub group_fits : Stamp → List Task → Bool
+group_fits base group = nat_le (length group) MOST_TASKS && (list_all (task_fits base) group && are_apart group)
 
 -- some callers, not too many, and requests that a round takes
-abbrev pub fits : Place → List Task → ℕ → Bool
-fits base group callers = (nat_lt 0 callers && nat_le callers most_callers) && group_fits base group
+abbrev pub fits : Stamp → List Task → ℕ → Bool
+fits base group callers = (nat_lt 0 callers && nat_le callers MOST_CALLERS) && group_fits base group
 
 -- The steps in the log are of these requests, each request's first ones in their order.
 pub record Follows (tasks : List Task) (log : List Entry) : Type 0 where

@@ -76,19 +76,19 @@ AreLogs order [] = Unit {0}
 AreLogs order (h ∷ hs) = (h.log ≡ log_of h.name order) × AreLogs order hs
 
 -- A token knows whole logs alone; who makes names knows that those to come have no step.
-pub record Fits (order : List Entry) (owner : ℕ → Option ℕ) (master seat : ℕ) (v : View) : Type 0 where
+pub record IsKnowledge (order : List Entry) (owner : ℕ → Option ℕ) (master seat : ℕ) (v : View) : Type 0 where
   pub holds : Hold order owner seat v.held
   pub makes : v.makes ≡ true → (seat ≡ master) × ((n : ℕ) → v.next ≤ n → (owner n ≡ none) × (log_of n order ≡ []))
 
 -- There is one order of all steps; the word is its length. Each page and each caller is known to one token, with its steps.
-pub record Kept (words : List ℕ) (views : List View) : Type 0 where
+pub record TicketRule (words : List ℕ) (views : List View) : Type 0 where
   pub order : List Entry
   pub owner : ℕ → Option ℕ
   pub master : ℕ
   pub one : length words ≡ 1
   pub counted : slice_index words 0 ≡ length order % 2 ^ 64
   pub kinds : Kinds order
-  pub fits : (seat : ℕ) (v : View) → get_elem? views seat ≡ some v → Fits order owner master seat v
+  pub fits : (seat : ℕ) (v : View) → get_elem? views seat ≡ some v → IsKnowledge order owner master seat v
 
 abbrev pub grow : Entry → List Held → List Held
 grow e [] = []

@@ -12,7 +12,7 @@ ghost use Rattle.round.specs.Orders.{AreHistories, AreOf, Gathered, IsAsBefore};
 
 use crate::locked::Locked;
 use crate::room::Room;
-use crate::rule::Token;
+use crate::rule::Knowledge;
 use crate::running::{Ran, Running};
 use crate::seat::Seat;
 use crate::word::TicketWord;
@@ -31,7 +31,7 @@ pub(crate) fn all_ended<J: Room>(seats: &[Seat<J>]) -> bool
 pub(crate) fn gather_pages<J: Room>(
     alloc: Global,
     word: &TicketWord,
-    master: &mut Token,
+    master: &mut Knowledge,
     locks: Vec<Mutex<Locked<J>>>,
 ) -> Result<Vec<Page>, AllocError>
     requires word { word.now.table.shared.table_id ≡ J.table }
@@ -62,7 +62,7 @@ pub(crate) fn gather_pages<J: Room>(
 pub(crate) fn gather_seats<J: Room>(
     alloc: Global,
     word: &TicketWord,
-    master: &mut Token,
+    master: &mut Knowledge,
     seats: Vec<Seat<J>>,
 ) -> Result<Vec<Vec<Running>>, AllocError>
     requires word { word.now.table.shared.table_id ≡ J.table }
@@ -88,11 +88,11 @@ pub(crate) fn gather_seats<J: Room>(
 }
 
 /// Takes a round apart whose seats have no step left: its pages, and the requests of each caller with
-/// their answers. The only error is want of memory.
+/// their answers. It errs only where an allocation fails.
 pub(crate) fn gather<J: Room>(
     alloc: Global,
     word: &TicketWord,
-    master: Token,
+    master: Knowledge,
     locks: Vec<Mutex<Locked<J>>>,
     seats: Vec<Seat<J>>,
 ) -> Result<(Pages, Vec<Vec<Running>>), AllocError>

@@ -22,10 +22,10 @@ mod seat;
 mod word;
 
 pub use gate::{Gate, NoGate};
-pub use open::{MOST_STEPS, group_fits};
+pub use open::{MOST_CALLERS, MOST_STEPS, MOST_TASKS, group_fits};
 pub use room::Room;
 pub use round::Round;
-pub use rule::Token;
+pub use rule::Knowledge;
 pub use running::Ran;
 pub use seat::Seat;
 pub use word::TicketWord;

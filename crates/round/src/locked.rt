@@ -6,13 +6,13 @@ ghost use Rattle.item_steps.specs.declared.group.Task.{Task};
 ghost use Rattle.item_steps.specs.declared.step.Step.{Step};
 ghost use Rattle.round.specs.Tickets.{name_view};
 ghost use Rattle.pages.specs.Step.{step_page};
-ghost use Rattle.round.specs.Sittings.{Sitting, StepMade, running_in, next_of, fits};
+ghost use Rattle.round.specs.Sittings.{Sitting, SeatStep, running_in, next_of, fits};
 
 use crate::room::Room;
-use crate::rule::Token;
+use crate::rule::Knowledge;
 use crate::seat::Seat;
 use crate::word::TicketWord;
-use item_steps::Place;
+use item_steps::Stamp;
 use pages::{PAGES, Page};
 use std::alloc::{AllocError, Global};
 use std::marker::{Model, PhantomData};
@@ -22,7 +22,7 @@ use std::marker::{Model, PhantomData};
 pub struct Locked<J: Room> {
     pub(crate) number: usize,
     pub(crate) page: Page,
-    pub(crate) token: Token,
+    pub(crate) token: Knowledge,
     pub(crate) of: PhantomData<J>,
 }
 
@@ -43,7 +43,7 @@ impl<J: Room> Model for Locked<J> {
 
 impl<J: Room> Locked<J> {
     /// The page of this number as the round opens, with a token that knows of no step.
-    pub(crate) fn new(number: usize, page: Page, token: Token) -> Locked<J>
+    pub(crate) fn new(number: usize, page: Page, token: Knowledge) -> Locked<J>
         requires token { (token.table_id ≡ J.table) × (token.me ≡ (name_view number [], [])) }
         requires number { number < page_count }
         requires page { page.items ≡ page_items J.opening number }
@@ -57,12 +57,12 @@ impl<J: Room> Locked<J> {
     }
 
     /// Makes the next step of the seat's request of this index, which is a step of this page, and
-    /// draws its ticket. The only error is want of memory; then nothing changes.
+    /// draws its ticket. It errs only where an allocation fails; then nothing changes.
     pub(crate) fn make(
         &mut self,
         alloc: Global,
         word: &TicketWord,
-        base: Place,
+        base: Stamp,
         seat: &mut Seat<J>,
         index: usize,
     ) -> Result<(), AllocError>
@@ -72,7 +72,7 @@ impl<J: Room> Locked<J> {
         requires here { (task : Task) × (step : Step) × (slice_get seat.old.tasks index ≡ Some task)
             × (next_of (running_in seat.old.log task) ≡ Some step) × (step_page step ≡ self.old.0) }
         ensures made { OnOk result ((task : Task) → slice_get seat.old.tasks index ≡ Some task
-            → StepMade seat.old task.place seat.new) }
+            → SeatStep seat.old task.place seat.new) }
         ensures none { OnErr result ((seat.new ≡ seat.old) × (self.new ≡ self.old)) }
     {
         let running = &mut seat.running[index];

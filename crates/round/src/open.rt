@@ -8,30 +8,32 @@ ghost use Rattle.round.specs.Sittings.{task_fits, are_apart, group_fits, fits, r
 
 use crate::locked::Locked;
 use crate::room::Room;
-use crate::rule::Token;
+use crate::rule::Knowledge;
 use crate::running::Running;
 use crate::seat::Seat;
 use crate::word::TicketWord;
-use item_steps::{Place, Task};
+use item_steps::{Stamp, Task};
 use pages::{PAGES, Pages};
 use std::alloc::{AllocError, Global};
 use std::sync::Mutex;
 
-const MOST_CALLERS: usize = 64;
+/// How many callers a round has at most.
+pub const MOST_CALLERS: usize = 64;
 
-const MOST_REQUESTS: usize = 64;
+/// How many requests a group has at most.
+pub const MOST_TASKS: usize = 64;
 
-/// A request has at most so many steps.
+/// How many steps a request has at most.
 pub const MOST_STEPS: usize = 64;
 
-fn task_fits(base: Place, task: &Task) -> bool
+fn task_fits(base: Stamp, task: &Task) -> bool
     ensures { result ≡ task_fits base task.now }
 {
     task.steps.as_slice().len() <= MOST_STEPS
         && base.stamp.checked_add(u64::from(task.place)).is_some()
 }
 
-fn tasks_fit(base: Place, group: &[Task]) -> bool
+fn tasks_fit(base: Stamp, group: &[Task]) -> bool
     ensures { result ≡ list_all (task_fits base) group.now }
 {
     group.iter().all(|task| task_fits(base, task))
@@ -56,14 +58,14 @@ fn are_apart(group: &[Task]) -> bool
 
 /// Whether a round takes the group: at most 64 requests of at most 64 steps, no two of one place,
 /// each stamp below 2^64.
-pub fn group_fits(base: Place, group: &[Task]) -> bool
+pub fn group_fits(base: Stamp, group: &[Task]) -> bool
     ensures { result ≡ group_fits base group.now }
 {
-    group.len() <= MOST_REQUESTS && tasks_fit(base, group) && are_apart(group)
+    group.len() <= MOST_TASKS && tasks_fit(base, group) && are_apart(group)
 }
 
 /// Whether a round takes the group, with so many callers.
-pub(crate) fn fits(base: Place, group: &[Task], callers: usize) -> bool
+pub(crate) fn fits(base: Stamp, group: &[Task], callers: usize) -> bool
     ensures { result ≡ fits base group.now callers }
 {
     0 < callers && callers <= MOST_CALLERS && group_fits(base, group)
@@ -73,7 +75,7 @@ pub(crate) fn fits(base: Place, group: &[Task], callers: usize) -> bool
 pub(crate) fn lock_pages<J: Room>(
     alloc: Global,
     word: &TicketWord,
-    master: &mut Token,
+    master: &mut Knowledge,
     pages: Pages,
 ) -> Result<Vec<Mutex<Locked<J>>>, AllocError>
     requires word { word.now.table.shared.table_id ≡ J.table }
@@ -123,7 +125,7 @@ pub(crate) fn deal(
 pub(crate) fn seat_callers<J: Room>(
     alloc: Global,
     word: &TicketWord,
-    master: &mut Token,
+    master: &mut Knowledge,
     lists: Vec<Vec<Running>>,
 ) -> Result<Vec<Seat<J>>, AllocError>
     requires word { word.now.table.shared.table_id ≡ J.table }

@@ -3,7 +3,7 @@
 ghost use Rattle.std.specs.Prelude.{ℕ, List};
 ghost use Rattle.atomic_table.specs.Seated.{TableId};
 ghost use Rattle.items.specs.Map.{Items};
-ghost use Rattle.item_steps.specs.declared.step.Place.{Place};
+ghost use Rattle.item_steps.specs.declared.step.Stamp.{Stamp};
 ghost use Rattle.item_steps.specs.declared.group.Task.{Task};
 
 use std::marker::Brand;
@@ -16,7 +16,7 @@ pub trait Room {
 
     ghost opening: { Items };
 
-    ghost base: { Place };
+    ghost base: { Stamp };
 
     ghost group: { List Task };
 

@@ -5,19 +5,19 @@ ghost use Rattle.std.specs.List.{list_all, range_with_len};
 ghost use Rattle.item_steps.specs.Schedule.{GroupRuns};
 ghost use Rattle.pages.specs.Page.{page_count};
 ghost use Rattle.round.specs.Tickets.{maker, name_of_caller};
-ghost use Rattle.round.specs.Sittings.{fits, holds, has_ended, StepMade, IsAtEnd, seats_of};
-ghost use Rattle.round.specs.Orders.{Ended};
+ghost use Rattle.round.specs.Sittings.{fits, holds, has_ended, SeatStep, IsAtEnd, seats_of};
+ghost use Rattle.round.specs.Orders.{RoundResult};
 
 use crate::close::{all_ended, collect, gather};
 use crate::gate::Gate;
 use crate::locked::Locked;
 use crate::open::{deal, fits, lock_pages, seat_callers};
 use crate::room::Room;
-use crate::rule::Token;
+use crate::rule::Knowledge;
 use crate::running::Ran;
 use crate::seat::Seat;
 use crate::word::TicketWord;
-use item_steps::{Place, Task};
+use item_steps::{Stamp, Task};
 use pages::{Pages, page_of};
 use proto::Fault;
 use std::alloc::Global;
@@ -27,7 +27,7 @@ use std::sync::{Mutex, Wait};
 /// The token that made the others. It lies under a lock, since a token is not `Sync`.
 #[derive(Drop)]
 struct Master<J: Room> {
-    token: Token,
+    token: Knowledge,
     of: PhantomData<J>,
     ghost mastered: { (token.table_id ≡ J.table) × (token.me ≡ (maker (name_of_caller J.callers), [])) },
 }
@@ -38,7 +38,7 @@ pub struct Round<J: Room> {
     word: TicketWord,
     master: Mutex<Master<J>>,
     pages: Vec<Mutex<Locked<J>>>,
-    base: Place,
+    base: Stamp,
     requests: usize,
     pub ghost named: { word.table.shared.table_id ≡ J.table },
     pub ghost all: { vec_len pages ≡ page_count },
@@ -50,9 +50,9 @@ pub struct Round<J: Room> {
 impl<J: Room> Round<J> {
     fn new(
         word: TicketWord,
-        master: Token,
+        master: Knowledge,
         pages: Vec<Mutex<Locked<J>>>,
-        base: Place,
+        base: Stamp,
         requests: usize,
     ) -> Round<J>
         requires word { word.table.shared.table_id ≡ J.table }
@@ -87,10 +87,10 @@ impl<J: Room> Round<J> {
     pub fn open(
         alloc: Global,
         word: TicketWord,
-        master: Token,
+        master: Knowledge,
         pages: Pages,
         group: Vec<Task>,
-        base: Place,
+        base: Stamp,
         callers: usize,
     ) -> Result<(Round<J>, Vec<Seat<J>>), Fault>
         requires word { word.table.shared.table_id ≡ J.table }
@@ -117,8 +117,9 @@ impl<J: Room> Round<J> {
     /// Does the next step of the request, inside the lock of the page of its key, and notes its answer
     /// in the seat. A ticket is drawn for it inside the lock.
     ///
-    /// `Unfit` where the seat does not hold the place, `NotOpen` where no step is left. The only other
-    /// error is want of memory. An `Err` changes neither the page nor the seat, and draws no ticket.
+    /// `Unfit` where the seat does not hold the place, `NotOpen` where no step is left,
+    /// `NoMemory` where an allocation fails. An `Err` changes neither the page nor the seat, and draws
+    /// no ticket.
     pub fn step<R: Wait, G: Gate>(
         &self,
         rt: &R,
@@ -127,7 +128,7 @@ impl<J: Room> Round<J> {
         place: u32,
         gate: &G,
     ) -> Result<(), Fault>
-        ensures made { OnOk result (StepMade seat.old place seat.new) }
+        ensures made { OnOk result (SeatStep seat.old place seat.new) }
         ensures unfit { IsErrOf result Fault.Unfit ↔ (holds seat.old place ≡ false) }
         ensures not_open { IsErrOf result Fault.NotOpen ↔ IsAtEnd seat.old place }
         ensures only { IfErr result (λ fault. (fault ≡ Fault.Unfit) ⊎ ((fault ≡ Fault.NotOpen) ⊎ (fault ≡ Fault.NoMemory))) }
@@ -153,10 +154,10 @@ impl<J: Room> Round<J> {
     /// Ends the round: the pages, and the requests with their answers, in the group's order.
     /// The seats are those that `open` gave, in their order.
     ///
-    /// `NotOpen` where a step is left. The only other error is want of memory.
+    /// `NotOpen` where a step is left, `NoMemory` where an allocation fails.
     pub fn close(self, alloc: Global, seats: Vec<Seat<J>>) -> Result<(Pages, Vec<Ran>), Fault>
         requires { map (λ s. s.caller) seats.items ≡ range_with_len 0 J.callers }
-        ensures ended { IfOk result (λ r. Ended J.base J.opening J.group seats.items r.0 (map (λ ran. ran.answers) r.1.items)) }
+        ensures ended { IfOk result (λ r. RoundResult J.base J.opening J.group seats.items r.0 (map (λ ran. ran.answers) r.1.items)) }
         ensures runs { IfOk result (λ r. GroupRuns J.base J.opening J.group r.0 (map (λ ran. ran.answers) r.1.items)) }
         ensures tasks { IfOk result (λ r. map (λ ran. ran.task) r.1.items ≡ J.group) }
         ensures not_open { IsErrOf result Fault.NotOpen ↔ (list_all has_ended seats.items ≡ false) }

@@ -31,9 +31,9 @@ pub struct View {
 pub struct Counts;
 
 impl TableRule<u8, View, ()> for Counts {
-    ghost use Rattle.round.specs.Tickets.{Kept, maker};
+    ghost use Rattle.round.specs.Tickets.{TicketRule, maker};
 
-    ghost holds = { λ _ s. Kept s.words s.views };
+    ghost holds = { λ _ s. TicketRule s.words s.views };
 
     ghost first = { λ _. maker 0 };
 }
@@ -116,4 +116,4 @@ impl Split<View> for NewName {
 }
 
 /// What its holder knows of the steps so far. It takes no bytes.
-pub type Token = Seat<u8, View>;
+pub type Knowledge = Seat<u8, View>;

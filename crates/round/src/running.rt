@@ -9,7 +9,7 @@ ghost use Rattle.item_steps.specs.declared.step.Step.{Step};
 ghost use Rattle.pages.specs.Step.{step_key};
 ghost use Rattle.round.specs.Sittings.{next_of, is_done, task_fits};
 
-use item_steps::{Answer, Place, Step, Task, apply};
+use item_steps::{Answer, Stamp, Step, Task, apply};
 use pages::Page;
 use proto::Key;
 use std::alloc::{AllocError, Global};
@@ -106,13 +106,13 @@ impl Running {
         }
     }
 
-    /// Makes the next step on its page, and notes its answer. The only error is want of memory; then
+    /// Makes the next step on its page, and notes its answer. It errs only where an allocation fails; then
     /// nothing changes.
     pub(crate) fn make(
         &mut self,
         alloc: Global,
         page: &mut Page,
-        base: Place,
+        base: Stamp,
     ) -> Result<(), AllocError>
         requires left { is_done self.old ≡ false }
         requires fits { task_fits base self.old.task ≡ true }
@@ -126,7 +126,7 @@ impl Running {
     {
         self.answers.reserve(1)?;
         let step = &self.task.steps.as_slice()[self.answers.len()];
-        let at = Place {
+        let at = Stamp {
             moment: base.moment,
             stamp: base.stamp + u64::from(self.task.place),
         };

@@ -9,7 +9,7 @@ ghost use Rattle.pages.specs.Step.{step_page};
 ghost use Rattle.round.specs.Sittings.{Running as RunningState, running_in, next_of, dealt, holds, is_done, has_ended, are_apart, IsAtEnd};
 
 use crate::room::Room;
-use crate::rule::Token;
+use crate::rule::Knowledge;
 use crate::running::Running;
 use pages::page_of;
 use proto::Fault;
@@ -24,7 +24,7 @@ pub struct Seat<J: Room> {
     pub(crate) running: Vec<Running>,
     // The index of the request that made the latest step.
     pub(crate) latest: usize,
-    pub(crate) token: Token,
+    pub(crate) token: Knowledge,
     pub(crate) of: PhantomData<J>,
 }
 
@@ -82,7 +82,7 @@ fn all_done(running: &[Running]) -> bool
 
 impl<J: Room> Seat<J> {
     /// The seat of a caller, whose token knows of no step, with its requests before their first step.
-    pub(crate) fn new(caller: usize, running: Vec<Running>, token: Token) -> Seat<J>
+    pub(crate) fn new(caller: usize, running: Vec<Running>, token: Knowledge) -> Seat<J>
         requires token { (token.table_id ≡ J.table) × (token.me ≡ (name_view (name_of_caller caller) [], [])) }
         requires few { caller < J.callers }
         requires has { running.items ≡ map (running_in []) (dealt J.callers caller J.group) }

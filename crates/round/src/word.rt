@@ -4,7 +4,7 @@ ghost use Rattle.std.specs.Prelude.{◌≡◌, ℕ, true, false, ◌<◌, ◌≤
 ghost use Rattle.pages.specs.Page.{page_count};
 ghost use Rattle.round.specs.Tickets.{maker, name_view, both, made, view_log, Known};
 
-use crate::rule::{Counts, Draws, Learns, NewName, Parts, Said, Token, View, Whole};
+use crate::rule::{Counts, Draws, Knowledge, Learns, NewName, Parts, Said, View, Whole};
 use atomic_table::Table;
 use item_steps::{Answer, Step};
 use std::alloc::{AllocError, Global};
@@ -20,7 +20,7 @@ pub struct TicketWord {
 impl TicketWord {
     /// A word with no ticket drawn, and the token that makes the others. The only error is want of
     /// memory.
-    pub fn open(alloc: Global) -> Result<(TicketWord, Token), AllocError>
+    pub fn open(alloc: Global) -> Result<(TicketWord, Knowledge), AllocError>
         ensures { IfOk result (λ r. (r.1.table_id ≡ r.0.table.shared.table_id) × (r.1.me ≡ (maker 0, []))) }
     {
         let (table, token) = Table::of_words(alloc, &[0], &())?;
@@ -28,7 +28,7 @@ impl TicketWord {
     }
 
     /// A token for the next name, which has no step yet.
-    pub(crate) fn new_name(&self, master: &mut Token) -> Token
+    pub(crate) fn new_name(&self, master: &mut Knowledge) -> Knowledge
         requires token { master.old.table_id ≡ self.now.table.shared.table_id }
         requires makes { master.old.me.0.makes ≡ true }
         ensures master { (master.new.table_id ≡ master.old.table_id) × (master.new.me ≡ (made master.old.me.0, master.old.me.1)) }
@@ -38,7 +38,7 @@ impl TicketWord {
     }
 
     /// Takes in all that another token knows.
-    pub(crate) fn take_in(&self, master: &mut Token, other: Token)
+    pub(crate) fn take_in(&self, master: &mut Knowledge, other: Knowledge)
         requires tokens { (master.old.table_id ≡ self.now.table.shared.table_id) × (other.table_id ≡ self.now.table.shared.table_id) }
         requires free { other.me.1 ≡ [] }
         ensures { (master.new.table_id ≡ master.old.table_id) × (master.new.me ≡ (both master.old.me.0 other.me.0, master.old.me.1)) }
@@ -47,7 +47,7 @@ impl TicketWord {
     }
 
     /// There is an order of all steps, in which each log that the token holds is whole.
-    pub(crate) fn learn(&self, token: &mut Token)
+    pub(crate) fn learn(&self, token: &mut Knowledge)
         requires token { (token.old.table_id ≡ self.now.table.shared.table_id) × (token.old.me.1 ≡ []) }
         ensures { Known token.old.me.0 }
     {
@@ -57,8 +57,8 @@ impl TicketWord {
     /// Draws the ticket of one step, which from then on stands in the page's log and the caller's.
     pub(crate) fn draw(
         &self,
-        page: &mut Token,
-        caller: &mut Token,
+        page: &mut Knowledge,
+        caller: &mut Knowledge,
         number: usize,
         name: usize,
         place: u32,
@@ -85,7 +85,7 @@ impl TicketWord {
     }
 
     /// The page's token takes in all that the caller's knows, to which nothing is left.
-    fn take_all(&self, page: &mut Token, caller: &mut Token)
+    fn take_all(&self, page: &mut Knowledge, caller: &mut Knowledge)
         requires tokens { (page.old.table_id ≡ self.now.table.shared.table_id) × (caller.old.table_id ≡ self.now.table.shared.table_id) }
         requires caller { caller.old.me.0.makes ≡ false }
         ensures { (page.new.table_id ≡ page.old.table_id) × (page.new.me ≡ (both page.old.me.0 caller.old.me.0, page.old.me.1)) }
@@ -96,8 +96,8 @@ impl TicketWord {
 
     fn draw_said<W: Said>(
         &self,
-        page: &mut Token,
-        caller: &mut Token,
+        page: &mut Knowledge,
+        caller: &mut Knowledge,
         number: usize,
         name: usize,
         place: u32,

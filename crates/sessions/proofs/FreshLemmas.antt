@@ -6,7 +6,7 @@ use Rattle.std.specs.Ordering.{nat_cmp, eq_by_cmp}
 use Rattle.std.specs.Cmp.{nat_cmp_total}
 use Rattle.std.specs.FinMap as map
 use Rattle.sessions.specs.declared.request.Request.{Request}
-use Rattle.sessions.specs.declared.sessions.Kept.{Kept}
+use Rattle.sessions.specs.declared.sessions.LastReply.{LastReply}
 use Rattle.sessions.specs.Fresh.{Replies, is_next}
 
 above : (n : ℕ) → nat_eq n (n + 1) ≡ false
@@ -15,10 +15,10 @@ above n = grind (arith, nat_tests)
 same : (n : ℕ) → eq_by_cmp nat_cmp n n ≡ true
 same n = grind (arith, nat_tests)
 
-pub is_next-insert : (sessions : Replies) (r : Request) (kept : Kept) → kept.number ≡ r.number → is_next (map.insert sessions r.client kept) r ≡ false
+pub is_next-insert : (sessions : Replies) (r : Request) (kept : LastReply) → kept.number ≡ r.number → is_next (map.insert sessions r.client kept) r ≡ false
 is_next-insert sessions r kept e =
     let got = map.get-insert nat_cmp_total sessions r.client kept r.client in
-    ap (λ o. nat_eq r.number (option_map_or (λ (k : Kept). k.number + 1) o 1)) (got ∙ ap (λ b. cond b (Some kept) (map.get sessions r.client)) (same r.client))
+    ap (λ o. nat_eq r.number (option_map_or (λ (k : LastReply). k.number + 1) o 1)) (got ∙ ap (λ b. cond b (Some kept) (map.get sessions r.client)) (same r.client))
     ∙ ap (λ n. nat_eq r.number (n + 1)) e ∙ above r.number
 
 -- to take 1 away and compare is to compare with 1 more

@@ -9,16 +9,17 @@ use Rattle.std.specs.FinMap.{put, is_sorted}
 use Rattle.std.specs.FinMap.Entries.{below_all, by_order}
 use Rattle.std.proofs.lemmas.Bool.{and_parts}
 use Rattle.std.proofs.lemmas.List.Elements.{All-cons}
-use Rattle.sessions.specs.declared.sessions.Kept.{Kept}
+use Rattle.sessions.specs.declared.sessions.LastReply.{LastReply}
+use Rattle.sessions.specs.declared.sessions.TheConstants.{MOST_CLIENTS}
 use Rattle.sessions.specs.Limits.{SessionFits, KeptFits}
 
-first_of : (e : ℕ × Kept) (es : List (ℕ × Kept)) → All SessionFits (e ∷ es) → SessionFits e
+first_of : (e : ℕ × LastReply) (es : List (ℕ × LastReply)) → All SessionFits (e ∷ es) → SessionFits e
 first_of e es all = all 0 e (omega arith)
 
-others_of : (e : ℕ × Kept) (es : List (ℕ × Kept)) → All SessionFits (e ∷ es) → All SessionFits es
+others_of : (e : ℕ × LastReply) (es : List (ℕ × LastReply)) → All SessionFits (e ∷ es) → All SessionFits es
 others_of e es all = λ i d within. all (suc i) d (omega (arith, within))
 
-all_put : (k : ℕ) (v : Kept) (es : List (ℕ × Kept)) → All SessionFits es → SessionFits (k, v) → All SessionFits (put nat_cmp k v es)
+all_put : (k : ℕ) (v : LastReply) (es : List (ℕ × LastReply)) → All SessionFits es → SessionFits (k, v) → All SessionFits (put nat_cmp k v es)
 all_put k v [] all fits = All-cons SessionFits (k, v) [] fits all
 all_put k v (e ∷ es) all fits = by (all_put k v es (others_of e es all) fits) (nat_cmp k e.0)
   where
@@ -28,7 +29,7 @@ all_put k v (e ∷ es) all fits = by (all_put k v es (others_of e es all) fits) 
     by later Greater = All-cons SessionFits e (put nat_cmp k v es) (first_of e es all) later
 
 -- after a put that may fail
-pub fit_after : {E : Type 0} (r : Result (Unit {0}) E) (es new : List (ℕ × Kept)) (k : ℕ) (v : Kept) → All SessionFits es → 1 ≤ k → KeptFits v
+pub fit_after : {E : Type 0} (r : Result (Unit {0}) E) (es new : List (ℕ × LastReply)) (k : ℕ) (v : LastReply) → All SessionFits es → 1 ≤ k → KeptFits v
     → OnOk r (new ≡ put nat_cmp k v es) → OnErr r (new ≡ es) → All SessionFits new
 fit_after (Ok x) es new k v all client kept ok err = rw ok (all_put k v es all (record { client = client; kept = kept }))
 fit_after (Err x) es new k v all client kept ok err = rw err all
@@ -42,7 +43,7 @@ less_is a b h = by (nat_cmp a b) refl h
     by Greater e h = absurd (cc h)
 
 -- keys that rise from a on, and stay below n, are few
-few_below : (n : ℕ) (es : List (ℕ × Kept)) (e d : ℕ × Kept) (a : ℕ) → is_sorted nat_cmp (e ∷ es) ≡ true → a ≤ e.0 → (get_or (e ∷ es) (length es) d).0 < n → length (e ∷ es) + a ≤ n
+few_below : (n : ℕ) (es : List (ℕ × LastReply)) (e d : ℕ × LastReply) (a : ℕ) → is_sorted nat_cmp (e ∷ es) ≡ true → a ≤ e.0 → (get_or (e ∷ es) (length es) d).0 < n → length (e ∷ es) + a ≤ n
 few_below n [] e d a sorted low last = omega (arith, low, last)
 few_below n (x ∷ es) e d a sorted low last =
     let parts = and_parts (is_lt (nat_cmp e.0 x.0) && below_all nat_cmp e.0 es) (is_sorted nat_cmp (x ∷ es)) sorted in
@@ -50,13 +51,13 @@ few_below n (x ∷ es) e d a sorted low last =
     let later = few_below n es x d (a + 1) parts.1 (omega (arith, low, next)) last in
     omega (arith, later)
 
-sorted_few : (n : ℕ) (es : List (ℕ × Kept)) (d : ℕ × Kept) → is_sorted nat_cmp es ≡ true → 0 < length es → (get_or es (length es - 1) d).0 < n → length es ≤ n
+sorted_few : (n : ℕ) (es : List (ℕ × LastReply)) (d : ℕ × LastReply) → is_sorted nat_cmp es ≡ true → 0 < length es → (get_or es (length es - 1) d).0 < n → length es ≤ n
 sorted_few n [] d sorted some last = absurd (omega arith)
 sorted_few n (e ∷ es) d sorted some last =
     let at : length es + 1 - 1 ≡ length es = omega arith in
     let bound : (get_or (e ∷ es) (length es) d).0 < n = subst (λ (k : ℕ). (get_or (e ∷ es) k d).0 < n) (omega arith) last in
     omega (arith, few_below n es e d 0 sorted (omega arith) bound)
 
-pub rise_few : (es : List (ℕ × Kept)) (last : ℕ) → is_sorted nat_cmp es ≡ true → 0 < length es → ((d : ℕ × Kept) → (get_or es (length es - 1) d).0 ≡ last) → last < 65536 → length es ≤ 65536
+pub rise_few : (es : List (ℕ × LastReply)) (last : ℕ) → is_sorted nat_cmp es ≡ true → 0 < length es → ((d : ℕ × LastReply) → (get_or es (length es - 1) d).0 ≡ last) → last < MOST_CLIENTS → length es ≤ MOST_CLIENTS
 rise_few [] last sorted some is fits = absurd (omega arith)
-rise_few (e ∷ es) last sorted some is fits = sorted_few 65536 (e ∷ es) e sorted some (omega (arith, is e, fits))
+rise_few (e ∷ es) last sorted some is fits = sorted_few MOST_CLIENTS (e ∷ es) e sorted some (omega (arith, is e, fits))

@@ -4,11 +4,11 @@ use Rattle.std.specs.Option.{option_map_or}
 use Rattle.std.specs.Ordering.{nat_cmp}
 use Rattle.std.specs.FinMap as map
 use Rattle.sessions.specs.declared.request.Request.{Request}
-use Rattle.sessions.specs.declared.sessions.Kept.{Kept}
+use Rattle.sessions.specs.declared.sessions.LastReply.{LastReply}
 
 -- the last reply of each client
 abbrev pub Replies : Type 0
-Replies = map.FinMap nat_cmp Kept
+Replies = map.FinMap nat_cmp LastReply
 
 -- the number that a client's next request has
 abbrev pub next_number : Replies → ℕ → ℕ

@@ -1,68 +1,44 @@
-//! Entries in a vector, sorted by their clients.
+//! Entries in a map that may be shared, sorted by their clients.
 
-ghost use Rattle.std.specs.Prelude.{◌≡◌, ◌≤◌, ◌<◌, ◌-◌, ℕ, IfOk, IfErr, IsOk, IsTrue, OnOk, OnErr, is_some, length, slice_index_or};
-ghost use Rattle.std.specs.Option.{option_copied};
+ghost use Rattle.std.specs.Prelude.{◌≡◌, ◌≤◌, ◌<◌, ◌-◌, ℕ, IsTrue, OnOk, OnErr, length, slice_index_or};
+ghost use Rattle.std.specs.Arc.{arc_value};
 ghost use Rattle.std.specs.Ordering.{nat_cmp};
-ghost use Rattle.std.specs.FinMap.{is_sorted, find, put};
-ghost use Rattle.proto.specs.Places.{IsAt, IsGap};
-ghost use Rattle.sessions.specs.declared.sessions.Kept.{Kept};
+ghost use Rattle.std.specs.FinMap.{is_sorted, put};
+ghost use Rattle.sessions.specs.declared.sessions.LastReply.{LastReply};
+ghost use Rattle.sessions.specs.declared.sessions.TheConstants.{MOST_CLIENTS};
 
-use crate::sessions::Kept;
-use std::alloc::AllocError;
-use std::cmp::Ordering;
+use crate::sessions::LastReply;
+use base::{Entry, SortedMap};
+use std::alloc::{AllocError, Global};
+use std::sync::Arc;
 
-/// Where the client stands, or would stand.
-fn place_of(entries: &[(u16, Kept)], client: u16) -> Result<usize, usize>
-    requires { IsTrue (is_sorted nat_cmp entries.now) }
-    ensures found { IfOk result (IsAt nat_cmp entries.now client) }
-    ensures absent { IfErr result (IsGap nat_cmp entries.now client) }
+/// Puts an entry of its own for the client. Where the map is shared, it is first copied: a pointer for
+/// each entry. Where an allocation fails nothing changes.
+pub fn put_entry(
+    entries: &mut Arc<SortedMap<u16, LastReply>, Global>,
+    client: u16,
+    kept: LastReply,
+) -> Result<(), AllocError>
+    ensures ok { OnOk result (arc_value entries.new ≡ put nat_cmp client kept (arc_value entries.old)) }
+    ensures err { OnErr result (arc_value entries.new ≡ arc_value entries.old) }
 {
-    entries.binary_search_by(
-        |entry: &(u16, Kept)| -> Ordering
-            ensures { result ≡ nat_cmp entry.now.0 client }
-        { entry.0.cmp(&client) },
-    )
-}
-
-pub fn find_entry(entries: &[(u16, Kept)], client: u16) -> Option<&Kept>
-    requires { IsTrue (is_sorted nat_cmp entries.now) }
-    ensures { option_copied result ≡ find nat_cmp client entries.now }
-{
-    match place_of(entries, client) {
-        Ok(at) => Some(&entries[at].1),
-        Err(_) => None,
-    }
-}
-
-pub fn put_entry(entries: &mut Vec<(u16, Kept)>, client: u16, kept: Kept) -> Result<(), AllocError>
-    requires { IsTrue (is_sorted nat_cmp entries.old.items) }
-    ensures ok { OnOk result (entries.new.items ≡ put nat_cmp client kept entries.old.items) }
-    ensures err { OnErr result (entries.new.items ≡ entries.old.items) }
-    ensures known { IsTrue (is_some (find nat_cmp client entries.old.items)) → IsOk result }
-{
-    match place_of(entries, client) {
-        Ok(at) => {
-            entries[at].1 = kept;
-            Ok(())
-        }
-        Err(at) => Ok(entries.insert(at, (client, kept))?),
-    }
+    Arc::make_mut(entries)?.insert(client, kept)
 }
 
 /// Clients that rise to this one are no more than there are numbers of clients. It does nothing.
-fn rise_to(entries: &[(u16, Kept)], last: u16)
+fn rise_to(entries: &[Entry<u16, LastReply>], last: u16)
     requires rising { IsTrue (is_sorted nat_cmp entries.now) }
     requires some { 0 < length entries.now }
-    requires last { (d : ℕ × Kept) → (slice_index_or entries.now (length entries.now - 1) d).0 ≡ last }
-    ensures { length entries.now ≤ 65536 }
+    requires last { (d : ℕ × LastReply) → (slice_index_or entries.now (length entries.now - 1) d).0 ≡ last }
+    ensures { length entries.now ≤ MOST_CLIENTS }
 {}
 
 /// There are no more sessions than numbers of clients. It does nothing.
-pub fn are_few(entries: &[(u16, Kept)])
+pub fn are_few(entries: &[Entry<u16, LastReply>])
     requires { IsTrue (is_sorted nat_cmp entries.now) }
-    ensures { length entries.now ≤ 65536 }
+    ensures { length entries.now ≤ MOST_CLIENTS }
 {
     if !entries.is_empty() {
-        rise_to(entries, entries[entries.len() - 1].0);
+        rise_to(entries, *entries[entries.len() - 1].key());
     }
 }

@@ -4,8 +4,9 @@
 //! is the number of its last request that ran, and the reply: so a request that comes twice runs
 //! once, and is answered as before.
 //!
-//! It stands on `proto` (commands, replies, and entries that are sorted by their keys). The layers
-//! above use `Sessions::fresh`: true exactly where the request is the next of its client.
+//! It stands on `base` (a map in one sorted vector of shared entries) and on `proto` (commands and
+//! replies). The layers above use `Sessions::fresh`: true exactly where the request is the next of its
+//! client. A clone of `Sessions` is one pointer, and what is kept is shared until a reply is kept.
 #![tactic(auto)]
 
 mod entries;
@@ -15,4 +16,4 @@ mod sessions;
 
 pub use laws::kept_request_is_not_fresh;
 pub use request::Request;
-pub use sessions::{Kept, Sessions};
+pub use sessions::{LastReply, MOST_CLIENTS, Sessions};

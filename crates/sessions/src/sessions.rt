@@ -1,88 +1,97 @@
 ghost use Rattle.std.specs.Prelude.{◌≡◌};
 
-use crate::entries::{are_few, find_entry, put_entry};
+use crate::entries::{are_few, put_entry};
 use crate::request::Request;
+use base::{Entry, SortedMap};
 use proto::Reply;
 use std::alloc::{AllocError, Global};
 use std::marker::Model;
+use std::sync::Arc;
+
+/// How many clients there are at most: as many as there are numbers of clients.
+pub const MOST_CLIENTS: usize = 65536;
 
 /// The number of a client's last request that ran, and its reply.
 #[derive(Drop)]
-pub struct Kept {
+pub struct LastReply {
     pub number: u64,
     pub reply: Reply,
 }
 
-impl Clone for Kept {
+impl Clone for LastReply {
     ghost is_clone = { λ kept copy. copy ≡ kept };
 
-    fn clone(&self) -> Result<Kept, AllocError> {
-        Ok(Kept {
+    fn clone(&self) -> Result<LastReply, AllocError> {
+        Ok(LastReply {
             number: self.number,
             reply: self.reply.clone()?,
         })
     }
 }
 
-/// The last reply of each client.
+/// The last reply of each client. Clones share what is kept.
 #[derive(Drop)]
 pub struct Sessions {
-    entries: Vec<(u16, Kept)>,
+    entries: Arc<SortedMap<u16, LastReply>, Global>,
 }
 
 impl Model for Sessions {
     ghost use Rattle.std.specs.Prelude.{IsTrue, All};
+    ghost use Rattle.std.specs.Arc.{arc_value};
     ghost use Rattle.std.specs.Coded.{coded_ℕ};
     ghost use Rattle.std.specs.FinMap as map;
     ghost use Rattle.std.specs.Ordering.{nat_cmp};
-    ghost use Rattle.sessions.specs.declared.sessions.Kept.{Kept};
+    ghost use Rattle.sessions.specs.declared.sessions.LastReply.{LastReply};
     ghost use Rattle.sessions.specs.Limits.{SessionFits};
-    ghost use Rattle.sessions.specs.contracts.sessions.Kept as last;
+    ghost use Rattle.sessions.specs.contracts.sessions.LastReply as last;
 
-    ghost Value = { map.FinMap nat_cmp Kept };
+    ghost Value = { map.FinMap nat_cmp LastReply };
 
     ghost coded = { map.code coded_ℕ last.the_row.coded };
 
-    ghost view = { λ a. map.from_sorted a.entries.items };
+    ghost view = { λ a. map.from_sorted (arc_value a.entries) };
 
-    ghost invariant = { λ a. IsTrue (map.is_sorted nat_cmp a.entries.items) × All SessionFits a.entries.items };
+    ghost invariant = { λ a. IsTrue (map.is_sorted nat_cmp (arc_value a.entries)) × All SessionFits (arc_value a.entries) };
 }
 
 impl Sessions {
-    ghost use Rattle.std.specs.Prelude.{◌≡◌, ◌≤◌, IsTrue, IsOk, OnOk, OnErr, MatchOption, option_copied, length, All, is_some};
+    ghost use Rattle.std.specs.Prelude.{◌≡◌, ◌≤◌, IsTrue, IfOk, OnOk, OnErr, MatchOption, option_copied, length, All};
     ghost use Rattle.std.specs.Ordering.{nat_cmp};
     ghost use Rattle.std.specs.FinMap as map;
     ghost use Rattle.sessions.specs.Fresh.{is_next};
     ghost use Rattle.sessions.specs.Limits.{SessionFits};
 
-    /// Sessions of no client.
-    pub fn new(alloc: Global) -> Sessions
-        ensures { result ≡ map.empty }
+    /// Sessions of no client. The only error is a failed allocation.
+    pub fn new(alloc: Global) -> Result<Sessions, AllocError>
+        ensures { IfOk result (λ sessions. sessions ≡ map.empty) }
     {
-        Sessions {
-            entries: Vec::new(alloc),
-        }
+        Ok(Sessions {
+            entries: Arc::new(alloc, SortedMap::new(alloc))?,
+        })
     }
 
     /// Sessions of these clients, which rise strictly: what `entries` gave, put together again.
-    /// Clients and the numbers of their requests begin at 1.
-    pub fn of_sorted(entries: Vec<(u16, Kept)>) -> Sessions
+    /// Clients and the numbers of their requests begin at 1. The only error is a failed allocation.
+    pub fn from_sorted(entries: Vec<Entry<u16, LastReply>>) -> Result<Sessions, AllocError>
         requires sorted { IsTrue (map.is_sorted nat_cmp entries.items) }
         requires fit { All SessionFits entries.items }
-        ensures sessions { result ≡ map.from_sorted entries.items }
-        ensures entries { map.entries result ≡ entries.items }
+        ensures sessions { IfOk result (λ sessions. sessions ≡ map.from_sorted entries.items) }
+        ensures entries { IfOk result (λ sessions. map.entries sessions ≡ entries.items) }
     {
-        Sessions { entries }
+        let alloc = *entries.allocator();
+        Ok(Sessions {
+            entries: Arc::new(alloc, SortedMap::from_sorted(entries))?,
+        })
     }
 
-    /// What is kept of each client, by rising clients: of up to 65,536 clients.
-    pub fn entries(&self) -> &[(u16, Kept)]
+    /// What is kept of each client, by rising clients: of up to `MOST_CLIENTS`.
+    pub fn entries(&self) -> &[Entry<u16, LastReply>]
         ensures entries { result.now ≡ map.entries self.now }
         ensures sorted { IsTrue (map.is_sorted nat_cmp result.now) }
         ensures fit { All SessionFits result.now }
-        ensures few { length result.now ≤ 65536 }
+        ensures few { length result.now ≤ MOST_CLIENTS }
     {
-        let entries = self.entries.as_slice();
+        let entries = self.entries.entries();
         are_few(entries);
         entries
     }
@@ -99,15 +108,15 @@ impl Sessions {
         }
     }
 
-    /// Keeps the reply of a request that ran, in place of what was kept of its client. Only a
-    /// client of whom nothing was kept takes memory; where it is wanting nothing changes.
+    /// Keeps the reply of a request that ran, in place of what was kept of its client. It takes memory
+    /// for this one entry, and where the sessions are shared with a clone for a pointer to each other
+    /// one, which are shared on. Where an allocation fails nothing changes.
     pub fn keep(&mut self, request: &Request, reply: Reply) -> Result<(), AllocError>
         ensures ok { OnOk result (self.new
             ≡ map.insert self.old request.now.client (record { number = request.now.number; reply = reply })) }
         ensures err { OnErr result (self.new ≡ self.old) }
-        ensures known { IsTrue (is_some (map.get self.old request.now.client)) → IsOk result }
     {
-        let kept = Kept {
+        let kept = LastReply {
             number: request.number,
             reply,
         };
@@ -123,19 +132,21 @@ impl Sessions {
         Some((kept.number, &kept.reply))
     }
 
-    fn last(&self, client: u16) -> Option<&Kept>
+    fn last(&self, client: u16) -> Option<&LastReply>
         ensures { option_copied result ≡ map.get self.now client }
     {
-        find_entry(&self.entries, client)
+        self.entries.get(&client)
     }
 }
 
 impl Clone for Sessions {
     ghost is_clone = { λ sessions copy. copy ≡ sessions };
 
+    /// The same sessions, shared. It takes no memory, and fails only where there are too many clones
+    /// to be counted.
     fn clone(&self) -> Result<Sessions, AllocError> {
         Ok(Sessions {
-            entries: self.entries.clone()?,
+            entries: Arc::try_clone(&self.entries)?,
         })
     }
 }

@@ -1,3 +1,4 @@
 pub mod Digest
+pub mod Digested
 pub mod Token
 pub mod TokenLaws

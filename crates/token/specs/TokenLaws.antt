@@ -1,4 +1,4 @@
--- No token is spelled at the front of another.
+-- No token is a prefix of another.
 use Rattle.std.proofs.Common.{refl}
 use Rattle.wire.specs.Record.{IsPrefixFree}
 use Rattle.wire.specs.KeyLaws.{fixed_prefix_free}

@@ -1,19 +1,22 @@
 //! Tokens: the digests by which states are known, and the digests that they are made from.
 //!
-//! It stands on `wire`, whose texts it digests, and on `sha2`. The layers above use `Token::new` and
-//! the digests beside it: each is the word `digest` of the text of its arguments. No call takes memory,
-//! and no layer above computes with SHA-256.
+//! It stands on `wire`, whose texts it digests, on `base` (entries, pieces) and on `sha2`, which is
+//! SHA-256 by FIPS 180-4. The layers above use `Token::new` and the digests beside it: each is the
+//! word `digest` of the text of its arguments. They keep a digest beside its text as `Digested`, the
+//! one thing here that takes memory. No layer above computes with SHA-256.
 #![tactic(auto)]
 
+mod digested;
 mod digests;
 mod record;
 mod tree;
 
+pub use digested::Digested;
 pub use digests::{batch_digest, page_digest, sessions_digest};
-pub use tree::{inner_digest, root};
+pub use tree::{PAGES, inner_digest, root};
 use wire::{TokenText, digest};
 
-/// The digest by which a state is known.
+/// The digest by which a state is known: SHA-256 (FIPS 180-4) of a token's text, 32 bytes.
 #[derive(Clone, Copy, Debug, PartialEq, Eq)]
 pub struct Token(pub [u8; 32]);
 
@@ -24,7 +27,7 @@ impl Token {
 
     /// The token of the state that has this number, epoch and moment: of the token of the state
     /// before it, and of the digests of the batch that led to it, of its pages (their root) and of
-    /// its sessions.
+    /// its sessions. The moment is in seconds. It takes no memory.
     #[tactic(auto, unfolding(crate::specs::Digest::digest))]
     pub fn new(
         previous: &Token,

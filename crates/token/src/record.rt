@@ -10,7 +10,7 @@ impl Record for Token {
 
     ghost fits = { λ _. ⊤ };
 
-    ghost spelling = { token_bytes };
+    ghost encoding = { token_bytes };
 
     fn put<S: Sink>(&self, sink: &mut S) -> Result<(), S::Refusal> {
         self.0.put(sink)

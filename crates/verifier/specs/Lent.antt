@@ -5,6 +5,6 @@ use Rattle.keeper.specs.declared.keeper.Keeper.{Ghosts}
 use Rattle.verifier.specs.declared.verifier.Verifier.{Verifier}
 use Rattle.verifier.specs.contracts.verifier.Verifier.{the_row}
 
--- the verifier ends with the record and the failures of the keeper that was left
+-- the verifier ends with the record, the failures and the mark of the keeper that was left
 abbrev pub LendsKeeper : (K : RattleType) (g : Ghosts K.Denot) → MutBor (Verifier K.Denot) → MutBor K.Denot → Fml
-LendsKeeper K g n r = Lends (the_row K g) K n r (λ k. record n.now { saved = g.saved k; failures = g.failed k })
+LendsKeeper K g n r = Lends (the_row K g) K n r (λ k. record n.now { saved = g.saved k; failures = g.failed k; told = g.told k })

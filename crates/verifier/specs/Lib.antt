@@ -4,6 +4,6 @@ pub mod Lines
 pub mod Step
 pub mod Record
 pub mod Row
-pub mod Seat
+pub mod Verifier
 pub mod Lent
 pub mod Laws

@@ -11,16 +11,16 @@ use Rattle.decrees.specs.declared.node.Node.TheVariants.{Verifier}
 use Rattle.decrees.specs.declared.votes.Verdict.{Verdict}
 use Rattle.decrees.specs.declared.votes.Verdict.TheVariants as verdict_variant
 use Rattle.decrees.specs.declared.votes.VoteKey.{VoteKey}
-use Rattle.decrees.specs.Standing.{standing, is_next, decree_at}
+use Rattle.decrees.specs.Standing.{standing, may_follow, decree_at}
 use Rattle.decrees.specs.Votes.{is_open, open_votes, votes_with, verdict}
 use Rattle.view_change.specs.declared.promises.Choice.{Choice}
 use Rattle.view_change.specs.declared.promises.Choice.TheVariants as choice_variant
 use Rattle.view_change.specs.Promises.{has_promised, promises_with, choice}
 use Rattle.verifier.specs.Tally.{tally_with, is_accepted}
-use Rattle.verifier.specs.State.{State, Outcome, next_place, letter, to_verifiers, to_others, to_executors, decided_from, stays, says, in_view, down, is_led_by, next_led}
+use Rattle.verifier.specs.State.{VerifierState, OutcomeView, next_place, letter, to_verifiers, to_others, to_executors, decided_from, stays, says, in_view, down, is_led_by, next_led}
 
 -- one decree more is known
-abbrev pub learn : State → Decree → State
+abbrev pub learn : VerifierState → Decree → VerifierState
 learn s d = record s { log = s.log ++ d ∷ []; accepted = None; proposed = false; tally = []; votes = open_votes (standing (s.log ++ d ∷ [])) s.votes }
 
 -- what the verdict leaves to a leader that is free to propose
@@ -35,13 +35,13 @@ by_choice (choice_variant.Must d) fresh = Some d
 by_choice choice_variant.Free fresh = fresh
 
 -- what it may propose for the next place: what was accepted, else a Commit by the votes, else a Rollback
-abbrev pub proposal : ℕ → State → Option Decree
+abbrev pub proposal : ℕ → VerifierState → Option Decree
 proposal u s =
     if s.leads && not s.proposed
     then by_choice (choice u (length s.log) s.promises) (by_verdict ((standing s.log).n + 1) s.doubt (verdict u (standing s.log) s.votes))
     else None
 
-abbrev pub proposing : ℕ → ℕ → State → Bool → List (Letter Ballot) → Option Decree → Outcome
+abbrev pub proposing : ℕ → ℕ → VerifierState → Bool → List (Letter Ballot) → Option Decree → OutcomeView
 proposing u id s saves first None = record { state = s; saves = saves; letters = first }
 proposing u id s saves first (Some d) =
     record {
@@ -51,19 +51,19 @@ proposing u id s saves first (Some d) =
     }
 
 -- a step that leaves this state and these letters, and then tries to propose
-abbrev pub try_to_propose : ℕ → ℕ → State → Bool → List (Letter Ballot) → Outcome
+abbrev pub try_to_propose : ℕ → ℕ → VerifierState → Bool → List (Letter Ballot) → OutcomeView
 try_to_propose u id s saves first = proposing u id s saves first (proposal u s)
 
 abbrev pub vote_key : ℕ → ℕ → ℕ → Token → VoteKey
 vote_key executor epoch n previous = record { epoch = epoch; n = n; executor = executor; previous = previous.0 }
 
-abbrev pub on_token : ℕ → ℕ → State → ℕ → ℕ → ℕ → Token → Token → Outcome
+abbrev pub on_token : ℕ → ℕ → VerifierState → ℕ → ℕ → ℕ → Token → Token → OutcomeView
 on_token u id s executor epoch n previous token =
     if is_open (standing s.log) (vote_key executor epoch n previous)
     then try_to_propose u id (record s { votes = votes_with s.votes (vote_key executor epoch n previous) token }) false []
     else stays s
 
-abbrev pub suspected : ℕ → ℕ → State → Outcome
+abbrev pub suspected : ℕ → ℕ → VerifierState → OutcomeView
 suspected u id s =
     let view = next_led u id s.view in
     record {
@@ -72,20 +72,20 @@ suspected u id s =
       letters = to_verifiers u id (Change view);
     }
 
-abbrev pub on_change : ℕ → State → ℕ → ℕ → Outcome
+abbrev pub on_change : ℕ → VerifierState → ℕ → ℕ → OutcomeView
 on_change id s from view =
     if nat_lt view s.view then stays s
     else record { state = in_view s view; saves = nat_lt s.view view; letters = letter id (Verifier from) (Promise view (length s.log) s.accepted) ∷ [] }
 
 -- asks for what it does not know, where the sender knows more
-abbrev pub asked_if_behind : ℕ → State → ℕ → ℕ → List (Letter Ballot)
+abbrev pub asked_if_behind : ℕ → VerifierState → ℕ → ℕ → List (Letter Ballot)
 asked_if_behind id s from count = if nat_lt (length s.log) count then letter id (Verifier from) (Ask (length s.log + 1)) ∷ [] else []
 
 -- the promise is to this lead, and the first of its sender
-abbrev pub is_awaited : State → ℕ → ℕ → Bool
+abbrev pub is_awaited : VerifierState → ℕ → ℕ → Bool
 is_awaited s from view = s.leads && ((view == s.view) && not (has_promised s.promises from))
 
-abbrev pub on_promise : ℕ → ℕ → State → ℕ → ℕ → ℕ → Option (ℕ × Decree) → Outcome
+abbrev pub on_promise : ℕ → ℕ → VerifierState → ℕ → ℕ → ℕ → Option (ℕ × Decree) → OutcomeView
 on_promise u id s from view count accepted =
     if is_awaited s from view
     then try_to_propose u id (record s { promises = promises_with s.promises (record { from = from; known = count; accepted = accepted }) }) false (asked_if_behind id s from count)
@@ -97,25 +97,25 @@ told id to place None = []
 told id to place (Some d) = letter id to (Decided place d) ∷ []
 
 -- the proposal is of no lower view, and of no place whose Commit would have another number
-abbrev pub is_acceptable : State → ℕ → ℕ → Decree → Bool
-is_acceptable s view place d = nat_lt 0 place && (nat_le s.view view && (not (place == next_place s) || is_next (standing s.log) d))
+abbrev pub is_acceptable : VerifierState → ℕ → ℕ → Decree → Bool
+is_acceptable s view place d = nat_lt 0 place && (nat_le s.view view && (not (place == next_place s) || may_follow (standing s.log) d))
 
-abbrev pub on_accept : ℕ → ℕ → State → ℕ → ℕ → ℕ → Decree → Outcome
+abbrev pub on_accept : ℕ → ℕ → VerifierState → ℕ → ℕ → ℕ → Decree → OutcomeView
 on_accept u id s from view place d =
     if (place == 0) || nat_lt view s.view then stays s
     else if nat_lt (next_place s) place then says id s (Verifier from) (Ask (next_place s))
     else if nat_lt place (next_place s) then record { state = s; saves = false; letters = told id (Verifier from) place (decree_at s.log place) }
-    else if is_next (standing s.log) d then record { state = record (in_view s view) { accepted = Some (view, d) }; saves = true; letters = to_verifiers u id (Accepted view place d) }
+    else if may_follow (standing s.log) d then record { state = record (in_view s view) { accepted = Some (view, d) }; saves = true; letters = to_verifiers u id (Accepted view place d) }
     else stays s
 
 -- the decree is of the next place and may come next
-abbrev pub is_fitting : State → ℕ → Decree → Bool
-is_fitting s place d = (place == next_place s) && is_next (standing s.log) d
+abbrev pub is_fitting : VerifierState → ℕ → Decree → Bool
+is_fitting s place d = (place == next_place s) && may_follow (standing s.log) d
 
-abbrev pub with_tally : State → ℕ → ℕ → Decree → State
+abbrev pub with_tally : VerifierState → ℕ → ℕ → Decree → VerifierState
 with_tally s from view d = record s { tally = tally_with s.tally (record { from = from; view = view; decree = d }) }
 
-abbrev pub on_accepted : ℕ → ℕ → State → ℕ → ℕ → ℕ → Decree → Outcome
+abbrev pub on_accepted : ℕ → ℕ → VerifierState → ℕ → ℕ → ℕ → Decree → OutcomeView
 on_accepted u id s from view place d =
     if is_fitting s place d
     then (if is_accepted u (with_tally s from view d).tally view d
@@ -124,21 +124,21 @@ on_accepted u id s from view place d =
     else stays s
 
 -- the decree may come next, or is of a later place
-abbrev pub is_news : State → ℕ → Decree → Bool
+abbrev pub is_news : VerifierState → ℕ → Decree → Bool
 is_news s place d = is_fitting s place d || nat_lt (next_place s) place
 
-abbrev pub on_decided : ℕ → ℕ → State → ℕ → ℕ → Decree → Outcome
+abbrev pub on_decided : ℕ → ℕ → VerifierState → ℕ → ℕ → Decree → OutcomeView
 on_decided u id s from place d =
     if is_fitting s place d then try_to_propose u id (learn s d) true []
     else if nat_lt (next_place s) place then says id s (Verifier from) (Ask (next_place s))
     else stays s
 
 -- at most 16 decrees are told at once
-abbrev pub on_ask : ℕ → State → Node → ℕ → Outcome
+abbrev pub on_ask : ℕ → VerifierState → Node → ℕ → OutcomeView
 on_ask id s from place =
     if place == 0 then stays s
     else record { state = s; saves = false; letters = decided_from id from place (take 16 (drop (place - 1) s.log)) }
 
 -- what a verifier does that goes on from its record
-abbrev pub restarted : ℕ → ℕ → State → Outcome
+abbrev pub restarted : ℕ → ℕ → VerifierState → OutcomeView
 restarted u id s = record { state = down s; saves = false; letters = to_others u id (Ask (next_place s)) }

@@ -6,14 +6,14 @@ use Rattle.decrees.specs.declared.ballot.Ballot.TheVariants.{Decided}
 use Rattle.decrees.specs.declared.node.Letter.{Letter}
 use Rattle.decrees.specs.declared.node.Node.{Node}
 use Rattle.decrees.specs.declared.node.Node.TheVariants.{Executor, Verifier}
-use Rattle.decrees.specs.Count.{members}
+use Rattle.decrees.specs.Count.{member_count}
 use Rattle.decrees.specs.Votes.{Vote}
 use Rattle.view_change.specs.declared.promises.Promise.{Promise}
 use Rattle.view_change.specs.Promises.{promises_with}
 use Rattle.verifier.specs.declared.tally.Tallied.{Tallied}
 
 -- The first three are saved, so they stand for the record too. The rest is lost at a crash.
-pub record State : Type 0 where
+pub record VerifierState : Type 0 where
   pub view : ℕ
   pub log : List Decree
   -- what it has accepted, and in which view, for the place after its log
@@ -27,17 +27,17 @@ pub record State : Type 0 where
   pub votes : List Vote
 
 -- what a step leaves: the state, whether its record is saved before the letters leave, and these in order
-pub record Outcome : Type 0 where
-  pub state : State
+pub record OutcomeView : Type 0 where
+  pub state : VerifierState
   pub saves : Bool
   pub letters : List (Letter Ballot)
 
 -- how many decrees it knows
-abbrev pub known : State → ℕ
+abbrev pub known : VerifierState → ℕ
 known s = length s.log
 
 -- the place after them
-abbrev pub next_place : State → ℕ
+abbrev pub next_place : VerifierState → ℕ
 next_place s = length s.log + 1
 
 abbrev pub letter : ℕ → Node → Ballot → Letter Ballot
@@ -49,7 +49,7 @@ to_verifiers_below id (suc n) body = to_verifiers_below id n body ++ letter id (
 
 -- to all verifiers, itself too
 abbrev pub to_verifiers : ℕ → ℕ → Ballot → List (Letter Ballot)
-to_verifiers u id body = to_verifiers_below id (members u) body
+to_verifiers u id body = to_verifiers_below id (member_count u) body
 
 abbrev pub to_others_below : ℕ → ℕ → Ballot → List (Letter Ballot)
 to_others_below id zero body = []
@@ -57,14 +57,14 @@ to_others_below id (suc n) body = to_others_below id n body ++ (if n == id then 
 
 -- to all other verifiers
 abbrev pub to_others : ℕ → ℕ → Ballot → List (Letter Ballot)
-to_others u id body = to_others_below id (members u) body
+to_others u id body = to_others_below id (member_count u) body
 
 abbrev pub to_executors_below : ℕ → ℕ → Ballot → List (Letter Ballot)
 to_executors_below id zero body = []
 to_executors_below id (suc n) body = to_executors_below id n body ++ letter id (Executor n) body ∷ []
 
 abbrev pub to_executors : ℕ → ℕ → Ballot → List (Letter Ballot)
-to_executors u id body = to_executors_below id (members u) body
+to_executors u id body = to_executors_below id (member_count u) body
 
 -- these decrees, of the places from this one on
 abbrev pub decided_from : ℕ → Node → ℕ → List Decree → List (Letter Ballot)
@@ -72,19 +72,19 @@ decided_from id to place [] = []
 decided_from id to place (d ∷ ds) = letter id to (Decided place d) ∷ decided_from id to (place + 1) ds
 
 -- nothing changes
-abbrev pub stays : State → Outcome
+abbrev pub stays : VerifierState → OutcomeView
 stays s = record { state = s; saves = false; letters = [] }
 
 -- one letter, and nothing to save
-abbrev pub says : ℕ → State → Node → Ballot → Outcome
+abbrev pub says : ℕ → VerifierState → Node → Ballot → OutcomeView
 says id s to body = record { state = s; saves = false; letters = letter id to body ∷ [] }
 
 -- the view is this one from now on; who led a lower one leads no more
-abbrev pub in_view : State → ℕ → State
+abbrev pub in_view : VerifierState → ℕ → VerifierState
 in_view s view = record s { view = view; leads = s.leads && (view == s.view) }
 
 -- what a crash leaves
-abbrev pub down : State → State
+abbrev pub down : VerifierState → VerifierState
 down s = record { view = s.view; log = s.log; accepted = s.accepted; leads = false; proposed = false; doubt = false; promises = []; tally = []; votes = [] }
 
 -- promises of all, that know nothing and have accepted nothing
@@ -93,12 +93,12 @@ first_promises zero = []
 first_promises (suc v) = promises_with (first_promises v) (record { from = v; known = 0; accepted = None })
 
 -- a new verifier; the first one leads view 0
-abbrev pub first_state : ℕ → ℕ → State
-first_state u id = record { view = 0; log = []; accepted = None; leads = id == 0; proposed = false; doubt = false; promises = if id == 0 then first_promises (members u) else []; tally = []; votes = [] }
+abbrev pub new_state : ℕ → ℕ → VerifierState
+new_state u id = record { view = 0; log = []; accepted = None; leads = id == 0; proposed = false; doubt = false; promises = if id == 0 then first_promises (member_count u) else []; tally = []; votes = [] }
 
 -- the verifier leads the view
 abbrev pub is_led_by : ℕ → ℕ → ℕ → Bool
-is_led_by u id view = (view % members u) == id
+is_led_by u id view = (view % member_count u) == id
 
 -- the first view from this one on that the verifier leads, looked for among so many and the one after them
 abbrev pub led_from : ℕ → ℕ → ℕ → ℕ → ℕ

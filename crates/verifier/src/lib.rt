@@ -8,8 +8,11 @@
 mod input;
 mod laws;
 mod letters;
-mod memory;
+mod lines;
+mod outcome;
+mod proposing;
 mod record;
+mod state;
 mod step;
 mod tally;
 mod verifier;

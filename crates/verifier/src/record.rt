@@ -6,20 +6,20 @@ ghost use Rattle.verifier.specs.Row.{row_text, ReadsRow};
 use decrees::Decree;
 use proto::Fault;
 use std::alloc::Global;
-use wire::{Listed, read, take_mark};
+use wire::{Counted, read, take_mark};
 
 /// Number, how many may fail, view, what is accepted, and the decrees.
-pub type Row = ((((u8, u8), u64), Option<(u64, Decree)>), Listed<Decree>);
+pub type RecordRow = ((((u8, u8), u64), Option<(u64, Decree)>), Counted<Decree>);
 
 const VERSION: u8 = 1;
 
 pub const MARKS: [u8; 2] = [VERSION, b'V'];
 
-/// The row that the bytes of a record spell.
-pub fn read_row(alloc: Global, bytes: &[u8]) -> Result<Row, Fault>
+/// The row that the bytes of a record encode.
+pub fn read_row(alloc: Global, bytes: &[u8]) -> Result<RecordRow, Fault>
     ensures { ReadsRow bytes.now result }
 {
     let rest = take_mark(bytes, VERSION)?;
     let rest = take_mark(rest, b'V')?;
-    read::<Row>(alloc, rest)
+    read::<RecordRow>(alloc, rest)
 }

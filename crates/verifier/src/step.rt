@@ -1,24 +1,24 @@
 //! Which line an input fits.
 
 ghost use Rattle.std.specs.Prelude.{◌≡◌, ◌^◌, ◌<◌, ◌≤◌, ◌⊎◌, IfOk, IfErr, IsOk, IsTrue, not};
-ghost use Rattle.verifier.specs.State.{State, Outcome};
-ghost use Rattle.verifier.specs.Step.{of_executor as executor_step, of_verifier as verifier_step, step as whole_step, fits, fits_executor, fits_verifier};
+ghost use Rattle.verifier.specs.Step.{of_executor, of_verifier, step, fits_line, fits_executor, fits_verifier};
 
 use crate::input::Input;
-use crate::memory::{Answer, Memory, nothing};
+use crate::outcome::{Outcome, nothing};
+use crate::state::State;
 use crate::tally::Tallied;
 use decrees::{Ballot, Node, VoteKey};
 use proto::Fault;
 use std::alloc::Global;
 use view_change::Promise;
 
-impl Memory {
+impl State {
     /// Does what the input asks for. Stopped: its view would rise above the greatest number.
-    pub fn step(&mut self, alloc: Global, u: u8, id: u8, input: Input) -> Result<Answer, Fault>
+    pub fn step(&mut self, alloc: Global, u: u8, id: u8, input: Input) -> Result<Outcome, Fault>
         requires { u < 4 }
-        ensures done { IfOk result (λ answer. record { state = self.new; saves = answer.saves; letters = answer.letters.items } ≡ whole_step u id self.old input) }
-        ensures fits_none { IsTrue (not (fits self.old input)) → IsOk result }
-        ensures err { IfErr result (λ fault. (fault ≡ Fault.NoMemory) ⊎ ((fault ≡ Fault.Stopped) × (2 ^ 64 ≤ (whole_step u id self.old input).state.view))) }
+        ensures done { IfOk result (λ outcome. record { state = self.new; saves = outcome.saves; letters = outcome.letters.items } ≡ step u id self.old input) }
+        ensures fits_none { IsTrue (not (fits_line self.old input)) → IsOk result }
+        ensures err { IfErr result (λ fault. (fault ≡ Fault.NoMemory) ⊎ ((fault ≡ Fault.Stopped) × (2 ^ 64 ≤ (step u id self.old input).state.view))) }
     {
         match input {
             Input::Suspect => self.suspected(alloc, u, id),
@@ -37,9 +37,9 @@ impl Memory {
         id: u8,
         from: u8,
         body: Ballot,
-    ) -> Result<Answer, Fault>
+    ) -> Result<Outcome, Fault>
         requires { u < 4 }
-        ensures done { IfOk result (λ answer. record { state = self.new; saves = answer.saves; letters = answer.letters.items } ≡ executor_step u id self.old from body) }
+        ensures done { IfOk result (λ outcome. record { state = self.new; saves = outcome.saves; letters = outcome.letters.items } ≡ of_executor u id self.old from body) }
         ensures fits_none { IsTrue (not (fits_executor self.old from body)) → IsOk result }
         ensures err { IfErr result (λ fault. fault ≡ Fault.NoMemory) }
     {
@@ -71,9 +71,9 @@ impl Memory {
         id: u8,
         from: u8,
         body: Ballot,
-    ) -> Result<Answer, Fault>
+    ) -> Result<Outcome, Fault>
         requires { u < 4 }
-        ensures done { IfOk result (λ answer. record { state = self.new; saves = answer.saves; letters = answer.letters.items } ≡ verifier_step u id self.old from body) }
+        ensures done { IfOk result (λ outcome. record { state = self.new; saves = outcome.saves; letters = outcome.letters.items } ≡ of_verifier u id self.old from body) }
         ensures fits_none { IsTrue (not (fits_verifier self.old from body)) → IsOk result }
         ensures err { IfErr result (λ fault. fault ≡ Fault.NoMemory) }
     {

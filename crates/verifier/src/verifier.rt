@@ -1,64 +1,70 @@
-ghost use Rattle.std.specs.Prelude.{◌≡◌, ◌*◌, ◌-◌, ◌^◌, ◌<◌, ◌≤◌, ◌⊎◌, Some, None, IfOk, IfErr, IsOk, OnErr, OnOk, Err, IsTrue, not, length, true, []};
-ghost use Rattle.verifier.specs.Step.{fits};
+ghost use Rattle.std.specs.Prelude.{◌≡◌, ◌*◌, ◌-◌, ◌^◌, ◌<◌, ◌≤◌, ◌⊎◌, Some, None, IfOk, IfErr, IsOk, OnErr, OnOk, Err, IsErr, IsTrue, not, length, true, []};
+ghost use Rattle.verifier.specs.Step.{fits_line};
 ghost use Rattle.verifier.specs.Record.{record_text, IsRecord};
-ghost use Rattle.verifier.specs.State.{State};
+ghost use Rattle.verifier.specs.State.{VerifierState};
 ghost use Rattle.verifier.specs.Lines.{restarted};
-ghost use Rattle.verifier.specs.Seat.{Seat, Opens, IsUnreadable, Stored, handled, outcome, IsAtLimit};
+ghost use Rattle.verifier.specs.Verifier.{VerifierView, Opens, IsUnreadable, Stored, handled, outcome, IsAtLimit};
 ghost use Rattle.wire.specs.Record.{Refused};
 
 use crate::input::Input;
-use crate::memory::Memory;
 use crate::record::read_row;
+use crate::state::State;
+use base::Text;
 use decrees::{Ballot, Letter, Log};
 use keeper::Keeper;
 use proto::Fault;
 use std::alloc::Global;
 use std::marker::Model;
 
-/// The memory of the verifier whose record these bytes are.
-fn restore(alloc: Global, u: u8, id: u8, bytes: &[u8]) -> Result<Memory, Fault>
+/// The state of the verifier whose record these bytes are.
+fn restore(alloc: Global, u: u8, id: u8, bytes: &[u8]) -> Result<State, Fault>
     ensures ok { IfOk result (IsRecord u id bytes.now) }
-    ensures err { IfErr result (λ fault. Refused fault ((s : State) → IsRecord u id bytes.now s → ⊥)) }
+    ensures err { IfErr result (λ fault. Refused fault ((s : VerifierState) → IsRecord u id bytes.now s → ⊥)) }
 {
     let (((numbers, view), accepted), decrees) = read_row(alloc, bytes)?;
     if numbers.0 != id || numbers.1 != u {
         return Err(Fault::BadRecord);
     }
     let log = Log::restored(decrees.into_vec())?;
-    Ok(Memory::restored(alloc, view, accepted, log))
+    Ok(State::restored(alloc, view, accepted, log))
+}
+
+/// The state of the verifier whose record this text is.
+fn read_back(alloc: Global, u: u8, id: u8, text: &Text) -> Result<State, Fault>
+    ensures ok { IfOk result (IsRecord u id text.now) }
+    ensures err { IfErr result (λ fault. Refused fault ((s : VerifierState) → IsRecord u id text.now s → ⊥)) }
+{
+    let bytes = text.joined(alloc)?;
+    restore(alloc, u, id, &bytes)
 }
 
 /// What the keeper's record gives, if it has one.
-fn stored<K: Keeper>(alloc: Global, u: u8, id: u8, keeper: &K) -> Option<Result<Memory, Fault>>
+fn stored<K: Keeper>(alloc: Global, u: u8, id: u8, keeper: &K) -> Option<Result<State, Fault>>
     ensures { Stored u id (K.saved keeper.now) result }
 {
     match keeper.load() {
         None => None,
-        Some(bytes) => Some(restore(alloc, u, id, bytes)),
+        Some(text) => Some(read_back(alloc, u, id, text)),
     }
 }
 
-/// Saves the record of this memory. Where a failure could not be counted it is Stopped at once.
-fn save<K: Keeper>(
-    alloc: Global,
-    u: u8,
-    id: u8,
-    memory: &Memory,
-    keeper: &mut K,
-) -> Result<(), Fault>
-    ensures saved { OnOk result (K.saved keeper.new ≡ Some (record_text u id memory.now)) }
+/// Saves the record of this state. Where a failure could not be counted it is Stopped at once.
+fn save<K: Keeper>(alloc: Global, u: u8, id: u8, state: &State, keeper: &mut K) -> Result<(), Fault>
+    ensures saved { OnOk result (K.saved keeper.new ≡ Some (record_text u id state.now)) }
     ensures none_failed { OnOk result (K.failed keeper.new ≡ K.failed keeper.old) }
+    ensures same_word { OnOk result (K.told keeper.new ≡ K.told keeper.old) }
+    ensures as_told { IsTrue (K.told keeper.old) → IsErr result }
     ensures old { OnErr result (K.saved keeper.new ≡ K.saved keeper.old) }
     ensures no_memory { result ≡ Err Fault.NoMemory → K.failed keeper.new ≡ K.failed keeper.old }
     ensures stopped { result ≡ Err Fault.Stopped → (K.failed keeper.old < K.failed keeper.new) ⊎ (K.failed keeper.old ≡ 2 ^ 64 - 1) }
     ensures only { IfErr result (λ fault. (fault ≡ Fault.NoMemory) ⊎ (fault ≡ Fault.Stopped)) }
     ensures counted { K.failed keeper.old ≤ K.failed keeper.new }
 {
-    let record = memory.record(alloc, u, id)?;
+    let record = state.record(alloc, u, id)?;
     if keeper.failures() == u64::MAX {
         return Err(Fault::Stopped);
     }
-    match keeper.save(&record) {
+    match keeper.save(record) {
         Ok(()) => Ok(()),
         Err(_) => Err(Fault::Stopped),
     }
@@ -69,28 +75,28 @@ fn save<K: Keeper>(
 pub struct Verifier<K: Keeper> {
     id: u8,
     u: u8,
-    memory: Memory,
+    state: State,
     stopped: bool,
     keeper: K,
 }
 
 impl<K: Keeper> Model for Verifier<K> {
     ghost use Rattle.std.specs.Prelude.{◌<◌, ◌≤◌, ◌*◌, not};
-    ghost use Rattle.verifier.specs.Seat.{Seat};
+    ghost use Rattle.verifier.specs.Verifier.{VerifierView};
 
-    ghost Value = { Seat };
+    ghost Value = { VerifierView };
 
-    ghost view = { λ v. record { id = v.id; u = v.u; state = v.memory; up = not v.stopped; saved = K.saved v.keeper; failures = K.failed v.keeper } };
+    ghost view = { λ v. record { id = v.id; u = v.u; state = v.state; up = not v.stopped; saved = K.saved v.keeper; failures = K.failed v.keeper; told = K.told v.keeper } };
 
     ghost invariant = { λ v. v.u < 4 };
 }
 
 impl<K: Keeper> Verifier<K> {
-    ghost use Rattle.std.specs.Prelude.{◌≡◌, ◌*◌, ◌-◌, ◌^◌, ◌<◌, ◌≤◌, ◌⊎◌, Some, None, IfOk, IfErr, IsOk, IsSome, OnErr, OnOk, Err, IsTrue, not, length, true, false, []};
+    ghost use Rattle.std.specs.Prelude.{◌≡◌, ◌*◌, ◌-◌, ◌^◌, ◌<◌, ◌≤◌, ◌⊎◌, Some, None, IfOk, IfErr, IsOk, IsSome, OnErr, OnOk, Err, IsErr, IsTrue, not, length, true, false, []};
     ghost use Rattle.std.specs.Borrow.{sem};
-    ghost use Rattle.verifier.specs.Step.{fits};
+    ghost use Rattle.verifier.specs.Step.{fits_line};
     ghost use Rattle.verifier.specs.Lines.{restarted};
-    ghost use Rattle.verifier.specs.Seat.{Seat, Opens, IsUnreadable, handled, outcome, IsAtLimit};
+    ghost use Rattle.verifier.specs.Verifier.{VerifierView, Opens, IsUnreadable, handled, outcome, IsAtLimit};
     ghost use Rattle.verifier.specs.Lent.{LendsKeeper};
 
     /// Opens the verifier `id` of `2u + 1`. Where the keeper has no record it is new, and its first
@@ -98,18 +104,19 @@ impl<K: Keeper> Verifier<K> {
     /// for what it does not know.
     ///
     /// BadRecord: the record is not one of this verifier. Stopped: there was no record, and the first
-    /// save failed, or its failure could not be counted. NoMemory: memory was wanting, and no save
+    /// save failed, or its failure could not be counted. NoMemory: an allocation failed, and no save
     /// failed. A refused call hands the keeper back with the record as before; one that had a record
     /// is handed back untouched.
     pub fn open(
         alloc: Global,
-        id: u8,
         u: u8,
+        id: u8,
         keeper: K,
     ) -> Result<(Verifier<K>, Vec<Letter<Ballot>>), (Fault, K)>
         requires few { u < 4 }
         requires member { id ≤ 2 * u }
-        ensures opened { IfOk result (λ opened. Opens u id (K.saved keeper) (K.failed keeper) opened.0 opened.1.items) }
+        ensures opened { IfOk result (λ opened. Opens u id (K.saved keeper) (K.failed keeper) (K.told keeper) opened.0 opened.1.items) }
+        ensures as_told { K.saved keeper ≡ None → IsTrue (K.told keeper) → IsErr result }
         ensures unreadable { IfErr result (λ refused. refused.0 ≡ Fault.BadRecord → IsUnreadable u id (K.saved keeper)) }
         ensures stopped { IfErr result (λ refused. refused.0 ≡ Fault.Stopped → (K.saved keeper ≡ None) × ((K.failed keeper < K.failed refused.1) ⊎ (K.failed keeper ≡ 2 ^ 64 - 1))) }
         ensures none_failed { IfErr result (λ refused. refused.0 ≡ Fault.NoMemory → K.failed refused.1 ≡ K.failed keeper) }
@@ -119,37 +126,38 @@ impl<K: Keeper> Verifier<K> {
         ensures only { IfErr result (λ refused. (refused.0 ≡ Fault.NoMemory) ⊎ (refused.0 ≡ Fault.BadRecord) ⊎ (refused.0 ≡ Fault.Stopped)) }
     {
         match stored(alloc, u, id, &keeper) {
-            None => Verifier::begin(alloc, id, u, keeper),
-            Some(Ok(memory)) => Verifier::go_on(alloc, id, u, memory, keeper),
+            None => Verifier::begin(alloc, u, id, keeper),
+            Some(Ok(state)) => Verifier::go_on(alloc, u, id, state, keeper),
             Some(Err(fault)) => Err((fault, keeper)),
         }
     }
 
     fn begin(
         alloc: Global,
-        id: u8,
         u: u8,
+        id: u8,
         mut keeper: K,
     ) -> Result<(Verifier<K>, Vec<Letter<Ballot>>), (Fault, K)>
         requires few { u < 4 }
         requires no_record { K.saved keeper ≡ None }
-        ensures opened { IfOk result (λ opened. Opens u id None (K.failed keeper) opened.0 opened.1.items) }
+        ensures opened { IfOk result (λ opened. Opens u id None (K.failed keeper) (K.told keeper) opened.0 opened.1.items) }
+        ensures as_told { IsTrue (K.told keeper) → IsErr result }
         ensures only { IfErr result (λ refused. (refused.0 ≡ Fault.NoMemory) ⊎ (refused.0 ≡ Fault.Stopped)) }
         ensures stopped { IfErr result (λ refused. refused.0 ≡ Fault.Stopped → (K.failed keeper < K.failed refused.1) ⊎ (K.failed keeper ≡ 2 ^ 64 - 1)) }
         ensures none_failed { IfErr result (λ refused. refused.0 ≡ Fault.NoMemory → K.failed refused.1 ≡ K.failed keeper) }
         ensures saved { IfErr result (λ refused. K.saved refused.1 ≡ K.saved keeper) }
         ensures counted { IfErr result (λ refused. K.failed keeper ≤ K.failed refused.1) }
     {
-        let Ok(memory) = Memory::first(alloc, u, id) else {
+        let Ok(state) = State::first(alloc, u, id) else {
             return Err((Fault::NoMemory, keeper));
         };
-        match save(alloc, u, id, &memory, &mut keeper) {
+        match save(alloc, u, id, &state, &mut keeper) {
             Err(fault) => Err((fault, keeper)),
             Ok(()) => {
                 let verifier = Verifier {
                     id,
                     u,
-                    memory,
+                    state,
                     stopped: false,
                     keeper,
                 };
@@ -160,22 +168,22 @@ impl<K: Keeper> Verifier<K> {
 
     fn go_on(
         alloc: Global,
-        id: u8,
         u: u8,
-        memory: Memory,
+        id: u8,
+        state: State,
         keeper: K,
     ) -> Result<(Verifier<K>, Vec<Letter<Ballot>>), (Fault, K)>
         requires few { u < 4 }
-        ensures opened { IfOk result (λ opened. (opened.0 ≡ record { id = id; u = u; state = memory; up = true; saved = K.saved keeper; failures = K.failed keeper }) × (opened.1.items ≡ (restarted u id memory).letters)) }
+        ensures opened { IfOk result (λ opened. (opened.0 ≡ record { id = id; u = u; state = state; up = true; saved = K.saved keeper; failures = K.failed keeper; told = K.told keeper }) × (opened.1.items ≡ (restarted u id state).letters)) }
         ensures only { IfErr result (λ refused. (refused.0 ≡ Fault.NoMemory) × (refused.1 ≡ keeper)) }
     {
-        match memory.restarted(alloc, u, id) {
+        match state.restarted(alloc, u, id) {
             Err(_) => Err((Fault::NoMemory, keeper)),
             Ok(letters) => {
                 let verifier = Verifier {
                     id,
                     u,
-                    memory,
+                    state,
                     stopped: false,
                     keeper,
                 };
@@ -184,11 +192,13 @@ impl<K: Keeper> Verifier<K> {
         }
     }
 
-    fn answer(&mut self, alloc: Global, input: Input) -> Result<Vec<Letter<Ballot>>, Fault>
+    /// Does the step of the input, saves what has to be saved, and gives the letters.
+    fn step_and_save(&mut self, alloc: Global, input: Input) -> Result<Vec<Letter<Ballot>>, Fault>
         ensures done { IfOk result (λ letters. self.new ≡ handled self.old input) }
         ensures letters { IfOk result (λ letters. letters.items ≡ (outcome self.old input).letters) }
         ensures few { OnOk result (length self.new.state.log < 2 ^ 32) }
-        ensures fits_none { IsTrue (not (fits self.old.state input)) → IsOk result }
+        ensures fits_none { IsTrue (not (fits_line self.old.state input)) → IsOk result }
+        ensures as_told { IsTrue self.old.told → IsTrue (outcome self.old input).saves → IsErr result }
         ensures same { OnErr result ((self.new.id ≡ self.old.id) × (self.new.u ≡ self.old.u)) }
         ensures old_record { OnErr result (self.new.saved ≡ self.old.saved) }
         ensures counted { self.old.failures ≤ self.new.failures }
@@ -197,12 +207,12 @@ impl<K: Keeper> Verifier<K> {
         ensures stopped { result ≡ Err Fault.Stopped → (self.old.failures < self.new.failures) ⊎ IsAtLimit self.old input }
         ensures only { IfErr result (λ fault. (fault ≡ Fault.NoMemory) ⊎ (fault ≡ Fault.Stopped)) }
     {
-        let answer = self.memory.step(alloc, self.u, self.id, input)?;
-        prove!(self.memory.known() <= u64::from(u32::MAX));
-        if answer.saves {
-            save(alloc, self.u, self.id, &self.memory, &mut self.keeper)?;
+        let outcome = self.state.step(alloc, self.u, self.id, input)?;
+        prove!(self.state.known() <= u64::from(u32::MAX));
+        if outcome.saves {
+            save(alloc, self.u, self.id, &self.state, &mut self.keeper)?;
         }
-        Ok(answer.letters)
+        Ok(outcome.letters)
     }
 
     /// Does the step of the input, and gives its letters in order. What has to be saved is saved
@@ -210,13 +220,13 @@ impl<K: Keeper> Verifier<K> {
     ///
     /// After an error the verifier is stopped for good, and its record is the old one; where it was
     /// stopped before, nothing of it changes. Stopped: it was stopped before, or a save failed, or a
-    /// counter is at its limit; NoMemory: memory was wanting in this call, and no save failed. No
-    /// save fails either where the step saves nothing.
+    /// counter is at its limit; NoMemory: an allocation failed in this call, and no save. A save
+    /// that the keeper was told to fail does, and none fails where the step saves nothing.
     pub fn handle(&mut self, alloc: Global, input: Input) -> Result<Vec<Letter<Ballot>>, Fault>
         ensures done { IfOk result (λ letters. self.new ≡ handled self.old input) }
         ensures letters { IfOk result (λ letters. letters.items ≡ (outcome self.old input).letters) }
         ensures few { OnOk result (length self.new.state.log < 2 ^ 32) }
-        ensures fits_none { IsTrue self.old.up → IsTrue (not (fits self.old.state input)) → IsOk result }
+        ensures fits_none { IsTrue self.old.up → IsTrue (not (fits_line self.old.state input)) → IsOk result }
 
         // After an error.
         ensures ends { OnErr result (IsTrue (not self.new.up)) }
@@ -228,6 +238,7 @@ impl<K: Keeper> Verifier<K> {
         // When each comes.
         ensures stopped_before { IsTrue (not self.old.up) → result ≡ Err Fault.Stopped }
         ensures unchanged { IsTrue (not self.old.up) → self.new ≡ self.old }
+        ensures as_told { IsTrue self.old.told → IsTrue (outcome self.old input).saves → IsErr result }
         ensures save_failed { self.old.failures < self.new.failures → result ≡ Err Fault.Stopped }
         ensures stopped { result ≡ Err Fault.Stopped → IsTrue (not self.old.up) ⊎ (self.old.failures < self.new.failures) ⊎ IsAtLimit self.old input }
         ensures only { IfErr result (λ fault. (fault ≡ Fault.NoMemory) ⊎ (fault ≡ Fault.Stopped)) }
@@ -235,9 +246,9 @@ impl<K: Keeper> Verifier<K> {
         if self.stopped {
             return Err(Fault::Stopped);
         }
-        let answer = self.answer(alloc, input);
-        self.stopped = answer.is_err();
-        answer
+        let letters = self.step_and_save(alloc, input);
+        self.stopped = letters.is_err();
+        letters
     }
 
     /// Whether it was not stopped.
@@ -251,14 +262,14 @@ impl<K: Keeper> Verifier<K> {
     pub fn view(&self) -> u64
         ensures { result ≡ self.now.state.view }
     {
-        self.memory.view()
+        self.state.view()
     }
 
     /// How many decrees it knows.
     pub fn known(&self) -> u64
         ensures { result ≡ length self.now.state.log }
     {
-        self.memory.known()
+        self.state.known()
     }
 
     /// Lends the keeper.
@@ -266,6 +277,7 @@ impl<K: Keeper> Verifier<K> {
         ensures* writes_back { sem 𝓛 (LendsKeeper K.row K.Keeper self.entry result) }
         ensures saved { K.saved result.now ≡ self.old.saved }
         ensures failed { K.failed result.now ≡ self.old.failures }
+        ensures told { K.told result.now ≡ self.old.told }
     {
         &mut self.keeper
     }
@@ -274,6 +286,7 @@ impl<K: Keeper> Verifier<K> {
     pub fn end(self) -> K
         ensures saved { K.saved result ≡ self.saved }
         ensures failed { K.failed result ≡ self.failures }
+        ensures told { K.told result ≡ self.told }
     {
         let Verifier { keeper, .. } = self;
         keeper

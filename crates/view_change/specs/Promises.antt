@@ -3,7 +3,7 @@ use Rattle.std.specs.Prelude.{ℕ, zero, suc, ◌==◌, ◌&&◌, Bool, List, []
 use Rattle.std.specs.List.{list_all}
 use Rattle.std.specs.Option.{option_map_or, option_and_then}
 use Rattle.decrees.specs.declared.decree.Decree.{Decree}
-use Rattle.decrees.specs.Count.{members, is_quorum}
+use Rattle.decrees.specs.Count.{member_count, is_quorum}
 use Rattle.view_change.specs.declared.promises.Promise.{Promise}
 use Rattle.view_change.specs.declared.promises.Choice.{Choice}
 use Rattle.view_change.specs.declared.promises.Choice.TheVariants.{Wait, Must, Free}
@@ -41,5 +41,5 @@ is_enough u known promises = is_quorum u (has_promised promises) && list_all (λ
 abbrev pub choice : ℕ → ℕ → List Promise → Choice
 choice u known promises =
     if is_enough u known promises
-    then option_map_or (λ best. Must best.1) (best_below known promises (members u)) Free
+    then option_map_or (λ best. Must best.1) (best_below known promises (member_count u)) Free
     else Wait

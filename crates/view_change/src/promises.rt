@@ -1,7 +1,7 @@
 ghost use Rattle.std.specs.Prelude.{◌≡◌, ◌<◌, [], IsTrue, IsOk, OnOk, OnErr, nat_le};
 ghost use Rattle.std.specs.List.{list_all};
 ghost use Rattle.std.specs.Option.{option_and_then};
-ghost use Rattle.decrees.specs.Count.{members, is_quorum};
+ghost use Rattle.decrees.specs.Count.{member_count, is_quorum};
 ghost use Rattle.view_change.specs.Promises.{promise_of, promises_with, has_promised as has, accepted_at as accepted, best_below, choice as choice_by, higher as higher_of};
 
 use decrees::Decree;
@@ -100,7 +100,7 @@ impl Promises {
 
     fn best(&self, u: u8, known: u64) -> Option<(u64, Decree)>
         requires { u < 4 }
-        ensures { result ≡ best_below known self.now (members u) }
+        ensures { result ≡ best_below known self.now (member_count u) }
     {
         let mut best = None;
         for sender in 0..2 * u + 1 {
@@ -122,7 +122,7 @@ impl Promises {
     /// `u` have promised, nor while one of them knows more decrees. Where promises hold an accepted
     /// decree for that place, only the one of the highest view; of several, that of the lowest
     /// sender.
-    pub fn choice(&self, known: u64, u: u8) -> Choice
+    pub fn choice(&self, u: u8, known: u64) -> Choice
         requires { u < 4 }
         ensures { result ≡ choice_by u known self.now }
     {

@@ -1,4 +1,5 @@
 pub mod Values
+pub mod Items
 pub mod Texts
 pub mod Rows
 pub mod Updates

@@ -1,9 +1,9 @@
--- No batch is spelled at the front of another.
+-- No batch is a prefix of another.
 use Rattle.std.proofs.Common.{ℕ, ◌≤◌, List, ◌∷◌, ◌++◌, length, refl}
 use Rattle.std.proofs.Props.{props}
 use Rattle.std.specs.Int.{w32, w64}
 use Rattle.sessions.specs.declared.request.Request.{Request}
-use Rattle.batches.specs.Limits.{most_requests, greatest_number}
+use Rattle.batches.specs.declared.batch.TheConstants.{MOST_REQUESTS, GREATEST_NUMBER}
 use Rattle.wire.specs.Record.{IsPrefixFree}
 use Rattle.wire.specs.Number.{num}
 use Rattle.wire.specs.Field.{list_text}
@@ -24,7 +24,7 @@ pub batch_row_free : IsPrefixFree batch_row
 batch_row_free = marked 4 (followed (followed (followed u64_free u64_free) u32_free) (list_prefix_free request_text request_prefix_free))
 
 abbrev AreWithin : Row → Type 0
-AreWithin p = (1 ≤ p.0.0.1) × (p.0.0.1 ≤ greatest_number) × (length p.1 ≤ most_requests)
+AreWithin p = (1 ≤ p.0.0.1) × (p.0.0.1 ≤ GREATEST_NUMBER) × (length p.1 ≤ MOST_REQUESTS)
 
 pub batch_prefix_free : IsPrefixFree batch_text
 unfolding batch_text

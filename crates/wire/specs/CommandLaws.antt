@@ -1,4 +1,4 @@
--- No command is spelled at the front of another, nor a request.
+-- No command is a prefix of another, nor a request.
 use Rattle.std.proofs.Common.{◌≡◌, ℕ, ◌≤◌, ℤ, List, ◌∷◌, ◌++◌, refl, sym, ◌∙◌, ap, arith}
 use Rattle.std.specs.Prelude.{nat_eq, nat_lt, if◌then◌else◌}
 use Rattle.std.proofs.Props.{props}

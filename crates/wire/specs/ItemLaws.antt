@@ -1,4 +1,4 @@
--- No item is spelled at the front of another, nor a page.
+-- No item is a prefix of another, nor a page.
 use Rattle.std.proofs.Common.{refl}
 use Rattle.std.specs.Int.{w64}
 use Rattle.wire.specs.Record.{IsPrefixFree}

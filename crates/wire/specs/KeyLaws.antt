@@ -1,12 +1,13 @@
--- No key is spelled at the front of another, nor a list of keys.
+-- No key is a prefix of another, nor a list of keys.
 use Rattle.std.proofs.Common.{◌≡◌, ℕ, suc, ◌+◌, ◌<◌, ◌≤◌, Bool, true, List, [], ◌∷◌, ◌++◌, length, get_or, take, drop, refl, sym, ◌∙◌, ap, arith, append_assoc, inl, inr}
 use Rattle.std.specs.Prelude.{◌&&◌, nat_le, nat_eq}
 use Rattle.std.specs.Int.{w8}
 use Rattle.std.specs.List.{list_all}
 use Rattle.std.proofs.lemmas.Bool.{cases_Bool, leb-true, le-leb, ltb-true, lt-ltb, eqb-true, eq-eqb}
 use Rattle.std.proofs.lemmas.List.{length-append, length-take, take-append-drop}
+use Rattle.proto.specs.declared.key.TheConstants.{MOST_KEY_BYTES, MOST_KEYS}
 use Rattle.proto.specs.Key.{is_key, is_key_byte}
-use Rattle.wire.specs.Record.{IsPrefixFree, NoFront}
+use Rattle.wire.specs.Record.{IsPrefixFree, NoPrefix}
 use Rattle.wire.specs.Number.{only_if, num, fixed, is_byte}
 use Rattle.wire.specs.Field.{list_text}
 use Rattle.wire.specs.Key.{key_text, keys_text, are_few_keys}
@@ -14,11 +15,11 @@ use Rattle.wire.specs.FrontLaws.{split_at, tail_of, head_of, both_ways, has, lac
 use Rattle.wire.specs.NumberLaws.{num_prefix_free, num-byte, wide8, are_bytes-take}
 use Rattle.wire.specs.LimitedLaws.{limited_prefix_free, limited_at_front}
 
--- a key has at most 250 bytes
-pub key_length : (key : List ℕ) → is_key key ≡ true → length key ≤ 250
+-- a key has at most MOST_KEY_BYTES bytes
+pub key_length : (key : List ℕ) → is_key key ≡ true → length key ≤ MOST_KEY_BYTES
 key_length key h =
-    let a = both_true (nat_le 1 (length key) && nat_le (length key) 250) (list_all is_key_byte key) h in
-    let b = both_true (nat_le 1 (length key)) (nat_le (length key) 250) a.0 in
+    let a = both_true (nat_le 1 (length key) && nat_le (length key) MOST_KEY_BYTES) (list_all is_key_byte key) h in
+    let b = both_true (nat_le 1 (length key)) (nat_le (length key) MOST_KEY_BYTES) a.0 in
     leb-true _ _ b.1
 
 key_head : (key rest : List ℕ) → is_key key ≡ true → head_of ((num w8 (length key) ++ key) ++ rest) < 256
@@ -57,8 +58,8 @@ pub key_text-is : (key : List ℕ) → is_key key ≡ true → key_text key ≡ 
 unfolding key_text
 key_text-is key h = rw h refl
 
-few_keys : (keys : List (List ℕ)) → are_few_keys keys ≡ true → length keys ≤ 64
-few_keys keys h = leb-true (length keys) 64 (both_true (nat_le 1 (length keys)) (nat_le (length keys) 64) h).1
+few_keys : (keys : List (List ℕ)) → are_few_keys keys ≡ true → length keys ≤ MOST_KEYS
+few_keys keys h = leb-true (length keys) MOST_KEYS (both_true (nat_le 1 (length keys)) (nat_le (length keys) MOST_KEYS) h).1
 
 keys_apart : (xs ys : List (List ℕ)) (r s : List ℕ) → keys_text xs ++ r ≡ keys_text ys ++ s → (xs ≡ ys) × (r ≡ s)
 unfolding keys_text
@@ -67,16 +68,16 @@ keys_apart xs ys r s e = (limited_prefix_free are_few_keys few_keys key_text key
 pub keys_prefix_free : IsPrefixFree keys_text
 keys_prefix_free = record { apart = keys_apart }
 
--- a list of 1 to 64 keys stands at the front of bytes
+-- a list of 1 to MOST_KEYS keys stands at the front of bytes
 pub keys_at_front : (keys : List (List ℕ)) (bytes rest : List ℕ) → ((i : ℕ) → get_or bytes i 0 < 256) → bytes ≡ keys_text keys ++ rest
-    → (1 ≤ length keys) × (length keys ≤ 64) × (bytes ≡ list_text key_text keys ++ rest)
+    → (1 ≤ length keys) × (length keys ≤ MOST_KEYS) × (bytes ≡ list_text key_text keys ++ rest)
 unfolding keys_text
 keys_at_front keys bytes rest are_bytes e =
     let front = limited_at_front are_few_keys key_text keys bytes rest are_bytes e in
-    let both = both_true (nat_le 1 (length keys)) (nat_le (length keys) 64) front.0 in
+    let both = both_true (nat_le 1 (length keys)) (nat_le (length keys) MOST_KEYS) front.0 in
     (leb-true _ _ both.0, leb-true _ _ both.1, front.1)
 
-pub keys_text-is : (keys : List (List ℕ)) → 1 ≤ length keys → length keys ≤ 64 → keys_text keys ≡ list_text key_text keys
+pub keys_text-is : (keys : List (List ℕ)) → 1 ≤ length keys → length keys ≤ MOST_KEYS → keys_text keys ≡ list_text key_text keys
 unfolding keys_text
 keys_text-is keys some few = rw (le-leb _ _ some, le-leb _ _ few) refl
 
@@ -128,5 +129,5 @@ too_short size text bytes rest are_bytes short e =
           omega (arith, are_bytes 0)
     ]
 
-pub short_of_fixed : (size : ℕ) {fits : List ℕ → Type 0} (bytes : List ℕ) → ((i : ℕ) → get_or bytes i 0 < 256) → length bytes < suc size → NoFront fits (fixed (suc size)) bytes
+pub short_of_fixed : (size : ℕ) {fits : List ℕ → Type 0} (bytes : List ℕ) → ((i : ℕ) → get_or bytes i 0 < 256) → length bytes < suc size → NoPrefix fits (fixed (suc size)) bytes
 short_of_fixed size bytes are_bytes short = record { none = λ text rest f e. too_short (suc size) text bytes rest are_bytes short e }

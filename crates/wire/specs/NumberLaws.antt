@@ -1,4 +1,4 @@
--- Numbers are spelled by their bytes, and no number is spelled at the front of another.
+-- Numbers are encoded by their bytes, and no number is a prefix of another.
 use Rattle.std.proofs.Common.{◌≡◌, ℕ, suc, ◌+◌, ◌*◌, ◌^◌, ◌<◌, ◌≤◌, Bool, true, false, List, [], ◌∷◌, ◌++◌, length, get_or, take, drop, ◌-◌, ◌/◌, ◌%◌, inl, inr, refl, sym, ◌∙◌, ap, arith, ltb, ℤ, pos, negsuc}
 use Rattle.std.specs.Int.{Width, w8, w16, w32, w64, byte_len, from_be_bytes, to_be_bytes, cast_signed, cast_unsigned}
 use Rattle.std.proofs.lemmas.Bool.{ltb-true, ltb-false, lt-ltb, le-ltb}
@@ -6,7 +6,7 @@ use Rattle.std.proofs.lemmas.Nat.{be_bytes_2, be_bytes_4, be_bytes_8, from_be_by
 use Rattle.std.specs.Prelude.{FitsSigned, nat_lt, nat_eq, if◌then◌else◌}
 use Rattle.std.proofs.lemmas.Bool.{cases_Bool, cases_lt}
 use Rattle.std.proofs.lemmas.List.{take_all, take-append-drop, length-append, length-take, get_or-take, get_or_past}
-use Rattle.wire.specs.Record.{IsPrefixFree, NoFront}
+use Rattle.wire.specs.Record.{IsPrefixFree, NoPrefix}
 use Rattle.wire.specs.Number.{only_if, num, num_signed, as_unsigned}
 use Rattle.wire.specs.FrontLaws.{split_at, head_of, both_ways, has, lacks}
 
@@ -119,8 +119,8 @@ num-is w n lt = rw (lt-ltb _ _ lt) refl
 pub num-from_bytes : (w : Width) → IsWide w → (bytes : List ℕ) → length bytes ≡ byte_len w → ((i : ℕ) → get_or bytes i 0 < 256) → num w (from_be_bytes w bytes) ≡ bytes
 num-from_bytes w wide bytes len fits = num-is w (from_be_bytes w bytes) (wide.below bytes fits) ∙ wide.back bytes len fits
 
--- no number is spelled at the front of too few bytes
-pub short_of : (w : Width) → IsWide w → {fits : ℕ → Type 0} (bytes : List ℕ) → ((i : ℕ) → get_or bytes i 0 < 256) → length bytes < byte_len w → NoFront fits (num w) bytes
+-- no number is encoded at the front of too few bytes
+pub short_of : (w : Width) → IsWide w → {fits : ℕ → Type 0} (bytes : List ℕ) → ((i : ℕ) → get_or bytes i 0 < 256) → length bytes < byte_len w → NoPrefix fits (num w) bytes
 short_of w wide bytes are_bytes short = record { none = λ n rest f e. too_short w wide n bytes rest are_bytes short e }
 
 -- a number at the front of bytes
@@ -207,7 +207,7 @@ signed_at bytes are_bytes long =
     let below = wide32.below (take 4 bytes) (are_bytes-take 4 bytes are_bytes) in
     rw (as_unsigned-of (from_be_bytes w32 (take 4 bytes)) (omega arith)) (read_at w32 wide32 bytes are_bytes long)
 
-pub short_of_signed : {fits : ℤ → Type 0} (bytes : List ℕ) → ((i : ℕ) → get_or bytes i 0 < 256) → length bytes < 4 → NoFront fits num_signed bytes
+pub short_of_signed : {fits : ℤ → Type 0} (bytes : List ℕ) → ((i : ℕ) → get_or bytes i 0 < 256) → length bytes < 4 → NoPrefix fits num_signed bytes
 unfolding num_signed
 short_of_signed bytes are_bytes short = record { none = λ z rest f e. too_short w32 wide32 (as_unsigned z) bytes rest are_bytes short e }
 

@@ -1,7 +1,7 @@
--- No reply is spelled at the front of another.
+-- No reply is a prefix of another.
 use Rattle.std.proofs.Common.{◌≡◌, ℕ, ◌<◌, ◌≤◌, true, List, ◌++◌, length, get_or, refl, sym, ◌∙◌, ap}
 use Rattle.std.proofs.lemmas.Bool.{leb-true, le-leb}
-use Rattle.proto.specs.Limits.{values_limit}
+use Rattle.proto.specs.declared.key.TheConstants.{MOST_KEYS}
 use Rattle.proto.specs.declared.reply.Found.{Found}
 use Rattle.std.specs.Prelude.{nat_eq}
 use Rattle.std.specs.Int.{w64}
@@ -10,7 +10,7 @@ use Rattle.proto.specs.declared.reply.Reply.TheVariants as reply
 use Rattle.wire.specs.Record.{IsPrefixFree}
 use Rattle.wire.specs.Number.{num}
 use Rattle.wire.specs.Field.{list_text}
-use Rattle.wire.specs.Reply.{found_text, values_text, are_few, reply_text}
+use Rattle.wire.specs.Reply.{found_text, values_text, are_few, reply_record}
 use Rattle.wire.specs.LimitedLaws.{limited_prefix_free, limited_at_front}
 use Rattle.wire.specs.FrontLaws.{tail_of, head_of, Passes, same_numbers}
 use Rattle.wire.specs.FieldLaws.{option_prefix_free}
@@ -27,8 +27,8 @@ found_prefix_free = made_of
     (λ f. refl)
     (λ f. refl)
 
-few_values : (found : List Found) → are_few found ≡ true → length found ≤ 64
-few_values found h = leb-true (length found) values_limit h
+few_values : (found : List Found) → are_few found ≡ true → length found ≤ MOST_KEYS
+few_values found h = leb-true (length found) MOST_KEYS h
 
 values_apart : (xs ys : List Found) (r s : List ℕ) → values_text xs ++ r ≡ values_text ys ++ s → (xs ≡ ys) × (r ≡ s)
 unfolding values_text
@@ -37,15 +37,15 @@ values_apart xs ys r s e = (limited_prefix_free are_few few_values found_text fo
 pub values_prefix_free : IsPrefixFree values_text
 values_prefix_free = record { apart = values_apart }
 
--- at most 64 items stand at the front of bytes
+-- at most MOST_KEYS items stand at the front of bytes
 pub values_at_front : (found : List Found) (bytes rest : List ℕ) → ((i : ℕ) → get_or bytes i 0 < 256) → bytes ≡ values_text found ++ rest
-    → (length found ≤ values_limit) × (bytes ≡ list_text found_text found ++ rest)
+    → (length found ≤ MOST_KEYS) × (bytes ≡ list_text found_text found ++ rest)
 unfolding values_text
 values_at_front found bytes rest are_bytes e =
     let front = limited_at_front are_few found_text found bytes rest are_bytes e in
     (leb-true _ _ front.0, front.1)
 
-pub values_text-is : (found : List Found) → length found ≤ values_limit → values_text found ≡ list_text found_text found
+pub values_text-is : (found : List Found) → length found ≤ MOST_KEYS → values_text found ≡ list_text found_text found
 unfolding values_text
 values_text-is found few = rw (le-leb _ _ few) refl
 
@@ -62,7 +62,7 @@ mark_of (reply.Values _) = 7
 mark_of reply.TooLarge = 8
 mark_of reply.NotNumber = 9
 
-pub head_is : (r : Reply) (rest : List ℕ) → head_of (reply_text r ++ rest) ≡ mark_of r
+pub head_is : (r : Reply) (rest : List ℕ) → head_of (reply_record r ++ rest) ≡ mark_of r
 head_is reply.Stored rest = refl
 head_is reply.NotStored rest = refl
 head_is reply.Exists rest = refl
@@ -74,7 +74,7 @@ head_is (reply.Values x) rest = refl
 head_is reply.TooLarge rest = refl
 head_is reply.NotNumber rest = refl
 
-reply_alike : (v w : Reply) (r s : List ℕ) → Passes (nat_eq (mark_of v) (mark_of w)) → reply_text v ++ r ≡ reply_text w ++ s → (v ≡ w) × (r ≡ s)
+reply_alike : (v w : Reply) (r s : List ℕ) → Passes (nat_eq (mark_of v) (mark_of w)) → reply_record v ++ r ≡ reply_record w ++ s → (v ≡ w) × (r ≡ s)
 reply_alike reply.Stored reply.Stored r s h e = (refl, tail_of 0 0 r s e)
 reply_alike reply.NotStored reply.NotStored r s h e = (refl, tail_of 1 1 r s e)
 reply_alike reply.Exists reply.Exists r s h e = (refl, tail_of 2 2 r s e)
@@ -91,7 +91,7 @@ reply_alike reply.TooLarge reply.TooLarge r s h e = (refl, tail_of 8 8 r s e)
 reply_alike reply.NotNumber reply.NotNumber r s h e = (refl, tail_of 9 9 r s e)
 reply_alike _ _ r s h e = absurd h
 
-pub reply_prefix_free : IsPrefixFree reply_text
+pub reply_prefix_free : IsPrefixFree reply_record
 reply_prefix_free = record {
   apart = λ v w r s e. reply_alike v w r s (same_numbers (mark_of v) (mark_of w) (sym (head_is v r) ∙ (ap head_of e ∙ head_is w s))) e;
 }

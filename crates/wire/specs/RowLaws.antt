@@ -20,7 +20,7 @@ u64_free = num_prefix_free w64 wide64
 pub followed : {X Y : Type 0} {first : X → List ℕ} {second : Y → List ℕ} → IsPrefixFree first → IsPrefixFree second → IsPrefixFree {X = X × Y} (λ p. first p.0 ++ second p.1)
 followed {first = first} {second = second} a b = pair_prefix_free first second a b
 
--- a value that is made of a row, and spelled as the row
+-- a value that is made of a row, and encoded as the row
 pub made_of : {X Y : Type 0} {row : X → List ℕ} → IsPrefixFree row → (text : Y → List ℕ) (to : Y → X) (back : X → Y)
     → ((y : Y) → back (to y) ≡ y) → ((y : Y) → text y ≡ row (to y)) → IsPrefixFree text
 made_of {X} {Y} {row} free text to back again same = record {
@@ -33,7 +33,7 @@ made_of {X} {Y} {row} free text to back again same = record {
 one_pair : {X : Type 0} (limits : X → Type 0) → ((x : X) → IsProp (limits x)) → (x y : X) (a : limits x) (b : limits y) → x ≡ y → ◌≡◌ {A = (x : X) × limits x} (x, a) (y, b)
 one_pair {X} limits one x y a b e = subst (λ z. (c : limits z) → ◌≡◌ {A = (x : X) × limits x} (x, a) (z, c)) e (λ c. ap (λ l. (x, l)) (one x a c)) b
 
--- a value that is made of a row within limits, and spelled as the row
+-- a value that is made of a row within limits, and encoded as the row
 pub made_within : {X Y : Type 0} {row : X → List ℕ} {limits : X → Type 0} → IsPrefixFree row → ((x : X) → IsProp (limits x)) → (text : Y → List ℕ) (to : Y → X) (within : (y : Y) → limits (to y))
     (back : (x : X) → limits x → Y) → ((y : Y) → back (to y) (within y) ≡ y) → ((y : Y) → text y ≡ row (to y)) → IsPrefixFree text
 made_within {X} {Y} {row} {limits} free one text to within back again same = record {

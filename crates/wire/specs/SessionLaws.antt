@@ -1,8 +1,8 @@
--- No sessions are spelled at the front of others.
+-- No sessions are encoded at the front of others.
 use Rattle.std.proofs.Common.{◌≡◌, refl}
 use Rattle.std.specs.Ordering.{nat_cmp}
 use Rattle.std.specs.FinMap.{FinMap, entries, from_sorted, same_entries_map, entries-from_sorted, entries_sorted}
-use Rattle.sessions.specs.declared.sessions.Kept.{Kept}
+use Rattle.sessions.specs.declared.sessions.LastReply.{LastReply}
 use Rattle.wire.specs.Record.{IsPrefixFree}
 use Rattle.wire.specs.Session.{kept_text, session_text, sessions_text}
 use Rattle.wire.specs.FieldLaws.{list_prefix_free}
@@ -16,7 +16,7 @@ kept_prefix_free = made_of (followed u64_free reply_prefix_free) kept_text
 pub session_prefix_free : IsPrefixFree session_text
 session_prefix_free = followed u16_free kept_prefix_free
 
-together : (m : FinMap nat_cmp Kept) → from_sorted (entries m) ≡ m
+together : (m : FinMap nat_cmp LastReply) → from_sorted (entries m) ≡ m
 together m = same_entries_map (from_sorted (entries m)) m (entries-from_sorted nat_cmp (entries m) (entries_sorted m))
 
 pub sessions_prefix_free : IsPrefixFree sessions_text

@@ -1,4 +1,4 @@
--- No text of a token is spelled at the front of another.
+-- No text of a token is a prefix of another.
 use Rattle.std.proofs.Common.{refl}
 use Rattle.wire.specs.Record.{IsPrefixFree}
 use Rattle.wire.specs.Number.{fixed}
@@ -14,9 +14,9 @@ unfolding inner_text
 inner_prefix_free = made_of (marked 1 (followed digest_free digest_free)) inner_text
     (λ t. (t.left, t.right)) (λ p. record { left = p.0; right = p.1 }) (λ t. refl) (λ t. refl)
 
-pub token_prefix_free : IsPrefixFree token_text
+pub token_text_free : IsPrefixFree token_text
 unfolding token_text
-token_prefix_free = made_of
+token_text_free = made_of
     (marked 2 (followed (followed (followed (followed (followed (followed digest_free u64_free) u64_free) u32_free) digest_free) digest_free) digest_free))
     token_text
     (λ t. ((((((t.previous, t.n), t.epoch), t.moment), t.batch), t.root), t.sessions))

@@ -3,8 +3,8 @@ ghost use Rattle.wire.specs.Record.{Always};
 ghost use Rattle.wire.specs.Batch.{batch_text};
 ghost use Rattle.wire.specs.BatchLaws.{batch_prefix_free};
 
+use crate::counted::{Counted, put_list};
 use crate::front::take_mark;
-use crate::listed::{Listed, put_list};
 use crate::record::Record;
 use crate::sink::Sink;
 use batches::{Batch, GREATEST_NUMBER, MOST_REQUESTS, Requests};
@@ -15,7 +15,7 @@ use std::alloc::Global;
 impl Record for Batch {
     ghost fits = { Always };
 
-    ghost spelling = { batch_text };
+    ghost encoding = { batch_text };
 
     #[tactic(auto, unfolding(crate::specs::Batch::batch_text))]
     fn put<S: Sink>(&self, sink: &mut S) -> Result<(), S::Refusal> {
@@ -29,7 +29,7 @@ impl Record for Batch {
     #[tactic(auto, unfolding(crate::specs::Batch::batch_text))]
     fn take<'b>(alloc: Global, bytes: &'b [u8]) -> Result<(Batch, &'b [u8]), Fault> {
         let rest = take_mark(bytes, 4)?;
-        let (row, rest) = <(((u64, u64), u32), Listed<Request>)>::take(alloc, rest)?;
+        let (row, rest) = <(((u64, u64), u32), Counted<Request>)>::take(alloc, rest)?;
         let (((epoch, n), moment), listed) = row;
         let requests = listed.into_vec();
         if n == 0 {

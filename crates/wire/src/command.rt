@@ -46,7 +46,7 @@ fn take_marked(alloc: Global, mark: u8, bytes: &[u8]) -> Result<(Command, &[u8])
 impl Record for Command {
     ghost fits = { Always };
 
-    ghost spelling = { command_text };
+    ghost encoding = { command_text };
 
     fn put<S: Sink>(&self, sink: &mut S) -> Result<(), S::Refusal> {
         match self {

@@ -11,7 +11,7 @@ use std::alloc::Global;
 impl Record for [u8; 32] {
     ghost fits = { λ _. ⊤ };
 
-    ghost spelling = { fixed 32 };
+    ghost encoding = { fixed 32 };
 
     fn put<S: Sink>(&self, sink: &mut S) -> Result<(), S::Refusal> {
         sink.put(self)

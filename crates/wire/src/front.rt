@@ -1,5 +1,5 @@
 ghost use Rattle.std.specs.Prelude.{◌≡◌, ◌++◌, [], ◌∷◌, ◌<◌, List, ℕ, length, IfOk, IfErr, IsNone, ⊤};
-ghost use Rattle.proto.specs.declared.fault.Fault.TheVariants.{BadRecord};
+ghost use Rattle.base.specs.declared.fault.Fault.TheVariants.{BadRecord};
 ghost use Rattle.wire.specs.Record.{NoMark};
 
 use proto::Fault;

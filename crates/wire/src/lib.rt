@@ -1,19 +1,22 @@
-//! Records: the one spelling of a value as bytes, and its reading.
+//! Records: the one encoding of a value as bytes, and its reading.
 //!
-//! It stands on `proto`, `items`, `sessions` and `batches`, whose values it spells, and on `sha2`.
-//! The layers above use `read`: it answers a value exactly where all of the bytes are the spelling
-//! of one that fits, and `write` and `digest`, which spell by the same `Record::put`.
+//! It stands on `base`, `proto`, `items`, `sessions` and `batches`, whose values it encodes, and on
+//! `sha2`. The layers above use `read`: it answers a value exactly where all of the bytes are the
+//! encoding of one that fits, and `write`, `record_bytes` and `digest`, which encode by the same
+//! `Record::put`.
 #![tactic(auto)]
 
 mod batch;
 mod block;
 mod command;
+mod counted;
+mod entry;
 mod fixed;
 mod front;
 mod item;
 mod key;
 mod laws;
-mod listed;
+mod length;
 mod numbers;
 mod option;
 mod page;
@@ -26,13 +29,14 @@ mod sink;
 mod token;
 mod update;
 
+pub use counted::{Counted, put_count, put_list};
 pub use front::{take_bytes, take_first, take_mark};
 pub use laws::{
     batches_are_told_apart, commands_are_told_apart, inner_nodes_are_told_apart,
     items_are_told_apart, pages_are_told_apart, replies_are_told_apart, requests_are_told_apart,
     sessions_are_told_apart, tokens_are_told_apart,
 };
-pub use listed::{Listed, put_count, put_list};
+pub use length::{page_bytes, record_bytes};
 pub use page::{Entries, put_page};
 pub use record::{Record, digest, read, write};
 pub use sink::Sink;

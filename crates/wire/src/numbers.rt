@@ -11,7 +11,7 @@ use std::alloc::Global;
 impl Record for u8 {
     ghost fits = { λ _. ⊤ };
 
-    ghost spelling = { num w8 };
+    ghost encoding = { num w8 };
 
     fn put<S: Sink>(&self, sink: &mut S) -> Result<(), S::Refusal> {
         sink.put(&[*self])
@@ -30,7 +30,7 @@ impl Record for u8 {
 impl Record for u16 {
     ghost fits = { λ _. ⊤ };
 
-    ghost spelling = { num w16 };
+    ghost encoding = { num w16 };
 
     fn put<S: Sink>(&self, sink: &mut S) -> Result<(), S::Refusal> {
         sink.put(&self.to_be_bytes())
@@ -49,7 +49,7 @@ impl Record for u16 {
 impl Record for u32 {
     ghost fits = { λ _. ⊤ };
 
-    ghost spelling = { num w32 };
+    ghost encoding = { num w32 };
 
     fn put<S: Sink>(&self, sink: &mut S) -> Result<(), S::Refusal> {
         sink.put(&self.to_be_bytes())
@@ -68,7 +68,7 @@ impl Record for u32 {
 impl Record for u64 {
     ghost fits = { λ _. ⊤ };
 
-    ghost spelling = { num w64 };
+    ghost encoding = { num w64 };
 
     fn put<S: Sink>(&self, sink: &mut S) -> Result<(), S::Refusal> {
         sink.put(&self.to_be_bytes())
@@ -87,7 +87,7 @@ impl Record for u64 {
 impl Record for i32 {
     ghost fits = { λ _. ⊤ };
 
-    ghost spelling = { num_signed };
+    ghost encoding = { num_signed };
 
     fn put<S: Sink>(&self, sink: &mut S) -> Result<(), S::Refusal> {
         sink.put(&self.to_be_bytes())

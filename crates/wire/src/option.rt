@@ -10,7 +10,7 @@ use std::alloc::Global;
 impl<T: Record + Drop> Record for Option<T> {
     ghost fits = { λ o. IfSome o T.fits };
 
-    ghost spelling = { option_text T.spelling };
+    ghost encoding = { option_text T.encoding };
 
     fn put<S: Sink>(&self, sink: &mut S) -> Result<(), S::Refusal> {
         match self {
@@ -33,5 +33,5 @@ impl<T: Record + Drop> Record for Option<T> {
         }
     }
 
-    ghost prefix_free = { option_prefix_free T.spelling T.prefix_free };
+    ghost prefix_free = { option_prefix_free T.encoding T.prefix_free };
 }

@@ -6,10 +6,11 @@ ghost use Rattle.wire.specs.Record.{Puts};
 ghost use Rattle.wire.specs.Item.{page_text, PageFits, EntriesFit};
 ghost use Rattle.wire.specs.ItemLaws.{page_prefix_free};
 
+use crate::counted::{Counted, put_list};
 use crate::front::take_mark;
-use crate::listed::{Listed, put_list};
 use crate::record::Record;
 use crate::sink::Sink;
+use base::Entry;
 use items::Item;
 use proto::{Fault, Key};
 use std::alloc::Global;
@@ -18,7 +19,7 @@ use std::marker::Model;
 /// The entries of a page, by strictly rising keys.
 #[derive(Drop)]
 pub struct Entries {
-    entries: Vec<(Key, Item)>,
+    entries: Vec<Entry<Key, Item>>,
 }
 
 impl Model for Entries {
@@ -35,21 +36,21 @@ impl Model for Entries {
 }
 
 impl Entries {
-    pub fn new(entries: Vec<(Key, Item)>) -> Entries
+    pub fn new(entries: Vec<Entry<Key, Item>>) -> Entries
         requires { IsTrue (is_sorted by_bytes entries.items) }
         ensures { result ≡ entries.items }
     {
         Entries { entries }
     }
 
-    pub fn as_slice(&self) -> &[(Key, Item)]
+    pub fn as_slice(&self) -> &[Entry<Key, Item>]
         ensures entries { result.now ≡ self.now }
         ensures rising { IsTrue (is_sorted by_bytes self.now) }
     {
         self.entries.as_slice()
     }
 
-    pub fn into_vec(self) -> Vec<(Key, Item)>
+    pub fn into_vec(self) -> Vec<Entry<Key, Item>>
         ensures entries { result.items ≡ self }
         ensures rising { IsTrue (is_sorted by_bytes self) }
     {
@@ -58,19 +59,19 @@ impl Entries {
 }
 
 /// Whether the keys strictly rise.
-fn is_rising(entries: &[(Key, Item)]) -> bool
+fn is_rising(entries: &[Entry<Key, Item>]) -> bool
     ensures { result ≡ is_sorted by_bytes entries.now }
 {
     entries.is_sorted_by(
-        |a: &(Key, Item), b: &(Key, Item)| -> bool
+        |a: &Entry<Key, Item>, b: &Entry<Key, Item>| -> bool
             ensures { result ≡ is_lt (by_bytes a.entry.now.0 b.entry.now.0) }
-        { a.0.compare(&b.0).is_lt() },
+        { a.key().compare(b.key()).is_lt() },
     )
 }
 
 /// Writes the text of a page that has these entries.
 #[tactic(auto, unfolding(crate::specs::Item::page_text))]
-pub fn put_page<S: Sink>(entries: &[(Key, Item)], sink: &mut S) -> Result<(), S::Refusal>
+pub fn put_page<S: Sink>(entries: &[Entry<Key, Item>], sink: &mut S) -> Result<(), S::Refusal>
     requires { PageFits entries.now }
     ensures { OnOk result (Puts S.holds (page_text entries.now) sink.old sink.new) }
 {
@@ -81,7 +82,7 @@ pub fn put_page<S: Sink>(entries: &[(Key, Item)], sink: &mut S) -> Result<(), S:
 impl Record for Entries {
     ghost fits = { EntriesFit };
 
-    ghost spelling = { page_text };
+    ghost encoding = { page_text };
 
     fn put<S: Sink>(&self, sink: &mut S) -> Result<(), S::Refusal> {
         put_page(self.as_slice(), sink)
@@ -90,7 +91,7 @@ impl Record for Entries {
     #[tactic(auto, unfolding(crate::specs::Item::page_text))]
     fn take<'b>(alloc: Global, bytes: &'b [u8]) -> Result<(Entries, &'b [u8]), Fault> {
         let rest = take_mark(bytes, 0)?;
-        let (listed, rest) = Listed::<(Key, Item)>::take(alloc, rest)?;
+        let (listed, rest) = Counted::<Entry<Key, Item>>::take(alloc, rest)?;
         let entries = listed.into_vec();
         if !is_rising(entries.as_slice()) {
             return Err(Fault::BadRecord);

@@ -10,7 +10,7 @@ use std::alloc::Global;
 impl<A: Record + Drop, B: Record + Drop> Record for (A, B) {
     ghost fits = { λ p. A.fits p.0 × B.fits p.1 };
 
-    ghost spelling = { λ p. A.spelling p.0 ++ B.spelling p.1 };
+    ghost encoding = { λ p. A.encoding p.0 ++ B.encoding p.1 };
 
     fn put<S: Sink>(&self, sink: &mut S) -> Result<(), S::Refusal> {
         self.0.put(sink)?;
@@ -23,5 +23,5 @@ impl<A: Record + Drop, B: Record + Drop> Record for (A, B) {
         Ok(((first, second), rest))
     }
 
-    ghost prefix_free = { pair_prefix_free A.spelling B.spelling A.prefix_free B.prefix_free };
+    ghost prefix_free = { pair_prefix_free A.encoding B.encoding A.prefix_free B.prefix_free };
 }

@@ -7,30 +7,30 @@ use proto::Fault;
 use sha2::{Digest, Sha256};
 use std::alloc::{AllocError, Global};
 
-/// A value with one spelling as bytes.
+/// A value with one encoding as bytes.
 pub trait Record: Sized {
     /// The limits of the record that the type alone does not keep.
     ghost fits: { Self → Type 0 };
 
-    ghost spelling: { Self → List ℕ };
+    ghost encoding: { Self → List ℕ };
 
-    /// Writes the spelling.
+    /// Writes the encoding.
     fn put<S: Sink>(&self, sink: &mut S) -> Result<(), S::Refusal>
         requires { fits self.now }
-        ensures { OnOk result (Puts S.holds (spelling self.now) sink.old sink.new) };
+        ensures { OnOk result (Puts S.holds (encoding self.now) sink.old sink.new) };
 
-    /// Reads the value at the front of the bytes, and gives the bytes after it.
+    /// Reads the value at the start of the bytes, and gives the bytes after it.
     fn take<'b>(alloc: Global, bytes: &'b [u8]) -> Result<(Self, &'b [u8]), Fault>
-        ensures { Takes fits spelling bytes.now result };
+        ensures { Takes fits encoding bytes.now result };
 
-    /// No spelling is the front of another value's.
-    ghost prefix_free: { IsPrefixFree spelling };
+    /// No encoding is a prefix of another value's.
+    ghost prefix_free: { IsPrefixFree encoding };
 }
 
-/// Appends the spelling of the value. Where memory is wanting nothing is appended.
+/// Appends the encoding of the value. Where an allocation fails nothing is appended.
 pub fn write<T: Record>(alloc: Global, value: &T, out: &mut Vec<u8>) -> Result<(), AllocError>
     requires { T.fits value.now }
-    ensures ok { OnOk result (out.new.items ≡ out.old.items ++ T.spelling value.now) }
+    ensures ok { OnOk result (out.new.items ≡ out.old.items ++ T.encoding value.now) }
     ensures err { OnErr result (out.new.items ≡ out.old.items) }
 {
     let mut text = Vec::new(alloc);
@@ -39,9 +39,9 @@ pub fn write<T: Record>(alloc: Global, value: &T, out: &mut Vec<u8>) -> Result<(
     Ok(())
 }
 
-/// The value that all of the bytes spell. `BadRecord`: no value that fits is spelled so.
+/// The value that all of the bytes encode. `BadRecord`: no value that fits is encoded so.
 pub fn read<T: Record + Drop>(alloc: Global, bytes: &[u8]) -> Result<T, Fault>
-    ensures { Reads T.fits T.spelling bytes.now result }
+    ensures { Reads T.fits T.encoding bytes.now result }
 {
     let (value, rest) = T::take(alloc, bytes)?;
     if rest.is_empty() {
@@ -51,10 +51,10 @@ pub fn read<T: Record + Drop>(alloc: Global, bytes: &[u8]) -> Result<T, Fault>
     }
 }
 
-/// The SHA-256 of the spelling. It takes no memory.
+/// The SHA-256 of the encoding. It takes no memory.
 pub fn digest<T: Record>(value: &T) -> [u8; 32]
     requires { T.fits value.now }
-    ensures { result ≡ sha256 (T.spelling value.now) }
+    ensures { result ≡ sha256 (T.encoding value.now) }
 {
     let mut hasher = Sha256::new();
     match value.put(&mut hasher) {

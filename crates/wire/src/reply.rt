@@ -1,22 +1,19 @@
 ghost use Rattle.std.specs.Prelude.{◌≡◌, ◌∷◌};
 ghost use Rattle.wire.specs.Record.{Always, Takes};
-ghost use Rattle.wire.specs.Reply.{found_text, values_text, reply_text};
+ghost use Rattle.wire.specs.Reply.{found_text, values_text, reply_record};
 ghost use Rattle.wire.specs.ReplyLaws.{found_prefix_free, values_prefix_free, reply_prefix_free};
 
+use crate::counted::{Counted, put_list};
 use crate::front::take_first;
-use crate::listed::{Listed, put_list};
 use crate::record::Record;
 use crate::sink::Sink;
-use proto::{Block, Fault, Found, Key, Reply, Values};
+use proto::{Block, Fault, Found, Key, MOST_KEYS, Reply, Values};
 use std::alloc::Global;
-
-/// How many items a reply has at most.
-const MOST_VALUES: usize = 64;
 
 impl Record for Found {
     ghost fits = { Always };
 
-    ghost spelling = { found_text };
+    ghost encoding = { found_text };
 
     fn put<S: Sink>(&self, sink: &mut S) -> Result<(), S::Refusal> {
         self.key.put(sink)?;
@@ -43,16 +40,16 @@ impl Record for Found {
 impl Record for Values {
     ghost fits = { Always };
 
-    ghost spelling = { values_text };
+    ghost encoding = { values_text };
 
     fn put<S: Sink>(&self, sink: &mut S) -> Result<(), S::Refusal> {
         put_list(self.as_slice(), sink)
     }
 
     fn take<'b>(alloc: Global, bytes: &'b [u8]) -> Result<(Values, &'b [u8]), Fault> {
-        let (listed, rest) = Listed::<Found>::take(alloc, bytes)?;
+        let (listed, rest) = Counted::<Found>::take(alloc, bytes)?;
         let found = listed.into_vec();
-        if MOST_VALUES < found.len() {
+        if MOST_KEYS < found.len() {
             return Err(Fault::BadRecord);
         }
         Ok((Values::new(found), rest))
@@ -62,14 +59,14 @@ impl Record for Values {
 }
 
 fn take_number(alloc: Global, bytes: &[u8]) -> Result<(Reply, &[u8]), Fault>
-    ensures { Takes Always reply_text (6 ∷ bytes.now) result }
+    ensures { Takes Always reply_record (6 ∷ bytes.now) result }
 {
     let (number, rest) = u64::take(alloc, bytes)?;
     Ok((Reply::Number(number), rest))
 }
 
 fn take_values(alloc: Global, bytes: &[u8]) -> Result<(Reply, &[u8]), Fault>
-    ensures { Takes Always reply_text (7 ∷ bytes.now) result }
+    ensures { Takes Always reply_record (7 ∷ bytes.now) result }
 {
     let (values, rest) = Values::take(alloc, bytes)?;
     Ok((Reply::Values(values), rest))
@@ -77,7 +74,7 @@ fn take_values(alloc: Global, bytes: &[u8]) -> Result<(Reply, &[u8]), Fault>
 
 /// The reply behind this mark.
 fn take_marked(alloc: Global, mark: u8, bytes: &[u8]) -> Result<(Reply, &[u8]), Fault>
-    ensures { Takes Always reply_text (mark ∷ bytes.now) result }
+    ensures { Takes Always reply_record (mark ∷ bytes.now) result }
 {
     match mark {
         0 => Ok((Reply::Stored, bytes)),
@@ -97,7 +94,7 @@ fn take_marked(alloc: Global, mark: u8, bytes: &[u8]) -> Result<(Reply, &[u8]), 
 impl Record for Reply {
     ghost fits = { Always };
 
-    ghost spelling = { reply_text };
+    ghost encoding = { reply_record };
 
     fn put<S: Sink>(&self, sink: &mut S) -> Result<(), S::Refusal> {
         match self {

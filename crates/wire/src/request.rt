@@ -12,7 +12,7 @@ use std::alloc::Global;
 impl Record for Request {
     ghost fits = { Always };
 
-    ghost spelling = { request_text };
+    ghost encoding = { request_text };
 
     fn put<S: Sink>(&self, sink: &mut S) -> Result<(), S::Refusal> {
         self.client.put(sink)?;

@@ -8,28 +8,29 @@ ghost use Rattle.wire.specs.Record.{Puts};
 ghost use Rattle.wire.specs.Field.{list_text, ListFits};
 ghost use Rattle.wire.specs.SessionLaws.{kept_prefix_free, sessions_prefix_free};
 
+use crate::counted::{Counted, put_list};
 use crate::front::take_mark;
-use crate::listed::{Listed, put_list};
 use crate::record::Record;
 use crate::sink::Sink;
+use base::Entry;
 use proto::{Fault, Reply};
-use sessions::{Kept, Sessions};
+use sessions::{LastReply, Sessions};
 use std::alloc::Global;
 
-impl Record for Kept {
+impl Record for LastReply {
     ghost fits = { KeptFits };
 
-    ghost spelling = { kept_text };
+    ghost encoding = { kept_text };
 
     fn put<S: Sink>(&self, sink: &mut S) -> Result<(), S::Refusal> {
         self.number.put(sink)?;
         self.reply.put(sink)
     }
 
-    fn take<'b>(alloc: Global, bytes: &'b [u8]) -> Result<(Kept, &'b [u8]), Fault> {
+    fn take<'b>(alloc: Global, bytes: &'b [u8]) -> Result<(LastReply, &'b [u8]), Fault> {
         let (row, rest) = <(u64, Reply)>::take(alloc, bytes)?;
         let (number, reply) = row;
-        let kept = Kept { number, reply };
+        let kept = LastReply { number, reply };
         if kept.number == 0 {
             return Err(Fault::BadRecord);
         }
@@ -40,24 +41,24 @@ impl Record for Kept {
 }
 
 /// Whether the clients strictly rise.
-fn is_rising(entries: &[(u16, Kept)]) -> bool
+fn is_rising(entries: &[Entry<u16, LastReply>]) -> bool
     ensures { result ≡ is_sorted nat_cmp entries.now }
 {
     entries.is_sorted_by(
-        |a: &(u16, Kept), b: &(u16, Kept)| -> bool
+        |a: &Entry<u16, LastReply>, b: &Entry<u16, LastReply>| -> bool
             ensures { result ≡ is_lt (nat_cmp a.entry.now.0 b.entry.now.0) }
-        { a.0.cmp(&b.0).is_lt() },
+        { a.key().cmp(b.key()).is_lt() },
     )
 }
 
 /// Whether each client is one: they are numbered from 1.
-fn are_clients(entries: &[(u16, Kept)]) -> bool
+fn are_clients(entries: &[Entry<u16, LastReply>]) -> bool
     ensures { result ≡ list_all (λ e. nat_le 1 e.0) entries.now }
 {
-    entries.iter().all(|entry| 1 <= entry.0)
+    entries.iter().all(|entry| 1 <= *entry.key())
 }
 
-fn put_sessions<S: Sink>(entries: &[(u16, Kept)], sink: &mut S) -> Result<(), S::Refusal>
+fn put_sessions<S: Sink>(entries: &[Entry<u16, LastReply>], sink: &mut S) -> Result<(), S::Refusal>
     requires { ListFits SessionFits entries.now }
     ensures { OnOk result (Puts S.holds (3 ∷ list_text session_text entries.now) sink.old sink.new) }
 {
@@ -68,7 +69,7 @@ fn put_sessions<S: Sink>(entries: &[(u16, Kept)], sink: &mut S) -> Result<(), S:
 impl Record for Sessions {
     ghost fits = { SessionsFit };
 
-    ghost spelling = { sessions_text };
+    ghost encoding = { sessions_text };
 
     fn put<S: Sink>(&self, sink: &mut S) -> Result<(), S::Refusal> {
         put_sessions(self.entries(), sink)
@@ -77,7 +78,7 @@ impl Record for Sessions {
     #[tactic(auto, unfolding(crate::specs::Session::sessions_text))]
     fn take<'b>(alloc: Global, bytes: &'b [u8]) -> Result<(Sessions, &'b [u8]), Fault> {
         let rest = take_mark(bytes, 3)?;
-        let (listed, rest) = Listed::<(u16, Kept)>::take(alloc, rest)?;
+        let (listed, rest) = Counted::<Entry<u16, LastReply>>::take(alloc, rest)?;
         let entries = listed.into_vec();
         if !is_rising(entries.as_slice()) {
             return Err(Fault::BadRecord);
@@ -85,7 +86,7 @@ impl Record for Sessions {
         if !are_clients(entries.as_slice()) {
             return Err(Fault::BadRecord);
         }
-        Ok((Sessions::of_sorted(entries), rest))
+        Ok((Sessions::from_sorted(entries)?, rest))
     }
 
     ghost prefix_free = { sessions_prefix_free };

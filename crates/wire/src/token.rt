@@ -5,14 +5,14 @@ use proto::Fault;
 use std::alloc::Global;
 
 /// What an inner node of the tree of page digests is the digest of.
-#[derive(Clone, Copy, Debug, PartialEq, Eq)]
+#[derive(Clone, Copy, PartialEq, Eq)]
 pub struct InnerText {
     pub left: [u8; 32],
     pub right: [u8; 32],
 }
 
 /// What a state's token is the digest of.
-#[derive(Clone, Copy, Debug, PartialEq, Eq)]
+#[derive(Clone, Copy, PartialEq, Eq)]
 pub struct TokenText {
     /// The token of the state before.
     pub previous: [u8; 32],
@@ -34,7 +34,7 @@ impl Record for InnerText {
 
     ghost fits = { λ _. ⊤ };
 
-    ghost spelling = { inner_text };
+    ghost encoding = { inner_text };
 
     #[tactic(auto, unfolding(crate::specs::Token::inner_text))]
     fn put<S: Sink>(&self, sink: &mut S) -> Result<(), S::Refusal> {
@@ -78,11 +78,11 @@ type Digest = [u8; 32];
 impl Record for TokenText {
     ghost use Rattle.std.specs.Prelude.{⊤};
     ghost use Rattle.wire.specs.Token.{token_text};
-    ghost use Rattle.wire.specs.TokenLaws.{token_prefix_free};
+    ghost use Rattle.wire.specs.TokenLaws.{token_text_free};
 
     ghost fits = { λ _. ⊤ };
 
-    ghost spelling = { token_text };
+    ghost encoding = { token_text };
 
     #[tactic(auto, unfolding(crate::specs::Token::token_text))]
     fn put<S: Sink>(&self, sink: &mut S) -> Result<(), S::Refusal> {
@@ -112,5 +112,5 @@ impl Record for TokenText {
         Ok((text, rest))
     }
 
-    ghost prefix_free = { token_prefix_free };
+    ghost prefix_free = { token_text_free };
 }

@@ -127,7 +127,7 @@ pub fn take_marked(alloc: Global, mark: u8, bytes: &[u8]) -> Result<(Update, &[u
 impl Record for Update {
     ghost fits = { Always };
 
-    ghost spelling = { update_text };
+    ghost encoding = { update_text };
 
     fn put<S: Sink>(&self, sink: &mut S) -> Result<(), S::Refusal> {
         match self {

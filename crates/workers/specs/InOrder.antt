@@ -7,6 +7,6 @@ use Rattle.round.specs.Sittings.{Sitting}
 abbrev pub StayInOrder : List Sitting → List Sitting → Type 0
 StayInOrder old new = (i : ℕ) (d : Sitting) → i < length old → (slice_index_or new i d).caller ≡ (slice_index_or old i d).caller
 
--- each page is as it was, with its digest made new
+-- each page is as it was, with its digest recomputed
 abbrev pub AreRefreshed : List PageState → List PageState → Type 0
 AreRefreshed old new = (i : ℕ) (d : PageState) → i < length old → slice_index_or new i d ≡ refreshed (slice_index_or old i d)

@@ -1,16 +1,25 @@
-//! The digests of pages, by several threads.
+//! The digests of pages and of sessions, by several threads.
 
 ghost use Rattle.std.specs.Prelude.{◌≡◌, ◌<◌, map};
+ghost use Rattle.std.specs.Thread.{IsSync};
+ghost use Rattle.wire.specs.Session.{sessions_text, SessionsFit};
+ghost use Rattle.token.specs.Digested.{IsDigested};
 ghost use Rattle.pages.specs.Page.{refreshed};
 ghost use Rattle.workers.specs.InOrder.{AreRefreshed};
 
 use crate::workers::Workers;
 use pages::Page;
+use sessions::Sessions;
+use std::alloc::Global;
 use std::thread;
 use std::thread::Threads;
+use token::Digested;
 
 /// To start a thread for fewer pages than these costs more than it spares.
 const LEAST_PAGES: usize = 4;
+
+/// To start a thread for the sessions of fewer clients than these costs more than it spares.
+const LEAST_CLIENTS: usize = 1024;
 
 /// How many of the pages have no digest.
 fn written(pages: &[Page]) -> usize {
@@ -25,7 +34,7 @@ fn refresh_each<R: Threads + Sync>(rt: &R, pages: &mut [Page], threads: usize)
     thread::for_each_mut(rt, pages, threads, &|_, page| { page.refresh() });
 }
 
-/// Makes the digest new of each page that was written, by at most so many workers at once. The thread
+/// Recomputes the digest of each page that was written, by at most `workers` threads at once. The thread
 /// that calls is one of them; the others have ended when the call returns.
 #[tactic(auto, using(crate::proofs::InOrder::all_refreshed))]
 pub fn refresh_all<R: Threads + Sync>(rt: &R, pages: &mut [Page], workers: Workers)
@@ -33,4 +42,57 @@ pub fn refresh_all<R: Threads + Sync>(rt: &R, pages: &mut [Page], workers: Worke
 {
     let threads = workers.count().min(written(pages) / LEAST_PAGES).max(1);
     refresh_each(rt, pages, threads);
+}
+
+/// Recomputes the digest of each page that was written, and beside them, on a thread of its own, the
+/// digest of the sessions.
+fn refresh_beside<R: Threads + Sync>(
+    rt: &R,
+    alloc: Global,
+    pages: &mut [Page],
+    sessions: &Sessions,
+    workers: Workers,
+) -> Digested
+    ensures pages { pages.new ≡ map refreshed pages.old }
+    ensures digested { IsDigested (sessions_text sessions.now) result }
+    ensures fit { SessionsFit sessions.now }
+{
+    let (digested, _) = thread::join_mut(
+        rt,
+        &mut || -> Digested
+            ensures { IsDigested (sessions_text sessions.entry.now) result × SessionsFit sessions.entry.now }
+        { Digested::of_sessions(alloc, sessions) },
+        &mut ||
+            requires { IsSync R.row }
+            ensures { pages.exit.now ≡ map refreshed pages.entry.now }
+        { refresh_all(rt, pages, workers) },
+    );
+    digested
+}
+
+/// Recomputes the digest of each page that was written, and the digest of the sessions, by at most so
+/// many workers at once; each digest keeps its text where there is memory for it. The thread that
+/// calls is one of them; the others have ended when the call returns.
+pub fn digest_all<R: Threads + Sync>(
+    rt: &R,
+    alloc: Global,
+    pages: &mut [Page],
+    sessions: &Sessions,
+    workers: Workers,
+) -> Digested
+    ensures pages { pages.new ≡ map refreshed pages.old }
+    ensures digested { IsDigested (sessions_text sessions.now) result }
+    ensures fit { SessionsFit sessions.now }
+{
+    if sessions.entries().len() < LEAST_CLIENTS {
+        refresh_all(rt, pages, workers);
+        return Digested::of_sessions(alloc, sessions);
+    }
+    match Workers::new(workers.count() - 1) {
+        Some(others) => refresh_beside(rt, alloc, pages, sessions, others),
+        None => {
+            refresh_all(rt, pages, workers);
+            Digested::of_sessions(alloc, sessions)
+        }
+    }
 }

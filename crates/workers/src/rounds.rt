@@ -7,10 +7,10 @@ ghost use Rattle.round.specs.Sittings.{fits, group_fits};
 ghost use Rattle.workers.specs.InOrder.{StayInOrder};
 
 use crate::workers::Workers;
-use item_steps::{Place, Task};
+use item_steps::{Stamp, Task};
 use pages::Pages;
 use proto::Fault;
-use round::{Gate, MOST_STEPS, Ran, Room, Round, Seat, TicketWord, Token, group_fits};
+use round::{Gate, Knowledge, MOST_STEPS, Ran, Room, Round, Seat, TicketWord, group_fits};
 use std::alloc::Global;
 use std::marker::Brand;
 use std::sync::Wait;
@@ -77,10 +77,10 @@ fn within<J: Room + Send + Sync, R: Threads + Wait + Sync, G: Gate + Sync>(
     rt: &R,
     alloc: Global,
     word: TicketWord,
-    master: Token,
+    master: Knowledge,
     pages: Pages,
     group: Vec<Task>,
-    base: Place,
+    base: Stamp,
     callers: usize,
     gate: &G,
 ) -> Result<(Pages, Vec<Ran>), Fault>
@@ -104,21 +104,21 @@ fn within<J: Room + Send + Sync, R: Threads + Wait + Sync, G: Gate + Sync>(
     }
 }
 
-/// Runs the steps of the group on the pages, by so many workers at once: worker `w` makes the steps of
+/// Runs the steps of the group on the pages, by `workers` threads at once: worker `w` makes the steps of
 /// the requests whose position in the group is `w` modulo their number. One is the thread that calls;
 /// each other one that has a request is a thread of its own, which has ended when the call returns.
 ///
 /// The requests come back with their answers, in the group's order. The pages and the answers are what
 /// some interleaving of the group's steps leads to. The stamp of a request is the base's stamp plus its place.
 ///
-/// `Unfit` where a round does not take the group: see `round::group_fits`. The only other error is
-/// want of memory.
+/// `Unfit` where a round does not take the group: see `round::group_fits`. `NoMemory` where an
+/// allocation fails.
 pub fn run<R: Threads + Wait + Sync, G: Gate + Sync>(
     rt: &R,
     alloc: Global,
     pages: Pages,
     group: Vec<Task>,
-    base: Place,
+    base: Stamp,
     workers: Workers,
     gate: &G,
 ) -> Result<(Pages, Vec<Ran>), Fault>

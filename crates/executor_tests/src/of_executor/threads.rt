@@ -9,7 +9,7 @@ use std::sync::Wait;
 use std::thread::Threads;
 use workers::Workers;
 
-/// Runs a batch by so many workers.
+/// Runs a batch by that many workers.
 fn on_threads<R: Threads + Wait + Sync, G: Gate + Sync>(
     rt: &R,
     alloc: Global,
@@ -62,7 +62,7 @@ fn a_batch_of_no_request_has_no_group(rt: HostRuntime) -> Result<(), Fail> {
     Ok(())
 }
 
-/// The token of a batch over the first state by so many workers.
+/// The token of a batch over the first state by that many workers.
 fn token_by<R: Threads + Wait + Sync>(
     rt: &R,
     alloc: Global,
@@ -78,7 +78,7 @@ fn token_alone(alloc: Global, bytes: &[u8]) -> Result<Token, Fault> {
     token_of(alloc, &base, bytes)
 }
 
-/// Whether so many workers come to the token of one thread.
+/// Whether that many workers come to the token of one thread.
 fn is_same_by<R: Threads + Wait + Sync>(
     rt: &R,
     alloc: Global,
@@ -94,6 +94,40 @@ fn workers_come_to_the_state_of_one_thread(rt: HostRuntime) -> Result<(), Fail> 
     for workers in [1usize, 4, 16] {
         assert!(rt; is_same_by(&rt, rt.alloc(), bytes.as_slice(), workers)?);
     }
+    Ok(())
+}
+
+/// The token of work over the first state that is run to its end by that many workers.
+fn token_of_work<R: Threads + Wait + Sync>(
+    rt: &R,
+    alloc: Global,
+    bytes: &[u8],
+    workers: Workers,
+) -> Result<Token, Fault> {
+    let base = Base::first(alloc)?;
+    match begin(alloc, &base, bytes, false)? {
+        Ended::Done(tentative) => Ok(undone(tentative)),
+        Ended::On(work) if !work.is_untouched() => Err(Fault::Unfit),
+        Ended::On(work) => Ok(undone(work.run_on_threads(rt, alloc, workers, &NoGate)?)),
+    }
+}
+
+/// Whether work that four workers run to its end comes to the token of one thread.
+fn is_same_work<R: Threads + Wait + Sync>(
+    rt: &R,
+    alloc: Global,
+    bytes: &[u8],
+) -> Result<bool, Fault> {
+    let Some(four) = Workers::new(4) else {
+        return Err(Fault::Unfit);
+    };
+    Ok(token_of_work(rt, alloc, bytes, four)? == token_alone(alloc, bytes)?)
+}
+
+#[test]
+fn work_runs_to_its_end_on_threads(rt: HostRuntime) -> Result<(), Fail> {
+    let bytes = full_batch(rt.alloc())?;
+    assert!(rt; is_same_work(&rt, rt.alloc(), bytes.as_slice()) == Ok(true));
     Ok(())
 }
 

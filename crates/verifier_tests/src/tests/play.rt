@@ -3,6 +3,7 @@
 ghost use Rattle.std.specs.Prelude.{◌<◌, ◌≤◌, ◌*◌};
 
 use super::line::{ballot, bytes, node, number, verifier, words};
+use base::Text;
 use decrees::{Ballot, Letter, Node};
 use keeper::{Keeper, MemKeeper};
 use proto::Fault;
@@ -12,68 +13,70 @@ use verifier::{Input, Verifier};
 
 /// A verifier that was opened, or the keeper of one that was not.
 #[derive(Drop)]
-enum Seat {
+enum Player {
     Open(Verifier<MemKeeper>),
     Closed(MemKeeper),
 }
 
 /// What an input is answered with.
-type Answer = Result<Vec<Letter<Ballot>>, Fault>;
+type Answered = Result<Vec<Letter<Ballot>>, Fault>;
 
-fn opened(alloc: Global, id: u8, u: u8, keeper: MemKeeper) -> (Seat, Answer)
+fn opened(alloc: Global, id: u8, u: u8, keeper: MemKeeper) -> (Player, Answered)
     requires few { u < 4 }
     requires member { id ≤ 2 * u }
 {
-    match Verifier::open(alloc, id, u, keeper) {
-        Ok((verifier, letters)) => (Seat::Open(verifier), Ok(letters)),
-        Err((fault, keeper)) => (Seat::Closed(keeper), Err(fault)),
+    match Verifier::open(alloc, u, id, keeper) {
+        Ok((verifier, letters)) => (Player::Open(verifier), Ok(letters)),
+        Err((fault, keeper)) => (Player::Closed(keeper), Err(fault)),
     }
 }
 
-impl Seat {
+impl Player {
     fn into_keeper(self) -> MemKeeper {
         match self {
-            Seat::Open(verifier) => verifier.end(),
-            Seat::Closed(keeper) => keeper,
+            Player::Open(verifier) => verifier.end(),
+            Player::Closed(keeper) => keeper,
         }
     }
 
     /// Opens the verifier of these numbers with the keeper that it had.
-    fn open(&mut self, alloc: Global, id: u8, u: u8) -> Answer {
+    fn open(&mut self, alloc: Global, id: u8, u: u8) -> Answered {
         if 3 < u || 2 * u < id {
             return Err(Fault::BadRecord);
         }
-        let seat = mem::replace(self, Seat::Closed(MemKeeper::new(alloc)));
-        let (seat, answer) = opened(alloc, id, u, seat.into_keeper());
-        *self = seat;
+        let player = mem::replace(self, Player::Closed(MemKeeper::new()));
+        let (player, answer) = opened(alloc, id, u, player.into_keeper());
+        *self = player;
         answer
     }
 
-    fn handle(&mut self, alloc: Global, input: Input) -> Option<Answer> {
+    fn handle(&mut self, alloc: Global, input: Input) -> Option<Answered> {
         match self {
-            Seat::Open(verifier) => Some(verifier.handle(alloc, input)),
-            Seat::Closed(_) => None,
+            Player::Open(verifier) => Some(verifier.handle(alloc, input)),
+            Player::Closed(_) => None,
         }
     }
 
     fn keeper(&mut self) -> &mut MemKeeper {
         match self {
-            Seat::Open(verifier) => verifier.keeper(),
-            Seat::Closed(keeper) => keeper,
+            Player::Open(verifier) => verifier.keeper(),
+            Player::Closed(keeper) => keeper,
         }
     }
 
     /// Puts a keeper with this record in its place.
     fn find(&mut self, alloc: Global, record: &[u8]) -> Option<()> {
-        let mut keeper = MemKeeper::new(alloc);
-        let saved = keeper.save(record);
-        *self = Seat::Closed(keeper);
+        let mut text = Text::new(alloc);
+        text.put(record).ok()?;
+        let mut keeper = MemKeeper::new();
+        let saved = keeper.save(text);
+        *self = Player::Closed(keeper);
         saved.ok()
     }
 
     /// Whether it is as the words say: `stopped`, or `up in view 1 knows 0`.
     fn is(&self, words: &[&str]) -> Option<bool> {
-        let Seat::Open(verifier) = self else {
+        let Player::Open(verifier) = self else {
             return None;
         };
         if *words.first()? == "stopped" {
@@ -90,7 +93,7 @@ impl Seat {
 struct Play {
     alloc: Global,
     u: u8,
-    seats: Vec<Seat>,
+    players: Vec<Player>,
     letters: Vec<Letter<Ballot>>,
     said: usize,
     fault: Option<Fault>,
@@ -105,14 +108,12 @@ impl Play {
     fn set_up(&mut self, u: u64) -> Option<()> {
         self.u = u8::try_from(u).ok()?;
         for _ in 0..7 {
-            self.seats
-                .push(Seat::Closed(MemKeeper::new(self.alloc)))
-                .ok()?;
+            self.players.push(Player::Closed(MemKeeper::new())).ok()?;
         }
         Some(())
     }
 
-    fn answers(&mut self, answer: Answer) {
+    fn answers(&mut self, answer: Answered) {
         self.said = 0;
         self.letters.clear();
         match answer {
@@ -121,40 +122,42 @@ impl Play {
         }
     }
 
-    fn seat(&mut self, id: u8) -> Option<&mut Seat> {
-        self.seats.get_mut(usize::from(id))
+    fn player(&mut self, id: u8) -> Option<&mut Player> {
+        self.players.get_mut(usize::from(id))
     }
 
     /// Hands the input to the verifier.
     fn give(&mut self, id: u8, input: Input) -> Option<()> {
         let alloc = self.alloc;
-        let answer = self.seat(id)?.handle(alloc, input)?;
+        let answer = self.player(id)?.handle(alloc, input)?;
         self.answers(answer);
         Some(())
     }
 
     fn open(&mut self, id: u8) -> Option<()> {
         let (alloc, u) = (self.alloc, self.u);
-        let answer = self.seat(id)?.open(alloc, id, u);
+        let answer = self.player(id)?.open(alloc, id, u);
         self.answers(answer);
         Some(())
     }
 
     /// The record of the verifier is of these bytes.
     fn has(&mut self, id: u8, words: &[&str]) -> Option<()> {
-        let record = bytes(self.alloc, words)?;
-        let is_so = self.seat(id)?.keeper().load() == Some(&record);
+        let alloc = self.alloc;
+        let record = bytes(alloc, words)?;
+        let found = self.player(id)?.keeper().load()?.joined(alloc).ok()?;
+        let is_so = found == record;
         is_so.then_some(())
     }
 
     fn find(&mut self, id: u8, words: &[&str]) -> Option<()> {
         let alloc = self.alloc;
         let record = bytes(alloc, words)?;
-        self.seat(id)?.find(alloc, &record)
+        self.player(id)?.find(alloc, &record)
     }
 
     fn is(&mut self, id: u8, words: &[&str]) -> Option<()> {
-        let is_so = self.seat(id)?.is(words)?;
+        let is_so = self.player(id)?.is(words)?;
         is_so.then_some(())
     }
 
@@ -165,7 +168,7 @@ impl Play {
             "opens" => self.open(id),
             "suspects" => self.give(id, Input::Suspect),
             "fails" => {
-                self.seat(id)?.keeper().fail_next();
+                self.player(id)?.keeper().fail_next();
                 Some(())
             }
             "is" => self.is(id, more),
@@ -263,7 +266,7 @@ pub fn first_wrong(alloc: Global, text: &str) -> Option<usize> {
     let mut play = Play {
         alloc,
         u: 0,
-        seats: Vec::new(alloc),
+        players: Vec::new(alloc),
         letters: Vec::new(alloc),
         said: 0,
         fault: None,

@@ -1,4 +1,4 @@
-use Rattle.agreement.proofs.Seats.{handled_is_done}
+use Rattle.agreement.proofs.Verifiers.{handled_is_done}
 use Rattle.agreement.proofs.laws.handled_is_done.Goals as goal
 
 pub returns : goal.returns

@@ -1,4 +1,4 @@
-use Rattle.agreement.proofs.Seats.{refused_is_stopped}
+use Rattle.agreement.proofs.Verifiers.{refused_is_stopped}
 use Rattle.agreement.proofs.laws.refused_is_stopped.Goals as goal
 
 pub returns : goal.returns

@@ -1,4 +1,4 @@
-use Rattle.agreement.proofs.Seats.{reopened_is_done}
+use Rattle.agreement.proofs.Verifiers.{reopened_is_done}
 use Rattle.agreement.proofs.laws.reopened_is_done.Goals as goal
 
 pub returns : goal.returns

@@ -1,7 +1,7 @@
 use Rattle.std.proofs.Common.{◌≡◌, ◌≤◌, List, map, length}
 use Rattle.item_steps.specs.declared.step.Answer.{Answer}
 use Rattle.item_steps.specs.declared.group.Task.{Task}
-use Rattle.executor.specs.Running.{Running}
+use Rattle.executor.specs.BatchRequest.{BatchRequest}
 use Rattle.executor.specs.GroupRun.{tasks_in, emptied, ran_of}
 use Rattle.executor.proofs.PutBackLemmas.{PutSoFar}
 use Rattle.executor.proofs.group_run.put_back.Given as goal
@@ -10,7 +10,7 @@ use Rattle.executor.proofs.group_run.put_back.Given as goal
 abbrev pub invariant-loop-left : goal.invariant-loop-left
 invariant-loop-left l = record {
   within : l.left ≤ length l.running;
-  put : (before : List Running) (answers_to : Task → List Answer) → l.fn.running ≡ map (emptied l.group) before → l.fn.ran.items ≡ map (ran_of answers_to) (tasks_in l.group before)
+  put : (before : List BatchRequest) (answers_to : Task → List Answer) → l.fn.running ≡ map (emptied l.group) before → l.fn.ran.items ≡ map (ran_of answers_to) (tasks_in l.group before)
       → PutSoFar l.group before answers_to l.left l.running l.ran.items;
 }
 

@@ -1,5 +1,5 @@
 use Rattle.std.proofs.Common.{◌≡◌, ◌<◌, List, length, get_or, set, ap, ◌∙◌, arith}
-use Rattle.proto.proofs.ListLemmas.{next-same, next-changed}
+use Rattle.base.proofs.ListLemmas.{next-same, next-changed}
 use Rattle.pages.specs.Page.{PageState, refreshed}
 use Rattle.pages.proofs.pages.refresh_all.Goals as goal
 

@@ -6,7 +6,7 @@ use Rattle.decrees.proofs.log.Log.restored.Goals as goal
 pub loop-decree-preserved : goal.loop-decree-preserved
 loop-decree-preserved c =
     let xs = c.as_slice-decree-items.result.now in
-    let passes = sym c.is_next.ensures ∙ c.if-not-is_next.false in
+    let passes = sym c.may_follow.ensures ∙ c.if-not-may_follow.false in
     let none = Commit 0 (record { 0 = [] }) in
     rw c.after-standing.ensures (record {
       keeps = Keeps-take xs c.loop-decree.standing c.loop-decree.decree-index none c.loop-decree-test.true (omega arith) c.loop-decree.invariant.keeps passes;

@@ -1,8 +1,8 @@
 use Rattle.std.proofs.Common.{[], rules, sym, ◌∙◌}
 use Rattle.std.proofs.lemmas.List.{append-nil}
-use Rattle.executor.specs.Records.{state_text}
+use Rattle.states.specs.StateRecord.{state_text}
 use Rattle.wire.proofs.Values.{left_over}
-use Rattle.executor.proofs.RecordLemmas.{state_free}
+use Rattle.states.proofs.RecordLemmas.{state_free}
 use Rattle.executor.proofs.tentative.Committed.restore.Goals as goal
 
 pub returns-then-not-is_empty-clause-reads : goal.returns-then-not-is_empty-clause-reads

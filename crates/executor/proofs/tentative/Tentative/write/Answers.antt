@@ -1,5 +1,5 @@
 use Rattle.std.proofs.Common.{◌≡◌, []}
-use Rattle.executor.specs.Records.{member_text}
+use Rattle.executor.specs.MemberRecord.{member_text}
 use Rattle.executor.proofs.tentative.Tentative.write.Goals as goal
 
 pub returns-clause-ok : goal.returns-clause-ok

@@ -1,8 +1,8 @@
 use Rattle.std.proofs.Common.{◌≡◌, refl, sym, ap, ◌∙◌, subst, Some, None, List, []}
 use Rattle.std.specs.Prelude.{IsTrue}
 use Rattle.items.specs.Map.{alive}
-use Rattle.executor.specs.Running.{Running}
-use Rattle.executor.specs.Round.{moment_of}
+use Rattle.executor.specs.BatchRequest.{BatchRequest}
+use Rattle.states.specs.Followed.{moment_of}
 use Rattle.executor.specs.Work.{WorkView, is_group_done, IsLast, all_begun, tentative_of}
 use Rattle.executor.proofs.DoneLemmas.{none_run, none_done, none_last}
 use Rattle.executor.specs.GroupRun.{IsUntouched}
@@ -14,7 +14,7 @@ use Rattle.executor.proofs.work.Work.begin.Goals.{In-None}
 none : (c : In-None) → all_begun c.args.base.now.state c.args.batch c.args.ordered ≡ []
 none c =
     sym (c.in_ok-running.ensures.begun c.args.base.now.state (sym c.sessions.ensures.sessions))
-    ∙ none_run c.in_ok-running.running.items (subst (λ (rs : List Running). IsLast rs None) c.deref.ensures.value (c.in-None.ensures.none refl))
+    ∙ none_run c.in_ok-running.running.items (subst (λ (rs : List BatchRequest). IsLast rs None) c.deref.ensures.value (c.in-None.ensures.none refl))
 
 pub complete-requires-clause-done : goal.complete-requires-clause-done
 complete-requires-clause-done c =

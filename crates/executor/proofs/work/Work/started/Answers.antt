@@ -1,8 +1,8 @@
 use Rattle.std.proofs.Common.{◌≡◌, ◌+◌, max, rules, sym, ap, ◌∙◌, subst}
 use Rattle.items.specs.Map.{alive}
-use Rattle.executor.specs.State.{StateView}
-use Rattle.executor.specs.Round.{moment_of}
-use Rattle.executor.specs.Running.{HaveFewSteps}
+use Rattle.states.specs.State.{StateView}
+use Rattle.states.specs.Followed.{moment_of}
+use Rattle.executor.specs.BatchRequest.{HaveFewSteps}
 use Rattle.executor.specs.Work.{Worked, all_begun}
 use Rattle.executor.proofs.DoneLemmas.{started_work}
 use Rattle.executor.proofs.work.Work.started.Goals as goal

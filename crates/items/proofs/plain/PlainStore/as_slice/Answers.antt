@@ -1,8 +1,8 @@
 use Rattle.std.proofs.Common.{sym, ap, ◌∙◌}
 use Rattle.std.specs.FinMap.{entries, entries-from_sorted}
 use Rattle.items.specs.Map.{by_bytes}
-use Rattle.proto.proofs.MapLemmas.{as_t}
+use Rattle.base.proofs.MapLemmas.{as_t}
 use Rattle.items.proofs.plain.PlainStore.as_slice.Goals as goal
 
 pub returns : goal.returns
-returns c = c.as_slice.ensures.value ∙ sym (entries-from_sorted by_bytes _ (as_t _ c.self.invariant)) ∙ ap entries c.self.view_is
+returns c = c.entries.ensures.entries ∙ sym (entries-from_sorted by_bytes _ (as_t _ c.self.invariant)) ∙ ap entries c.self.view_is

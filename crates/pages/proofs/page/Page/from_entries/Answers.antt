@@ -1,6 +1,6 @@
 use Rattle.std.proofs.Common.{ap, ◌∙◌, sym, subst}
 use Rattle.std.specs.FinMap.{entries, from_sorted, entries-from_sorted}
-use Rattle.proto.proofs.MapLemmas.{as_t}
+use Rattle.base.proofs.MapLemmas.{as_t}
 use Rattle.items.specs.Map.{by_bytes}
 use Rattle.wire.specs.Item.{PageFits}
 use Rattle.pages.proofs.page.Page.from_entries.Goals as goal

@@ -10,7 +10,7 @@ pub invariant_of-self-then-not-all_alive : goal.invariant_of-self-then-not-all_a
 invariant_of-self-then-not-all_alive c =
     let old = arc_value c.self.inside.store in
     let is : arc_value (c.make_mut.follows.lender c.retain_alive.new.self) ≡ alive (arc_value c.self.inside.store) c.args.moment = search rules in
-    page-written _ (alive old c.args.moment) c.self.inside.soonest is (fits-alive old c.args.moment c.self.invariant.fits) (soonest-alive old c.self.inside.soonest c.args.moment c.self.invariant.soonest_is)
+    page-written _ (alive old c.args.moment) _ c.self.inside.soonest is c.forget.ensures (fits-alive old c.args.moment c.self.invariant.fits) (soonest-alive old c.self.inside.soonest c.args.moment c.self.invariant.soonest_is)
 
 pub returns-in_ok-make_mut-clause-same : goal.returns-in_ok-make_mut-clause-same
 returns-in_ok-make_mut-clause-same c = λ same.

@@ -15,6 +15,6 @@ invariant_of-self-2 c =
     let old_fits : PageFits (entries c.args.self.now.items) = subst (λ (p : PageState). PageFits (entries p.items)) c.self.view_is c.self.invariant.fits in
     let fits : PageFits (entries (insert c.args.self.now.items c.args.key c.args.item)) =
     fits-insert c.args.self.now.items c.args.key c.args.item old_fits (c.has_room.ensures.room.0 c.if-not-has_room.false) in
-    page-written _ (insert old c.args.key c.args.item) c.sooner-self-inside.result is
+    page-written _ (insert old c.args.key c.args.item) _ c.sooner-self-inside.result is c.forget.ensures
     (subst (λ (p : PageState). PageFits (entries (insert p.items c.args.key c.args.item))) (sym c.self.view_is) fits)
     (subst (λ s. NoneDueBefore s (insert old c.args.key c.args.item)) (sym c.sooner-self-inside.ensures) (soonest-insert old c.self.inside.soonest c.args.key c.args.item c.self.invariant.soonest_is))

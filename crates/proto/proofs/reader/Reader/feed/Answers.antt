@@ -1,6 +1,6 @@
 use Rattle.std.proofs.Common.{◌≡◌, ◌≤◌, ◌++◌, refl, sym, ap, ◌∙◌, rules, subst}
-use Rattle.proto.specs.Reader.{Reads}
-use Rattle.proto.specs.Stage.{IsStage, bytes_of, reading}
+use Rattle.proto.specs.Reader.{ReadsTurns}
+use Rattle.proto.specs.Stage.{IsStage, staged, reading}
 use Rattle.proto.proofs.ReaderLemmas.{closed_keeps, held_within}
 use Rattle.proto.proofs.reader.Reader.feed.Goals as goal
 
@@ -22,5 +22,5 @@ invariant_of-self-2 c = record {
 pub returns-clause-turns : goal.returns-clause-turns
 returns-clause-turns c = λ is_open.
     let same : c.in_ok-stage.stage ≡ c.self.inside.stage = search rules in
-    let kept : bytes_of c.in_ok-stage.stage ≡ c.args.self.now.kept = ap bytes_of same ∙ ap (λ r. r.kept) c.self.view_is in
-    subst (λ k. Reads (k ++ c.args.piece.now) c.in_ok-turns.turns.items (reading c.read_piece.new.stage c.in_ok-turns.closed)) kept c.in_ok-turns.ensures.reads
+    let kept : staged c.in_ok-stage.stage ≡ c.args.self.now.kept = ap staged same ∙ ap (λ r. r.kept) c.self.view_is in
+    subst (λ k. ReadsTurns (k ++ c.args.piece.now) c.in_ok-turns.turns.items (reading c.read_piece.new.stage c.in_ok-turns.closed)) kept c.in_ok-turns.ensures.reads

@@ -29,5 +29,5 @@ returns-clause-gives c =
     let read : Opens c.in_ok-header.header ≡ meaning (take (length self.line - 1) self.line) =
     c.in_ok-header.ensures ∙ ap (λ line. meaning (take (length line - 1) line)) c.as_slice.ensures in
     let empty = c.replace-held.ensures.after ∙ c.new.ensures in
-    let gives = done_gives c.args.size self.line self.block self.dropped c.requires.inside c.args.piece.now n there c.in_ok-header.header c.end_turn.result c.replace-held.result read some exact held c.end_turn.ensures in
+    let gives = done_gives c.args.size self.line self.block self.dropped c.requires.inside c.args.piece.now n there c.in_ok-header.header c.in_ok-turn.turn c.replace-held.result read some exact held c.in_ok-turn.ensures in
     (gives.0, gives.1, gives.2, rw (c.clear.ensures, empty) gives.3)

@@ -4,7 +4,7 @@ use Rattle.std.specs.List.{list_all}
 use Rattle.std.proofs.lemmas.List.{length-map}
 use Rattle.item_steps.specs.declared.step.Answer.{Answer}
 use Rattle.round.specs.Sittings.{Running, running_in, has_ended}
-use Rattle.round.specs.Orders.{Ended}
+use Rattle.round.specs.Orders.{RoundResult}
 use Rattle.round.proofs.Makes.{fit_some}
 use Rattle.round.proofs.Ends.{group_runs}
 use Rattle.round.proofs.Collects.{lists_by, length-lists_by, answers_of, tasks_of}
@@ -40,7 +40,7 @@ pub returns-clause-ended : goal.returns-clause-ended
 returns-clause-ended g c =
     let f = running_in c.in_ok-pages.ensures.order in
     let answers = ap (map (λ (r : Running). r.answers)) (ran g (goal.at.returns-clause-ended g c).In_ok-ran) ∙ answers_of f g.J.Room.group in
-    subst (λ (l : List (List Answer)). Ended g.J.Room.base g.J.Room.opening g.J.Room.group c.args.seats.items c.in_ok-pages.pages l) (sym answers) c.in_ok-pages.ensures.ended
+    subst (λ (l : List (List Answer)). RoundResult g.J.Room.base g.J.Room.opening g.J.Room.group c.args.seats.items c.in_ok-pages.pages l) (sym answers) c.in_ok-pages.ensures.ended
 
 pub returns-clause-runs : goal.returns-clause-runs
 returns-clause-runs g c = group_runs _ _ _ _ _ _ (returns-clause-ended g c)

@@ -6,6 +6,6 @@ use Rattle.wire.proofs.key.KeysRecord.put.Goals as goal
 
 pub returns : goal.returns
 returns g c =
-    let valid = c.as_slice.ensures.valid in
-    let text : keys_text c.args.self.now ≡ list_text key_text c.args.self.now = keys_text-is c.args.self.now valid.0 valid.1 in
-    rw (text, ← c.as_slice.ensures.keys) c.put_list.ensures
+    let limits = c.as_slice.ensures.limits in
+    let text : keys_text c.args.self.now ≡ list_text key_text c.args.self.now = keys_text-is c.args.self.now limits.enough limits.few in
+    rw (text, ← c.as_slice.ensures.items) c.put_list.ensures

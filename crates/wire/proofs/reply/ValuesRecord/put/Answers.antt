@@ -6,5 +6,5 @@ use Rattle.wire.proofs.reply.ValuesRecord.put.Goals as goal
 
 pub returns : goal.returns
 returns g c =
-    let text : values_text c.args.self.now ≡ list_text found_text c.args.self.now = values_text-is c.args.self.now c.as_slice.ensures.limit in
-    rw (text, ← c.as_slice.ensures.found) c.put_list.ensures
+    let text : values_text c.args.self.now ≡ list_text found_text c.args.self.now = values_text-is c.args.self.now c.as_slice.ensures.limits.few in
+    rw (text, ← c.as_slice.ensures.items) c.put_list.ensures

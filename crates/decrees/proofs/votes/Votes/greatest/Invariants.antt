@@ -1,6 +1,0 @@
-use Rattle.std.proofs.Common.{◌≡◌, ◌≤◌}
-use Rattle.decrees.specs.Votes.{greatest_below}
-use Rattle.decrees.proofs.votes.Votes.greatest.Given as goal
-
-abbrev pub invariant-loop-executor : goal.invariant-loop-executor
-invariant-loop-executor l = record { counted : l.greatest ≡ greatest_below l.u l.standing l.self l.executor; bounded : l.greatest ≤ 7 }

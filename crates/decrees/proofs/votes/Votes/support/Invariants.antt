@@ -1,7 +1,0 @@
-use Rattle.std.proofs.Common.{◌≡◌, ◌≤◌}
-use Rattle.decrees.specs.Count.{count_below}
-use Rattle.decrees.specs.Votes.{has_token}
-use Rattle.decrees.proofs.votes.Votes.support.Given as goal
-
-abbrev pub invariant-loop-executor : goal.invariant-loop-executor
-invariant-loop-executor l = record { counted : l.count ≡ count_below (has_token l.standing l.self l.token) l.executor; bounded : l.count ≤ l.executor }

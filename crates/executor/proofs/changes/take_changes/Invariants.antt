@@ -1,8 +1,0 @@
-use Rattle.pages.specs.Page.{page_entries}
-use Rattle.pages.specs.Joined.{items_of}
-use Rattle.executor.specs.Records.{change_text}
-use Rattle.executor.proofs.PageTextLemmas.{HasPages}
-use Rattle.executor.proofs.changes.take_changes.Given as goal
-
-abbrev pub invariant-loop-number : goal.invariant-loop-number
-invariant-loop-number l = HasPages (λ p entries. change_text (page_entries l.before p) entries) (items_of l.pages.items) l.number l.bytes l.rest

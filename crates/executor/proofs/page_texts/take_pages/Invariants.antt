@@ -1,7 +1,0 @@
-use Rattle.wire.specs.Item.{page_text}
-use Rattle.pages.specs.Joined.{items_of}
-use Rattle.executor.proofs.PageTextLemmas.{HasPages}
-use Rattle.executor.proofs.page_texts.take_pages.Given as goal
-
-abbrev pub invariant-loop-number : goal.invariant-loop-number
-invariant-loop-number l = HasPages (λ p entries. page_text entries) (items_of l.pages.items) l.number l.bytes l.rest

@@ -1,9 +1,0 @@
-use Rattle.wire.proofs.Values.{told_apart}
-use Rattle.executor.proofs.RecordLemmas.{state_free}
-use Rattle.executor.proofs.record_laws.states_are_told_apart.Goals as goal
-
-pub returns-clause-one : goal.returns-clause-one
-returns-clause-one c = told_apart state_free
-
-pub returns-clause-whole : goal.returns-clause-whole
-returns-clause-whole c = state_free

@@ -1,0 +1,136 @@
+-- What steps and the drop of what is due leave as it is.
+use Rattle.std.proofs.Common.{◌≡◌, ◌≢◌, ℕ, zero, suc, ◌+◌, ◌<◌, Bool, true, false, cond, List, [], ◌∷◌, length, get_or, set, Some, None, true≢false, refl, sym, ap, ◌∙◌, arith, subst, slice_get}
+use Rattle.std.specs.Prelude.{◌==◌, All}
+use Rattle.std.specs.Cmp.Lexicographic.{nat_list_cmp_total}
+use Rattle.std.specs.FinMap.{entries, insert, remove, get, get-insert, get-remove}
+use Rattle.std.proofs.lemmas.Bool.Decides.{nat_tests}
+use Rattle.std.proofs.lemmas.List.{get_or-set_same, get_or-set_other, length-set}
+use Rattle.std.proofs.lemmas.Map.Entries.{option_filter}
+use Rattle.std.proofs.lemmas.Option.{get_or_from_slice_get, slice_get_within}
+use Rattle.proto.specs.Update.{key_of_update}
+use Rattle.proto.specs.declared.command.Command.{Command}
+use Rattle.proto.specs.declared.command.Command.TheVariants as command
+use Rattle.proto.specs.declared.command.Update.{Update as UpdateOf}
+use Rattle.items.specs.Map.{Items, alive, is_alive}
+use Rattle.items.proofs.AliveLemmas.{get-alive}
+use Rattle.item_steps.specs.Effect.{effect, changed, updated}
+use Rattle.item_steps.specs.Steps.{steps, reads}
+use Rattle.item_steps.specs.Schedule.{Placed, IsInterleaving, items_after, stamped}
+use Rattle.item_steps.specs.declared.step.Stamp.{Stamp}
+use Rattle.item_steps.specs.declared.step.Step.{Step}
+use Rattle.item_steps.specs.declared.step.Step.TheVariants.{Read, Update}
+use Rattle.item_steps.specs.declared.effect.Change.{Change}
+use Rattle.item_steps.specs.declared.effect.Change.TheVariants.{Leave, Put, Remove}
+use Rattle.pages.specs.Page.{page_number, page_entries, page_items}
+use Rattle.pages.specs.Others.{has_page, AreSameBeside, AreWithin, Covers, CoversAll}
+use Rattle.pages.proofs.KeyLemmas.{other_key, all_keys}
+use Rattle.pages.proofs.PartLemmas.{entries-page_items, get-page_items}
+
+-- maps with the same items at the keys of a page have the same entries there
+same_page : (m n : Items) (p : ℕ) → ((q : List ℕ) → page_number q ≡ p → get m q ≡ get n q) → page_entries m p ≡ page_entries n p
+same_page m n p same = sym (entries-page_items m p) ∙ ap entries (all_keys (page_items m p) (page_items n p) at) ∙ entries-page_items n p
+  where
+    at : (q : List ℕ) → get (page_items m p) q ≡ get (page_items n p) q
+    at q = get-page_items m p q ∙ by (page_number q == p) refl ∙ sym (get-page_items n p q)
+      where
+        by : (b : Bool) → (page_number q == p) ≡ b → cond (page_number q == p) (get m q) None ≡ cond (page_number q == p) (get n q) None
+        by true e = let here : page_number q ≡ p = grind (arith, nat_tests) in rw (e, same q here) refl
+        by false e = rw e refl
+
+-- a change at a key of another page
+changed-elsewhere : (m : Items) (p : ℕ) (k : List ℕ) (c : Change) → page_number k ≢ p → page_entries m p ≡ page_entries (changed m k c) p
+changed-elsewhere m p k Leave other = refl
+changed-elsewhere m p k (Put item) other = same_page m (insert m k item) p (λ q here.
+    sym (get-insert nat_list_cmp_total m k item q ∙ ap (λ b. cond b (Some item) (get m q)) (other_key q k (λ e. other (sym e ∙ here)))))
+changed-elsewhere m p k Remove other = same_page m (remove m k) p (λ q here.
+    sym (get-remove nat_list_cmp_total m k q ∙ ap (λ b. cond b None (get m q)) (other_key q k (λ e. other (sym e ∙ here)))))
+
+-- a page that is not in the set is not the one at this number, which is
+not_there : (pages : List Bool) (k p : ℕ) → has_page pages k ≡ true → has_page pages p ≡ false → k ≢ p
+not_there pages k p there out same = true≢false (sym there ∙ ap (has_page pages) same ∙ out)
+
+pub step-elsewhere : (pages : List Bool) (m : Items) (s : Step) (place : Stamp) → Covers pages s → AreSameBeside pages m (effect m s place).0
+step-elsewhere pages m (Read key) place covers p l out = refl
+step-elsewhere pages m (Update u) place covers p l out =
+    changed-elsewhere m p (key_of_update u) (updated u place (get m (key_of_update u))).0 (not_there pages (page_number (key_of_update u)) p covers out)
+
+-- reads change no page
+reads-covered : (pages : List Bool) (keys : List (List ℕ)) → All (Covers pages) (reads keys)
+reads-covered pages [] k d lt = absurd (omega arith)
+reads-covered pages (key ∷ keys) zero d lt = tt
+reads-covered pages (key ∷ keys) (suc k) d lt = reads-covered pages keys k d (omega arith)
+
+-- a command that updates nothing
+pub gets-covered : (pages : List Bool) (c : Command) → ((u : UpdateOf) → c ≡ command.Update u → ⊥) → All (Covers pages) (steps c)
+gets-covered pages (command.Get keys) none = reads-covered pages keys
+gets-covered pages (command.Gets keys) none = reads-covered pages keys
+gets-covered pages (command.Update u) none = absurd (none u refl)
+
+pub order-elsewhere : (pages : List Bool) (base : Stamp) (m : Items) (order : List Placed) → CoversAll pages order → AreSameBeside pages m (items_after base m order)
+order-elsewhere pages base m [] covers p l out = refl
+order-elsewhere pages base m (s ∷ order) covers p l out =
+    step-elsewhere pages m s.1 (stamped base s.0) (covers 0 s (omega arith)) p l out
+    ∙ order-elsewhere pages base (effect m s.1 (stamped base s.0)).0 order (λ k d lt. covers (suc k) d (omega arith)) p l out
+
+-- a set that covers each list covers what stands at an index
+covered-at : (pages : List Bool) (lists : List (List Placed)) (i : ℕ) (list : List Placed) → All (CoversAll pages) lists → slice_get lists i ≡ Some list → CoversAll pages list
+covered-at pages lists i list covers there =
+    subst (CoversAll pages) (get_or_from_slice_get lists i list [] there) (covers i [] (slice_get_within lists i list there))
+
+-- what is left of a list after its first step is covered still
+left-covered : (pages : List Bool) (lists : List (List Placed)) (i : ℕ) (s : Placed) (rest : List Placed) → All (CoversAll pages) lists → slice_get lists i ≡ Some (s ∷ rest)
+    → All (CoversAll pages) (set lists i rest)
+left-covered pages lists i s rest covers there k d lt = elsewhere (k == i) refl
+  where
+    within : k < length lists
+    within = omega (arith, lt, length-set lists i rest)
+
+    elsewhere : (b : Bool) → (k == i) ≡ b → CoversAll pages (get_or (set lists i rest) k d)
+    elsewhere true e =
+        let here : k ≡ i = grind (arith, nat_tests) in
+        subst (CoversAll pages) (sym (ap (λ n. get_or (set lists i rest) n d) here ∙ get_or-set_same lists i rest d (slice_get_within lists i (s ∷ rest) there)))
+        (λ j f l. covered-at pages lists i (s ∷ rest) covers there (suc j) f (omega arith))
+    elsewhere false e =
+        let other : k ≢ i = grind (arith, nat_tests) in
+        subst (CoversAll pages) (sym (get_or-set_other lists i k rest d other)) (covers k d within)
+
+pub interleaved-covers : (pages : List Bool) (lists : List (List Placed)) (order : List Placed) → All (CoversAll pages) lists → IsInterleaving lists order → CoversAll pages order
+interleaved-covers pages lists [] covers interleaves k d lt = absurd (omega arith)
+interleaved-covers pages lists (s ∷ order) covers interleaves zero d lt =
+    covered-at pages lists interleaves.0 (s ∷ interleaves.1) covers interleaves.2 0 d (omega arith)
+interleaved-covers pages lists (s ∷ order) covers interleaves (suc k) d lt =
+    interleaved-covers pages (set lists interleaves.0 interleaves.1) order
+    (left-covered pages lists interleaves.0 s interleaves.1 covers interleaves.2) interleaves.3 k d (omega arith)
+
+pub more-beside : (less more : List Bool) (m n : Items) → AreWithin less more → AreSameBeside less m n → AreSameBeside more m n
+more-beside less more m n within same p l out = same p l (by (has_page less p) refl)
+  where
+    by : (b : Bool) → has_page less p ≡ b → has_page less p ≡ false
+    by true e = absurd (true≢false (sym (within p e) ∙ out))
+    by false e = e
+
+-- a page of which nothing is due
+pub alive-elsewhere : (m : Items) (p moment : ℕ) (page : Items) → page ≡ page_items m p → alive page moment ≡ page → page_entries m p ≡ page_entries (alive m moment) p
+alive-elsewhere m p moment page is none = same_page m (alive m moment) p at
+  where
+    at : (q : List ℕ) → page_number q ≡ p → get m q ≡ get (alive m moment) q
+    at q here =
+        let own : (page_number q == p) ≡ true = grind (arith, nat_tests) in
+        let stands : get page q ≡ get m q = ap (λ (x : Items). get x q) is ∙ get-page_items m p q ∙ ap (λ b. cond b (get m q) None) own in
+        sym stands ∙ ap (λ (x : Items). get x q) (sym none) ∙ get-alive page moment q ∙ ap (option_filter (is_alive moment)) stands ∙ sym (get-alive m moment q)
+
+-- one page more that is in the set, or of which nothing is due
+pub due-next : (m : Items) (moment n : ℕ) (old new : List Bool)
+    → ((p : ℕ) → p < n → has_page old p ≡ false → page_entries m p ≡ page_entries (alive m moment) p)
+    → (has_page new n ≡ false → page_entries m n ≡ page_entries (alive m moment) n)
+    → ((p : ℕ) → p ≢ n → has_page new p ≡ has_page old p)
+    → (p : ℕ) → p < n + 1 → has_page new p ≡ false → page_entries m p ≡ page_entries (alive m moment) p
+due-next m moment n old new so_far here others p l out = by (p == n) refl
+  where
+    by : (b : Bool) → (p == n) ≡ b → page_entries m p ≡ page_entries (alive m moment) p
+    by true e =
+        let same : n ≡ p = grind (arith, nat_tests) in
+        subst (λ k. page_entries m k ≡ page_entries (alive m moment) k) same (here (ap (has_page new) same ∙ out))
+    by false e =
+        let other : p ≢ n = grind (arith, nat_tests) in
+        so_far p (omega (arith, l, other)) (sym (others p other) ∙ out)

@@ -1,0 +1,5 @@
+pub mod StateLemmas
+pub mod FollowedLemmas
+pub mod PageTextLemmas
+pub mod EntryLemmas
+pub mod RecordLemmas

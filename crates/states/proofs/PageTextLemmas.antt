@@ -1,0 +1,179 @@
+-- Texts of the pages of a map, one after the other.
+use Rattle.std.proofs.Common.{◌≡◌, ℕ, zero, suc, ◌+◌, ◌<◌, List, [], ◌∷◌, ◌++◌, length, get_or, None, refl, sym, ap, ◌∙◌, arith, subst, append_assoc}
+use Rattle.std.specs.Prelude.{flat_map}
+use Rattle.std.specs.List.{range_with_len}
+use Rattle.std.specs.FinMap.{entries, from_sorted}
+use Rattle.std.proofs.lemmas.List.{append-nil, length-append}
+use Rattle.std.proofs.lemmas.List.FromFn.{length-map-range_with_len, get_or-map-range_with_len, fill_by_all}
+use Rattle.base.specs.declared.fault.Fault.{Fault}
+use Rattle.items.specs.declared.item.Item.{Item}
+use Rattle.items.specs.Map.{Items}
+use Rattle.wire.specs.Record.{Always, IsPrefixFree, NoPrefix, Puts, Refused}
+use Rattle.wire.proofs.Values.{Refused-weaker}
+use Rattle.pages.specs.Page.{PageState, page_count, page_entries, page_items}
+use Rattle.pages.specs.Joined.{IsOwn, AreOwn, ArePages, joined, parts, items_of}
+use Rattle.pages.proofs.JoinedLemmas.{no_items, own-page}
+use Rattle.pages.proofs.StateLemmas.{items-at, length-states}
+use Rattle.pages.proofs.PartLemmas.{entries-page_items, page-entries, page-items, parts-are, joined-parts}
+use Rattle.states.specs.StateRecord.{each_page}
+
+-- the last of so many texts
+pub last_text : (g : ℕ → List ℕ) (p n : ℕ) → flat_map g (range_with_len p (suc n)) ≡ flat_map g (range_with_len p n) ++ g (p + n)
+last_text g p zero =
+    let here : p ≡ p + 0 = omega arith in
+    append-nil (g p) ∙ ap g here
+last_text g p (suc n) =
+    let here : p + 1 + n ≡ p + suc n = omega arith in
+    ap (λ (t : List ℕ). g p ++ t) (last_text g (p + 1) n) ∙ (sym (append_assoc (g p) (flat_map g (range_with_len (p + 1) n)) (g (p + 1 + n)))
+    ∙ ap (λ k. (g p ++ flat_map g (range_with_len (p + 1) n)) ++ g k) here)
+
+-- one text more was written
+pub put_next : {S : Type 0} (holds : S → List ℕ → Type 0) (g : ℕ → List ℕ) (n : ℕ) (old sink new : S) (text : List ℕ) → Puts holds (flat_map g (range_with_len 0 n)) old sink → text ≡ g n → Puts holds text sink new
+    → Puts holds (flat_map g (range_with_len 0 (n + 1))) old new
+put_next holds g n old sink new text so_far e more m h =
+    let here : 0 + n ≡ n = omega arith in
+    let one : suc n ≡ n + 1 = omega arith in
+    let all : flat_map g (range_with_len 0 n) ++ text ≡ flat_map g (range_with_len 0 (n + 1)) =
+    ap (λ (t : List ℕ). flat_map g (range_with_len 0 n) ++ t) (e ∙ ap g (sym here)) ∙ (sym (last_text g 0 n) ∙ ap (λ k. flat_map g (range_with_len 0 k)) one) in
+    subst (λ (t : List ℕ). holds new t) (append_assoc m (flat_map g (range_with_len 0 n)) text ∙ ap (λ (t : List ℕ). m ++ t) all) (more (m ++ flat_map g (range_with_len 0 n)) (so_far m h))
+
+-- all were written
+pub put_all : {S : Type 0} (holds : S → List ℕ → Type 0) (g : ℕ → List ℕ) (n : ℕ) (old new : S) → Puts holds (flat_map g (range_with_len 0 n)) old new → n ≡ page_count → Puts holds (each_page g) old new
+put_all holds g n old new so_far e = subst (λ (k : ℕ). Puts holds (flat_map g (range_with_len 0 k)) old new) e so_far
+
+-- page p of a map has its own keys alone
+pub own_page_items : (m : Items) (p : ℕ) → IsOwn p (page_items m p)
+own_page_items m p =
+    subst (λ (n : Items). IsOwn p n) (page-items (parts m) p (parts-are m) ∙ ap (λ (n : Items). page_items n p) (joined-parts m)) (own-page (parts m) p (parts-are m))
+
+-- maps with the same pages are one
+pub same_pages : (v w : Items) → ((i : ℕ) → i < page_count → page_entries v i ≡ page_entries w i) → v ≡ w
+same_pages v w is =
+    let same : parts v ≡ parts w = fill_by_all (page_items w) (parts v) page_count no_items (length-map-range_with_len (page_items v) 0 page_count)
+    (λ k l. get_or-map-range_with_len (page_items v) 0 page_count k k no_items l (omega arith) ∙ ap (λ (es : List (List ℕ × Item)). from_sorted es) (is k l)) in
+    sym (joined-parts v) ∙ (ap joined same ∙ joined-parts w)
+
+own_snoc : (p : ℕ) (pages : List Items) (m : Items) → AreOwn p pages → IsOwn (p + length pages) m → AreOwn p (pages ++ m ∷ [])
+own_snoc p [] m own mine =
+    let here : p + 0 ≡ p = omega arith in
+    (subst (λ k. IsOwn k m) here mine, tt)
+own_snoc p (n ∷ pages) m own mine =
+    let here : p + length (n ∷ pages) ≡ p + 1 + length pages = omega arith in
+    (own.0, own_snoc (p + 1) pages m own.1 (subst (λ k. IsOwn k m) here mine))
+
+module _ (text : ℕ → List (List ℕ × Item) → List ℕ) where
+  -- the texts of these pages, from page p on
+  abbrev pub texts : ℕ → List Items → List ℕ
+  texts p [] = []
+  texts p (m ∷ pages) = text p (entries m) ++ texts (p + 1) pages
+
+  -- the texts of so many pages of a map, from page p on
+  abbrev pub texts_from : Items → ℕ → ℕ → List ℕ
+  texts_from m p n = flat_map (λ q. text q (page_entries m q)) (range_with_len p n)
+
+  texts_snoc : (p : ℕ) (pages : List Items) (m : Items) → texts p (pages ++ m ∷ []) ≡ texts p pages ++ text (p + length pages) (entries m)
+  texts_snoc p [] m =
+      let here : p ≡ p + 0 = omega arith in
+      append-nil (text p (entries m)) ∙ ap (λ k. text k (entries m)) here
+  texts_snoc p (n ∷ pages) m =
+      let here : p + 1 + length pages ≡ p + length (n ∷ pages) = omega arith in
+      ap (λ (t : List ℕ). text p (entries n) ++ t) (texts_snoc (p + 1) pages m)
+      ∙ (sym (append_assoc (text p (entries n)) (texts (p + 1) pages) (text (p + 1 + length pages) (entries m)))
+      ∙ ap (λ k. (text p (entries n) ++ texts (p + 1) pages) ++ text k (entries m)) here)
+
+  texts_are : (p : ℕ) (pages : List Items) (whole : Items) → ((i : ℕ) → i < length pages → entries (get_or pages i no_items) ≡ page_entries whole (p + i)) → texts p pages ≡ texts_from whole p (length pages)
+  texts_are p [] whole is = refl
+  texts_are p (m ∷ pages) whole is =
+      let here : p + 0 ≡ p = omega arith in
+      let first : entries m ≡ page_entries whole p = is 0 (omega arith) ∙ ap (page_entries whole) here in
+      let next : (i : ℕ) → p + suc i ≡ p + 1 + i = λ i. omega arith in
+      let later = texts_are (p + 1) pages whole (λ i l. is (suc i) (omega (arith, l)) ∙ ap (page_entries whole) (next i)) in
+      (λ i. text p (first i) ++ later i)
+
+  -- what was read of the pages so far, and the rest
+  pub record HasPages (pages : List Items) (count : ℕ) (bytes rest : List ℕ) : Type 0 where
+    pub counted : length pages ≡ count
+    pub own : AreOwn 0 pages
+    pub parts_are : bytes ≡ texts 0 pages ++ rest
+
+  pub begins : (bytes : List ℕ) → HasPages [] 0 bytes bytes
+  begins bytes = record { counted = refl; own = tt; parts_are = refl }
+
+  pub goes_on : (pages : List Items) (count : ℕ) (bytes rest : List ℕ) (m : Items) (after : List ℕ) → HasPages pages count bytes rest → IsOwn count m → rest ≡ text count (entries m) ++ after
+      → HasPages (pages ++ m ∷ []) (count + 1) bytes after
+  goes_on pages count bytes rest m after so_far own e =
+      let here : count ≡ 0 + length pages = omega (arith, so_far.counted) in
+      record {
+        counted = length-append pages (m ∷ []) ∙ ap (λ (n : ℕ). n + 1) so_far.counted;
+        own = own_snoc 0 pages m so_far.own (subst (λ k. IsOwn k m) here own);
+        parts_are = so_far.parts_are ∙ (ap (λ (t : List ℕ). texts 0 pages ++ t) (e ∙ ap (λ k. text k (entries m) ++ after) here)
+            ∙ (sym (append_assoc (texts 0 pages) (text (0 + length pages) (entries m)) after) ∙ ap (λ (t : List ℕ). t ++ after) (sym (texts_snoc 0 pages m))));
+      }
+
+  -- all pages were read
+  pub all_read : (pages : List Items) (count : ℕ) (bytes rest : List ℕ) → HasPages pages count bytes rest → count ≡ page_count
+      → ArePages pages × (bytes ≡ each_page (λ p. text p (page_entries (joined pages) p)) ++ rest)
+  all_read pages count bytes rest so_far all =
+      let are : ArePages pages = (so_far.counted ∙ all, so_far.own) in
+      let here : (i : ℕ) → i ≡ 0 + i = λ i. omega arith in
+      let same = texts_are 0 pages (joined pages) (λ i l. page-entries pages i are ∙ ap (page_entries (joined pages)) (here i)) in
+      (are, so_far.parts_are ∙ ap (λ (t : List ℕ). t ++ rest) (same ∙ ap (texts_from (joined pages) 0) are.0))
+
+  module _ (free : (p : ℕ) → IsPrefixFree (text p)) where
+    -- the page that comes next in such texts
+    next_page : (p n : ℕ) (pages : List Items) (v : Items) (rest after : List ℕ) → length pages < n → texts p pages ++ rest ≡ texts_from v p n ++ after
+        → (later : List ℕ) × (rest ≡ text (p + length pages) (page_entries v (p + length pages)) ++ later)
+    next_page p zero pages v rest after l e = absurd (omega (arith, l))
+    next_page p (suc n) [] v rest after l e =
+        let here : p ≡ p + 0 = omega arith in
+        (texts_from v (p + 1) n ++ after, e ∙ (append_assoc (text p (page_entries v p)) (texts_from v (p + 1) n) after ∙ ap (λ k. text k (page_entries v k) ++ (texts_from v (p + 1) n ++ after)) here))
+    next_page p (suc n) (m ∷ pages) v rest after l e =
+        let both = (free p).apart (entries m) (page_entries v p) (texts (p + 1) pages ++ rest) (texts_from v (p + 1) n ++ after)
+        (sym (append_assoc (text p (entries m)) (texts (p + 1) pages) rest) ∙ (e ∙ append_assoc (text p (page_entries v p)) (texts_from v (p + 1) n) after)) in
+        let more = next_page (p + 1) n pages v rest after (omega (arith, l)) both.1 in
+        let here : p + 1 + length pages ≡ p + length (m ∷ pages) = omega arith in
+        (more.0, more.1 ∙ ap (λ k. text k (page_entries v k) ++ more.0) here)
+
+    -- where no page comes next, the texts are those of no map
+    pub no_pages : (pages : List Items) (count : ℕ) (bytes rest : List ℕ) → HasPages pages count bytes rest → count < page_count → (e : Fault)
+        → Refused e (NoPrefix {X = PageState} (λ page. IsOwn count page.items) (λ page. text count (entries page.items)) rest)
+        → Refused e (NoPrefix {X = Items} Always (λ m. each_page (λ p. text p (page_entries m p))) bytes)
+    no_pages pages count bytes rest so_far below e = Refused-weaker e (λ none. record {
+      none = λ v after f same.
+          let next = next_page 0 page_count pages v rest after (omega (arith, below, so_far.counted)) (sym so_far.parts_are ∙ same) in
+          let here : 0 + length pages ≡ count = omega (arith, so_far.counted) in
+          let again : rest ≡ text count (entries (page_items v count)) ++ next.0 =
+          next.1 ∙ (ap (λ k. text k (page_entries v k) ++ next.0) here ∙ ap (λ es. text count es ++ next.0) (sym (entries-page_items v count))) in
+          none.none (record { items = page_items v count; digest = None }) next.0 (own_page_items v count) again;
+    })
+
+    each_alike : (p n : ℕ) (v w : Items) (r s : List ℕ) → texts_from v p n ++ r ≡ texts_from w p n ++ s → ((i : ℕ) → i < n → page_entries v (p + i) ≡ page_entries w (p + i)) × (r ≡ s)
+    each_alike p zero v w r s e = (λ i l. absurd (omega (arith, l)), e)
+    each_alike p (suc n) v w r s e =
+        let both = (free p).apart (page_entries v p) (page_entries w p) (texts_from v (p + 1) n ++ r) (texts_from w (p + 1) n ++ s)
+        (sym (append_assoc (text p (page_entries v p)) (texts_from v (p + 1) n) r) ∙ (e ∙ append_assoc (text p (page_entries w p)) (texts_from w (p + 1) n) s)) in
+        let more = each_alike (p + 1) n v w r s both.1 in
+        (at both.0 more.0, more.1)
+      where
+        at : page_entries v p ≡ page_entries w p → ((i : ℕ) → i < n → page_entries v (p + 1 + i) ≡ page_entries w (p + 1 + i)) → (i : ℕ) → i < suc n → page_entries v (p + i) ≡ page_entries w (p + i)
+        at first later zero l =
+            let here : p ≡ p + 0 = omega arith in
+            subst (λ k. page_entries v k ≡ page_entries w k) here first
+        at first later (suc i) l =
+            let here : p + 1 + i ≡ p + suc i = omega arith in
+            subst (λ k. page_entries v k ≡ page_entries w k) here (later i (omega (arith, l)))
+
+    pub texts_free : IsPrefixFree {X = Items} (λ m. each_page (λ p. text p (page_entries m p)))
+    texts_free = record {
+      apart = λ v w r s e.
+          let both = each_alike 0 page_count v w r s e in
+          let here : (i : ℕ) → 0 + i ≡ i = λ i. omega arith in
+          (same_pages v w (λ i l. subst (λ k. page_entries v k ≡ page_entries w k) (here i) (both.0 i l)), both.1);
+    }
+
+-- a page that was parted off
+pub shared_page : (shared : List PageState) (before : Items) (n : ℕ) (page : PageState) → items_of shared ≡ parts before → n < page_count → page ≡ get_or shared n page → page.items ≡ page_items before n
+shared_page shared before n page parted l read =
+    let many : length shared ≡ page_count = length-states shared (subst ArePages (sym parted) (parts-are before)) in
+    items-at shared n page (omega (arith, l, many)) read
+    ∙ (ap (λ (ms : List Items). get_or ms n no_items) parted ∙ get_or-map-range_with_len (page_items before) 0 page_count n n no_items l (omega arith))

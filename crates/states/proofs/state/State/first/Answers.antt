@@ -1,0 +1,8 @@
+use Rattle.states.proofs.StateLemmas.{first_is_state}
+use Rattle.states.proofs.state.State.first.Goals as goal
+
+pub invariant_of-result : goal.invariant_of-result
+invariant_of-result c = record {
+  state = rw (c.seal.ensures, c.in_ok-new.ensures, c.in_ok-sessions.ensures) first_is_state;
+  sessions = c.of_sessions-digested.ensures.digested;
+}

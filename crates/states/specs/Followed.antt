@@ -1,0 +1,31 @@
+-- The state that a batch makes of another.
+use Rattle.std.specs.Prelude.{◌≡◌, ℕ, max}
+use Rattle.items.specs.Map.{Items}
+use Rattle.sessions.specs.Fresh.{Replies}
+use Rattle.batches.specs.declared.batch.Batch.{Batch}
+use Rattle.wire.specs.Batch.{batch_text}
+use Rattle.wire.specs.Session.{SessionsFit}
+use Rattle.token.specs.Digest.{digest}
+use Rattle.states.specs.State.{StateView, with_token}
+
+-- the greater of the two moments
+abbrev pub moment_of : StateView → Batch → ℕ
+moment_of old batch = max batch.moment old.moment
+
+-- the state that a batch makes of another, with its token
+abbrev pub state_after : StateView → Batch → Replies → Items → StateView
+state_after old batch sessions items = with_token (record {
+  number = batch.n;
+  previous = old.token;
+  epoch = batch.epoch;
+  batch = digest (batch_text batch);
+  moment = moment_of old batch;
+  token = old.token;
+  sessions = sessions;
+  items = items;
+})
+
+-- a state that the batch makes of another, whose sessions have a text
+pub record IsSuccessor (old : StateView) (batch : Batch) (s : StateView) : Type 0 where
+  pub is : s ≡ state_after old batch s.sessions s.items
+  pub sessions_fit : SessionsFit s.sessions

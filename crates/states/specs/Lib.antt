@@ -1,0 +1,5 @@
+pub mod State
+pub mod Parts
+pub mod Followed
+pub mod StateRecord
+pub mod HeadProofs

@@ -1,0 +1,64 @@
+-- The record of a state, by itself and over the state before it.
+use Rattle.std.specs.Prelude.{ℕ, List, ◌≡◌, ◌<◌, ◌++◌, flat_map, Option, Some, None, Result, Ok, Err, if◌then◌else◌}
+use Rattle.std.specs.Int.{w32, w64}
+use Rattle.std.specs.List.{range_with_len}
+use Rattle.std.specs.Str.{bytes_eq}
+use Rattle.std.specs.FinMap.{entries as entries_of}
+use Rattle.base.specs.declared.fault.Fault.{Fault}
+use Rattle.items.specs.declared.item.Item.{Item}
+use Rattle.items.specs.Map.{Items}
+use Rattle.wire.specs.Number.{num, fixed}
+use Rattle.wire.specs.Record.{Refused}
+use Rattle.wire.specs.Field.{option_text}
+use Rattle.wire.specs.Item.{page_text}
+use Rattle.wire.specs.Session.{sessions_text}
+use Rattle.token.specs.Token.{token_bytes}
+use Rattle.pages.specs.Page.{PageState, page_entries, page_count}
+use Rattle.pages.specs.Joined.{IsOwn}
+use Rattle.states.specs.declared.head.Head.{Head}
+use Rattle.states.specs.State.{StateView, IsState, initial_state}
+
+-- what a state is told by
+abbrev pub head_of_state : StateView → Head
+head_of_state s = record { number = s.number; previous = s.previous; epoch = s.epoch; batch = s.batch; moment = s.moment; token = s.token }
+
+abbrev pub head_text : Head → List ℕ
+head_text h = num w64 h.number ++ token_bytes h.previous ++ num w64 h.epoch ++ fixed 32 h.batch ++ num w32 h.moment ++ token_bytes h.token
+
+-- a text of each page, by number
+abbrev pub each_page : (ℕ → List ℕ) → List ℕ
+each_page text = flat_map text (range_with_len 0 page_count)
+
+unfoldable pub pages_text : Items → List ℕ
+pages_text m = each_page (λ p. page_text (page_entries m p))
+
+unfoldable pub state_text : StateView → List ℕ
+state_text s = head_text (head_of_state s) ++ sessions_text s.sessions ++ pages_text s.items
+
+-- a page where it is not the same as before; pages with one text are the same
+abbrev pub changed_page : List (List ℕ × Item) → List (List ℕ × Item) → Option (List (List ℕ × Item))
+changed_page before after = if bytes_eq (page_text before) (page_text after) then None else Some after
+
+-- 0 for the same page, or 1 and the page
+abbrev pub change_text : List (List ℕ × Item) → List (List ℕ × Item) → List ℕ
+change_text before after = option_text page_text (changed_page before after)
+
+unfoldable pub changes_text : Items → Items → List ℕ
+changes_text before after = each_page (λ p. change_text (page_entries before p) (page_entries after p))
+
+-- a state over the items of the state before it
+unfoldable pub after_text : Items → StateView → List ℕ
+after_text before s = head_text (head_of_state s) ++ sessions_text s.sessions ++ changes_text before s.items
+
+-- a page of these entries, whose keys are all of its number
+abbrev pub MakesPage : ℕ → List (List ℕ × Item) → Result PageState Fault → Type 0
+MakesPage p entries (Ok page) = IsOwn p page.items × (entries_of page.items ≡ entries)
+MakesPage p entries (Err e) = Refused e ((m : Items) → IsOwn p m → entries_of m ≡ entries → ⊥)
+
+-- a state that no batch led to, and one that a batch led to
+abbrev pub IsFirstState : StateView → Type 0
+IsFirstState s = s ≡ initial_state
+
+pub record IsLaterState (s : StateView) : Type 0 where
+  pub state : IsState s
+  pub later : 0 < s.number

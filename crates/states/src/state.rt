@@ -1,0 +1,263 @@
+ghost use Rattle.std.specs.Prelude.{◌≡◌, ◌<◌, ◌^◌, IfOk, OnOk};
+ghost use Rattle.wire.specs.Record.{Puts};
+ghost use Rattle.wire.specs.Session.{sessions_text, SessionsFit};
+ghost use Rattle.token.specs.Digested.{IsDigested};
+ghost use Rattle.states.specs.State.{IsState, initial_state, with_token};
+ghost use Rattle.states.specs.Parts.{parts_of};
+ghost use Rattle.states.specs.Followed.{state_after};
+
+use batches::Batch;
+use pages::{Pages, Snapshot};
+use sessions::Sessions;
+use std::alloc::{AllocError, Global};
+use std::marker::Model;
+use token::{Digested, Token, batch_digest};
+use wire::Sink;
+
+/// A state of the server: its items and sessions, and the token by which it is known. Beside the
+/// sessions it keeps their digest and, where there is memory for it, their text.
+#[derive(Drop)]
+pub struct State {
+    number: u64,
+    previous: Token,
+    epoch: u64,
+    batch: [u8; 32],
+    moment: u32,
+    token: Token,
+    sessions: Sessions,
+    digested: Digested,
+    pages: Snapshot,
+}
+
+/// What a state is made of, without its token.
+#[derive(Drop)]
+pub struct Parts {
+    pub number: u64,
+    pub previous: Token,
+    pub epoch: u64,
+    pub batch: [u8; 32],
+    pub moment: u32,
+    pub sessions: Sessions,
+    pub pages: Snapshot,
+}
+
+impl Model for State {
+    ghost use Rattle.std.specs.Coded.{coded_list, coded_ℕ};
+    ghost use Rattle.std.specs.FinMap as map;
+    ghost use Rattle.items.specs.contracts.item.Item as item;
+    ghost use Rattle.sessions.specs.contracts.sessions.LastReply as kept;
+    ghost use Rattle.token.specs.contracts.Token as known;
+    ghost use Rattle.states.specs.State.{StateView, IsStateBeside, state_code};
+
+    ghost Value = { StateView };
+
+    ghost coded = { state_code known.the_row.coded (map.code coded_ℕ kept.the_row.coded) (map.code (coded_list coded_ℕ) item.the_row.coded) };
+
+    ghost view = { λ s. record {
+      number = s.number;
+      previous = s.previous;
+      epoch = s.epoch;
+      batch = s.batch;
+      moment = s.moment;
+      token = s.token;
+      sessions = s.sessions;
+      items = s.pages;
+    } };
+
+    ghost invariant = { λ s. IsStateBeside s.digested (record {
+      number = s.number;
+      previous = s.previous;
+      epoch = s.epoch;
+      batch = s.batch;
+      moment = s.moment;
+      token = s.token;
+      sessions = s.sessions;
+      items = s.pages;
+    }) };
+}
+
+impl State {
+    /// The state of number 0: no items, no sessions.
+    pub fn first(alloc: Global) -> Result<State, AllocError>
+        ensures { IfOk result (λ state. state ≡ initial_state) }
+    {
+        let sessions = Sessions::new(alloc)?;
+        let digested = Digested::of_sessions(alloc, &sessions);
+        Ok(State {
+            number: 0,
+            previous: Token([0; 32]),
+            epoch: 1,
+            batch: [0; 32],
+            moment: 0,
+            token: Token([0; 32]),
+            sessions,
+            digested,
+            pages: Pages::new(alloc)?.seal(),
+        })
+    }
+
+    /// How many batches led to the state.
+    pub fn number(&self) -> u64
+        ensures number { result ≡ self.now.number }
+        ensures few { result < 2 ^ 58 }
+    {
+        self.number
+    }
+
+    /// The token of the state before it.
+    pub fn previous(&self) -> Token
+        ensures { result ≡ self.now.previous }
+    {
+        self.previous
+    }
+
+    /// The epoch of the batch that led to it.
+    pub fn epoch(&self) -> u64
+        ensures { result ≡ self.now.epoch }
+    {
+        self.epoch
+    }
+
+    /// The digest of the batch that led to it.
+    pub fn batch(&self) -> &[u8; 32]
+        ensures { result.now ≡ self.now.batch }
+    {
+        &self.batch
+    }
+
+    /// Its moment, in seconds.
+    pub fn moment(&self) -> u32
+        ensures { result ≡ self.now.moment }
+    {
+        self.moment
+    }
+
+    /// The token by which it is known.
+    pub fn token(&self) -> Token
+        ensures { result ≡ self.now.token }
+    {
+        self.token
+    }
+
+    /// What is kept of each client.
+    pub fn sessions(&self) -> &Sessions
+        ensures sessions { result.now ≡ self.now.sessions }
+        ensures fit { SessionsFit self.now.sessions }
+    {
+        &self.sessions
+    }
+
+    /// Writes the text of what is kept of each client: shared where it is kept.
+    pub(crate) fn put_sessions<S: Sink>(&self, sink: &mut S) -> Result<(), S::Refusal>
+        ensures { OnOk result (Puts S.holds (sessions_text self.now.sessions) sink.old sink.new) }
+    {
+        self.digested.put_sessions(&self.sessions, sink)
+    }
+
+    /// Its items.
+    pub fn pages(&self) -> &Snapshot
+        ensures { result.now ≡ self.now.items }
+    {
+        &self.pages
+    }
+
+    /// What is true of every state: see `IsState`. It does nothing.
+    pub fn is_state(&self)
+        ensures { IsState self.now }
+    {
+        let _number = &self.number;
+    }
+
+    /// The same state. Its pages, its sessions and their text are shared, and not copied.
+    pub fn share(&self) -> Result<State, AllocError>
+        ensures { IfOk result (λ state. state ≡ self.now) }
+    {
+        Ok(State {
+            number: self.number,
+            previous: self.previous,
+            epoch: self.epoch,
+            batch: self.batch,
+            moment: self.moment,
+            token: self.token,
+            sessions: self.sessions.clone()?,
+            digested: self.digested.clone()?,
+            pages: self.pages.share()?,
+        })
+    }
+
+    /// The state of these parts, with its token computed from them. Its number is from 1 to 2^58 - 1.
+    /// The text of its sessions is kept where there is memory for it; there is no error.
+    pub fn of_parts(alloc: Global, parts: Parts) -> State
+        requires number { (0 < parts.number) × (parts.number < 2 ^ 58) }
+        ensures { result ≡ with_token (parts_of parts) }
+    {
+        let digested = Digested::of_sessions(alloc, &parts.sessions);
+        State::of_digested(parts, digested)
+    }
+
+    /// The same state as of `of_parts`, where the digest of its sessions was made already. This takes
+    /// no memory.
+    pub fn of_digested(parts: Parts, digested: Digested) -> State
+        requires number { (0 < parts.number) × (parts.number < 2 ^ 58) }
+        requires digested { IsDigested (sessions_text parts.sessions) digested }
+        ensures { result ≡ with_token (parts_of parts) }
+    {
+        let _entries = parts.sessions.entries();
+        let token = Token::new(
+            &parts.previous,
+            parts.number,
+            parts.epoch,
+            parts.moment,
+            &parts.batch,
+            &parts.pages.root(),
+            digested.digest(),
+        );
+        let Parts {
+            number,
+            previous,
+            epoch,
+            batch,
+            moment,
+            sessions,
+            pages,
+        } = parts;
+        State {
+            number,
+            previous,
+            epoch,
+            batch,
+            moment,
+            token,
+            sessions,
+            digested,
+            pages,
+        }
+    }
+
+    /// The state that a batch makes of this one, with its token. The digest is that of the sessions.
+    /// This takes no memory.
+    pub fn followed_by(
+        &self,
+        batch: &Batch,
+        sessions: Sessions,
+        digested: Digested,
+        pages: Snapshot,
+    ) -> State
+        requires { IsDigested (sessions_text sessions) digested }
+        ensures followed { result ≡ state_after self.now batch.now sessions pages }
+        ensures fit { SessionsFit result.sessions }
+    {
+        let parts = Parts {
+            number: batch.n,
+            previous: self.token,
+            epoch: batch.epoch,
+            batch: batch_digest(batch),
+            moment: batch.moment.max(self.moment),
+            sessions,
+            pages,
+        };
+        let state = State::of_digested(parts, digested);
+        state.is_state();
+        state
+    }
+}

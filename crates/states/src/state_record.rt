@@ -1,0 +1,143 @@
+//! The record of a state, by itself and over the state before it.
+
+ghost use Rattle.std.specs.Prelude.{◌≡◌, ◌++◌, OnOk};
+ghost use Rattle.wire.specs.Record.{Puts, Takes};
+ghost use Rattle.pages.specs.Others.{AreSameBeside};
+ghost use Rattle.states.specs.State.{IsState};
+ghost use Rattle.states.specs.Followed.{IsSuccessor};
+ghost use Rattle.states.specs.StateRecord.{IsFirstState, IsLaterState, state_text, after_text};
+
+use crate::changes::{put_changes, take_changes};
+use crate::head::Head;
+use crate::page_texts::{put_pages, take_pages};
+use crate::state::{Parts, State};
+use batches::{Batch, GREATEST_NUMBER};
+use pages::{PageSet, Snapshot};
+use proto::Fault;
+use sessions::Sessions;
+use std::alloc::Global;
+use token::Digested;
+use wire::{Record, Sink};
+
+impl Head {
+    /// The parts of the state of this head, its sessions and its items.
+    fn parts(&self, sessions: Sessions, pages: Snapshot) -> Parts
+        ensures { result ≡ record {
+          number = self.now.number;
+          previous = self.now.previous;
+          epoch = self.now.epoch;
+          batch = self.now.batch;
+          moment = self.now.moment;
+          sessions = sessions;
+          pages = pages;
+        } }
+    {
+        Parts {
+            number: self.number,
+            previous: self.previous,
+            epoch: self.epoch,
+            batch: self.batch,
+            moment: self.moment,
+            sessions,
+            pages,
+        }
+    }
+}
+
+/// The first state, whose record is a prefix of the bytes.
+fn take_first(alloc: Global, bytes: &[u8]) -> Result<(State, &[u8]), Fault>
+    ensures { Takes IsFirstState state_text bytes.now result }
+{
+    let first = State::first(alloc)?;
+    let mut text = Vec::new(alloc);
+    first.put(&mut text)?;
+    match bytes.strip_prefix(text.as_slice()) {
+        Some(rest) => Ok((first, rest)),
+        None => Err(Fault::BadRecord),
+    }
+}
+
+/// A state that a batch led to, whose record is a prefix of the bytes.
+fn take_later(alloc: Global, bytes: &[u8]) -> Result<(State, &[u8]), Fault>
+    ensures { Takes IsLaterState state_text bytes.now result }
+{
+    let ((head, sessions), rest) = <(Head, Sessions)>::take(alloc, bytes)?;
+    let (pages, rest) = take_pages(alloc, rest)?;
+    if head.number == 0 {
+        return Err(Fault::BadRecord);
+    }
+    if GREATEST_NUMBER < head.number {
+        return Err(Fault::BadRecord);
+    }
+    let state = State::of_parts(alloc, head.parts(sessions, pages.seal()));
+    if state.token() != head.token {
+        return Err(Fault::BadRecord);
+    }
+    Ok((state, rest))
+}
+
+impl State {
+    /// Writes its record. The texts that are kept, of its pages and its sessions, are shared with a sink
+    /// that takes shared pieces. The sink may refuse it, as where an allocation fails.
+    #[tactic(auto, unfolding(crate::specs::StateRecord::state_text))]
+    pub fn put<S: Sink>(&self, sink: &mut S) -> Result<(), S::Refusal>
+        ensures { OnOk result (Puts S.holds (state_text self.now) sink.old sink.new) }
+    {
+        self.head().put(sink)?;
+        self.put_sessions(sink)?;
+        put_pages(self.pages(), sink)
+    }
+
+    /// The state whose record is a prefix of the bytes, with its token recomputed, and the bytes after
+    /// it. `BadRecord`: no record of a state is one. `NoMemory` is the only other error.
+    pub fn take(alloc: Global, bytes: &[u8]) -> Result<(State, &[u8]), Fault>
+        ensures { Takes IsState state_text bytes.now result }
+    {
+        let (head, _) = Head::take(alloc, bytes)?;
+        if head.number == 0 {
+            take_first(alloc, bytes)
+        } else {
+            take_later(alloc, bytes)
+        }
+    }
+
+    /// Writes its record over the state before it: a page that is the same in both is one byte. Pages
+    /// that are not in the set are the same in both, and no item of them is read. The texts that are
+    /// kept are shared as by `put`.
+    #[tactic(auto, unfolding(crate::specs::StateRecord::after_text))]
+    pub fn put_after<S: Sink>(
+        &self,
+        before: &State,
+        may_differ: &PageSet,
+        sink: &mut S,
+    ) -> Result<(), S::Refusal>
+        requires { AreSameBeside may_differ.now before.now.items self.now.items }
+        ensures { OnOk result (Puts S.holds (after_text before.now.items self.now) sink.old sink.new) }
+    {
+        self.head().put(sink)?;
+        self.put_sessions(sink)?;
+        put_changes(before.pages(), self.pages(), may_differ, sink)
+    }
+
+    /// The state that the batch makes of the one before, whose record over it is a prefix of the bytes,
+    /// and the bytes after it. What the batch did to the items and the sessions is read, and all else
+    /// is recomputed. Pages that are the same are shared. `BadRecord`: there is no such state.
+    /// `NoMemory` is the only other error.
+    pub fn take_after<'b>(
+        alloc: Global,
+        before: &State,
+        batch: &Batch,
+        bytes: &'b [u8],
+    ) -> Result<(State, &'b [u8]), Fault>
+        ensures { Takes (IsSuccessor before.now batch.now) (after_text before.now.items) bytes.now result }
+    {
+        let ((head, sessions), rest) = <(Head, Sessions)>::take(alloc, bytes)?;
+        let (pages, rest) = take_changes(alloc, before.pages(), rest)?;
+        let digested = Digested::of_sessions(alloc, &sessions);
+        let state = before.followed_by(batch, sessions, digested, pages.seal());
+        if state.head() != head {
+            return Err(Fault::BadRecord);
+        }
+        Ok((state, rest))
+    }
+}
