@@ -28,7 +28,7 @@ use Rattle.agreement.proofs.Promised.{LettersOk-promise, Stand-promise}
 use Rattle.agreement.proofs.Accepting.{LettersOk-accepted, Stand-accepted}
 use Rattle.agreement.proofs.Proposing.{LettersOk-accept, Stand-accept}
 use Rattle.agreement.proofs.Choice.{MayPropose-from, proposal_is_safe, proposal_is_backed}
-use Rattle.agreement.proofs.Tokens.{token_eq-true}
+use Rattle.decrees.proofs.TokenLemmas.{token_eq-true}
 
 -- what an outcome of verifier v keeps, whether the step is done or the verifier stops in it
 pub record StepOk (u : ℕ) (ls : Letters) (v : ℕ) (o : OutcomeView) : Type 0 where

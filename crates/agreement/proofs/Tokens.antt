@@ -11,13 +11,11 @@ use Rattle.decrees.specs.declared.standing.Standing.{Standing}
 use Rattle.decrees.specs.declared.votes.VoteKey.{VoteKey}
 use Rattle.decrees.specs.declared.votes.Verdict.TheVariants.{Commit}
 use Rattle.decrees.specs.Votes.{Vote, key_eq, token_eq, next_key, heard, has_token, verdict}
+use Rattle.decrees.proofs.TokenLemmas.{token_eq-true}
 use Rattle.decrees.proofs.VerdictLemmas.{commit_is_backed}
 use Rattle.agreement.specs.Letters.{Letters, Sent, HasTokens}
 use Rattle.agreement.proofs.Each.{Each, found_key}
 use Rattle.agreement.proofs.Stand.{Cast}
-
-pub token_eq-true : (a b : token.Token) → token_eq a b ≡ true → a ≡ b
-token_eq-true a b e = λ i. record { 0 = (bytes_eq-Decides a.0 b.0).0 e i }
 
 key_eq-true : (a b : VoteKey) → key_eq a b ≡ true → a ≡ b
 key_eq-true a b e =

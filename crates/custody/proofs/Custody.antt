@@ -29,7 +29,8 @@ use Rattle.one_run.specs.Met.{IsKnown, IsTold, ToldApart}
 use Rattle.one_run.specs.Chosen.{IsMade}
 use Rattle.one_run.proofs.Elements.{in_head, in_none, first_or_other}
 use Rattle.one_run.proofs.Tokens.{tells}
-use Rattle.custody.specs.Durable.{Durable, first_durable, tip, obeyed, executed_of, IsMember, In, Keeps}
+use Rattle.rollback.specs.Chain.{tip}
+use Rattle.custody.specs.Durable.{Durable, first_durable, obeyed, executed_of, IsMember, In, Keeps}
 use Rattle.custody.specs.Machine.{ExecutorMachine, said_of, AreOthers, Next, Hear, Choose, Complete, Say, Obey, Take, first_executor_machine, Reached}
 use Rattle.custody.specs.Laws.{ChosenIsMade, CommittedIsChosen, LastCommitIsKept}
 use Rattle.custody.proofs.Log.{take_front, take_whole, some_at, get_push, stands_next, Numbered, rises_to, one_commit, last_commit}

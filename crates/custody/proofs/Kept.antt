@@ -19,7 +19,8 @@ use Rattle.agreement.specs.Letters.{Letters, Sent}
 use Rattle.one_run.specs.Met.{IsKnown}
 use Rattle.one_run.specs.Run.{Executed}
 use Rattle.one_run.specs.Chosen.{IsCommitted}
-use Rattle.custody.specs.Durable.{Durable, tip, after, committed, executed_of, IsMember, In, first, later, Keeps}
+use Rattle.rollback.specs.Chain.{tip}
+use Rattle.custody.specs.Durable.{Durable, after, committed, executed_of, IsMember, In, first, later, Keeps}
 use Rattle.custody.proofs.Log.{take_front, get_front, length_push, stands_next, Numbered, last_commit}
 
 pub In-left : {X : Type 0} {x : X} (xs ys : List X) → In x xs → In x (xs ++ ys)

@@ -3,3 +3,4 @@ mod LogLemmas
 mod RecordLemmas
 pub mod VerdictLemmas
 pub mod GrowthLemmas
+pub mod TokenLemmas

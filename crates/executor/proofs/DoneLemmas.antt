@@ -15,8 +15,7 @@ use Rattle.sessions.specs.Fresh.{Replies}
 use Rattle.batches.specs.declared.batch.Batch.{Batch}
 use Rattle.executor.specs.declared.answered.Answered.{Answered}
 use Rattle.executor.specs.BatchRequest.{BatchRequest}
-use Rattle.token.specs.Digest.{digest}
-use Rattle.states.specs.State.{StateView, with_token}
+use Rattle.states.specs.State.{StateView}
 use Rattle.executor.specs.Fresh.{Runner, runs, fresh_after}
 use Rattle.states.specs.Followed.{moment_of}
 use Rattle.executor.specs.Round.{runners, Round}
@@ -25,7 +24,6 @@ use Rattle.executor.proofs.PartialLemmas.{Each, each-of-all, all-of-each, forget
 use Rattle.round.proofs.Lists.{map_at}
 use Rattle.executor.proofs.OrderLemmas.{found_at}
 use Rattle.executor.proofs.RoundLemmas.{get_map}
-use Rattle.wire.specs.Batch.{batch_text}
 use Rattle.executor.proofs.WorkedLemmas.{worked-partial, group_is_done, done_is_round}
 
 get_middle : (earlier later : List Request) (q : Request) → slice_get (earlier ++ q ∷ later) (length earlier) ≡ Some q
@@ -153,11 +151,3 @@ pub completed : (base : StateView) (batch : Batch) (ordered : Bool) (w : Progres
     → (after : StateView) (replies : List Answered) → after ≡ state_made base batch w → replies ≡ replies_of base batch w.running → Round base batch ordered after replies
 completed base batch ordered w worked done last after replies e f =
     subst (λ (s : StateView). Round base batch ordered s replies) (sym e) (subst (λ (rs : List Answered). Round base batch ordered (state_made base batch w) rs) (sym f) (done_is_round base batch ordered w worked done last))
-
--- the state with its token, of sessions and items that are the work's
-pub made_of : (base : StateView) (batch : Batch) (sessions kept : Replies) (pages items : Items) → sessions ≡ kept → pages ≡ items
-    → ◌≡◌ {A = StateView}
-    (with_token (record { number = batch.n; previous = base.token; epoch = batch.epoch; batch = digest (batch_text batch); moment = moment_of base batch; token = base.token; sessions = sessions; items = pages }))
-    (with_token (record { number = batch.n; previous = base.token; epoch = batch.epoch; batch = digest (batch_text batch); moment = moment_of base batch; token = base.token; sessions = kept; items = items }))
-made_of base batch sessions kept pages items e f =
-    λ i. with_token (record { number = batch.n; previous = base.token; epoch = batch.epoch; batch = digest (batch_text batch); moment = moment_of base batch; token = base.token; sessions = e i; items = f i })

@@ -1,5 +1,5 @@
 -- What work leaves as it is: the pages in which nothing is due, and that no request of the batch updates.
-use Rattle.std.proofs.Common.{◌≡◌, ℕ, ◌+◌, ◌<◌, Bool, List, [], ◌∷◌, ◌++◌, Some, length, take, get_or, sym, ap, ◌∙◌, subst}
+use Rattle.std.proofs.Common.{◌≡◌, ℕ, ◌+◌, ◌<◌, Bool, List, [], ◌∷◌, ◌++◌, length, take, get_or, sym, ap, ◌∙◌, subst}
 use Rattle.std.specs.Prelude.{slice_get, All}
 use Rattle.std.proofs.lemmas.List.{take_more}
 use Rattle.std.proofs.lemmas.List.Elements.{All-push}
@@ -7,7 +7,7 @@ use Rattle.items.specs.Map.{alive}
 use Rattle.item_steps.specs.Steps.{steps}
 use Rattle.item_steps.specs.Schedule.{stamped}
 use Rattle.item_steps.specs.declared.step.Step.{Step}
-use Rattle.item_steps.specs.declared.step.Step.TheVariants.{Read, Update}
+use Rattle.item_steps.specs.declared.step.Step.TheVariants.{Read, ReadAndTouch, Update}
 use Rattle.sessions.specs.declared.request.Request.{Request}
 use Rattle.batches.specs.declared.batch.Batch.{Batch}
 use Rattle.pages.specs.Others.{AreSameBeside, AreWithin, Covers}
@@ -30,6 +30,7 @@ CoversRequests pages requests = All (λ r. All (Covers pages) (steps r.command))
 -- a set of more pages covers more
 covers-more : (less more : List Bool) → AreWithin less more → (s : Step) → Covers less s → Covers more s
 covers-more less more within (Read key) covers = covers
+covers-more less more within (ReadAndTouch key exptime) covers = within _ covers
 covers-more less more within (Update u) covers = within _ covers
 
 pub all-covers-more : (less more : List Bool) → AreWithin less more → (ss : List Step) → All (Covers less) ss → All (Covers more) ss

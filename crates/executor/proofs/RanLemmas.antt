@@ -1,8 +1,7 @@
 -- A group that ran as a round is work whose group is done.
-use Rattle.std.proofs.Common.{◌≡◌, ℕ, suc, ◌<◌, Bool, true, false, List, [], ◌∷◌, ◌++◌, map, length, take, drop, Some, refl, sym, ap, ◌∙◌, subst, arith}
+use Rattle.std.proofs.Common.{◌≡◌, ℕ, suc, ◌<◌, Bool, true, false, List, [], ◌∷◌, ◌++◌, map, Some, refl, sym, ap, ◌∙◌, subst, arith}
 use Rattle.std.specs.Prelude.{IsTrue, ◌==◌, if◌then◌else◌}
 use Rattle.std.proofs.lemmas.Bool.{eqb-true, ltb-true}
-use Rattle.std.proofs.lemmas.List.{length-map, take_at}
 use Rattle.items.specs.Map.{Items}
 use Rattle.item_steps.specs.Schedule.{placed, stamped, answers_in, answers_at, GroupRuns}
 use Rattle.item_steps.specs.declared.step.Stamp.{Stamp}
@@ -15,7 +14,7 @@ use Rattle.executor.specs.Round.{first_place, runners}
 use Rattle.executor.specs.Work.{Progress, Worked, IsNext, is_group_done, started, begun, all_begun}
 use Rattle.round.specs.Sittings.{Running as RanTask}
 use Rattle.executor.specs.Through.{later}
-use Rattle.executor.specs.GroupRun.{task_of_request, tasks_in, emptied, answered_by, ran_of, IsUntouched}
+use Rattle.executor.specs.GroupRun.{task_of_request, tasks_in, answered_by, ran_of, IsUntouched}
 use Rattle.item_steps.proofs.ScheduleLemmas.{stamped_first}
 use Rattle.executor.proofs.PartialLemmas.{Each, each-of-all, all-of-each}
 use Rattle.executor.proofs.RoundLemmas.{get_map}
@@ -93,43 +92,24 @@ groups_kept group answers_to (r ∷ running) = (λ i. one (r.group == group) i �
     one true = refl
     one false = refl
 
--- a list of so many members after its first ones were lent and written
-abbrev pub written : ℕ → List BatchRequest → List BatchRequest → List BatchRequest
-written count new old = take count (new ++ drop (length new) old)
-
 pub record RoundDone (base : StateView) (batch : Batch) (ordered : Bool) (w : Progress) (now : Items) (running : List BatchRequest) : Type 0 where
   pub worked : Worked base batch ordered (record { items = now; running = running; group = w.group })
   pub done : IsTrue (is_group_done (record { items = now; running = running; group = w.group }))
   pub left : later (record { items = now; running = running; group = w.group }) ≡ later w
 
--- The steps were taken of a list of requests that was lent, and put back, with their answers, to one that was lent again.
-pub record Lent (w : Progress) (count : ℕ) (lent taken : List BatchRequest) (tasks : List Task) (ran : List RanTask) (again put : List BatchRequest) : Type 0 where
-  pub whole : count ≡ length w.running
-  pub same : lent ≡ w.running
-  pub taken_is : taken ≡ map (emptied w.group) lent
-  pub tasks_are : tasks ≡ tasks_in w.group lent
-  pub again_is : again ≡ written count taken w.running
-  pub long : length put ≡ length again
-  pub puts : (before : List BatchRequest) (answers_to : Task → List Answer) → again ≡ map (emptied w.group) before → ran ≡ map (ran_of answers_to) (tasks_in w.group before) → put ≡ map (answered_by w.group answers_to) before
-
+-- the tasks of a group were taken and run, and put back with their answers
 pub round_done : (base : StateView) (batch : Batch) (ordered : Bool) (w : Progress) → Worked base batch ordered w → IsUntouched w
-    → (place : Stamp) → place ≡ stamped (first_place base batch) 0 → (count : ℕ) (lent taken : List BatchRequest) (tasks : List Task) (now : Items) (ran : List RanTask) (again put : List BatchRequest)
-    → Lent w count lent taken tasks ran again put → GroupRuns place w.items tasks now (map (λ r. r.answers) ran) → map (λ r. r.task) ran ≡ tasks
-    → RoundDone base batch ordered w now (written count put (written count taken w.running))
-round_done base batch ordered w worked untouched place at count lent taken tasks now ran again put l runs back =
-    let are : tasks ≡ tasks_in w.group w.running = l.tasks_are ∙ ap (tasks_in w.group) l.same in
+    → (place : Stamp) → place ≡ stamped (first_place base batch) 0 → (tasks : List Task) → tasks ≡ tasks_in w.group w.running
+    → (now : Items) (ran : List RanTask) → GroupRuns place w.items tasks now (map (λ r. r.answers) ran) → map (λ r. r.task) ran ≡ tasks
+    → (put : List BatchRequest) → ((answers_to : Task → List Answer) → ran ≡ map (ran_of answers_to) (tasks_in w.group w.running) → put ≡ map (answered_by w.group answers_to) w.running)
+    → RoundDone base batch ordered w now put
+round_done base batch ordered w worked untouched place at tasks are now ran runs back put puts =
     let from_first = subst (λ (p : Stamp). GroupRuns p w.items tasks now (map (λ r. r.answers) ran)) (at ∙ stamped_first (first_place base batch)) runs in
     let all = subst (λ (ts : List Task). GroupRuns (first_place base batch) w.items ts now (map (λ r. r.answers) ran)) are from_first in
     let g = group_ran base batch ordered w worked untouched now (map (λ r. r.answers) ran) all in
-    let emptied_all : taken ≡ map (emptied w.group) w.running = l.taken_is ∙ ap (map (emptied w.group)) l.same in
-    let taken_long : length taken ≡ count = ap length emptied_all ∙ length-map w.running (emptied w.group) ∙ sym l.whole in
-    let again_is : again ≡ taken = l.again_is ∙ take_at taken (drop (length taken) w.running) count taken_long in
-    let put_is : put ≡ map (answered_by w.group g.answers_to) w.running =
-    l.puts w.running g.answers_to (again_is ∙ emptied_all) (zip_ran g.answers_to ran (tasks_in w.group w.running) (back ∙ are) g.each) in
-    let rest : List BatchRequest = written count taken w.running in
-    let is : written count put rest ≡ map (answered_by w.group g.answers_to) w.running = take_at put (drop (length put) rest) count (l.long ∙ ap length again_is ∙ taken_long) ∙ put_is in
+    let is : put ≡ map (answered_by w.group g.answers_to) w.running = puts g.answers_to (zip_ran g.answers_to ran (tasks_in w.group w.running) (back ∙ are) g.each) in
     record {
       worked = subst (λ (rs : List BatchRequest). Worked base batch ordered (record { items = now; running = rs; group = w.group })) (sym is) g.worked;
       done = subst (λ (rs : List BatchRequest). IsTrue (is_group_done (record { items = now; running = rs; group = w.group }))) (sym is) g.done;
-      left = same_later w.group (written count put rest) w.running (ap (map (λ r. r.group)) is ∙ groups_kept w.group g.answers_to w.running);
+      left = same_later w.group put w.running (ap (map (λ r. r.group)) is ∙ groups_kept w.group g.answers_to w.running);
     }

@@ -71,9 +71,9 @@ fresh_few s earlier (q ∷ later) =
 
 -- a group of a batch within the limits of a record, each of whose requests has few steps
 pub tasks_fit : (base : StateView) (batch : Batch) (ordered : Bool) (w : Progress) → Worked base batch ordered w → HaveFewSteps (all_begun base batch ordered)
-    → (first : Stamp) → first ≡ stamped (first_place base batch) 0 → (lent : List BatchRequest) → lent ≡ w.running → (tasks : List Task) → tasks ≡ tasks_in w.group lent → group_fits first tasks ≡ true
-tasks_fit base batch ordered w worked few first at lent same tasks are =
-    (λ i. group_fits (at i) ((are ∙ ap (tasks_in w.group) same) i)) ∙ and_from _ _ (le-leb _ MOST_TASKS most) (and_from _ _ (all_fit place w.group w.running each) (all_apart place w.group w.running p.places))
+    → (first : Stamp) → first ≡ stamped (first_place base batch) 0 → (tasks : List Task) → tasks ≡ tasks_in w.group w.running → group_fits first tasks ≡ true
+tasks_fit base batch ordered w worked few first at tasks are =
+    (λ i. group_fits (at i) (are i)) ∙ and_from _ _ (le-leb _ MOST_TASKS most) (and_from _ _ (all_fit place w.group w.running each) (all_apart place w.group w.running p.places))
   where
     place : Stamp
     place = stamped (first_place base batch) 0

@@ -1,6 +1,6 @@
 -- Steps of work, and one group after the other.
 use Rattle.std.proofs.Common.{◌≡◌, ℕ, zero, suc, ◌<◌, ◌≤◌, Bool, true, false, List, [], ◌∷◌, map, length, set, Some, refl, sym, ap, ◌∙◌, arith, subst, filter, nat_lt}
-use Rattle.std.specs.Prelude.{slice_get, IsTrue, not, ◌||◌, ◌==◌, if◌then◌else◌}
+use Rattle.std.specs.Prelude.{slice_get, not, ◌||◌, ◌==◌, if◌then◌else◌}
 use Rattle.std.specs.List.{list_all}
 use Rattle.std.proofs.lemmas.Bool.{eqb-true, ltb-true, ltb-false, lt-ltb}
 use Rattle.std.proofs.lemmas.Bool.Decides.{nat_tests}
@@ -9,10 +9,8 @@ use Rattle.item_steps.specs.Schedule.{stamped}
 use Rattle.item_steps.specs.declared.step.Stamp.{Stamp}
 use Rattle.items.specs.Map.{Items}
 use Rattle.executor.specs.BatchRequest.{BatchRequest}
-use Rattle.executor.specs.Work.{Progress, WorkView, StepDone, IsNext, is_complete, is_group_done}
-use Rattle.executor.specs.Ends.{Goes, MovesOn}
-use Rattle.executor.specs.declared.work.Ended.TheVariants.{On}
-use Rattle.executor.specs.Through.{IsNotLeft, WorkStepAt, later}
+use Rattle.executor.specs.Work.{Progress, StepDone, IsNext, is_complete}
+use Rattle.executor.specs.Through.{IsNotLeft, WorkStepAt}
 
 -- a step that was made on the items is a step made at the index
 pub step_at : (first : Stamp) (w : Progress) (i : ℕ) (r now : BatchRequest) (after : Items) → slice_get w.running i ≡ Some r → r.group ≡ w.group → StepDone r w.items (stamped first r.place) now after
@@ -99,14 +97,3 @@ pub fewer_later : (running : List BatchRequest) (group next : ℕ) → IsNext ru
 fewer_later running group next n =
     let above : group < n.request.group = ltb-true group n.request.group (ap (nat_lt group) n.its ∙ n.above) in
     subst (λ g. length (filter (λ r. nat_lt g r.group) running) < length (filter (λ r. nat_lt group r.group) running)) n.its (fewer group running n.index n.request n.there above)
-
--- where the group is done work goes on in a later one
-pub goes_on : (w now : WorkView) → Goes w (On now) → IsTrue (is_group_done w.progress) → later now.progress < later w.progress
-goes_on w now h done = by (is_group_done w.progress) h done
-  where
-    by : (b : Bool) → MovesOn b w now → b ≡ true → later now.progress < later w.progress
-    by false m e = absurd (cc e)
-    by true m e =
-        let less = fewer_later w.progress.running w.progress.group now.progress.group m.0 in
-        let is : later now.progress ≡ length (filter (λ r. nat_lt now.progress.group r.group) w.progress.running) = ap (λ (v : WorkView). later v.progress) m.1 in
-        omega (arith, is, less)

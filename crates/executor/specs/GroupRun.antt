@@ -1,5 +1,5 @@
 -- A group that runs as a round.
-use Rattle.std.specs.Prelude.{◌≡◌, ℕ, List, [], map, filter, ◌==◌, if◌then◌else◌, All}
+use Rattle.std.specs.Prelude.{◌≡◌, ℕ, List, [], ◌∷◌, map, filter, ◌==◌, if◌then◌else◌, All}
 use Rattle.item_steps.specs.declared.group.Task.{Task}
 use Rattle.item_steps.specs.declared.step.Answer.{Answer}
 use Rattle.executor.specs.declared.work.Ended.{Ended}
@@ -11,6 +11,10 @@ use Rattle.round.specs.Sittings.{Running as Ran}
 -- the request as a round takes it
 abbrev pub task_of_request : BatchRequest → Task
 task_of_request r = record { place = r.place; steps = r.steps }
+
+-- the same, if it is in the group
+abbrev pub task_at : ℕ → BatchRequest → List Task
+task_at group r = if r.group == group then task_of_request r ∷ [] else []
 
 -- the requests of the group, in batch order
 abbrev pub tasks_in : ℕ → List BatchRequest → List Task

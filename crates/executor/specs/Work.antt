@@ -11,13 +11,11 @@ use Rattle.item_steps.specs.declared.step.Step.{Step}
 use Rattle.sessions.specs.declared.request.Request.{Request}
 use Rattle.batches.specs.declared.batch.Batch.{Batch}
 use Rattle.mixer.specs.Groups.{numbers_of}
-use Rattle.wire.specs.Batch.{batch_text}
-use Rattle.token.specs.Digest.{digest}
 use Rattle.executor.specs.declared.answered.Answered.{Answered}
 use Rattle.executor.specs.BatchRequest.{BatchRequest, HaveFewSteps}
-use Rattle.states.specs.State.{StateView, with_token}
+use Rattle.states.specs.State.{StateView}
 use Rattle.executor.specs.Fresh.{Runner}
-use Rattle.states.specs.Followed.{moment_of}
+use Rattle.states.specs.Followed.{moment_of, state_after}
 use Rattle.executor.specs.Round.{runners, first_place, group_in, kept_after}
 
 -- What was done of a batch so far: the items now, the requests that run, and the group that runs now.
@@ -146,16 +144,7 @@ replies_to requests running = flat_map (replied_at requests) running
 
 -- the state that the work made
 abbrev pub state_made : StateView → Batch → Progress → StateView
-state_made base batch w = with_token (record {
-  number = batch.n;
-  previous = base.token;
-  epoch = batch.epoch;
-  batch = digest (batch_text batch);
-  moment = moment_of base batch;
-  token = base.token;
-  sessions = kept_after base.sessions (replies_of base batch w.running);
-  items = w.items;
-})
+state_made base batch w = state_after base batch (kept_after base.sessions (replies_of base batch w.running)) w.items
 
 -- Work: a batch over its base, whether each request is a group by itself, and what was done so far.
 pub record WorkView : Type 0 where

@@ -1,17 +1,21 @@
-//! What several workers do of a batch: the groups, and the digests of written pages.
+//! What several workers do of a batch: the groups, and the digests of written pages and of the sessions.
 
 ghost use Rattle.std.specs.Prelude.{◌≡◌, true, map, IfOk};
 ghost use Rattle.item_steps.specs.Schedule.{GroupRuns};
 ghost use Rattle.round.specs.Sittings.{group_fits};
+ghost use Rattle.wire.specs.Session.{sessions_text};
+ghost use Rattle.token.specs.Digested.{IsDigested};
 
 use item_steps::{Stamp, Task};
 use pages::Pages;
 use proto::Fault;
 use round::{Gate, Ran};
+use sessions::Sessions;
 use std::alloc::{AllocError, Global};
 use std::sync::Wait;
 use std::thread::Threads;
-use workers::{Workers, refresh_all, run};
+use token::Digested;
+use workers::{Workers, digest_all, run};
 
 /// Runs the group on the pages, by at most `workers` threads at once. Place 0 is at `base`.
 /// It errs only where an allocation fails.
@@ -36,12 +40,19 @@ pub fn run_group<R: Threads + Wait + Sync, G: Gate + Sync>(
     }
 }
 
-/// The same pages. The digests of those that were written are made by at most `workers` threads at once,
-/// so that little is left to do when the pages are sealed.
-pub fn refresh<R: Threads + Sync>(rt: &R, pages: Pages, workers: Workers) -> Pages
-    ensures { result ≡ pages }
+/// The same pages, and the digest of the sessions: at most `workers` threads at once make it, and those
+/// of the pages that were written, so that little is left to do when the pages are sealed.
+pub fn digest<R: Threads + Sync>(
+    rt: &R,
+    alloc: Global,
+    pages: Pages,
+    sessions: &Sessions,
+    workers: Workers,
+) -> (Pages, Digested)
+    ensures pages { result.0 ≡ pages }
+    ensures digested { IsDigested (sessions_text sessions.now) result.1 }
 {
     let mut parts = pages.part();
-    refresh_all(rt, parts.as_mut_slice(), workers);
-    Pages::join(parts)
+    let digested = digest_all(rt, alloc, parts.as_mut_slice(), sessions, workers);
+    (Pages::join(parts), digested)
 }

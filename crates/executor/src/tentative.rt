@@ -76,6 +76,20 @@ impl Tentative {
         self.after.token()
     }
 
+    /// The base that its batch was executed over.
+    pub fn before(&self) -> &Base
+        ensures { result.now.state ≡ self.now.before }
+    {
+        &self.before
+    }
+
+    /// The batch that led to it.
+    pub fn batch(&self) -> &Batch
+        ensures { result.now ≡ self.now.batch }
+    {
+        &self.batch
+    }
+
     /// Whether the batch had to be run again in batch order: never.
     pub fn fell_back(&self) -> bool
         ensures { result ≡ false }
@@ -171,6 +185,22 @@ impl Committed {
         ensures { result.now ≡ self.now.replies }
     {
         self.replies.as_slice()
+    }
+
+    /// The same state without replies, and the replies. This takes no memory.
+    pub fn take_replies(self) -> (Committed, Vec<Answered>)
+        ensures quiet { result.0 ≡ record { state = self.state; replies = [] } }
+        ensures replies { result.1.items ≡ self.replies }
+    {
+        let Committed { base, replies } = self;
+        let none = Vec::new(*replies.allocator());
+        (
+            Committed {
+                base,
+                replies: none,
+            },
+            replies,
+        )
     }
 
     /// The state as a base, for the batch after it. This takes no memory.

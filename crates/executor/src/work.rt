@@ -4,13 +4,16 @@ ghost use Rattle.std.specs.Bool.{OnTrue, OnFalse};
 ghost use Rattle.batches.specs.declared.batch.TheConstants.{MOST_REQUESTS};
 ghost use Rattle.item_steps.specs.Schedule.{stamped};
 ghost use Rattle.states.specs.Followed.{moment_of};
-ghost use Rattle.executor.specs.Round.{first_place, Round};
-ghost use Rattle.executor.specs.Work.{WorkStep, HasStep, HasNoStep, tentative_of, is_group_done as group_done, IsFirst, IsNext, IsLast, is_ready, all_begun, started};
+ghost use Rattle.wire.specs.Session.{sessions_text};
+ghost use Rattle.token.specs.Digested.{IsDigested};
+ghost use Rattle.executor.specs.Round.{first_place, kept_after, Round};
+ghost use Rattle.executor.specs.Work.{WorkStep, HasStep, HasNoStep, tentative_of, is_group_done as group_done, IsFirst, IsNext, IsLast, is_ready, all_begun, replies_of, started};
 ghost use Rattle.executor.specs.Ends.{Begins, Goes, DoneIsRound};
 ghost use Rattle.executor.specs.GroupRun.{IsUntouched, StartsAfresh};
 ghost use Rattle.executor.specs.BatchRequest.{HaveFewSteps};
 ghost use Rattle.executor.specs.Through.{IsReadyAt, WorkStepAt, later, ComesOfWork, DoneComesOfWork};
 
+use crate::answered::Answered;
 use crate::base_state::Base;
 use crate::batch_request::BatchRequest;
 use crate::begin::begin_all;
@@ -18,13 +21,14 @@ use crate::group_run::{put_back, take_tasks};
 use crate::groups::{is_group_done, is_untouched, next_group, next_place};
 use crate::kept::answer_all;
 use crate::may_differ::may_differ;
-use crate::parallel::{refresh, run_group};
+use crate::parallel::{digest, run_group};
 use crate::tentative::Tentative;
 use batches::Batch;
 use item_steps::Stamp;
 use items::Store;
 use pages::Pages;
 use round::Gate;
+use sessions::Sessions;
 use std::alloc::{AllocError, Global};
 use std::marker::Model;
 use std::sync::Wait;
@@ -211,10 +215,18 @@ impl Work {
         if !is_group_done(&self.running, self.group) {
             return Ok(Ended::On(self));
         }
-        match next_group(&self.running, Some(self.group)) {
+        match self.group_after() {
             Some(group) => Ok(Ended::On(self.moved_to(group))),
             None => Ok(Ended::Done(self.complete(alloc)?)),
         }
+    }
+
+    /// The next group in which a request runs, if there is one.
+    fn group_after(&self) -> Option<usize>
+        ensures some { IfSome result (λ next. IsNext self.now.progress.running (Some self.now.progress.group) next) }
+        ensures none { result ≡ None → IsLast self.now.progress.running (Some self.now.progress.group) }
+    {
+        next_group(&self.running, Some(self.group))
     }
 
     fn moved_to(mut self, group: usize) -> Work
@@ -233,7 +245,53 @@ impl Work {
         self
     }
 
-    /// What the work made.
+    /// The sessions after the batch, which keep the replies, and the replies.
+    fn answers(&self, alloc: Global) -> Result<(Sessions, Vec<Answered>), AllocError>
+        requires done { IsTrue (group_done self.now.progress) }
+        requires last { IsLast self.now.progress.running (Some self.now.progress.group) }
+        ensures sessions { IfOk result (λ made. made.0
+            ≡ kept_after self.now.base.sessions (replies_of self.now.base self.now.batch self.now.progress.running)) }
+        ensures replies { IfOk result (λ made. made.1.items ≡ replies_of self.now.base self.now.batch self.now.progress.running) }
+    {
+        let mut sessions = self.base.state.sessions().clone()?;
+        let requests = self.batch.requests.as_slice();
+        let replies = answer_all(alloc, requests, &self.running, &mut sessions)?;
+        Ok((sessions, replies))
+    }
+
+    /// What the work made, with its sessions, their digest, and its replies. This takes no memory.
+    fn end(self, sessions: Sessions, digested: Digested, replies: Vec<Answered>) -> Tentative
+        requires done { IsTrue (group_done self.progress) }
+        requires last { IsLast self.progress.running (Some self.progress.group) }
+        requires sessions { sessions ≡ kept_after self.base.sessions (replies_of self.base self.batch self.progress.running) }
+        requires replies { replies.items ≡ replies_of self.base self.batch self.progress.running }
+        requires digested { IsDigested (sessions_text sessions) digested }
+        ensures tentative { result ≡ tentative_of self }
+        ensures made { ComesOfWork self.base self.batch self.ordered result }
+        ensures round { Round self.base self.batch self.ordered result.after result.replies }
+    {
+        let Work {
+            base,
+            batch,
+            ordered: _,
+            pages,
+            running: _,
+            group: _,
+        } = self;
+        let differing = may_differ(&base, &batch);
+        let after = base
+            .state
+            .followed_by(&batch, sessions, digested, pages.seal());
+        Tentative {
+            before: base,
+            batch,
+            after: Base { state: after },
+            replies,
+            may_differ: differing,
+        }
+    }
+
+    /// What the work made. The thread that calls makes all digests.
     fn complete(self, alloc: Global) -> Result<Tentative, AllocError>
         requires done { IsTrue (group_done self.progress) }
         requires last { IsLast self.progress.running (Some self.progress.group) }
@@ -241,28 +299,9 @@ impl Work {
         ensures made { IfOk result (λ tentative. ComesOfWork self.base self.batch self.ordered tentative) }
         ensures round { IfOk result (λ tentative. Round self.base self.batch self.ordered tentative.after tentative.replies) }
     {
-        let Work {
-            base,
-            batch,
-            ordered: _,
-            pages,
-            running,
-            group: _,
-        } = self;
-        let mut sessions = base.state.sessions().clone()?;
-        let replies = answer_all(alloc, batch.requests.as_slice(), &running, &mut sessions)?;
+        let (sessions, replies) = self.answers(alloc)?;
         let digested = Digested::of_sessions(alloc, &sessions);
-        let differing = may_differ(&base, &batch);
-        let after = base
-            .state
-            .followed_by(&batch, sessions, digested, pages.seal());
-        Ok(Tentative {
-            before: base,
-            batch,
-            after: Base { state: after },
-            replies,
-            may_differ: differing,
-        })
+        Ok(self.end(sessions, digested, replies))
     }
 
     /// Makes the next step of the request at the place, if it is in the group that runs and has one
@@ -316,9 +355,9 @@ impl Work {
             group,
         } = self;
         let first = place_of(&base, &batch, 0);
-        let tasks = take_tasks(alloc, running.as_mut_slice(), group)?;
+        let tasks = take_tasks(alloc, &mut running, group)?;
         let (pages, ran) = run_group(rt, alloc, pages, tasks, first, workers, gate)?;
-        put_back(running.as_mut_slice(), group, ran);
+        put_back(&mut running, group, ran);
         Ok(Work {
             base,
             batch,
@@ -329,14 +368,18 @@ impl Work {
         })
     }
 
-    /// The same work. Where no group comes after this one the workers make the digests of the pages
-    /// that were written; else one thread would make them at the end.
-    fn refreshed<R: Threads + Sync>(self, rt: &R, workers: Workers) -> Work
-        ensures { result ≡ self }
+    /// The same work, and the digest of the sessions: at most so many threads make it, and those of
+    /// the pages that were written.
+    fn digested<R: Threads + Sync>(
+        self,
+        rt: &R,
+        alloc: Global,
+        sessions: &Sessions,
+        workers: Workers,
+    ) -> (Work, Digested)
+        ensures same { result.0 ≡ self }
+        ensures digested { IsDigested (sessions_text sessions.now) result.1 }
     {
-        if next_group(&self.running, Some(self.group)).is_some() {
-            return self;
-        }
         let Work {
             base,
             batch,
@@ -345,14 +388,33 @@ impl Work {
             running,
             group,
         } = self;
-        Work {
+        let (pages, digested) = digest(rt, alloc, pages, sessions, workers);
+        let work = Work {
             base,
             batch,
             ordered,
-            pages: refresh(rt, pages, workers),
+            pages,
             running,
             group,
-        }
+        };
+        (work, digested)
+    }
+
+    /// What the work made. At most so many threads make the digests.
+    fn complete_on_threads<R: Threads + Sync>(
+        self,
+        rt: &R,
+        alloc: Global,
+        workers: Workers,
+    ) -> Result<Tentative, AllocError>
+        requires done { IsTrue (group_done self.progress) }
+        requires last { IsLast self.progress.running (Some self.progress.group) }
+        ensures made { IfOk result (λ tentative. ComesOfWork self.base self.batch self.ordered tentative) }
+        ensures round { IfOk result (λ tentative. Round self.base self.batch self.ordered tentative.after tentative.replies) }
+    {
+        let (sessions, replies) = self.answers(alloc)?;
+        let (work, digested) = self.digested(rt, alloc, &sessions, workers);
+        Ok(work.end(sessions, digested, replies))
     }
 
     /// Makes all steps that are left on at most so many threads at once, group by group, and ends: see
@@ -372,9 +434,9 @@ impl Work {
         let mut work = self;
         loop {
             let ran = work.run_round(rt, alloc, workers, gate)?;
-            match ran.refreshed(rt, workers).finish(alloc)? {
-                Ended::On(more) => work = more,
-                Ended::Done(tentative) => return Ok(tentative),
+            match ran.group_after() {
+                Some(group) => work = ran.moved_to(group),
+                None => return ran.complete_on_threads(rt, alloc, workers),
             }
         }
     }

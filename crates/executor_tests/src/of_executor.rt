@@ -8,6 +8,7 @@ use std::test::Fail;
 use token::Token;
 use wire::read;
 
+mod chain;
 mod records;
 mod rows;
 mod threads;
@@ -273,16 +274,16 @@ fn finished_backwards(alloc: Global, work: Work) -> Result<Token, Fault> {
     }
 }
 
-/// Whether the full batch comes to one token by its groups and with the last request first.
-fn is_one_token(alloc: Global, bytes: &[u8]) -> Result<bool, Fault> {
-    let base = Base::first(alloc)?;
-    let backwards = token_backwards(alloc, &base, bytes);
-    Ok(backwards.is_ok() && token_of(alloc, &base, bytes) == backwards)
+/// Whether a batch comes to one token by its groups and with the last request first.
+fn is_one_token(alloc: Global, base: &Base, bytes: &[u8]) -> bool {
+    let backwards = token_backwards(alloc, base, bytes);
+    backwards.is_ok() && token_of(alloc, base, bytes) == backwards
 }
 
 fn full_batch_has_one_token(alloc: Global) -> Result<bool, Fault> {
     let bytes = full_batch(alloc)?;
-    is_one_token(alloc, bytes.as_slice())
+    let base = Base::first(alloc)?;
+    Ok(is_one_token(alloc, &base, bytes.as_slice()))
 }
 
 #[test]
@@ -310,6 +311,41 @@ fn found_after(alloc: Global, first: &[u8], then: &[u8]) -> Result<[u8; 4], Faul
 fn an_item_is_found_until_it_is_due(rt: HostRuntime) -> Result<(), Fail> {
     assert!(rt; found_after(rt.alloc(), DUE_LATER, GET_BEFORE_IT_IS_DUE) == Ok(*b"1..."));
     assert!(rt; found_after(rt.alloc(), DUE_LATER, GET_ONCE_IT_IS_DUE) == Ok(*b"0..."));
+    Ok(())
+}
+
+/// What batch 3 finds after the batches 1 and 2.
+fn found_after_two(
+    alloc: Global,
+    first: &[u8],
+    second: &[u8],
+    then: &[u8],
+) -> Result<[u8; 4], Fault> {
+    let base = base_after(alloc, first)?;
+    let committed = committed(alloc, &base, second, false)?;
+    shown_over(alloc, committed.as_base(), then, false)
+}
+
+#[test]
+fn a_gat_gives_an_item_another_due_time(rt: HostRuntime) -> Result<(), Fail> {
+    let before = found_after_two(rt.alloc(), ONE_SET, GAT_OF_A, GET_AT_1009);
+    assert!(rt; before == Ok(*b"1..."));
+    let once_due = found_after_two(rt.alloc(), ONE_SET, GAT_OF_A, GET_AT_1010);
+    assert!(rt; once_due == Ok(*b"0..."));
+    Ok(())
+}
+
+/// What a `gat` of a key that the mixer overlooks and a `get` of it find, and whether both orders come
+/// to one token, with these replies in the sessions.
+fn found_beside_a_gat(alloc: Global) -> Result<([u8; 4], bool), Fault> {
+    let base = base_after(alloc, SET_OF_C)?;
+    let found = shown_over(alloc, &base, GAT_AND_GET_OF_C, false)?;
+    Ok((found, is_one_token(alloc, &base, GAT_AND_GET_OF_C)))
+}
+
+#[test]
+fn a_get_beside_a_gat_sees_the_item_in_both_orders(rt: HostRuntime) -> Result<(), Fail> {
+    assert!(rt; found_beside_a_gat(rt.alloc()) == Ok((*b"11..", true)));
     Ok(())
 }
 

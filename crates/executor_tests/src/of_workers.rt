@@ -1,16 +1,20 @@
+ghost use Rattle.std.specs.Prelude.{◌≤◌};
+
 use crate::gates::Order;
 use crate::tasks::{add_get, add_incr, add_set, set};
 use item_steps::{Answer, Stamp, Task, apply};
 use items::{Item, PlainStore};
 use pages::{Page, Pages};
-use proto::{Fault, Reply};
+use proto::{Command, Fault, Key, Reply, Update};
 use round::{NoGate, Ran};
+use sessions::{Request, Sessions};
 use std::alloc::{AllocError, Global};
 use std::mem;
 use std::sync::{Mutex, Wait};
 use std::test::*;
 use std::thread::Threads;
-use workers::{Workers, refresh_all, run};
+use token::sessions_digest;
+use workers::{Workers, digest_all, run};
 
 fn is_same_item(a: &Item, b: &Item) -> bool {
     a.block.as_slice() == b.block.as_slice() && a.unique == b.unique && a.due == b.due
@@ -322,36 +326,80 @@ fn written_pages(alloc: Global) -> Result<Vec<Page>, AllocError> {
     Ok(pages.part())
 }
 
-/// Whether that many workers make the digests that one thread makes of these pages.
+/// Keeps a reply to the first request of the client.
+fn keep_first(alloc: Global, sessions: &mut Sessions, client: u16) -> Result<(), AllocError>
+    requires { 1 ≤ client }
+{
+    let key = Key::new(vec![in alloc; b'k']?);
+    let request = Request {
+        client,
+        number: 1,
+        command: Command::Update(Update::Delete { key }),
+    };
+    sessions.keep(&request, Reply::Deleted)
+}
+
+/// Sessions of the clients below this one.
+fn sessions_below(alloc: Global, end: u16) -> Result<Sessions, AllocError> {
+    let mut sessions = Sessions::new(alloc)?;
+    for client in 1..end {
+        keep_first(alloc, &mut sessions, client)?;
+    }
+    Ok(sessions)
+}
+
+/// Whether that many workers make the digests that one thread makes of these pages and sessions.
 fn make_the_same<R: Threads + Sync>(
     rt: &R,
+    alloc: Global,
     pages: &mut [Page],
     alone: &mut [Page],
+    sessions: &Sessions,
     workers: Workers,
 ) -> bool {
     let written = pages.len() == 64 && pages.iter().all(|page| page.digest().is_none());
     for page in alone.iter_mut() {
         page.refresh();
     }
-    refresh_all(rt, pages, workers);
-    written && pages.iter().zip(&*alone).all(|(a, b)| is_same_digest(a, b))
+    let digested = digest_all(rt, alloc, pages, sessions, workers);
+    let same = pages.iter().zip(&*alone).all(|(a, b)| is_same_digest(a, b));
+    written && same && *digested.digest() == sessions_digest(sessions)
 }
 
 fn workers_make_the_same<R: Threads + Sync>(
     rt: &R,
     alloc: Global,
+    end: u16,
     workers: Workers,
 ) -> Result<bool, AllocError> {
     let mut pages = written_pages(alloc)?;
     let mut alone = pages.clone()?;
-    Ok(make_the_same(rt, pages.as_mut_slice(), alone.as_mut_slice(), workers))
+    let sessions = sessions_below(alloc, end)?;
+    Ok(make_the_same(
+        rt,
+        alloc,
+        pages.as_mut_slice(),
+        alone.as_mut_slice(),
+        &sessions,
+        workers,
+    ))
 }
 
 #[test]
 fn workers_make_the_digests_of_one_thread(rt: HostRuntime) -> Result<(), Fail> {
     for count in [1usize, 3, 16] {
         let workers = Workers::new(count).unwrap();
-        assert!(rt; workers_make_the_same(&rt, rt.alloc(), workers)?);
+        assert!(rt; workers_make_the_same(&rt, rt.alloc(), 3, workers)?);
+    }
+    Ok(())
+}
+
+/// From 1,024 clients on the digest of the sessions is made by a thread of its own.
+#[test]
+fn a_worker_makes_the_digest_of_many_sessions(rt: HostRuntime) -> Result<(), Fail> {
+    for count in [1usize, 2, 16] {
+        let workers = Workers::new(count).unwrap();
+        assert!(rt; workers_make_the_same(&rt, rt.alloc(), 1025, workers)?);
     }
     Ok(())
 }

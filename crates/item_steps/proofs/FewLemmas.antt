@@ -1,13 +1,16 @@
 -- A get reads each of its keys once, and finds no more than it asks for.
-use Rattle.std.proofs.Common.{◌≡◌, ℕ, ◌≤◌, Bool, List, [], ◌∷◌, length, Some, None, arith}
+use Rattle.std.proofs.Common.{◌≡◌, ℕ, ℤ, ◌≤◌, Bool, List, [], ◌∷◌, length, Some, None, arith}
 use Rattle.std.proofs.lemmas.List.{length-append, length-map}
-use Rattle.item_steps.specs.declared.step.Step.TheVariants.{Read}
+use Rattle.item_steps.specs.declared.step.Step.TheVariants.{Read, ReadAndTouch}
 use Rattle.item_steps.specs.declared.step.Answer.{Answer}
 use Rattle.item_steps.specs.declared.step.Answer.TheVariants.{Seen, Did}
-use Rattle.item_steps.specs.Steps.{value, values, reads}
+use Rattle.item_steps.specs.Steps.{value, values, reads, touching_reads}
 
 pub as_many_reads : (keys : List (List ℕ)) → length (reads keys) ≡ length keys
 as_many_reads keys = length-map keys (λ key. Read key)
+
+pub as_many_touching_reads : (exptime : ℤ) (keys : List (List ℕ)) → length (touching_reads exptime keys) ≡ length keys
+as_many_touching_reads exptime keys = length-map keys (λ key. ReadAndTouch key exptime)
 
 one_at_most : (with_unique : Bool) (key : List ℕ) (answer : Answer) → length (value with_unique key answer) ≤ 1
 one_at_most with_unique key (Seen (Some item)) = omega arith

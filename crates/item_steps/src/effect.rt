@@ -1,12 +1,12 @@
 ghost use Rattle.std.specs.Prelude.{◌≡◌, ℕ, IfOk, IfErr, OnOk, OnErr, ◌++◌, Some};
 ghost use Rattle.std.specs.Option.{option_copied};
-ghost use Rattle.item_steps.specs.Effect.{effect, updated, stored, with_data, swapped, touched, recounted, counted, number_of, kept, new_item, changed_item};
+ghost use Rattle.item_steps.specs.Effect.{effect, changed, updated, stored, with_data, swapped, touched, recounted, counted, number_of, kept, new_item, changed_item};
 ghost use Rattle.item_steps.specs.declared.step.Stamp.{Stamp};
 
 use crate::number::{decimal_block, number_in};
 use crate::step::{Answer, Stamp, Step};
 use items::{Item, Store, due_at};
-use proto::{Block, MOST_BLOCK_BYTES, Reply, StoreVerb, Update};
+use proto::{Block, Key, MOST_BLOCK_BYTES, Reply, StoreVerb, Update};
 use std::alloc::{AllocError, Global};
 
 /// What an update does to the item of its key.
@@ -30,15 +30,30 @@ pub fn apply<S: Store>(
 {
     match step {
         Step::Read(key) => Ok(Answer::Seen(copy_found(store.get(key))?)),
+        Step::ReadAndTouch { key, exptime } => {
+            let found = store.get(key);
+            let seen = copy_found(found)?;
+            let (change, _) = touch_item(*exptime, place, found)?;
+            make(store, key, change)?;
+            Ok(Answer::Seen(seen))
+        }
         Step::Update(update) => {
             let (change, reply) = update_item(alloc, update, place, store.get(update.key()))?;
-            match change {
-                Change::Leave => {}
-                Change::Put(item) => store.put(update.key().clone()?, item)?,
-                Change::Remove => store.remove(update.key())?,
-            }
+            make(store, update.key(), change)?;
             Ok(Answer::Did(reply))
         }
+    }
+}
+
+/// Makes a change to the item of the key.
+fn make<S: Store>(store: &mut S, key: &Key, change: Change) -> Result<(), AllocError>
+    ensures ok { OnOk result (S.contents store.new ≡ changed (S.contents store.old) key.now change) }
+    ensures err { OnErr result (S.contents store.new ≡ S.contents store.old) }
+{
+    match change {
+        Change::Leave => Ok(()),
+        Change::Put(item) => store.put(key.clone()?, item),
+        Change::Remove => store.remove(key),
     }
 }
 

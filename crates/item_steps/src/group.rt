@@ -22,12 +22,14 @@ impl Model for Steps {
 }
 
 impl Steps {
+    /// These steps, in their order.
     pub fn new(steps: Vec<Step>) -> Steps
         ensures { result ≡ steps.items }
     {
         Steps { steps }
     }
 
+    /// The steps, in their order.
     pub fn as_slice(&self) -> &[Step]
         ensures { result.now ≡ self.now }
     {
@@ -58,12 +60,14 @@ impl Model for Group {
 }
 
 impl Group {
+    /// These requests, in batch order.
     pub fn new(tasks: Vec<Task>) -> Group
         ensures { result ≡ tasks.items }
     {
         Group { tasks }
     }
 
+    /// The requests, in batch order.
     pub fn as_slice(&self) -> &[Task]
         ensures { result.now ≡ self.now }
     {

@@ -1,15 +1,18 @@
 ghost use Rattle.std.specs.Prelude.{◌≡◌, ◌≤◌, ◌++◌, IfOk, OnOk, length};
 ghost use Rattle.proto.specs.declared.key.TheConstants.{MOST_KEYS};
-ghost use Rattle.item_steps.specs.Steps.{steps, reads, reply, value, values, found};
+ghost use Rattle.proto.specs.declared.reply.Reply.TheVariants.{Values};
+ghost use Rattle.item_steps.specs.Steps.{steps, reads, touching_reads, reply, value, values, found};
 
 use items::Item;
-use proto::{Command, Found, Key, Reply, Update, Values};
+use proto::{Command, Found, Key, Keys, Reply, Update, Values};
 use std::alloc::{AllocError, Global};
 
-/// One read or one update of one key.
+/// One read, or one update, or both, of one key.
 #[derive(Drop)]
 pub enum Step {
     Read(Key),
+    /// Shows the item as it was, and gives it another exptime.
+    ReadAndTouch { key: Key, exptime: i32 },
     Update(Update),
 }
 
@@ -28,7 +31,7 @@ pub struct Stamp {
 }
 
 /// The steps of a command, in order: `MOST_KEYS` at most.
-#[tactic(auto, using(crate::proofs::FewLemmas::as_many_reads))]
+#[tactic(auto, using(crate::proofs::FewLemmas::as_many_reads, crate::proofs::FewLemmas::as_many_touching_reads))]
 pub fn steps_of(alloc: Global, command: &Command) -> Result<Vec<Step>, AllocError>
     ensures steps { IfOk result (λ list. list.items ≡ steps command.now) }
     ensures few { IfOk result (λ list. length list.items ≤ MOST_KEYS) }
@@ -36,6 +39,8 @@ pub fn steps_of(alloc: Global, command: &Command) -> Result<Vec<Step>, AllocErro
     match command {
         Command::Get(keys) => reads_of(alloc, keys.as_slice()),
         Command::Gets(keys) => reads_of(alloc, keys.as_slice()),
+        Command::Gat(exptime, keys) => touching_reads_of(alloc, *exptime, keys.as_slice()),
+        Command::Gats(exptime, keys) => touching_reads_of(alloc, *exptime, keys.as_slice()),
         Command::Update(update) => {
             let mut list = Vec::new(alloc);
             list.push(Step::Update(update.clone()?))?;
@@ -54,19 +59,47 @@ fn reads_of(alloc: Global, keys: &[Key]) -> Result<Vec<Step>, AllocError>
     Ok(list)
 }
 
+fn touching_reads_of(alloc: Global, exptime: i32, keys: &[Key]) -> Result<Vec<Step>, AllocError>
+    ensures { IfOk result (λ list. list.items ≡ touching_reads exptime keys.now) }
+{
+    let mut list = Vec::new(alloc);
+    for key in keys {
+        list.push(Step::ReadAndTouch {
+            key: key.clone()?,
+            exptime,
+        })?;
+    }
+    Ok(list)
+}
+
 /// The reply to a command whose steps gave these answers.
 pub fn reply_of(alloc: Global, command: &Command, answers: &[Answer]) -> Result<Reply, AllocError>
     requires { length answers.now ≡ length (steps command.now) }
     ensures { IfOk result (λ r. r ≡ reply command.now answers.now) }
 {
     match command {
-        Command::Get(keys) => Ok(Reply::Values(values_of(alloc, false, keys.as_slice(), answers)?)),
-        Command::Gets(keys) => Ok(Reply::Values(values_of(alloc, true, keys.as_slice(), answers)?)),
+        Command::Get(keys) => values_reply(alloc, false, keys, answers),
+        Command::Gets(keys) => values_reply(alloc, true, keys, answers),
+        Command::Gat(_, keys) => values_reply(alloc, false, keys, answers),
+        Command::Gats(_, keys) => values_reply(alloc, true, keys, answers),
         Command::Update(_) => match &answers[0] {
             Answer::Did(reply) => reply.clone(),
             Answer::Seen(_) => Ok(Reply::NotFound),
         },
     }
+}
+
+fn values_reply(
+    alloc: Global,
+    with_unique: bool,
+    keys: &Keys,
+    answers: &[Answer],
+) -> Result<Reply, AllocError>
+    requires { length answers.now ≡ length keys.now }
+    ensures { IfOk result (λ r. r ≡ Values (values with_unique keys.now answers.now)) }
+{
+    let values = values_of(alloc, with_unique, keys.as_slice(), answers)?;
+    Ok(Reply::Values(values))
 }
 
 fn values_of(
@@ -117,6 +150,10 @@ impl Clone for Step {
     fn clone(&self) -> Result<Step, AllocError> {
         Ok(match self {
             Step::Read(key) => Step::Read(key.clone()?),
+            Step::ReadAndTouch { key, exptime } => Step::ReadAndTouch {
+                key: key.clone()?,
+                exptime: *exptime,
+            },
             Step::Update(update) => Step::Update(update.clone()?),
         })
     }

@@ -2,7 +2,7 @@
 use Rattle.std.specs.Prelude.{ℕ, ◌+◌, List, [], ◌∷◌, ◌++◌, map, filter, take, fold, max, Bool, true, false, not, ◌&&◌, ◌==◌, if◌then◌else◌, bytes_eq}
 use Rattle.std.specs.List.{list_any, range_with_len, flat_map, zip}
 use Rattle.proto.specs.declared.command.Command.{Command}
-use Rattle.proto.specs.declared.command.Command.TheVariants.{Get, Gets, Update}
+use Rattle.proto.specs.declared.command.Command.TheVariants.{Get, Gets, Gat, Gats, Update}
 use Rattle.proto.specs.Update.{key_of_update}
 use Rattle.sessions.specs.declared.request.Request.{Request}
 use Rattle.item_steps.specs.declared.group.Task.{Task}
@@ -11,12 +11,16 @@ use Rattle.item_steps.specs.Steps.{steps}
 abbrev pub is_read : Command → Bool
 is_read (Get keys) = true
 is_read (Gets keys) = true
+is_read (Gat exptime keys) = false
+is_read (Gats exptime keys) = false
 is_read (Update update) = false
 
 -- the keys that the mixer looks at: the first two
 abbrev pub keys_seen : Command → List (List ℕ)
 keys_seen (Get keys) = take 2 keys
 keys_seen (Gets keys) = take 2 keys
+keys_seen (Gat exptime keys) = take 2 keys
+keys_seen (Gats exptime keys) = take 2 keys
 keys_seen (Update update) = key_of_update update ∷ []
 
 abbrev pub shares_key : List (List ℕ) → List (List ℕ) → Bool

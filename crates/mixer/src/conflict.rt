@@ -19,6 +19,8 @@ fn is_read(command: &Command) -> bool
     match command {
         Command::Get(_) => true,
         Command::Gets(_) => true,
+        Command::Gat(_, _) => false,
+        Command::Gats(_, _) => false,
         Command::Update(_) => false,
     }
 }
@@ -30,6 +32,8 @@ fn keys_seen(command: &Command) -> &[Key]
     match command {
         Command::Get(keys) => first_two(keys.as_slice()),
         Command::Gets(keys) => first_two(keys.as_slice()),
+        Command::Gat(_, keys) => first_two(keys.as_slice()),
+        Command::Gats(_, keys) => first_two(keys.as_slice()),
         Command::Update(update) => slice::from_ref(update.key()),
     }
 }

@@ -10,8 +10,8 @@ use Rattle.wire.specs.BatchLaws.{batch_prefix_free}
 use Rattle.wire.specs.Batch.{batch_text}
 use Rattle.wire.specs.TokenLaws.{token_text_free}
 use Rattle.pages.specs.Page.{page_digest, of_each}
-use Rattle.states.specs.State.{StateView, initial_state, token_of, with_token}
-use Rattle.one_run.specs.Texts.{page_texts, inner_texts, told_by, texts_of, Distinct, IsTextOf}
+use Rattle.states.specs.State.{StateView, initial_state, told_by, token_of, with_token}
+use Rattle.one_run.specs.Texts.{page_texts, inner_texts, texts_of, Distinct, IsTextOf}
 use Rattle.one_run.specs.Met.{AreAmong, IsKnown, ToldApart}
 use Rattle.one_run.specs.Laws.{NumberAndTokenTell, TokenTells, StateTellsBatch}
 use Rattle.one_run.proofs.Elements.{among_left, among_right, among_head, among_tail}

@@ -1,13 +1,12 @@
 -- The texts from whose digests the token of a state is made.
 use Rattle.std.specs.Prelude.{◌≡◌, ℕ, zero, suc, List, [], ◌∷◌, ◌++◌, Contains}
 use Rattle.items.specs.Map.{Items}
-use Rattle.wire.specs.declared.token.TokenText.{TokenText}
 use Rattle.wire.specs.Item.{page_text}
 use Rattle.wire.specs.Session.{sessions_text}
 use Rattle.wire.specs.Token.{inner_text, token_text}
-use Rattle.token.specs.Digest.{digest, level, root_of}
+use Rattle.token.specs.Digest.{digest, level}
 use Rattle.pages.specs.Page.{page_entries, page_digest, of_each}
-use Rattle.states.specs.State.{StateView}
+use Rattle.states.specs.State.{StateView, told_by}
 
 -- of each page
 abbrev pub page_texts : Items → List (List ℕ)
@@ -22,18 +21,6 @@ pair_texts others = []
 abbrev pub inner_texts : ℕ → List (List ℕ) → List (List ℕ)
 inner_texts zero digests = []
 inner_texts (suc n) digests = pair_texts digests ++ inner_texts n (level digests)
-
--- what the token of a state is the digest of
-abbrev pub told_by : StateView → TokenText
-told_by s = record {
-  previous = s.previous.0;
-  n = s.number;
-  epoch = s.epoch;
-  moment = s.moment;
-  batch = s.batch;
-  root = root_of (of_each (page_digest s.items));
-  sessions = digest (sessions_text s.sessions);
-}
 
 -- of its 64 pages, of the 63 inner nodes over them, of its sessions, and that of its token
 abbrev pub texts_of : StateView → List (List ℕ)

@@ -5,10 +5,10 @@ use Rattle.std.proofs.lemmas.List.{set-get_or}
 use Rattle.std.proofs.lemmas.Option.{get_or_from_slice_get}
 use Rattle.proto.specs.Update.{key_of_update}
 use Rattle.items.specs.Map.{Items}
-use Rattle.item_steps.specs.Effect.{effect, changed, updated}
+use Rattle.item_steps.specs.Effect.{effect, changed, touched, updated}
 use Rattle.item_steps.specs.declared.step.Stamp.{Stamp}
 use Rattle.item_steps.specs.declared.step.Step.{Step}
-use Rattle.item_steps.specs.declared.step.Step.TheVariants.{Read, Update}
+use Rattle.item_steps.specs.declared.step.Step.TheVariants.{Read, ReadAndTouch, Update}
 use Rattle.item_steps.specs.declared.step.Answer.TheVariants.{Seen, Did}
 use Rattle.item_steps.specs.declared.effect.Change.{Change}
 use Rattle.item_steps.specs.declared.effect.Change.TheVariants.{Leave, Put, Remove}
@@ -31,11 +31,15 @@ change-at pages a key Remove = joined-remove pages a key
 
 answer-at : (pages : List Items) (s : Step) (place : Stamp) → ArePages pages → (effect (joined pages) s place).1 ≡ (effect (page_at pages (step_key s)) s place).1
 answer-at pages (Read key) place a = ap Seen (joined_at pages key a)
+answer-at pages (ReadAndTouch key exptime) place a = ap Seen (joined_at pages key a)
 answer-at pages (Update u) place a = ap (λ found. Did (updated u place found).1) (joined_at pages (key_of_update u) a)
 
 items-at : (pages : List Items) (s : Step) (place : Stamp) → ArePages pages
     → ArePages (set pages (step_page s) (effect (page_at pages (step_key s)) s place).0) × (joined (set pages (step_page s) (effect (page_at pages (step_key s)) s place).0) ≡ (effect (joined pages) s place).0)
 items-at pages (Read key) place a = change-at pages a key Leave
+items-at pages (ReadAndTouch key exptime) place a =
+    let done = change-at pages a key (touched exptime place (get (page_at pages key) key)).0 in
+    (done.0, done.1 ∙ ap (λ found. changed (joined pages) key (touched exptime place found).0) (sym (joined_at pages key a)))
 items-at pages (Update u) place a =
     let key = key_of_update u in
     let done = change-at pages a key (updated u place (get (page_at pages key) key)).0 in

@@ -3,7 +3,7 @@ pub mod JoinedLemmas
 pub mod PartLemmas
 pub mod StateLemmas
 pub mod PageLemmas
-pub mod DueLemmas
+pub mod CountLemmas
 pub mod OwnLemmas
 pub mod EffectLemmas
 pub mod OtherLemmas

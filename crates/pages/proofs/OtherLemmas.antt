@@ -1,24 +1,22 @@
 -- What steps and the drop of what is due leave as it is.
-use Rattle.std.proofs.Common.{◌≡◌, ◌≢◌, ℕ, zero, suc, ◌+◌, ◌<◌, Bool, true, false, cond, List, [], ◌∷◌, length, get_or, set, Some, None, true≢false, refl, sym, ap, ◌∙◌, arith, subst, slice_get}
+use Rattle.std.proofs.Common.{◌≡◌, ◌≢◌, ℕ, ℤ, zero, suc, ◌+◌, ◌<◌, Bool, true, false, cond, List, [], ◌∷◌, ◌++◌, length, take, get_or, set, Some, None, true≢false, refl, sym, ap, ◌∙◌, arith, subst, slice_get}
 use Rattle.std.specs.Prelude.{◌==◌, All}
 use Rattle.std.specs.Cmp.Lexicographic.{nat_list_cmp_total}
 use Rattle.std.specs.FinMap.{entries, insert, remove, get, get-insert, get-remove}
 use Rattle.std.proofs.lemmas.Bool.Decides.{nat_tests}
-use Rattle.std.proofs.lemmas.List.{get_or-set_same, get_or-set_other, length-set}
+use Rattle.std.proofs.lemmas.List.{get_or-set_same, get_or-set_other, length-set, take_more}
+use Rattle.std.proofs.lemmas.List.Elements.{All-push}
 use Rattle.std.proofs.lemmas.Map.Entries.{option_filter}
 use Rattle.std.proofs.lemmas.Option.{get_or_from_slice_get, slice_get_within}
 use Rattle.proto.specs.Update.{key_of_update}
-use Rattle.proto.specs.declared.command.Command.{Command}
-use Rattle.proto.specs.declared.command.Command.TheVariants as command
-use Rattle.proto.specs.declared.command.Update.{Update as UpdateOf}
 use Rattle.items.specs.Map.{Items, alive, is_alive}
 use Rattle.items.proofs.AliveLemmas.{get-alive}
-use Rattle.item_steps.specs.Effect.{effect, changed, updated}
-use Rattle.item_steps.specs.Steps.{steps, reads}
+use Rattle.item_steps.specs.Effect.{effect, changed, touched, updated}
+use Rattle.item_steps.specs.Steps.{reads, touching_reads}
 use Rattle.item_steps.specs.Schedule.{Placed, IsInterleaving, items_after, stamped}
 use Rattle.item_steps.specs.declared.step.Stamp.{Stamp}
 use Rattle.item_steps.specs.declared.step.Step.{Step}
-use Rattle.item_steps.specs.declared.step.Step.TheVariants.{Read, Update}
+use Rattle.item_steps.specs.declared.step.Step.TheVariants.{Read, ReadAndTouch, Update}
 use Rattle.item_steps.specs.declared.effect.Change.{Change}
 use Rattle.item_steps.specs.declared.effect.Change.TheVariants.{Leave, Put, Remove}
 use Rattle.pages.specs.Page.{page_number, page_entries, page_items}
@@ -51,20 +49,41 @@ not_there pages k p there out same = true≢false (sym there ∙ ap (has_page pa
 
 pub step-elsewhere : (pages : List Bool) (m : Items) (s : Step) (place : Stamp) → Covers pages s → AreSameBeside pages m (effect m s place).0
 step-elsewhere pages m (Read key) place covers p l out = refl
+step-elsewhere pages m (ReadAndTouch key exptime) place covers p l out =
+    changed-elsewhere m p key (touched exptime place (get m key)).0 (not_there pages (page_number key) p covers out)
 step-elsewhere pages m (Update u) place covers p l out =
     changed-elsewhere m p (key_of_update u) (updated u place (get m (key_of_update u))).0 (not_there pages (page_number (key_of_update u)) p covers out)
 
 -- reads change no page
-reads-covered : (pages : List Bool) (keys : List (List ℕ)) → All (Covers pages) (reads keys)
+pub reads-covered : (pages : List Bool) (keys : List (List ℕ)) → All (Covers pages) (reads keys)
 reads-covered pages [] k d lt = absurd (omega arith)
 reads-covered pages (key ∷ keys) zero d lt = tt
 reads-covered pages (key ∷ keys) (suc k) d lt = reads-covered pages keys k d (omega arith)
 
--- a command that updates nothing
-pub gets-covered : (pages : List Bool) (c : Command) → ((u : UpdateOf) → c ≡ command.Update u → ⊥) → All (Covers pages) (steps c)
-gets-covered pages (command.Get keys) none = reads-covered pages keys
-gets-covered pages (command.Gets keys) none = reads-covered pages keys
-gets-covered pages (command.Update u) none = absurd (none u refl)
+-- reads that touch change the pages of their keys
+pub touching-covered : (pages : List Bool) (exptime : ℤ) (keys : List (List ℕ)) → All (λ key. has_page pages (page_number key) ≡ true) keys → All (Covers pages) (touching_reads exptime keys)
+touching-covered pages exptime [] has k d lt = absurd (omega arith)
+touching-covered pages exptime (key ∷ keys) has zero d lt = has 0 key (omega arith)
+touching-covered pages exptime (key ∷ keys) has (suc k) d lt = touching-covered pages exptime keys (λ j f l. has (suc j) f (omega arith)) k d (omega arith)
+
+-- a set to which a page was added
+pub added-within : (old new : List Bool) (n : ℕ) → has_page new n ≡ true → ((p : ℕ) → p ≢ n → has_page new p ≡ has_page old p) → AreWithin old new
+added-within old new n has others p there = by (p == n) refl
+  where
+    by : (b : Bool) → (p == n) ≡ b → has_page new p ≡ true
+    by true e =
+        let same : n ≡ p = grind (arith, nat_tests) in
+        ap (has_page new) (sym same) ∙ has
+    by false e =
+        let other : p ≢ n = grind (arith, nat_tests) in
+        others p other ∙ there
+
+-- the set has the pages of one key more
+pub keys-next : (old new : List Bool) (keys : List (List ℕ)) (i : ℕ) (key : List ℕ) → i < length keys → key ≡ get_or keys i key
+    → All (λ k. has_page old (page_number k) ≡ true) (take i keys) → AreWithin old new → has_page new (page_number key) ≡ true → All (λ k. has_page new (page_number k) ≡ true) (take (i + 1) keys)
+keys-next old new keys i key within is so_far more own =
+    subst (All (λ k. has_page new (page_number k) ≡ true)) (sym (take_more keys i key within ∙ ap (λ x. take i keys ++ x ∷ []) (sym is)))
+    (All-push (λ k. has_page new (page_number k) ≡ true) (take i keys) key (λ k d l. more _ (so_far k d l)) own)
 
 pub order-elsewhere : (pages : List Bool) (base : Stamp) (m : Items) (order : List Placed) → CoversAll pages order → AreSameBeside pages m (items_after base m order)
 order-elsewhere pages base m [] covers p l out = refl

@@ -3,18 +3,15 @@ use Rattle.std.proofs.Common.{◌≡◌, ℕ, suc, ◌+◌, ◌≤◌, ◌⊎◌
 use Rattle.std.specs.Prelude.{filter, IfSome}
 use Rattle.std.specs.Option.{is_some, option_copied}
 use Rattle.std.specs.Borrow.{Bor}
-use Rattle.std.specs.List.{list_all}
 use Rattle.std.specs.Ordering.{eq_by_cmp}
 use Rattle.std.specs.Cmp.Lexicographic.{nat_list_cmp_total}
 use Rattle.std.specs.FinMap.{entries, entries_sorted, from_sorted, insert, remove, get, get-remove, len-entries, len-empty, len-insert, entries-from_sorted, nat_cmp-IsAntisymmetric, slice_cmp-IsAntisymmetric}
 use Rattle.std.specs.FinMap.Entries.{where_key}
-use Rattle.std.proofs.lemmas.Bool.{and_parts, and_from}
 use Rattle.base.proofs.MapLemmas.{as_t, from_t, from_sorted_is, map_remove, sorted_filter, sorted_without}
 use Rattle.items.specs.declared.item.Item.{Item}
 use Rattle.items.specs.Map.{Items, by_bytes, alive, is_alive}
 use Rattle.wire.specs.Item.{page_text, PageFits}
 use Rattle.token.specs.Digested.{DigestedView, IsDigested}
-use Rattle.pages.specs.Due.{NoneDueBefore}
 use Rattle.pages.specs.Page.{IsPage, HasRoom}
 use Rattle.pages.specs.declared.page.TheConstants.{MOST_ENTRIES}
 use Rattle.pages.proofs.KeyLemmas.{same_key, all_keys}
@@ -78,34 +75,11 @@ remove-absent m k none = all_keys _ _ (λ q. get-remove nat_list_cmp_total m k q
     by q true e = sym (ap (get m) (same_key q k e) ∙ none)
     by q false e = refl
 
-filter_all : {X : Type 0} (p : X → Bool) (xs : List X) → list_all p xs ≡ true → filter p xs ≡ xs
-filter_all p [] h = refl
-filter_all p (x ∷ xs) h =
-    let both = and_parts _ _ h in
-    ap (λ b. cond b (x ∷ filter p xs) (filter p xs)) both.0 ∙ ap (λ ys. x ∷ ys) (filter_all p xs both.1)
-
-all_filtered : {X : Type 0} (p : X → Bool) (xs : List X) → list_all p (filter p xs) ≡ true
-all_filtered p [] = refl
-all_filtered p (x ∷ xs) = elim (p x) as (λ b. p x ≡ b → list_all p (cond b (x ∷ filter p xs) (filter p xs)) ≡ true) [
-  | true ↦ λ e. and_from _ _ e (all_filtered p xs)
-  | false ↦ λ e. all_filtered p xs
-] refl
-
--- where all are alive nothing is dropped
-pub alive-all : (m : Items) (moment : ℕ) → list_all (λ e. is_alive moment e.1) (entries m) ≡ true → alive m moment ≡ m
-alive-all m moment all = ap from_sorted (filter_all _ (entries m) all) ∙ same_map_of m
-
--- and where nothing is dropped all are alive
-pub all-alive : (m : Items) (moment : ℕ) → alive m moment ≡ m → list_all (λ e. is_alive moment e.1) (entries m) ≡ true
-all-alive m moment same =
-    ap (list_all (λ e. is_alive moment e.1)) (sym (ap entries same) ∙ entries-alive m moment) ∙ all_filtered _ (entries m)
-
 -- a page whose digest is to be recomputed
-pub page-written : (m n : Items) (kept : Option DigestedView) (soonest : Option ℕ) → m ≡ n → kept ≡ None → PageFits (entries n) → NoneDueBefore soonest n → IsPage m kept soonest
-page-written m n kept soonest same gone fits none = record {
+pub page-written : (m n : Items) (kept : Option DigestedView) → m ≡ n → kept ≡ None → PageFits (entries n) → IsPage m kept
+page-written m n kept same gone fits = record {
   fits = subst (λ (k : Items). PageFits (entries k)) (sym same) fits;
   from_scratch = subst (λ (k : Option DigestedView). IfSome k (IsDigested (page_text (entries m)))) (sym gone) tt;
-  soonest_is = subst (NoneDueBefore soonest) (sym same) none;
 }
 
 -- a value that was handed over, or else copied

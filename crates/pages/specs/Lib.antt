@@ -1,4 +1,3 @@
-pub mod Due
 pub mod Page
 pub mod Joined
 pub mod Tree

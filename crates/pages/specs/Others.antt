@@ -22,6 +22,7 @@ AreWithin less more = (p : ℕ) → has_page less p ≡ true → has_page more p
 -- the set has the page that the step can change: a read changes none
 abbrev pub Covers : List Bool → Step → Type 0
 Covers pages (variant.Read key) = ⊤
+Covers pages (variant.ReadAndTouch key exptime) = has_page pages (page_number key) ≡ true
 Covers pages (variant.Update update) = has_page pages (page_number (key_of_update update)) ≡ true
 
 -- and those of all steps

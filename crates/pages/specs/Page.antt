@@ -1,7 +1,7 @@
 -- The page of a key, the page's part of a map, and what is kept of a page.
 use Rattle.std.specs.Prelude.{◌<◌, ◌⊎◌, ℕ, length, IsTrue, List, Option, Some, IfSome, map, sum, filter, ◌%◌, ◌==◌, refl}
 use Rattle.std.specs.Coded.{Coded, code_by, coded×, coded_option, coded_list, coded_ℕ}
-use Rattle.std.specs.List.{range_with_len}
+use Rattle.std.specs.List.{range_with_len, flat_map}
 use Rattle.std.specs.FinMap.{entries, from_sorted, get}
 use Rattle.std.specs.Option.{is_some, option_map}
 use Rattle.items.specs.declared.item.Item.{Item}
@@ -11,7 +11,6 @@ use Rattle.token.specs.Digest.{digest}
 use Rattle.token.specs.declared.tree.TheConstants.{PAGES}
 use Rattle.token.specs.Digested.{DigestedView, IsDigested}
 use Rattle.pages.specs.declared.page.TheConstants.{MOST_ENTRIES}
-use Rattle.pages.specs.Due.{NoneDueBefore}
 
 abbrev pub page_count : ℕ
 page_count = PAGES
@@ -61,8 +60,11 @@ refreshed page = record { items = page.items; digest = Some (items_digest page.i
 abbrev pub digest_kept : Option DigestedView → Option (List ℕ)
 digest_kept digested = option_map (λ kept. kept.0) digested
 
--- Each page has a text, and where a digest is kept it is that of the items now, and a text beside it is theirs; no item is due before the time that is kept.
-pub record IsPage (items : Items) (digested : Option DigestedView) (soonest : Option ℕ) : Type 0 where
+-- Each page has a text, and where a digest is kept it is that of the items now, and a text beside it is theirs.
+pub record IsPage (items : Items) (digested : Option DigestedView) : Type 0 where
   pub fits : PageFits (entries items)
   pub from_scratch : IfSome digested (IsDigested (page_text (entries items)))
-  pub soonest_is : NoneDueBefore soonest items
+
+-- how many items pages have
+abbrev pub item_count : List Items → ℕ
+item_count pages = length (flat_map entries pages)

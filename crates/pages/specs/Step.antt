@@ -7,6 +7,7 @@ use Rattle.pages.specs.Page.{page_number}
 
 abbrev pub step_key : Step → List ℕ
 step_key (variant.Read key) = key
+step_key (variant.ReadAndTouch key exptime) = key
 step_key (variant.Update update) = key_of_update update
 
 abbrev pub step_page : Step → ℕ

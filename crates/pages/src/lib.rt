@@ -16,7 +16,6 @@
 //! due (`Snapshot::due_pages`) and those of the keys that commands update.
 #![tactic(auto)]
 
-mod due;
 mod laws;
 mod number;
 mod page;

@@ -1,17 +1,16 @@
-ghost use Rattle.std.specs.Prelude.{◌≡◌, ◌+◌, ◌^◌, ◌==◌, ◌↔◌, None, IfOk, IfSome, OnOk, OnErr, IsTrue};
+ghost use Rattle.std.specs.Prelude.{◌≡◌, ◌≢◌, ◌≤◌, ◌+◌, ◌^◌, ◌==◌, ◌↔◌, true, false, length, map as map_list, None, IfOk, IfSome, OnOk, OnErr, IsTrue};
 ghost use Rattle.std.specs.Option.{option_copied};
 ghost use Rattle.std.specs.List.{list_all};
 ghost use Rattle.std.specs.FinMap as map;
-ghost use Rattle.items.specs.Map.{alive, is_alive};
+ghost use Rattle.items.specs.Map.{alive};
 ghost use Rattle.base.specs.Pieces.{piece_bytes};
 ghost use Rattle.wire.specs.Item.{page_text, PageFits};
 ghost use Rattle.wire.specs.Record.{Puts};
 ghost use Rattle.token.specs.Digest.{root_of};
-ghost use Rattle.pages.specs.Page.{page_number, items_digest, refreshed, HasRoom};
+ghost use Rattle.pages.specs.Page.{page_number, items_digest, item_count, refreshed, HasRoom};
 ghost use Rattle.pages.specs.declared.page.TheConstants.{MOST_ENTRIES};
-ghost use Rattle.pages.specs.Joined.{IsOwn};
+ghost use Rattle.pages.specs.Joined.{IsOwn, items_of};
 
-use crate::due::{is_ahead, sooner, soonest_of};
 use crate::number::page_of;
 use crate::tree::Tree;
 use base::{Entry, Piece};
@@ -37,9 +36,6 @@ pub struct Page {
     store: Arc<PlainStore, Global>,
     /// Of the page's text; none where it is to be recomputed.
     digested: Option<Digested>,
-    /// No item is due before this time; where there is none, no item is due at all. A remove leaves
-    /// it as it is, so it may be earlier than the first item is due.
-    soonest: Option<u64>,
     /// The tree over the digests of all pages of a store. Only page 0 keeps it, so that it goes
     /// along where the pages are parted and joined again. It spares time and no more: the tree of
     /// any other pages would do as well. In a box, so that the other pages stay small.
@@ -59,14 +55,7 @@ impl Model for Page {
 
     ghost view = { λ a. record { items = arc_value a.store; digest = digest_kept a.digested } };
 
-    ghost invariant = { λ a. IsPage (arc_value a.store) a.digested a.soonest };
-}
-
-/// Whether no item is due at the moment or before it.
-fn all_alive(entries: &[Entry<Key, Item>], moment: u32) -> bool
-    ensures { result ≡ list_all (λ entry. is_alive moment entry.1) entries.now }
-{
-    entries.iter().all(|entry| entry.value().is_alive(moment))
+    ghost invariant = { λ a. IsPage (arc_value a.store) a.digested };
 }
 
 /// Whether each key stands in the page of this number.
@@ -96,19 +85,17 @@ impl Page {
         requires { PageFits entries }
         ensures { IfOk result (λ page. page ≡ record { items = map.from_sorted entries; digest = None }) }
     {
-        Page::of_store(alloc, PlainStore::from_sorted(entries.into_vec()))
+        Page::of_store(alloc, PlainStore::from_sorted(entries.into_vec())?)
     }
 
     fn of_store(alloc: Global, store: PlainStore) -> Result<Page, AllocError>
         requires { PageFits (map.entries store) }
         ensures { IfOk result (λ page. page ≡ record { items = store; digest = None }) }
     {
-        let soonest = soonest_of(store.as_slice());
         Ok(Page {
             alloc,
             store: Arc::new(alloc, store)?,
             digested: None,
-            soonest,
             tree: None,
         })
     }
@@ -201,24 +188,31 @@ impl Page {
         Ok(())
     }
 
-    /// Whether it is known, without a look at the items, that none is due at the moment or before it.
-    pub(crate) fn has_none_due(&self, moment: u32) -> bool
-        ensures { IsTrue result → alive self.now.items moment ≡ self.now.items }
+    /// Whether an item is due at the moment or before it. It looks at one entry of the page's index at
+    /// most.
+    pub(crate) fn has_due(&self, moment: u32, looks: &mut u64) -> bool
+        ensures none { result ≡ false → alive self.now.items moment ≡ self.now.items }
+        ensures some { result ≡ true → alive self.now.items moment ≢ self.now.items }
+        ensures count { looks.new ≤ looks.old + 1 }
     {
-        is_ahead(moment, self.soonest)
+        self.store.has_due(moment, looks)
     }
 
-    /// Takes out what is due at the moment or before it. Where nothing is the page stays shared.
-    fn take_due(&mut self, moment: u32) -> Result<(), AllocError>
+    /// Drops every item that is due at the moment or before it, as `drop_due`, and answers how many
+    /// entries of the page's index it looked at: one more than it dropped, at most. Where nothing is
+    /// due the page stays shared. The only error is a failed allocation, and then nothing has changed.
+    pub fn drop_due_counted(&mut self, moment: u32) -> Result<u64, AllocError>
         ensures ok { OnOk result (self.new.items ≡ alive self.old.items moment) }
         ensures same { alive self.old.items moment ≡ self.old.items → self.new ≡ self.old }
         ensures err { OnErr result (self.new ≡ self.old) }
+        ensures count { IfOk result (λ looks. looks + length (map.entries self.new.items) ≤ length (map.entries self.old.items) + 1) }
     {
-        if !all_alive(self.entries(), moment) {
-            Arc::make_mut(&mut self.store)?.retain_alive(moment);
+        let mut looks = 0;
+        if self.has_due(moment, &mut looks) {
+            Arc::make_mut(&mut self.store)?.drop_found(moment, &mut looks);
             forget(&mut self.digested);
         }
-        Ok(())
+        Ok(looks)
     }
 
     /// Whether the page may have an item at this key: it has one there, or fewer entries than it has
@@ -231,6 +225,31 @@ impl Page {
     }
 }
 
+/// Drops every item of these pages that is due at the moment or before it. A page is copied only where
+/// it has such an item and is shared. The only error is a failed allocation, and then nothing has
+/// changed: the copies of all pages are made before the first of them is written.
+pub(crate) fn drop_from_all(
+    pages: &mut [Page],
+    moment: u32,
+    looks: &mut u64,
+) -> Result<(), AllocError>
+    ensures ok { OnOk result (items_of pages.new ≡ map_list (λ page. alive page moment) (items_of pages.old)) }
+    ensures err { OnErr result (pages.new ≡ pages.old) }
+    ensures count { OnOk result (looks.new + item_count (items_of pages.new) ≤ looks.old + item_count (items_of pages.old) + length pages.old) }
+{
+    let Some((first, rest)) = pages.split_first_mut() else {
+        return Ok(());
+    };
+    if !first.has_due(moment, looks) {
+        return drop_from_all(rest, moment, looks);
+    }
+    let store = Arc::make_mut(&mut first.store)?;
+    drop_from_all(rest, moment, looks)?;
+    store.drop_found(moment, looks);
+    forget(&mut first.digested);
+    Ok(())
+}
+
 impl Clone for Page {
     ghost is_clone = { λ page copy. copy ≡ page };
 
@@ -240,7 +259,6 @@ impl Clone for Page {
             alloc: self.alloc,
             store: Arc::try_clone(&self.store)?,
             digested: self.digested.clone()?,
-            soonest: self.soonest,
             tree: self.tree.clone()?,
         })
     }
@@ -262,10 +280,8 @@ impl Store for Page {
         if !self.has_room(&key) {
             return Err(AllocError);
         }
-        let due = item.due;
         Arc::make_mut(&mut self.store)?.put(key, item)?;
         forget(&mut self.digested);
-        self.soonest = sooner(self.soonest, due);
         Ok(())
     }
 
@@ -286,11 +302,7 @@ impl Store for Page {
         ensures same { alive self.old.items moment ≡ self.old.items → self.new ≡ self.old }
         ensures err { OnErr result (self.new ≡ self.old) }
     {
-        if self.has_none_due(moment) {
-            return Ok(());
-        }
-        self.take_due(moment)?;
-        self.soonest = soonest_of(self.entries());
+        self.drop_due_counted(moment)?;
         Ok(())
     }
 }

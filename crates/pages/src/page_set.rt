@@ -1,10 +1,10 @@
 ghost use Rattle.std.specs.Prelude.{◌≡◌, ◌≢◌, ◌<◌, ℕ, false, true, All};
 ghost use Rattle.item_steps.specs.Steps.{steps};
-ghost use Rattle.pages.specs.Page.{page_count};
+ghost use Rattle.pages.specs.Page.{page_count, page_number};
 ghost use Rattle.pages.specs.Others.{has_page, AreWithin, Covers};
 
 use crate::number::page_of;
-use proto::Command;
+use proto::{Command, Key};
 use std::marker::Model;
 use token::PAGES;
 
@@ -63,14 +63,28 @@ impl PageSet {
         self.pages[number]
     }
 
-    /// Adds the page that the steps of the command can change: of an update that of its key, of a get
-    /// none.
+    /// Adds the pages that the steps of the command can change: of an update that of its key, of a `gat`
+    /// those of its keys, of a `get` none.
     pub fn add_command(&mut self, command: &Command)
         ensures covers { All (Covers self.new) (steps command.now) }
         ensures within { AreWithin self.old self.new }
     {
-        if let Command::Update(update) = command {
-            self.add(page_of(update.key()));
+        match command {
+            Command::Get(_) => {}
+            Command::Gets(_) => {}
+            Command::Gat(_, keys) => self.add_keys(keys.as_slice()),
+            Command::Gats(_, keys) => self.add_keys(keys.as_slice()),
+            Command::Update(update) => self.add(page_of(update.key())),
+        }
+    }
+
+    /// Adds the page of each key.
+    fn add_keys(&mut self, keys: &[Key])
+        ensures has { All (λ key. has_page self.new (page_number key) ≡ true) keys.now }
+        ensures within { AreWithin self.old self.new }
+    {
+        for key in keys {
+            self.add(page_of(key));
         }
     }
 }

@@ -1,4 +1,4 @@
-ghost use Rattle.std.specs.Prelude.{◌≡◌, ◌<◌, IsTrue, IfOk, map as map_list, replicate};
+ghost use Rattle.std.specs.Prelude.{◌≡◌, ◌≤◌, ◌<◌, ◌+◌, length, IfOk, OnOk, OnErr, map as map_list, replicate};
 ghost use Rattle.std.specs.FinMap as map;
 ghost use Rattle.items.specs.Map.{alive};
 ghost use Rattle.wire.specs.Item.{PageFits};
@@ -6,7 +6,7 @@ ghost use Rattle.pages.specs.Page.{page_entries, page_count, refreshed};
 ghost use Rattle.pages.specs.Joined.{ArePages, joined, parts, items_of};
 
 use crate::number::page_of;
-use crate::page::Page;
+use crate::page::{Page, drop_from_all};
 use crate::snapshot::Snapshot;
 use base::Entry;
 use items::{Item, Store};
@@ -48,31 +48,6 @@ fn empty_pages(alloc: Global) -> Result<Vec<Page>, AllocError>
         pages.push(empty.clone()?)?;
     }
     Ok(pages)
-}
-
-/// The same pages without what is due at the moment or before it. A page of which nothing is due
-/// stays shared.
-fn without_due(pages: &Vec<Page>, moment: u32) -> Result<Vec<Page>, AllocError>
-    ensures { IfOk result (λ after. items_of after.items ≡ map_list (λ page. alive page moment) (items_of pages.now.items)) }
-{
-    let mut after = pages.clone()?;
-    for page in after.iter_mut() {
-        page.drop_due(moment)?;
-    }
-    Ok(after)
-}
-
-/// Whether it is known of each page, without a look at its items, that none is due at the moment or
-/// before it.
-fn have_none_due(pages: &Vec<Page>, moment: u32) -> bool
-    ensures { IsTrue result → map_list (λ page. alive page moment) (items_of pages.now.items) ≡ items_of pages.now.items }
-{
-    for page in pages {
-        if !page.has_none_due(moment) {
-            return false;
-        }
-    }
-    true
 }
 
 /// Makes each digest new that is not kept.
@@ -131,6 +106,20 @@ impl Pages {
     {
         self.pages[number].entries()
     }
+
+    /// Drops every item that is due at the moment or before it, as `drop_due`, and answers how many
+    /// entries of the pages' indexes it looked at: one more for each page than it dropped, at most. A
+    /// page is copied only where something of it is due and it is shared. The only error is a failed
+    /// allocation, and then nothing has changed.
+    pub fn drop_due_counted(&mut self, moment: u32) -> Result<u64, AllocError>
+        ensures ok { OnOk result (self.new ≡ alive self.old moment) }
+        ensures err { OnErr result (self.new ≡ self.old) }
+        ensures count { IfOk result (λ looks. looks + length (map.entries self.new) ≤ length (map.entries self.old) + page_count) }
+    {
+        let mut looks = 0;
+        drop_from_all(&mut self.pages, moment, &mut looks)?;
+        Ok(looks)
+    }
 }
 
 impl Store for Pages {
@@ -153,10 +142,7 @@ impl Store for Pages {
     }
 
     fn drop_due(&mut self, moment: u32) -> Result<(), AllocError> {
-        if have_none_due(&self.pages, moment) {
-            return Ok(());
-        }
-        self.pages = without_due(&self.pages, moment)?;
+        self.drop_due_counted(moment)?;
         Ok(())
     }
 }

@@ -87,15 +87,15 @@ fn grow_tree(pages: &mut Vec<Page>) -> Result<(), AllocError>
     Ok(())
 }
 
-/// The pages of which it is not known, without a look at the items, that nothing is due at the moment
-/// or before it.
+/// The pages in which something is due at the moment or before it.
 fn due_among(pages: &Vec<Page>, moment: u32) -> PageSet
     requires { ArePages (items_of pages.now.items) }
     ensures { AreSameBeside result (joined (items_of pages.now.items)) (alive (joined (items_of pages.now.items)) moment) }
 {
     let mut due = PageSet::new();
+    let mut looks = 0;
     for number in 0..PAGES {
-        if !pages[number].has_none_due(moment) {
+        if pages[number].has_due(moment, &mut looks) {
             due.add(number);
         }
     }
@@ -132,8 +132,8 @@ impl Snapshot {
         Pages::join(self.pages)
     }
 
-    /// The pages in which something may be due at the moment or before it: to drop what is due leaves
-    /// all others as they are. It looks at no item.
+    /// The pages in which something is due at the moment or before it: to drop what is due leaves all
+    /// others as they are. It looks at one entry of each page's index.
     pub fn due_pages(&self, moment: u32) -> PageSet
         ensures { AreSameBeside result self.now (alive self.now moment) }
     {

@@ -14,6 +14,10 @@ mod of_batches;
 #[cfg(test)]
 mod of_decrees;
 #[cfg(test)]
+mod of_item_steps;
+#[cfg(test)]
+mod of_items;
+#[cfg(test)]
 mod of_keeper;
 #[cfg(test)]
 mod of_link;

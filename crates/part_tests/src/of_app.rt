@@ -36,7 +36,7 @@ fn gives(alloc: Global, input: &[&[u8]], output: &[&[u8]]) -> Result<bool, Fail>
 
 #[test]
 fn small_rows(rt: HostRuntime) -> Result<(), Fail> {
-    let rows: [(&[u8], &[u8]); 12] = [
+    let rows: [(&[u8], &[u8]); 14] = [
         (b"", b""),
         (
             b"set a 0 0 1\r\n5\r\nget a\r\n",
@@ -59,7 +59,7 @@ fn small_rows(rt: HostRuntime) -> Result<(), Fail> {
             b"CLIENT_ERROR invalid numeric delta argument\r\nCLIENT_ERROR invalid numeric delta argument\r\nNOT_FOUND\r\nNOT_FOUND\r\nNOT_FOUND\r\n",
         ),
         (
-            b"get\r\nGET a\r\n\r\nversion\r\ngat 0 a\r\n",
+            b"get\r\nGET a\r\n\r\nversion\r\nverbosity 1\r\n",
             b"CLIENT_ERROR bad command line format\r\nERROR\r\nERROR\r\nVERSION eve-1\r\nERROR\r\n",
         ),
         (
@@ -82,6 +82,14 @@ fn small_rows(rt: HostRuntime) -> Result<(), Fail> {
             b"append a 0 0 1\r\n5\r\nset a 3 0 1\r\n5\r\nappend a 9 0 1\r\n6\r\nprepend a 9 0 1\r\n4\r\nget a\r\ntouch a -1\r\nget a\r\ndelete a\r\nget a\r\n",
             b"NOT_STORED\r\nSTORED\r\nSTORED\r\nSTORED\r\nVALUE a 3 3\r\n456\r\nEND\r\nTOUCHED\r\nEND\r\nNOT_FOUND\r\nEND\r\n",
         ),
+        (
+            b"set a 3 0 1\r\n5\r\ngat 10 a b\r\ngats -1 a a\r\nget a\r\n",
+            b"STORED\r\nVALUE a 3 1\r\n5\r\nEND\r\nVALUE a 3 1 64\r\n5\r\nEND\r\nEND\r\n",
+        ),
+        (
+            b"gat\r\ngat 10\r\ngats 10\r\ngat x a\r\ngat 10 a noreply\r\n",
+            b"CLIENT_ERROR bad command line format\r\nCLIENT_ERROR bad command line format\r\nCLIENT_ERROR bad command line format\r\nCLIENT_ERROR bad command line format\r\nEND\r\n",
+        ),
     ];
     for (input, output) in rows {
         let text = given(rt.alloc(), input)?;
@@ -102,6 +110,8 @@ fn keys_at_their_limits(rt: HostRuntime) -> Result<(), Fail> {
     let most = names.as_flattened();
     let input: [&[u8]; 5] = [b"get", most, b"\r\nget", most, b" a\r\n"];
     assert!(rt; gives(rt.alloc(), &input, &[output])?);
+    let input: [&[u8]; 5] = [b"gat 0", most, b"\r\ngat 0", most, b" a\r\n"];
+    assert!(rt; gives(rt.alloc(), &input, &[output])?);
     Ok(())
 }
 
@@ -111,18 +121,18 @@ fn keeps_the_limit(alloc: Global, block: &[u8]) -> Result<bool, Fail> {
     gives(
         alloc,
         &[
-            b"set a 0 0 65536\r\n",
+            b"set a 0 0 1048576\r\n",
             block,
-            b"\r\nset a 0 0 65537\r\n",
+            b"\r\nset a 0 0 1048577\r\n",
             block,
-            b"x\r\nappend a 0 0 1\r\nx\r\nget a\r\nset b 0 0 65535\r\n",
+            b"x\r\nappend a 0 0 1\r\nx\r\nget a\r\nset b 0 0 1048575\r\n",
             shorter,
             b"\r\nappend b 0 0 1\r\nx\r\nappend b 0 0 1\r\nx\r\nget b\r\n",
         ],
         &[
-            b"STORED\r\nSERVER_ERROR object too large for cache\r\nSERVER_ERROR object too large for cache\r\nVALUE a 0 65536\r\n",
+            b"STORED\r\nSERVER_ERROR object too large for cache\r\nSERVER_ERROR object too large for cache\r\nVALUE a 0 1048576\r\n",
             block,
-            b"\r\nEND\r\nSTORED\r\nSTORED\r\nSERVER_ERROR object too large for cache\r\nVALUE b 0 65536\r\n",
+            b"\r\nEND\r\nSTORED\r\nSTORED\r\nSERVER_ERROR object too large for cache\r\nVALUE b 0 1048576\r\n",
             block,
             b"\r\nEND\r\n",
         ],
@@ -131,7 +141,7 @@ fn keeps_the_limit(alloc: Global, block: &[u8]) -> Result<bool, Fail> {
 
 #[test]
 fn blocks_at_their_limit(rt: HostRuntime) -> Result<(), Fail> {
-    let block = vec![in rt.alloc(); b'x'; 65536]?;
+    let block = vec![in rt.alloc(); b'x'; 1048576]?;
     assert!(rt; keeps_the_limit(rt.alloc(), block.as_slice())?);
     Ok(())
 }

@@ -16,10 +16,12 @@ fn key(alloc: Global, name: u8) -> Result<Key, AllocError> {
     Ok(Key::new(bytes))
 }
 
-/// What a request asks: to read these names, to set one, or to count one up.
+/// What a request asks: to read these names, also with another exptime, to set one, or to count one up.
 #[derive(Clone, Copy)]
 enum Asks {
     Get(&'static [u8]),
+    Gat(&'static [u8]),
+    Gats(&'static [u8]),
     Set(u8),
     Incr(u8),
 }
@@ -31,14 +33,14 @@ fn add_keys(alloc: Global, names: &[u8], keys: &mut Vec<Key>) -> Result<(), Allo
     Ok(())
 }
 
-/// A `get` of these names: of no more than 64, and of at least one.
-fn get(alloc: Global, names: &[u8]) -> Result<Command, AllocError> {
+/// The keys of these names: of at least one, and of no more than 64, or else only `k`.
+fn keys(alloc: Global, names: &[u8]) -> Result<Keys, AllocError> {
     let mut keys = Vec::new(alloc);
     add_keys(alloc, names, &mut keys)?;
     if keys.is_empty() || keys.len() > 64 {
-        return set(alloc, b'k');
+        return Ok(Keys::new(vec![in alloc; key(alloc, b'k')?]?));
     }
-    Ok(Command::Get(Keys::new(keys)))
+    Ok(Keys::new(keys))
 }
 
 fn set(alloc: Global, name: u8) -> Result<Command, AllocError> {
@@ -60,7 +62,9 @@ fn incr(alloc: Global, name: u8) -> Result<Command, AllocError> {
 
 fn command(alloc: Global, asks: Asks) -> Result<Command, AllocError> {
     match asks {
-        Asks::Get(names) => get(alloc, names),
+        Asks::Get(names) => Ok(Command::Get(keys(alloc, names)?)),
+        Asks::Gat(names) => Ok(Command::Gat(5, keys(alloc, names)?)),
+        Asks::Gats(names) => Ok(Command::Gats(5, keys(alloc, names)?)),
         Asks::Set(name) => set(alloc, name),
         Asks::Incr(name) => incr(alloc, name),
     }
@@ -123,6 +127,29 @@ fn each_request_comes_after_those_it_conflicts_with(rt: HostRuntime) -> Result<(
 fn a_conflict_on_a_third_key_is_overlooked(rt: HostRuntime) -> Result<(), Fail> {
     let groups = places(rt.alloc(), &[Asks::Get(b"xyc"), Asks::Set(b'c')])?;
     assert_eq!(rt; groups.as_slice(), b"01|".as_slice());
+    Ok(())
+}
+
+#[test]
+fn a_gat_conflicts_with_what_has_its_key(rt: HostRuntime) -> Result<(), Fail> {
+    let apart = [
+        [Asks::Gat(b"ab"), Asks::Get(b"b")],
+        [Asks::Get(b"a"), Asks::Gats(b"ab")],
+        [Asks::Gat(b"a"), Asks::Gat(b"a")],
+        [Asks::Gats(b"n"), Asks::Incr(b'n')],
+    ];
+    for asked in apart {
+        let groups = places(rt.alloc(), &asked)?;
+        assert_eq!(rt; groups.as_slice(), b"0|1|".as_slice());
+    }
+    let together = [
+        [Asks::Gat(b"xyc"), Asks::Get(b"c")],
+        [Asks::Gat(b"a"), Asks::Gats(b"b")],
+    ];
+    for asked in together {
+        let groups = places(rt.alloc(), &asked)?;
+        assert_eq!(rt; groups.as_slice(), b"01|".as_slice());
+    }
     Ok(())
 }
 

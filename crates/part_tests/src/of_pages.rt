@@ -249,6 +249,11 @@ fn pages_that_may_differ(rt: HostRuntime) -> Result<(), Fail> {
         key: key(rt.alloc(), b"c")?,
     }));
     assert!(rt; may_differ.has(33) && !may_differ.has(34) && may_differ.has(35));
+    assert!(rt; !may_differ.has(36));
+    may_differ.add_command(&Command::Gat(0, one_key(rt.alloc(), b"d")?));
+    assert!(rt; may_differ.has(36) && !may_differ.has(37));
+    may_differ.add_command(&Command::Gats(0, one_key(rt.alloc(), b"e")?));
+    assert!(rt; may_differ.has(37) && !may_differ.has(34));
     assert!(rt; !PageSet::new().has(33));
     Ok(())
 }

@@ -125,7 +125,24 @@ fn commands(rt: HostRuntime) -> Result<(), Fail> {
             b"\x0b\x01\x61\x00\x00\x00\x00\x00\x00\x00\xff".as_slice(),
             true,
         ),
+        (
+            b"\x0c\x00\x00\x00\x0a\x00\x00\x00\x02\x01\x61\x01\x62".as_slice(),
+            true,
+        ),
+        (
+            b"\x0d\xff\xff\xff\xff\x00\x00\x00\x01\x01\x61".as_slice(),
+            true,
+        ),
+        (b"\x0c\x00\x00\x00\x0a\x00\x00\x00\x00".as_slice(), false),
+        (
+            b"\x0c\x00\x00\x00\x01\x01\x61\x00\x00\x00\x0a".as_slice(),
+            false,
+        ),
         (b"\x0c\x01\x61".as_slice(), false),
+        (
+            b"\x0e\x00\x00\x00\x0a\x00\x00\x00\x01\x01\x61".as_slice(),
+            false,
+        ),
         (b"\x00\x00\x00\x00\x00".as_slice(), false),
         (
             b"\x02\x01\x61\x00\x00\x00\x07\xff\xff\xff\xff\x00\x00\x00\x01".as_slice(),

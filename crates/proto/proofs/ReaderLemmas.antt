@@ -111,17 +111,17 @@ closed_keeps bytes (Say notice ∷ turns) new r c = closed_keeps r.0 turns new r
 closed_keeps bytes (Ask command quiet ∷ turns) new r c = closed_keeps r.0 turns new r.2 c
 
 -- what stands is at most a line and a block at the limit, with their ends
-pub held_within : (s : Stage) → IsStage s → length s.line + length s.block ≤ 67586
+pub held_within : (s : Stage) → IsStage s → length s.line + length s.block ≤ MOST_BLOCK_BYTES + (MOST_LINE_BYTES + 2)
 held_within s i = by s.size s.line s.block s.dropped i
   where
-    by : (size : Option ℕ) (line block : List ℕ) (d : ℕ) → IsStageOf size line block d → length line + length block ≤ 67586
+    by : (size : Option ℕ) (line block : List ℕ) (d : ℕ) → IsStageOf size line block d → length line + length block ≤ MOST_BLOCK_BYTES + (MOST_LINE_BYTES + 2)
     by None line block d i = rw i.no_block (omega (arith, i.short))
     by (Some size) line block d i = rw (i.2.line_is, length-append i.2.text (10 ∷ [])) (in_block i.0 line block d i.2 (nat_lt MOST_BLOCK_BYTES i.0.size) refl)
       where
-        in_block : (h : Header) (line block : List ℕ) (d : ℕ) (b : InBlock h line block d) (big : Bool) → nat_lt MOST_BLOCK_BYTES h.size ≡ big → length b.text + 1 + length block ≤ 67586
+        in_block : (h : Header) (line block : List ℕ) (d : ℕ) (b : InBlock h line block d) (big : Bool) → nat_lt MOST_BLOCK_BYTES h.size ≡ big → length b.text + 1 + length block ≤ MOST_BLOCK_BYTES + (MOST_LINE_BYTES + 2)
         in_block h line block d b true is = some block d b.partial (b.blank is) b.short
           where
-            some : (block : List ℕ) (d : ℕ) → d + length block < h.size + 2 → (0 < length block → d ≡ h.size) → length b.text < MOST_LINE_BYTES → length b.text + 1 + length block ≤ 67586
+            some : (block : List ℕ) (d : ℕ) → d + length block < h.size + 2 → (0 < length block → d ≡ h.size) → length b.text < MOST_LINE_BYTES → length b.text + 1 + length block ≤ MOST_BLOCK_BYTES + (MOST_LINE_BYTES + 2)
             some [] d l f g = omega arith
             some (x ∷ xs) d l f g = omega (arith, f (omega arith))
         in_block h line block d b false is = grind (arith, nat_tests, b.kept is, b.partial, b.short)

@@ -1,5 +1,5 @@
 -- Worked examples of the grammar, computed.
-use Rattle.std.proofs.Common.{◌≡◌, [], ◌∷◌, ◌++◌, true, false, pos, Some, refl, replicate}
+use Rattle.std.proofs.Common.{◌≡◌, [], ◌∷◌, ◌++◌, true, false, pos, negsuc, Some, refl, replicate}
 use Rattle.std.specs.Prelude.{codes}
 use Rattle.proto.specs.Line.{meaning}
 use Rattle.proto.specs.Grammar.{next_turn, Spells}
@@ -34,6 +34,18 @@ a_key_of_250_bytes : next_turn (codes "get " ++ replicate 250 97 ++ codes "\r\n"
 unfolding next_turn meaning
 a_key_of_250_bytes = refl
 
+a_gat : next_turn (codes "gat -1 a b\r\n") ≡ Some (Ask (command.Gat (negsuc 0) (codes "a" ∷ codes "b" ∷ [])) false, [])
+unfolding next_turn meaning
+a_gat = refl
+
+a_gats : next_turn (codes "gats 10 a\r\n") ≡ Some (Ask (command.Gats (pos 10) (codes "a" ∷ [])) false, [])
+unfolding next_turn meaning
+a_gats = refl
+
+a_gat_without_keys : next_turn (codes "gat 10\r\n") ≡ Some (Say notice.BadFormat, [])
+unfolding next_turn meaning
+a_gat_without_keys = refl
+
 a_delta_that_is_no_number : next_turn (codes "incr n x\r\n") ≡ Some (Say notice.BadDelta, [])
 unfolding next_turn meaning
 a_delta_that_is_no_number = refl
@@ -45,10 +57,6 @@ a_delta_of_65_bits = refl
 a_quiet_set : Spells (codes "set a 0 0 1 noreply\r\n5\r\nget a\r\n") (Ask (command.Update (update.Store Set (codes "a") 0 (pos 0) (codes "5"))) true ∷ Ask (command.Get (codes "a" ∷ [])) false ∷ []) []
 unfolding next_turn meaning
 a_quiet_set = (codes "get a\r\n", refl, ([], refl, (refl, refl)))
-
-a_block_above_the_limit : next_turn (codes "set a 0 0 65537\r\n" ++ replicate 65537 0 ++ codes "\r\nget a\r\n") ≡ Some (Say notice.TooLarge, codes "get a\r\n")
-unfolding next_turn meaning
-a_block_above_the_limit = refl
 
 a_line_too_long : next_turn (replicate 2049 97) ≡ Some (Close notice.LineTooLong, 97 ∷ [])
 unfolding next_turn meaning

@@ -5,7 +5,7 @@ use std::marker::Model;
 use std::sync::Arc;
 
 /// How many bytes of data an item has at most.
-pub const MOST_BLOCK_BYTES: usize = 65536;
+pub const MOST_BLOCK_BYTES: usize = 1_048_576;
 
 /// The data of an item, or the block of a storage line: at most `MOST_BLOCK_BYTES` bytes. Clones
 /// share the bytes.

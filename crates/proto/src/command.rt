@@ -55,6 +55,10 @@ pub enum Command {
     Get(Keys),
     /// With the unique of each item.
     Gets(Keys),
+    /// Gives the items of the keys another exptime, and shows them.
+    Gat(i32, Keys),
+    /// The same, with the unique of each item.
+    Gats(i32, Keys),
     Update(Update),
 }
 
@@ -135,6 +139,8 @@ impl Clone for Command {
         Ok(match self {
             Command::Get(keys) => Command::Get(copied(keys)?),
             Command::Gets(keys) => Command::Gets(copied(keys)?),
+            Command::Gat(exptime, keys) => Command::Gat(*exptime, copied(keys)?),
+            Command::Gats(exptime, keys) => Command::Gats(*exptime, copied(keys)?),
             Command::Update(update) => Command::Update(update.clone()?),
         })
     }

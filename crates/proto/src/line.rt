@@ -42,6 +42,8 @@ pub enum Name {
     Cas,
     Get,
     Gets,
+    Gat,
+    Gats,
     Delete,
     Touch,
     Incr,

@@ -68,6 +68,7 @@ fn key_of(step: &Step) -> &Key
 {
     match step {
         Step::Read(key) => key,
+        Step::ReadAndTouch { key, .. } => key,
         Step::Update(update) => update.key(),
     }
 }

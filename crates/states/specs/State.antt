@@ -5,6 +5,7 @@ use Rattle.std.specs.Coded.{Coded, code_by, coded×, coded_ℕ, coded_list}
 use Rattle.token.specs.declared.Token.{Token}
 use Rattle.token.specs.Digest.{digest, root_of}
 use Rattle.token.specs.Digested.{DigestedView, IsDigested}
+use Rattle.wire.specs.declared.token.TokenText.{TokenText}
 use Rattle.wire.specs.Token.{token_text}
 use Rattle.wire.specs.Session.{sessions_text, SessionsFit}
 use Rattle.sessions.specs.Fresh.{Replies}
@@ -30,18 +31,21 @@ zeros = replicate 32 0
 abbrev pub initial_state : StateView
 initial_state = record { number = 0; previous = record { 0 = zeros }; epoch = 1; batch = zeros; moment = 0; token = record { 0 = zeros }; sessions = empty; items = empty }
 
+-- what the token of a state is the digest of
+abbrev pub told_by : StateView → TokenText
+told_by s = record {
+  previous = s.previous.0;
+  n = s.number;
+  epoch = s.epoch;
+  moment = s.moment;
+  batch = s.batch;
+  root = root_of (of_each (page_digest s.items));
+  sessions = digest (sessions_text s.sessions);
+}
+
 -- the token of a state, recomputed
 abbrev pub token_of : StateView → List ℕ
-token_of s =
-    digest (token_text (record {
-      previous = s.previous.0;
-      n = s.number;
-      epoch = s.epoch;
-      moment = s.moment;
-      batch = s.batch;
-      root = root_of (of_each (page_digest s.items));
-      sessions = digest (sessions_text s.sessions);
-    }))
+token_of s = digest (token_text (told_by s))
 
 -- the state with its token
 abbrev pub with_token : StateView → StateView

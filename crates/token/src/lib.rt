@@ -17,7 +17,7 @@ pub use tree::{PAGES, inner_digest, root};
 use wire::{TokenText, digest};
 
 /// The digest by which a state is known: SHA-256 (FIPS 180-4) of a token's text, 32 bytes.
-#[derive(Clone, Copy, Debug, PartialEq, Eq)]
+#[derive(Clone, Copy, Debug, PartialEq, Eq, Hash)]
 pub struct Token(pub [u8; 32]);
 
 impl Token {

@@ -30,6 +30,8 @@ update_text (Decr key delta) = 11 ∷ (key_text key ++ num w64 delta)
 abbrev pub command_text : Command → List ℕ
 command_text (command.Get keys) = 0 ∷ keys_text keys
 command_text (command.Gets keys) = 1 ∷ keys_text keys
+command_text (command.Gat exptime keys) = 12 ∷ (num_signed exptime ++ keys_text keys)
+command_text (command.Gats exptime keys) = 13 ∷ (num_signed exptime ++ keys_text keys)
 command_text (command.Update update) = update_text update
 
 abbrev pub request_text : Request → List ℕ

@@ -12,7 +12,7 @@ use Rattle.proto.specs.declared.command.Command.TheVariants as command
 use Rattle.wire.specs.Record.{IsPrefixFree}
 use Rattle.wire.specs.Number.{num, num_signed}
 use Rattle.wire.specs.Block.{block_text}
-use Rattle.wire.specs.Key.{key_text}
+use Rattle.wire.specs.Key.{key_text, keys_text}
 use Rattle.wire.specs.Command.{verb_mark, update_text, command_text, request_text}
 use Rattle.wire.specs.FrontLaws.{tail_of, head_of, Passes, same_numbers}
 use Rattle.wire.specs.NumberLaws.{num_signed_prefix_free}
@@ -151,25 +151,88 @@ update_prefix_free = record {
       update_alike v w r s (same_numbers (kind_of v) (kind_of w) kinds) marks e;
 }
 
-command_apart : (v w : Command) (r s : List ℕ) → command_text v ++ r ≡ command_text w ++ s → (v ≡ w) × (r ≡ s)
-command_apart (command.Get x) (command.Get y) r s e =
+-- the fields of a gat
+abbrev pub timed_keys_row : ℤ × List (List ℕ) → List ℕ
+timed_keys_row p = num_signed p.0 ++ keys_text p.1
+
+timed_keys_free : IsPrefixFree timed_keys_row
+timed_keys_free = followed num_signed_prefix_free keys_prefix_free
+
+-- the mark of a command
+abbrev pub command_mark : Command → ℕ
+command_mark (command.Get _) = 0
+command_mark (command.Gets _) = 1
+command_mark (command.Gat _ _) = 12
+command_mark (command.Gats _ _) = 13
+command_mark (command.Update u) = mark_of u
+
+pub command_head : (c : Command) (rest : List ℕ) → head_of (command_text c ++ rest) ≡ command_mark c
+command_head (command.Get _) rest = refl
+command_head (command.Gets _) rest = refl
+command_head (command.Gat _ _) rest = refl
+command_head (command.Gats _ _) rest = refl
+command_head (command.Update u) rest = head_is u rest
+
+-- which kind of command it is, by its mark: all updates are one kind
+pub command_kind_at : ℕ → ℕ
+command_kind_at mark = if nat_lt mark 2 then mark else if nat_lt mark 12 then 2 else mark
+
+abbrev pub command_kind : Command → ℕ
+command_kind (command.Get _) = 0
+command_kind (command.Gets _) = 1
+command_kind (command.Gat _ _) = 12
+command_kind (command.Gats _ _) = 13
+command_kind (command.Update _) = 2
+
+store_command : (v : StoreVerb) → command_kind_at (verb_mark v) ≡ 2
+unfolding command_kind_at
+store_command Set = refl
+store_command Add = refl
+store_command Replace = refl
+store_command Append = refl
+store_command Prepend = refl
+
+update_command : (u : Update) → command_kind_at (mark_of u) ≡ 2
+unfolding command_kind_at
+update_command (Store verb _ _ _ _) = store_command verb
+update_command (Cas _ _ _ _ _) = refl
+update_command (Delete _) = refl
+update_command (Touch _ _) = refl
+update_command (Incr _ _) = refl
+update_command (Decr _ _) = refl
+
+command_kind_is : (c : Command) → command_kind_at (command_mark c) ≡ command_kind c
+unfolding command_kind_at
+command_kind_is (command.Get _) = refl
+command_kind_is (command.Gets _) = refl
+command_kind_is (command.Gat _ _) = refl
+command_kind_is (command.Gats _ _) = refl
+command_kind_is (command.Update u) = update_command u
+
+command_alike : (v w : Command) (r s : List ℕ) → Passes (nat_eq (command_kind v) (command_kind w)) → command_text v ++ r ≡ command_text w ++ s → (v ≡ w) × (r ≡ s)
+command_alike (command.Get x) (command.Get y) r s h e =
     let both = keys_prefix_free.apart x y r s (tail_of 0 0 _ _ e) in
     (ap command.Get both.0, both.1)
-command_apart (command.Gets x) (command.Gets y) r s e =
+command_alike (command.Gets x) (command.Gets y) r s h e =
     let both = keys_prefix_free.apart x y r s (tail_of 1 1 _ _ e) in
     (ap command.Gets both.0, both.1)
-command_apart (command.Update u) (command.Update v) r s e =
+command_alike (command.Gat t x) (command.Gat t' y) r s h e =
+    let both = timed_keys_free.apart (t, x) (t', y) r s (tail_of 12 12 _ _ e) in
+    ((λ i. command.Gat (both.0 i).0 (both.0 i).1), both.1)
+command_alike (command.Gats t x) (command.Gats t' y) r s h e =
+    let both = timed_keys_free.apart (t, x) (t', y) r s (tail_of 13 13 _ _ e) in
+    ((λ i. command.Gats (both.0 i).0 (both.0 i).1), both.1)
+command_alike (command.Update u) (command.Update v) r s h e =
     let both = update_prefix_free.apart u v r s e in
     (ap command.Update both.0, both.1)
-command_apart (command.Get x) (command.Gets y) r s e = absurd (let h : 0 ≡ 1 = ap head_of e in omega arith)
-command_apart (command.Gets x) (command.Get y) r s e = absurd (let h : 1 ≡ 0 = ap head_of e in omega arith)
-command_apart (command.Get x) (command.Update v) r s e = absurd (let h : 0 ≡ mark_of v = ap head_of e ∙ head_is v s in omega (arith, mark_low v))
-command_apart (command.Gets x) (command.Update v) r s e = absurd (let h : 1 ≡ mark_of v = ap head_of e ∙ head_is v s in omega (arith, mark_low v))
-command_apart (command.Update u) (command.Get y) r s e = absurd (let h : mark_of u ≡ 0 = sym (head_is u r) ∙ ap head_of e in omega (arith, mark_low u))
-command_apart (command.Update u) (command.Gets y) r s e = absurd (let h : mark_of u ≡ 1 = sym (head_is u r) ∙ ap head_of e in omega (arith, mark_low u))
+command_alike _ _ r s h e = absurd h
 
 pub command_prefix_free : IsPrefixFree command_text
-command_prefix_free = record { apart = command_apart }
+command_prefix_free = record {
+  apart = λ v w r s e.
+      let kinds = sym (command_kind_is v) ∙ (ap command_kind_at (sym (command_head v r) ∙ (ap head_of e ∙ command_head w s)) ∙ command_kind_is w) in
+      command_alike v w r s (same_numbers (command_kind v) (command_kind w) kinds) e;
+}
 
 -- the fields of a request
 abbrev pub request_row : (ℕ × ℕ) × Command → List ℕ
@@ -211,3 +274,15 @@ kind-10 = refl
 pub kind-11 : kind_at 11 ≡ 11
 unfolding kind_at
 kind-11 = refl
+
+-- a command whose text begins with this mark is of its kind
+pub command_kind_behind : (mark : ℕ) (bytes : List ℕ) (c : Command) (rest : List ℕ) → mark ∷ bytes ≡ command_text c ++ rest → command_kind_at mark ≡ command_kind c
+command_kind_behind mark bytes c rest e = ap command_kind_at (ap head_of e ∙ command_head c rest) ∙ command_kind_is c
+
+pub command_kind-12 : command_kind_at 12 ≡ 12
+unfolding command_kind_at
+command_kind-12 = refl
+
+pub command_kind-13 : command_kind_at 13 ≡ 13
+unfolding command_kind_at
+command_kind-13 = refl

@@ -1,4 +1,4 @@
-ghost use Rattle.std.specs.Prelude.{◌≡◌, ◌≤◌, ◌∷◌};
+ghost use Rattle.std.specs.Prelude.{◌≡◌, ◌≢◌, ◌≤◌, ◌∷◌};
 ghost use Rattle.wire.specs.Record.{Always, Takes};
 ghost use Rattle.wire.specs.Command.{command_text};
 ghost use Rattle.wire.specs.CommandLaws.{command_prefix_free};
@@ -24,8 +24,26 @@ fn take_gets(alloc: Global, bytes: &[u8]) -> Result<(Command, &[u8]), Fault>
     Ok((Command::Gets(keys), rest))
 }
 
+fn take_gat(alloc: Global, bytes: &[u8]) -> Result<(Command, &[u8]), Fault>
+    ensures { Takes Always command_text (12 ∷ bytes.now) result }
+{
+    let (row, rest) = <(i32, Keys)>::take(alloc, bytes)?;
+    let (exptime, keys) = row;
+    Ok((Command::Gat(exptime, keys), rest))
+}
+
+fn take_gats(alloc: Global, bytes: &[u8]) -> Result<(Command, &[u8]), Fault>
+    ensures { Takes Always command_text (13 ∷ bytes.now) result }
+{
+    let (row, rest) = <(i32, Keys)>::take(alloc, bytes)?;
+    let (exptime, keys) = row;
+    Ok((Command::Gats(exptime, keys), rest))
+}
+
 fn take_update(alloc: Global, mark: u8, bytes: &[u8]) -> Result<(Command, &[u8]), Fault>
-    requires { 2 ≤ mark }
+    requires no_get { 2 ≤ mark }
+    requires no_gat { mark ≢ 12 }
+    requires no_gats { mark ≢ 13 }
     ensures { Takes Always command_text (mark ∷ bytes.now) result }
 {
     let (update, rest) = update::take_marked(alloc, mark, bytes)?;
@@ -39,6 +57,8 @@ fn take_marked(alloc: Global, mark: u8, bytes: &[u8]) -> Result<(Command, &[u8])
     match mark {
         0 => take_get(alloc, bytes),
         1 => take_gets(alloc, bytes),
+        12 => take_gat(alloc, bytes),
+        13 => take_gats(alloc, bytes),
         _ => take_update(alloc, mark, bytes),
     }
 }
@@ -56,6 +76,16 @@ impl Record for Command {
             }
             Command::Gets(keys) => {
                 sink.put(&[1u8])?;
+                keys.put(sink)
+            }
+            Command::Gat(exptime, keys) => {
+                sink.put(&[12u8])?;
+                exptime.put(sink)?;
+                keys.put(sink)
+            }
+            Command::Gats(exptime, keys) => {
+                sink.put(&[13u8])?;
+                exptime.put(sink)?;
                 keys.put(sink)
             }
             Command::Update(update) => update.put(sink),

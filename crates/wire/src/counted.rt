@@ -24,18 +24,21 @@ impl<T> Model for Counted<T> {
 }
 
 impl<T> Counted<T> {
+    /// These values, in their order.
     pub fn new(values: Vec<T>) -> Counted<T>
         ensures { result ≡ values.items }
     {
         Counted { values }
     }
 
+    /// The values, in their order.
     pub fn as_slice(&self) -> &[T]
         ensures { result.now ≡ self.now }
     {
         self.values.as_slice()
     }
 
+    /// The vector of the values.
     pub fn into_vec(self) -> Vec<T>
         ensures { result.items ≡ self }
     {

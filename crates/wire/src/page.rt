@@ -36,6 +36,7 @@ impl Model for Entries {
 }
 
 impl Entries {
+    /// These entries, which stand by strictly rising keys.
     pub fn new(entries: Vec<Entry<Key, Item>>) -> Entries
         requires { IsTrue (is_sorted by_bytes entries.items) }
         ensures { result ≡ entries.items }
@@ -43,6 +44,7 @@ impl Entries {
         Entries { entries }
     }
 
+    /// The entries, by strictly rising keys.
     pub fn as_slice(&self) -> &[Entry<Key, Item>]
         ensures entries { result.now ≡ self.now }
         ensures rising { IsTrue (is_sorted by_bytes self.now) }
@@ -50,6 +52,7 @@ impl Entries {
         self.entries.as_slice()
     }
 
+    /// The vector of the entries.
     pub fn into_vec(self) -> Vec<Entry<Key, Item>>
         ensures entries { result.items ≡ self }
         ensures rising { IsTrue (is_sorted by_bytes self) }

@@ -37,37 +37,20 @@ fn refresh_each<R: Threads + Sync>(rt: &R, pages: &mut [Page], threads: usize)
 /// Recomputes the digest of each page that was written, by at most `workers` threads at once. The thread
 /// that calls is one of them; the others have ended when the call returns.
 #[tactic(auto, using(crate::proofs::InOrder::all_refreshed))]
-pub fn refresh_all<R: Threads + Sync>(rt: &R, pages: &mut [Page], workers: Workers)
+fn refresh_all<R: Threads + Sync>(rt: &R, pages: &mut [Page], workers: Workers)
     ensures { pages.new ≡ map refreshed pages.old }
 {
     let threads = workers.count().min(written(pages) / LEAST_PAGES).max(1);
     refresh_each(rt, pages, threads);
 }
 
-/// Recomputes the digest of each page that was written, and beside them, on a thread of its own, the
-/// digest of the sessions.
-fn refresh_beside<R: Threads + Sync>(
-    rt: &R,
-    alloc: Global,
-    pages: &mut [Page],
-    sessions: &Sessions,
-    workers: Workers,
-) -> Digested
-    ensures pages { pages.new ≡ map refreshed pages.old }
-    ensures digested { IsDigested (sessions_text sessions.now) result }
-    ensures fit { SessionsFit sessions.now }
-{
-    let (digested, _) = thread::join_mut(
-        rt,
-        &mut || -> Digested
-            ensures { IsDigested (sessions_text sessions.entry.now) result × SessionsFit sessions.entry.now }
-        { Digested::of_sessions(alloc, sessions) },
-        &mut ||
-            requires { IsSync R.row }
-            ensures { pages.exit.now ≡ map refreshed pages.entry.now }
-        { refresh_all(rt, pages, workers) },
-    );
-    digested
+/// How many workers the pages have where the digest of the sessions is worth a thread of its own;
+/// `None` where it is not, or where there is but one worker.
+fn beside_sessions(sessions: &Sessions, workers: Workers) -> Option<Workers> {
+    if sessions.entries().len() < LEAST_CLIENTS {
+        return None;
+    }
+    Workers::new(workers.count() - 1)
 }
 
 /// Recomputes the digest of each page that was written, and the digest of the sessions, by at most so
@@ -84,15 +67,19 @@ pub fn digest_all<R: Threads + Sync>(
     ensures digested { IsDigested (sessions_text sessions.now) result }
     ensures fit { SessionsFit sessions.now }
 {
-    if sessions.entries().len() < LEAST_CLIENTS {
+    let Some(others) = beside_sessions(sessions, workers) else {
         refresh_all(rt, pages, workers);
         return Digested::of_sessions(alloc, sessions);
-    }
-    match Workers::new(workers.count() - 1) {
-        Some(others) => refresh_beside(rt, alloc, pages, sessions, others),
-        None => {
-            refresh_all(rt, pages, workers);
-            Digested::of_sessions(alloc, sessions)
-        }
-    }
+    };
+    let (digested, _) = thread::join_mut(
+        rt,
+        &mut || -> Digested
+            ensures { IsDigested (sessions_text sessions.entry.now) result × SessionsFit sessions.entry.now }
+        { Digested::of_sessions(alloc, sessions) },
+        &mut ||
+            requires { IsSync R.row }
+            ensures { pages.exit.now ≡ map refreshed pages.entry.now }
+        { refresh_all(rt, pages, others) },
+    );
+    digested
 }

@@ -10,6 +10,6 @@ mod digests;
 mod rounds;
 mod workers;
 
-pub use digests::{digest_all, refresh_all};
+pub use digests::digest_all;
 pub use rounds::run;
-pub use workers::Workers;
+pub use workers::{MOST_WORKERS, Workers};

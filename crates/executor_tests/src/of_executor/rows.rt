@@ -15,6 +15,13 @@ pub const SET_OF_B: &[u8] = &[
     0, 1, 0, 0, 0, 0, 0, 0, 0, 1, 2, 1, b'b', 0, 0, 0, 0, 0, 0, 0, 0, 0, 0, 0, 1, b'5',
 ];
 
+pub const SET_OF_C: &[u8] = &[
+    // Batch 1 at moment 1000, of one request.
+    4, 0, 0, 0, 0, 0, 0, 0, 1, 0, 0, 0, 0, 0, 0, 0, 1, 0, 0, 3, 232, 0, 0, 0, 1,
+    // Client 1: `set c`.
+    0, 1, 0, 0, 0, 0, 0, 0, 0, 1, 2, 1, b'c', 0, 0, 0, 0, 0, 0, 0, 0, 0, 0, 0, 1, b'5',
+];
+
 pub const SET_OF_A_AND_B: &[u8] = &[
     // Batch 1 at moment 1000, of two requests.
     4, 0, 0, 0, 0, 0, 0, 0, 1, 0, 0, 0, 0, 0, 0, 0, 1, 0, 0, 3, 232, 0, 0, 0, 2,
@@ -67,6 +74,37 @@ pub const GET_ONCE_IT_IS_DUE: &[u8] = &[
     4, 0, 0, 0, 0, 0, 0, 0, 1, 0, 0, 0, 0, 0, 0, 0, 2, 0, 39, 141, 1, 0, 0, 0, 1,
     // Client 65: `get a`.
     0, 65, 0, 0, 0, 0, 0, 0, 0, 1, 0, 0, 0, 0, 1, 1, b'a',
+];
+
+pub const GAT_OF_A: &[u8] = &[
+    // Batch 2 at moment 1000, of one request.
+    4, 0, 0, 0, 0, 0, 0, 0, 1, 0, 0, 0, 0, 0, 0, 0, 2, 0, 0, 3, 232, 0, 0, 0, 1,
+    // Client 65: `gat 10 a b`.
+    0, 65, 0, 0, 0, 0, 0, 0, 0, 1, 12, 0, 0, 0, 10, 0, 0, 0, 2, 1, b'a', 1, b'b',
+];
+
+pub const GET_AT_1009: &[u8] = &[
+    // Batch 3 at moment 1009, of one request.
+    4, 0, 0, 0, 0, 0, 0, 0, 1, 0, 0, 0, 0, 0, 0, 0, 3, 0, 0, 3, 241, 0, 0, 0, 1,
+    // Client 66: `get a`.
+    0, 66, 0, 0, 0, 0, 0, 0, 0, 1, 0, 0, 0, 0, 1, 1, b'a',
+];
+
+pub const GET_AT_1010: &[u8] = &[
+    // Batch 3 at moment 1010, of one request.
+    4, 0, 0, 0, 0, 0, 0, 0, 1, 0, 0, 0, 0, 0, 0, 0, 3, 0, 0, 3, 242, 0, 0, 0, 1,
+    // Client 66: `get a`.
+    0, 66, 0, 0, 0, 0, 0, 0, 0, 1, 0, 0, 0, 0, 1, 1, b'a',
+];
+
+/// The mixer looks at two keys of a request, so that both are one group.
+pub const GAT_AND_GET_OF_C: &[u8] = &[
+    // Batch 2 at moment 1000, of two requests.
+    4, 0, 0, 0, 0, 0, 0, 0, 1, 0, 0, 0, 0, 0, 0, 0, 2, 0, 0, 3, 232, 0, 0, 0, 2,
+    // Client 65: `gat 5 x y c`.
+    0, 65, 0, 0, 0, 0, 0, 0, 0, 1, 12, 0, 0, 0, 5, 0, 0, 0, 3, 1, b'x', 1, b'y', 1, b'c',
+    // Client 66: `get c`.
+    0, 66, 0, 0, 0, 0, 0, 0, 0, 1, 0, 0, 0, 0, 1, 1, b'c',
 ];
 
 /// The mixer looks at two keys of a request, so that all three are one group.

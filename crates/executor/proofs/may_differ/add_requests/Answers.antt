@@ -1,5 +1,4 @@
-use Rattle.std.proofs.Common.{arith, ap, subst, sym, List}
-use Rattle.std.specs.Prelude.{take}
+use Rattle.std.proofs.Common.{arith, subst, List}
 use Rattle.std.proofs.lemmas.List.{take_all}
 use Rattle.sessions.specs.declared.request.Request.{Request}
 use Rattle.executor.proofs.OtherPageLemmas.{CoversRequests, covers-next, within-both}

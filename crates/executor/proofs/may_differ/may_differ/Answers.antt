@@ -1,4 +1,4 @@
-use Rattle.std.proofs.Common.{◌≡◌, max, rules, sym, ap, ◌∙◌, subst, List}
+use Rattle.std.proofs.Common.{◌≡◌, max, rules, ap, ◌∙◌, subst, List}
 use Rattle.std.specs.Prelude.{ℕ}
 use Rattle.items.specs.Map.{Items, alive}
 use Rattle.pages.specs.Others.{AreSameBeside}

@@ -4,7 +4,7 @@ use Rattle.pages.specs.Others.{has_page}
 use Rattle.pages.proofs.PartLemmas.{page-items}
 use Rattle.pages.proofs.StateLemmas.{items-at, length-states}
 use Rattle.pages.proofs.OtherLemmas.{alive-elsewhere, due-next}
-use Rattle.pages.proofs.snapshot.due_among.Goals.{then-not-has_none_due, else-not-has_none_due}
+use Rattle.pages.proofs.snapshot.due_among.Goals.{then-has_due, else-has_due}
 use Rattle.pages.proofs.snapshot.due_among.Goals as goal
 
 pub loop-number-preserved : goal.loop-number-preserved
@@ -12,13 +12,13 @@ loop-number-preserved c =
     let pages = c.args.pages.now.items in
     let m = joined (items_of c.args.pages.now.items) in
     let n = c.loop-number.number in
-    elim c.if-not-has_none_due.branch [
-      | then-not-has_none_due w ↦ due-next m c.args.moment n c.loop-number.due c.if-not-has_none_due.due c.loop-number.invariant
+    elim c.if-has_due.branch [
+      | then-has_due w ↦ due-next m c.args.moment n c.loop-number.due c.if-has_due.due c.loop-number.invariant
           (λ out. absurd (true≢false (sym w.add.ensures.has ∙ ap (λ s. has_page s n) (sym w.due-is) ∙ out)))
           (λ p other. ap (λ s. has_page s p) w.due-is ∙ w.add.ensures.others p other)
-      | else-not-has_none_due w ↦ due-next m c.args.moment n c.loop-number.due c.if-not-has_none_due.due c.loop-number.invariant
+      | else-has_due w ↦ due-next m c.args.moment n c.loop-number.due c.if-has_due.due c.loop-number.invariant
           (λ out. alive-elsewhere m n c.args.moment c.index.result.now.items
           (items-at pages n c.index.result.now (omega (arith, c.loop-number-test.true, length-states pages c.requires)) c.index.ensures ∙ page-items (items_of pages) n c.requires)
-          (c.has_none_due.ensures w.if-not-has_none_due.false))
+          (c.has_due.ensures.none w.if-has_due.false))
           (λ p other. ap (λ s. has_page s p) w.due-is)
     ]

@@ -1,4 +1,4 @@
-use Rattle.std.proofs.Common.{◌≡◌, ◌∷◌, true, false, ap, sym, ◌∙◌, subst, List, ℕ, OnOk}
+use Rattle.std.proofs.Common.{◌≡◌, ◌∷◌, true, false, sym, ◌∙◌, subst, List, ℕ, OnOk}
 use Rattle.wire.specs.Record.{Puts}
 use Rattle.wire.specs.Item.{page_text}
 use Rattle.pages.specs.Page.{page_entries}

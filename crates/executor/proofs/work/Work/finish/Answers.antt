@@ -1,16 +1,15 @@
-use Rattle.std.proofs.Common.{◌≡◌, refl, sym, ap, ◌∙◌, subst, Some, true, false, List}
+use Rattle.std.proofs.Common.{◌≡◌, refl, sym, ap, ◌∙◌, subst, true, false}
 use Rattle.std.specs.Prelude.{IsTrue, not, ◌||◌, ◌==◌}
 use Rattle.std.specs.List.{list_all}
 use Rattle.executor.specs.BatchRequest.{BatchRequest}
-use Rattle.executor.specs.Work.{WorkView, is_complete, is_group_done, IsLast}
+use Rattle.executor.specs.Work.{WorkView, is_complete, is_group_done}
 use Rattle.executor.proofs.work.Work.finish.Goals as goal
 
 pub returns-in_ok-complete-in-None-clause-goes : goal.returns-in_ok-complete-in-None-clause-goes
 returns-in_ok-complete-in-None-clause-goes c =
     let done : list_all (λ r. not (r.group == c.self.inside.group) || is_complete r) c.self.inside.running.items ≡ true =
     ap (list_all (λ (r : BatchRequest). not (r.group == c.self.inside.group) || is_complete r)) (sym c.deref.ensures.value) ∙ (sym c.is_group_done.ensures ∙ c.if-not-is_group_done.false) in
-    let last : IsLast c.self.inside.running.items (Some c.self.inside.group) = subst (λ (rs : List BatchRequest). IsLast rs (Some c.self.inside.group)) c.deref-2.ensures.value (c.in-None.ensures.none refl) in
-    (subst (λ (v : WorkView). IsTrue (is_group_done v.progress)) c.self.view_is done, subst (λ (v : WorkView). IsLast v.progress.running (Some v.progress.group)) c.self.view_is last, c.in_ok-complete-in-None.ensures.tentative)
+    (subst (λ (v : WorkView). IsTrue (is_group_done v.progress)) c.self.view_is done, c.in-None.ensures.none refl, c.in_ok-complete-in-None.ensures.tentative)
 
 pub returns-then-not-is_group_done-clause-afresh : goal.returns-then-not-is_group_done-clause-afresh
 returns-then-not-is_group_done-clause-afresh c done =

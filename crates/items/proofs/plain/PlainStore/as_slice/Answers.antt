@@ -5,4 +5,4 @@ use Rattle.base.proofs.MapLemmas.{as_t}
 use Rattle.items.proofs.plain.PlainStore.as_slice.Goals as goal
 
 pub returns : goal.returns
-returns c = c.entries.ensures.entries ∙ sym (entries-from_sorted by_bytes _ (as_t _ c.self.invariant)) ∙ ap entries c.self.view_is
+returns c = c.entries.ensures.entries ∙ sym (entries-from_sorted by_bytes _ (as_t _ c.self.invariant.sorted)) ∙ ap entries c.self.view_is

@@ -7,5 +7,5 @@ use Rattle.pages.proofs.page.Page.from_entries.Goals as goal
 
 pub of_store-requires : goal.of_store-requires
 of_store-requires c =
-    let same = ap entries (c.from_sorted.ensures ∙ ap from_sorted c.into_vec.ensures.entries) ∙ entries-from_sorted by_bytes c.args.entries (as_t _ c.into_vec.ensures.rising) in
+    let same = ap entries (c.in_ok-from_sorted.ensures ∙ ap from_sorted c.into_vec.ensures.entries) ∙ entries-from_sorted by_bytes c.args.entries (as_t _ c.into_vec.ensures.rising) in
     subst PageFits (sym same) c.requires

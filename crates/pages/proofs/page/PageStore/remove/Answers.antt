@@ -2,14 +2,13 @@ use Rattle.std.proofs.Common.{◌≡◌, sym, ◌∙◌, rules}
 use Rattle.std.specs.Arc.{arc_value}
 use Rattle.std.specs.FinMap.{get, remove}
 use Rattle.pages.proofs.PageLemmas.{page-written, fits-remove, remove-absent, found-is, none-found}
-use Rattle.pages.proofs.DueLemmas.{soonest-remove}
 use Rattle.pages.proofs.page.PageStore.remove.Goals as goal
 
 pub invariant_of-self-then-is_some : goal.invariant_of-self-then-is_some
 invariant_of-self-then-is_some c =
     let old = arc_value c.self.inside.store in
     let is : arc_value (c.make_mut.follows.lender c.remove.new.self) ≡ remove (arc_value c.self.inside.store) c.args.key.now = search rules in
-    page-written _ (remove old c.args.key.now) _ c.self.inside.soonest is c.forget.ensures (fits-remove old c.args.key.now c.self.invariant.fits) (soonest-remove old c.self.inside.soonest c.args.key.now c.self.invariant.soonest_is)
+    page-written _ (remove old c.args.key.now) _ is c.forget.ensures (fits-remove old c.args.key.now c.self.invariant.fits)
 
 pub returns-else-is_some-clause-ok : goal.returns-else-is_some-clause-ok
 returns-else-is_some-clause-ok c =

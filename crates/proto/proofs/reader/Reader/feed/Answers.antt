@@ -1,4 +1,6 @@
-use Rattle.std.proofs.Common.{◌≡◌, ◌≤◌, ◌++◌, refl, sym, ap, ◌∙◌, rules, subst}
+use Rattle.std.proofs.Common.{◌≡◌, ◌+◌, ◌≤◌, ◌++◌, refl, sym, ap, ◌∙◌, rules, subst}
+use Rattle.proto.specs.declared.block.TheConstants.{MOST_BLOCK_BYTES}
+use Rattle.proto.specs.declared.line.TheConstants.{MOST_LINE_BYTES}
 use Rattle.proto.specs.Reader.{ReadsTurns}
 use Rattle.proto.specs.Stage.{IsStage, staged, reading}
 use Rattle.proto.proofs.ReaderLemmas.{closed_keeps, held_within}
@@ -10,7 +12,7 @@ read_piece-requires c =
     subst IsStage (sym same) c.self.invariant.stage
 
 pub returns-in_err-turns-clause-held : goal.returns-in_err-turns-clause-held
-returns-in_err-turns-clause-held c = subst (λ r. r.held ≤ 67586) c.self.view_is (held_within c.self.inside.stage c.self.invariant.stage)
+returns-in_err-turns-clause-held c = subst (λ r. r.held ≤ MOST_BLOCK_BYTES + (MOST_LINE_BYTES + 2)) c.self.view_is (held_within c.self.inside.stage c.self.invariant.stage)
 
 pub invariant_of-self-2 : goal.invariant_of-self-2
 invariant_of-self-2 c = record {

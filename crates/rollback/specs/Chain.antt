@@ -1,0 +1,81 @@
+-- Tentative states over a committed one.
+use Rattle.std.specs.Prelude.{ℕ, ◌≤◌, List, [], ◌∷◌, ◌++◌, length, Bool, true, false, IsTrue, ◌==◌, ◌&&◌, Option, Some, None, if◌then◌else◌, refl, flat_map}
+use Rattle.std.specs.Coded.{Coded, code_by, coded×, coded_list}
+use Rattle.std.specs.Int.{w8}
+use Rattle.wire.specs.Number.{num}
+use Rattle.decrees.specs.declared.decree.Decree.{Decree}
+use Rattle.decrees.specs.declared.decree.Decree.TheVariants.{Commit, Rollback}
+use Rattle.decrees.specs.Votes.{token_eq}
+use Rattle.states.specs.State.{StateView}
+use Rattle.states.specs.StateRecord.{state_text}
+use Rattle.executor.specs.declared.answered.Answered.{Answered}
+use Rattle.executor.specs.Work.{TentativeView}
+use Rattle.executor.specs.MemberRecord.{member_text}
+use Rattle.rollback.specs.declared.chain.TheConstants.{MOST_MEMBERS}
+
+-- A chain: the committed state, and the tentative ones over it, in order.
+pub record ChainView : Type 0 where
+  pub have : StateView
+  pub members : List TentativeView
+
+-- the state after the last member, or the committed state
+abbrev pub tip : StateView → List TentativeView → StateView
+tip base [] = base
+tip base (t ∷ ts) = tip t.after ts
+
+abbrev pub chain_tip : ChainView → StateView
+chain_tip c = tip c.have c.members
+
+-- the tentative state is over this one, as number and token tell
+abbrev pub is_over : StateView → TentativeView → Bool
+is_over s t = (t.before.number == s.number) && token_eq t.before.token s.token
+
+-- each member is over the one before it
+abbrev pub are_linked : StateView → List TentativeView → Bool
+are_linked s [] = true
+are_linked s (t ∷ ts) = is_over s t && are_linked t.after ts
+
+pub record IsChain (c : ChainView) : Type 0 where
+  pub few : length c.members ≤ MOST_MEMBERS
+  pub linked : IsTrue (are_linked c.have c.members)
+
+abbrev pub pushed : ChainView → TentativeView → ChainView
+pushed c t = record c { members = c.members ++ t ∷ [] }
+
+-- the decree is the commit of this state, by its number and token
+abbrev pub commits_state : Decree → StateView → Bool
+commits_state (Commit n token) s = (s.number == n) && token_eq s.token token
+commits_state Rollback s = false
+
+-- the decree commits the first member
+abbrev pub commits_first : Decree → List TentativeView → Bool
+commits_first d [] = false
+commits_first d (t ∷ ts) = commits_state d t.after
+
+-- the first member is committed, and the others are over it
+abbrev pub without_first : StateView → List TentativeView → ChainView
+without_first s [] = record { have = s; members = [] }
+without_first s (t ∷ ts) = record { have = t.after; members = ts }
+
+abbrev pub first_replies : List TentativeView → List Answered
+first_replies [] = []
+first_replies (t ∷ ts) = t.replies
+
+-- what a chain gives at a decree: the replies of its first member, if that is committed
+abbrev pub given_by : Decree → ChainView → Option (List Answered)
+given_by d c = if commits_first d c.members then Some (first_replies c.members) else None
+
+-- the chain after it
+abbrev pub after_decree : Decree → ChainView → ChainView
+after_decree d c = if commits_first d c.members then without_first c.have c.members else c
+
+abbrev pub undone : ChainView → ChainView
+undone c = record c { members = [] }
+
+-- a chain is identified by its states
+abbrev pub chain_code : Coded StateView → Coded TentativeView → Coded ChainView
+chain_code state tentative = code_by (StateView × List TentativeView) (coded× state (coded_list tentative)) (λ c. (c.have, c.members)) (λ p. record { have = p.0; members = p.1 }) (λ _. refl)
+
+-- the record of the committed state, how many members there are, and each of them over the state before it
+abbrev pub chain_text : ChainView → List ℕ
+chain_text c = state_text c.have ++ (num w8 (length c.members) ++ flat_map member_text c.members)

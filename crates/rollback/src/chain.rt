@@ -1,0 +1,209 @@
+ghost use Rattle.std.specs.Prelude.{◌≡◌, ◌↔◌, ◌⊎◌, ◌<◌, ◌≤◌, [], length, flat_map, IsTrue, IsOk, IfOk, IfErr, OnOk, OnErr, option_map};
+ghost use Rattle.executor.specs.MemberRecord.{member_text};
+ghost use Rattle.wire.specs.Record.{Puts};
+ghost use Rattle.rollback.specs.Chain.{ChainView, chain_tip, is_over, pushed, commits_state, commits_first, given_by, after_decree, undone, chain_text};
+
+use decrees::Decree;
+use executor::{Answered, Base, Committed, Tentative};
+use proto::Fault;
+use states::State;
+use std::alloc::{AllocError, Global};
+use std::marker::Model;
+use wire::{Record, Sink};
+
+/// How many members a chain has at most.
+pub const MOST_MEMBERS: usize = 4;
+
+/// A committed state, and at most `MOST_MEMBERS` tentative ones, each over the one before it. It
+/// cannot be dropped: `end` undoes its members.
+pub struct Chain {
+    committed: Committed,
+    members: Vec<Tentative>,
+}
+
+impl Model for Chain {
+    ghost use Rattle.std.specs.Prelude.{◌≤◌, vec_capacity};
+    ghost use Rattle.states.specs.contracts.state.State as state;
+    ghost use Rattle.executor.specs.contracts.tentative.Tentative as tentative;
+    ghost use Rattle.rollback.specs.declared.chain.TheConstants.{MOST_MEMBERS};
+    ghost use Rattle.rollback.specs.Chain.{ChainView, IsChain, chain_code};
+
+    ghost Value = { ChainView };
+
+    ghost coded = { chain_code state.the_row.coded tentative.the_row.coded };
+
+    ghost view = { λ c. record { have = c.committed.state; members = c.members.items } };
+
+    ghost invariant = { λ c. (MOST_MEMBERS ≤ vec_capacity c.members) × IsChain (record { have = c.committed.state; members = c.members.items }) };
+}
+
+/// Commits the tentative state by its own decree.
+#[tactic(auto, using(crate::proofs::ChainLemmas::commit_is))]
+fn commit(tentative: Tentative, decree: &Decree) -> Committed
+    requires { IsTrue (commits_state decree.now tentative.after) }
+    ensures { result ≡ record { state = tentative.after; replies = tentative.replies } }
+{
+    match tentative.commit(decree) {
+        Ok(committed) => committed,
+        Err(back) => {
+            back.undo();
+            // The decree is its own.
+            unreachable!()
+        }
+    }
+}
+
+/// Writes each member over the state before it.
+fn put_members<S: Sink>(members: &[Tentative], sink: &mut S) -> Result<(), S::Refusal>
+    ensures { OnOk result (Puts S.holds (flat_map member_text members.now) sink.old sink.new) }
+{
+    for member in members {
+        member.put(sink)?;
+    }
+    Ok(())
+}
+
+impl Chain {
+    ghost use Rattle.rollback.specs.declared.chain.TheConstants.{MOST_MEMBERS};
+
+    /// A chain without members, over the committed state. Room for the members is made at once, so
+    /// no later call but `put` takes memory.
+    pub fn new(alloc: Global, committed: Committed) -> Result<Chain, AllocError>
+        ensures { IfOk result (λ chain. chain ≡ record { have = committed.state; members = [] }) }
+    {
+        Ok(Chain {
+            committed,
+            members: Vec::with_capacity(alloc, MOST_MEMBERS)?,
+        })
+    }
+
+    /// The committed state.
+    pub fn committed(&self) -> &State
+        ensures { result.now ≡ self.now.have }
+    {
+        self.committed.state()
+    }
+
+    /// How many members it has.
+    pub fn len(&self) -> usize
+        ensures len { result ≡ length self.now.members }
+        ensures few { result ≤ MOST_MEMBERS }
+    {
+        self.members.len()
+    }
+
+    /// Whether it has no member.
+    pub fn is_empty(&self) -> bool
+        ensures { IsTrue result ↔ (self.now.members ≡ []) }
+    {
+        self.members.is_empty()
+    }
+
+    /// The members, in order.
+    pub fn members(&self) -> &[Tentative]
+        ensures { result.now ≡ self.now.members }
+    {
+        self.members.as_slice()
+    }
+
+    /// The state after the members, as a base for the batch after it.
+    pub fn tip(&self) -> &Base
+        ensures { result.now.state ≡ chain_tip self.now }
+    {
+        match self.members.last() {
+            Some(last) => last.as_base(),
+            None => self.committed.as_base(),
+        }
+    }
+
+    /// Whether the tentative state is over the state after the members, as number and token tell.
+    pub fn takes(&self, tentative: &Tentative) -> bool
+        ensures { result ≡ is_over (chain_tip self.now) tentative.now }
+    {
+        let tip = self.tip();
+        let before = tentative.before();
+        before.number() == tip.number() && before.token() == tip.token()
+    }
+
+    /// Adds the tentative state as the last member. `Full`: there are `MOST_MEMBERS`. `Unfit`: it is
+    /// not over the state after the members. Then nothing changes, and it comes back.
+    pub fn push(&mut self, tentative: Tentative) -> Result<(), (Fault, Tentative)>
+        ensures ok { OnOk result (self.new ≡ pushed self.old tentative) }
+        ensures done { IsOk result ↔ ((length self.old.members < MOST_MEMBERS) × IsTrue (is_over (chain_tip self.old) tentative)) }
+        ensures full { IfErr result (λ refused. (refused.0 ≡ Fault.Full) ↔ (length self.old.members ≡ MOST_MEMBERS)) }
+        ensures only { IfErr result (λ refused. (refused.0 ≡ Fault.Full) ⊎ (refused.0 ≡ Fault.Unfit)) }
+        ensures back { IfErr result (λ refused. refused.1 ≡ tentative) }
+        ensures err { OnErr result (self.new ≡ self.old) }
+    {
+        if self.members.len() == MOST_MEMBERS {
+            return Err((Fault::Full, tentative));
+        }
+        if !self.takes(&tentative) {
+            return Err((Fault::Unfit, tentative));
+        }
+        self.members.push_reserved(tentative);
+        Ok(())
+    }
+
+    /// Whether the decree commits the first member.
+    pub fn commits_first(&self, decree: &Decree) -> bool
+        ensures { result ≡ commits_first decree.now self.now.members }
+    {
+        match (self.members.first(), decree) {
+            (Some(first), Decree::Commit { n, token }) => {
+                first.number() == *n && first.token() == *token
+            }
+            _ => false,
+        }
+    }
+
+    /// Commits the first member by the decree of its number and token, and gives its replies. By any
+    /// other decree nothing changes.
+    pub fn commit_first(&mut self, decree: &Decree) -> Option<Vec<Answered>>
+        ensures given { option_map (λ replies. replies.items) result ≡ given_by decree.now self.old }
+        ensures chain { self.new ≡ after_decree decree.now self.old }
+    {
+        if !self.commits_first(decree) {
+            return None;
+        }
+        let first = self.members.remove(0);
+        let (committed, replies) = commit(first, decree).take_replies();
+        self.committed = committed;
+        Some(replies)
+    }
+
+    /// Writes its record: the committed state, how many members it has, and each of them over the
+    /// state before it. A sink that takes shared pieces gets the texts that are kept; so a record in a
+    /// text of pieces copies little. The sink may refuse it, as where an allocation fails.
+    pub fn put<S: Sink>(&self, sink: &mut S) -> Result<(), S::Refusal>
+        ensures { OnOk result (Puts S.holds (chain_text self.now) sink.old sink.new) }
+    {
+        self.committed.put(sink)?;
+        (self.members.len() as u8).put(sink)?;
+        put_members(self.members.as_slice(), sink)
+    }
+
+    /// Undoes all members.
+    pub fn undo_all(&mut self)
+        ensures { self.new ≡ undone self.old }
+    {
+        while let Some(last) = self.members.pop() {
+            last.undo();
+        }
+    }
+
+    /// Undoes all members, and gives the committed state, without replies.
+    pub fn end(self) -> Committed
+        ensures { result.state ≡ self.have }
+    {
+        let Chain {
+            committed,
+            mut members,
+        } = self;
+        while let Some(last) = members.pop() {
+            last.undo();
+        }
+        members.destroy_empty();
+        committed
+    }
+}

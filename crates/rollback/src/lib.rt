@@ -1,0 +1,12 @@
+//! Tentative states one over the other, above a committed one: the first is committed, or all are
+//! undone.
+//!
+//! It stands on `executor`, and on `decrees`. The layer above uses `Chain`: each member is over the
+//! one before it, they are at most four, and what is committed is the first one, by the decree of its
+//! number and token. `tip` lends the state after the members, for the batch after it.
+#![tactic(auto)]
+
+mod chain;
+mod witness;
+
+pub use chain::{Chain, MOST_MEMBERS};
