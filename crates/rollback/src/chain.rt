@@ -192,7 +192,7 @@ impl Chain {
         }
     }
 
-    /// Undoes all members, and gives the committed state, without replies.
+    /// Undoes all members, and gives the committed state.
     pub fn end(self) -> Committed
         ensures { result.state ≡ self.have }
     {
