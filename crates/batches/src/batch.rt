@@ -1,4 +1,4 @@
-ghost use Rattle.std.specs.Prelude.{◌≡◌, ◌≤◌, length, IfOk};
+ghost use Rattle.std.specs.Prelude.{◌≡◌, ◌≤◌, ◌↔◌, length, IsTrue, IfOk};
 ghost use Rattle.batches.specs.declared.batch.TheConstants.{MOST_REQUESTS, GREATEST_NUMBER};
 ghost use Rattle.batches.specs.Stamp.{first_stamp};
 
@@ -34,7 +34,30 @@ fn copied(requests: &Requests) -> Result<Requests, AllocError>
     requests.clone()
 }
 
+/// Whether the requests are the same, in their order.
+fn are_same(requests: &[Request], others: &[Request]) -> bool
+    ensures { IsTrue result ↔ (requests.now ≡ others.now) }
+{
+    match (requests, others) {
+        ([], []) => true,
+        ([request, requests @ ..], [other, others @ ..]) => {
+            request.is_same(other) && are_same(requests, others)
+        }
+        _ => false,
+    }
+}
+
 impl Batch {
+    /// Whether it is the same as the other one. It takes no memory.
+    pub fn is_same(&self, other: &Batch) -> bool
+        ensures { IsTrue result ↔ (self.now ≡ other.now) }
+    {
+        self.epoch == other.epoch
+            && self.n == other.n
+            && self.moment == other.moment
+            && are_same(self.requests.as_slice(), other.requests.as_slice())
+    }
+
     /// The stamp of its first request. Each other one has one more than the one before it.
     pub fn first_stamp(&self) -> u64
         ensures { result ≡ first_stamp self.now.n }

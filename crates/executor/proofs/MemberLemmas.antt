@@ -2,7 +2,6 @@
 use Rattle.std.proofs.Common.{◌≡◌, ℕ, true, arith, length, ◌∷◌, ◌+◌, List, [], ◌++◌, map, refl, sym, ap, ◌∙◌, subst, append_assoc}
 use Rattle.std.specs.Prelude.{◌==◌}
 use Rattle.std.proofs.lemmas.Bool.Decides.{nat_tests}
-use Rattle.std.proofs.lemmas.List.{append-nil}
 use Rattle.base.specs.declared.fault.Fault.{Fault}
 use Rattle.items.specs.Map.{Items}
 use Rattle.sessions.specs.declared.request.Request.{Request}
@@ -31,12 +30,14 @@ empty_is [] e = refl
 empty_is (x ∷ xs) e =
     absurd (grind (arith, nat_tests, e))
 
--- no tentative state over the base has this record
+-- no tentative state over the base has a record that is a prefix of these bytes
 abbrev pub NoMember : StateView → List ℕ → Type 0
-NoMember base bytes = (t : TentativeView) → IsTentativeOver base t → bytes ≡ member_text t → ⊥
+NoMember base bytes = NoPrefix (IsTentativeOver base) member_text bytes
 
 pub no_batch : (base : StateView) (bytes : List ℕ) (e : Fault) → Refused e (NoPrefix Always batch_text bytes) → Refused e (NoMember base bytes)
-no_batch base bytes e = Refused-weaker e (λ (none : NoPrefix Always batch_text bytes) t over same. none.none t.batch (after_text t.before.items t.after) tt same)
+no_batch base bytes e = Refused-weaker e (λ (none : NoPrefix Always batch_text bytes). record {
+  none = λ t others over same. none.none t.batch (after_text t.before.items t.after ++ others) tt (same ∙ append_assoc (batch_text t.batch) (after_text t.before.items t.after) others);
+})
 
 -- the same of what was lent
 pub same_lack : {s s' before before' : Replies} {rs rs' : List Request} (e : Fault) → s ≡ s' → before ≡ before' → rs ≡ rs' → Refused e (LackOne s (runners_among before rs)) → Refused e (LackOne s' (runners_among before' rs'))
@@ -46,47 +47,39 @@ pub same_kept : {s s' before before' : Replies} {rs rs' : List Request} (replies
 same_kept {s} {s'} {before} {before'} {rs} {rs'} replies a b c = subst (λ (p : (Replies × Replies) × List Request). AreKept p.0.0 (runners_among p.0.1 p.1) replies) {x = ((s, before), rs)} {y = ((s', before'), rs')} (λ i. ((a i, b i), c i))
 
 module _ (base : StateView) (bytes : List ℕ) (batch : Batch) (rest : List ℕ) (got : bytes ≡ batch_text batch ++ rest) where
-  same_batch : (t : TentativeView) → IsTentativeOver base t → bytes ≡ member_text t → (batch ≡ t.batch) × (rest ≡ after_text base.items t.after)
-  same_batch t over same =
-      let both = batch_prefix_free.apart batch t.batch rest (after_text t.before.items t.after) (sym got ∙ same) in
-      (both.0, both.1 ∙ ap (λ (b : StateView). after_text b.items t.after) over.over)
+  same_batch : (t : TentativeView) (others : List ℕ) → IsTentativeOver base t → bytes ≡ member_text t ++ others → (batch ≡ t.batch) × (rest ≡ after_text base.items t.after ++ others)
+  same_batch t others over same =
+      let both = batch_prefix_free.apart batch t.batch rest (after_text t.before.items t.after ++ others) (sym got ∙ (same ∙ append_assoc (batch_text t.batch) (after_text t.before.items t.after) others)) in
+      (both.0, both.1 ∙ ap (λ (b : StateView). after_text b.items t.after ++ others) over.over)
 
   pub other_number : (batch.n ≡ base.number + 1 → ⊥) → NoMember base bytes
-  other_number wrong t over same = wrong (ap (λ (b : Batch). b.n) (same_batch t over same).0 ∙ (over.is.next ∙ ap (λ (b : StateView). b.number + 1) over.over))
+  other_number wrong = record {
+    none = λ t others over same. wrong (ap (λ (b : Batch). b.n) (same_batch t others over same).0 ∙ (over.is.next ∙ ap (λ (b : StateView). b.number + 1) over.over));
+  }
 
   pub no_after : (e : Fault) → Refused e (NoPrefix (IsSuccessor base batch) (after_text base.items) rest) → Refused e (NoMember base bytes)
-  no_after e = Refused-weaker e (λ (none : NoPrefix (IsSuccessor base batch) (after_text base.items) rest) t over same.
-      let both = same_batch t over same in
-      none.none t.after [] (subst (λ (b : StateView). IsSuccessor b batch t.after) over.over (subst (λ (b : Batch). IsSuccessor t.before b t.after) (sym both.0) over.is.after))
-      (both.1 ∙ sym (append-nil (after_text base.items t.after))))
+  no_after e = Refused-weaker e (λ (none : NoPrefix (IsSuccessor base batch) (after_text base.items) rest). record {
+    none = λ t others over same.
+        let both = same_batch t others over same in
+        none.none t.after others (subst (λ (b : StateView). IsSuccessor b batch t.after) over.over (subst (λ (b : Batch). IsSuccessor t.before b t.after) (sym both.0) over.is.after)) both.1;
+  })
 
   module _ (after : StateView) (left : List ℕ) (more : rest ≡ after_text base.items after ++ left) where
-    same_after : (t : TentativeView) → IsTentativeOver base t → bytes ≡ member_text t → (after ≡ t.after) × (left ≡ [])
-    same_after t over same = (after_free base.items).apart after t.after left [] (sym more ∙ ((same_batch t over same).1 ∙ sym (append-nil (after_text base.items t.after))))
-
-    pub too_long : (left ≡ [] → ⊥) → NoMember base bytes
-    too_long wrong t over same = wrong (same_after t over same).1
-
     -- what a tentative state's sessions keep
-    kept_again : (t : TentativeView) → IsTentativeOver base t → bytes ≡ member_text t → AreKept after.sessions (runners_among base.sessions batch.requests) t.replies
-    kept_again t over same =
-        let both = same_batch t over same in
-        let is = (same_after t over same).0 in
+    kept_again : (t : TentativeView) (others : List ℕ) → IsTentativeOver base t → bytes ≡ member_text t ++ others → AreKept after.sessions (runners_among base.sessions batch.requests) t.replies
+    kept_again t others over same =
+        let both = same_batch t others over same in
+        let is = ((after_free base.items).apart after t.after left others (sym more ∙ both.1)).0 in
         (λ i. map (kept_for (is i).sessions) (runners_among (sym over.over i).sessions (both.0 i).requests)) ∙ over.is.kept
 
     pub no_reply : (e : Fault) → Refused e (LackOne after.sessions (runners_among base.sessions batch.requests)) → Refused e (NoMember base bytes)
-    no_reply e = Refused-weaker e (λ (none : LackOne after.sessions (runners_among base.sessions batch.requests)) t over same. none t.replies (kept_again t over same))
+    no_reply e = Refused-weaker e (λ (none : LackOne after.sessions (runners_among base.sessions batch.requests)). record {
+      none = λ t others over same. none t.replies (kept_again t others over same);
+    })
 
     module _ (before : StateView) (shared : before ≡ base) (replies : List Answered) (kept : AreKept after.sessions (runners_among base.sessions batch.requests) replies) where
       abbrev found : TentativeView
       found = record { before = before; batch = batch; after = after; replies = replies }
-
-      pub same_member : (t : TentativeView) → IsTentativeOver base t → bytes ≡ member_text t → found ≡ t
-      same_member t over same =
-          let both = same_batch t over same in
-          let is = (same_after t over same).0 in
-          let listed = one_list replies t.replies (sym kept ∙ kept_again t over same) in
-          λ i. record { before = (shared ∙ sym over.over) i; batch = both.0 i; after = is i; replies = listed i }
 
       pub is_over : batch.n ≡ base.number + 1 → IsSuccessor base batch after → IsTentativeOver base found
       is_over next follows = record {
@@ -98,10 +91,10 @@ module _ (base : StateView) (bytes : List ℕ) (batch : Batch) (rest : List ℕ)
         over = shared;
       }
 
-      pub its_record : left ≡ [] → bytes ≡ member_text found
-      its_record none =
-          got ∙ ap (λ (t : List ℕ). batch_text batch ++ t) (more ∙ (ap (λ (t : List ℕ). after_text base.items after ++ t) none
-          ∙ (append-nil (after_text base.items after) ∙ ap (λ (b : StateView). after_text b.items after) (sym shared))))
+      pub its_record : bytes ≡ member_text found ++ left
+      its_record =
+          got ∙ (ap (λ (t : List ℕ). batch_text batch ++ t) (more ∙ ap (λ (b : StateView). after_text b.items after ++ left) (sym shared))
+          ∙ sym (append_assoc (batch_text batch) (after_text before.items after) left))
 
 pub whole_member : WholeMember
 whole_member t u rest others over same =
@@ -109,6 +102,18 @@ whole_member t u rest others over same =
     (sym (append_assoc (batch_text t.batch) (after_text t.before.items t.after) rest) ∙ (same ∙ append_assoc (batch_text u.batch) (after_text u.before.items u.after) others)) in
     let after = (after_free t.before.items).apart t.after u.after rest others (both.1 ∙ ap (λ (b : StateView). after_text b.items u.after ++ others) (sym over)) in
     ((λ i. batch_text (both.0 i) ++ after_text (over i).items (after.0 i)), after.1)
+
+-- over one state, a record that stands at the front of bytes is that of one tentative state
+pub one_over : {base : StateView} (t u : TentativeView) (rest others : List ℕ) → IsTentativeOver base t → IsTentativeOver base u → member_text t ++ rest ≡ member_text u ++ others → (t ≡ u) × (rest ≡ others)
+one_over t u rest others over other same =
+    let before : t.before ≡ u.before = over.over ∙ sym other.over in
+    let both = batch_prefix_free.apart t.batch u.batch (after_text t.before.items t.after ++ rest) (after_text u.before.items u.after ++ others)
+    (sym (append_assoc (batch_text t.batch) (after_text t.before.items t.after) rest) ∙ (same ∙ append_assoc (batch_text u.batch) (after_text u.before.items u.after) others)) in
+    let after = (after_free t.before.items).apart t.after u.after rest others (both.1 ∙ ap (λ (b : StateView). after_text b.items u.after ++ others) (sym before)) in
+    let kept : AreKept t.after.sessions (runners_among t.before.sessions t.batch.requests) u.replies =
+    (λ i. map (kept_for (after.0 i).sessions) (runners_among (before i).sessions (both.0 i).requests)) ∙ other.is.kept in
+    let listed = one_list t.replies u.replies (sym over.is.kept ∙ kept) in
+    ((λ i. record { before = before i; batch = both.0 i; after = after.0 i; replies = listed i }), after.1)
 
 pub one_member : OneMember
 one_member t u over same =

@@ -43,12 +43,14 @@ module _ (base : StateView) (batch : Batch) (ordered : Bool) where
   rest_same new now replies also a b items answers =
       let told : replies ≡ also = a.replied ∙ (λ i. map (answered (answers i)) (runners base batch)) ∙ sym b.replied in
       let sessions : new.sessions ≡ now.sessions = a.sessions ∙ ap (kept_after base.sessions) told ∙ sym b.sessions in
+      let form : new.form ≡ now.form = a.form ∙ sym b.form in
       let number : new.number ≡ now.number = a.number ∙ sym b.number in
       let previous : new.previous ≡ now.previous = a.previous ∙ sym b.previous in
       let epoch : new.epoch ≡ now.epoch = a.epoch ∙ sym b.epoch in
       let digest : new.batch ≡ now.batch = a.batch_is ∙ sym b.batch_is in
       let moment : new.moment ≡ now.moment = a.moment ∙ sym b.moment in
       let known : with_token new ≡ with_token now = λ i. with_token (record {
+        form = form i;
         number = number i;
         previous = previous i;
         epoch = epoch i;

@@ -253,6 +253,7 @@ module _ (base : StateView) (batch : Batch) (ordered : Bool) where
         replied = zip_replied (answers_now w p) there w.running p.same (λ i x at. p.answers i x at ∙ ap (answers_at x.place) (answers_same w p));
         sessions = refl;
         moment = refl;
+        form = refl;
         number = refl;
         previous = refl;
         epoch = refl;

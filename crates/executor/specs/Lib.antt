@@ -4,6 +4,7 @@ pub mod BatchRequest
 pub mod Work
 pub mod Ends
 pub mod Through
+pub mod StepOf
 pub mod GroupRun
 pub mod Kept
 pub mod MemberRecord

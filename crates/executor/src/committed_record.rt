@@ -1,7 +1,7 @@
 //! The record of a committed state.
 
 ghost use Rattle.std.specs.Prelude.{◌≡◌, ◌++◌, OnOk, OnErr, IfOk};
-ghost use Rattle.wire.specs.Record.{Puts, Reads};
+ghost use Rattle.wire.specs.Record.{Puts, Takes, Reads};
 ghost use Rattle.states.specs.State.{StateView, IsState};
 ghost use Rattle.states.specs.StateRecord.{state_text};
 ghost use Rattle.executor.specs.Kept.{IsQuiet};
@@ -37,20 +37,31 @@ impl Committed {
         Ok(())
     }
 
-    /// The committed state whose record all of the bytes are, with its token recomputed.
-    /// No reply comes with it. `BadRecord`: they are the record of no state. `NoMemory` is the only
-    /// other error.
+    /// The committed state whose record is a prefix of the bytes, with its token recomputed, and the
+    /// bytes after it. No reply comes with it. `BadRecord`: no record of a state is one. `NoMemory` is the
+    /// only other error.
+    pub fn take(alloc: Global, bytes: &[u8]) -> Result<(Committed, &[u8]), Fault>
+        ensures { Takes IsQuiet (λ c. state_text c.state) bytes.now result }
+    {
+        let (state, rest) = State::take(alloc, bytes)?;
+        let committed = Committed {
+            base: Base { state },
+            replies: Vec::new(alloc),
+        };
+        Ok((committed, rest))
+    }
+
+    /// The committed state whose record all of the bytes are: see `take`. `BadRecord`: they are the
+    /// record of no state. `NoMemory` is the only other error.
     pub fn restore(alloc: Global, bytes: &[u8]) -> Result<Committed, Fault>
         ensures reads { Reads IsQuiet (λ c. state_text c.state) bytes.now result }
         ensures again { IfOk result (λ committed. (state : StateView) → bytes.now ≡ state_text state → committed.state ≡ state) }
     {
-        let (state, rest) = State::take(alloc, bytes)?;
-        if !rest.is_empty() {
-            return Err(Fault::BadRecord);
+        let (committed, rest) = Committed::take(alloc, bytes)?;
+        if rest.is_empty() {
+            Ok(committed)
+        } else {
+            Err(Fault::BadRecord)
         }
-        Ok(Committed {
-            base: Base { state },
-            replies: Vec::new(alloc),
-        })
     }
 }

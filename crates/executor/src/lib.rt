@@ -6,8 +6,8 @@
 //! whatever the schedule of its threads; and `Tentative::commit`, which shows the replies by the
 //! decree of that token alone. `as_base` lends a tentative or committed state for the batch after it.
 //! Where a caller orders the steps itself, `Work` makes them one by one. For a keeper there are the
-//! records that `write` appends and `restore` reads: of a committed state, and of a tentative one over
-//! its base.
+//! records that `put` writes and `take` reads, with a rest: of a committed state, and of a tentative one
+//! over its base. `restore` reads one that has no rest.
 #![tactic(auto)]
 
 mod answered;

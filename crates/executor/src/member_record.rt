@@ -1,7 +1,7 @@
 //! The record of a tentative state, as a member of a chain.
 
 ghost use Rattle.std.specs.Prelude.{◌≡◌, ◌++◌, OnOk, OnErr, IfOk};
-ghost use Rattle.wire.specs.Record.{Puts, Reads};
+ghost use Rattle.wire.specs.Record.{Puts, Takes, Reads};
 ghost use Rattle.executor.specs.Work.{TentativeView};
 ghost use Rattle.executor.specs.Kept.{IsTentative, IsTentativeOver};
 ghost use Rattle.executor.specs.MemberRecord.{member_text};
@@ -51,35 +51,51 @@ impl Tentative {
         Ok(())
     }
 
-    /// The tentative state over the base whose record all of the bytes are. Its pages are shared
-    /// with the base where they are the same.
+    /// The tentative state over the base whose record is a prefix of the bytes, and the bytes after
+    /// it. Its pages are shared with the base where they are the same.
     ///
-    /// `BadRecord`: no tentative state over this base has this record. So its batch is of the
-    /// number after the base's, it is over the base's token, its batch digest, moment and token are
-    /// the computed ones, and its sessions keep each request of its batch that ran; the replies are
-    /// those that they keep. `NoMemory` is the only other error.
-    pub fn restore(alloc: Global, base: &Base, bytes: &[u8]) -> Result<Tentative, Fault>
-        ensures reads { Reads (IsTentativeOver base.now.state) member_text bytes.now result }
-        ensures again { IfOk result (λ found. (tentative : TentativeView) → IsTentativeOver base.now.state tentative
-            → bytes.now ≡ member_text tentative → found ≡ tentative) }
+    /// `BadRecord`: no tentative state over this base has such a record. So its batch is of the number
+    /// after the base's, it is over the base's token, its batch digest, moment and token are the
+    /// computed ones, and its sessions keep each request of its batch that ran; the replies are those
+    /// that they keep. `NoMemory` is the only other error.
+    pub fn take<'b>(
+        alloc: Global,
+        base: &Base,
+        bytes: &'b [u8],
+    ) -> Result<(Tentative, &'b [u8]), Fault>
+        ensures { Takes (IsTentativeOver base.now.state) member_text bytes.now result }
     {
         let (batch, rest) = Batch::take(alloc, bytes)?;
         if batch.n != base.number() + 1 {
             return Err(Fault::BadRecord);
         }
         let (after, rest) = State::take_after(alloc, &base.state, &batch, rest)?;
-        if !rest.is_empty() {
-            return Err(Fault::BadRecord);
-        }
         let before = base.share()?;
         let requests = batch.requests.as_slice();
         let replies = kept_replies(alloc, before.state.sessions(), requests, after.sessions())?;
-        Ok(Tentative {
+        let tentative = Tentative {
             before,
             batch,
             after: Base { state: after },
             replies,
             may_differ: PageSet::all(),
-        })
+        };
+        Ok((tentative, rest))
+    }
+
+    /// The tentative state over the base whose record all of the bytes are: see `take`. `BadRecord`: no
+    /// tentative state over this base has this record. `NoMemory` is the only other error.
+    pub fn restore(alloc: Global, base: &Base, bytes: &[u8]) -> Result<Tentative, Fault>
+        ensures reads { Reads (IsTentativeOver base.now.state) member_text bytes.now result }
+        ensures again { IfOk result (λ found. (tentative : TentativeView) → IsTentativeOver base.now.state tentative
+            → bytes.now ≡ member_text tentative → found ≡ tentative) }
+    {
+        let (tentative, rest) = Tentative::take(alloc, base, bytes)?;
+        if rest.is_empty() {
+            Ok(tentative)
+        } else {
+            tentative.undo();
+            Err(Fault::BadRecord)
+        }
     }
 }

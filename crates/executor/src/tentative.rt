@@ -1,4 +1,5 @@
-ghost use Rattle.std.specs.Prelude.{◌≡◌, ◌<◌, ◌^◌, ◌↔◌, [], false, IfOk, IfErr, IsOk};
+ghost use Rattle.std.specs.Prelude.{◌≡◌, ◌<◌, ◌^◌, ◌↔◌, [], false, IfOk, IfErr, IsOk, IsTrue};
+ghost use Rattle.pages.specs.Form.{FitForm};
 ghost use Rattle.states.specs.State.{initial_state, with_token};
 ghost use Rattle.states.specs.Parts.{parts_of};
 ghost use Rattle.decrees.specs.declared.decree.Decree.TheVariants.{Commit};
@@ -61,6 +62,16 @@ impl Model for Committed {
     ghost view = { λ c. record { state = c.base.state; replies = c.replies.items } };
 }
 
+/// Whether the decree is the commit of this state, by its number and token.
+fn commits(decree: &Decree, after: &Base) -> bool
+    ensures { IsTrue result ↔ (decree.now ≡ Commit after.now.state.number after.now.state.token) }
+{
+    match decree {
+        Decree::Commit { n, token } => *n == after.number() && *token == after.token(),
+        Decree::Rollback => false,
+    }
+}
+
 impl Tentative {
     /// How many batches led to the tentative state.
     pub fn number(&self) -> u64
@@ -111,25 +122,22 @@ impl Tentative {
         ensures ok { IfOk result (λ committed. committed ≡ record { state = self.after; replies = self.replies }) }
         ensures err { IfErr result (λ tentative. tentative ≡ self) }
     {
-        match decree {
-            Decree::Commit { n, token }
-                if *n == self.after.number() && *token == self.after.token() => {
-                let Tentative {
-                    before,
-                    batch,
-                    after,
-                    replies,
-                    may_differ: _,
-                } = self;
-                drop(before);
-                drop(batch);
-                Ok(Committed {
-                    base: after,
-                    replies,
-                })
-            }
-            _ => Err(self),
+        if !commits(decree, self.as_base()) {
+            return Err(self);
         }
+        let Tentative {
+            before,
+            batch,
+            after,
+            replies,
+            may_differ: _,
+        } = self;
+        drop(before);
+        drop(batch);
+        Ok(Committed {
+            base: after,
+            replies,
+        })
     }
 
     /// The base, as it was. This takes no memory.
@@ -163,6 +171,7 @@ impl Committed {
     /// Its number is from 1 to 2^58 - 1.
     pub fn of_parts(alloc: Global, parts: Parts) -> Committed
         requires number { (0 < parts.number) × (parts.number < 2 ^ 58) }
+        requires form { FitForm parts.form parts.pages }
         ensures { result ≡ record { state = with_token (parts_of parts); replies = [] } }
     {
         Committed {

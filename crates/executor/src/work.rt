@@ -1,6 +1,6 @@
 ghost use Rattle.std.specs.Prelude.{◌≡◌, ◌≤◌, ◌<◌, ◌+◌, ◌^◌, ◌↔◌, ℕ, [], None, Some, true, false, IfOk, OnOk, OnErr, IsTrue, IfSome, slice_get, length, not, ◌&&◌, ◌||◌, ◌==◌};
 ghost use Rattle.std.specs.List.{list_all};
-ghost use Rattle.std.specs.Bool.{OnTrue, OnFalse};
+ghost use Rattle.std.specs.Bool.{OnTrue, OnFalse, then_some};
 ghost use Rattle.batches.specs.declared.batch.TheConstants.{MOST_REQUESTS};
 ghost use Rattle.item_steps.specs.Schedule.{stamped};
 ghost use Rattle.states.specs.Followed.{moment_of};
@@ -11,6 +11,7 @@ ghost use Rattle.executor.specs.Work.{WorkStep, HasStep, HasNoStep, tentative_of
 ghost use Rattle.executor.specs.Ends.{Begins, Goes, DoneIsRound};
 ghost use Rattle.executor.specs.GroupRun.{IsUntouched, StartsAfresh};
 ghost use Rattle.executor.specs.BatchRequest.{HaveFewSteps};
+ghost use Rattle.executor.specs.StepOf.{step_of};
 ghost use Rattle.executor.specs.Through.{IsReadyAt, WorkStepAt, later, ComesOfWork, DoneComesOfWork};
 
 use crate::answered::Answered;
@@ -309,6 +310,7 @@ impl Work {
     pub fn step(&mut self, alloc: Global, place: u32) -> Result<bool, AllocError>
         ensures made { IfOk result (λ done. done ≡ true
             → WorkStep (first_place self.old.base self.old.batch) self.old.progress place self.new.progress) }
+        ensures does { IfOk result (λ done. step_of self.old place ≡ then_some done self.new) }
         ensures others { self.new ≡ record self.old { progress = self.new.progress } }
         ensures none { IfOk result (λ done. done ≡ false
             → HasNoStep self.old.progress place × (self.new ≡ self.old)) }

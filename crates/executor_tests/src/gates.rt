@@ -152,7 +152,7 @@ impl<R: Clock> Gate for StaysInside<'_, R> {
 /// Counts what it is told, and what of it is wrong: that a step is on another page than that of its
 /// place, or outside before it was inside.
 ///
-/// The requests at the places 0 to 15 are on the pages from 48 on, that at place 16 on page 33.
+/// The requests at the places 0 to 15 are on the pages from 48 on, that at place 16 on page 97.
 #[derive(Drop)]
 pub struct Counts {
     inside: AtomicU64,
@@ -164,7 +164,7 @@ pub struct Counts {
 fn is_on(page: usize, place: u32) -> bool {
     match place {
         0..=15 => page == 48 + place as usize,
-        16 => page == 33,
+        16 => page == 97,
         _ => false,
     }
 }

@@ -182,7 +182,7 @@ fn is_first(state: &State) -> bool {
         && (state.previous(), state.token()) == (none, none)
         && *state.batch() == [0; 32]
         && state.sessions().entries().is_empty()
-        && state.pages().page(33).is_empty()
+        && state.pages().page(97).is_empty()
 }
 
 /// The token of batch 1.
@@ -193,12 +193,12 @@ fn first_token(alloc: Global, bytes: &[u8]) -> Result<Token, Fault> {
 
 #[test]
 fn the_token_of_one_set(rt: HostRuntime) -> Result<(), Fail> {
-    // By another program, over the texts of the batch, of page 33 and of 63 pages without items, of
+    // By another program, over the texts of the batch, of page 97 and of 255 pages without items, of
     // client 1's session, and of the token over them.
     let expected: [u8; 32] = [
-        0x57, 0x8d, 0xed, 0xef, 0x41, 0x41, 0x3b, 0xe9, 0x90, 0xea, 0x66, 0x65, 0x15, 0xa1, 0x95,
-        0x47, 0x84, 0x93, 0x21, 0xb4, 0x09, 0x9e, 0x34, 0xd9, 0x2e, 0x8b, 0x19, 0xea, 0x0d, 0x26,
-        0x2f, 0x4e,
+        0xd6, 0xfa, 0xbc, 0x9b, 0x91, 0x08, 0xa6, 0xbc, 0x5a, 0x18, 0xa7, 0x6b, 0x45, 0x60, 0x68,
+        0x87, 0x8a, 0x9a, 0xa2, 0xff, 0x34, 0xd7, 0xe9, 0x24, 0xa3, 0x27, 0x59, 0x8c, 0xf0, 0xcd,
+        0xd3, 0x9b,
     ];
     assert!(rt; first_token(rt.alloc(), ONE_SET) == Ok(Token(expected)));
     Ok(())
@@ -207,7 +207,7 @@ fn the_token_of_one_set(rt: HostRuntime) -> Result<(), Fail> {
 /// The greatest unique that a `gets` would show of the keys on the key's page.
 fn latest(state: &State, key: u8) -> u64 {
     let mut latest = 0;
-    for entry in state.pages().page((key % 64) as usize) {
+    for entry in state.pages().page(key as usize) {
         latest = entry.value().unique.max(latest);
     }
     latest

@@ -55,7 +55,7 @@ fn run_two<R: Threads + Wait + Sync, G: Gate + Sync>(
 }
 
 /// Sixteen requests that set the keys from `0` on, whose pages are 48 to 63, and one that reads `a`
-/// three times, on page 33.
+/// three times, on page 97.
 fn add_seventeen(alloc: Global, group: &mut Vec<Task>) -> Result<(), AllocError> {
     for place in 0..16u32 {
         add_set(alloc, group, place, &[b'0' + place as u8], b'1')?;

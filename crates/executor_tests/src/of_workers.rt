@@ -1,11 +1,14 @@
 ghost use Rattle.std.specs.Prelude.{◌≤◌};
 
 use crate::gates::Order;
-use crate::tasks::{add_get, add_incr, add_set, set};
+use crate::tasks::{add_gats, add_get, add_incr, add_set, set};
 use item_steps::{Answer, Stamp, Task, apply};
 use items::{Item, PlainStore};
 use pages::{Page, Pages};
 use proto::{Command, Fault, Key, Reply, Update};
+use rand_core::SeedableRng;
+use rand_core::utils::NextWord;
+use rand_pcg::Lcg64Xsh32;
 use round::{NoGate, Ran};
 use sessions::{Request, Sessions};
 use std::alloc::{AllocError, Global};
@@ -304,6 +307,70 @@ fn orders_of_many_rounds_replay(rt: HostRuntime) -> Result<(), Fail> {
     Ok(())
 }
 
+/// One of the eight shared keys, at random.
+fn shared_key(words: &mut Lcg64Xsh32) -> u8 {
+    b'0' + (words.next_word() % 8) as u8
+}
+
+/// 64 requests: each other one touches two keys of its own and then a shared one, the others count a
+/// shared one up.
+fn add_touching(
+    alloc: Global,
+    group: &mut Vec<Task>,
+    words: &mut Lcg64Xsh32,
+) -> Result<(), AllocError> {
+    for place in 0..32u32 {
+        add_gats(alloc, group, 2 * place, shared_key(words))?;
+        add_incr(alloc, group, 2 * place + 1, &[shared_key(words)])?;
+    }
+    Ok(())
+}
+
+/// Whether a round of such requests is replayed.
+fn touching_agrees<R: Threads + Wait + Sync>(
+    rt: &R,
+    alloc: Global,
+    both: &mut Both,
+    words: &mut Lcg64Xsh32,
+    number: u64,
+) -> Result<bool, Fault> {
+    let mut group = Vec::new(alloc);
+    add_touching(alloc, &mut group, words)?;
+    let (_, same) = both.is_replayed(rt, alloc, &group, base_of(number), 16)?;
+    Ok(same)
+}
+
+fn touching_rounds_agree<R: Threads + Wait + Sync>(
+    rt: &R,
+    alloc: Global,
+    both: &mut Both,
+    rounds: u64,
+) -> Result<bool, Fault> {
+    let mut words = Lcg64Xsh32::seed_from_u64(64);
+    let mut all = true;
+    for number in 0..rounds {
+        all = all && touching_agrees(rt, alloc, both, &mut words, number)?;
+    }
+    Ok(all)
+}
+
+/// Whether each of so many rounds over one state is replayed.
+fn count_and_touch<R: Threads + Wait + Sync>(
+    rt: &R,
+    alloc: Global,
+    rounds: u64,
+) -> Result<bool, Fault> {
+    let mut both = Both::new(alloc)?;
+    let set = are_counters_set(rt, alloc, &mut both) == Ok(true);
+    Ok(set && touching_rounds_agree(rt, alloc, &mut both, rounds) == Ok(true))
+}
+
+#[test]
+fn orders_of_touching_rounds_replay(rt: HostRuntime) -> Result<(), Fail> {
+    assert!(rt; count_and_touch(&rt, rt.alloc(), 1000) == Ok(true));
+    Ok(())
+}
+
 /// Whether both pages keep a digest, and the same one.
 fn is_same_digest(a: &Page, b: &Page) -> bool {
     match (a.digest(), b.digest()) {
@@ -312,9 +379,12 @@ fn is_same_digest(a: &Page, b: &Page) -> bool {
     }
 }
 
+/// Writes each of the 256 pages: those from 128 on by keys of one byte, and the others by keys of two.
 fn write_each(alloc: Global, pages: &mut Pages) -> Result<(), AllocError> {
-    for byte in 48..112u8 {
+    for more in 0..128u8 {
+        let byte = 128 + more;
         apply(alloc, pages, &set(alloc, &[byte], b'1')?, base_of(1))?;
+        apply(alloc, pages, &set(alloc, &[128, byte], b'1')?, base_of(1))?;
     }
     Ok(())
 }
@@ -357,7 +427,7 @@ fn make_the_same<R: Threads + Sync>(
     sessions: &Sessions,
     workers: Workers,
 ) -> bool {
-    let written = pages.len() == 64 && pages.iter().all(|page| page.digest().is_none());
+    let written = pages.len() == 256 && pages.iter().all(|page| page.digest().is_none());
     for page in alone.iter_mut() {
         page.refresh();
     }

@@ -42,6 +42,13 @@ fn add_reads(alloc: Global, steps: &mut Vec<Step>, keys: &[u8]) -> Result<(), Al
     Ok(())
 }
 
+fn touch(alloc: Global, bytes: &[u8]) -> Result<Step, AllocError> {
+    Ok(Step::ReadAndTouch {
+        key: key(alloc, bytes)?,
+        exptime: 0,
+    })
+}
+
 /// A request of one step.
 fn one(alloc: Global, place: u32, step: Step) -> Result<Task, AllocError> {
     Ok(Task {
@@ -59,6 +66,26 @@ pub fn add_get(
 ) -> Result<(), AllocError> {
     let mut steps = Vec::new(alloc);
     add_reads(alloc, &mut steps, keys)?;
+    group.push(Task {
+        place,
+        steps: Steps::new(steps),
+    })?;
+    Ok(())
+}
+
+/// Adds a request that touches two keys of its own, `x` and `y` with its place, and then a shared one.
+pub fn add_gats(
+    alloc: Global,
+    group: &mut Vec<Task>,
+    place: u32,
+    shared: u8,
+) -> Result<(), AllocError> {
+    let own = b'0' + (place % 64) as u8;
+    let steps = vec![in alloc;
+        touch(alloc, &[b'x', own])?,
+        touch(alloc, &[b'y', own])?,
+        touch(alloc, &[shared])?,
+    ]?;
     group.push(Task {
         place,
         steps: Steps::new(steps),

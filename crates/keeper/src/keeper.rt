@@ -1,4 +1,4 @@
-ghost use Rattle.std.specs.Prelude.{◌≡◌, ◌<◌, ◌^◌, ◌-◌, List, ℕ, Bool, Option, Some, OnOk, OnErr, IsTrue, IsErr};
+ghost use Rattle.std.specs.Prelude.{◌≡◌, ◌<◌, ◌≤◌, ◌⊎◌, ◌^◌, ◌-◌, List, ℕ, Bool, Option, Some, OnOk, OnErr, IfErr, IsTrue, IsErr};
 ghost use Rattle.std.specs.Option.{option_copied};
 
 use base::Text;
@@ -36,4 +36,25 @@ pub trait Keeper {
     /// How many saves have failed.
     fn failures(&self) -> u64
         ensures { result ≡ failed self.now };
+}
+
+/// Saves the text as the record. Stopped: the save failed, or its failure could not be counted, and
+/// then nothing was tried. After it the old record is there as before. There is no other error.
+pub fn save_record<K: Keeper>(text: Text, keeper: &mut K) -> Result<(), Fault>
+    ensures kept { OnOk result (K.saved keeper.new ≡ Some text) }
+    ensures none_failed { OnOk result (K.failed keeper.new ≡ K.failed keeper.old) }
+    ensures same_word { OnOk result (K.told keeper.new ≡ K.told keeper.old) }
+    ensures as_told { IsTrue (K.told keeper.old) → IsErr result }
+    ensures old { OnErr result (K.saved keeper.new ≡ K.saved keeper.old) }
+    ensures stopped { OnErr result ((K.failed keeper.old < K.failed keeper.new) ⊎ (K.failed keeper.old ≡ 2 ^ 64 - 1)) }
+    ensures only { IfErr result (λ fault. fault ≡ Fault.Stopped) }
+    ensures counted { K.failed keeper.old ≤ K.failed keeper.new }
+{
+    if keeper.failures() == u64::MAX {
+        return Err(Fault::Stopped);
+    }
+    match keeper.save(text) {
+        Ok(()) => Ok(()),
+        Err(_) => Err(Fault::Stopped),
+    }
 }

@@ -3,6 +3,7 @@ use Rattle.std.proofs.Common.{◌+◌, ◌∙◌, ◌≡◌, inl, inr, false, Li
 use Rattle.std.specs.Prelude.{Contains, slice_get, All, ◌&&◌, ◌==◌, if◌then◌else◌}
 use Rattle.std.specs.FinMap.{empty, get, get-empty}
 use Rattle.token.specs.declared.Token.{Token}
+use Rattle.token.specs.declared.form.Form.TheVariants.{Current}
 use Rattle.token.specs.Digest.{digest}
 use Rattle.decrees.specs.declared.decree.Decree.{Decree}
 use Rattle.decrees.specs.declared.decree.Decree.TheVariants.{Commit, Rollback}
@@ -57,9 +58,9 @@ commits_in_order = refl
 stands_at_last : (standing (Commit 1 sevens ∷ Rollback ∷ Commit 2 eights ∷ Rollback ∷ [])).n ≡ 2
 stands_at_last = refl
 
--- ---- a tree over 64 leaves has 63 inner nodes
+-- ---- a tree over 256 leaves has 255 inner nodes
 
-inner_nodes : length (inner_texts 6 (replicate 64 (7 ∷ []))) ≡ 63
+inner_nodes : length (inner_texts 8 (replicate 256 (7 ∷ []))) ≡ 255
 inner_nodes = refl
 
 -- ---- one Commit, one round: a batch without requests, over the first state, in epoch 2
@@ -78,6 +79,7 @@ batch = record { epoch = 2; n = 1; moment = 1000; requests = []; first = one_fir
 
 abbrev second : StateView
 second = with_token (record {
+  form = Current;
   number = 1;
   previous = initial_state.token;
   epoch = 2;
@@ -102,6 +104,7 @@ is_over = record {
     replied = refl;
     sessions = refl;
     moment = refl;
+    form = refl;
     number = refl;
     previous = refl;
     epoch = refl;
@@ -120,6 +123,7 @@ met = second ∷ []
 second_is_state : IsState second
 second_is_state = record {
   sessions_fit = first_is_state.sessions_fit;
+  form_fit = refl;
   few = omega arith;
   first = λ e. absurd (omega (arith, e));
   token = λ l. refl;
@@ -184,6 +188,7 @@ reply = answered its_answers (0, request)
 
 abbrev asked : StateView
 asked = with_token (record {
+  form = Current;
   number = 1;
   previous = initial_state.token;
   epoch = 1;
@@ -218,6 +223,7 @@ its_round = record {
     replied = ap (λ rs. map (answered its_answers) rs) (sym it_runs);
     sessions = refl;
     moment = refl;
+    form = refl;
     number = refl;
     previous = refl;
     epoch = refl;

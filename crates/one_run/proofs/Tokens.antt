@@ -9,17 +9,17 @@ use Rattle.wire.specs.SessionLaws.{sessions_prefix_free}
 use Rattle.wire.specs.BatchLaws.{batch_prefix_free}
 use Rattle.wire.specs.Batch.{batch_text}
 use Rattle.wire.specs.TokenLaws.{token_text_free}
-use Rattle.pages.specs.Page.{page_digest, of_each}
+use Rattle.token.specs.Form.{height_of}
 use Rattle.states.specs.State.{StateView, initial_state, told_by, token_of, with_token}
-use Rattle.one_run.specs.Texts.{page_texts, inner_texts, texts_of, Distinct, IsTextOf}
+use Rattle.one_run.specs.Texts.{page_texts, page_digests, inner_texts, texts_of, Distinct, IsTextOf}
 use Rattle.one_run.specs.Met.{AreAmong, IsKnown, ToldApart}
 use Rattle.one_run.specs.Laws.{NumberAndTokenTell, TokenTells, StateTellsBatch}
 use Rattle.one_run.proofs.Elements.{among_left, among_right, among_head, among_tail}
-use Rattle.one_run.proofs.Trees.{same_value, same_items}
+use Rattle.one_run.proofs.Trees.{same_value, same_store}
 
 -- the texts of the inner nodes over the pages of a state
 abbrev nodes_of : StateView → List (List ℕ)
-nodes_of s = inner_texts 6 (of_each (page_digest s.items))
+nodes_of s = inner_texts (height_of s.form) (page_digests s.form s.items)
 
 abbrev last_two : StateView → List (List ℕ)
 last_two s = sessions_text s.sessions ∷ token_text (told_by s) ∷ []
@@ -36,21 +36,22 @@ module _ (texts : List (List ℕ)) (distinct : Distinct (Contains texts)) where
 
   pub same_state : (s t : StateView) → AreAmong (texts_of s) texts → AreAmong (texts_of t) texts → s ≡ with_token s → t ≡ with_token t → s.token ≡ t.token → s ≡ t
   same_state s t p q hs ht e =
-      let p' = among_right (page_texts s.items) (nodes_of s ++ last_two s) texts p in
-      let q' = among_right (page_texts t.items) (nodes_of t ++ last_two t) texts q in
+      let p' = among_right (page_texts s.form s.items) (nodes_of s ++ last_two s) texts p in
+      let q' = among_right (page_texts t.form t.items) (nodes_of t ++ last_two t) texts q in
       let ps = among_right (nodes_of s) (last_two s) texts p' in
       let qs = among_right (nodes_of t) (last_two t) texts q' in
       let tokens : token_of s ≡ token_of t = sym (ap (λ (x : StateView). x.token.0) hs) ∙ (ap (λ x. x.0) e ∙ ap (λ (x : StateView). x.token.0) ht) in
       let told = same_told s t ps qs tokens in
       let sessions = same_value sessions_prefix_free s.sessions t.sessions
       (distinct (sessions_text s.sessions) (sessions_text t.sessions) (among_head (sessions_text s.sessions) (token_text (told_by s) ∷ []) texts ps) (among_head (sessions_text t.sessions) (token_text (told_by t) ∷ []) texts qs) (ap (λ (x : TokenText). x.sessions) told)) in
-      let items = same_items texts distinct s.items t.items
-      (among_left (page_texts s.items) (nodes_of s ++ last_two s) texts p)
-      (among_left (page_texts t.items) (nodes_of t ++ last_two t) texts q)
+      let store = same_store texts distinct s.form t.form s.items t.items
+      (among_left (page_texts s.form s.items) (nodes_of s ++ last_two s) texts p)
+      (among_left (page_texts t.form t.items) (nodes_of t ++ last_two t) texts q)
       (among_left (nodes_of s) (last_two s) texts p')
       (among_left (nodes_of t) (last_two t) texts q')
       (ap (λ (x : TokenText). x.root) told) in
       λ i. record {
+        form = store.0 i;
         number = (told i).n;
         previous = record { 0 = (told i).previous };
         epoch = (told i).epoch;
@@ -58,7 +59,7 @@ module _ (texts : List (List ℕ)) (distinct : Distinct (Contains texts)) where
         moment = (told i).moment;
         token = e i;
         sessions = sessions i;
-        items = items i;
+        items = store.1 i;
       }
 
 module _ (met : StateView → Type 0) (apart : ToldApart met) where

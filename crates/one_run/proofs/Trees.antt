@@ -1,10 +1,10 @@
 -- Where texts have distinct digests, the root of a tree tells its leaves, and the digests of pages tell the items.
-use Rattle.std.proofs.Common.{◌≡◌, ℕ, zero, suc, ◌*◌, ◌^◌, List, [], ◌∷◌, ◌++◌, map, length, refl, sym, ap, ◌∙◌, arith}
+use Rattle.std.proofs.Common.{◌≡◌, ℕ, zero, suc, ◌<◌, ◌*◌, ◌^◌, List, [], ◌∷◌, ◌++◌, map, length, refl, sym, ap, ◌∙◌, arith}
 use Rattle.std.specs.Prelude.{Contains}
 use Rattle.std.specs.List.{range_with_len}
-use Rattle.std.specs.FinMap.{from_sorted}
 use Rattle.std.proofs.Math.Nat.{pow-succ'}
 use Rattle.std.proofs.lemmas.List.FromFn.{length-map-range_with_len}
+use Rattle.items.specs.declared.item.Item.{Item}
 use Rattle.items.specs.Map.{Items}
 use Rattle.wire.specs.Record.{IsPrefixFree}
 use Rattle.wire.specs.declared.token.InnerText.{InnerText}
@@ -13,10 +13,13 @@ use Rattle.wire.specs.Token.{inner_text}
 use Rattle.wire.specs.ItemLaws.{page_prefix_free}
 use Rattle.wire.specs.TokenLaws.{inner_prefix_free}
 use Rattle.token.specs.Digest.{digest, level, levels, only, root_of}
-use Rattle.pages.specs.Page.{page_count, page_entries, page_items, page_digest, of_each}
-use Rattle.pages.specs.Joined.{joined}
-use Rattle.pages.proofs.PartLemmas.{joined-parts}
-use Rattle.one_run.specs.Texts.{page_texts, pair_texts, inner_texts, Distinct}
+use Rattle.token.specs.declared.form.Form.{Form}
+use Rattle.token.specs.declared.form.Form.TheVariants.{Old, Current}
+use Rattle.token.specs.Form.{height_of, pages_of}
+use Rattle.pages.specs.Page.{entries_among, digest_among}
+use Rattle.pages.specs.Form.{root_by}
+use Rattle.pages.proofs.FormLemmas.{same_among}
+use Rattle.one_run.specs.Texts.{page_texts, page_digests, pair_texts, inner_texts, Distinct}
 use Rattle.one_run.specs.Met.{AreAmong}
 use Rattle.one_run.proofs.Elements.{among_head, among_tail, among_left, among_right}
 
@@ -41,6 +44,15 @@ same_only [] ys l k e = absurd (omega arith)
 same_only (x ∷ x' ∷ xs) ys l k e = absurd (omega arith)
 same_only (x ∷ []) [] l k e = absurd (omega arith)
 same_only (x ∷ []) (y ∷ y' ∷ ys) l k e = absurd (omega arith)
+
+abbrev first_of : List (List ℕ) → List ℕ
+first_of [] = []
+first_of (x ∷ xs) = x
+
+-- a page's text is not that of an inner node
+not_alike : (entries : List (List ℕ × Item)) (node : InnerText) → page_text entries ≡ inner_text node → ⊥
+unfolding page_text inner_text
+not_alike entries node e = (let marks : ◌≡◌ {A = ℕ} 0 1 = cc e in cc marks)
 
 module _ (texts : List (List ℕ)) (distinct : Distinct (Contains texts)) where
   -- one level tells the one below
@@ -75,25 +87,62 @@ module _ (texts : List (List ℕ)) (distinct : Distinct (Contains texts)) where
       e)
 
   -- the root tells the leaves
-  pub under_one_root : (xs ys : List (List ℕ)) → length xs ≡ 64 → length ys ≡ 64 → AreAmong (inner_texts 6 xs) texts → AreAmong (inner_texts 6 ys) texts → root_of xs ≡ root_of ys → xs ≡ ys
+  under_one_root : (n : ℕ) (xs ys : List (List ℕ)) → length xs ≡ 2 ^ n → length ys ≡ 2 ^ n → AreAmong (inner_texts n xs) texts → AreAmong (inner_texts n ys) texts → root_of n xs ≡ root_of n ys → xs ≡ ys
   unfolding root_of
-  under_one_root xs ys l k p q e =
-      same_leaves 6 xs ys l k p q (same_only (levels 6 xs) (levels 6 ys) (length_levels 6 xs l) (length_levels 6 ys k) e)
+  under_one_root n xs ys l k p q e =
+      same_leaves n xs ys l k p q (same_only (levels n xs) (levels n ys) (length_levels n xs l) (length_levels n ys k) e)
 
-  same_pages : (a b : Items) (ns : List ℕ) → AreAmong (map (λ p. page_text (page_entries a p)) ns) texts → AreAmong (map (λ p. page_text (page_entries b p)) ns) texts
-      → map (page_digest a) ns ≡ map (page_digest b) ns → map (page_items a) ns ≡ map (page_items b) ns
-  same_pages a b [] p q e = refl
-  same_pages a b (n ∷ ns) p q e =
-      let first : page_digest a n ≡ page_digest b n = cc e in
-      let others : map (page_digest a) ns ≡ map (page_digest b) ns = cc e in
-      let entries = same_value page_prefix_free (page_entries a n) (page_entries b n) (distinct _ _ (among_head _ _ texts p) (among_head _ _ texts q) first) in
-      let rest = same_pages a b ns (among_tail _ _ texts p) (among_tail _ _ texts q) others in
-      λ i. from_sorted (entries i) ∷ rest i
+  same_pages : (count : ℕ) (a b : Items) (ns : List ℕ) → AreAmong (map (λ p. page_text (entries_among count a p)) ns) texts → AreAmong (map (λ p. page_text (entries_among count b p)) ns) texts
+      → map (digest_among count a) ns ≡ map (digest_among count b) ns → map (entries_among count a) ns ≡ map (entries_among count b) ns
+  same_pages count a b [] p q e = refl
+  same_pages count a b (n ∷ ns) p q e =
+      let first : digest_among count a n ≡ digest_among count b n = cc e in
+      let others : map (digest_among count a) ns ≡ map (digest_among count b) ns = cc e in
+      let entries = same_value page_prefix_free (entries_among count a n) (entries_among count b n) (distinct _ _ (among_head _ _ texts p) (among_head _ _ texts q) first) in
+      let rest = same_pages count a b ns (among_tail _ _ texts p) (among_tail _ _ texts q) others in
+      λ i. entries i ∷ rest i
 
   -- and so it tells the items
-  pub same_items : (a b : Items) → AreAmong (page_texts a) texts → AreAmong (page_texts b) texts
-      → AreAmong (inner_texts 6 (of_each (page_digest a))) texts → AreAmong (inner_texts 6 (of_each (page_digest b))) texts
-      → root_of (of_each (page_digest a)) ≡ root_of (of_each (page_digest b)) → a ≡ b
-  same_items a b p q r s e =
-      let leaves = under_one_root (of_each (page_digest a)) (of_each (page_digest b)) (length-map-range_with_len (page_digest a) 0 page_count) (length-map-range_with_len (page_digest b) 0 page_count) r s e in
-      sym (joined-parts a) ∙ (ap joined (same_pages a b (range_with_len 0 page_count) p q leaves) ∙ joined-parts b)
+  same_items : (form : Form) (a b : Items) → 0 < pages_of form → AreAmong (page_texts form a) texts → AreAmong (page_texts form b) texts
+      → AreAmong (inner_texts (height_of form) (page_digests form a)) texts → AreAmong (inner_texts (height_of form) (page_digests form b)) texts
+      → root_by form a ≡ root_by form b → a ≡ b
+  same_items form a b some p q r s e =
+      let count = pages_of form in
+      let leaves = under_one_root (height_of form) (page_digests form a) (page_digests form b) (length-map-range_with_len (digest_among count a) 0 count) (length-map-range_with_len (digest_among count b) 0 count) r s e in
+      same_among count some a b (same_pages count a b (range_with_len 0 count) p q leaves)
+
+  -- a page and an inner node have two digests
+  first_apart : (es : List (List ℕ × Item)) (node : InnerText) (pages nodes : List (List ℕ)) → AreAmong (page_text es ∷ pages) texts → AreAmong (inner_text node ∷ nodes) texts
+      → digest (page_text es) ≡ digest (inner_text node) → ⊥
+  first_apart es node pages nodes p q e =
+      not_alike es node (distinct (page_text es) (inner_text node) (among_head (page_text es) pages texts p) (among_head (inner_text node) nodes texts q) e)
+
+  -- two levels below the top of today's tree there are inner nodes, and in the old one there are pages
+  forms_apart : (a b : Items) → AreAmong (page_texts Old a) texts
+      → AreAmong (inner_texts (height_of Old) (page_digests Old a)) texts → AreAmong (inner_texts (height_of Current) (page_digests Current b)) texts
+      → root_by Old a ≡ root_by Current b → ⊥
+  unfolding root_of
+  forms_apart a b p r s e =
+      let xs = page_digests Old a in
+      let ys = page_digests Current b in
+      let long : length ys ≡ 2 * 128 = length-map-range_with_len (digest_among 256 b) 0 256 in
+      let half : length (level ys) ≡ 2 * 64 = length_level 128 ys long in
+      let above : AreAmong (inner_texts 7 (level ys)) texts = among_right (pair_texts ys) (inner_texts 7 (level ys)) texts s in
+      let same : xs ≡ level (level ys) =
+      same_leaves 6 xs (level (level ys)) (length-map-range_with_len (digest_among 64 a) 0 64) (length_level 64 (level ys) half) r
+      (among_right (pair_texts (level ys)) (inner_texts 6 (level (level ys))) texts above)
+      (same_only (levels 6 xs) (levels 8 ys) (length_levels 6 xs (length-map-range_with_len (digest_among 64 a) 0 64)) (length_levels 8 ys long) e) in
+      let second : AreAmong (pair_texts (level ys)) texts = among_left (pair_texts (level ys)) (inner_texts 6 (level (level ys))) texts above in
+      first_apart (entries_among 64 a 0) (record {
+        left = digest (inner_text (record { left = digest_among 256 b 0; right = digest_among 256 b 1 }));
+        right = digest (inner_text (record { left = digest_among 256 b 2; right = digest_among 256 b 3 }));
+      }) (map (λ p. page_text (entries_among 64 a p)) (range_with_len 1 63)) (pair_texts (level (map (digest_among 256 b) (range_with_len 4 252)))) p second (ap first_of same)
+
+  -- so it tells the form too
+  pub same_store : (f g : Form) (a b : Items) → AreAmong (page_texts f a) texts → AreAmong (page_texts g b) texts
+      → AreAmong (inner_texts (height_of f) (page_digests f a)) texts → AreAmong (inner_texts (height_of g) (page_digests g b)) texts
+      → root_by f a ≡ root_by g b → (f ≡ g) × (a ≡ b)
+  same_store Old Old a b p q r s e = (refl, same_items Old a b (omega arith) p q r s e)
+  same_store Current Current a b p q r s e = (refl, same_items Current a b (omega arith) p q r s e)
+  same_store Old Current a b p q r s e = absurd (forms_apart a b p r s e)
+  same_store Current Old a b p q r s e = absurd (forms_apart b a q s r (sym e))

@@ -4,13 +4,19 @@ use Rattle.items.specs.Map.{Items}
 use Rattle.wire.specs.Item.{page_text}
 use Rattle.wire.specs.Session.{sessions_text}
 use Rattle.wire.specs.Token.{inner_text, token_text}
+use Rattle.token.specs.declared.form.Form.{Form}
+use Rattle.token.specs.Form.{height_of, pages_of}
 use Rattle.token.specs.Digest.{digest, level}
-use Rattle.pages.specs.Page.{page_entries, page_digest, of_each}
+use Rattle.pages.specs.Page.{entries_among, digest_among, each_among}
 use Rattle.states.specs.State.{StateView, told_by}
 
--- of each page
-abbrev pub page_texts : Items → List (List ℕ)
-page_texts items = of_each (λ p. page_text (page_entries items p))
+-- of each page of a form
+abbrev pub page_texts : Form → Items → List (List ℕ)
+page_texts form items = each_among (pages_of form) (λ p. page_text (entries_among (pages_of form) items p))
+
+-- and their digests
+abbrev pub page_digests : Form → Items → List (List ℕ)
+page_digests form items = each_among (pages_of form) (digest_among (pages_of form) items)
 
 -- of the nodes over each two neighbours
 abbrev pub pair_texts : List (List ℕ) → List (List ℕ)
@@ -22,9 +28,9 @@ abbrev pub inner_texts : ℕ → List (List ℕ) → List (List ℕ)
 inner_texts zero digests = []
 inner_texts (suc n) digests = pair_texts digests ++ inner_texts n (level digests)
 
--- of its 64 pages, of the 63 inner nodes over them, of its sessions, and that of its token
+-- of the pages of its form, of the inner nodes over them, of its sessions, and that of its token
 abbrev pub texts_of : StateView → List (List ℕ)
-texts_of s = page_texts s.items ++ (inner_texts 6 (of_each (page_digest s.items)) ++ sessions_text s.sessions ∷ token_text (told_by s) ∷ [])
+texts_of s = page_texts s.form s.items ++ (inner_texts (height_of s.form) (page_digests s.form s.items) ++ sessions_text s.sessions ∷ token_text (told_by s) ∷ [])
 
 -- two of these texts that have one digest are one text
 abbrev pub Distinct : (List ℕ → Type 0) → Type 0

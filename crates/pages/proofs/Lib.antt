@@ -8,3 +8,6 @@ pub mod OwnLemmas
 pub mod EffectLemmas
 pub mod OtherLemmas
 mod TreeLemmas
+pub mod FormLemmas
+pub mod OldLemmas
+pub mod GivenLemmas

@@ -24,7 +24,7 @@ length_filter p (x ∷ xs) = elim (p x) as (λ b. length (cond b (x ∷ filter p
   | false ↦ omega (arith, length_filter p xs)
 ]
 
-fits-filter : (p : List ℕ × Item → Bool) (es : List (List ℕ × Item)) → PageFits es → PageFits (filter p es)
+pub fits-filter : (p : List ℕ × Item → Bool) (es : List (List ℕ × Item)) → PageFits es → PageFits (filter p es)
 fits-filter p es fits = omega (arith, fits, length_filter p es)
 
 -- the map of a map's entries

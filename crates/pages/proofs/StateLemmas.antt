@@ -1,7 +1,8 @@
 -- Pages with what is kept of their digests: what they contain, and an edit of one of them.
-use Rattle.std.proofs.Common.{◌≡◌, ℕ, zero, suc, ◌+◌, ◌<◌, ◌≤◌, List, [], ◌∷◌, ◌++◌, map, length, take, drop, get_or, set, Option, IsSome, Result, Ok, Err, OnOk, OnErr, refl, sym, ap, ◌∙◌, arith, subst}
+use Rattle.std.proofs.Common.{◌≡◌, ℕ, zero, suc, ◌+◌, ◌<◌, ◌≤◌, List, [], ◌∷◌, ◌++◌, map, length, take, drop, get_or, set, Option, IsSome, Result, Ok, Err, OnOk, OnErr, refl, sym, ap, ◌∙◌, arith, subst, inl, inr}
 use Rattle.std.specs.FinMap.{entries}
-use Rattle.std.proofs.lemmas.List.{map-set, set-get_or, get_or-map, length-map, take_more, map_push}
+use Rattle.std.proofs.Math.Nat.{eq-or-lt_of_le}
+use Rattle.std.proofs.lemmas.List.{get_or-set_same, get_or-set_other, map-set, set-get_or, get_or-map, length-map, take_more, map_push}
 use Rattle.base.proofs.ListLemmas.{next-same, next-changed}
 use Rattle.items.specs.Map.{Items}
 use Rattle.pages.specs.Page.{PageState, page_count, page_entries, refreshed}
@@ -100,3 +101,13 @@ none-edited f all i page l read same so_far =
     let more : take (i + 1) (items_of all) ≡ take i (items_of all) ++ page.items ∷ [] =
     take_more (items_of all) i no_items (omega (arith, l, length-map all (λ (a : PageState). a.items))) ∙ ap (λ m. take i (items_of all) ++ m ∷ []) (sym (items-at all i page l read)) in
     ap (map f) more ∙ map_push f (take i (items_of all)) page.items ∙ (λ j. so_far j ++ same j ∷ []) ∙ sym more
+
+-- one value more stands in its place
+pub next-value : (f : ℕ → List ℕ) (xs : List (List ℕ)) (i : ℕ) (x : List ℕ) → i < length xs → x ≡ f i → ((k : ℕ) → k < i → get_or xs k [] ≡ f k)
+    → (k : ℕ) → k < i + 1 → get_or (set xs i x) k [] ≡ f k
+next-value f xs i x within is so_far k l =
+    let most : k ≤ i = omega (arith, l) in
+    elim (eq-or-lt_of_le most) [
+      | inl e ↦ ap (λ (n : ℕ). get_or (set xs i x) n []) e ∙ get_or-set_same xs i x [] within ∙ is ∙ ap f (omega (arith, e))
+      | inr h ↦ get_or-set_other xs i k x [] (λ e. omega (arith, e, h)) ∙ so_far k h
+    ]

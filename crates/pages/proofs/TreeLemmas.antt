@@ -3,6 +3,7 @@ use Rattle.std.proofs.Common.{◌≡◌, ◌≢◌, ℕ, zero, suc, ◌+◌, ◌
 use Rattle.std.proofs.Math.Nat.{eq-or-lt_of_le}
 use Rattle.std.proofs.lemmas.List.{ext_get_or, length-drop, get_or-drop, drop_more, drop-set-lt, get_or_default, get_or-set_same, get_or-set_other, length-set}
 use Rattle.wire.specs.Token.{inner_text}
+use Rattle.token.specs.declared.tree.TheConstants.{HEIGHT}
 use Rattle.token.specs.Digest.{digest, level, levels, only, root_of}
 use Rattle.pages.specs.Page.{page_count}
 use Rattle.pages.specs.Tree.{leaves, IsAbove, IsTree, IsAboveSame}
@@ -45,17 +46,18 @@ module _ (nodes : List (List ℕ)) (tree : IsTree nodes) where
   level-up : (n : ℕ) → 0 < n → n + n ≤ page_count → level (nodes_from nodes (2 * n) (2 * n)) ≡ nodes_from nodes n n
   level-up n some few = level-from nodes n n (λ k from below. tree.above k (omega (arith, some, from)) (omega (arith, below, few)))
 
-  -- node 1 is what is left six levels up
-  pub root-of_tree : root_of (leaves nodes) ≡ get_or nodes 1 []
+  -- node 1 is what is left eight levels up
+  pub root-of_tree : root_of HEIGHT (leaves nodes) ≡ get_or nodes 1 []
   unfolding root_of
   root-of_tree = ap only
-      (ap (levels 6) (drop-is nodes page_count page_count (omega (arith, tree.count)))
+      (ap (levels 8) (drop-is nodes page_count page_count (omega (arith, tree.count)))
+      ∙ ap (levels 7) (level-up 128 (omega arith) (omega arith)) ∙ ap (levels 6) (level-up 64 (omega arith) (omega arith))
       ∙ ap (levels 5) (level-up 32 (omega arith) (omega arith)) ∙ ap (levels 4) (level-up 16 (omega arith) (omega arith))
       ∙ ap (levels 3) (level-up 8 (omega arith) (omega arith)) ∙ ap (levels 2) (level-up 4 (omega arith) (omega arith))
       ∙ ap (levels 1) (level-up 2 (omega arith) (omega arith)) ∙ level-up 1 (omega arith) (omega arith))
 
   -- the root that was read
-  pub read-root : (root : List ℕ) → root ≡ get_or nodes 1 root → root ≡ root_of (leaves nodes)
+  pub read-root : (root : List ℕ) → root ≡ get_or nodes 1 root → root ≡ root_of HEIGHT (leaves nodes)
   read-root root read = read ∙ get_or_default nodes 1 root [] (omega (arith, tree.count)) ∙ sym root-of_tree
 
 module _ (nodes : List (List ℕ)) (m : ℕ) (d : List ℕ) where

@@ -3,8 +3,9 @@ use Rattle.std.specs.Prelude.{◌≡◌, ◌≢◌, ℕ, ◌+◌, List, [], ◌�
 use Rattle.std.specs.List.{flat_map}
 use Rattle.std.specs.FinMap.{entries, from_entries, get}
 use Rattle.items.specs.Map.{Items}
-use Rattle.token.specs.Digest.{root_of}
-use Rattle.pages.specs.Page.{PageState, page_number, page_count, page_items, page_digest, of_each}
+use Rattle.token.specs.declared.form.Form.TheVariants.{Current}
+use Rattle.pages.specs.Page.{PageState, page_number, page_count, page_items, of_each}
+use Rattle.pages.specs.Form.{root_by}
 
 -- only keys of page p stand in it
 abbrev pub IsOwn : ℕ → Items → Type 0
@@ -37,7 +38,7 @@ pub record AreSealed (pages : List PageState) : Type 0 where
 
 -- the root over the digests of the pages, from scratch
 abbrev pub root_of_pages : List PageState → List ℕ
-root_of_pages pages = root_of (of_each (page_digest (joined (items_of pages))))
+root_of_pages pages = root_by Current (joined (items_of pages))
 
 -- Sealed pages beside their root.
 pub record IsSnapshot (pages : List PageState) (root : List ℕ) : Type 0 where

@@ -19,25 +19,38 @@ page_count = PAGES
 abbrev pub HasRoom : Items → List ℕ → Type 0
 HasRoom m key = (length (entries m) < MOST_ENTRIES) ⊎ IsTrue (is_some (get m key))
 
--- the sum of its bytes, modulo the number of pages
+-- the sum of its bytes, modulo so many pages
+abbrev pub number_among : ℕ → List ℕ → ℕ
+number_among count key = sum key % count
+
+-- of so many pages the entries of page p, in the order of their keys
+abbrev pub entries_among : ℕ → Items → ℕ → List (List ℕ × Item)
+entries_among count m p = filter (λ e. number_among count e.0 == p) (entries m)
+
+-- the digest of page p, from scratch
+abbrev pub digest_among : ℕ → Items → ℕ → List ℕ
+digest_among count m p = digest (page_text (entries_among count m p))
+
+-- something of each of so many pages, by number
+abbrev pub each_among : {X : Type 0} → ℕ → (ℕ → X) → List X
+each_among count of_page = map of_page (range_with_len 0 count)
+
+-- the same of the pages that a store has
 abbrev pub page_number : List ℕ → ℕ
-page_number key = sum key % page_count
+page_number key = number_among page_count key
 
--- the entries of page p, in the order of their keys
 abbrev pub page_entries : Items → ℕ → List (List ℕ × Item)
-page_entries m p = filter (λ e. page_number e.0 == p) (entries m)
+page_entries m p = entries_among page_count m p
 
--- and the map of them
+-- the map of the entries of page p
 abbrev pub page_items : Items → ℕ → Items
 page_items m p = from_sorted (page_entries m p)
 
--- the digest of page p, from scratch
 abbrev pub page_digest : Items → ℕ → List ℕ
-page_digest m p = digest (page_text (page_entries m p))
+page_digest m p = digest_among page_count m p
 
--- something of each page, by number
 abbrev pub of_each : {X : Type 0} → (ℕ → X) → List X
-of_each of_page = map of_page (range_with_len 0 page_count)
+of_each of_page = each_among page_count of_page
 
 -- What is kept of a page: its items, and their digest where it was made since the last write.
 pub record PageState : Type 0 where

@@ -18,6 +18,7 @@
 
 mod laws;
 mod number;
+mod old;
 mod page;
 mod page_set;
 mod pages;

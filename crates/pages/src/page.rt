@@ -6,6 +6,7 @@ ghost use Rattle.items.specs.Map.{alive};
 ghost use Rattle.base.specs.Pieces.{piece_bytes};
 ghost use Rattle.wire.specs.Item.{page_text, PageFits};
 ghost use Rattle.wire.specs.Record.{Puts};
+ghost use Rattle.token.specs.declared.tree.TheConstants.{HEIGHT};
 ghost use Rattle.token.specs.Digest.{root_of};
 ghost use Rattle.pages.specs.Page.{page_number, items_digest, item_count, refreshed, HasRoom};
 ghost use Rattle.pages.specs.declared.page.TheConstants.{MOST_ENTRIES};
@@ -19,11 +20,11 @@ use proto::Key;
 use std::alloc::{AllocError, Global};
 use std::marker::Model;
 use std::sync::Arc;
-use token::{Digested, PAGES};
+use token::{Digested, HEIGHT, PAGES};
 use wire::{Entries, Sink, put_page};
 
 /// How many entries a page has at most: its text counts them by four bytes.
-const MOST_ENTRIES: usize = 4294967295;
+pub(crate) const MOST_ENTRIES: usize = 4294967295;
 
 /// One page: a store by itself.
 ///
@@ -160,7 +161,7 @@ impl Page {
     /// The root over these digests of all pages. Where the page keeps a tree, just the nodes are made
     /// new that stand above a digest that differs from the one in the tree. This takes no memory.
     pub(crate) fn root_over(&mut self, digests: &[[u8; 32]; PAGES]) -> [u8; 32]
-        ensures root { result ≡ root_of digests.now }
+        ensures root { result ≡ root_of HEIGHT digests.now }
         ensures same { self.new ≡ self.old }
     {
         match &mut self.tree {
@@ -168,7 +169,7 @@ impl Page {
                 tree.renew(digests);
                 tree.root()
             }
-            None => token::root(digests),
+            None => token::root(digests, HEIGHT),
         }
     }
 

@@ -3,7 +3,8 @@ ghost use Rattle.base.specs.Pieces.{piece_bytes};
 ghost use Rattle.wire.specs.Item.{page_text, PageFits};
 ghost use Rattle.wire.specs.Record.{Puts};
 ghost use Rattle.items.specs.Map.{alive};
-ghost use Rattle.token.specs.Digest.{root_of};
+ghost use Rattle.token.specs.declared.form.Form.TheVariants.{Current};
+ghost use Rattle.pages.specs.Form.{root_by};
 ghost use Rattle.pages.specs.Page.{page_entries, page_digest, page_count, of_each};
 ghost use Rattle.pages.specs.Joined.{ArePages, AreSealed, joined, items_of, root_of_pages};
 ghost use Rattle.pages.specs.Others.{AreSameBeside};
@@ -112,7 +113,7 @@ impl Snapshot {
         Snapshot { pages, root }
     }
 
-    /// The same pages, shared: no item is copied, but the digests are, 4 KB for the tree over them.
+    /// The same pages, shared: no item is copied, but the digests are, 16 KB for the tree over them.
     /// The only error is a failed allocation.
     pub fn share(&self) -> Result<Snapshot, AllocError>
         ensures { IfOk result (λ snapshot. snapshot ≡ self.now) }
@@ -177,7 +178,7 @@ impl Snapshot {
 
     /// The root of the tree over the digests of the pages. It was made when the pages were sealed.
     pub fn root(&self) -> [u8; 32]
-        ensures { result ≡ root_of (of_each (page_digest self.now)) }
+        ensures { result ≡ root_by Current self.now }
     {
         self.root
     }

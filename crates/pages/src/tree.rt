@@ -1,4 +1,5 @@
 ghost use Rattle.std.specs.Prelude.{◌≡◌, ℕ, ◌*◌, ◌<◌, length, false, slice_index_or, [], IfOk};
+ghost use Rattle.token.specs.declared.tree.TheConstants.{HEIGHT};
 ghost use Rattle.token.specs.Digest.{root_of};
 ghost use Rattle.pages.specs.Page.{page_count};
 ghost use Rattle.pages.specs.Tree.{leaves, IsTree, IsAboveSame};
@@ -86,7 +87,7 @@ impl Tree {
 
     /// The root.
     pub(crate) fn root(&self) -> [u8; 32]
-        ensures { result ≡ root_of self.now }
+        ensures { result ≡ root_of HEIGHT self.now }
     {
         self.nodes[1]
     }

@@ -1,5 +1,5 @@
-//! Tests of the crates that `app` stands on, of `app`, and of those below `verifier`: worked examples,
-//! and each call that asks for memory made once with ample memory, which no contract can promise.
+//! Tests of the crates that `app` stands on, of `app`, of `states`, and of those below `verifier`: worked
+//! examples, and each call that asks for memory made once with ample memory, which no contract can promise.
 //!
 //! They call what is public, and stand in a crate of their own: a crate that has tests is proved once
 //! more with them.
@@ -29,6 +29,8 @@ mod of_pages;
 mod of_proto;
 #[cfg(test)]
 mod of_sessions;
+#[cfg(test)]
+mod of_states;
 #[cfg(test)]
 mod of_token;
 #[cfg(test)]

@@ -8,6 +8,7 @@ use rand_pcg::Lcg64Xsh32;
 use sha2::{Digest, Sha256};
 use std::alloc::{AllocError, Global};
 use std::test::Fail;
+use token::{HEIGHT, OLD_HEIGHT, OLD_PAGES};
 
 /// The key of these bytes, or else `k`.
 fn key(alloc: Global, bytes: &[u8]) -> Result<Key, AllocError> {
@@ -91,33 +92,47 @@ fn put_entry(hasher: &mut Sha256, key: &Key, item: &Item) {
     hasher.update(item.block.as_slice());
 }
 
-/// The digest of a page, from scratch: its text is spelled here.
-fn digest_of(entries: &[Entry<Key, Item>], number: usize) -> [u8; 32] {
+/// The digest of a page, from scratch: its text is spelled here. The mask is one less than the
+/// number of pages.
+fn digest_of(entries: &[Entry<Key, Item>], number: usize, mask: usize) -> [u8; 32] {
     let count = entries
         .iter()
-        .filter(|entry| page_of(entry.key()) == number)
+        .filter(|entry| page_of(entry.key()) & mask == number)
         .count();
     let mut hasher = Sha256::new();
     put_number(&mut hasher, 0, 1);
     put_number(&mut hasher, count as u64, 4);
     for entry in entries {
-        if page_of(entry.key()) == number {
+        if page_of(entry.key()) & mask == number {
             put_entry(&mut hasher, entry.key(), entry.value());
         }
     }
     hasher.finalize()
 }
 
+/// The root over the digests of the pages of the old form, from scratch.
+fn old_root_of(entries: &[Entry<Key, Item>]) -> [u8; 32] {
+    let mut digests = [[0u8; 32]; OLD_PAGES];
+    for number in 0..OLD_PAGES {
+        digests[number] = digest_of(entries, number, OLD_PAGES - 1);
+    }
+    token::root(&digests, OLD_HEIGHT)
+}
+
+fn old_root_agrees(kept: &Snapshot, plain: &PlainStore) -> bool {
+    kept.has_old_texts() && kept.old_root() == old_root_of(plain.as_slice())
+}
+
 /// Whether each digest and the root are those of the plain store, from scratch.
 fn agree(kept: &Snapshot, plain: &PlainStore) -> bool {
     let mut digests = [[0u8; 32]; PAGES];
     for number in 0..PAGES {
-        digests[number] = digest_of(plain.as_slice(), number);
+        digests[number] = digest_of(plain.as_slice(), number, PAGES - 1);
         if *kept.digest(number) != digests[number] {
             return false;
         }
     }
-    kept.root() == token::root(&digests)
+    kept.root() == token::root(&digests, HEIGHT)
 }
 
 /// The state after a change, beside the one before it, which is kept.
@@ -136,15 +151,15 @@ fn changed(
 #[test]
 fn pages_of_keys(rt: HostRuntime) -> Result<(), Fail> {
     let rows: [(&[u8], usize); 9] = [
-        (b"a", 33),
-        (b"b", 34),
-        (b"c", 35),
-        (b"n", 46),
-        (b"x", 56),
-        (b"y", 57),
-        (b"C", 3),
-        (b"E", 5),
-        (b"ab", 3),
+        (b"a", 97),
+        (b"b", 98),
+        (b"c", 99),
+        (b"n", 110),
+        (b"x", 120),
+        (b"y", 121),
+        (b"C", 67),
+        (b"E", 69),
+        (b"ab", 195),
     ];
     for (bytes, number) in rows.iter() {
         assert_eq!(rt; page_of(&key(rt.alloc(), *bytes)?), *number);
@@ -185,11 +200,11 @@ fn with_five(alloc: Global, kept: &Snapshot) -> Result<Snapshot, AllocError> {
 fn digests_of_pages(rt: HostRuntime) -> Result<(), Fail> {
     let kept = Pages::new(rt.alloc())?.seal();
     let after = with_five(rt.alloc(), &kept)?;
-    assert_eq!(rt; after.digest(33), &ONE);
-    assert_eq!(rt; after.digest(34), &EMPTY);
-    assert_eq!(rt; kept.digest(33), &EMPTY);
-    assert_eq!(rt; kept.page(33).len(), 0);
-    assert_eq!(rt; after.page(33).len(), 1);
+    assert_eq!(rt; after.digest(97), &ONE);
+    assert_eq!(rt; after.digest(98), &EMPTY);
+    assert_eq!(rt; kept.digest(97), &EMPTY);
+    assert_eq!(rt; kept.page(97).len(), 0);
+    assert_eq!(rt; after.page(97).len(), 1);
     Ok(())
 }
 
@@ -210,18 +225,18 @@ fn texts_of_pages(rt: HostRuntime) -> Result<(), Fail> {
     let none = b"\x00\x00\x00\x00\x00".as_slice();
     let after = with_five(rt.alloc(), &Pages::new(rt.alloc())?.seal())?;
     let shared = after.share()?;
-    assert!(rt; has_text(&after, 33, one) && has_text(&shared, 33, one));
-    assert!(rt; has_text(&after, 34, none) && has_text(&shared, 34, none));
+    assert!(rt; has_text(&after, 97, one) && has_text(&shared, 97, one));
+    assert!(rt; has_text(&after, 98, none) && has_text(&shared, 98, none));
     let mut record = Text::new(rt.alloc());
-    after.put_text(34, &mut record)?;
-    after.put_text(33, &mut record)?;
+    after.put_text(98, &mut record)?;
+    after.put_text(97, &mut record)?;
     let joined = record.joined(rt.alloc())?;
     assert_eq!(rt; joined.as_slice().get(..5), Some(none));
     assert_eq!(rt; joined.as_slice().get(5..), Some(one));
     Ok(())
 }
 
-/// The page 33 with an item that is due at 10, and all others without.
+/// The page 97 with an item that is due at 10, and all others without.
 fn with_a_due_item(alloc: Global) -> Result<Snapshot, AllocError> {
     let item = Item {
         block: Block::from_slice(alloc, b"5")?,
@@ -241,20 +256,20 @@ fn one_key(alloc: Global, bytes: &[u8]) -> Result<Keys, AllocError> {
 #[test]
 fn pages_that_may_differ(rt: HostRuntime) -> Result<(), Fail> {
     let kept = with_a_due_item(rt.alloc())?;
-    assert!(rt; !kept.due_pages(9).has(33));
+    assert!(rt; !kept.due_pages(9).has(97));
     let mut may_differ = kept.due_pages(10);
-    assert!(rt; may_differ.has(33) && !may_differ.has(34) && !may_differ.has(35));
+    assert!(rt; may_differ.has(97) && !may_differ.has(98) && !may_differ.has(99));
     may_differ.add_command(&Command::Get(one_key(rt.alloc(), b"b")?));
     may_differ.add_command(&Command::Update(Update::Delete {
         key: key(rt.alloc(), b"c")?,
     }));
-    assert!(rt; may_differ.has(33) && !may_differ.has(34) && may_differ.has(35));
-    assert!(rt; !may_differ.has(36));
+    assert!(rt; may_differ.has(97) && !may_differ.has(98) && may_differ.has(99));
+    assert!(rt; !may_differ.has(100));
     may_differ.add_command(&Command::Gat(0, one_key(rt.alloc(), b"d")?));
-    assert!(rt; may_differ.has(36) && !may_differ.has(37));
+    assert!(rt; may_differ.has(100) && !may_differ.has(101));
     may_differ.add_command(&Command::Gats(0, one_key(rt.alloc(), b"e")?));
-    assert!(rt; may_differ.has(37) && !may_differ.has(34));
-    assert!(rt; !PageSet::new().has(33));
+    assert!(rt; may_differ.has(101) && !may_differ.has(98));
+    assert!(rt; !PageSet::new().has(97));
     Ok(())
 }
 
@@ -269,12 +284,12 @@ fn put_and_remove(alloc: Global, page: &mut Page) -> Result<bool, AllocError> {
 #[test]
 fn parted_pages_are_stores(rt: HostRuntime) -> Result<(), Fail> {
     let mut pages = Pages::new(rt.alloc())?.part();
-    let there = put_and_remove(rt.alloc(), &mut pages[33])?;
-    assert!(rt; there && pages[33].digest().is_none() && pages[34].digest().is_some());
+    let there = put_and_remove(rt.alloc(), &mut pages[97])?;
+    assert!(rt; there && pages[97].digest().is_none() && pages[98].digest().is_some());
     Ok(())
 }
 
-/// One of 1,000 keys, each of the page 44.
+/// One of 1,000 keys, each of the page 236.
 fn nth_key(alloc: Global, n: u32) -> Result<Key, AllocError> {
     let digits = [n / 100 % 10, n / 10 % 10, n % 10];
     let last = 92 - digits[0] - digits[1] - digits[2];
@@ -311,7 +326,7 @@ fn a_page_of_1000_items(rt: HostRuntime) -> Result<(), Fail> {
     for n in 0..1000u32 {
         put_nth(rt.alloc(), &mut pages, n)?;
     }
-    assert_eq!(rt; pages.page(44).len(), 1000);
+    assert_eq!(rt; pages.page(236).len(), 1000);
     for n in 0..1000u32 {
         assert!(rt; has_nth(rt.alloc(), &pages, n)?, "item {n}");
     }
@@ -344,12 +359,41 @@ fn random_steps_with_undo(rt: HostRuntime) -> Result<(), Fail> {
     let alloc = rt.alloc();
     let mut words = Lcg64Xsh32::seed_from_u64(20);
     let mut states = vec![in alloc; (Pages::new(alloc)?.seal(), PlainStore::new(alloc))]?;
-    for tens in 0..100u32 {
+    for tens in 0..40u32 {
         add_states(alloc, &mut words, &mut states, 10)?;
         assert!(rt; last_agrees(states.as_slice()), "before undo {tens}");
         let back = 1 + (words.next_word() % 9) as usize;
         states.truncate(states.len().saturating_sub(back));
         assert!(rt; last_agrees(states.as_slice()), "after undo {tens}");
     }
+    Ok(())
+}
+
+/// Keys of old page 33, in their order: the four pages that it is merged from have them in turns.
+const OF_OLD_PAGE_33: [&[u8]; 8] = [b"!", b"a", b"a@", b"a``", b"pq", b"q0", b"qp", b"~~e"];
+
+#[test]
+fn roots_of_old_pages(rt: HostRuntime) -> Result<(), Fail> {
+    let numbers: [usize; 8] = [33, 97, 161, 33, 225, 161, 225, 97];
+    let mut kept = Pages::new(rt.alloc())?.seal();
+    let mut plain = PlainStore::new(rt.alloc());
+    assert!(rt; old_root_agrees(&kept, &plain));
+    assert!(rt; kept.has_data_within(0));
+    for (i, bytes) in OF_OLD_PAGE_33.iter().enumerate() {
+        let key = key(rt.alloc(), *bytes)?;
+        assert_eq!(rt; page_of(&key), numbers[i]);
+        let item = Item {
+            block: Block::from_slice(rt.alloc(), b"5")?,
+            flags: 0,
+            due: None,
+            unique: 64,
+        };
+        let (pages, store) = changed(&kept, &plain, &Change::Put(key, item))?;
+        kept = pages;
+        plain = store;
+        assert!(rt; old_root_agrees(&kept, &plain));
+    }
+    assert!(rt; kept.has_data_within(1));
+    assert!(rt; !kept.has_data_within(0));
     Ok(())
 }

@@ -1,4 +1,4 @@
-ghost use Rattle.std.specs.Prelude.{◌≡◌, IfOk};
+ghost use Rattle.std.specs.Prelude.{◌≡◌, ◌↔◌, IsTrue, IfOk};
 ghost use Rattle.proto.specs.Update.{key_of_update};
 
 use crate::block::Block;
@@ -16,7 +16,7 @@ pub enum StoreVerb {
 }
 
 /// A command that changes one key.
-#[derive(Drop)]
+#[derive(PartialEq, Drop)]
 pub enum Update {
     Store {
         verb: StoreVerb,
@@ -76,6 +76,13 @@ impl Update {
             Update::Decr { key, .. } => key,
         }
     }
+
+    /// Whether it is the same as the other one. It takes no memory.
+    pub fn is_same(&self, other: &Update) -> bool
+        ensures { IsTrue result ↔ (self.now ≡ other.now) }
+    {
+        self == other
+    }
 }
 
 impl Clone for Update {
@@ -130,6 +137,33 @@ fn copied(keys: &Keys) -> Result<Keys, AllocError>
     ensures { IfOk result (λ copy. copy ≡ keys.now) }
 {
     keys.clone()
+}
+
+/// Whether the keys are the same, in their order.
+fn are_same(keys: &Keys, others: &Keys) -> bool
+    ensures { IsTrue result ↔ (keys.now ≡ others.now) }
+{
+    keys.as_slice() == others.as_slice()
+}
+
+impl Command {
+    /// Whether it is the same as the other one. It takes no memory.
+    pub fn is_same(&self, other: &Command) -> bool
+        ensures { IsTrue result ↔ (self.now ≡ other.now) }
+    {
+        match (self, other) {
+            (Command::Get(keys), Command::Get(others)) => are_same(keys, others),
+            (Command::Gets(keys), Command::Gets(others)) => are_same(keys, others),
+            (Command::Gat(exptime, keys), Command::Gat(other, others)) => {
+                exptime == other && are_same(keys, others)
+            }
+            (Command::Gats(exptime, keys), Command::Gats(other, others)) => {
+                exptime == other && are_same(keys, others)
+            }
+            (Command::Update(update), Command::Update(other)) => update.is_same(other),
+            _ => false,
+        }
+    }
 }
 
 impl Clone for Command {

@@ -1,15 +1,16 @@
 -- Tentative states over a committed one.
-use Rattle.std.specs.Prelude.{ℕ, ◌≤◌, List, [], ◌∷◌, ◌++◌, length, Bool, true, false, IsTrue, ◌==◌, ◌&&◌, Option, Some, None, if◌then◌else◌, refl, flat_map}
+use Rattle.std.specs.Prelude.{ℕ, ◌≡◌, ◌≤◌, List, [], ◌∷◌, ◌++◌, length, Bool, true, false, IsTrue, ◌==◌, ◌&&◌, Option, Some, None, if◌then◌else◌, refl, flat_map}
 use Rattle.std.specs.Coded.{Coded, code_by, coded×, coded_list}
 use Rattle.std.specs.Int.{w8}
 use Rattle.wire.specs.Number.{num}
 use Rattle.decrees.specs.declared.decree.Decree.{Decree}
 use Rattle.decrees.specs.declared.decree.Decree.TheVariants.{Commit, Rollback}
 use Rattle.decrees.specs.Votes.{token_eq}
-use Rattle.states.specs.State.{StateView}
+use Rattle.states.specs.State.{StateView, IsState}
 use Rattle.states.specs.StateRecord.{state_text}
 use Rattle.executor.specs.declared.answered.Answered.{Answered}
 use Rattle.executor.specs.Work.{TentativeView}
+use Rattle.executor.specs.Kept.{IsTentativeOver}
 use Rattle.executor.specs.MemberRecord.{member_text}
 use Rattle.rollback.specs.declared.chain.TheConstants.{MOST_MEMBERS}
 
@@ -79,3 +80,27 @@ chain_code state tentative = code_by (StateView × List TentativeView) (coded× 
 -- the record of the committed state, how many members there are, and each of them over the state before it
 abbrev pub chain_text : ChainView → List ℕ
 chain_text c = state_text c.have ++ (num w8 (length c.members) ++ flat_map member_text c.members)
+
+-- each member is over just the state before it, and not only by number and token
+abbrev pub AreOver : StateView → List TentativeView → Type 0
+AreOver s [] = Unit {0}
+AreOver s (t ∷ ts) = IsTentativeOver s t × AreOver t.after ts
+
+-- so many members over a state
+pub record AreMembers (s : StateView) (count : ℕ) (ts : List TentativeView) : Type 0 where
+  pub counted : length ts ≡ count
+  pub over : AreOver s ts
+
+-- a chain over this state, with so many members
+pub record IsFilled (s : StateView) (count : ℕ) (c : ChainView) : Type 0 where
+  pub have : c.have ≡ s
+  pub members : AreMembers s count c.members
+
+abbrev pub members_text : ChainView → List ℕ
+members_text c = flat_map member_text c.members
+
+-- a chain that can be read back from its record
+pub record IsRecorded (c : ChainView) : Type 0 where
+  pub state : IsState c.have
+  pub few : length c.members ≤ MOST_MEMBERS
+  pub over : AreOver c.have c.members

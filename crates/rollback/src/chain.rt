@@ -22,7 +22,7 @@ pub struct Chain {
 }
 
 impl Model for Chain {
-    ghost use Rattle.std.specs.Prelude.{◌≤◌, vec_capacity};
+    ghost use Rattle.std.specs.Prelude.{◌≡◌, ◌≤◌, [], vec_capacity};
     ghost use Rattle.states.specs.contracts.state.State as state;
     ghost use Rattle.executor.specs.contracts.tentative.Tentative as tentative;
     ghost use Rattle.rollback.specs.declared.chain.TheConstants.{MOST_MEMBERS};
@@ -34,7 +34,8 @@ impl Model for Chain {
 
     ghost view = { λ c. record { have = c.committed.state; members = c.members.items } };
 
-    ghost invariant = { λ c. (MOST_MEMBERS ≤ vec_capacity c.members) × IsChain (record { have = c.committed.state; members = c.members.items }) };
+    ghost invariant = { λ c. (c.committed.replies ≡ []) × (MOST_MEMBERS ≤ vec_capacity c.members)
+        × IsChain (record { have = c.committed.state; members = c.members.items }) };
 }
 
 /// Commits the tentative state by its own decree.
@@ -66,15 +67,15 @@ fn put_members<S: Sink>(members: &[Tentative], sink: &mut S) -> Result<(), S::Re
 impl Chain {
     ghost use Rattle.rollback.specs.declared.chain.TheConstants.{MOST_MEMBERS};
 
-    /// A chain without members, over the committed state. Room for the members is made at once, so
-    /// no later call but `put` takes memory.
-    pub fn new(alloc: Global, committed: Committed) -> Result<Chain, AllocError>
-        ensures { IfOk result (λ chain. chain ≡ record { have = committed.state; members = [] }) }
+    /// A chain without members, over the committed state, and the replies that came with that. Room for
+    /// the members is made at once, so no later call but `put` takes memory.
+    pub fn new(alloc: Global, committed: Committed) -> Result<(Chain, Vec<Answered>), AllocError>
+        ensures chain { IfOk result (λ made. made.0 ≡ record { have = committed.state; members = [] }) }
+        ensures replies { IfOk result (λ made. made.1.items ≡ committed.replies) }
     {
-        Ok(Chain {
-            committed,
-            members: Vec::with_capacity(alloc, MOST_MEMBERS)?,
-        })
+        let members = Vec::with_capacity(alloc, MOST_MEMBERS)?;
+        let (committed, replies) = committed.take_replies();
+        Ok((Chain { committed, members }, replies))
     }
 
     /// The committed state.
@@ -125,6 +126,15 @@ impl Chain {
         before.number() == tip.number() && before.token() == tip.token()
     }
 
+    /// Adds the tentative state, which is over the state after the members, as the last one.
+    pub(crate) fn add(&mut self, tentative: Tentative)
+        requires room { length self.old.members < MOST_MEMBERS }
+        requires over { IsTrue (is_over (chain_tip self.old) tentative) }
+        ensures { self.new ≡ pushed self.old tentative }
+    {
+        self.members.push_reserved(tentative);
+    }
+
     /// Adds the tentative state as the last member. `Full`: there are `MOST_MEMBERS`. `Unfit`: it is
     /// not over the state after the members. Then nothing changes, and it comes back.
     pub fn push(&mut self, tentative: Tentative) -> Result<(), (Fault, Tentative)>
@@ -141,7 +151,7 @@ impl Chain {
         if !self.takes(&tentative) {
             return Err((Fault::Unfit, tentative));
         }
-        self.members.push_reserved(tentative);
+        self.add(tentative);
         Ok(())
     }
 
@@ -192,9 +202,9 @@ impl Chain {
         }
     }
 
-    /// Undoes all members, and gives the committed state.
+    /// Undoes all members, and gives the committed state. No reply comes with it.
     pub fn end(self) -> Committed
-        ensures { result.state ≡ self.have }
+        ensures { result ≡ record { state = self.have; replies = [] } }
     {
         let Chain {
             committed,

@@ -1,4 +1,4 @@
-ghost use Rattle.std.specs.Prelude.{◌≡◌, ◌≤◌};
+ghost use Rattle.std.specs.Prelude.{◌≡◌, ◌≤◌, ◌↔◌, IsTrue};
 
 use proto::Command;
 use std::alloc::AllocError;
@@ -11,6 +11,17 @@ pub struct Request {
     pub command: Command,
     pub ghost is_client: { 1 ≤ client },
     pub ghost is_numbered: { 1 ≤ number },
+}
+
+impl Request {
+    /// Whether it is the same as the other one. It takes no memory.
+    pub fn is_same(&self, other: &Request) -> bool
+        ensures { IsTrue result ↔ (self.now ≡ other.now) }
+    {
+        self.client == other.client
+            && self.number == other.number
+            && self.command.is_same(&other.command)
+    }
 }
 
 impl Clone for Request {

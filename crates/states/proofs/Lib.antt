@@ -3,3 +3,5 @@ pub mod FollowedLemmas
 pub mod PageTextLemmas
 pub mod EntryLemmas
 pub mod RecordLemmas
+pub mod OldRecordLemmas
+pub mod OldStateLemmas

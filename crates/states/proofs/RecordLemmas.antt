@@ -1,7 +1,7 @@
 -- A record identifies its state, and where a part of one does not stand, no state stands.
-use Rattle.std.proofs.Common.{◌≡◌, Bool, Result, Ok, Err, ℕ, ◌<◌, ◌^◌, List, [], ◌++◌, length, take, drop, take-append-drop, true, false, refl, sym, ap, ◌∙◌, arith, subst, append_assoc}
-use Rattle.std.specs.Prelude.{not, ◌&&◌, ◌==◌}
-use Rattle.std.proofs.lemmas.Bool.{and_from}
+use Rattle.std.proofs.Common.{◌≡◌, Result, Ok, Err, ℕ, ◌<◌, List, [], ◌++◌, length, take, drop, take-append-drop, true, false, refl, sym, ap, ◌∙◌, arith, subst, append_assoc, inl, inr}
+use Rattle.std.specs.Prelude.{not}
+use Rattle.std.proofs.lemmas.Bool.{cases_Bool}
 use Rattle.std.proofs.lemmas.List.{take-append-le, take_all}
 use Rattle.std.specs.Str.{bytes_eq}
 use Rattle.std.proofs.lemmas.Slice.Eq.{bytes_eq-Decides}
@@ -9,7 +9,7 @@ use Rattle.base.specs.declared.fault.Fault.{Fault}
 use Rattle.items.specs.Map.{Items}
 use Rattle.sessions.specs.Fresh.{Replies}
 use Rattle.std.specs.Borrow.{Bor}
-use Rattle.wire.specs.Record.{Always, IsPrefixFree, NoPrefix, Refused, Takes}
+use Rattle.wire.specs.Record.{IsPrefixFree, NoPrefix, Refused, Takes}
 use Rattle.wire.specs.ItemLaws.{page_prefix_free}
 use Rattle.wire.specs.RowLaws.{followed, made_of}
 use Rattle.wire.specs.Session.{sessions_text, SessionsFit}
@@ -18,10 +18,9 @@ use Rattle.wire.specs.Item.{page_text}
 use Rattle.wire.proofs.Values.{Refused-weaker}
 use Rattle.wire.proofs.Rows.{unfit}
 use Rattle.pages.specs.Page.{page_entries}
-use Rattle.pages.proofs.JoinedLemmas.{same_number}
 use Rattle.states.specs.declared.head.Head.{Head}
 use Rattle.states.specs.State.{StateView, IsState, initial_state, with_token}
-use Rattle.states.specs.StateRecord.{head_of_state, head_text, pages_text, state_text, change_text, changes_text, after_text, IsFirstState, IsLaterState}
+use Rattle.states.specs.StateRecord.{head_of_state, head_text, state_of, pages_text, state_text, change_text, changes_text, after_text, IsFirstState, IsLaterState}
 use Rattle.states.specs.HeadProofs.{head_prefix_free}
 use Rattle.states.proofs.StateLemmas.{first_is_state}
 use Rattle.states.proofs.PageTextLemmas.{texts_free}
@@ -34,10 +33,6 @@ pages_free = texts_free (λ p entries. page_text entries) (λ p. page_prefix_fre
 pub changes_free : (before : Items) → IsPrefixFree (changes_text before)
 unfolding changes_text
 changes_free before = texts_free (λ p entries. change_text (page_entries before p) entries) (λ p. change_free (page_entries before p))
-
--- the state of this head, these sessions and items
-abbrev pub state_of : Head → Replies → Items → StateView
-state_of h sessions items = record { number = h.number; previous = h.previous; epoch = h.epoch; batch = h.batch; moment = h.moment; token = h.token; sessions = sessions; items = items }
 
 abbrev pub front_text : Head × Replies → List ℕ
 front_text p = head_text p.0 ++ sessions_text p.1
@@ -60,11 +55,12 @@ module _ (part : Items → List ℕ) where
       none = λ v after f same. none.none (head_of_state v, v.sessions) (part v.items ++ after) (tt, fit v f) (same ∙ regrouped v after);
     })
 
-    pub no_items : (h : Head) (sessions : Replies) (rest : List ℕ) → bytes ≡ front_text (h, sessions) ++ rest → (e : Fault) → Refused e (NoPrefix {X = Items} Always part rest) → Refused e (NoPrefix fits body_text bytes)
-    no_items h sessions rest got e = Refused-weaker e (λ none. record {
+    pub no_items : (items_fit : Items → Type 0) → ((s : StateView) → fits s → items_fit s.items) → (h : Head) (sessions : Replies) (rest : List ℕ) → bytes ≡ front_text (h, sessions) ++ rest
+        → (e : Fault) → Refused e (NoPrefix {X = Items} items_fit part rest) → Refused e (NoPrefix fits body_text bytes)
+    no_items items_fit fit h sessions rest got e = Refused-weaker e (λ none. record {
       none = λ v after f same.
           let both = front_free.apart (h, sessions) (head_of_state v, v.sessions) rest (part v.items ++ after) (sym got ∙ (same ∙ regrouped v after)) in
-          none.none v.items after tt both.1;
+          none.none v.items after (fit v f) both.1;
     })
 
     module _ (free : IsPrefixFree part) where
@@ -72,14 +68,19 @@ module _ (part : Items → List ℕ) where
       body_free = made_of (followed front_free free) body_text (λ s. ((head_of_state s, s.sessions), s.items)) (λ p. state_of p.0.0 p.0.1 p.1) (λ s. refl) (λ s. refl)
 
       -- what was read
-      pub read_so : (h : Head) (sessions : Replies) (items : Items) (rest after : List ℕ) → bytes ≡ front_text (h, sessions) ++ rest → rest ≡ part items ++ after
+      read_so : (h : Head) (sessions : Replies) (items : Items) (rest after : List ℕ) → bytes ≡ front_text (h, sessions) ++ rest → rest ≡ part items ++ after
           → bytes ≡ body_text (state_of h sessions items) ++ after
       read_so h sessions items rest after got more = got ∙ (ap (λ (t : List ℕ). front_text (h, sessions) ++ t) more ∙ sym (regrouped (state_of h sessions items) after))
 
-      -- what was read does not fit
-      pub unfit_body : (h : Head) (sessions : Replies) (items : Items) (rest after : List ℕ) → bytes ≡ front_text (h, sessions) ++ rest → rest ≡ part items ++ after
-          → (fits (state_of h sessions items) → ⊥) → NoPrefix fits body_text bytes
-      unfit_body h sessions items rest after got more wrong = unfit fits body_free bytes (state_of h sessions items) after (read_so h sessions items rest after got more) wrong
+      -- what was read makes no state that fits
+      pub not_made : (h : Head) (sessions : Replies) (items : Items) (rest after : List ℕ) → bytes ≡ front_text (h, sessions) ++ rest → rest ≡ part items ++ after
+          → (e : Fault) → Refused e (fits (state_of h sessions items) → ⊥) → Refused e (NoPrefix fits body_text bytes)
+      not_made h sessions items rest after got more e = Refused-weaker e (λ wrong. unfit fits body_free bytes (state_of h sessions items) after (read_so h sessions items rest after got more) wrong)
+
+      -- what was read makes this state
+      pub made : (h : Head) (sessions : Replies) (items : Items) (rest after : List ℕ) → bytes ≡ front_text (h, sessions) ++ rest → rest ≡ part items ++ after
+          → (s : StateView) → s ≡ state_of h sessions items → bytes ≡ body_text s ++ after
+      made h sessions items rest after got more s e = read_so h sessions items rest after got more ∙ ap (λ (x : StateView). body_text x ++ after) (sym e)
 
 pub state_free : IsPrefixFree state_text
 unfolding state_text
@@ -89,13 +90,6 @@ pub after_free : (before : Items) → IsPrefixFree (after_text before)
 unfolding after_text
 after_free before = body_free (changes_text before) IsState [] (changes_free before)
 
--- a state that was read, with its token computed
-pub is_later : (h : Head) (sessions : Replies) (items : Items) → 0 < h.number → h.number < 2 ^ 58 → SessionsFit sessions → state_of h sessions items ≡ with_token (state_of h sessions items) → IsLaterState (state_of h sessions items)
-is_later h sessions items some few fit is = record {
-  state = record { sessions_fit = fit; few = few; first = λ none. absurd (omega (arith, some, none)); token = λ later. is };
-  later = some;
-}
-
 -- the token that was read is the computed one
 pub its_token : (h : Head) (sessions : Replies) (items : Items) → h.token ≡ (with_token (state_of h sessions items)).token → state_of h sessions items ≡ with_token (state_of h sessions items)
 its_token h sessions items e = λ i. state_of (record h { token = e i }) sessions items
@@ -104,6 +98,12 @@ pub same_not_true : (xs ys : List ℕ) → xs ≡ ys → not (bytes_eq xs ys) �
 same_not_true xs ys e other =
     let clash : false ≡ true = ap not (sym ((bytes_eq-Decides xs ys).1 e)) ∙ other in
     cc clash
+
+pub same_unless : (xs ys : List ℕ) → not (bytes_eq xs ys) ≡ false → xs ≡ ys
+same_unless xs ys same = elim (cases_Bool (bytes_eq xs ys)) [
+  | inl is ↦ (bytes_eq-Decides xs ys).0 is
+  | inr other ↦ absurd (let clash : true ≡ false = ap not (sym other) ∙ same in cc clash)
+]
 
 -- a head stands first
 head_front : (v : StateView) (after : List ℕ) → state_text v ++ after ≡ head_text (head_of_state v) ++ (sessions_text v.sessions ++ (pages_text v.items ++ after))
@@ -136,24 +136,11 @@ module _ (bytes : List ℕ) (h : Head) (rest : List ℕ) (got : bytes ≡ head_t
 pub stripped : (bytes text rest : List ℕ) → bytes_eq (take (length text) bytes) text ≡ true → rest ≡ drop (length text) bytes → bytes ≡ text ++ rest
 stripped bytes text rest same e = sym (take-append-drop (length text) bytes) ∙ (λ i. (bytes_eq-Decides (take (length text) bytes) text).0 same i ++ sym e i)
 
-pub not_stripped : (bytes text : List ℕ) → bytes_eq (take (length text) bytes) text ≡ false → (s : StateView) → text ≡ state_text s → s ≡ initial_state → NoPrefix IsFirstState state_text bytes
-not_stripped bytes text other s e first = record {
+pub not_stripped : (text_of : StateView → List ℕ) (bytes text : List ℕ) → bytes_eq (take (length text) bytes) text ≡ false → (s : StateView) → text ≡ text_of s → s ≡ initial_state → NoPrefix IsFirstState text_of bytes
+not_stripped text_of bytes text other s e first = record {
   none = λ v after f same.
-      let whole : bytes ≡ text ++ after = same ∙ ap (λ (t : List ℕ). t ++ after) (ap state_text (f ∙ sym first) ∙ sym e) in
+      let whole : bytes ≡ text ++ after = same ∙ ap (λ (t : List ℕ). t ++ after) (ap text_of (f ∙ sym first) ∙ sym e) in
       let front : take (length text) bytes ≡ text = ap (take (length text)) whole ∙ (take-append-le (length text) text after (omega arith) ∙ take_all (length text) text (omega arith)) in
       let clash : true ≡ false = sym ((bytes_eq-Decides (take (length text) bytes) text).1 front) ∙ other in
       absurd (cc clash);
 }
-
--- whether two heads are the same
-abbrev pub is_same_head : Head → Head → Bool
-is_same_head a b = (a.number == b.number) && (bytes_eq a.previous.0 b.previous.0 && ((a.epoch == b.epoch) && (bytes_eq a.batch b.batch && ((a.moment == b.moment) && bytes_eq a.token.0 b.token.0))))
-
-own_bytes : (xs : List ℕ) → bytes_eq xs xs ≡ true
-own_bytes xs = (bytes_eq-Decides xs xs).1 refl
-
-pub heads_alike : (a b : Head) → a ≡ b → not (is_same_head a b) ≡ true → ⊥
-heads_alike a b e = subst (λ (h : Head). not (is_same_head a h) ≡ true → ⊥) e (λ wrong.
-    let own : is_same_head a a ≡ true = and_from _ _ (same_number a.number) (and_from _ _ (own_bytes a.previous.0) (and_from _ _ (same_number a.epoch) (and_from _ _ (own_bytes a.batch) (and_from _ _ (same_number a.moment) (own_bytes a.token.0))))) in
-    let clash : false ≡ true = ap not (sym own) ∙ wrong in
-    cc clash)

@@ -15,6 +15,7 @@ no_entries = sym (len-entries no_sessions) ∙ len-empty nat_cmp LastReply
 pub first_is_state : IsState initial_state
 first_is_state = record {
   sessions_fit = record { count = omega (arith, no_entries); each = λ k d lt. absurd (omega (arith, no_entries)) };
+  form_fit = refl;
   few = omega arith;
   first = λ e. refl;
   token = λ l. absurd (omega arith);

@@ -5,16 +5,20 @@ use Rattle.sessions.specs.Fresh.{Replies}
 use Rattle.batches.specs.declared.batch.Batch.{Batch}
 use Rattle.wire.specs.Batch.{batch_text}
 use Rattle.wire.specs.Session.{SessionsFit}
+use Rattle.token.specs.declared.form.Form.{Form}
+use Rattle.token.specs.declared.form.Form.TheVariants.{Current}
 use Rattle.token.specs.Digest.{digest}
+use Rattle.pages.specs.Form.{FitForm}
 use Rattle.states.specs.State.{StateView, with_token}
 
 -- the greater of the two moments
 abbrev pub moment_of : StateView → Batch → ℕ
 moment_of old batch = max batch.moment old.moment
 
--- the state that a batch makes of another, with its token
-abbrev pub state_after : StateView → Batch → Replies → Items → StateView
-state_after old batch sessions items = with_token (record {
+-- the state of a form that a batch makes of another, with its token
+abbrev pub state_after_in : Form → StateView → Batch → Replies → Items → StateView
+state_after_in form old batch sessions items = with_token (record {
+  form = form;
   number = batch.n;
   previous = old.token;
   epoch = batch.epoch;
@@ -25,7 +29,12 @@ state_after old batch sessions items = with_token (record {
   items = items;
 })
 
--- a state that the batch makes of another, whose sessions have a text
+-- the state that a batch makes of another today
+abbrev pub state_after : StateView → Batch → Replies → Items → StateView
+state_after old batch sessions items = state_after_in Current old batch sessions items
+
+-- A state that the batch makes of another, today or in an older program, whose sessions have a text.
 pub record IsSuccessor (old : StateView) (batch : Batch) (s : StateView) : Type 0 where
-  pub is : s ≡ state_after old batch s.sessions s.items
+  pub is : s ≡ state_after_in s.form old batch s.sessions s.items
   pub sessions_fit : SessionsFit s.sessions
+  pub form_fit : FitForm s.form s.items

@@ -2,4 +2,5 @@ pub mod State
 pub mod Parts
 pub mod Followed
 pub mod StateRecord
+pub mod OldRecord
 pub mod HeadProofs

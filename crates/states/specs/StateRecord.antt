@@ -7,23 +7,35 @@ use Rattle.std.specs.FinMap.{entries as entries_of}
 use Rattle.base.specs.declared.fault.Fault.{Fault}
 use Rattle.items.specs.declared.item.Item.{Item}
 use Rattle.items.specs.Map.{Items}
+use Rattle.sessions.specs.Fresh.{Replies}
+use Rattle.batches.specs.declared.batch.Batch.{Batch}
 use Rattle.wire.specs.Number.{num, fixed}
 use Rattle.wire.specs.Record.{Refused}
 use Rattle.wire.specs.Field.{option_text}
 use Rattle.wire.specs.Item.{page_text}
 use Rattle.wire.specs.Session.{sessions_text}
+use Rattle.token.specs.Form.{form_text}
 use Rattle.token.specs.Token.{token_bytes}
 use Rattle.pages.specs.Page.{PageState, page_entries, page_count}
 use Rattle.pages.specs.Joined.{IsOwn}
 use Rattle.states.specs.declared.head.Head.{Head}
 use Rattle.states.specs.State.{StateView, IsState, initial_state}
+use Rattle.states.specs.Followed.{IsSuccessor}
 
--- what a state is told by
+-- all of a state but its sessions and its items
 abbrev pub head_of_state : StateView → Head
-head_of_state s = record { number = s.number; previous = s.previous; epoch = s.epoch; batch = s.batch; moment = s.moment; token = s.token }
+head_of_state s = record { form = s.form; number = s.number; previous = s.previous; epoch = s.epoch; batch = s.batch; moment = s.moment; token = s.token }
 
-abbrev pub head_text : Head → List ℕ
-head_text h = num w64 h.number ++ token_bytes h.previous ++ num w64 h.epoch ++ fixed 32 h.batch ++ num w32 h.moment ++ token_bytes h.token
+-- a head of version 1, which has no form
+abbrev pub old_head_text : Head → List ℕ
+old_head_text h = num w64 h.number ++ token_bytes h.previous ++ num w64 h.epoch ++ fixed 32 h.batch ++ num w32 h.moment ++ token_bytes h.token
+
+unfoldable pub head_text : Head → List ℕ
+head_text h = form_text h.form ++ old_head_text h
+
+-- the state of this head, these sessions and items
+abbrev pub state_of : Head → Replies → Items → StateView
+state_of h sessions items = record { form = h.form; number = h.number; previous = h.previous; epoch = h.epoch; batch = h.batch; moment = h.moment; token = h.token; sessions = sessions; items = items }
 
 -- a text of each page, by number
 abbrev pub each_page : (ℕ → List ℕ) → List ℕ
@@ -62,3 +74,13 @@ IsFirstState s = s ≡ initial_state
 pub record IsLaterState (s : StateView) : Type 0 where
   pub state : IsState s
   pub later : 0 < s.number
+
+-- the state of this head, these sessions and items, where a batch led to it
+abbrev pub MakesLater : Head → Replies → Items → Result StateView Fault → Type 0
+MakesLater h sessions items (Ok s) = IsLaterState s × (s ≡ state_of h sessions items)
+MakesLater h sessions items (Err e) = Refused e (IsLaterState (state_of h sessions items) → ⊥)
+
+-- the same, where this batch made it of this state
+abbrev pub MakesSuccessor : StateView → Batch → Head → Replies → Items → Result StateView Fault → Type 0
+MakesSuccessor old batch h sessions items (Ok s) = IsSuccessor old batch s × (s ≡ state_of h sessions items)
+MakesSuccessor old batch h sessions items (Err e) = Refused e (IsSuccessor old batch (state_of h sessions items) → ⊥)

@@ -31,7 +31,7 @@ fn is_same_entry(a: &Entry<Key, Item>, b: &Entry<Key, Item>) -> bool
 }
 
 /// Whether the entries are the same.
-fn are_same(a: &[Entry<Key, Item>], b: &[Entry<Key, Item>]) -> bool
+pub fn are_same(a: &[Entry<Key, Item>], b: &[Entry<Key, Item>]) -> bool
     ensures { IsTrue result ↔ (a.now ≡ b.now) }
 {
     if a.len() != b.len() {

@@ -8,12 +8,16 @@
 #![tactic(auto)]
 
 mod changes;
+mod form;
 mod head;
+mod old_record;
+mod old_state;
 mod page_texts;
 mod record_laws;
 mod state;
 mod state_record;
 
+pub use form::fits_form;
 pub use head::Head;
 pub use record_laws::states_are_told_apart;
 pub use state::{Parts, State};

@@ -4,20 +4,23 @@ ghost use Rattle.wire.specs.Session.{sessions_text, SessionsFit};
 ghost use Rattle.token.specs.Digested.{IsDigested};
 ghost use Rattle.states.specs.State.{IsState, initial_state, with_token};
 ghost use Rattle.states.specs.Parts.{parts_of};
-ghost use Rattle.states.specs.Followed.{state_after};
+ghost use Rattle.states.specs.Followed.{state_after, state_after_in};
+ghost use Rattle.pages.specs.Form.{FitForm};
 
+use crate::form::root_of_form;
 use batches::Batch;
 use pages::{Pages, Snapshot};
 use sessions::Sessions;
 use std::alloc::{AllocError, Global};
 use std::marker::Model;
-use token::{Digested, Token, batch_digest};
+use token::{Digested, Form, Token, batch_digest};
 use wire::Sink;
 
 /// A state of the server: its items and sessions, and the token by which it is known. Beside the
 /// sessions it keeps their digest and, where there is memory for it, their text.
 #[derive(Drop)]
 pub struct State {
+    form: Form,
     number: u64,
     previous: Token,
     epoch: u64,
@@ -32,6 +35,7 @@ pub struct State {
 /// What a state is made of, without its token.
 #[derive(Drop)]
 pub struct Parts {
+    pub form: Form,
     pub number: u64,
     pub previous: Token,
     pub epoch: u64,
@@ -46,14 +50,16 @@ impl Model for State {
     ghost use Rattle.std.specs.FinMap as map;
     ghost use Rattle.items.specs.contracts.item.Item as item;
     ghost use Rattle.sessions.specs.contracts.sessions.LastReply as kept;
+    ghost use Rattle.token.specs.contracts.form.Form as of_form;
     ghost use Rattle.token.specs.contracts.Token as known;
     ghost use Rattle.states.specs.State.{StateView, IsStateBeside, state_code};
 
     ghost Value = { StateView };
 
-    ghost coded = { state_code known.the_row.coded (map.code coded_ℕ kept.the_row.coded) (map.code (coded_list coded_ℕ) item.the_row.coded) };
+    ghost coded = { state_code of_form.the_row.coded known.the_row.coded (map.code coded_ℕ kept.the_row.coded) (map.code (coded_list coded_ℕ) item.the_row.coded) };
 
     ghost view = { λ s. record {
+      form = s.form;
       number = s.number;
       previous = s.previous;
       epoch = s.epoch;
@@ -65,6 +71,7 @@ impl Model for State {
     } };
 
     ghost invariant = { λ s. IsStateBeside s.digested (record {
+      form = s.form;
       number = s.number;
       previous = s.previous;
       epoch = s.epoch;
@@ -84,6 +91,7 @@ impl State {
         let sessions = Sessions::new(alloc)?;
         let digested = Digested::of_sessions(alloc, &sessions);
         Ok(State {
+            form: Form::Current,
             number: 0,
             previous: Token([0; 32]),
             epoch: 1,
@@ -94,6 +102,13 @@ impl State {
             digested,
             pages: Pages::new(alloc)?.seal(),
         })
+    }
+
+    /// Over how many pages the root in its token is.
+    pub fn form(&self) -> Form
+        ensures { result ≡ self.now.form }
+    {
+        self.form
     }
 
     /// How many batches led to the state.
@@ -173,6 +188,7 @@ impl State {
         ensures { IfOk result (λ state. state ≡ self.now) }
     {
         Ok(State {
+            form: self.form,
             number: self.number,
             previous: self.previous,
             epoch: self.epoch,
@@ -185,10 +201,12 @@ impl State {
         })
     }
 
-    /// The state of these parts, with its token computed from them. Its number is from 1 to 2^58 - 1.
+    /// The state of these parts, with its token computed from them by their form. Its number is from 1
+    /// to 2^58 - 1.
     /// The text of its sessions is kept where there is memory for it; there is no error.
     pub fn of_parts(alloc: Global, parts: Parts) -> State
         requires number { (0 < parts.number) × (parts.number < 2 ^ 58) }
+        requires form { FitForm parts.form parts.pages }
         ensures { result ≡ with_token (parts_of parts) }
     {
         let digested = Digested::of_sessions(alloc, &parts.sessions);
@@ -199,6 +217,7 @@ impl State {
     /// no memory.
     pub fn of_digested(parts: Parts, digested: Digested) -> State
         requires number { (0 < parts.number) × (parts.number < 2 ^ 58) }
+        requires form { FitForm parts.form parts.pages }
         requires digested { IsDigested (sessions_text parts.sessions) digested }
         ensures { result ≡ with_token (parts_of parts) }
     {
@@ -209,10 +228,11 @@ impl State {
             parts.epoch,
             parts.moment,
             &parts.batch,
-            &parts.pages.root(),
+            &root_of_form(parts.form, &parts.pages),
             digested.digest(),
         );
         let Parts {
+            form,
             number,
             previous,
             epoch,
@@ -222,6 +242,7 @@ impl State {
             pages,
         } = parts;
         State {
+            form,
             number,
             previous,
             epoch,
@@ -247,7 +268,25 @@ impl State {
         ensures followed { result ≡ state_after self.now batch.now sessions pages }
         ensures fit { SessionsFit result.sessions }
     {
+        self.followed_in(Form::Current, batch, sessions, digested, pages)
+    }
+
+    /// The same, of a form: that of a state that was read.
+    pub(crate) fn followed_in(
+        &self,
+        form: Form,
+        batch: &Batch,
+        sessions: Sessions,
+        digested: Digested,
+        pages: Snapshot,
+    ) -> State
+        requires digested { IsDigested (sessions_text sessions) digested }
+        requires form { FitForm form pages }
+        ensures followed { result ≡ state_after_in form self.now batch.now sessions pages }
+        ensures fit { SessionsFit result.sessions }
+    {
         let parts = Parts {
+            form,
             number: batch.n,
             previous: self.token,
             epoch: batch.epoch,

@@ -5,9 +5,10 @@ ghost use Rattle.wire.specs.Record.{Puts, Takes};
 ghost use Rattle.pages.specs.Others.{AreSameBeside};
 ghost use Rattle.states.specs.State.{IsState};
 ghost use Rattle.states.specs.Followed.{IsSuccessor};
-ghost use Rattle.states.specs.StateRecord.{IsFirstState, IsLaterState, state_text, after_text};
+ghost use Rattle.states.specs.StateRecord.{IsFirstState, IsLaterState, MakesLater, MakesSuccessor, state_text, after_text};
 
 use crate::changes::{put_changes, take_changes};
+use crate::form::fits_form;
 use crate::head::Head;
 use crate::page_texts::{put_pages, take_pages};
 use crate::state::{Parts, State};
@@ -23,6 +24,7 @@ impl Head {
     /// The parts of the state of this head, its sessions and its items.
     fn parts(&self, sessions: Sessions, pages: Snapshot) -> Parts
         ensures { result ≡ record {
+          form = self.now.form;
           number = self.now.number;
           previous = self.now.previous;
           epoch = self.now.epoch;
@@ -33,6 +35,7 @@ impl Head {
         } }
     {
         Parts {
+            form: self.form,
             number: self.number,
             previous: self.previous,
             epoch: self.epoch,
@@ -41,6 +44,56 @@ impl Head {
             sessions,
             pages,
         }
+    }
+
+    /// The state that a batch led to, of this head, these sessions and items. `BadRecord`: there is
+    /// none, as where the token is not the one that comes out.
+    pub(crate) fn later(
+        &self,
+        alloc: Global,
+        sessions: Sessions,
+        pages: Snapshot,
+    ) -> Result<State, Fault>
+        ensures { MakesLater self.now sessions pages result }
+    {
+        if self.number == 0 {
+            return Err(Fault::BadRecord);
+        }
+        if GREATEST_NUMBER < self.number {
+            return Err(Fault::BadRecord);
+        }
+        if !fits_form(self.form, &pages) {
+            return Err(Fault::BadRecord);
+        }
+        let state = State::of_parts(alloc, self.parts(sessions, pages));
+        if state.token() != self.token {
+            return Err(Fault::BadRecord);
+        }
+        state.is_state();
+        Ok(state)
+    }
+
+    /// The state that the batch made of the one before, of this head, these sessions and items.
+    /// `BadRecord`: there is none.
+    pub(crate) fn successor(
+        &self,
+        alloc: Global,
+        before: &State,
+        batch: &Batch,
+        sessions: Sessions,
+        pages: Snapshot,
+    ) -> Result<State, Fault>
+        ensures { MakesSuccessor before.now batch.now self.now sessions pages result }
+    {
+        if !fits_form(self.form, &pages) {
+            return Err(Fault::BadRecord);
+        }
+        let digested = Digested::of_sessions(alloc, &sessions);
+        let state = before.followed_in(self.form, batch, sessions, digested, pages);
+        if !state.head().is_same(self) {
+            return Err(Fault::BadRecord);
+        }
+        Ok(state)
     }
 }
 
@@ -63,16 +116,7 @@ fn take_later(alloc: Global, bytes: &[u8]) -> Result<(State, &[u8]), Fault>
 {
     let ((head, sessions), rest) = <(Head, Sessions)>::take(alloc, bytes)?;
     let (pages, rest) = take_pages(alloc, rest)?;
-    if head.number == 0 {
-        return Err(Fault::BadRecord);
-    }
-    if GREATEST_NUMBER < head.number {
-        return Err(Fault::BadRecord);
-    }
-    let state = State::of_parts(alloc, head.parts(sessions, pages.seal()));
-    if state.token() != head.token {
-        return Err(Fault::BadRecord);
-    }
+    let state = head.later(alloc, sessions, pages.seal())?;
     Ok((state, rest))
 }
 
@@ -133,11 +177,7 @@ impl State {
     {
         let ((head, sessions), rest) = <(Head, Sessions)>::take(alloc, bytes)?;
         let (pages, rest) = take_changes(alloc, before.pages(), rest)?;
-        let digested = Digested::of_sessions(alloc, &sessions);
-        let state = before.followed_by(batch, sessions, digested, pages.seal());
-        if state.head() != head {
-            return Err(Fault::BadRecord);
-        }
+        let state = head.successor(alloc, before, batch, sessions, pages.seal())?;
         Ok((state, rest))
     }
 }

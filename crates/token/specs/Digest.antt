@@ -20,6 +20,6 @@ abbrev pub only : List (List ℕ) → List ℕ
 only (one ∷ []) = one
 only others = []
 
--- the root over the digests of all pages, which are 2^6: the one that is left six levels up
-unfoldable pub root_of : List (List ℕ) → List ℕ
-root_of digests = only (levels 6 digests)
+-- the root over 2^height digests: the one that is left so many levels up
+unfoldable pub root_of : ℕ → List (List ℕ) → List ℕ
+root_of height digests = only (levels height digests)

@@ -8,12 +8,16 @@
 
 mod digested;
 mod digests;
+mod form;
+mod merged;
 mod record;
 mod tree;
 
 pub use digested::Digested;
 pub use digests::{batch_digest, page_digest, sessions_digest};
-pub use tree::{PAGES, inner_digest, root};
+pub use form::{Form, OLD_BLOCK_BYTES};
+pub use merged::merged_digest;
+pub use tree::{HEIGHT, OLD_HEIGHT, OLD_PAGES, PAGES, inner_digest, root};
 use wire::{TokenText, digest};
 
 /// The digest by which a state is known: SHA-256 (FIPS 180-4) of a token's text, 32 bytes.

@@ -4,8 +4,17 @@ ghost use Rattle.token.specs.Digest.{digest as digest_of, levels, root_of};
 
 use wire::{InnerText, digest};
 
+/// How many levels the root is above the digests of the pages.
+pub const HEIGHT: u32 = 8;
+
 /// How many pages a store has, and so how many digests have a root.
-pub const PAGES: usize = 64;
+pub const PAGES: usize = 256;
+
+/// The levels of the root in a token of the old form.
+pub const OLD_HEIGHT: u32 = 6;
+
+/// The pages of the old form, each of them four of today's.
+pub const OLD_PAGES: usize = 64;
 
 /// The digest of two neighbours in the tree of page digests: SHA-256 (FIPS 180-4) of their inner
 /// text, 32 bytes.
@@ -19,8 +28,8 @@ pub fn inner_digest(left: &[u8; 32], right: &[u8; 32]) -> [u8; 32]
     })
 }
 
-/// The root of a tree of this height, over as many digests as it has leaves.
-fn root_over(leaves: &[[u8; 32]], height: u32) -> [u8; 32]
+/// The one digest of the last level of a tree of this height, over as many digests as it has leaves.
+fn last_level(leaves: &[[u8; 32]], height: u32) -> [u8; 32]
     requires { length leaves.now ≡ 2 ^ height }
     ensures { levels height leaves.now ≡ result ∷ [] }
 {
@@ -28,14 +37,18 @@ fn root_over(leaves: &[[u8; 32]], height: u32) -> [u8; 32]
         return leaves[0];
     }
     let (left, right) = leaves.split_at(leaves.len() / 2);
-    inner_digest(&root_over(left, height - 1), &root_over(right, height - 1))
+    inner_digest(
+        &last_level(left, height - 1),
+        &last_level(right, height - 1),
+    )
 }
 
-/// The root of the tree over the digests of all pages: neighbours are digested together, level by
-/// level, until one digest of 32 bytes is left. It takes no memory.
+/// The root of a tree of this height, over as many digests as it has leaves: neighbours are digested
+/// together, level by level, until one digest of 32 bytes is left. It takes no memory.
 #[tactic(auto, unfolding(crate::specs::Digest::root_of))]
-pub fn root(pages: &[[u8; 32]; PAGES]) -> [u8; 32]
-    ensures { result ≡ root_of pages.now }
+pub fn root(leaves: &[[u8; 32]], height: u32) -> [u8; 32]
+    requires { length leaves.now ≡ 2 ^ height }
+    ensures { result ≡ root_of height leaves.now }
 {
-    root_over(pages, 6)
+    last_level(leaves, height)
 }

@@ -11,7 +11,7 @@ use crate::record::read_row;
 use crate::state::State;
 use base::Text;
 use decrees::{Ballot, Letter, Log};
-use keeper::Keeper;
+use keeper::{Keeper, save_record};
 use proto::Fault;
 use std::alloc::Global;
 use std::marker::Model;
@@ -61,13 +61,7 @@ fn save<K: Keeper>(alloc: Global, u: u8, id: u8, state: &State, keeper: &mut K) 
     ensures counted { K.failed keeper.old ≤ K.failed keeper.new }
 {
     let record = state.record(alloc, u, id)?;
-    if keeper.failures() == u64::MAX {
-        return Err(Fault::Stopped);
-    }
-    match keeper.save(record) {
-        Ok(()) => Ok(()),
-        Err(_) => Err(Fault::Stopped),
-    }
+    save_record(record, keeper)
 }
 
 /// A verifier. It is ended by `end`, which gives its keeper back.

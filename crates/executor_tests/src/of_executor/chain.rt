@@ -14,7 +14,8 @@ fn next_batch(alloc: Global, number: u8) -> Result<Vec<u8>, AllocError> {
 }
 
 fn first_chain(alloc: Global) -> Result<Chain, AllocError> {
-    Chain::new(alloc, Committed::first(alloc)?)
+    let (chain, _) = Chain::new(alloc, Committed::first(alloc)?)?;
+    Ok(chain)
 }
 
 /// Executes the batch of this number over a base.
@@ -143,6 +144,12 @@ fn a_member_over_another_state_is_refused(rt: HostRuntime) -> Result<(), Fail> {
     Ok(())
 }
 
+fn record_of(alloc: Global, chain: &Chain) -> Result<Vec<u8>, AllocError> {
+    let mut record = Vec::new(alloc);
+    chain.put(&mut record)?;
+    Ok(record)
+}
+
 /// Whether the record of a chain is that of its committed state, a count, and those of its members.
 fn is_in_parts(alloc: Global, chain: &mut Chain) -> Result<bool, Fault> {
     let first = Committed::first(alloc)?;
@@ -153,9 +160,7 @@ fn is_in_parts(alloc: Global, chain: &mut Chain) -> Result<bool, Fault> {
     if let Some(member) = chain.members().first() {
         member.write(&mut parts)?;
     }
-    let mut whole = Vec::new(alloc);
-    chain.put(&mut whole)?;
-    Ok(whole == parts)
+    Ok(record_of(alloc, chain)? == parts)
 }
 
 #[test]
@@ -164,5 +169,67 @@ fn the_record_of_a_chain(rt: HostRuntime) -> Result<(), Fail> {
     let in_parts = is_in_parts(rt.alloc(), &mut chain);
     drop(chain.end());
     assert!(rt; in_parts?);
+    Ok(())
+}
+
+/// Whether a chain of this record is at the front of the bytes, and leaves so many of them.
+fn reads_back(alloc: Global, bytes: &[u8], record: &[u8], left: usize) -> Result<bool, Fault> {
+    let (chain, rest) = Chain::take(alloc, bytes)?;
+    let again = record_of(alloc, &chain);
+    drop(chain.end());
+    Ok(again?.as_slice() == record && rest.len() == left)
+}
+
+/// Whether no chain has a record at the front of the bytes.
+fn refuses(alloc: Global, bytes: &[u8]) -> bool {
+    match Chain::take(alloc, bytes) {
+        Ok((chain, _)) => {
+            drop(chain.end());
+            false
+        }
+        Err(fault) => fault == Fault::BadRecord,
+    }
+}
+
+/// Whether no chain is read from so many bytes of the record.
+fn refuses_front(alloc: Global, record: &[u8], len: usize) -> bool {
+    match record.get(..len) {
+        Some(front) => refuses(alloc, front),
+        None => false,
+    }
+}
+
+/// How many proper fronts of a record are tried, beside the one that lacks its last byte.
+const FRONTS: usize = 24;
+
+/// Whether a chain over a later state is read back, with and without a rest, and from none of the
+/// fronts of its record that are tried.
+fn is_read_back(alloc: Global, chain: &mut Chain) -> Result<(bool, bool, bool), Fault> {
+    push_most(alloc, chain)?;
+    commit_next(chain);
+    let record = record_of(alloc, chain)?;
+    let mut longer = record.clone()?;
+    longer.extend_from_slice(b"rest")?;
+    let whole = reads_back(alloc, record.as_slice(), record.as_slice(), 0)?;
+    let front = reads_back(alloc, longer.as_slice(), record.as_slice(), 4)?;
+    let mut refused = refuses_front(alloc, record.as_slice(), record.len().wrapping_sub(1));
+    for part in 0..FRONTS {
+        let len = record.len().wrapping_mul(part) / FRONTS;
+        refused = refused && refuses_front(alloc, record.as_slice(), len);
+    }
+    Ok((whole, front, refused))
+}
+
+#[test]
+fn a_chain_is_read_back(rt: HostRuntime) -> Result<(), Fail> {
+    let mut chain = first_chain(rt.alloc())?;
+    let read = is_read_back(rt.alloc(), &mut chain);
+    let members = chain.len();
+    drop(chain.end());
+    let (whole, front, refused) = read?;
+    assert!(rt; members == 3);
+    assert!(rt; whole);
+    assert!(rt; front);
+    assert!(rt; refused);
     Ok(())
 }

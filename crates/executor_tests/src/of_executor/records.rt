@@ -4,14 +4,15 @@ ghost use Rattle.std.specs.Prelude.{◌<◌, length};
 
 use super::*;
 
-/// The record of the first state: 40 bytes of number and token before, its epoch, 68 bytes of batch,
-/// moment and token, no sessions, and 64 pages without items.
+/// The record of the first state: its form, 40 bytes of number and token before, its epoch, 68 bytes of
+/// batch, moment and token, no sessions, and 256 pages without items.
 fn add_first(bytes: &mut Vec<u8>) -> Result<(), AllocError> {
+    bytes.push(2)?;
     bytes.extend_from_slice(&[0; 40])?;
     bytes.extend_from_slice(&[0, 0, 0, 0, 0, 0, 0, 1])?;
     bytes.extend_from_slice(&[0; 68])?;
     bytes.extend_from_slice(&[3, 0, 0, 0, 0])?;
-    bytes.extend_from_slice(&[0; 320])
+    bytes.extend_from_slice(&[0; 1280])
 }
 
 /// Whether the record of the state is what was expected, and is read as a state of this token without
@@ -51,7 +52,7 @@ fn after_one_set(alloc: Global) -> Result<Committed, Fault> {
 
 /// The head of its record, and its sessions: client 1 was answered `STORED`.
 fn add_record_head(bytes: &mut Vec<u8>, committed: &Committed) -> Result<(), AllocError> {
-    bytes.extend_from_slice(&[0, 0, 0, 0, 0, 0, 0, 1])?;
+    bytes.extend_from_slice(&[2, 0, 0, 0, 0, 0, 0, 0, 1])?;
     bytes.extend_from_slice(&[0; 32])?;
     bytes.extend_from_slice(&[0, 0, 0, 0, 0, 0, 0, 1])?;
     bytes.extend_from_slice(committed.state().batch())?;
@@ -60,16 +61,16 @@ fn add_record_head(bytes: &mut Vec<u8>, committed: &Committed) -> Result<(), All
     bytes.extend_from_slice(&[3, 0, 0, 0, 1, 0, 1, 0, 0, 0, 0, 0, 0, 0, 1, 0])
 }
 
-/// Page 33 with `a`.
+/// Page 97 with `a`.
 const PAGE: [u8; 25] = [
     0, 0, 0, 0, 1, 1, b'a', 0, 0, 0, 0, 0, 0, 0, 0, 0, 0, 0, 0, 64, 0, 0, 0, 1, b'5',
 ];
 
 fn add_state(bytes: &mut Vec<u8>, committed: &Committed) -> Result<(), AllocError> {
     add_record_head(bytes, committed)?;
-    bytes.extend_from_slice(&[0; 165])?;
+    bytes.extend_from_slice(&[0; 485])?;
     bytes.extend_from_slice(&PAGE)?;
-    bytes.extend_from_slice(&[0; 150])
+    bytes.extend_from_slice(&[0; 790])
 }
 
 fn is_set_written_so(alloc: Global, committed: &Committed) -> Result<bool, Fault> {
@@ -128,10 +129,10 @@ fn add_member(
     bytes.extend_from_slice(ONE_SET)?;
     add_record_head(bytes, committed)?;
     bytes.extend_from_slice(first_page)?;
-    bytes.extend_from_slice(&[0; 32])?;
+    bytes.extend_from_slice(&[0; 96])?;
     bytes.extend_from_slice(&[1])?;
     bytes.extend_from_slice(&PAGE)?;
-    bytes.extend_from_slice(&[0; 30])
+    bytes.extend_from_slice(&[0; 158])
 }
 
 fn member_bytes(alloc: Global, first_page: &[u8]) -> Result<Vec<u8>, Fault> {

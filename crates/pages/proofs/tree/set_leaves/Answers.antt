@@ -1,5 +1,6 @@
-use Rattle.std.proofs.Common.{false, refl, arith}
+use Rattle.std.proofs.Common.{◌*◌, false, refl, arith}
 use Rattle.std.proofs.lemmas.List.{get_or-replicate}
+use Rattle.pages.specs.Page.{page_count}
 use Rattle.pages.proofs.TreeLemmas.{set-all}
 use Rattle.pages.proofs.tree.set_leaves.Goals as goal
 
@@ -8,7 +9,7 @@ loop-number-init c = record {
   count = c.requires;
   marks = refl;
   leaves_are = λ k few. absurd (omega (arith, few));
-  inner = λ k few. get_or-replicate 128 k false false (omega (arith, few));
+  inner = λ k few. get_or-replicate (2 * page_count) k false false (omega (arith, few));
   same = λ k not. refl;
 }
 

@@ -12,4 +12,4 @@ returns-in-Some c =
 pub returns : goal.returns
 returns c =
     let text : c.as_slice.result.now ≡ state_text c.in_ok-first.first = c.as_slice.ensures.value ∙ c.in_ok-put.ensures [] c.new-text.ensures.items in
-    not_stripped c.args.bytes.now c.as_slice.result.now c.in-None.ensures.cases c.in_ok-first.first text c.in_ok-first.ensures
+    not_stripped state_text c.args.bytes.now c.as_slice.result.now c.in-None.ensures.cases c.in_ok-first.first text c.in_ok-first.ensures

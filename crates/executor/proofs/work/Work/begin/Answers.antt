@@ -5,6 +5,8 @@ use Rattle.executor.specs.BatchRequest.{BatchRequest}
 use Rattle.states.specs.Followed.{moment_of}
 use Rattle.executor.specs.Work.{WorkView, is_group_done, IsLast, all_begun, tentative_of}
 use Rattle.executor.proofs.DoneLemmas.{none_run, none_done, none_last}
+use Rattle.executor.specs.Round.{Round}
+use Rattle.executor.specs.Through.{ComesOfWork}
 use Rattle.executor.specs.GroupRun.{IsUntouched}
 use Rattle.executor.proofs.RanLemmas.{untouched_started}
 use Rattle.executor.proofs.work.Work.begin.Goals as goal
@@ -32,3 +34,11 @@ returns-in_ok-complete-in-None-clause-begins c =
 pub returns-in_ok-started-in-Some-clause-afresh : goal.returns-in_ok-started-in-Some-clause-afresh
 returns-in_ok-started-in-Some-clause-afresh c =
     subst (λ (v : WorkView). IsUntouched v.progress) (sym c.in_ok-started-in-Some.ensures) (untouched_started c.args.base.now.state c.args.batch c.args.ordered c.in-Some.group)
+
+pub returns-in_ok-complete-in-None-clause-round : goal.returns-in_ok-complete-in-None-clause-round
+returns-in_ok-complete-in-None-clause-round c =
+    subst (λ (v : WorkView). Round v.base v.batch v.ordered c.in_ok-complete-in-None.field-0.after c.in_ok-complete-in-None.field-0.replies) c.in_ok-work-in-None.ensures c.in_ok-complete-in-None.ensures.round
+
+pub returns-in_ok-complete-in-None-clause-made : goal.returns-in_ok-complete-in-None-clause-made
+returns-in_ok-complete-in-None-clause-made c =
+    subst (λ (v : WorkView). ComesOfWork v.base v.batch v.ordered c.in_ok-complete-in-None.field-0) c.in_ok-work-in-None.ensures c.in_ok-complete-in-None.ensures.made

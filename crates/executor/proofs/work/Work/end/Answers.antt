@@ -1,7 +1,8 @@
-use Rattle.std.proofs.Common.{◌≡◌, sym, ap, ◌∙◌, subst, Some}
+use Rattle.std.proofs.Common.{◌≡◌, refl, sym, ap, ◌∙◌, subst, Some}
 use Rattle.std.specs.Prelude.{IsTrue}
 use Rattle.pages.specs.Others.{AreSameBeside}
 use Rattle.states.specs.Followed.{state_after}
+use Rattle.token.specs.declared.form.Form.TheVariants.{Current}
 use Rattle.states.proofs.FollowedLemmas.{follows_of}
 use Rattle.executor.specs.Kept.{IsTentative}
 use Rattle.executor.specs.Round.{Round, kept_after}
@@ -42,7 +43,7 @@ invariant_of-result c = (tentative, subst (AreSameBeside c.may_differ-differing.
     tentative : IsTentative (record { before = c.self.inside.base.state; batch = c.self.inside.batch; after = c.followed_by-after.result; replies = c.args.replies.items })
     tentative = record {
       next = c.self.invariant.next;
-      after = follows_of c.self.inside.base.state c.self.inside.batch c.followed_by-after.result c.args.sessions c.seal.result c.followed_by-after.ensures.followed c.followed_by-after.ensures.fit;
+      after = follows_of Current c.self.inside.base.state c.self.inside.batch c.followed_by-after.result c.args.sessions c.seal.result c.followed_by-after.ensures.followed c.followed_by-after.ensures.fit refl;
       kept = round_kept c.self.inside.base.state c.self.inside.batch c.self.inside.ordered c.followed_by-after.result c.args.replies.items (round c.before);
     }
 

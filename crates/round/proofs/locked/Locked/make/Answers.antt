@@ -3,7 +3,7 @@ use Rattle.std.specs.Prelude.{slice_get, Some}
 use Rattle.item_steps.specs.Effect.{effect}
 use Rattle.item_steps.specs.Schedule.{stamped}
 use Rattle.item_steps.specs.declared.group.Task.{Task}
-use Rattle.pages.specs.Page.{page_items}
+use Rattle.pages.specs.Page.{page_count, page_items}
 use Rattle.pages.specs.Step.{step_page}
 use Rattle.round.specs.declared.rule.Entry.{Entry}
 use Rattle.round.specs.Tickets.{view_log, name_of_caller}
@@ -49,7 +49,7 @@ invariant_of-self-2 g c =
     let last = made_last old c.make.new.self ok.0 (effect c.self.inside.page.items ok.0 (stamped c.args.base old.task.place)).1 ok.1 ok.3 in
     let step : c.last.result.0.now ≡ h.1 = last.1 c.last.result.0.now c.last.ensures.step ∙ same_element ok.0 h.1 (sym ok.1 ∙ ap next_of same ∙ h.3) in
     let place : c.place-place.result ≡ h.0.place = c.place-place.ensures ∙ ap (λ (r : Running). r.task.place) ok.3 ∙ ap (λ (r : Running). r.task.place) same in
-    let e : Entry = record { page = c.self.inside.number; caller = 64 + s.inside.caller; place = c.place-place.result; step = c.last.result.0.now; answer = c.last.result.1.now } in
+    let e : Entry = record { page = c.self.inside.number; caller = page_count + s.inside.caller; place = c.place-place.result; step = c.last.result.0.now; answer = c.last.result.1.now } in
     let i = c.self.invariant in
     let page = c.self.inside.page.items in
     let log = view_log c.self.inside.token.me.0 in
@@ -77,7 +77,7 @@ invariant_of-seat-2 g c =
     let last = made_last old c.make.new.self ok.0 (effect c.self.inside.page.items ok.0 (stamped c.args.base old.task.place)).1 ok.1 ok.3 in
     let step : c.last.result.0.now ≡ h.1 = last.1 c.last.result.0.now c.last.ensures.step ∙ same_element ok.0 h.1 (sym ok.1 ∙ ap next_of same ∙ h.3) in
     let place : c.place-place.result ≡ h.0.place = c.place-place.ensures ∙ ap (λ (r : Running). r.task.place) ok.3 ∙ ap (λ (r : Running). r.task.place) same in
-    let e : Entry = record { page = c.self.inside.number; caller = 64 + s.inside.caller; place = c.place-place.result; step = c.last.result.0.now; answer = c.last.result.1.now } in
+    let e : Entry = record { page = c.self.inside.number; caller = page_count + s.inside.caller; place = c.place-place.result; step = c.last.result.0.now; answer = c.last.result.1.now } in
     let log = view_log s.inside.token.me.0 in
     let is_log : log ≡ c.args.seat.now.log = ap (λ (v : Sitting). v.log) s.view_is in
     let dealt_is = ap (λ l. map (λ (r : Running). r.task) l) s.invariant.has ∙ tasks_of_running log (dealt g.J.Room.callers s.inside.caller g.J.Room.group) in
@@ -108,7 +108,7 @@ returns-clause-made g c = λ task at.
     let last = made_last old c.make.new.self ok.0 (effect c.self.inside.page.items ok.0 (stamped c.args.base old.task.place)).1 ok.1 ok.3 in
     let step : c.last.result.0.now ≡ h.1 = last.1 c.last.result.0.now c.last.ensures.step ∙ same_element ok.0 h.1 (sym ok.1 ∙ ap next_of same ∙ h.3) in
     let place : c.place-place.result ≡ h.0.place = c.place-place.ensures ∙ ap (λ (r : Running). r.task.place) ok.3 ∙ ap (λ (r : Running). r.task.place) same in
-    let e : Entry = record { page = c.self.inside.number; caller = 64 + s.inside.caller; place = c.place-place.result; step = c.last.result.0.now; answer = c.last.result.1.now } in
+    let e : Entry = record { page = c.self.inside.number; caller = page_count + s.inside.caller; place = c.place-place.result; step = c.last.result.0.now; answer = c.last.result.1.now } in
     let log = view_log s.inside.token.me.0 in
     let is_log : log ≡ c.args.seat.now.log = ap (λ (v : Sitting). v.log) s.view_is in
     let dealt_is = ap (λ l. map (λ (r : Running). r.task) l) s.invariant.has ∙ tasks_of_running log (dealt g.J.Room.callers s.inside.caller g.J.Room.group) in

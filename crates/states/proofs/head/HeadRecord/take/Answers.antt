@@ -5,8 +5,9 @@ use Rattle.states.specs.StateRecord.{head_text}
 use Rattle.wire.proofs.Rows.{no_row}
 use Rattle.states.proofs.head.HeadRecord.take.Goals as goal
 
-pub returns-in_err-row : goal.returns-in_err-row
-returns-in_err-row c =
+pub returns-in_err-form : goal.returns-in_err-form
+unfolding head_text
+returns-in_err-form c =
     let p = err_from_is_err_and c.from_residual.result c.from_residual.ensures.1 in
-    rw (p.1, p.2) (no_row (λ (h : Head). Unit {0}) head_text _ _ (λ h. (((((h.number, h.previous), h.epoch), h.batch), h.moment), h.token)) c.args.bytes.now
-    (λ h f. (((((tt, tt), tt), tt), tt), tt)) (λ h. refl) c.in_err-row.field-0.0 c.in_err-row.ensures)
+    rw (p.1, p.2) (no_row (λ (h : Head). Unit {0}) head_text _ _ (λ h. (h.form, (((((h.number, h.previous), h.epoch), h.batch), h.moment), h.token))) c.args.bytes.now
+    (λ h f. (tt, (((((tt, tt), tt), tt), tt), tt))) (λ h. refl) c.in_err-form.field-0.0 c.in_err-form.ensures)

@@ -1,0 +1,183 @@
+//! States that are read from records of version 1, their bytes by hand. Expected values are those of the
+//! program that wrote them.
+
+ghost use Rattle.std.specs.Prelude.{◌<◌, length};
+
+use proto::Fault;
+use states::State;
+use std::alloc::{AllocError, Global};
+use std::test::Fail;
+use token::{Form, Token};
+
+/// The record of the first state: 40 bytes of number and token before, its epoch, 68 bytes of batch,
+/// moment and token, no sessions, and 64 pages without items.
+fn add_old_first(bytes: &mut Vec<u8>) -> Result<(), AllocError> {
+    bytes.extend_from_slice(&[0; 40])?;
+    bytes.extend_from_slice(&[0, 0, 0, 0, 0, 0, 0, 1])?;
+    bytes.extend_from_slice(&[0; 68])?;
+    bytes.extend_from_slice(&[3, 0, 0, 0, 0])?;
+    bytes.extend_from_slice(&[0; 320])
+}
+
+/// The digest of the batch of one `set`.
+const BATCH: [u8; 32] = [
+    0x15, 0x66, 0x0c, 0x78, 0xa1, 0xb9, 0x7a, 0x4f, 0xa9, 0x3b, 0x8a, 0xd5, 0x7f, 0x94, 0x7b, 0xf2,
+    0x5d, 0xe4, 0x9c, 0x34, 0x91, 0xe3, 0x92, 0x68, 0x4c, 0xd5, 0xec, 0x5d, 0xbe, 0xf1, 0xbc, 0xda,
+];
+
+/// The token of the state after it, whose root is over 64 pages.
+const TOKEN: [u8; 32] = [
+    0x57, 0x8d, 0xed, 0xef, 0x41, 0x41, 0x3b, 0xe9, 0x90, 0xea, 0x66, 0x65, 0x15, 0xa1, 0x95, 0x47,
+    0x84, 0x93, 0x21, 0xb4, 0x09, 0x9e, 0x34, 0xd9, 0x2e, 0x8b, 0x19, 0xea, 0x0d, 0x26, 0x2f, 0x4e,
+];
+
+fn add_old_head(bytes: &mut Vec<u8>) -> Result<(), AllocError> {
+    bytes.extend_from_slice(&[0, 0, 0, 0, 0, 0, 0, 1])?;
+    bytes.extend_from_slice(&[0; 32])?;
+    bytes.extend_from_slice(&[0, 0, 0, 0, 0, 0, 0, 1])?;
+    bytes.extend_from_slice(&BATCH)?;
+    bytes.extend_from_slice(&[0, 0, 3, 232])?;
+    bytes.extend_from_slice(&TOKEN)
+}
+
+/// The record of the state after batch 1 of one `set` of `a` by client 1, which was answered `STORED`:
+/// `a` stands on page 33.
+fn add_old_set(bytes: &mut Vec<u8>) -> Result<(), AllocError> {
+    add_old_head(bytes)?;
+    bytes.extend_from_slice(&[3, 0, 0, 0, 1, 0, 1, 0, 0, 0, 0, 0, 0, 0, 1, 0])?;
+    bytes.extend_from_slice(&[0; 165])?;
+    bytes.extend_from_slice(&[
+        0, 0, 0, 0, 1, 1, b'a', 0, 0, 0, 0, 0, 0, 0, 0, 0, 0, 0, 0, 64, 0, 0, 0, 1, b'5',
+    ])?;
+    bytes.extend_from_slice(&[0; 150])
+}
+
+fn old_first(alloc: Global) -> Result<Vec<u8>, AllocError> {
+    let mut bytes = Vec::new(alloc);
+    add_old_first(&mut bytes)?;
+    Ok(bytes)
+}
+
+fn old_set(alloc: Global) -> Result<Vec<u8>, AllocError> {
+    let mut bytes = Vec::new(alloc);
+    add_old_set(&mut bytes)?;
+    Ok(bytes)
+}
+
+/// The state's record of today.
+fn record_of(alloc: Global, state: &State) -> Result<Vec<u8>, AllocError> {
+    let mut bytes = Vec::new(alloc);
+    state.put(&mut bytes)?;
+    Ok(bytes)
+}
+
+/// What a state is told by here: its number, its token, and how long the rest of the bytes is.
+type Told = (u64, Token, usize);
+
+/// What the bytes of version 1 are read as, and the record of that of today.
+fn read_old(alloc: Global, bytes: &[u8]) -> Result<(Told, Form, Vec<u8>), Fault> {
+    let (state, rest) = State::take_old(alloc, bytes)?;
+    let again = record_of(alloc, &state)?;
+    Ok((
+        (state.number(), state.token(), rest.len()),
+        state.form(),
+        again,
+    ))
+}
+
+/// What the bytes of today are read as.
+fn read_now(alloc: Global, bytes: &[u8]) -> Result<(Told, Form), Fault> {
+    let (state, rest) = State::take(alloc, bytes)?;
+    Ok(((state.number(), state.token(), rest.len()), state.form()))
+}
+
+/// Whether the bytes of version 1, and the record of today that begins with this byte and has this
+/// length, are read as one state of this form, told so.
+fn is_read_as(
+    alloc: Global,
+    bytes: &[u8],
+    told: Told,
+    form: Form,
+    begin: u8,
+    len: usize,
+) -> Result<bool, Fault> {
+    let (old_told, old_form, again) = read_old(alloc, bytes)?;
+    let (new_told, new_form) = read_now(alloc, again.as_slice())?;
+    Ok(
+        old_told == told
+            && new_told == told
+            && old_form == form
+            && new_form == form
+            && again.as_slice().first() == Some(&begin)
+            && again.len() == len,
+    )
+}
+
+fn is_first_read(alloc: Global) -> Result<bool, Fault> {
+    let bytes = old_first(alloc)?;
+    let told = (0, Token([0; 32]), 0);
+    is_read_as(alloc, bytes.as_slice(), told, Form::Current, 2, 1402)
+}
+
+#[test]
+fn the_first_state_of_version_1(rt: HostRuntime) -> Result<(), Fail> {
+    let bytes = old_first(rt.alloc())?;
+    assert!(rt; bytes.len() == 441);
+    assert!(rt; is_first_read(rt.alloc())?);
+    Ok(())
+}
+
+fn is_set_read(alloc: Global) -> Result<bool, Fault> {
+    let bytes = old_set(alloc)?;
+    let told = (1, Token(TOKEN), 0);
+    is_read_as(alloc, bytes.as_slice(), told, Form::Old, 1, 1433)
+}
+
+#[test]
+fn a_later_state_of_version_1_keeps_its_token(rt: HostRuntime) -> Result<(), Fail> {
+    let bytes = old_set(rt.alloc())?;
+    assert!(rt; bytes.len() == 472);
+    assert!(rt; is_set_read(rt.alloc())?);
+    Ok(())
+}
+
+fn is_refused(alloc: Global, bytes: &[u8]) -> Result<bool, Fault> {
+    match State::take_old(alloc, bytes) {
+        Ok(_) => Ok(false),
+        Err(Fault::BadRecord) => Ok(true),
+        Err(fault) => Err(fault),
+    }
+}
+
+fn changed_at(alloc: Global, bytes: &[u8], at: usize) -> Result<Vec<u8>, AllocError>
+    requires { at < length bytes.now }
+{
+    let mut copy = Vec::from_slice(alloc, bytes)?;
+    copy[at] ^= 2;
+    Ok(copy)
+}
+
+/// Whether the bytes are no record where they are cut here, and where this one of them is changed.
+fn is_sealed_at(alloc: Global, bytes: &[u8], at: usize) -> Result<bool, Fault>
+    requires { at < length bytes.now }
+{
+    let changed = changed_at(alloc, bytes, at)?;
+    Ok(is_refused(alloc, changed.as_slice())? && is_refused(alloc, &bytes[..at])?)
+}
+
+/// Whether it is so at a byte of the batch's digest, of the token, of the data, and of the last page.
+fn is_sealed(alloc: Global, bytes: &[u8]) -> Result<bool, Fault> {
+    for at in [48, 115, 321, 471usize] {
+        if bytes.len() <= at || !is_sealed_at(alloc, bytes, at)? {
+            return Ok(false);
+        }
+    }
+    Ok(true)
+}
+
+#[test]
+fn a_record_of_version_1_that_is_cut_or_changed_is_refused(rt: HostRuntime) -> Result<(), Fail> {
+    let set = old_set(rt.alloc())?;
+    assert!(rt; is_sealed(rt.alloc(), set.as_slice())?);
+    Ok(())
+}

@@ -1,0 +1,135 @@
+-- A chain that is read back from its record.
+use Rattle.std.proofs.Common.{◌≡◌, Bool, Result, Ok, Err, ℕ, zero, suc, ◌+◌, ◌<◌, ◌≤◌, true, List, [], ◌∷◌, ◌++◌, length, refl, sym, ap, ◌∙◌, subst, arith, append_assoc}
+use Rattle.std.specs.Prelude.{flat_map, IsTrue, ◌&&◌, ◌==◌}
+use Rattle.std.specs.Borrow.{Bor}
+use Rattle.std.specs.Int.{w8}
+use Rattle.std.proofs.lemmas.List.{length-append}
+use Rattle.std.proofs.lemmas.List.Concat.{flat_map-cons}
+use Rattle.std.proofs.lemmas.Bool.Decides.{Decides-eqb}
+use Rattle.std.proofs.lemmas.Slice.Eq.{bytes_eq-Decides}
+use Rattle.base.specs.declared.fault.Fault.{Fault}
+use Rattle.wire.specs.Record.{NoPrefix, Refused, Takes}
+use Rattle.wire.specs.Number.{num}
+use Rattle.wire.specs.NumberLaws.{num_prefix_free, wide8}
+use Rattle.wire.proofs.Values.{Refused-weaker}
+use Rattle.decrees.specs.Votes.{token_eq}
+use Rattle.states.specs.State.{StateView, IsState}
+use Rattle.states.specs.StateRecord.{state_text}
+use Rattle.states.proofs.RecordLemmas.{state_free}
+use Rattle.executor.specs.Work.{TentativeView, CommittedView}
+use Rattle.executor.specs.Kept.{IsTentativeOver, IsQuiet}
+use Rattle.executor.specs.MemberRecord.{member_text}
+use Rattle.executor.proofs.MemberLemmas.{one_over}
+use Rattle.rollback.specs.declared.chain.TheConstants.{MOST_MEMBERS}
+use Rattle.rollback.specs.Chain.{ChainView, tip, is_over, AreOver, AreMembers, IsFilled, IsRecorded, members_text, chain_text}
+
+both_true : (b c : Bool) → b ≡ true → c ≡ true → (b && c) ≡ true
+both_true b c e f = (λ i. e i && c) ∙ f
+
+-- what is over just this state is over it by number and token
+pub over_is : (s : StateView) (t : TentativeView) → IsTentativeOver s t → IsTrue (is_over s t)
+over_is s t h =
+    both_true (t.before.number == s.number) (token_eq t.before.token s.token) ((Decides-eqb t.before.number s.number).1 (ap (λ (x : StateView). x.number) h.over))
+    ((bytes_eq-Decides t.before.token.0 s.token.0).1 (ap (λ (x : StateView). x.token.0) h.over))
+
+over_push : (s : StateView) (ts : List TentativeView) (t : TentativeView) → AreOver s ts → IsTentativeOver (tip s ts) t → AreOver s (ts ++ t ∷ [])
+over_push s [] t h over = (over, tt)
+over_push s (x ∷ ts) t h over = (h.0, over_push x.after ts t h.1 over)
+
+two_parts : (x : TentativeView) (xs : List TentativeView) (rest : List ℕ) → flat_map member_text (x ∷ xs) ++ rest ≡ member_text x ++ (flat_map member_text xs ++ rest)
+two_parts x xs rest = ap (λ (t : List ℕ). t ++ rest) (flat_map-cons member_text x xs) ∙ append_assoc (member_text x) (flat_map member_text xs) rest
+
+one_more : (front : List TentativeView) (x : TentativeView) (after : List ℕ) → flat_map member_text front ++ (member_text x ++ after) ≡ flat_map member_text (front ++ x ∷ []) ++ after
+one_more [] x after = sym (two_parts x [] after)
+one_more (y ∷ front) x after =
+    two_parts y front (member_text x ++ after)
+    ∙ (ap (λ (t : List ℕ). member_text y ++ t) (one_more front x after)
+    ∙ sym (two_parts y (front ++ x ∷ []) after))
+
+-- so many members were read, and the rest is still to be read
+pub record HasMembers (s : StateView) (front : List TentativeView) (count : ℕ) (bytes rest : List ℕ) : Type 0 where
+  pub are : AreMembers s count front
+  pub parts : bytes ≡ flat_map member_text front ++ rest
+
+pub members_begin : (s : StateView) (ts : List TentativeView) (bytes : List ℕ) → ts ≡ [] → HasMembers s ts 0 bytes bytes
+members_begin s [] bytes e = record { are = record { counted = refl; over = tt }; parts = refl }
+members_begin s (t ∷ ts) bytes e = absurd (cc e)
+
+pub members_go_on : {s : StateView} {front : List TentativeView} {count : ℕ} {bytes rest : List ℕ} (x : TentativeView) (after : List ℕ) → HasMembers s front count bytes rest
+    → IsTentativeOver (tip s front) x → rest ≡ member_text x ++ after → HasMembers s (front ++ x ∷ []) (count + 1) bytes after
+members_go_on {s} {front} {count} {bytes} {rest} x after so_far over e = record {
+  are = record {
+    counted = length-append front (x ∷ []) ∙ ap (λ (n : ℕ). n + 1) so_far.are.counted;
+    over = over_push s front x so_far.are.over over;
+  };
+  parts = so_far.parts ∙ (ap (λ (t : List ℕ). flat_map member_text front ++ t) e ∙ one_more front x after);
+}
+
+no_more : (s : StateView) (front xs : List TentativeView) (rest after : List ℕ) → length front < length xs → AreOver s front → AreOver s xs
+    → flat_map member_text front ++ rest ≡ flat_map member_text xs ++ after → NoPrefix (IsTentativeOver (tip s front)) member_text rest → ⊥
+no_more s front [] rest after lt are others e none = omega arith
+no_more s [] (x ∷ xs) rest after lt are others e none = none.none x _ others.0 (e ∙ two_parts x xs after)
+no_more s (y ∷ front) (x ∷ xs) rest after lt are others e none =
+    let both = one_over y x (flat_map member_text front ++ rest) (flat_map member_text xs ++ after) are.0 others.0 (sym (two_parts y front rest) ∙ (e ∙ two_parts x xs after)) in
+    no_more y.after front xs rest after (omega (arith, lt)) are.1 (subst (λ (t : TentativeView). AreOver t.after xs) (sym both.0) others.1) both.1 none
+
+pub members_end : {s : StateView} {front : List TentativeView} {i : ℕ} {bytes rest : List ℕ} (e : Fault) (count : ℕ) → HasMembers s front i bytes rest
+    → i < count → Refused e (NoPrefix (IsTentativeOver (tip s front)) member_text rest) → Refused e (NoPrefix (AreMembers s count) (flat_map member_text) bytes)
+members_end {s} {front} {i} {bytes} {rest} e count so_far lt = Refused-weaker e (λ (none : NoPrefix (IsTentativeOver (tip s front)) member_text rest). record {
+  none = λ xs after f same. no_more s front xs rest after (omega (arith, lt, so_far.are.counted, f.counted)) so_far.are.over f.over (sym so_far.parts ∙ same) none;
+})
+
+-- where no members stand, no chain is filled with them
+pub not_filled : (s : StateView) (count : ℕ) (bytes : List ℕ) (e : Fault) → Refused e (NoPrefix (AreMembers s count) (flat_map member_text) bytes) → Refused e (NoPrefix (IsFilled s count) members_text bytes)
+not_filled s count bytes e = Refused-weaker e (λ (none : NoPrefix (AreMembers s count) (flat_map member_text) bytes). record { none = λ c after f same. none.none c.members after f.members same })
+
+-- the parts of a chain's record
+abbrev body : ChainView → List ℕ → List ℕ
+body c after = num w8 (length c.members) ++ (flat_map member_text c.members ++ after)
+
+in_parts : (c : ChainView) (after : List ℕ) → chain_text c ++ after ≡ state_text c.have ++ body c after
+in_parts c after =
+    append_assoc (state_text c.have) (num w8 (length c.members) ++ flat_map member_text c.members) after
+    ∙ ap (λ (t : List ℕ). state_text c.have ++ t) (append_assoc (num w8 (length c.members)) (flat_map member_text c.members) after)
+
+abbrev quiet_text : CommittedView → List ℕ
+quiet_text c = state_text c.state
+
+pub no_state : (bytes : List ℕ) (e : Fault) → Refused e (NoPrefix IsQuiet quiet_text bytes) → Refused e (NoPrefix IsRecorded chain_text bytes)
+no_state bytes e = Refused-weaker e (λ (none : NoPrefix IsQuiet quiet_text bytes). record {
+  none = λ c after f same. none.none (record { state = c.have; replies = [] }) (body c after) (record { state = f.state; none = refl }) (same ∙ in_parts c after);
+})
+
+module _ (bytes : List ℕ) (have : StateView) (rest : List ℕ) (got : bytes ≡ state_text have ++ rest) where
+  same_state : (c : ChainView) (after : List ℕ) → bytes ≡ chain_text c ++ after → (have ≡ c.have) × (rest ≡ body c after)
+  same_state c after same = state_free.apart have c.have rest (body c after) (sym got ∙ (same ∙ in_parts c after))
+
+  pub no_count : (e : Fault) → Refused e (NoPrefix (λ (n : ℕ). Unit {0}) (num w8) rest) → Refused e (NoPrefix IsRecorded chain_text bytes)
+  no_count e = Refused-weaker e (λ (none : NoPrefix (λ (n : ℕ). Unit {0}) (num w8) rest). record {
+    none = λ c after f same. none.none (length c.members) (flat_map member_text c.members ++ after) tt (same_state c after same).1;
+  })
+
+  module _ (count : ℕ) (left : List ℕ) (more : rest ≡ num w8 count ++ left) where
+    same_count : (c : ChainView) (after : List ℕ) → bytes ≡ chain_text c ++ after → (count ≡ length c.members) × (left ≡ flat_map member_text c.members ++ after)
+    same_count c after same =
+        (num_prefix_free w8 wide8).apart count (length c.members) left (flat_map member_text c.members ++ after) (sym more ∙ (same_state c after same).1)
+
+    pub too_many : MOST_MEMBERS < count → NoPrefix IsRecorded chain_text bytes
+    too_many lt = record { none = λ c after f same. omega (arith, lt, f.few, (same_count c after same).0) }
+
+    -- the chain that was filled, or none
+    pub chain_taken : IsState have → count ≤ MOST_MEMBERS → (r : Result (ChainView × Bor (List ℕ)) Fault) → Takes (IsFilled have count) members_text left r → Takes IsRecorded chain_text bytes r
+    chain_taken is few (Ok p) h = (
+      record {
+        state = subst IsState (sym h.0.have) is;
+        few = omega (arith, few, h.0.members.counted);
+        over = subst (λ (s : StateView). AreOver s p.0.members) (sym h.0.have) h.0.members.over;
+      },
+      got ∙ ((λ i. state_text (sym h.0.have i) ++ (more ∙ (λ j. num w8 (sym h.0.members.counted j) ++ h.1 j)) i) ∙ sym (in_parts p.0 p.1.now)),
+    )
+    chain_taken is few (Err e) h = Refused-weaker e (λ (none : NoPrefix (IsFilled have count) members_text left). record {
+      none = λ c after f same.
+          let counted = same_count c after same in
+          none.none (record { have = have; members = c.members }) after
+          (record { have = refl; members = record { counted = sym counted.0; over = subst (λ (s : StateView). AreOver s c.members) (sym (same_state c after same).0) f.over } }) counted.1;
+    }) h

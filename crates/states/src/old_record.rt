@@ -1,0 +1,153 @@
+//! The pages of a state in a record of version 1, which has the 64 pages of the old form.
+
+ghost use Rattle.std.specs.Prelude.{◌≡◌, ◌≢◌, ◌<◌, ◌↔◌, length, map as map_list, Some, IsTrue, IfSome, IfOk};
+ghost use Rattle.std.specs.List.{flat_map};
+ghost use Rattle.wire.specs.Field.{CountFits};
+ghost use Rattle.wire.specs.Record.{Takes};
+ghost use Rattle.token.specs.declared.form.Form.TheVariants.{Old};
+ghost use Rattle.token.specs.declared.tree.TheConstants.{OLD_PAGES};
+ghost use Rattle.pages.specs.Form.{HasTexts};
+ghost use Rattle.pages.specs.Old.{old_entries};
+ghost use Rattle.states.specs.OldRecord.{old_pages_text, old_changes_text, AreOfOld, AreInPlace, AreOthers};
+
+use crate::changes::are_same;
+use pages::{Pages, Snapshot, page_of};
+use proto::Fault;
+use std::alloc::{AllocError, Global};
+use token::OLD_PAGES;
+use wire::{Counted, Entries, Record};
+
+/// So many values, whose encodings one after the other are a prefix of the bytes.
+fn take_values<'b, T: Record + Drop>(
+    alloc: Global,
+    count: usize,
+    bytes: &'b [u8],
+) -> Result<(Counted<T>, &'b [u8]), Fault>
+    ensures { Takes (CountFits count T.fits) (flat_map T.encoding) bytes.now result }
+{
+    let mut values = Vec::new(alloc);
+    let mut rest = bytes;
+    for _ in 0..count {
+        let (value, after) = T::take(alloc, rest)?;
+        values.push(value)?;
+        rest = after;
+    }
+    Ok((Counted::new(values), rest))
+}
+
+/// Whether all keys are of this old page.
+fn is_of_old(entries: &Entries, number: usize) -> bool
+    ensures { IsTrue result ↔ AreOfOld number entries.now }
+{
+    entries
+        .as_slice()
+        .iter()
+        .all(|entry| page_of(entry.key()) % OLD_PAGES == number)
+}
+
+fn is_in_place(given: &Option<Entries>, number: usize) -> bool
+    ensures { IsTrue result ↔ IfSome given.now (AreOfOld number) }
+{
+    match given {
+        None => true,
+        Some(entries) => is_of_old(entries, number),
+    }
+}
+
+/// Whether what is given of each old page has its keys alone.
+fn are_in_place(given: &[Option<Entries>]) -> bool
+    requires { length given.now ≡ OLD_PAGES }
+    ensures { IsTrue result ↔ AreInPlace given.now }
+{
+    for number in 0..OLD_PAGES {
+        if !is_in_place(&given[number], number) {
+            return false;
+        }
+    }
+    true
+}
+
+/// The entries of all old pages as given ones.
+fn all_given(alloc: Global, entries: Counted<Entries>) -> Result<Vec<Option<Entries>>, AllocError>
+    ensures { IfOk result (λ given. given.items ≡ map_list (λ es. Some es) entries) }
+{
+    let mut given = Vec::new(alloc);
+    for entries in entries.into_vec() {
+        given.push(Some(entries))?;
+    }
+    Ok(given)
+}
+
+/// The items whose old pages' encoding is a prefix of the bytes.
+pub fn take_old_pages<'b>(alloc: Global, bytes: &'b [u8]) -> Result<(Pages, &'b [u8]), Fault>
+    ensures { Takes (HasTexts Old) old_pages_text bytes.now result }
+{
+    let (entries, rest) = take_values::<Entries>(alloc, OLD_PAGES, bytes)?;
+    let given = all_given(alloc, entries)?;
+    if !are_in_place(given.as_slice()) {
+        return Err(Fault::BadRecord);
+    }
+    let pages = Pages::new(alloc)?.with_old_pages(alloc, given.as_slice())?;
+    Ok((pages, rest))
+}
+
+/// Whether an old page has the same entries in both.
+fn is_same_old(before: &Snapshot, after: &Snapshot, number: usize) -> bool
+    requires { number < OLD_PAGES }
+    ensures { IsTrue result ↔ (old_entries before.now number ≡ old_entries after.now number) }
+{
+    for part in 0..4usize {
+        let place = number + part * OLD_PAGES;
+        if !are_same(before.page(place), after.page(place)) {
+            return false;
+        }
+    }
+    true
+}
+
+fn is_other(before: &Snapshot, after: &Snapshot, given: &Option<Entries>, number: usize) -> bool
+    requires { number < OLD_PAGES }
+    ensures { IsTrue result ↔ IfSome given.now (λ es. old_entries before.now number ≢ old_entries after.now number) }
+{
+    match given {
+        None => true,
+        Some(_) => !is_same_old(before, after, number),
+    }
+}
+
+/// Whether what is given of each old page is another than before.
+fn are_others(before: &Snapshot, after: &Snapshot, given: &[Option<Entries>]) -> bool
+    requires { length given.now ≡ OLD_PAGES }
+    ensures { IsTrue result ↔ AreOthers before.now after.now given.now }
+{
+    for number in 0..OLD_PAGES {
+        if !is_other(before, after, &given[number], number) {
+            return false;
+        }
+    }
+    true
+}
+
+/// The items whose old pages' encoding over those before is a prefix of the bytes: of each old page
+/// 0 where it is the same, and its four pages are shared then, or 1 and its entries.
+pub fn take_old_changes<'b>(
+    alloc: Global,
+    before: &Snapshot,
+    bytes: &'b [u8],
+) -> Result<(Snapshot, &'b [u8]), Fault>
+    ensures { Takes (HasTexts Old) (old_changes_text before.now) bytes.now result }
+{
+    let (given, rest) = take_values::<Option<Entries>>(alloc, OLD_PAGES, bytes)?;
+    let given = given.as_slice();
+    if !are_in_place(given) {
+        return Err(Fault::BadRecord);
+    }
+    let after = before.share()?.open().with_old_pages(alloc, given)?.seal();
+    if !are_others(before, &after, given) {
+        return Err(Fault::BadRecord);
+    }
+    if !after.has_old_texts() {
+        return Err(Fault::BadRecord);
+    }
+    Ok((after, rest))
+}

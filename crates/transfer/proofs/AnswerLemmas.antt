@@ -1,0 +1,24 @@
+-- What answers a need is a parcel.
+use Rattle.std.proofs.Common.{ℕ, ◌<◌, Bool, [], arith}
+use Rattle.std.specs.Prelude.{slice_index_or}
+use Rattle.std.specs.Str.{bytes_eq}
+use Rattle.pages.specs.Page.{page_count, page_items, page_digest}
+use Rattle.states.specs.State.{StateView, IsState}
+use Rattle.states.proofs.PageTextLemmas.{own_page_items}
+use Rattle.transfer.specs.declared.need.Need.{Need}
+use Rattle.transfer.specs.Parcel.{PageOf, IsParcel, answer_of}
+use Rattle.transfer.proofs.PickLemmas.{rising, few, each}
+
+pub answer_is_parcel : (s : StateView) (q : Need) → IsState s → 0 < s.number → IsParcel (answer_of s q)
+answer_is_parcel s q is later =
+    let same : ℕ → Bool = λ k. bytes_eq (page_digest s.items k) (slice_index_or q.digests k []) in
+    record {
+      later = later;
+      few = omega (arith, is.few);
+      sessions_fit = is.sessions_fit;
+      pages_fit = record {
+        count = omega (arith, few same (page_items s.items) 0 page_count);
+        each = each same (page_items s.items) PageOf 0 page_count (λ k low high. (omega (arith, high), own_page_items s.items k));
+      };
+      rising = rising same (page_items s.items) 0 page_count;
+    }

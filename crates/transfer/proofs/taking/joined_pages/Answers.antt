@@ -1,0 +1,14 @@
+use Rattle.std.proofs.Common.{◌≡◌, sym, ap, ◌∙◌, subst}
+use Rattle.items.specs.Map.{Items}
+use Rattle.pages.specs.Joined.{ArePages, joined, items_of}
+use Rattle.pages.proofs.PartLemmas.{parts-are, joined-parts}
+use Rattle.transfer.specs.Parcel.{joined_with}
+use Rattle.transfer.proofs.taking.joined_pages.Goals as goal
+
+pub put_all-requires : goal.put_all-requires
+put_all-requires c = subst ArePages (sym c.part-shared.ensures) (parts-are c.open.result)
+
+pub returns : goal.returns
+returns c =
+    let same : joined (items_of c.part-shared.result.items) ≡ c.args.own.now = ap joined c.part-shared.ensures ∙ (joined-parts c.open.result ∙ (c.open.ensures ∙ c.in_ok-share.ensures)) in
+    c.seal.ensures ∙ (c.join.ensures ∙ (ap joined c.put_all.ensures.is ∙ ap (λ (m : Items). joined_with m c.args.came.items) same))

@@ -1,0 +1,6 @@
+pub mod Origin
+pub mod Need
+pub mod Parcel
+pub mod NeedProofs
+pub mod ParcelProofs
+pub mod Laws

@@ -1,0 +1,104 @@
+//! A page with its number.
+
+ghost use Rattle.std.specs.Prelude.{◌≡◌, ◌<◌, IfOk};
+ghost use Rattle.pages.specs.Page.{page_count};
+ghost use Rattle.pages.specs.Joined.{ArePages, IsOwn, items_of};
+ghost use Rattle.transfer.specs.Parcel.{PageOf, numbered_text};
+ghost use Rattle.transfer.specs.ParcelProofs.{numbered_prefix_free};
+
+use pages::{PAGES, Page};
+use proto::Fault;
+use std::alloc::{AllocError, Global};
+use std::marker::Model;
+use wire::{Entries, Record, Sink};
+
+/// A page with its number, of which alone its keys are. Clones share the page.
+#[derive(Drop)]
+pub struct NumberedPage {
+    number: u8,
+    page: Page,
+}
+
+impl Model for NumberedPage {
+    ghost use Rattle.std.specs.Prelude.{ℕ};
+    ghost use Rattle.std.specs.Coded.{coded×, coded_list, coded_ℕ};
+    ghost use Rattle.std.specs.FinMap as map;
+    ghost use Rattle.items.specs.Map.{Items};
+    ghost use Rattle.items.specs.contracts.item.Item as item;
+    ghost use Rattle.transfer.specs.Parcel.{PageOf};
+
+    ghost Value = { ℕ × Items };
+
+    ghost coded = { coded× coded_ℕ (map.code (coded_list coded_ℕ) item.the_row.coded) };
+
+    ghost view = { λ n. (n.number, n.page.items) };
+
+    ghost invariant = { λ n. PageOf (n.number, n.page.items) };
+}
+
+impl NumberedPage {
+    /// The page with its number.
+    pub fn new(number: usize, page: Page) -> NumberedPage
+        requires within { number < page_count }
+        requires own { IsOwn number page.items }
+        ensures { result ≡ (number, page.items) }
+    {
+        NumberedPage {
+            number: number as u8,
+            page,
+        }
+    }
+
+    /// Its number.
+    pub fn number(&self) -> usize
+        ensures number { result ≡ self.now.0 }
+        ensures within { result < page_count }
+    {
+        usize::from(self.number)
+    }
+
+    /// The page, without its number.
+    pub fn into_page(self) -> Page
+        ensures page { result.items ≡ self.1 }
+        ensures own { IsOwn self.0 self.1 }
+    {
+        self.page
+    }
+}
+
+impl Clone for NumberedPage {
+    ghost is_clone = { λ page copy. copy ≡ page };
+
+    fn clone(&self) -> Result<NumberedPage, AllocError> {
+        Ok(NumberedPage {
+            number: self.number,
+            page: self.page.clone()?,
+        })
+    }
+}
+
+/// The number, and the text of the page: shared where it is kept.
+impl Record for NumberedPage {
+    ghost fits = { PageOf };
+
+    ghost encoding = { numbered_text };
+
+    fn put<S: Sink>(&self, sink: &mut S) -> Result<(), S::Refusal> {
+        self.number.put(sink)?;
+        self.page.put_text(sink)
+    }
+
+    fn take<'b>(alloc: Global, bytes: &'b [u8]) -> Result<(NumberedPage, &'b [u8]), Fault> {
+        let ((number, entries), rest) = <(u8, Entries)>::take(alloc, bytes)?;
+        if PAGES <= usize::from(number) {
+            return Err(Fault::BadRecord);
+        }
+        let page = Page::from_entries(alloc, entries)?;
+        if !page.is_own(usize::from(number)) {
+            return Err(Fault::BadRecord);
+        }
+        Ok((NumberedPage { number, page }, rest))
+    }
+
+    ghost prefix_free = { numbered_prefix_free };
+}

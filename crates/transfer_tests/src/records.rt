@@ -1,0 +1,222 @@
+//! Records of needs and parcels, their bytes by hand.
+
+use crate::rows::*;
+use pages::PAGES;
+use proto::Fault;
+use states::State;
+use std::alloc::{AllocError, Global};
+use std::test::Fail;
+use transfer::{Need, Parcel};
+use wire::{read, record_bytes};
+
+/// The bytes of the need of the state: its number, the count of its pages, and their digests.
+fn add_need(bytes: &mut Vec<u8>, own: &State) -> Result<(), AllocError> {
+    bytes.extend_from_slice(&own.number().to_be_bytes())?;
+    bytes.extend_from_slice(&(PAGES as u32).to_be_bytes())?;
+    for number in 0..PAGES {
+        bytes.extend_from_slice(own.pages().digest(number))?;
+    }
+    Ok(())
+}
+
+fn need_bytes(alloc: Global, need: &Need) -> Result<Vec<u8>, AllocError> {
+    need.is_need();
+    record_bytes(alloc, need)
+}
+
+fn has_bytes(alloc: Global, need: &Need, expected: &[u8]) -> Result<bool, Fault> {
+    Ok(is_again(alloc, need, expected)? && is_need(alloc, expected)?)
+}
+
+fn is_need_written_so(alloc: Global, own: &State, expected: &[u8]) -> Result<bool, Fault> {
+    let need = Need::of_state(alloc, own)?;
+    has_bytes(alloc, &need, expected)
+}
+
+/// Whether the need of a state has its bytes, and what is read of them has them too.
+fn is_own_need_written_so(alloc: Global, own: &State) -> Result<bool, Fault> {
+    let mut expected = Vec::new(alloc);
+    add_need(&mut expected, own)?;
+    is_need_written_so(alloc, own, expected.as_slice())
+}
+
+fn is_second_need_written_so(alloc: Global) -> Result<bool, Fault> {
+    let own = second(alloc, &[(b'a', b'1')])?;
+    is_own_need_written_so(alloc, &own)
+}
+
+#[test]
+fn the_record_of_a_need(rt: HostRuntime) -> Result<(), Fail> {
+    assert!(rt; is_second_need_written_so(rt.alloc())?);
+    Ok(())
+}
+
+fn is_again(alloc: Global, need: &Need, expected: &[u8]) -> Result<bool, Fault> {
+    let bytes = need_bytes(alloc, need)?;
+    Ok(bytes.as_slice() == expected)
+}
+
+/// Whether the bytes are a need's record, which is then written again.
+fn is_need(alloc: Global, bytes: &[u8]) -> Result<bool, Fault> {
+    match read::<Need>(alloc, bytes) {
+        Ok(need) => is_again(alloc, &need, bytes),
+        Err(Fault::BadRecord) => Ok(false),
+        Err(fault) => Err(fault),
+    }
+}
+
+/// The record of a need of so many digests.
+fn add_digests(bytes: &mut Vec<u8>, count: u32) -> Result<(), AllocError> {
+    bytes.extend_from_slice(&[0; 8])?;
+    bytes.extend_from_slice(&count.to_be_bytes())?;
+    for _ in 0..count {
+        bytes.extend_from_slice(&[1; 32])?;
+    }
+    Ok(())
+}
+
+fn is_need_of(alloc: Global, count: u32) -> Result<bool, Fault> {
+    let mut bytes = Vec::new(alloc);
+    add_digests(&mut bytes, count)?;
+    is_need(alloc, bytes.as_slice())
+}
+
+#[test]
+fn a_need_has_a_digest_for_each_page(rt: HostRuntime) -> Result<(), Fail> {
+    let count = PAGES as u32;
+    assert!(rt; is_need_of(rt.alloc(), count)?);
+    assert!(rt; !is_need_of(rt.alloc(), count - 1)?);
+    assert!(rt; !is_need_of(rt.alloc(), count + 1)?);
+    Ok(())
+}
+
+/// The fields and sessions of the state of a number, whose first and last bytes are these.
+fn add_fields(bytes: &mut Vec<u8>, first: u8, last: u8) -> Result<(), AllocError> {
+    bytes.extend_from_slice(&[2, first, 0, 0, 0, 0, 0, 0, last])?;
+    bytes.extend_from_slice(&[7; 32])?;
+    bytes.extend_from_slice(&[0, 0, 0, 0, 0, 0, 0, 4])?;
+    bytes.extend_from_slice(&[9; 32])?;
+    bytes.extend_from_slice(&[0, 0, 3, 232])?;
+    bytes.extend_from_slice(ONE_SESSION)
+}
+
+/// Page 33, with `!`, whose data is `2`.
+const PAGE: &[u8] = &[
+    33, 0, 0, 0, 0, 1, 1, b'!', 0, 0, 0, 0, 0, 0, 0, 0, 0, 0, 0, 0, 64, 0, 0, 0, 1, b'2',
+];
+
+/// Page 34, without items.
+const EMPTY: &[u8] = &[34, 0, 0, 0, 0, 0];
+
+/// Page 35, with a key of page 33.
+const STRAY: &[u8] = &[
+    35, 0, 0, 0, 0, 1, 1, b'!', 0, 0, 0, 0, 0, 0, 0, 0, 0, 0, 0, 0, 64, 0, 0, 0, 1, b'2',
+];
+
+/// The record of a parcel of this number with these pages.
+fn add_parcel(
+    bytes: &mut Vec<u8>,
+    first: u8,
+    last: u8,
+    count: u8,
+    pages: &[&[u8]],
+) -> Result<(), AllocError> {
+    add_fields(bytes, first, last)?;
+    bytes.extend_from_slice(&[0, 0, 0, count])?;
+    for page in pages {
+        bytes.extend_from_slice(page)?;
+    }
+    Ok(())
+}
+
+fn parcel_bytes(alloc: Global, parcel: &Parcel) -> Result<Vec<u8>, AllocError> {
+    parcel.is_parcel();
+    record_bytes(alloc, parcel)
+}
+
+fn parcel_has_bytes(alloc: Global, parcel: &Parcel, expected: &[u8]) -> Result<bool, Fault> {
+    let bytes = parcel_bytes(alloc, parcel)?;
+    Ok(bytes.as_slice() == expected)
+}
+
+/// Whether the bytes are a parcel's record, which is then written again.
+fn is_parcel(alloc: Global, bytes: &[u8]) -> Result<bool, Fault> {
+    match read::<Parcel>(alloc, bytes) {
+        Ok(parcel) => parcel_has_bytes(alloc, &parcel, bytes),
+        Err(Fault::BadRecord) => Ok(false),
+        Err(fault) => Err(fault),
+    }
+}
+
+/// Whether the answer has these bytes.
+fn is_answer(alloc: Global, own: &State, more: &State, expected: &[u8]) -> Result<bool, Fault> {
+    let answer = answered(alloc, own, more)?;
+    parcel_has_bytes(alloc, &answer, expected)
+}
+
+/// Whether the answer has these bytes, and what is read of them is taken.
+fn is_answer_taken(
+    alloc: Global,
+    own: &State,
+    more: &State,
+    expected: &[u8],
+) -> Result<bool, Fault> {
+    Ok(
+        is_answer(alloc, own, more, expected)?
+            && is_taken(alloc, own, read::<Parcel>(alloc, expected)?, more)?,
+    )
+}
+
+/// Page 33 has another item, and page 34 none any more: both come along.
+fn is_written_so(alloc: Global, own: &State, more: &State) -> Result<bool, Fault> {
+    let mut expected = Vec::new(alloc);
+    add_parcel(&mut expected, 0, 3, 2, &[PAGE, EMPTY])?;
+    is_answer_taken(alloc, own, more, expected.as_slice())
+}
+
+fn is_third_written_so(alloc: Global, own: &State) -> Result<bool, Fault> {
+    let more = third(alloc, &[(b'!', b'2')])?;
+    is_written_so(alloc, own, &more)
+}
+
+fn is_third_written_for_second(alloc: Global) -> Result<bool, Fault> {
+    let own = second(alloc, &[(b'"', b'1')])?;
+    is_third_written_so(alloc, &own)
+}
+
+#[test]
+fn the_record_of_a_parcel_which_is_taken(rt: HostRuntime) -> Result<(), Fail> {
+    assert!(rt; is_third_written_for_second(rt.alloc())?);
+    Ok(())
+}
+
+fn is_parcel_of(
+    alloc: Global,
+    first: u8,
+    last: u8,
+    count: u8,
+    pages: &[&[u8]],
+) -> Result<bool, Fault> {
+    let mut bytes = Vec::new(alloc);
+    add_parcel(&mut bytes, first, last, count, pages)?;
+    is_parcel(alloc, bytes.as_slice())
+}
+
+#[test]
+fn numbers_of_parcels(rt: HostRuntime) -> Result<(), Fail> {
+    assert!(rt; is_parcel_of(rt.alloc(), 0, 1, 1, &[PAGE])?);
+    assert!(rt; is_parcel_of(rt.alloc(), 3, 255, 1, &[PAGE])?);
+    assert!(rt; !is_parcel_of(rt.alloc(), 0, 0, 1, &[PAGE])?);
+    assert!(rt; !is_parcel_of(rt.alloc(), 4, 0, 1, &[PAGE])?);
+    Ok(())
+}
+
+#[test]
+fn pages_of_parcels(rt: HostRuntime) -> Result<(), Fail> {
+    assert!(rt; is_parcel_of(rt.alloc(), 0, 3, 2, &[PAGE, EMPTY])?);
+    assert!(rt; !is_parcel_of(rt.alloc(), 0, 3, 1, &[PAGE, EMPTY])?);
+    assert!(rt; !is_parcel_of(rt.alloc(), 0, 3, 2, &[EMPTY, PAGE])?);
+    assert!(rt; !is_parcel_of(rt.alloc(), 0, 3, 2, &[PAGE, PAGE])?);
+    assert!(rt; !is_parcel_of(rt.alloc(), 0, 3, 1, &[STRAY])?);
+    Ok(())
+}
