@@ -31,7 +31,8 @@ impl Model for Text {
     ghost invariant = { λ t. t.len ≡ length (bytes_of t.pieces.items ++ t.tail.items) };
 }
 
-/// Moves the tail behind the pieces, as one more of them.
+/// Moves the tail behind the pieces, as one more of them. A piece does not grow, so it gives back the
+/// room that the tail had to spare.
 fn seal_tail(pieces: &mut Vec<Piece>, tail: &mut Vec<u8>) -> Result<(), AllocError>
     ensures moved { OnOk result (bytes_of pieces.new.items ≡ bytes_of pieces.old.items ++ tail.old.items) }
     ensures empty { OnOk result (tail.new.items ≡ []) }
@@ -43,6 +44,7 @@ fn seal_tail(pieces: &mut Vec<Piece>, tail: &mut Vec<u8>) -> Result<(), AllocErr
     }
     pieces.reserve(1)?;
     let alloc = *tail.allocator();
+    tail.shrink_to_fit();
     let bytes = mem::replace(tail, Vec::new(alloc));
     match Arc::new(alloc, bytes) {
         Ok(piece) => {
@@ -137,6 +139,13 @@ impl Text {
         self.pieces.push(Arc::try_clone(piece)?)?;
         self.len = len;
         Ok(())
+    }
+
+    /// The pieces, and the open tail behind them. A text that was just sealed has no byte in its tail.
+    pub fn parts(&self) -> (&[Piece], &[u8])
+        ensures { bytes_of result.0.now ++ result.1.now ≡ self.now }
+    {
+        (self.pieces.as_slice(), self.tail.as_slice())
     }
 
     /// The bytes in one vector.

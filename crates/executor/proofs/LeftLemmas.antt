@@ -1,6 +1,6 @@
 -- What is left of the group that runs.
 use Rattle.std.proofs.Common.{◌≡◌, ℕ, zero, suc, ◌<◌, Bool, true, false, List, [], ◌∷◌, length, Some, None, Option, refl, sym, ap, ◌∙◌, arith, subst, inl, inr}
-use Rattle.std.specs.Prelude.{slice_get, All, IfSome, not, nat_lt, ◌||◌, ◌&&◌, ◌==◌}
+use Rattle.std.specs.Prelude.{slice_get, IfSome, not, nat_lt, ◌||◌, ◌&&◌, ◌==◌}
 use Rattle.std.specs.List.{list_all, list_any}
 use Rattle.std.proofs.lemmas.Bool.{cases_Bool, and_from, and_parts, eq-eqb, eqb-true, ltb-true, ltb-false}
 use Rattle.std.proofs.lemmas.Option.{same_Some}
@@ -11,7 +11,8 @@ use Rattle.executor.specs.BatchRequest.{BatchRequest}
 use Rattle.executor.specs.Round.{runners}
 use Rattle.executor.specs.Work.{Progress, Worked, begun, is_complete, is_group_done, is_ready, HasStep, HasNoStep}
 use Rattle.executor.specs.Through.{IsNotLeft, IsFirstLeft}
-use Rattle.executor.proofs.PartialLemmas.{Each, each-of-all, all-of-each, forget}
+use Rattle.executor.specs.GroupRun.{IsUntouched, is_untouched}
+use Rattle.executor.proofs.PartialLemmas.{Each, all-of-each, forget}
 use Rattle.executor.proofs.OrderLemmas.{same_or_not}
 use Rattle.executor.proofs.RoundLemmas.{get_map, fresh_rising}
 use Rattle.executor.proofs.WorkedLemmas.{worked-partial}
@@ -93,32 +94,11 @@ pub lowest_is_next : (base : StateView) (batch : Batch) (ordered : Bool) (w : Pr
 lowest_is_next base batch ordered w worked None f = tt
 lowest_is_next base batch ordered w worked (Some place) f = none_lower base batch ordered w worked place f
 
--- whether no request of the group made a step
-pub untouched_is : (group : ℕ) (rs : List BatchRequest) → list_all (λ r. not (r.group == group) || (length r.answers == 0)) rs ≡ true → All (λ r. r.group ≡ group → r.answers ≡ []) rs
-untouched_is group rs e = all-of-each (λ r. r.group ≡ group → r.answers ≡ []) rs (each rs e)
+-- where no request made a step, none of the group did
+pub untouched_in_group : (w : Progress) → is_untouched w ≡ true → IsUntouched w
+untouched_in_group w e =
+    all-of-each (λ r. r.group ≡ w.group → r.answers ≡ []) w.running (λ i r at in_group. empty r.answers (eqb-true (length r.answers) 0 (all_at (λ x. length x.answers == 0) w.running e i r at)))
   where
-    none : (r : BatchRequest) → (length r.answers == 0) ≡ true → r.answers ≡ []
-    none r e = empty r.answers (eqb-true (length r.answers) 0 e)
-      where
-        empty : {X : Type 0} (xs : List X) → length xs ≡ 0 → xs ≡ []
-        empty [] e = refl
-        empty (x ∷ xs) e = absurd (omega (arith, e))
-
-    one : (r : BatchRequest) → (not (r.group == group) || (length r.answers == 0)) ≡ true → r.group ≡ group → r.answers ≡ []
-    one r e g = none r (subst (λ b. (not b || (length r.answers == 0)) ≡ true) (eq-eqb r.group group g) e)
-
-    each : (rs : List BatchRequest) → list_all (λ r. not (r.group == group) || (length r.answers == 0)) rs ≡ true → Each (λ r. r.group ≡ group → r.answers ≡ []) rs
-    each [] e i x at = absurd (cc at)
-    each (r ∷ rs) e zero x at = subst (λ (y : BatchRequest). y.group ≡ group → y.answers ≡ []) (same_Some r x at) (one r (and_parts (not (r.group == group) || (length r.answers == 0)) _ e).0)
-    each (r ∷ rs) e (suc i) x at = each rs (and_parts (not (r.group == group) || (length r.answers == 0)) _ e).1 i x at
-
-pub is_untouched : (group : ℕ) (rs : List BatchRequest) → All (λ r. r.group ≡ group → r.answers ≡ []) rs → list_all (λ r. not (r.group == group) || (length r.answers == 0)) rs ≡ true
-is_untouched group rs all = every rs (each-of-all (λ r. r.group ≡ group → r.answers ≡ []) rs all)
-  where
-    one : (r : BatchRequest) → (r.group ≡ group → r.answers ≡ []) → (b : Bool) → (r.group == group) ≡ b → (not b || (length r.answers == 0)) ≡ true
-    one r h false e = refl
-    one r h true e = eq-eqb (length r.answers) 0 (ap length (h (eqb-true r.group group e)))
-
-    every : (rs : List BatchRequest) → Each (λ r. r.group ≡ group → r.answers ≡ []) rs → list_all (λ r. not (r.group == group) || (length r.answers == 0)) rs ≡ true
-    every [] h = refl
-    every (r ∷ rs) h = rw (one r (h 0 r refl) (r.group == group) refl) (every rs (λ i. h (suc i)))
+    empty : {X : Type 0} (xs : List X) → length xs ≡ 0 → xs ≡ []
+    empty [] e = refl
+    empty (x ∷ xs) e = absurd (omega (arith, e))

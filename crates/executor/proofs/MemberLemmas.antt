@@ -134,5 +134,5 @@ base_is_told t u is other same =
     (sym (head_first t.before.items t.after) ∙ (both.1 ∙ head_first u.before.items u.after)) in
     let number : t.batch.n ≡ u.batch.n = ap (λ (b : Batch). b.n) both.0 in (
       omega (arith, is.next, other.next, number),
-      ap (λ (s : StateView). s.previous) (sym is.after.is) ∙ (ap (λ (h : Head). h.previous) heads.0 ∙ ap (λ (s : StateView). s.previous) other.after.is),
+      ap (λ (s : StateView). s.previous) (sym is.after.is) ∙ (ap (λ (h : Head). h.origin.previous) heads.0 ∙ ap (λ (s : StateView). s.previous) other.after.is),
     )

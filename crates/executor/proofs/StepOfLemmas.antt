@@ -1,5 +1,5 @@
 -- The step that was made is that of the request that is ready: no two requests have one place.
-use Rattle.std.proofs.Common.{◌≡◌, ℕ, zero, suc, Bool, true, false, List, [], ◌∷◌, ◌++◌, length, Some, None, refl, sym, ap, ◌∙◌, arith, subst}
+use Rattle.std.proofs.Common.{◌≡◌, ℕ, zero, suc, Bool, true, false, List, [], ◌∷◌, ◌++◌, length, Option, Some, None, refl, sym, ap, ◌∙◌, arith, subst}
 use Rattle.std.specs.Prelude.{◌==◌, ◌&&◌, not, slice_get, slice_set, option_map}
 use Rattle.std.specs.List.{list_all}
 use Rattle.std.proofs.lemmas.Bool.{cond-true, cond-false}
@@ -53,6 +53,28 @@ step_in-none first group place m (x ∷ xs) h = by (is_ready group place x) refl
     by false e more =
         cond-false (is_ready group place x) _ _ e
         ∙ ap (option_map (λ s. (s.0, x ∷ s.1))) (more (ap (λ (z : Bool). not z && list_all (λ r. not (is_ready group place r)) xs) (sym e) ∙ h))
+
+unmapped : {X Y : Type 0} (f : X → Y) (o : Option X) → option_map f o ≡ None → o ≡ None
+unmapped f None e = refl
+unmapped f (Some x) e = absurd (cc e)
+
+step_in-left : (first : Stamp) (group place : ℕ) (m : Items) (rs : List BatchRequest) → step_in first group place m rs ≡ None → (i : ℕ) (r : BatchRequest) → slice_get rs i ≡ Some r → is_ready group place r ≡ true → ⊥
+step_in-left first group place m [] none i r at is = absurd (cc at)
+step_in-left first group place m (x ∷ xs) none zero r at is =
+    let here : x ≡ r = cc at in
+    let made = sym (cond-true (is_ready group place x) _ _ (ap (is_ready group place) here ∙ is)) ∙ none in
+    cc made
+step_in-left first group place m (x ∷ xs) none (suc i) r at is = by (is_ready group place x) refl (λ left. step_in-left first group place m xs left i r at is)
+  where
+    by : (b : Bool) → is_ready group place x ≡ b → (step_in first group place m xs ≡ None → ⊥) → ⊥
+    by true e more = (let made = sym (cond-true (is_ready group place x) _ _ e) ∙ none in cc made)
+    by false e more = more (unmapped (λ s. (s.0, x ∷ s.1)) (step_in first group place m xs) (sym (cond-false (is_ready group place x) _ _ e) ∙ none))
+
+-- where there is no step at the place no request is ready there
+pub none_ready : (w : WorkView) (place i : ℕ) (r : BatchRequest) → step_of w place ≡ None → slice_get w.progress.running i ≡ Some r → is_ready w.progress.group place r ≡ true → ⊥
+none_ready w place i r none at is =
+    step_in-left (first_place w.base w.batch) w.progress.group place w.progress.items w.progress.running
+    (unmapped (λ s. record w { progress = record { items = s.0; running = s.1; group = w.progress.group } }) _ none) i r at is
 
 pub step_made : (w : WorkView) (place : ℕ) (now : Progress) → Worked w.base w.batch w.ordered w.progress → WorkStep (first_place w.base w.batch) w.progress place now → step_of w place ≡ Some (record w { progress = now })
 step_made w place now worked m =

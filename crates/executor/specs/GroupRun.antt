@@ -1,5 +1,6 @@
 -- A group that runs as a round.
-use Rattle.std.specs.Prelude.{◌≡◌, ℕ, List, [], ◌∷◌, map, filter, ◌==◌, if◌then◌else◌, All}
+use Rattle.std.specs.Prelude.{◌≡◌, ℕ, List, [], ◌∷◌, length, map, filter, Bool, ◌==◌, if◌then◌else◌, All}
+use Rattle.std.specs.List.{list_all}
 use Rattle.item_steps.specs.declared.group.Task.{Task}
 use Rattle.item_steps.specs.declared.step.Answer.{Answer}
 use Rattle.executor.specs.declared.work.Ended.{Ended}
@@ -31,6 +32,10 @@ answered_by group answers_to r = if r.group == group then record r { answers = a
 -- a request that ran in a round, with its answers
 abbrev pub ran_of : (Task → List Answer) → Task → Ran
 ran_of answers_to task = record { task = task; answers = answers_to task }
+
+-- no step was made
+abbrev pub is_untouched : Progress → Bool
+is_untouched w = list_all (λ r. length r.answers == 0) w.running
 
 -- no step of the group that runs was made
 abbrev pub IsUntouched : Progress → Type 0

@@ -16,13 +16,11 @@ pub fn is_group_done(running: &[BatchRequest], group: usize) -> bool
         .all(|r| r.group() != group || r.is_complete())
 }
 
-/// Whether no request of the group made a step.
-pub fn is_untouched(running: &[BatchRequest], group: usize) -> bool
-    ensures { result ≡ list_all (λ r. not (r.group == group) || (length r.answers == 0)) running.now }
+/// Whether no request made a step.
+pub fn is_untouched(running: &[BatchRequest]) -> bool
+    ensures { result ≡ list_all (λ r. length r.answers == 0) running.now }
 {
-    running
-        .iter()
-        .all(|r| r.group() != group || r.answers().is_empty())
+    running.iter().all(|r| r.answers().is_empty())
 }
 
 /// The place of the first request of the group that has a step left.

@@ -170,8 +170,8 @@ impl Committed {
     /// A committed state that was sent: its token is recomputed from its parts. No reply comes with it.
     /// Its number is from 1 to 2^58 - 1.
     pub fn of_parts(alloc: Global, parts: Parts) -> Committed
-        requires number { (0 < parts.number) × (parts.number < 2 ^ 58) }
-        requires form { FitForm parts.form parts.pages }
+        requires number { (0 < parts.origin.number) × (parts.origin.number < 2 ^ 58) }
+        requires form { FitForm parts.origin.form parts.pages }
         ensures { result ≡ record { state = with_token (parts_of parts); replies = [] } }
     {
         Committed {

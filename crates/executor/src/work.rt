@@ -1,4 +1,4 @@
-ghost use Rattle.std.specs.Prelude.{◌≡◌, ◌≤◌, ◌<◌, ◌+◌, ◌^◌, ◌↔◌, ℕ, [], None, Some, true, false, IfOk, OnOk, OnErr, IsTrue, IfSome, slice_get, length, not, ◌&&◌, ◌||◌, ◌==◌};
+ghost use Rattle.std.specs.Prelude.{◌≡◌, ◌≤◌, ◌<◌, ◌+◌, ◌^◌, ◌↔◌, ℕ, [], None, Some, true, false, IfOk, IsOk, OnOk, OnErr, IsTrue, IfSome, slice_get, length, not, ◌&&◌, ◌||◌, ◌==◌};
 ghost use Rattle.std.specs.List.{list_all};
 ghost use Rattle.std.specs.Bool.{OnTrue, OnFalse, then_some};
 ghost use Rattle.batches.specs.declared.batch.TheConstants.{MOST_REQUESTS};
@@ -9,7 +9,7 @@ ghost use Rattle.token.specs.Digested.{IsDigested};
 ghost use Rattle.executor.specs.Round.{first_place, kept_after, Round};
 ghost use Rattle.executor.specs.Work.{WorkStep, HasStep, HasNoStep, tentative_of, is_group_done as group_done, IsFirst, IsNext, IsLast, is_ready, all_begun, replies_of, started};
 ghost use Rattle.executor.specs.Ends.{Begins, Goes, DoneIsRound};
-ghost use Rattle.executor.specs.GroupRun.{IsUntouched, StartsAfresh};
+ghost use Rattle.executor.specs.GroupRun.{IsUntouched, StartsAfresh, is_untouched};
 ghost use Rattle.executor.specs.BatchRequest.{HaveFewSteps};
 ghost use Rattle.executor.specs.StepOf.{step_of};
 ghost use Rattle.executor.specs.Through.{IsReadyAt, WorkStepAt, later, ComesOfWork, DoneComesOfWork};
@@ -188,11 +188,12 @@ impl Work {
         self.ordered
     }
 
-    /// Whether no step of the group that runs was made.
+    /// Whether no step was made.
     pub fn is_untouched(&self) -> bool
-        ensures { IsTrue result ↔ IsUntouched self.now.progress }
+        ensures none { result ≡ is_untouched self.now.progress }
+        ensures in_group { IsTrue result → IsUntouched self.now.progress }
     {
-        is_untouched(&self.running, self.group)
+        is_untouched(&self.running)
     }
 
     /// The lowest place at which a request of the group that runs has a step left, if one has: `step`
@@ -314,6 +315,7 @@ impl Work {
         ensures others { self.new ≡ record self.old { progress = self.new.progress } }
         ensures none { IfOk result (λ done. done ≡ false
             → HasNoStep self.old.progress place × (self.new ≡ self.old)) }
+        ensures no_step { step_of self.old place ≡ None → IsOk result }
         ensures err { OnErr result (self.new ≡ self.old) }
     {
         let Some(i) = ready_at(&self.running, self.group, place) else {

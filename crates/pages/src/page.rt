@@ -3,7 +3,6 @@ ghost use Rattle.std.specs.Option.{option_copied};
 ghost use Rattle.std.specs.List.{list_all};
 ghost use Rattle.std.specs.FinMap as map;
 ghost use Rattle.items.specs.Map.{alive};
-ghost use Rattle.base.specs.Pieces.{piece_bytes};
 ghost use Rattle.wire.specs.Item.{page_text, PageFits};
 ghost use Rattle.wire.specs.Record.{Puts};
 ghost use Rattle.token.specs.declared.tree.TheConstants.{HEIGHT};
@@ -14,14 +13,14 @@ ghost use Rattle.pages.specs.Joined.{IsOwn, items_of};
 
 use crate::number::page_of;
 use crate::tree::Tree;
-use base::{Entry, Piece};
+use base::{Entry, Text};
 use items::{Item, PlainStore, Store};
 use proto::Key;
 use std::alloc::{AllocError, Global};
 use std::marker::Model;
 use std::sync::Arc;
 use token::{Digested, HEIGHT, PAGES};
-use wire::{Entries, Sink, put_page};
+use wire::{Entries, Sink, put_page, share_text};
 
 /// How many entries a page has at most: its text counts them by four bytes.
 pub(crate) const MOST_ENTRIES: usize = 4294967295;
@@ -129,8 +128,8 @@ impl Page {
 
     /// The text that is kept beside the digest. None where the digest is to be recomputed, or where
     /// there was no memory for the text when it was made.
-    pub fn text(&self) -> Option<&Piece>
-        ensures { IfSome result (λ piece. piece_bytes piece.now ≡ page_text (map.entries self.now.items)) }
+    pub fn text(&self) -> Option<&Text>
+        ensures { IfSome result (λ text. text.now ≡ page_text (map.entries self.now.items)) }
     {
         match &self.digested {
             Some(digested) => digested.text(),
@@ -138,12 +137,12 @@ impl Page {
         }
     }
 
-    /// Writes the page's text: the piece that is kept, shared, or else the entries one by one.
+    /// Writes the page's text: the pieces that are kept, shared, or else the entries one by one.
     pub fn put_text<S: Sink>(&self, sink: &mut S) -> Result<(), S::Refusal>
         ensures { OnOk result (Puts S.holds (page_text (map.entries self.now.items)) sink.old sink.new) }
     {
         match self.text() {
-            Some(piece) => sink.share(piece),
+            Some(text) => share_text(text, sink),
             None => put_page(self.entries(), sink),
         }
     }

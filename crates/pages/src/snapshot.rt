@@ -1,5 +1,4 @@
 ghost use Rattle.std.specs.Prelude.{◌≡◌, ◌<◌, IfOk, IfSome, OnOk};
-ghost use Rattle.base.specs.Pieces.{piece_bytes};
 ghost use Rattle.wire.specs.Item.{page_text, PageFits};
 ghost use Rattle.wire.specs.Record.{Puts};
 ghost use Rattle.items.specs.Map.{alive};
@@ -12,7 +11,7 @@ ghost use Rattle.pages.specs.Others.{AreSameBeside};
 use crate::page::Page;
 use crate::page_set::PageSet;
 use crate::pages::Pages;
-use base::{Entry, Piece};
+use base::{Entry, Text};
 use items::Item;
 use proto::Key;
 use std::alloc::AllocError;
@@ -161,14 +160,14 @@ impl Snapshot {
 
     /// The text of a page that is kept beside its digest. None where there was no memory for it when
     /// the pages were sealed.
-    pub fn text(&self, number: usize) -> Option<&Piece>
+    pub fn text(&self, number: usize) -> Option<&Text>
         requires { number < page_count }
-        ensures { IfSome result (λ piece. piece_bytes piece.now ≡ page_text (page_entries self.now number)) }
+        ensures { IfSome result (λ text. text.now ≡ page_text (page_entries self.now number)) }
     {
         self.pages[number].text()
     }
 
-    /// Writes the text of a page: the piece that is kept, shared, or else its entries one by one.
+    /// Writes the text of a page: the pieces that are kept, shared, or else its entries one by one.
     pub fn put_text<S: Sink>(&self, number: usize, sink: &mut S) -> Result<(), S::Refusal>
         requires { number < page_count }
         ensures { OnOk result (Puts S.holds (page_text (page_entries self.now number)) sink.old sink.new) }

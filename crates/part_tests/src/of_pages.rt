@@ -9,6 +9,7 @@ use sha2::{Digest, Sha256};
 use std::alloc::{AllocError, Global};
 use std::test::Fail;
 use token::{HEIGHT, OLD_HEIGHT, OLD_PAGES};
+use wire::LEAST_SHARED_BYTES;
 
 /// The key of these bytes, or else `k`.
 fn key(alloc: Global, bytes: &[u8]) -> Result<Key, AllocError> {
@@ -208,13 +209,18 @@ fn digests_of_pages(rt: HostRuntime) -> Result<(), Fail> {
     Ok(())
 }
 
-fn has_text(kept: &Snapshot, number: usize, text: &[u8]) -> bool {
+fn has_text(
+    alloc: Global,
+    kept: &Snapshot,
+    number: usize,
+    text: &[u8],
+) -> Result<bool, AllocError> {
     if PAGES <= number {
-        return false;
+        return Ok(false);
     }
     match kept.text(number) {
-        Some(piece) => piece.as_slice() == text,
-        None => false,
+        Some(kept) => Ok(kept.joined(alloc)?.as_slice() == text),
+        None => Ok(false),
     }
 }
 
@@ -225,14 +231,73 @@ fn texts_of_pages(rt: HostRuntime) -> Result<(), Fail> {
     let none = b"\x00\x00\x00\x00\x00".as_slice();
     let after = with_five(rt.alloc(), &Pages::new(rt.alloc())?.seal())?;
     let shared = after.share()?;
-    assert!(rt; has_text(&after, 97, one) && has_text(&shared, 97, one));
-    assert!(rt; has_text(&after, 98, none) && has_text(&shared, 98, none));
+    for kept in [&after, &shared] {
+        assert!(rt; has_text(rt.alloc(), kept, 97, one)?);
+        assert!(rt; has_text(rt.alloc(), kept, 98, none)?);
+    }
     let mut record = Text::new(rt.alloc());
     after.put_text(98, &mut record)?;
     after.put_text(97, &mut record)?;
     let joined = record.joined(rt.alloc())?;
     assert_eq!(rt; joined.as_slice().get(..5), Some(none));
     assert_eq!(rt; joined.as_slice().get(5..), Some(one));
+    Ok(())
+}
+
+/// The page of five keys, whose data has these sizes, by their order.
+const LARGE: usize = 219;
+
+fn with_data_of(alloc: Global, sizes: [usize; 5]) -> Result<Snapshot, AllocError> {
+    let names = [b"az", b"by", b"cx", b"dw", b"ev"];
+    let mut pages = Pages::new(alloc)?;
+    for i in 0..5usize {
+        let item = Item {
+            block: Block::new(vec![in alloc; i as u8; sizes[i].min(5000)]?)?,
+            flags: 0,
+            due: None,
+            unique: 64,
+        };
+        pages.put(key(alloc, names[i])?, item)?;
+    }
+    Ok(pages.seal())
+}
+
+/// Whether a page's text is the same in one piece and in several, and its digest that of it.
+fn is_one_text(alloc: Global, kept: &Snapshot) -> Result<bool, AllocError> {
+    let mut bytes = Vec::new(alloc);
+    kept.put_text(LARGE, &mut bytes)?;
+    let mut text = Text::new(alloc);
+    kept.put_text(LARGE, &mut text)?;
+    let joined = text.joined(alloc)?;
+    Ok(
+        joined.as_slice() == bytes.as_slice()
+            && *kept.digest(LARGE) == Sha256::digest(bytes.as_slice())
+            && *kept.digest(LARGE) == digest_of(kept.page(LARGE), LARGE, PAGES - 1),
+    )
+}
+
+/// The sizes of the pieces of the text that is kept, and none where its tail is open.
+fn sizes_of(alloc: Global, kept: &Snapshot) -> Result<Vec<usize>, AllocError> {
+    let mut sizes = Vec::new(alloc);
+    if let Some(text) = kept.text(LARGE) {
+        let (pieces, tail) = text.parts();
+        if tail.is_empty() {
+            for piece in pieces {
+                sizes.push(piece.len())?;
+            }
+        }
+    }
+    Ok(sizes)
+}
+
+#[test]
+fn texts_share_large_data(rt: HostRuntime) -> Result<(), Fail> {
+    let least = LEAST_SHARED_BYTES;
+    let kept = with_data_of(rt.alloc(), [5000, least - 1, least, 5, 5000])?;
+    assert!(rt; is_one_text(rt.alloc(), &kept)?);
+    // Before each data stand 3 bytes of the key and 17 of the item, before the first 5 of the page.
+    let sizes = [25, 5000, 20 + (least - 1) + 20, least, 20 + 5 + 20, 5000];
+    assert_eq!(rt; sizes_of(rt.alloc(), &kept)?.as_slice(), sizes.as_slice());
     Ok(())
 }
 

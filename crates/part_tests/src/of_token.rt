@@ -93,8 +93,14 @@ fn digest_of_no_sessions(rt: HostRuntime) -> Result<(), Fail> {
     ];
     assert_eq!(rt; *digested.digest(), expected);
     let copy = digested.clone()?;
-    assert!(rt;
-        copy.text().is_some_and(|piece| piece.as_slice() == b"\x03\x00\x00\x00\x00".as_slice())
-    );
+    match copy.text() {
+        Some(text) => {
+            assert_eq!(rt;
+                text.joined(rt.alloc())?.as_slice(),
+                b"\x03\x00\x00\x00\x00".as_slice()
+            );
+        }
+        None => assert!(rt; false),
+    }
     Ok(())
 }

@@ -1,5 +1,7 @@
 ghost use Rattle.std.specs.Prelude.{◌≡◌, ◌≤◌, [], length, IfOk, IsTrue, ◌↔◌};
+ghost use Rattle.base.specs.Pieces.{piece_bytes};
 
+use base::Piece;
 use std::alloc::{AllocError, Global};
 use std::marker::Model;
 use std::sync::Arc;
@@ -11,7 +13,7 @@ pub const MOST_BLOCK_BYTES: usize = 1_048_576;
 /// share the bytes.
 #[derive(Drop)]
 pub struct Block {
-    bytes: Arc<Vec<u8>, Global>,
+    bytes: Piece,
 }
 
 impl Model for Block {
@@ -52,6 +54,13 @@ impl Block {
         ensures limit { length self.now ≤ MOST_BLOCK_BYTES }
     {
         self.bytes.as_slice()
+    }
+
+    /// The bytes as a piece, which a text can share. A large block is put into a record so.
+    pub fn as_piece(&self) -> &Piece
+        ensures { piece_bytes result.now ≡ self.now }
+    {
+        &self.bytes
     }
 
     /// Whether it has no byte.

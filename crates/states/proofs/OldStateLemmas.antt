@@ -23,9 +23,11 @@ use Rattle.pages.specs.Form.{FitForm, HasTexts}
 use Rattle.pages.proofs.FormLemmas.{old_texts}
 use Rattle.states.specs.declared.head.Head.{Head}
 use Rattle.states.specs.State.{StateView, IsState}
+use Rattle.token.specs.Token.{token_bytes}
+use Rattle.states.specs.Origin.{origin_of, told_text}
 use Rattle.states.specs.StateRecord.{head_of_state, head_text, old_head_text, state_of, IsFirstState}
 use Rattle.states.specs.OldRecord.{old_pages_text, old_front_text, old_state_text, IsOldHead, IsOldFront, IsOldState, IsOldLaterState}
-use Rattle.states.specs.HeadProofs.{told_free}
+use Rattle.states.specs.HeadProofs.{old_head_free}
 use Rattle.states.proofs.StateLemmas.{first_is_state}
 use Rattle.states.proofs.RecordLemmas.{body_text, front_text, no_items, not_made, made}
 
@@ -33,9 +35,9 @@ use Rattle.states.proofs.RecordLemmas.{body_text, front_text, no_items, not_made
 pub texts_of_old : (form : Form) (m : Items) → form ≡ Old → FitForm form m → HasTexts Old m
 texts_of_old form m e fit = old_texts m (subst (λ (f : Form). FitForm f m) e fit)
 
-front_behind : (bytes : List ℕ) (h : Head) (sessions : Replies) (rest : List ℕ) → h.form ≡ Old → bytes ≡ old_front_text (h, sessions) ++ rest → 1 ∷ bytes ≡ front_text (h, sessions) ++ rest
+front_behind : (bytes : List ℕ) (h : Head) (sessions : Replies) (rest : List ℕ) → h.origin.form ≡ Old → bytes ≡ old_front_text (h, sessions) ++ rest → 1 ∷ bytes ≡ front_text (h, sessions) ++ rest
 unfolding head_text form_text
-front_behind bytes h sessions rest e got = ap (λ (t : List ℕ). 1 ∷ t) got ∙ ap (λ (f : Form). ((form_text f ++ old_head_text h) ++ sessions_text sessions) ++ rest) (sym e)
+front_behind bytes h sessions rest e got = ap (λ (t : List ℕ). 1 ∷ t) got ∙ ap (λ (f : Form). (((form_text f ++ told_text h.origin) ++ token_bytes h.token) ++ sessions_text sessions) ++ rest) (sym e)
 
 -- a state whose items are encoded in this way
 module _ (part : Items → List ℕ) where
@@ -44,7 +46,7 @@ module _ (part : Items → List ℕ) where
 
   behind_form : (s : StateView) → s.form ≡ Old → body_text part s ≡ 1 ∷ old_text s
   unfolding head_text form_text
-  behind_form s e = ap (λ (f : Form). (form_text f ++ old_head_text (head_of_state s)) ++ sessions_text s.sessions ++ part s.items) e
+  behind_form s e = ap (λ (f : Form). ((form_text f ++ told_text (origin_of s)) ++ token_bytes s.token) ++ sessions_text s.sessions ++ part s.items) e
 
   module _ (fits : StateView → Type 0) (old : (s : StateView) → fits s → s.form ≡ Old) (bytes : List ℕ) where
     none_behind : (e : Fault) → Refused e (NoPrefix fits (body_text part) (1 ∷ bytes)) → Refused e (NoPrefix fits old_text bytes)
@@ -57,7 +59,7 @@ module _ (part : Items → List ℕ) where
       none = λ v after f same. none.none (head_of_state v, v.sessions) (part v.items ++ after) (old v f, fit v f) (same ∙ append_assoc (old_front_text (head_of_state v, v.sessions)) (part v.items) after);
     })
 
-    module _ (h : Head) (sessions : Replies) (rest : List ℕ) (is_old : h.form ≡ Old) (got : bytes ≡ old_front_text (h, sessions) ++ rest) where
+    module _ (h : Head) (sessions : Replies) (rest : List ℕ) (is_old : h.origin.form ≡ Old) (got : bytes ≡ old_front_text (h, sessions) ++ rest) where
       pub no_old_items : ((s : StateView) → fits s → FitForm s.form s.items) → (e : Fault) → Refused e (NoPrefix {X = Items} (HasTexts Old) part rest) → Refused e (NoPrefix fits old_text bytes)
       no_old_items fit e none =
           none_behind e (no_items part fits (1 ∷ bytes) (HasTexts Old) (λ s f. texts_of_old s.form s.items (old s f) (fit s f)) h sessions rest (front_behind bytes h sessions rest is_old got) e none)
@@ -79,20 +81,20 @@ unfolding old_state_text
 head_first v after = append_assoc (old_front_text (head_of_state v, v.sessions)) (old_pages_text v.items) after ∙ append_assoc (old_head_text (head_of_state v)) (sessions_text v.sessions) (old_pages_text v.items ++ after)
 
 module _ (bytes : List ℕ) (h : Head) (rest : List ℕ) (got : bytes ≡ old_head_text h ++ rest) where
-  its_number : (v : StateView) (after : List ℕ) → bytes ≡ old_state_text v ++ after → h.number ≡ v.number
+  its_number : (v : StateView) (after : List ℕ) → bytes ≡ old_state_text v ++ after → h.origin.number ≡ v.number
   its_number v after same =
       ap (λ t. t.0.0.0.0.0)
-      (told_free.apart (((((h.number, h.previous), h.epoch), h.batch), h.moment), h.token) (((((v.number, v.previous), v.epoch), v.batch), v.moment), v.token) rest
+      (old_head_free.apart (((((h.origin.number, h.origin.previous), h.origin.epoch), h.origin.batch), h.origin.moment), h.token) (((((v.number, v.previous), v.epoch), v.batch), v.moment), v.token) rest
       (sessions_text v.sessions ++ (old_pages_text v.items ++ after)) (sym got ∙ (same ∙ head_first v after))).0
 
   -- of number 0 there is the first state alone
-  pub takes_old_first : h.number ≡ 0 → (r : Result (StateView × Bor (List ℕ)) Fault) → Takes IsFirstState old_state_text bytes r → Takes IsOldState old_state_text bytes r
+  pub takes_old_first : h.origin.number ≡ 0 → (r : Result (StateView × Bor (List ℕ)) Fault) → Takes IsFirstState old_state_text bytes r → Takes IsOldState old_state_text bytes r
   takes_old_first none (Ok p) t = (record { state = subst IsState (sym t.0) first_is_state; old = λ later. (let number : p.0.number ≡ 0 = ap (λ (s : StateView). s.number) t.0 in absurd (omega (arith, later, number))) }, t.1)
   takes_old_first none (Err e) t = Refused-weaker e (λ (no_first : NoPrefix IsFirstState old_state_text bytes). record {
     none = λ v after f same. no_first.none v after (f.state.first (sym (its_number v after same) ∙ none)) same;
   }) t
 
-  pub takes_old_later : 0 < h.number → (r : Result (StateView × Bor (List ℕ)) Fault) → Takes IsOldLaterState old_state_text bytes r → Takes IsOldState old_state_text bytes r
+  pub takes_old_later : 0 < h.origin.number → (r : Result (StateView × Bor (List ℕ)) Fault) → Takes IsOldLaterState old_state_text bytes r → Takes IsOldState old_state_text bytes r
   takes_old_later some (Ok p) t = (record { state = t.0.later.state; old = λ later. t.0.old }, t.1)
   takes_old_later some (Err e) t = Refused-weaker e (λ (no_later : NoPrefix IsOldLaterState old_state_text bytes). record {
     none = λ v after f same.
@@ -102,7 +104,7 @@ module _ (bytes : List ℕ) (h : Head) (rest : List ℕ) (got : bytes ≡ old_he
 
 pub no_old_head : (bytes : List ℕ) (e : Fault) → Refused e (NoPrefix IsOldHead old_head_text bytes) → Refused e (NoPrefix IsOldState old_state_text bytes)
 no_old_head bytes e = Refused-weaker e (λ none. record {
-  none = λ v after f same. none.none (record (head_of_state v) { form = Old }) (sessions_text v.sessions ++ (old_pages_text v.items ++ after)) refl (same ∙ head_first v after);
+  none = λ v after f same. none.none (record { origin = record (origin_of v) { form = Old }; token = v.token }) (sessions_text v.sessions ++ (old_pages_text v.items ++ after)) refl (same ∙ head_first v after);
 })
 
 no_items_at_all : (es : List (List ℕ × Item)) → length es ≡ 0 → es ≡ []

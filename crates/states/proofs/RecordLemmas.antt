@@ -116,17 +116,17 @@ no_head bytes e = Refused-weaker e (λ none. record {
 })
 
 module _ (bytes : List ℕ) (h : Head) (rest : List ℕ) (got : bytes ≡ head_text h ++ rest) where
-  its_number : (v : StateView) (after : List ℕ) → bytes ≡ state_text v ++ after → h.number ≡ v.number
-  its_number v after same = ap (λ (x : Head). x.number) (head_prefix_free.apart h (head_of_state v) rest (sessions_text v.sessions ++ (pages_text v.items ++ after)) (sym got ∙ (same ∙ head_front v after))).0
+  its_number : (v : StateView) (after : List ℕ) → bytes ≡ state_text v ++ after → h.origin.number ≡ v.number
+  its_number v after same = ap (λ (x : Head). x.origin.number) (head_prefix_free.apart h (head_of_state v) rest (sessions_text v.sessions ++ (pages_text v.items ++ after)) (sym got ∙ (same ∙ head_front v after))).0
 
   -- of number 0 there is the first state alone
-  pub takes_first : h.number ≡ 0 → (r : Result (StateView × Bor (List ℕ)) Fault) → Takes IsFirstState state_text bytes r → Takes IsState state_text bytes r
+  pub takes_first : h.origin.number ≡ 0 → (r : Result (StateView × Bor (List ℕ)) Fault) → Takes IsFirstState state_text bytes r → Takes IsState state_text bytes r
   takes_first none (Ok p) t = (subst IsState (sym t.0) first_is_state, t.1)
   takes_first none (Err e) t = Refused-weaker e (λ (no_first : NoPrefix IsFirstState state_text bytes). record {
     none = λ v after f same. no_first.none v after (f.first (sym (its_number v after same) ∙ none)) same;
   }) t
 
-  pub takes_later : 0 < h.number → (r : Result (StateView × Bor (List ℕ)) Fault) → Takes IsLaterState state_text bytes r → Takes IsState state_text bytes r
+  pub takes_later : 0 < h.origin.number → (r : Result (StateView × Bor (List ℕ)) Fault) → Takes IsLaterState state_text bytes r → Takes IsState state_text bytes r
   takes_later some (Ok p) t = (t.0.state, t.1)
   takes_later some (Err e) t = Refused-weaker e (λ (no_later : NoPrefix IsLaterState state_text bytes). record {
     none = λ v after f same. no_later.none v after (record { state = f; later = omega (arith, some, its_number v after same) }) same;

@@ -1,4 +1,5 @@
 pub mod State
+pub mod Origin
 pub mod Parts
 pub mod Followed
 pub mod StateRecord

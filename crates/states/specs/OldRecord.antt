@@ -43,7 +43,7 @@ abbrev pub old_front_text : Head × Replies → List ℕ
 old_front_text p = old_head_text p.0 ++ sessions_text p.1
 
 abbrev pub IsOldHead : Head → Type 0
-IsOldHead h = h.form ≡ Old
+IsOldHead h = h.origin.form ≡ Old
 
 abbrev pub IsOldFront : Head × Replies → Type 0
 IsOldFront p = IsOldHead p.0 × SessionsFit p.1

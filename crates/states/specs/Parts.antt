@@ -1,7 +1,8 @@
 -- A state of its parts.
 use Rattle.states.specs.declared.state.Parts.{Parts}
 use Rattle.states.specs.State.{StateView}
+use Rattle.states.specs.Origin.{state_from}
 
 -- the state of these parts; its token is still to be computed
 abbrev pub parts_of : Parts → StateView
-parts_of p = record { form = p.form; number = p.number; previous = p.previous; epoch = p.epoch; batch = p.batch; moment = p.moment; token = p.previous; sessions = p.sessions; items = p.pages }
+parts_of p = state_from p.origin p.origin.previous p.sessions p.pages

@@ -1,6 +1,5 @@
 -- The record of a state, by itself and over the state before it.
 use Rattle.std.specs.Prelude.{ℕ, List, ◌≡◌, ◌<◌, ◌++◌, flat_map, Option, Some, None, Result, Ok, Err, if◌then◌else◌}
-use Rattle.std.specs.Int.{w32, w64}
 use Rattle.std.specs.List.{range_with_len}
 use Rattle.std.specs.Str.{bytes_eq}
 use Rattle.std.specs.FinMap.{entries as entries_of}
@@ -9,33 +8,32 @@ use Rattle.items.specs.declared.item.Item.{Item}
 use Rattle.items.specs.Map.{Items}
 use Rattle.sessions.specs.Fresh.{Replies}
 use Rattle.batches.specs.declared.batch.Batch.{Batch}
-use Rattle.wire.specs.Number.{num, fixed}
 use Rattle.wire.specs.Record.{Refused}
 use Rattle.wire.specs.Field.{option_text}
 use Rattle.wire.specs.Item.{page_text}
 use Rattle.wire.specs.Session.{sessions_text}
-use Rattle.token.specs.Form.{form_text}
 use Rattle.token.specs.Token.{token_bytes}
 use Rattle.pages.specs.Page.{PageState, page_entries, page_count}
 use Rattle.pages.specs.Joined.{IsOwn}
 use Rattle.states.specs.declared.head.Head.{Head}
 use Rattle.states.specs.State.{StateView, IsState, initial_state}
+use Rattle.states.specs.Origin.{origin_of, state_from, told_text, origin_text}
 use Rattle.states.specs.Followed.{IsSuccessor}
 
 -- all of a state but its sessions and its items
 abbrev pub head_of_state : StateView → Head
-head_of_state s = record { form = s.form; number = s.number; previous = s.previous; epoch = s.epoch; batch = s.batch; moment = s.moment; token = s.token }
+head_of_state s = record { origin = origin_of s; token = s.token }
 
 -- a head of version 1, which has no form
 abbrev pub old_head_text : Head → List ℕ
-old_head_text h = num w64 h.number ++ token_bytes h.previous ++ num w64 h.epoch ++ fixed 32 h.batch ++ num w32 h.moment ++ token_bytes h.token
+old_head_text h = told_text h.origin ++ token_bytes h.token
 
 unfoldable pub head_text : Head → List ℕ
-head_text h = form_text h.form ++ old_head_text h
+head_text h = origin_text h.origin ++ token_bytes h.token
 
 -- the state of this head, these sessions and items
 abbrev pub state_of : Head → Replies → Items → StateView
-state_of h sessions items = record { form = h.form; number = h.number; previous = h.previous; epoch = h.epoch; batch = h.batch; moment = h.moment; token = h.token; sessions = sessions; items = items }
+state_of h sessions items = state_from h.origin h.token sessions items
 
 -- a text of each page, by number
 abbrev pub each_page : (ℕ → List ℕ) → List ℕ

@@ -10,7 +10,7 @@ ghost use Rattle.pages.specs.Joined.{IsOwn};
 ghost use Rattle.pages.specs.Others.{AreSameBeside};
 ghost use Rattle.states.specs.StateRecord.{change_text, changes_text};
 
-use crate::page_texts::page_of;
+use crate::page_texts::own_page;
 use base::Entry;
 use items::Item;
 use pages::{PAGES, Page, PageSet, Pages, Snapshot};
@@ -121,7 +121,7 @@ fn take_change<'b>(
             if are_same(before.entries(), entries.as_slice()) {
                 return Err(Fault::BadRecord);
             }
-            Ok((page_of(alloc, number, entries)?, rest))
+            Ok((own_page(alloc, number, entries)?, rest))
         }
     }
 }

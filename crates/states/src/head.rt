@@ -1,14 +1,13 @@
 //! What a state is told by, at the head of its record.
 
-ghost use Rattle.std.specs.Prelude.{◌≡◌, ◌↔◌, ◌++◌, IsTrue, OnOk, ⊤};
-ghost use Rattle.std.specs.Int.{w64};
-ghost use Rattle.wire.specs.Number.{num, fixed};
+ghost use Rattle.std.specs.Prelude.{◌≡◌, ◌↔◌, IsTrue, OnOk, ⊤};
+ghost use Rattle.token.specs.declared.form.Form.TheVariants.{Old};
 ghost use Rattle.wire.specs.Record.{Puts, Takes};
-ghost use Rattle.token.specs.Token.{token_bytes};
 ghost use Rattle.states.specs.StateRecord.{head_of_state, head_text, old_head_text};
 ghost use Rattle.states.specs.OldRecord.{IsOldHead};
 ghost use Rattle.states.specs.HeadProofs.{head_prefix_free};
 
+use crate::origin::{Origin, Told};
 use crate::state::State;
 use proto::Fault;
 use std::alloc::Global;
@@ -18,41 +17,28 @@ use wire::{Record, Sink};
 /// All of a state but its sessions and its items.
 #[derive(Clone, Copy, PartialEq, Eq)]
 pub struct Head {
-    pub form: Form,
-    pub number: u64,
-    pub previous: Token,
-    pub epoch: u64,
-    pub batch: [u8; 32],
-    pub moment: u32,
+    pub origin: Origin,
     pub token: Token,
 }
 
-type Digest = [u8; 32];
-
-/// All of a head but its form, in the order of its record.
-pub(crate) type Told = (((((u64, Token), u64), Digest), u32), Token);
-
 impl Head {
-    /// The head of this form that is told so.
-    pub(crate) fn of_told(form: Form, told: Told) -> Head
+    /// The head of the old form that is told so.
+    pub(crate) fn of_old(told: (Told, Token)) -> Head
         ensures { result ≡ record {
-          form = form;
-          number = told.0.0.0.0.0;
-          previous = told.0.0.0.0.1;
-          epoch = told.0.0.0.1;
-          batch = told.0.0.1;
-          moment = told.0.1;
+          origin = record {
+            form = Old;
+            number = told.0.0.0.0.0;
+            previous = told.0.0.0.0.1;
+            epoch = told.0.0.0.1;
+            batch = told.0.0.1;
+            moment = told.0.1;
+          };
           token = told.1;
         } }
     {
-        let (((((number, previous), epoch), batch), moment), token) = told;
+        let (told, token) = told;
         Head {
-            form,
-            number,
-            previous,
-            epoch,
-            batch,
-            moment,
+            origin: Origin::of_told(Form::Old, told),
             token,
         }
     }
@@ -61,12 +47,12 @@ impl Head {
     pub(crate) fn is_same(&self, other: &Head) -> bool
         ensures { IsTrue result ↔ (self.now ≡ other.now) }
     {
-        self.form == other.form
-            && self.number == other.number
-            && self.previous == other.previous
-            && self.epoch == other.epoch
-            && self.batch == other.batch
-            && self.moment == other.moment
+        self.origin.form == other.origin.form
+            && self.origin.number == other.origin.number
+            && self.origin.previous == other.origin.previous
+            && self.origin.epoch == other.origin.epoch
+            && self.origin.batch == other.origin.batch
+            && self.origin.moment == other.origin.moment
             && self.token == other.token
     }
 
@@ -74,28 +60,15 @@ impl Head {
     pub(crate) fn take_old(alloc: Global, bytes: &[u8]) -> Result<(Head, &[u8]), Fault>
         ensures { Takes IsOldHead old_head_text bytes.now result }
     {
-        let (told, rest) = Told::take(alloc, bytes)?;
-        Ok((Head::of_told(Form::Old, told), rest))
-    }
-
-    /// Writes what the state came from.
-    fn put_origin<S: Sink>(&self, sink: &mut S) -> Result<(), S::Refusal>
-        ensures { OnOk result (Puts S.holds
-            (num w64 self.now.number ++ token_bytes self.now.previous ++ num w64 self.now.epoch ++ fixed 32 self.now.batch)
-            sink.old sink.new) }
-    {
-        self.number.put(sink)?;
-        self.previous.put(sink)?;
-        self.epoch.put(sink)?;
-        self.batch.put(sink)
+        let (told, rest) = <(Told, Token)>::take(alloc, bytes)?;
+        Ok((Head::of_old(told), rest))
     }
 
     /// Writes all but its form.
     pub(crate) fn put_old<S: Sink>(&self, sink: &mut S) -> Result<(), S::Refusal>
         ensures { OnOk result (Puts S.holds (old_head_text self.now) sink.old sink.new) }
     {
-        self.put_origin(sink)?;
-        self.moment.put(sink)?;
+        self.origin.put_told(sink)?;
         self.token.put(sink)
     }
 }
@@ -107,14 +80,14 @@ impl Record for Head {
 
     #[tactic(auto, unfolding(crate::specs::StateRecord::head_text))]
     fn put<S: Sink>(&self, sink: &mut S) -> Result<(), S::Refusal> {
-        self.form.put(sink)?;
-        self.put_old(sink)
+        self.origin.put(sink)?;
+        self.token.put(sink)
     }
 
     #[tactic(auto, unfolding(crate::specs::StateRecord::head_text))]
     fn take<'b>(alloc: Global, bytes: &'b [u8]) -> Result<(Head, &'b [u8]), Fault> {
-        let ((form, told), rest) = <(Form, Told)>::take(alloc, bytes)?;
-        Ok((Head::of_told(form, told), rest))
+        let ((origin, token), rest) = <(Origin, Token)>::take(alloc, bytes)?;
+        Ok((Head { origin, token }, rest))
     }
 
     ghost prefix_free = { head_prefix_free };
@@ -126,12 +99,7 @@ impl State {
         ensures { result ≡ head_of_state self.now }
     {
         Head {
-            form: self.form(),
-            number: self.number(),
-            previous: self.previous(),
-            epoch: self.epoch(),
-            batch: *self.batch(),
-            moment: self.moment(),
+            origin: self.origin(),
             token: self.token(),
         }
     }

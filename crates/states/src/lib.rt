@@ -12,6 +12,7 @@ mod form;
 mod head;
 mod old_record;
 mod old_state;
+mod origin;
 mod page_texts;
 mod record_laws;
 mod state;
@@ -19,5 +20,7 @@ mod state_record;
 
 pub use form::fits_form;
 pub use head::Head;
+pub use origin::Origin;
+pub use page_texts::own_page;
 pub use record_laws::states_are_told_apart;
 pub use state::{Parts, State};

@@ -1,8 +1,6 @@
 //! The pages of a state in a record of version 1, which has the 64 pages of the old form.
 
 ghost use Rattle.std.specs.Prelude.{◌≡◌, ◌≢◌, ◌<◌, ◌↔◌, length, map as map_list, Some, IsTrue, IfSome, IfOk};
-ghost use Rattle.std.specs.List.{flat_map};
-ghost use Rattle.wire.specs.Field.{CountFits};
 ghost use Rattle.wire.specs.Record.{Takes};
 ghost use Rattle.token.specs.declared.form.Form.TheVariants.{Old};
 ghost use Rattle.token.specs.declared.tree.TheConstants.{OLD_PAGES};
@@ -15,25 +13,7 @@ use pages::{Pages, Snapshot, page_of};
 use proto::Fault;
 use std::alloc::{AllocError, Global};
 use token::OLD_PAGES;
-use wire::{Counted, Entries, Record};
-
-/// So many values, whose encodings one after the other are a prefix of the bytes.
-fn take_values<'b, T: Record + Drop>(
-    alloc: Global,
-    count: usize,
-    bytes: &'b [u8],
-) -> Result<(Counted<T>, &'b [u8]), Fault>
-    ensures { Takes (CountFits count T.fits) (flat_map T.encoding) bytes.now result }
-{
-    let mut values = Vec::new(alloc);
-    let mut rest = bytes;
-    for _ in 0..count {
-        let (value, after) = T::take(alloc, rest)?;
-        values.push(value)?;
-        rest = after;
-    }
-    Ok((Counted::new(values), rest))
-}
+use wire::{Counted, Entries, take_values};
 
 /// Whether all keys are of this old page.
 fn is_of_old(entries: &Entries, number: usize) -> bool

@@ -7,22 +7,23 @@ ghost use Rattle.states.specs.State.{initial_state};
 ghost use Rattle.states.specs.StateRecord.{IsFirstState};
 ghost use Rattle.states.specs.OldRecord.{old_front_text, old_state_text, old_after_text, IsOldFront, IsOldState, IsOldLaterState, IsOldSuccessor};
 
-use crate::head::{Head, Told};
+use crate::head::Head;
 use crate::old_record::{take_old_changes, take_old_pages};
+use crate::origin::Told;
 use crate::state::State;
 use batches::Batch;
 use proto::Fault;
 use sessions::Sessions;
 use std::alloc::{AllocError, Global};
-use token::Form;
+use token::Token;
 use wire::{Record, Sink};
 
 /// The head of the old form and the sessions, whose record is a prefix of the bytes.
 fn take_front(alloc: Global, bytes: &[u8]) -> Result<((Head, Sessions), &[u8]), Fault>
     ensures { Takes IsOldFront old_front_text bytes.now result }
 {
-    let ((told, sessions), rest) = <(Told, Sessions)>::take(alloc, bytes)?;
-    Ok(((Head::of_told(Form::Old, told), sessions), rest))
+    let ((told, sessions), rest) = <((Told, Token), Sessions)>::take(alloc, bytes)?;
+    Ok(((Head::of_old(told), sessions), rest))
 }
 
 /// The record of the first state, whose 64 pages are five zero bytes each.
@@ -68,7 +69,7 @@ impl State {
         ensures { Takes IsOldState old_state_text bytes.now result }
     {
         let (head, _) = Head::take_old(alloc, bytes)?;
-        if head.number == 0 {
+        if head.origin.number == 0 {
             take_old_first(alloc, bytes)
         } else {
             take_old_later(alloc, bytes)

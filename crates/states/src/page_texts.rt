@@ -22,8 +22,9 @@ pub fn put_pages<S: Sink>(pages: &Snapshot, sink: &mut S) -> Result<(), S::Refus
     Ok(())
 }
 
-/// The page of these entries, if its keys are of its number alone.
-pub fn page_of(alloc: Global, number: usize, entries: Entries) -> Result<Page, Fault>
+/// The page of these entries, whose keys are all of its number. `BadRecord`: a key is of another page.
+/// `NoMemory` is the only other error.
+pub fn own_page(alloc: Global, number: usize, entries: Entries) -> Result<Page, Fault>
     requires { EntriesFit entries }
     ensures { MakesPage number entries result }
 {
@@ -38,7 +39,7 @@ fn take_page<'b>(alloc: Global, number: usize, bytes: &'b [u8]) -> Result<(Page,
     ensures { Takes (λ page. IsOwn number page.items) (λ page. page_text (map.entries page.items)) bytes.now result }
 {
     let (entries, rest) = Entries::take(alloc, bytes)?;
-    Ok((page_of(alloc, number, entries)?, rest))
+    Ok((own_page(alloc, number, entries)?, rest))
 }
 
 /// The pages whose encoding is a prefix of the bytes.

@@ -3,11 +3,13 @@ ghost use Rattle.wire.specs.Record.{Puts};
 ghost use Rattle.wire.specs.Session.{sessions_text, SessionsFit};
 ghost use Rattle.token.specs.Digested.{IsDigested};
 ghost use Rattle.states.specs.State.{IsState, initial_state, with_token};
+ghost use Rattle.states.specs.Origin.{origin_of};
 ghost use Rattle.states.specs.Parts.{parts_of};
 ghost use Rattle.states.specs.Followed.{state_after, state_after_in};
 ghost use Rattle.pages.specs.Form.{FitForm};
 
 use crate::form::root_of_form;
+use crate::origin::Origin;
 use batches::Batch;
 use pages::{Pages, Snapshot};
 use sessions::Sessions;
@@ -20,12 +22,7 @@ use wire::Sink;
 /// sessions it keeps their digest and, where there is memory for it, their text.
 #[derive(Drop)]
 pub struct State {
-    form: Form,
-    number: u64,
-    previous: Token,
-    epoch: u64,
-    batch: [u8; 32],
-    moment: u32,
+    origin: Origin,
     token: Token,
     sessions: Sessions,
     digested: Digested,
@@ -35,12 +32,7 @@ pub struct State {
 /// What a state is made of, without its token.
 #[derive(Drop)]
 pub struct Parts {
-    pub form: Form,
-    pub number: u64,
-    pub previous: Token,
-    pub epoch: u64,
-    pub batch: [u8; 32],
-    pub moment: u32,
+    pub origin: Origin,
     pub sessions: Sessions,
     pub pages: Snapshot,
 }
@@ -52,35 +44,16 @@ impl Model for State {
     ghost use Rattle.sessions.specs.contracts.sessions.LastReply as kept;
     ghost use Rattle.token.specs.contracts.form.Form as of_form;
     ghost use Rattle.token.specs.contracts.Token as known;
+    ghost use Rattle.states.specs.Origin.{state_from};
     ghost use Rattle.states.specs.State.{StateView, IsStateBeside, state_code};
 
     ghost Value = { StateView };
 
     ghost coded = { state_code of_form.the_row.coded known.the_row.coded (map.code coded_ℕ kept.the_row.coded) (map.code (coded_list coded_ℕ) item.the_row.coded) };
 
-    ghost view = { λ s. record {
-      form = s.form;
-      number = s.number;
-      previous = s.previous;
-      epoch = s.epoch;
-      batch = s.batch;
-      moment = s.moment;
-      token = s.token;
-      sessions = s.sessions;
-      items = s.pages;
-    } };
+    ghost view = { λ s. state_from s.origin s.token s.sessions s.pages };
 
-    ghost invariant = { λ s. IsStateBeside s.digested (record {
-      form = s.form;
-      number = s.number;
-      previous = s.previous;
-      epoch = s.epoch;
-      batch = s.batch;
-      moment = s.moment;
-      token = s.token;
-      sessions = s.sessions;
-      items = s.pages;
-    }) };
+    ghost invariant = { λ s. IsStateBeside s.digested (state_from s.origin s.token s.sessions s.pages) };
 }
 
 impl State {
@@ -91,12 +64,14 @@ impl State {
         let sessions = Sessions::new(alloc)?;
         let digested = Digested::of_sessions(alloc, &sessions);
         Ok(State {
-            form: Form::Current,
-            number: 0,
-            previous: Token([0; 32]),
-            epoch: 1,
-            batch: [0; 32],
-            moment: 0,
+            origin: Origin {
+                form: Form::Current,
+                number: 0,
+                previous: Token([0; 32]),
+                epoch: 1,
+                batch: [0; 32],
+                moment: 0,
+            },
             token: Token([0; 32]),
             sessions,
             digested,
@@ -104,11 +79,18 @@ impl State {
         })
     }
 
+    /// All of it but its token, its sessions and its items.
+    pub fn origin(&self) -> Origin
+        ensures { result ≡ origin_of self.now }
+    {
+        self.origin
+    }
+
     /// Over how many pages the root in its token is.
     pub fn form(&self) -> Form
         ensures { result ≡ self.now.form }
     {
-        self.form
+        self.origin.form
     }
 
     /// How many batches led to the state.
@@ -116,35 +98,35 @@ impl State {
         ensures number { result ≡ self.now.number }
         ensures few { result < 2 ^ 58 }
     {
-        self.number
+        self.origin.number
     }
 
     /// The token of the state before it.
     pub fn previous(&self) -> Token
         ensures { result ≡ self.now.previous }
     {
-        self.previous
+        self.origin.previous
     }
 
     /// The epoch of the batch that led to it.
     pub fn epoch(&self) -> u64
         ensures { result ≡ self.now.epoch }
     {
-        self.epoch
+        self.origin.epoch
     }
 
     /// The digest of the batch that led to it.
     pub fn batch(&self) -> &[u8; 32]
         ensures { result.now ≡ self.now.batch }
     {
-        &self.batch
+        &self.origin.batch
     }
 
     /// Its moment, in seconds.
     pub fn moment(&self) -> u32
         ensures { result ≡ self.now.moment }
     {
-        self.moment
+        self.origin.moment
     }
 
     /// The token by which it is known.
@@ -180,7 +162,7 @@ impl State {
     pub fn is_state(&self)
         ensures { IsState self.now }
     {
-        let _number = &self.number;
+        let _origin = &self.origin;
     }
 
     /// The same state. Its pages, its sessions and their text are shared, and not copied.
@@ -188,12 +170,7 @@ impl State {
         ensures { IfOk result (λ state. state ≡ self.now) }
     {
         Ok(State {
-            form: self.form,
-            number: self.number,
-            previous: self.previous,
-            epoch: self.epoch,
-            batch: self.batch,
-            moment: self.moment,
+            origin: self.origin,
             token: self.token,
             sessions: self.sessions.clone()?,
             digested: self.digested.clone()?,
@@ -205,8 +182,8 @@ impl State {
     /// to 2^58 - 1.
     /// The text of its sessions is kept where there is memory for it; there is no error.
     pub fn of_parts(alloc: Global, parts: Parts) -> State
-        requires number { (0 < parts.number) × (parts.number < 2 ^ 58) }
-        requires form { FitForm parts.form parts.pages }
+        requires number { (0 < parts.origin.number) × (parts.origin.number < 2 ^ 58) }
+        requires form { FitForm parts.origin.form parts.pages }
         ensures { result ≡ with_token (parts_of parts) }
     {
         let digested = Digested::of_sessions(alloc, &parts.sessions);
@@ -216,38 +193,28 @@ impl State {
     /// The same state as of `of_parts`, where the digest of its sessions was made already. This takes
     /// no memory.
     pub fn of_digested(parts: Parts, digested: Digested) -> State
-        requires number { (0 < parts.number) × (parts.number < 2 ^ 58) }
-        requires form { FitForm parts.form parts.pages }
+        requires number { (0 < parts.origin.number) × (parts.origin.number < 2 ^ 58) }
+        requires form { FitForm parts.origin.form parts.pages }
         requires digested { IsDigested (sessions_text parts.sessions) digested }
         ensures { result ≡ with_token (parts_of parts) }
     {
         let _entries = parts.sessions.entries();
         let token = Token::new(
-            &parts.previous,
-            parts.number,
-            parts.epoch,
-            parts.moment,
-            &parts.batch,
-            &root_of_form(parts.form, &parts.pages),
+            &parts.origin.previous,
+            parts.origin.number,
+            parts.origin.epoch,
+            parts.origin.moment,
+            &parts.origin.batch,
+            &root_of_form(parts.origin.form, &parts.pages),
             digested.digest(),
         );
         let Parts {
-            form,
-            number,
-            previous,
-            epoch,
-            batch,
-            moment,
+            origin,
             sessions,
             pages,
         } = parts;
         State {
-            form,
-            number,
-            previous,
-            epoch,
-            batch,
-            moment,
+            origin,
             token,
             sessions,
             digested,
@@ -285,13 +252,16 @@ impl State {
         ensures followed { result ≡ state_after_in form self.now batch.now sessions pages }
         ensures fit { SessionsFit result.sessions }
     {
-        let parts = Parts {
+        let origin = Origin {
             form,
             number: batch.n,
             previous: self.token,
             epoch: batch.epoch,
             batch: batch_digest(batch),
-            moment: batch.moment.max(self.moment),
+            moment: batch.moment.max(self.origin.moment),
+        };
+        let parts = Parts {
+            origin,
             sessions,
             pages,
         };

@@ -21,31 +21,6 @@ use token::Digested;
 use wire::{Record, Sink};
 
 impl Head {
-    /// The parts of the state of this head, its sessions and its items.
-    fn parts(&self, sessions: Sessions, pages: Snapshot) -> Parts
-        ensures { result ≡ record {
-          form = self.now.form;
-          number = self.now.number;
-          previous = self.now.previous;
-          epoch = self.now.epoch;
-          batch = self.now.batch;
-          moment = self.now.moment;
-          sessions = sessions;
-          pages = pages;
-        } }
-    {
-        Parts {
-            form: self.form,
-            number: self.number,
-            previous: self.previous,
-            epoch: self.epoch,
-            batch: self.batch,
-            moment: self.moment,
-            sessions,
-            pages,
-        }
-    }
-
     /// The state that a batch led to, of this head, these sessions and items. `BadRecord`: there is
     /// none, as where the token is not the one that comes out.
     pub(crate) fn later(
@@ -56,16 +31,21 @@ impl Head {
     ) -> Result<State, Fault>
         ensures { MakesLater self.now sessions pages result }
     {
-        if self.number == 0 {
+        if self.origin.number == 0 {
             return Err(Fault::BadRecord);
         }
-        if GREATEST_NUMBER < self.number {
+        if GREATEST_NUMBER < self.origin.number {
             return Err(Fault::BadRecord);
         }
-        if !fits_form(self.form, &pages) {
+        if !fits_form(self.origin.form, &pages) {
             return Err(Fault::BadRecord);
         }
-        let state = State::of_parts(alloc, self.parts(sessions, pages));
+        let parts = Parts {
+            origin: self.origin,
+            sessions,
+            pages,
+        };
+        let state = State::of_parts(alloc, parts);
         if state.token() != self.token {
             return Err(Fault::BadRecord);
         }
@@ -85,11 +65,11 @@ impl Head {
     ) -> Result<State, Fault>
         ensures { MakesSuccessor before.now batch.now self.now sessions pages result }
     {
-        if !fits_form(self.form, &pages) {
+        if !fits_form(self.origin.form, &pages) {
             return Err(Fault::BadRecord);
         }
         let digested = Digested::of_sessions(alloc, &sessions);
-        let state = before.followed_in(self.form, batch, sessions, digested, pages);
+        let state = before.followed_in(self.origin.form, batch, sessions, digested, pages);
         if !state.head().is_same(self) {
             return Err(Fault::BadRecord);
         }
@@ -138,7 +118,7 @@ impl State {
         ensures { Takes IsState state_text bytes.now result }
     {
         let (head, _) = Head::take(alloc, bytes)?;
-        if head.number == 0 {
+        if head.origin.number == 0 {
             take_first(alloc, bytes)
         } else {
             take_later(alloc, bytes)

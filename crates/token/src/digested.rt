@@ -1,12 +1,13 @@
-ghost use Rattle.std.specs.Prelude.{◌≡◌, IfNone, IfSome, None, Some, OnOk};
-ghost use Rattle.base.specs.Pieces.{piece_bytes};
+ghost use Rattle.std.specs.Prelude.{◌≡◌, IfNone, IfSome, IfOk, None, Some, OnOk};
+ghost use Rattle.std.specs.Arc.{arc_value};
 ghost use Rattle.wire.specs.Item.{page_text, PageFits};
 ghost use Rattle.wire.specs.Session.{sessions_text, SessionsFit};
 ghost use Rattle.wire.specs.Record.{Puts};
+ghost use Rattle.token.specs.Digest.{digest as digest_of};
 ghost use Rattle.token.specs.Digested.{IsDigested};
 
 use crate::digests::{page_digest, sessions_digest};
-use base::{Entry, Piece};
+use base::{Entry, Text};
 use items::Item;
 use proto::Key;
 use sessions::Sessions;
@@ -14,53 +15,75 @@ use sha2::{Digest, Sha256};
 use std::alloc::{AllocError, Global};
 use std::marker::Model;
 use std::sync::Arc;
-use wire::{Record, Sink, page_bytes, record_bytes};
+use wire::{Record, Sink, put_page, share_text};
 
 /// The digest of a text, SHA-256 by FIPS 180-4, and the text itself where there was memory to keep
-/// it. Clones share the text.
+/// it. The text shares the data of large items with them, and clones share the text.
 ///
 /// Contracts see it as the digest and the text. That these belong together stands in the contract
 /// of the call that made it (`IsDigested`).
 #[derive(Drop)]
 pub struct Digested {
     digest: [u8; 32],
-    text: Option<Piece>,
+    /// All of it in pieces: its tail is sealed.
+    text: Option<Arc<Text, Global>>,
 }
 
 impl Model for Digested {
+    ghost use Rattle.std.specs.Arc.{arc_value};
     ghost use Rattle.std.specs.Option.{option_map};
-    ghost use Rattle.base.specs.Pieces.{piece_bytes};
     ghost use Rattle.token.specs.Digested.{DigestedView};
 
     ghost Value = { DigestedView };
 
-    ghost view = { λ d. (d.digest, option_map piece_bytes d.text) };
+    ghost view = { λ d. (d.digest, option_map arc_value d.text) };
+}
+
+/// The digest of the text, piece by piece.
+#[tactic(auto, unfolding(crate::specs::Digest::digest))]
+fn text_digest(text: &Text) -> [u8; 32]
+    ensures { result ≡ digest_of text.now }
+{
+    let mut hasher = Sha256::new();
+    match share_text(text, &mut hasher) {
+        Ok(()) => hasher.finalize(),
+        Err(never) => match never {},
+    }
+}
+
+/// The text, sealed, so that whoever it is shared with copies none of it.
+fn kept(alloc: Global, mut text: Text) -> Result<Arc<Text, Global>, AllocError>
+    ensures { IfOk result (λ kept. arc_value kept ≡ text) }
+{
+    text.seal()?;
+    Ok(Arc::new(alloc, text)?)
 }
 
 impl Digested {
-    /// The bytes, which are kept where there is memory to share them, and their digest.
-    #[tactic(auto, unfolding(crate::specs::Digest::digest))]
-    fn of_bytes(alloc: Global, bytes: Vec<u8>) -> Digested
-        ensures { IsDigested bytes.items result }
+    /// The text, which is kept where there is memory to share it, and its digest.
+    fn of_text(alloc: Global, text: Text) -> Digested
+        ensures { IsDigested text result }
     {
-        let digest = Sha256::digest(bytes.as_slice());
-        match Arc::new(alloc, bytes) {
-            Ok(piece) => Digested {
+        let digest = text_digest(&text);
+        match kept(alloc, text) {
+            Ok(text) => Digested {
                 digest,
-                text: Some(piece),
+                text: Some(text),
             },
             Err(_) => Digested { digest, text: None },
         }
     }
 
-    /// The digest of the text of a page that has these entries. The text is written once, and kept.
+    /// The digest of the text of a page that has these entries. The text is written once, and kept;
+    /// the data of large items is shared with them.
     /// Where there is no memory for it the digest is made without it; there is no error.
     pub fn of_page(alloc: Global, entries: &[Entry<Key, Item>]) -> Digested
         requires { PageFits entries.now }
         ensures { IsDigested (page_text entries.now) result }
     {
-        match page_bytes(alloc, entries) {
-            Ok(bytes) => Digested::of_bytes(alloc, bytes),
+        let mut text = Text::new(alloc);
+        match put_page(entries, &mut text) {
+            Ok(()) => Digested::of_text(alloc, text),
             Err(_) => Digested {
                 digest: page_digest(entries),
                 text: None,
@@ -68,15 +91,17 @@ impl Digested {
         }
     }
 
-    /// The digest of the text of what is kept of all clients. The text is written once, and kept.
+    /// The digest of the text of what is kept of all clients. The text is written once, and kept; the
+    /// data of large values is shared with their replies.
     /// Where there is no memory for it the digest is made without it; there is no error.
     pub fn of_sessions(alloc: Global, sessions: &Sessions) -> Digested
         ensures digested { IsDigested (sessions_text sessions.now) result }
         ensures fit { SessionsFit sessions.now }
     {
         let _entries = sessions.entries();
-        match record_bytes(alloc, sessions) {
-            Ok(bytes) => Digested::of_bytes(alloc, bytes),
+        let mut text = Text::new(alloc);
+        match sessions.put(&mut text) {
+            Ok(()) => Digested::of_text(alloc, text),
             Err(_) => Digested {
                 digest: sessions_digest(sessions),
                 text: None,
@@ -91,22 +116,25 @@ impl Digested {
         &self.digest
     }
 
-    /// The text, where it is kept.
-    pub fn text(&self) -> Option<&Piece>
-        ensures some { IfSome result (λ piece. self.now.1 ≡ Some (piece_bytes piece.now)) }
+    /// The text, where it is kept. All of it is in pieces.
+    pub fn text(&self) -> Option<&Text>
+        ensures some { IfSome result (λ text. self.now.1 ≡ Some text.now) }
         ensures none { IfNone result (self.now.1 ≡ None) }
     {
-        self.text.as_ref()
+        match &self.text {
+            Some(text) => Some(&**text),
+            None => None,
+        }
     }
 
-    /// Writes the text of the sessions that it is of: the piece that is kept, shared, or else the
+    /// Writes the text of the sessions that it is of: the pieces that are kept, shared, or else the
     /// sessions one by one.
     pub fn put_sessions<S: Sink>(&self, sessions: &Sessions, sink: &mut S) -> Result<(), S::Refusal>
         requires { IsDigested (sessions_text sessions.now) self.now }
         ensures { OnOk result (Puts S.holds (sessions_text sessions.now) sink.old sink.new) }
     {
         match &self.text {
-            Some(piece) => sink.share(piece),
+            Some(text) => share_text(text, sink),
             None => {
                 let _entries = sessions.entries();
                 sessions.put(sink)
@@ -122,7 +150,7 @@ impl Clone for Digested {
     /// has too many clones to be counted.
     fn clone(&self) -> Result<Digested, AllocError> {
         let text = match &self.text {
-            Some(piece) => Some(Arc::try_clone(piece)?),
+            Some(text) => Some(Arc::try_clone(text)?),
             None => None,
         };
         Ok(Digested {

@@ -19,7 +19,7 @@ use Rattle.pages.proofs.JoinedLemmas.{no_items, same_number}
 use Rattle.pages.proofs.PartLemmas.{joined-parts}
 use Rattle.states.specs.State.{StateView, IsState, with_token}
 use Rattle.states.specs.Parts.{parts_of}
-use Rattle.transfer.specs.Origin.{origin_of, parts_with}
+use Rattle.states.specs.Origin.{origin_of}
 use Rattle.transfer.specs.Need.{need_of}
 use Rattle.transfer.specs.Parcel.{ParcelView, page_from, joined_with, differing_pages, answer_of, parcel_state, makes_state, take_of}
 use Rattle.transfer.specs.Laws.{DigestsTellPages, HandsOver, TakesWhatWasAsked}
@@ -100,7 +100,7 @@ module _ (own s : StateView) (tells : DigestsTellPages s.items own.items) where
 
   state_is : IsState s → 0 < s.number → parcel_state own.items (answer_of s (need_of own)) ≡ s
   state_is is later =
-      let whole : parcel_state own.items (answer_of s (need_of own)) ≡ with_token s = ap (λ (m : Items). with_token (parts_of (parts_with (origin_of s) s.sessions m))) items_are in
+      let whole : parcel_state own.items (answer_of s (need_of own)) ≡ with_token s = ap (λ (m : Items). with_token (parts_of (record { origin = origin_of s; sessions = s.sessions; pages = m }))) items_are in
       whole ∙ sym (is.token later)
 
 pub hands_over : HandsOver

@@ -1,4 +1,3 @@
-pub mod Origin
 pub mod Need
 pub mod Parcel
 pub mod NeedProofs

@@ -22,9 +22,9 @@ use Rattle.pages.specs.Form.{fits_form}
 use Rattle.pages.specs.Joined.{IsOwn, joined}
 use Rattle.states.specs.State.{StateView, with_token}
 use Rattle.states.specs.Parts.{parts_of}
-use Rattle.transfer.specs.declared.origin.Origin.{Origin}
+use Rattle.states.specs.declared.origin.Origin.{Origin}
 use Rattle.transfer.specs.declared.need.Need.{Need}
-use Rattle.transfer.specs.Origin.{origin_of, parts_with, origin_text}
+use Rattle.states.specs.Origin.{origin_of, origin_text}
 
 -- A parcel: the fields of a state, its sessions, and some of its pages with their numbers.
 pub record ParcelView : Type 0 where
@@ -66,7 +66,7 @@ joined_with own pages = joined (of_each (page_from own pages))
 
 -- the state that a parcel makes over the own pages, with its token from scratch
 abbrev pub parcel_state : Items → ParcelView → StateView
-parcel_state own p = with_token (parts_of (parts_with p.origin p.sessions (joined_with own p.pages)))
+parcel_state own p = with_token (parts_of (record { origin = p.origin; sessions = p.sessions; pages = joined_with own p.pages }))
 
 -- it is one that its form may have
 abbrev pub makes_state : Items → ParcelView → Bool

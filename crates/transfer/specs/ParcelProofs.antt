@@ -5,24 +5,12 @@ use Rattle.std.specs.FinMap.{entries, from_sorted, same_entries_map, entries-fro
 use Rattle.items.specs.Map.{Items, by_bytes}
 use Rattle.wire.specs.Record.{IsPrefixFree}
 use Rattle.wire.specs.NumberLaws.{num_prefix_free, wide8}
-use Rattle.wire.specs.KeyLaws.{fixed_prefix_free}
 use Rattle.wire.specs.ItemLaws.{page_prefix_free}
 use Rattle.wire.specs.SessionLaws.{sessions_prefix_free}
 use Rattle.wire.specs.FieldLaws.{list_prefix_free}
-use Rattle.wire.specs.RowLaws.{u32_free, u64_free, followed, made_of}
-use Rattle.token.specs.FormLaws.{form_prefix_free}
-use Rattle.token.specs.TokenLaws.{token_prefix_free}
-use Rattle.transfer.specs.Origin.{origin_text}
+use Rattle.wire.specs.RowLaws.{followed, made_of}
+use Rattle.states.specs.HeadProofs.{origin_prefix_free}
 use Rattle.transfer.specs.Parcel.{numbered_text, parcel_text}
-
-pub origin_prefix_free : IsPrefixFree origin_text
-origin_prefix_free = made_of
-    (followed (followed (followed (followed (followed form_prefix_free u64_free) token_prefix_free) u64_free) (fixed_prefix_free 31)) u32_free)
-    origin_text
-    (λ o. (((((o.form, o.number), o.previous), o.epoch), o.batch), o.moment))
-    (λ p. record { form = p.0.0.0.0.0; number = p.0.0.0.0.1; previous = p.0.0.0.1; epoch = p.0.0.1; batch = p.0.1; moment = p.1 })
-    (λ o. refl)
-    (λ o. refl)
 
 together : (m : Items) → from_sorted (entries m) ≡ m
 together m = same_entries_map (from_sorted (entries m)) m (entries-from_sorted by_bytes (entries m) (entries_sorted m))

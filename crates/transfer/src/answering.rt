@@ -6,7 +6,6 @@ ghost use Rattle.transfer.specs.Parcel.{answer_of, differing, differing_pages};
 
 use crate::need::Need;
 use crate::numbered_page::NumberedPage;
-use crate::origin::Origin;
 use crate::parcel::Parcel;
 use pages::{PAGES, Page};
 use states::State;
@@ -55,7 +54,7 @@ pub fn answer(alloc: Global, state: &State, need: &Need) -> Result<Parcel, Alloc
 {
     state.is_state();
     Ok(Parcel {
-        origin: Origin::of_state(state),
+        origin: state.origin(),
         sessions: state.sessions().clone()?,
         pages: differing_from(alloc, state, need)?,
     })

@@ -14,7 +14,6 @@ mod answering;
 mod laws;
 mod need;
 mod numbered_page;
-mod origin;
 mod parcel;
 mod taking;
 

@@ -8,6 +8,7 @@ ghost use Rattle.transfer.specs.ParcelProofs.{numbered_prefix_free};
 
 use pages::{PAGES, Page};
 use proto::Fault;
+use states::own_page;
 use std::alloc::{AllocError, Global};
 use std::marker::Model;
 use wire::{Entries, Record, Sink};
@@ -93,10 +94,7 @@ impl Record for NumberedPage {
         if PAGES <= usize::from(number) {
             return Err(Fault::BadRecord);
         }
-        let page = Page::from_entries(alloc, entries)?;
-        if !page.is_own(usize::from(number)) {
-            return Err(Fault::BadRecord);
-        }
+        let page = own_page(alloc, usize::from(number), entries)?;
         Ok((NumberedPage { number, page }, rest))
     }
 

@@ -7,10 +7,10 @@ ghost use Rattle.transfer.specs.Parcel.{IsParcel, parcel_text};
 ghost use Rattle.transfer.specs.ParcelProofs.{parcel_prefix_free};
 
 use crate::numbered_page::NumberedPage;
-use crate::origin::Origin;
 use batches::GREATEST_NUMBER;
 use proto::Fault;
 use sessions::Sessions;
+use states::Origin;
 use std::alloc::{AllocError, Global};
 use std::marker::Model;
 use wire::{Counted, Record, Sink, put_list};
@@ -29,7 +29,7 @@ impl Model for Parcel {
     ghost use Rattle.std.specs.FinMap as map;
     ghost use Rattle.items.specs.contracts.item.Item as item;
     ghost use Rattle.sessions.specs.contracts.sessions.LastReply as last;
-    ghost use Rattle.transfer.specs.contracts.origin.Origin as fields;
+    ghost use Rattle.states.specs.contracts.origin.Origin as fields;
     ghost use Rattle.transfer.specs.Parcel.{ParcelView, IsParcel, parcel_code};
 
     ghost Value = { ParcelView };

@@ -4,7 +4,6 @@ ghost use Rattle.std.specs.Prelude.{◌≡◌, [], Some, None, IfOk, IfErr};
 ghost use Rattle.wire.specs.Record.{Refused};
 ghost use Rattle.pages.specs.Page.{of_each};
 ghost use Rattle.pages.specs.Joined.{ArePages, items_of, joined};
-ghost use Rattle.transfer.specs.Origin.{parts_with};
 ghost use Rattle.transfer.specs.Parcel.{page_from, joined_with, take_of};
 
 use crate::numbered_page::NumberedPage;
@@ -42,15 +41,18 @@ fn joined_pages(own: &Snapshot, came: Vec<NumberedPage>) -> Result<Snapshot, All
 
 /// The parts of the state that a parcel makes over the own pages.
 fn parts_over(own: &Snapshot, parcel: Parcel) -> Result<Parts, AllocError>
-    ensures { IfOk result (λ parts. parts ≡ parts_with parcel.origin parcel.sessions (joined_with own.now parcel.pages)) }
+    ensures { IfOk result (λ parts. parts ≡ record { origin = parcel.origin; sessions = parcel.sessions; pages = joined_with own.now parcel.pages }) }
 {
     let Parcel {
         origin,
         sessions,
         pages,
     } = parcel;
-    let pages = joined_pages(own, pages)?;
-    Ok(origin.parts(sessions, pages))
+    Ok(Parts {
+        origin,
+        sessions,
+        pages: joined_pages(own, pages)?,
+    })
 }
 
 /// The state of this number and this token, which a parcel makes over the own pages: those that came
@@ -74,7 +76,7 @@ pub fn take(
     }
     parcel.is_parcel();
     let parts = parts_over(own, parcel)?;
-    if !fits_form(parts.form, &parts.pages) {
+    if !fits_form(parts.origin.form, &parts.pages) {
         return Err(Fault::BadRecord);
     }
     let committed = Committed::of_parts(alloc, parts);

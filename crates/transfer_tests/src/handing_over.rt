@@ -6,7 +6,7 @@ use states::State;
 use std::alloc::{AllocError, Global};
 use std::test::Fail;
 use transfer::Parcel;
-use wire::{read, record_bytes};
+use wire::{read, write};
 
 /// What is to hold of a state and one that has more.
 #[derive(Clone, Copy)]
@@ -34,7 +34,9 @@ const WITHOUT_PAGES: usize = 105;
 
 fn bytes_of(alloc: Global, parcel: &Parcel) -> Result<Vec<u8>, AllocError> {
     parcel.is_parcel();
-    record_bytes(alloc, parcel)
+    let mut bytes = Vec::new(alloc);
+    write(alloc, parcel, &mut bytes)?;
+    Ok(bytes)
 }
 
 fn count_bytes(alloc: Global, own: &State, more: &State) -> Result<usize, Fault> {

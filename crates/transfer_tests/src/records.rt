@@ -7,7 +7,7 @@ use states::State;
 use std::alloc::{AllocError, Global};
 use std::test::Fail;
 use transfer::{Need, Parcel};
-use wire::{read, record_bytes};
+use wire::{read, write};
 
 /// The bytes of the need of the state: its number, the count of its pages, and their digests.
 fn add_need(bytes: &mut Vec<u8>, own: &State) -> Result<(), AllocError> {
@@ -21,7 +21,9 @@ fn add_need(bytes: &mut Vec<u8>, own: &State) -> Result<(), AllocError> {
 
 fn need_bytes(alloc: Global, need: &Need) -> Result<Vec<u8>, AllocError> {
     need.is_need();
-    record_bytes(alloc, need)
+    let mut bytes = Vec::new(alloc);
+    write(alloc, need, &mut bytes)?;
+    Ok(bytes)
 }
 
 fn has_bytes(alloc: Global, need: &Need, expected: &[u8]) -> Result<bool, Fault> {
@@ -131,7 +133,9 @@ fn add_parcel(
 
 fn parcel_bytes(alloc: Global, parcel: &Parcel) -> Result<Vec<u8>, AllocError> {
     parcel.is_parcel();
-    record_bytes(alloc, parcel)
+    let mut bytes = Vec::new(alloc);
+    write(alloc, parcel, &mut bytes)?;
+    Ok(bytes)
 }
 
 fn parcel_has_bytes(alloc: Global, parcel: &Parcel, expected: &[u8]) -> Result<bool, Fault> {

@@ -7,7 +7,7 @@ use items::{Item, Store};
 use pages::{Pages, Snapshot};
 use proto::{Block, Fault, Key, is_key_text};
 use sessions::Sessions;
-use states::{Parts, State};
+use states::{Origin, Parts, State};
 use std::alloc::{AllocError, Global};
 use token::{Form, Token};
 use transfer::{Need, Parcel, answer, take};
@@ -46,16 +46,18 @@ pub const ONE_SESSION: &[u8] = &[3, 0, 0, 0, 1, 0, 1, 0, 0, 0, 0, 0, 0, 0, 1, 0]
 
 /// What a state of this number is made of.
 fn parts(number: u64, sessions: Sessions, pages: Snapshot) -> Parts
-    ensures number { result.number ≡ number }
-    ensures form { FitForm result.form result.pages }
+    ensures number { result.origin.number ≡ number }
+    ensures form { FitForm result.origin.form result.pages }
 {
     Parts {
-        form: Form::Current,
-        number,
-        previous: Token([7; 32]),
-        epoch: 4,
-        batch: [9; 32],
-        moment: 1000,
+        origin: Origin {
+            form: Form::Current,
+            number,
+            previous: Token([7; 32]),
+            epoch: 4,
+            batch: [9; 32],
+            moment: 1000,
+        },
         sessions,
         pages,
     }

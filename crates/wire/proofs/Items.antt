@@ -19,10 +19,10 @@ pub passing_text : (flags time unique len : ℕ) (due : Option ℕ) → due ≡ 
 passing_text flags time unique len due some a b c d = rw (some, num-is w32 flags a, num-is w64 time b, num-is w64 unique c, num-is w32 len d) refl
 
 -- the fields and the length, and then the data
-pub fields_and_data : (item : Item) (text : List ℕ) → length item.block ≤ MOST_BLOCK_BYTES → text ≡ item.block
-    → item_text item ≡ (num w32 item.flags ++ option_text (num w64) item.due ++ num w64 item.unique ++ num w32 (length text)) ++ text
-fields_and_data item text few same =
-    rw (block_text-is item.block few, same) (sym (append_assoc (num w32 item.flags ++ option_text (num w64) item.due ++ num w64 item.unique) (num w32 (length item.block)) item.block))
+pub fields_and_data : (item : Item) → length item.block ≤ MOST_BLOCK_BYTES
+    → item_text item ≡ (num w32 item.flags ++ option_text (num w64) item.due ++ num w64 item.unique ++ num w32 (length item.block)) ++ item.block
+fields_and_data item few =
+    rw (block_text-is item.block few) (sym (append_assoc (num w32 item.flags ++ option_text (num w64) item.due ++ num w64 item.unique) (num w32 (length item.block)) item.block))
 
 -- one text put after another
 pub both_put : {S E : Type 0} (r : Result (Unit {0}) E) (holds : S → List ℕ → Type 0) (first second : List ℕ) (old between new : S)

@@ -1,8 +1,5 @@
-ghost use Rattle.std.specs.Prelude.{◌≡◌, ◌≤◌, ◌++◌, length, OnOk};
-ghost use Rattle.std.specs.Int.{w32};
-ghost use Rattle.proto.specs.declared.block.TheConstants.{MOST_BLOCK_BYTES};
+ghost use Rattle.std.specs.Prelude.{OnOk};
 ghost use Rattle.wire.specs.Record.{Always, Puts};
-ghost use Rattle.wire.specs.Number.{num};
 ghost use Rattle.wire.specs.Block.{block_text};
 ghost use Rattle.wire.specs.BlockLaws.{block_prefix_free};
 
@@ -13,13 +10,20 @@ use crate::sink::Sink;
 use proto::{Block, Fault, MOST_BLOCK_BYTES};
 use std::alloc::Global;
 
-/// Writes a length, and the bytes.
-fn put_bytes<S: Sink>(bytes: &[u8], sink: &mut S) -> Result<(), S::Refusal>
-    requires { length bytes.now ≤ MOST_BLOCK_BYTES }
-    ensures { OnOk result (Puts S.holds (num w32 (length bytes.now) ++ bytes.now) sink.old sink.new) }
+/// From how many bytes on a text shares the data of an item, and does not copy it. To share it makes
+/// a piece of the few bytes before it too, which takes two allocations: to copy fewer bytes than
+/// these costs less.
+pub const LEAST_SHARED_BYTES: usize = 4096;
+
+/// Writes the bytes of a block, without their length. Those of a large block are shared.
+pub(crate) fn put_data<S: Sink>(block: &Block, sink: &mut S) -> Result<(), S::Refusal>
+    ensures { OnOk result (Puts S.holds block.now sink.old sink.new) }
 {
-    put_count(bytes.len(), sink)?;
-    sink.put(bytes)
+    if block.len() < LEAST_SHARED_BYTES {
+        sink.put(block.as_slice())
+    } else {
+        sink.share(block.as_piece())
+    }
 }
 
 impl Record for Block {
@@ -28,7 +32,8 @@ impl Record for Block {
     ghost encoding = { block_text };
 
     fn put<S: Sink>(&self, sink: &mut S) -> Result<(), S::Refusal> {
-        put_bytes(self.as_slice(), sink)
+        put_count(self.len(), sink)?;
+        put_data(self, sink)
     }
 
     fn take<'b>(alloc: Global, bytes: &'b [u8]) -> Result<(Block, &'b [u8]), Fault> {

@@ -73,9 +73,11 @@ pub fn put_list<T: Record, S: Sink>(values: &[T], sink: &mut S) -> Result<(), S:
     put_values(values, sink)
 }
 
-fn take_values<'b, T: Record + Drop>(
+/// So many values, whose encodings one after the other are a prefix of the bytes, and the bytes after
+/// them. The errors are those of `Record::take`.
+pub fn take_values<'b, T: Record + Drop>(
     alloc: Global,
-    count: u32,
+    count: usize,
     bytes: &'b [u8],
 ) -> Result<(Counted<T>, &'b [u8]), Fault>
     ensures { Takes (CountFits count T.fits) (flat_map T.encoding) bytes.now result }
@@ -101,7 +103,7 @@ impl<T: Record + Drop> Record for Counted<T> {
 
     fn take<'b>(alloc: Global, bytes: &'b [u8]) -> Result<(Counted<T>, &'b [u8]), Fault> {
         let (count, rest) = u32::take(alloc, bytes)?;
-        take_values(alloc, count, rest)
+        take_values(alloc, count as usize, rest)
     }
 
     ghost prefix_free = { list_prefix_free T.encoding T.prefix_free };

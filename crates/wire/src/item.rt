@@ -6,6 +6,7 @@ ghost use Rattle.wire.specs.Field.{option_text};
 ghost use Rattle.wire.specs.Item.{item_text};
 ghost use Rattle.wire.specs.ItemLaws.{item_prefix_free};
 
+use crate::block::put_data;
 use crate::record::Record;
 use crate::sink::Sink;
 use items::Item;
@@ -58,9 +59,9 @@ impl Record for Item {
     ghost encoding = { item_text };
 
     fn put<S: Sink>(&self, sink: &mut S) -> Result<(), S::Refusal> {
-        let data = self.block.as_slice();
-        put_fields(self.flags, self.due, self.unique, data.len() as u32, sink)?;
-        sink.put(data)
+        let len = self.block.len() as u32;
+        put_fields(self.flags, self.due, self.unique, len, sink)?;
+        put_data(&self.block, sink)
     }
 
     fn take<'b>(alloc: Global, bytes: &'b [u8]) -> Result<(Item, &'b [u8]), Fault> {

@@ -2,8 +2,8 @@
 //!
 //! It stands on `base`, `proto`, `items`, `sessions` and `batches`, whose values it encodes, and on
 //! `sha2`. The layers above use `read`: it answers a value exactly where all of the bytes are the
-//! encoding of one that fits, and `write`, `record_bytes` and `digest`, which encode by the same
-//! `Record::put`.
+//! encoding of one that fits, and `write` and `digest`, which encode by the same `Record::put`. What is
+//! put into a `base::Text` shares the data of large items with them.
 #![tactic(auto)]
 
 mod batch;
@@ -16,7 +16,6 @@ mod front;
 mod item;
 mod key;
 mod laws;
-mod length;
 mod numbers;
 mod option;
 mod page;
@@ -26,18 +25,20 @@ mod reply;
 mod request;
 mod session;
 mod sink;
+mod text;
 mod token;
 mod update;
 
-pub use counted::{Counted, put_count, put_list};
+pub use block::LEAST_SHARED_BYTES;
+pub use counted::{Counted, put_count, put_list, take_values};
 pub use front::{take_bytes, take_first, take_mark};
 pub use laws::{
     batches_are_told_apart, commands_are_told_apart, inner_nodes_are_told_apart,
     items_are_told_apart, pages_are_told_apart, replies_are_told_apart, requests_are_told_apart,
     sessions_are_told_apart, tokens_are_told_apart,
 };
-pub use length::{page_bytes, record_bytes};
 pub use page::{Entries, put_page};
 pub use record::{Record, digest, read, write};
 pub use sink::Sink;
+pub use text::share_text;
 pub use token::{InnerText, TokenText};

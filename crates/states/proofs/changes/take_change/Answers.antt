@@ -18,18 +18,18 @@ returns-then-are_same c =
     let same : c.entries.result.now ≡ c.as_slice.result.now = c.are_same.ensures.0 c.if-are_same.true in
     not_another (entries c.args.before.now.items) c.args.number c.args.bytes.now c.in-Some.entries c.in_ok-change.rest.now got (sym c.entries.ensures.entries ∙ (same ∙ c.as_slice.ensures.entries))
 
-pub returns-in_err-page_of-in-Some : goal.returns-in_err-page_of-in-Some
-returns-in_err-page_of-in-Some c =
-    let p = err_from_is_err_and c.from_residual-in_err-page_of-in-Some.result c.from_residual-in_err-page_of-in-Some.ensures.1 in
+pub returns-in_err-own_page-in-Some : goal.returns-in_err-own_page-in-Some
+returns-in_err-own_page-in-Some c =
+    let p = err_from_is_err_and c.from_residual-in_err-own_page-in-Some.result c.from_residual-in_err-own_page-in-Some.ensures.1 in
     let got : c.args.bytes.now ≡ option_text page_text (Some c.in-Some.entries) ++ c.in_ok-change.rest.now = c.in_ok-change.ensures.1 ∙ ap (λ o. option_text page_text o ++ c.in_ok-change.rest.now) c.in-Some.is in
-    rw (p.1, p.2) (no_other (entries c.args.before.now.items) c.args.number c.args.bytes.now c.in-Some.entries c.in_ok-change.rest.now got c.in_err-page_of-in-Some.field-0.0 c.in_err-page_of-in-Some.ensures)
+    rw (p.1, p.2) (no_other (entries c.args.before.now.items) c.args.number c.args.bytes.now c.in-Some.entries c.in_ok-change.rest.now got c.in_err-own_page-in-Some.field-0.0 c.in_err-own_page-in-Some.ensures)
 
-pub returns-in_ok-page_of-in-Some : goal.returns-in_ok-page_of-in-Some
-returns-in_ok-page_of-in-Some c =
+pub returns-in_ok-own_page-in-Some : goal.returns-in_ok-own_page-in-Some
+returns-in_ok-own_page-in-Some c =
     let got : c.args.bytes.now ≡ option_text page_text (Some c.in-Some.entries) ++ c.in_ok-change.rest.now = c.in_ok-change.ensures.1 ∙ ap (λ o. option_text page_text o ++ c.in_ok-change.rest.now) c.in-Some.is in
     let apart : entries c.args.before.now.items ≡ c.in-Some.entries → ⊥ = λ e.
     (let clash : true ≡ false = sym (c.are_same.ensures.1 (c.entries.ensures.entries ∙ (e ∙ sym c.as_slice.ensures.entries))) ∙ c.if-are_same.false in cc clash) in
-    let made = c.in_ok-page_of-in-Some.ensures in (
+    let made = c.in_ok-own_page-in-Some.ensures in (
       made.0,
       got ∙ ap (λ t. t ++ c.in_ok-change.rest.now) (sym (other_text (entries c.args.before.now.items) c.in-Some.entries apart) ∙ ap (change_text (entries c.args.before.now.items)) (sym made.1)),
     )

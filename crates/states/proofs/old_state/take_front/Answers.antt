@@ -7,5 +7,5 @@ use Rattle.states.proofs.old_state.take_front.Goals as goal
 pub returns-in_err-told : goal.returns-in_err-told
 returns-in_err-told c =
     let p = err_from_is_err_and c.from_residual.result c.from_residual.ensures.1 in
-    rw (p.1, p.2) (no_row IsOldFront old_front_text _ _ (λ f. ((((((f.0.number, f.0.previous), f.0.epoch), f.0.batch), f.0.moment), f.0.token), f.1)) c.args.bytes.now
+    rw (p.1, p.2) (no_row IsOldFront old_front_text _ _ (λ f. ((((((f.0.origin.number, f.0.origin.previous), f.0.origin.epoch), f.0.origin.batch), f.0.origin.moment), f.0.token), f.1)) c.args.bytes.now
     (λ f is. ((((((tt, tt), tt), tt), tt), tt), is.1)) (λ f. refl) c.in_err-told.field-0.0 c.in_err-told.ensures)

@@ -8,7 +8,7 @@ returns-in_err-entries c =
     let p = err_from_is_err_and c.from_residual.result c.from_residual.ensures.1 in
     rw (p.1, p.2) (no_entries c.args.number c.args.bytes.now (λ i. omega (arith, c.type_inv.bytes i)) c.in_err-entries.field-0.0 c.in_err-entries.ensures)
 
-pub returns-in_err-page_of : goal.returns-in_err-page_of
-returns-in_err-page_of c =
-    let p = err_from_is_err_and c.from_residual-in_err-page_of.result c.from_residual-in_err-page_of.ensures.1 in
-    rw (p.1, p.2) (not_made c.args.number c.args.bytes.now c.in_ok-entries.entries c.in_ok-entries.rest.now c.in_ok-entries.ensures.1 c.in_err-page_of.field-0.0 c.in_err-page_of.ensures)
+pub returns-in_err-own_page : goal.returns-in_err-own_page
+returns-in_err-own_page c =
+    let p = err_from_is_err_and c.from_residual-in_err-own_page.result c.from_residual-in_err-own_page.ensures.1 in
+    rw (p.1, p.2) (not_made c.args.number c.args.bytes.now c.in_ok-entries.entries c.in_ok-entries.rest.now c.in_ok-entries.ensures.1 c.in_err-own_page.field-0.0 c.in_err-own_page.ensures)

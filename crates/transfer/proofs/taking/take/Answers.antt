@@ -12,14 +12,14 @@ use Rattle.transfer.proofs.taking.take.Goals as goal
 
 pub returns-then-not-fits_form-clause-refused : goal.returns-then-not-fits_form-clause-refused
 returns-then-not-fits_form-clause-refused c =
-    let same : fits_form c.in_ok-parts.parts.form c.in_ok-parts.parts.pages ≡ makes_state c.args.own.now c.args.parcel = ap (λ (p : Parts). fits_form p.form p.pages) c.in_ok-parts.ensures in
+    let same : fits_form c.in_ok-parts.parts.origin.form c.in_ok-parts.parts.pages ≡ makes_state c.args.own.now c.args.parcel = ap (λ (p : Parts). fits_form p.origin.form p.pages) c.in_ok-parts.ensures in
     of_other_form c.args.own.now c.args.parcel c.args.n c.args.token.now (λ does.
     let clash : true ≡ false = sym does ∙ (sym same ∙ (sym c.fits_form.ensures ∙ c.if-not-fits_form.true)) in
     cc clash)
 
 pub of_parts-committed-requires : goal.of_parts-committed-requires
 of_parts-committed-requires c =
-    let number : c.in_ok-parts.parts.number ≡ c.args.parcel.origin.number = ap (λ (p : Parts). p.number) c.in_ok-parts.ensures in
+    let number : c.in_ok-parts.parts.origin.number ≡ c.args.parcel.origin.number = ap (λ (p : Parts). p.origin.number) c.in_ok-parts.ensures in
     let is : IsParcel c.args.parcel = c.is_parcel.ensures in
     record { number = (omega (arith, number, is.later), omega (arith, number, is.few)); form = sym c.fits_form.ensures ∙ c.if-not-fits_form.false }
 
@@ -34,7 +34,7 @@ pub returns-clause-taken : goal.returns-clause-taken
 returns-clause-taken c =
     let made : c.of_parts-committed.result.state ≡ parcel_state c.args.own.now c.args.parcel = ap (λ x. x.state) c.of_parts-committed.ensures ∙ ap (λ p. with_token (parts_of p)) c.in_ok-parts.ensures in
     let token : c.token.result ≡ (parcel_state c.args.own.now c.args.parcel).token = c.token.ensures ∙ ap (λ s. s.token) (c.state.ensures ∙ made) in
-    let fits : makes_state c.args.own.now c.args.parcel ≡ true = sym (ap (λ (p : Parts). fits_form p.form p.pages) c.in_ok-parts.ensures) ∙ (sym c.fits_form.ensures ∙ c.if-not-fits_form.false) in
+    let fits : makes_state c.args.own.now c.args.parcel ≡ true = sym (ap (λ (p : Parts). fits_form p.origin.form p.pages) c.in_ok-parts.ensures) ∙ (sym c.fits_form.ensures ∙ c.if-not-fits_form.false) in
     let number : c.args.parcel.origin.number ≡ c.args.n = search rules in (
       taken c.args.own.now c.args.parcel c.args.n c.args.token.now number fits (sym token ∙ same_token c.token.result c.args.token.now (sym c.ne.ensures ∙ c.if-ne.false)) ∙ ap (λ s. Some s) (sym made),
       ap (λ x. x.replies) c.of_parts-committed.ensures,

@@ -9,7 +9,7 @@ use Rattle.executor.specs.Work.{Progress, WorkView, Worked, WorkStep, is_complet
 use Rattle.executor.specs.Through.{IsReadyAt}
 use Rattle.executor.specs.StepOf.{step_of}
 use Rattle.executor.proofs.DoneLemmas.{found_ready}
-use Rattle.executor.proofs.StepOfLemmas.{step_made, step_none}
+use Rattle.executor.proofs.StepOfLemmas.{step_made, step_none, none_ready}
 use Rattle.executor.proofs.work.Work.step.Goals as goal
 
 pub returns-in_default-clause-does : goal.returns-in_default-clause-does
@@ -45,3 +45,9 @@ returns-clause-does c =
     subst (λ p. WorkStep (first_place old.base old.batch) old.progress p c.step_at.new.self.progress) at m.made in
     let worked : Worked old.base old.batch old.ordered old.progress = subst (λ (v : WorkView). Worked v.base v.batch v.ordered v.progress) c.self.view_is c.self.invariant.worked in
     step_made old c.args.place c.step_at.new.self.progress worked made ∙ ap (λ (v : WorkView). Some v) (sym c.step_at.ensures.others)
+
+pub returns-in_err-step_at-clause-no_step : goal.returns-in_err-step_at-clause-no_step
+returns-in_err-step_at-clause-no_step c none =
+    let w : WorkView = record { base = c.self.inside.base.state; batch = c.self.inside.batch; ordered = c.self.inside.ordered; progress = record { items = c.self.inside.pages; running = c.self.inside.running.items; group = c.self.inside.group } } in
+    let found = found_ready c.self.inside.running.items c.deref.result.now c.in-Some.i c.self.inside.group c.args.place c.deref.ensures.value c.in-Some.ensures.there c.in-Some.ensures.ready in
+    absurd (none_ready w c.args.place c.in-Some.i found.0 (subst (λ (v : WorkView). step_of v c.args.place ≡ None) (sym c.self.view_is) none) found.1 found.2)

@@ -8,5 +8,5 @@ use Rattle.states.proofs.head.Head.take_old.Goals as goal
 pub returns-in_err-told : goal.returns-in_err-told
 returns-in_err-told c =
     let p = err_from_is_err_and c.from_residual.result c.from_residual.ensures.1 in
-    rw (p.1, p.2) (no_row IsOldHead old_head_text _ _ (λ h. (((((h.number, h.previous), h.epoch), h.batch), h.moment), h.token)) c.args.bytes.now
+    rw (p.1, p.2) (no_row IsOldHead old_head_text _ _ (λ h. (((((h.origin.number, h.origin.previous), h.origin.epoch), h.origin.batch), h.origin.moment), h.token)) c.args.bytes.now
     (λ h f. (((((tt, tt), tt), tt), tt), tt)) (λ h. refl) c.in_err-told.field-0.0 c.in_err-told.ensures)

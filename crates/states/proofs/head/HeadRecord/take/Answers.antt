@@ -5,9 +5,9 @@ use Rattle.states.specs.StateRecord.{head_text}
 use Rattle.wire.proofs.Rows.{no_row}
 use Rattle.states.proofs.head.HeadRecord.take.Goals as goal
 
-pub returns-in_err-form : goal.returns-in_err-form
+pub returns-in_err-origin : goal.returns-in_err-origin
 unfolding head_text
-returns-in_err-form c =
+returns-in_err-origin c =
     let p = err_from_is_err_and c.from_residual.result c.from_residual.ensures.1 in
-    rw (p.1, p.2) (no_row (λ (h : Head). Unit {0}) head_text _ _ (λ h. (h.form, (((((h.number, h.previous), h.epoch), h.batch), h.moment), h.token))) c.args.bytes.now
-    (λ h f. (tt, (((((tt, tt), tt), tt), tt), tt))) (λ h. refl) c.in_err-form.field-0.0 c.in_err-form.ensures)
+    rw (p.1, p.2) (no_row (λ (h : Head). Unit {0}) head_text _ _ (λ h. (h.origin, h.token)) c.args.bytes.now
+    (λ h f. (tt, tt)) (λ h. refl) c.in_err-origin.field-0.0 c.in_err-origin.ensures)

@@ -14,11 +14,11 @@ invariant_of-result c =
     let sessions = c.digest.ensures ∙ c.requires.digested.digest in
     let token : c.new-token.result.0 ≡ token_of (parts_of c.args.parts) =
     c.new-token.ensures ∙ (λ i. digest (token_text (record {
-      previous = c.args.parts.previous.0;
-      n = c.args.parts.number;
-      epoch = c.args.parts.epoch;
-      moment = c.args.parts.moment;
-      batch = c.args.parts.batch;
+      previous = c.args.parts.origin.previous.0;
+      n = c.args.parts.origin.number;
+      epoch = c.args.parts.origin.epoch;
+      moment = c.args.parts.origin.moment;
+      batch = c.args.parts.origin.batch;
       root = c.root_of_form.ensures i;
       sessions = sessions i;
     }))) in

@@ -1,0 +1,3 @@
+pub mod BegunLemmas
+pub mod CutLemmas
+pub mod LineLemmas

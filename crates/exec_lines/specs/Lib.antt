@@ -1,0 +1,7 @@
+pub mod Begun
+pub mod State
+pub mod CutProofs
+pub mod Lines
+pub mod Step
+pub mod Job
+pub mod Record

@@ -1,0 +1,16 @@
+-- The record of an executor.
+use Rattle.std.specs.Prelude.{ℕ, List, ◌∷◌, ◌++◌}
+use Rattle.std.specs.Int.{w8, w64}
+use Rattle.wire.specs.Number.{num}
+use Rattle.token.specs.Token.{token_bytes}
+use Rattle.decrees.specs.declared.standing.Standing.{Standing}
+use Rattle.rollback.specs.Chain.{chain_text}
+use Rattle.exec_lines.specs.State.{ExecutorState}
+
+-- what the decrees stand for
+abbrev pub standing_text : Standing → List ℕ
+standing_text st = ((num w64 st.n ++ token_bytes st.token) ++ num w64 st.epoch) ++ num w64 st.start
+
+-- the version and the kind, the executor's number and how many may fail, and what is saved of its state
+abbrev pub executor_text : ℕ → ℕ → ExecutorState → List ℕ
+executor_text u id s = 2 ∷ 69 ∷ ((((num w8 id ++ num w8 u) ++ num w64 s.known) ++ standing_text s.standing) ++ chain_text s.chain)

@@ -1,0 +1,26 @@
+//! What an executor keeps between two inputs, and what it does with each of them, line by line.
+//!
+//! It stands on `rollback` (tentative states over a committed one), `executor` (work over the tip),
+//! `transfer` (how a state is handed over), and on `batches`, `decrees` and `wire`. The layer above uses
+//! `State::step`: an Ok is the written step of the input, `executor_step`: the state, whether it is to be
+//! saved, and the letters in order. An input that fits no line is Ok and changes nothing.
+#![tactic(auto)]
+
+mod body;
+mod fetching;
+mod input;
+mod letters;
+mod obeying;
+mod ordering;
+mod outcome;
+mod record;
+mod running;
+mod state;
+mod step;
+mod working;
+
+pub use body::Body;
+pub use input::Input;
+pub use outcome::Outcome;
+pub use running::Job;
+pub use state::State;

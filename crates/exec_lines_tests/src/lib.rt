@@ -1,0 +1,31 @@
+//! Tests of `exec_lines` by its public calls: a row for each thing that the table of an executor's
+//! steps says, with ample memory, where one of three executors may fail.
+//!
+//! What a step does is compared as a short text, in which each letter has a mark, the number of the
+//! node that it goes to and what it tells of: see `seen`.
+#![tactic(auto)]
+
+#[cfg(test)]
+mod adopting;
+#[cfg(test)]
+mod asked;
+#[cfg(test)]
+mod chains;
+#[cfg(test)]
+mod fetching;
+#[cfg(test)]
+mod given;
+#[cfg(test)]
+mod obeying;
+#[cfg(test)]
+mod ordering;
+#[cfg(test)]
+mod records;
+#[cfg(test)]
+mod seen;
+#[cfg(test)]
+mod senders;
+#[cfg(test)]
+mod threads;
+#[cfg(test)]
+mod working;

@@ -1,0 +1,4 @@
+pub mod Record
+pub mod Executor
+pub mod Lent
+pub mod Laws

@@ -1,0 +1,360 @@
+ghost use Rattle.std.specs.Prelude.{◌≡◌, ◌*◌, ◌-◌, ◌^◌, ◌<◌, ◌≤◌, ◌⊎◌, Some, None, IfOk, IfErr, IsOk, OnErr, OnOk, Err, IsErr, IsTrue, not, true, []};
+ghost use Rattle.exec_lines.specs.Record.{executor_text};
+ghost use Rattle.exec_node.specs.Executor.{StoredExecutor};
+
+use crate::record::read_back;
+use decrees::Letter;
+use exec_lines::{Body, Input, Job, Outcome, State};
+use keeper::{Keeper, save_record};
+use proto::Fault;
+use round::Gate;
+use std::alloc::Global;
+use std::marker::Model;
+use std::sync::Wait;
+use std::thread::Threads;
+use workers::Workers;
+
+/// What the keeper's record gives, if it has one.
+fn stored<K: Keeper>(alloc: Global, u: u8, id: u8, keeper: &K) -> Option<Result<State, Fault>>
+    ensures { StoredExecutor u id (K.saved keeper.now) result }
+{
+    match keeper.load() {
+        None => None,
+        Some(text) => Some(read_back(alloc, u, id, text)),
+    }
+}
+
+/// Saves the record of this state. Where a failure could not be counted it is Stopped at once.
+fn save<K: Keeper>(alloc: Global, u: u8, id: u8, state: &State, keeper: &mut K) -> Result<(), Fault>
+    ensures saved { OnOk result (K.saved keeper.new ≡ Some (executor_text u id state.now)) }
+    ensures none_failed { OnOk result (K.failed keeper.new ≡ K.failed keeper.old) }
+    ensures same_word { OnOk result (K.told keeper.new ≡ K.told keeper.old) }
+    ensures as_told { IsTrue (K.told keeper.old) → IsErr result }
+    ensures old { OnErr result (K.saved keeper.new ≡ K.saved keeper.old) }
+    ensures no_memory { result ≡ Err Fault.NoMemory → K.failed keeper.new ≡ K.failed keeper.old }
+    ensures stopped { result ≡ Err Fault.Stopped → (K.failed keeper.old < K.failed keeper.new) ⊎ (K.failed keeper.old ≡ 2 ^ 64 - 1) }
+    ensures only { IfErr result (λ fault. (fault ≡ Fault.NoMemory) ⊎ (fault ≡ Fault.Stopped)) }
+    ensures counted { K.failed keeper.old ≤ K.failed keeper.new }
+{
+    let record = state.record(alloc, u, id)?;
+    save_record(record, keeper)
+}
+
+/// An executor. It cannot be dropped, since its chain cannot: it is ended by `end`, which gives its
+/// keeper back.
+pub struct ExecNode<K: Keeper> {
+    id: u8,
+    u: u8,
+    state: State,
+    stopped: bool,
+    keeper: K,
+}
+
+impl<K: Keeper> Model for ExecNode<K> {
+    ghost use Rattle.std.specs.Prelude.{◌<◌, not};
+    ghost use Rattle.exec_lines.specs.contracts.state.State as kept;
+    ghost use Rattle.exec_node.specs.Executor.{ExecutorView, executor_view_code};
+
+    ghost Value = { ExecutorView };
+
+    ghost coded = { executor_view_code kept.the_row.coded };
+
+    ghost view = { λ e. record { id = e.id; u = e.u; state = e.state; up = not e.stopped; saved = K.saved e.keeper; failures = K.failed e.keeper; told = K.told e.keeper } };
+
+    ghost invariant = { λ e. e.u < 4 };
+}
+
+impl<K: Keeper> ExecNode<K> {
+    ghost use Rattle.std.specs.Prelude.{◌≡◌, ◌*◌, ◌-◌, ◌^◌, ◌<◌, ◌≤◌, ◌⊎◌, Some, None, IfOk, IfErr, IsOk, IsSome, OnErr, OnOk, Ok, Err, IsErr, IsTrue, MatchOption, not, true, false, []};
+    ghost use Rattle.std.specs.Borrow.{sem};
+    ghost use Rattle.exec_lines.specs.Step.{fits_a_line, is_refused};
+    ghost use Rattle.exec_node.specs.Executor.{StoredExecutor, OpensExecutor, IsNoExecutorRecord, IsCountedRecord, executor_handled, executor_outcome, executor_record_after, IsExecutorAtLimit, RanJob};
+    ghost use Rattle.exec_lines.specs.Job.{job_of};
+    ghost use Rattle.exec_node.specs.Lent.{LendsExecutorKeeper};
+
+    /// Opens the executor `id` of `2u + 1`. Where the keeper has no record it is new, and its first
+    /// record is saved. Else it goes on from its record, which it leaves as it is: it tells the tokens
+    /// of its tentative states, and asks the others for what it does not know.
+    ///
+    /// BadRecord: the record is not one of this executor. Stopped: there was no record, and the first
+    /// save failed, or its failure could not be counted; or a counter in its record is at its limit.
+    /// NoMemory: an allocation failed, and no save failed. A refused call hands the keeper back with
+    /// the record as before; one that had a record is handed back untouched.
+    pub fn open(
+        alloc: Global,
+        u: u8,
+        id: u8,
+        keeper: K,
+    ) -> Result<(ExecNode<K>, Vec<Letter<Body>>), (Fault, K)>
+        requires few { u < 4 }
+        requires member { id ≤ 2 * u }
+        ensures opened { IfOk result (λ opened. OpensExecutor u id (K.saved keeper) (K.failed keeper) (K.told keeper) opened.0 opened.1.items) }
+        ensures as_told { K.saved keeper ≡ None → IsTrue (K.told keeper) → IsErr result }
+        ensures unreadable { IfErr result (λ refused. refused.0 ≡ Fault.BadRecord → IsNoExecutorRecord u id (K.saved keeper)) }
+        ensures stopped { IfErr result (λ refused. refused.0 ≡ Fault.Stopped → ((K.saved keeper ≡ None) × ((K.failed keeper < K.failed refused.1) ⊎ (K.failed keeper ≡ 2 ^ 64 - 1))) ⊎ IsCountedRecord u id (K.saved keeper)) }
+        ensures none_failed { IfErr result (λ refused. refused.0 ≡ Fault.NoMemory → K.failed refused.1 ≡ K.failed keeper) }
+        ensures untouched { IsSome (K.saved keeper) → IfErr result (λ refused. refused.1 ≡ keeper) }
+        ensures saved { IfErr result (λ refused. K.saved refused.1 ≡ K.saved keeper) }
+        ensures counted { IfErr result (λ refused. K.failed keeper ≤ K.failed refused.1) }
+        ensures only { IfErr result (λ refused. (refused.0 ≡ Fault.NoMemory) ⊎ (refused.0 ≡ Fault.BadRecord) ⊎ (refused.0 ≡ Fault.Stopped)) }
+    {
+        match stored(alloc, u, id, &keeper) {
+            None => ExecNode::begin(alloc, u, id, keeper),
+            Some(Ok(state)) => ExecNode::go_on(alloc, u, id, state, keeper),
+            Some(Err(fault)) => Err((fault, keeper)),
+        }
+    }
+
+    fn begin(
+        alloc: Global,
+        u: u8,
+        id: u8,
+        mut keeper: K,
+    ) -> Result<(ExecNode<K>, Vec<Letter<Body>>), (Fault, K)>
+        requires few { u < 4 }
+        requires no_record { K.saved keeper ≡ None }
+        ensures opened { IfOk result (λ opened. OpensExecutor u id None (K.failed keeper) (K.told keeper) opened.0 opened.1.items) }
+        ensures as_told { IsTrue (K.told keeper) → IsErr result }
+        ensures only { IfErr result (λ refused. (refused.0 ≡ Fault.NoMemory) ⊎ (refused.0 ≡ Fault.Stopped)) }
+        ensures stopped { IfErr result (λ refused. refused.0 ≡ Fault.Stopped → (K.failed keeper < K.failed refused.1) ⊎ (K.failed keeper ≡ 2 ^ 64 - 1)) }
+        ensures none_failed { IfErr result (λ refused. refused.0 ≡ Fault.NoMemory → K.failed refused.1 ≡ K.failed keeper) }
+        ensures saved { IfErr result (λ refused. K.saved refused.1 ≡ K.saved keeper) }
+        ensures counted { IfErr result (λ refused. K.failed keeper ≤ K.failed refused.1) }
+    {
+        match State::first(alloc) {
+            Err(_) => Err((Fault::NoMemory, keeper)),
+            Ok(state) => match save(alloc, u, id, &state, &mut keeper) {
+                Err(fault) => {
+                    state.end();
+                    Err((fault, keeper))
+                }
+                Ok(()) => {
+                    let node = ExecNode {
+                        id,
+                        u,
+                        state,
+                        stopped: false,
+                        keeper,
+                    };
+                    Ok((node, Vec::new(alloc)))
+                }
+            },
+        }
+    }
+
+    #[tactic(auto, using(crate::proofs::OpenLemmas::opens, crate::proofs::OpenLemmas::counted_record))]
+    fn go_on(
+        alloc: Global,
+        u: u8,
+        id: u8,
+        state: State,
+        keeper: K,
+    ) -> Result<(ExecNode<K>, Vec<Letter<Body>>), (Fault, K)>
+        requires few { u < 4 }
+        requires stored { StoredExecutor u id (K.saved keeper) (Some (Ok state)) }
+        ensures opened { IfOk result (λ opened. OpensExecutor u id (K.saved keeper) (K.failed keeper) (K.told keeper) opened.0 opened.1.items) }
+        ensures only { IfErr result (λ refused. (refused.0 ≡ Fault.NoMemory) ⊎ ((refused.0 ≡ Fault.Stopped) × IsCountedRecord u id (K.saved keeper))) }
+        ensures untouched { IfErr result (λ refused. refused.1 ≡ keeper) }
+    {
+        match state.resumed(alloc, u, id) {
+            Err(fault) => {
+                state.end();
+                Err((fault, keeper))
+            }
+            Ok(letters) => {
+                let node = ExecNode {
+                    id,
+                    u,
+                    state,
+                    stopped: false,
+                    keeper,
+                };
+                Ok((node, letters))
+            }
+        }
+    }
+
+    /// Does the step of the input, saves what has to be saved, and gives the letters.
+    fn step_and_save(&mut self, alloc: Global, input: Input) -> Result<Vec<Letter<Body>>, Fault>
+        ensures done { IfOk result (λ letters. self.new ≡ executor_handled self.old input) }
+        ensures letters { IfOk result (λ letters. letters.items ≡ (executor_outcome self.old input).letters) }
+        ensures fits_none { IsTrue (not (fits_a_line self.old.u self.old.id self.old.state input)) → IsTrue (not (is_refused self.old.state input)) → IsOk result }
+        ensures refused { IsTrue (is_refused self.old.state input) → (result ≡ Err Fault.Unfit) × (self.new ≡ self.old) }
+        ensures as_told { IsTrue self.old.told → IsTrue (executor_outcome self.old input).saves → IsErr result }
+        ensures same { OnErr result ((self.new.id ≡ self.old.id) × (self.new.u ≡ self.old.u)) }
+        ensures old_record { OnErr result (self.new.saved ≡ self.old.saved) }
+        ensures counted { self.old.failures ≤ self.new.failures }
+        ensures unsaved { (executor_outcome self.old input).saves ≡ false → self.new.failures ≡ self.old.failures }
+        ensures no_memory { result ≡ Err Fault.NoMemory → self.new.failures ≡ self.old.failures }
+        ensures stopped { result ≡ Err Fault.Stopped → (self.old.failures < self.new.failures) ⊎ IsExecutorAtLimit self.old input }
+        ensures unfit { result ≡ Err Fault.Unfit → IsTrue (is_refused self.old.state input) }
+        ensures only { IfErr result (λ fault. (fault ≡ Fault.NoMemory) ⊎ (fault ≡ Fault.Stopped) ⊎ (fault ≡ Fault.Unfit)) }
+    {
+        let outcome = self.state.step(alloc, self.u, self.id, input)?;
+        if outcome.saves {
+            save(alloc, self.u, self.id, &self.state, &mut self.keeper)?;
+        }
+        Ok(outcome.letters)
+    }
+
+    /// Does the step of the input, and gives its letters in order. What has to be saved is saved
+    /// before they leave. An input that fits no line of the step changes nothing.
+    ///
+    /// Unfit: a tentative state was handed in that is not of its work; it is undone, nothing has
+    /// changed, and the executor goes on. After any other error it is stopped for good, and its record
+    /// is the old one; where it was stopped before, nothing of it changes, and what was handed in is
+    /// let go. Stopped: it was stopped before, or a save failed, or a counter is at its limit;
+    /// NoMemory: an allocation failed in this call, and no save. A save that the keeper was told to
+    /// fail does, and none fails where the step saves nothing.
+    pub fn handle(&mut self, alloc: Global, input: Input) -> Result<Vec<Letter<Body>>, Fault>
+        ensures done { IfOk result (λ letters. self.new ≡ executor_handled self.old input) }
+        ensures letters { IfOk result (λ letters. letters.items ≡ (executor_outcome self.old input).letters) }
+        ensures fits_none { IsTrue self.old.up → IsTrue (not (fits_a_line self.old.u self.old.id self.old.state input)) → IsTrue (not (is_refused self.old.state input)) → IsOk result }
+
+        // Where a tentative state is refused, and nowhere else.
+        ensures refused { IsTrue self.old.up → IsTrue (is_refused self.old.state input) → (result ≡ Err Fault.Unfit) × (self.new ≡ self.old) }
+        ensures unfit { result ≡ Err Fault.Unfit → IsTrue self.old.up × IsTrue (is_refused self.old.state input) }
+
+        // After an error.
+        ensures ends { OnErr result ((result ≡ Err Fault.Unfit) ⊎ IsTrue (not self.new.up)) }
+        ensures same { OnErr result ((self.new.id ≡ self.old.id) × (self.new.u ≡ self.old.u)) }
+        ensures old_record { OnErr result (self.new.saved ≡ self.old.saved) }
+        ensures counted { self.old.failures ≤ self.new.failures }
+        ensures unsaved { (executor_outcome self.old input).saves ≡ false → self.new.failures ≡ self.old.failures }
+
+        // When each comes.
+        ensures stopped_before { IsTrue (not self.old.up) → result ≡ Err Fault.Stopped }
+        ensures unchanged { IsTrue (not self.old.up) → self.new ≡ self.old }
+        ensures as_told { IsTrue self.old.told → IsTrue (executor_outcome self.old input).saves → IsErr result }
+        ensures save_failed { self.old.failures < self.new.failures → result ≡ Err Fault.Stopped }
+        ensures stopped { result ≡ Err Fault.Stopped → IsTrue (not self.old.up) ⊎ (self.old.failures < self.new.failures) ⊎ IsExecutorAtLimit self.old input }
+        ensures only { IfErr result (λ fault. (fault ≡ Fault.NoMemory) ⊎ (fault ≡ Fault.Stopped) ⊎ (fault ≡ Fault.Unfit)) }
+    {
+        if self.stopped {
+            input.spend();
+            return Err(Fault::Stopped);
+        }
+        let letters = self.step_and_save(alloc, input);
+        self.stopped = match &letters {
+            Ok(_) | Err(Fault::Unfit) => false,
+            Err(_) => true,
+        };
+        letters
+    }
+
+    /// The work, where no step of it was made: its base, its batch, and whether it runs in batch order.
+    /// It takes no memory.
+    pub fn job(&self) -> Option<Job>
+        ensures { MatchOption result (job_of self.now.state.work ≡ None)
+            (λ job. job_of self.now.state.work ≡ Some (record { base = job.base.now.state; batch = job.batch.now; ordered = job.ordered })) }
+    {
+        self.state.job()
+    }
+
+    /// Saves the record if the outcome asks for it, and gives the outcome's letters.
+    fn keep(&mut self, alloc: Global, outcome: Outcome) -> Result<Vec<Letter<Body>>, Fault>
+        ensures done { OnOk result (self.new ≡ record self.old { saved = executor_record_after self.old (record { state = self.old.state; saves = outcome.saves; letters = outcome.letters.items }) }) }
+        ensures letters { IfOk result (λ letters. letters ≡ outcome.letters) }
+        ensures old_record { OnErr result (self.new.saved ≡ self.old.saved) }
+        ensures counted { self.old.failures ≤ self.new.failures }
+        ensures stopped { result ≡ Err Fault.Stopped → (self.old.failures < self.new.failures) ⊎ (self.old.failures ≡ 2 ^ 64 - 1) }
+        ensures only { IfErr result (λ fault. (fault ≡ Fault.NoMemory) ⊎ (fault ≡ Fault.Stopped)) }
+        ensures same { OnErr result ((self.new.id ≡ self.old.id) × (self.new.u ≡ self.old.u)) }
+    {
+        let Outcome { saves, letters } = outcome;
+        if saves {
+            save(alloc, self.u, self.id, &self.state, &mut self.keeper)?;
+        }
+        Ok(letters)
+    }
+
+    /// Runs the job, saves what it led to, and gives the letters.
+    fn run_and_save<R: Threads + Wait + Sync, G: Gate + Sync>(
+        &mut self,
+        rt: &R,
+        alloc: Global,
+        workers: Workers,
+        gate: &G,
+    ) -> Result<Vec<Letter<Body>>, Fault>
+        ensures ran { IfOk result (λ letters. RanJob self.old (job_of self.old.state.work) self.new letters.items) }
+        ensures old_record { OnErr result (self.new.saved ≡ self.old.saved) }
+        ensures counted { self.old.failures ≤ self.new.failures }
+        ensures stopped { result ≡ Err Fault.Stopped → (self.old.failures < self.new.failures) ⊎ (self.old.failures ≡ 2 ^ 64 - 1) }
+        ensures only { IfErr result (λ fault. (fault ≡ Fault.NoMemory) ⊎ (fault ≡ Fault.Stopped)) }
+        ensures same { OnErr result ((self.new.id ≡ self.old.id) × (self.new.u ≡ self.old.u)) }
+    {
+        let outcome = self.state.run(rt, alloc, self.u, self.id, workers, gate)?;
+        let letters = self.keep(alloc, outcome)?;
+        Ok(letters)
+    }
+
+    /// Runs the job, if there is one, on at most so many threads at once, completes with what it makes,
+    /// saves the record, and gives the letters. What it makes is what some steps and ends of groups make
+    /// of it. Without a job nothing changes, and there are no letters. The gate is told of each step.
+    ///
+    /// Stopped: it was stopped before, or the save failed, or its failure could not be counted.
+    /// NoMemory: an allocation failed, and no save. After any error it is stopped for good, and its
+    /// record is the old one.
+    pub fn run<R: Threads + Wait + Sync, G: Gate + Sync>(
+        &mut self,
+        rt: &R,
+        alloc: Global,
+        workers: Workers,
+        gate: &G,
+    ) -> Result<Vec<Letter<Body>>, Fault>
+        ensures ran { IfOk result (λ letters. RanJob self.old (job_of self.old.state.work) self.new letters.items) }
+        ensures ends { OnErr result (IsTrue (not self.new.up)) }
+        ensures same { OnErr result ((self.new.id ≡ self.old.id) × (self.new.u ≡ self.old.u)) }
+        ensures old_record { OnErr result (self.new.saved ≡ self.old.saved) }
+        ensures counted { self.old.failures ≤ self.new.failures }
+        ensures stopped_before { IsTrue (not self.old.up) → result ≡ Err Fault.Stopped }
+        ensures unchanged { IsTrue (not self.old.up) → self.new ≡ self.old }
+        ensures stopped { result ≡ Err Fault.Stopped → IsTrue (not self.old.up) ⊎ (self.old.failures < self.new.failures) ⊎ (self.old.failures ≡ 2 ^ 64 - 1) }
+        ensures only { IfErr result (λ fault. (fault ≡ Fault.NoMemory) ⊎ (fault ≡ Fault.Stopped)) }
+    {
+        if !self.is_up() {
+            return Err(Fault::Stopped);
+        }
+        match self.run_and_save(rt, alloc, workers, gate) {
+            Ok(letters) => Ok(letters),
+            Err(fault) => {
+                self.stopped = true;
+                Err(fault)
+            }
+        }
+    }
+
+    /// Whether it was not stopped.
+    pub fn is_up(&self) -> bool
+        ensures { result ≡ self.now.up }
+    {
+        !self.stopped
+    }
+
+    /// Lends the keeper.
+    pub fn keeper(&mut self) -> &mut K
+        ensures* writes_back { sem 𝓛 (LendsExecutorKeeper K.row K.Keeper self.entry result) }
+        ensures saved { K.saved result.now ≡ self.old.saved }
+        ensures failed { K.failed result.now ≡ self.old.failures }
+        ensures told { K.told result.now ≡ self.old.told }
+    {
+        &mut self.keeper
+    }
+
+    /// Ends it: its chain is undone, and its keeper given back.
+    pub fn end(self) -> K
+        ensures saved { K.saved result ≡ self.saved }
+        ensures failed { K.failed result ≡ self.failures }
+        ensures told { K.told result ≡ self.told }
+    {
+        let ExecNode {
+            id: _,
+            u: _,
+            state,
+            stopped: _,
+            keeper,
+        } = self;
+        state.end();
+        keeper
+    }
+}
