@@ -88,6 +88,14 @@ impl Text {
         self.len
     }
 
+    /// Makes room for so many bytes more in the tail. The bytes stay the same, whether or not there is
+    /// memory for it.
+    pub fn reserve(&mut self, more: usize) -> Result<(), AllocError>
+        ensures { self.new ≡ self.old }
+    {
+        self.tail.reserve(more)
+    }
+
     /// Appends a copy of the bytes, to the tail.
     pub fn put(&mut self, bytes: &[u8]) -> Result<(), AllocError>
         ensures ok { OnOk result (self.new ≡ self.old ++ bytes.now) }

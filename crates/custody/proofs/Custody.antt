@@ -31,7 +31,7 @@ use Rattle.one_run.proofs.Elements.{in_head, in_none, first_or_other}
 use Rattle.one_run.proofs.Tokens.{tells}
 use Rattle.rollback.specs.Chain.{tip}
 use Rattle.custody.specs.Durable.{Durable, first_durable, obeyed, executed_of, IsMember, In, Keeps}
-use Rattle.custody.specs.Machine.{ExecutorMachine, said_of, AreOthers, Next, Hear, Choose, Complete, Say, Obey, Take, first_executor_machine, Reached}
+use Rattle.custody.specs.Machine.{ExecutorMachine, said_of, HaveNoToken, Next, Hear, Choose, Complete, Say, Obey, Take, first_executor_machine, Reached}
 use Rattle.custody.specs.Laws.{ChosenIsMade, CommittedIsChosen, LastCommitIsKept}
 use Rattle.custody.proofs.Log.{take_front, take_whole, some_at, get_push, stands_next, Numbered, rises_to, one_commit, last_commit}
 use Rattle.custody.proofs.Kept.{In-left, Path, start, step, Path-rises, member_previous, Chain-push, Chain-in, Fate, kept, passed, rolled, broken, ExecOk, ExecOk-met, ExecOk-log, stands_chosen, undone_rollback, undone_commit}
@@ -103,7 +103,7 @@ ExecOk-letters {log} {ls} {met} {rounds} {e} {x} new own ok = record {
   fate = λ epoch n previous t s. ⊎_elim (λ l. ok.fate epoch n previous t l) (λ r. own epoch n previous t r) (Sent-split ls new s);
 }
 
-heard : {u : ℕ} {m : ExecutorMachine} (new : Letters) → AreOthers new → Good u m → Good u (record m { letters = m.letters ++ new })
+heard : {u : ℕ} {m : ExecutorMachine} (new : Letters) → HaveNoToken new → Good u m → Good u (record m { letters = m.letters ++ new })
 heard {u} {m} new others good = record {
   count = good.count;
   rests = λ i d e. RestsOn-more u m.letters new (take i m.decrees) d (good.rests i d e);

@@ -10,7 +10,7 @@ use Rattle.executor.specs.declared.work.Ended.{Ended}
 use Rattle.executor.specs.declared.work.Ended.TheVariants.{On, Done}
 use Rattle.executor.specs.BatchRequest.{BatchRequest}
 use Rattle.executor.specs.Ends.{Begins, Goes, MovesOn}
-use Rattle.executor.specs.Work.{WorkView, IsNext, IsLast, comes_after, least_of, all_begun, is_group_done}
+use Rattle.executor.specs.Work.{WorkView, IsNextGroup, IsLast, comes_after, least_of, all_begun, is_group_done}
 use Rattle.executor.proofs.PartialLemmas.{each-of-all}
 use Rattle.executor.proofs.GroupLemmas.{least_is_next, none_is_last}
 use Rattle.rollback.specs.Chain.{ChainView, chain_tip}
@@ -21,16 +21,16 @@ clash : (b : Bool) → b ≡ true → b ≡ false → ⊥
 clash true p q = cc q
 clash false p q = cc p
 
-below : (xs : List BatchRequest) (last : Option ℕ) (n m : ℕ) → IsNext xs last n → IsNext xs last m → n ≤ m
+below : (xs : List BatchRequest) (last : Option ℕ) (n m : ℕ) → IsNextGroup xs last n → IsNextGroup xs last m → n ≤ m
 below xs last n m h a =
     let u = each-of-all (λ r. comes_after last r.group ≡ true → n ≤ r.group) xs h.least a.index a.request a.there (ap (comes_after last) a.its ∙ a.above) in
     omega (arith, u, a.its)
 
-not_last : (xs : List BatchRequest) (last : Option ℕ) (n : ℕ) → IsNext xs last n → IsLast xs last → ⊥
+not_last : (xs : List BatchRequest) (last : Option ℕ) (n : ℕ) → IsNextGroup xs last n → IsLast xs last → ⊥
 not_last xs last n h l = clash (comes_after last h.request.group) (ap (comes_after last) h.its ∙ h.above) (each-of-all (λ r. comes_after last r.group ≡ false) xs l h.index h.request h.there)
 
 -- the first of the groups that come after one is the least of them
-next_is_least : (last : Option ℕ) (xs : List BatchRequest) (n : ℕ) → IsNext xs last n → least_of last None xs ≡ Some n
+next_is_least : (last : Option ℕ) (xs : List BatchRequest) (n : ℕ) → IsNextGroup xs last n → least_of last None xs ≡ Some n
 next_is_least last xs n h = by (least_of last None xs) refl
   where
     by : (o : Option ℕ) → least_of last None xs ≡ o → least_of last None xs ≡ Some n

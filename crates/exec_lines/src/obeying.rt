@@ -169,7 +169,7 @@ impl State {
     pub fn resumed(&self, alloc: Global, u: u8, id: u8) -> Result<Vec<Letter<Body>>, Fault>
         requires { u < 4 }
         ensures done { IfOk result (λ letters. letters.items ≡ (resumed_line u id self.now).letters) }
-        ensures err { IfErr result (λ fault. (fault ≡ Fault.NoMemory) ⊎ ((fault ≡ Fault.Stopped) × IsCounted self.now)) }
+        ensures err { IfErr result (λ fault. (fault ≡ Fault.NoMemory) ⊎ ((fault ≡ Fault.Stopped) × (self.now.known ≡ 2 ^ 64 - 1))) }
     {
         if self.known == u64::MAX {
             return Err(Fault::Stopped);

@@ -31,7 +31,7 @@ fn made_over(alloc: Global, base: &Base, batch: Batch) -> Result<Tentative, Faul
 }
 
 /// What batch 1 makes of the first state.
-fn made(alloc: Global, batch: Batch) -> Result<Tentative, Fault> {
+pub fn made(alloc: Global, batch: Batch) -> Result<Tentative, Fault> {
     let base = Base::first(alloc)?;
     made_over(alloc, &base, batch)
 }

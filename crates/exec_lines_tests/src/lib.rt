@@ -16,11 +16,15 @@ mod fetching;
 #[cfg(test)]
 mod given;
 #[cfg(test)]
+mod meeting;
+#[cfg(test)]
 mod obeying;
 #[cfg(test)]
 mod ordering;
 #[cfg(test)]
 mod records;
+#[cfg(test)]
+mod refusals;
 #[cfg(test)]
 mod seen;
 #[cfg(test)]

@@ -74,7 +74,7 @@ fn add_letters(text: &mut Vec<u8>, letters: &[Letter<Body>]) -> Result<(), Alloc
 }
 
 /// Whether these are the letters, after this mark.
-fn are_letters(
+pub fn are_letters(
     alloc: Global,
     first: u8,
     letters: &[Letter<Body>],
@@ -118,7 +118,11 @@ pub fn resumes(alloc: Global, state: &State, id: u8, expected: &[u8]) -> Result<
 
 /// The token that the last letter tells.
 pub fn told(outcome: &Outcome) -> Result<Token, Fault> {
-    match outcome.letters.last() {
+    told_in(outcome.letters.as_slice())
+}
+
+pub fn told_in(letters: &[Letter<Body>]) -> Result<Token, Fault> {
+    match letters.last() {
         Some(letter) => token_in(&letter.body),
         None => Err(Fault::NotOpen),
     }

@@ -1,10 +1,9 @@
 -- An executor that goes on from its record.
-use Rattle.std.proofs.Common.{◌≡◌, ℕ, Bool, true, List, Option, Some, None, Ok, sym, ap, ◌∙◌, subst}
+use Rattle.std.proofs.Common.{◌≡◌, ◌-◌, ◌^◌, ℕ, Bool, true, List, Option, Some, None, Ok, sym, ap, ◌∙◌, subst}
 use Rattle.decrees.specs.declared.node.Letter.{Letter}
 use Rattle.exec_lines.specs.declared.body.Body.{Body}
 use Rattle.exec_lines.specs.State.{ExecutorState}
 use Rattle.exec_lines.specs.Lines.{resumed}
-use Rattle.exec_lines.specs.Step.{IsCounted}
 use Rattle.exec_node.specs.Record.{IsExecutorRecord}
 use Rattle.exec_node.specs.Executor.{ExecutorView, OpensExecutor, IsCountedRecord, StoredExecutor}
 
@@ -18,6 +17,6 @@ opens u id (Some bytes) failures told s e letters stored is said =
       said ∙ ap (λ (x : ExecutorState). (resumed u id x).letters) same,
     )
 
-pub counted_record : (u id : ℕ) (saved : Option (List ℕ)) (s : ExecutorState) → StoredExecutor u id saved (Some (Ok s)) → IsCounted s → IsCountedRecord u id saved
+pub counted_record : (u id : ℕ) (saved : Option (List ℕ)) (s : ExecutorState) → StoredExecutor u id saved (Some (Ok s)) → s.known ≡ 2 ^ 64 - 1 → IsCountedRecord u id saved
 counted_record u id None s stored counted = absurd stored
 counted_record u id (Some bytes) s stored counted = (s, stored, counted)

@@ -75,15 +75,11 @@ unfit_stays u id s (Step place) unfit = of_step s (work_after s.work place) unfi
 unfit_stays u id s Finish unfit = of_finish u id s s.work unfit
 unfit_stays u id s (Adopt t) unfit = cond-false (may_adopt s t) _ _ unfit
 
-clash : (b : Bool) → b ≡ true → b ≡ false → ⊥
-clash true p q = cc q
-clash false p q = cc p
-
 is_false : (b : Bool) → IsTrue (not b) → b ≡ false
 is_false true p = absurd (cc p)
 is_false false p = refl
 
 -- so it is not saved
-pub unfit_unsaved : (u id : ℕ) (s : ExecutorState) (input : Input) (o : ExecutorOutcome) → o ≡ executor_step u id s input → o.saves ≡ true → IsTrue (not (fits_a_line u id s input)) → ⊥
-unfit_unsaved u id s input o is saves unfit =
-    clash o.saves saves (ap (λ (x : ExecutorOutcome). x.saves) (is ∙ unfit_stays u id s input (is_false (fits_a_line u id s input) unfit)))
+pub unfit_unsaved : (u id : ℕ) (s : ExecutorState) (input : Input) (o : ExecutorOutcome) → o ≡ executor_step u id s input → IsTrue (not (fits_a_line u id s input)) → o.saves ≡ false
+unfit_unsaved u id s input o is unfit =
+    ap (λ (x : ExecutorOutcome). x.saves) (is ∙ unfit_stays u id s input (is_false (fits_a_line u id s input) unfit))

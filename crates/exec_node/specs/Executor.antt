@@ -53,10 +53,10 @@ abbrev pub IsNoExecutorRecord : ℕ → ℕ → Option (List ℕ) → Type 0
 IsNoExecutorRecord u id None = ⊥
 IsNoExecutorRecord u id (Some bytes) = (s : ExecutorState) → IsExecutorRecord u id bytes s → ⊥
 
--- there is a record of this executor, and a counter in it is at its limit
+-- there is a record of this executor, and by it no more decrees can be counted
 abbrev pub IsCountedRecord : ℕ → ℕ → Option (List ℕ) → Type 0
 IsCountedRecord u id None = ⊥
-IsCountedRecord u id (Some bytes) = (s : ExecutorState) × IsExecutorRecord u id bytes s × IsCounted s
+IsCountedRecord u id (Some bytes) = (s : ExecutorState) × IsExecutorRecord u id bytes s × (s.known ≡ 2 ^ 64 - 1)
 
 -- what a keeper's record gives
 abbrev pub StoredExecutor : ℕ → ℕ → Option (List ℕ) → Option (Result ExecutorState Fault) → Type 0

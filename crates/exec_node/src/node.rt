@@ -77,7 +77,7 @@ impl<K: Keeper> ExecNode<K> {
     /// of its tentative states, and asks the others for what it does not know.
     ///
     /// BadRecord: the record is not one of this executor. Stopped: there was no record, and the first
-    /// save failed, or its failure could not be counted; or a counter in its record is at its limit.
+    /// save failed, or its failure could not be counted; or by its record it knows 2^64 - 1 decrees.
     /// NoMemory: an allocation failed, and no save failed. A refused call hands the keeper back with
     /// the record as before; one that had a record is handed back untouched.
     pub fn open(
@@ -174,6 +174,26 @@ impl<K: Keeper> ExecNode<K> {
         }
     }
 
+    /// Saves the record if the outcome asks for it, and gives the outcome's letters.
+    fn keep(&mut self, alloc: Global, outcome: Outcome) -> Result<Vec<Letter<Body>>, Fault>
+        ensures done { OnOk result (self.new ≡ record self.old { saved = executor_record_after self.old (record { state = self.old.state; saves = outcome.saves; letters = outcome.letters.items }) }) }
+        ensures letters { IfOk result (λ letters. letters ≡ outcome.letters) }
+        ensures unsaved { outcome.saves ≡ false → IsOk result }
+        ensures as_told { IsTrue self.old.told → IsTrue outcome.saves → IsErr result }
+        ensures same { OnErr result ((self.new.id ≡ self.old.id) × (self.new.u ≡ self.old.u)) }
+        ensures old_record { OnErr result (self.new.saved ≡ self.old.saved) }
+        ensures counted { self.old.failures ≤ self.new.failures }
+        ensures no_memory { result ≡ Err Fault.NoMemory → self.new.failures ≡ self.old.failures }
+        ensures stopped { result ≡ Err Fault.Stopped → (self.old.failures < self.new.failures) ⊎ (self.old.failures ≡ 2 ^ 64 - 1) }
+        ensures only { IfErr result (λ fault. (fault ≡ Fault.NoMemory) ⊎ (fault ≡ Fault.Stopped)) }
+    {
+        let Outcome { saves, letters } = outcome;
+        if saves {
+            save(alloc, self.u, self.id, &self.state, &mut self.keeper)?;
+        }
+        Ok(letters)
+    }
+
     /// Does the step of the input, saves what has to be saved, and gives the letters.
     fn step_and_save(&mut self, alloc: Global, input: Input) -> Result<Vec<Letter<Body>>, Fault>
         ensures done { IfOk result (λ letters. self.new ≡ executor_handled self.old input) }
@@ -191,10 +211,8 @@ impl<K: Keeper> ExecNode<K> {
         ensures only { IfErr result (λ fault. (fault ≡ Fault.NoMemory) ⊎ (fault ≡ Fault.Stopped) ⊎ (fault ≡ Fault.Unfit)) }
     {
         let outcome = self.state.step(alloc, self.u, self.id, input)?;
-        if outcome.saves {
-            save(alloc, self.u, self.id, &self.state, &mut self.keeper)?;
-        }
-        Ok(outcome.letters)
+        let letters = self.keep(alloc, outcome)?;
+        Ok(letters)
     }
 
     /// Does the step of the input, and gives its letters in order. What has to be saved is saved
@@ -251,23 +269,6 @@ impl<K: Keeper> ExecNode<K> {
         self.state.job()
     }
 
-    /// Saves the record if the outcome asks for it, and gives the outcome's letters.
-    fn keep(&mut self, alloc: Global, outcome: Outcome) -> Result<Vec<Letter<Body>>, Fault>
-        ensures done { OnOk result (self.new ≡ record self.old { saved = executor_record_after self.old (record { state = self.old.state; saves = outcome.saves; letters = outcome.letters.items }) }) }
-        ensures letters { IfOk result (λ letters. letters ≡ outcome.letters) }
-        ensures old_record { OnErr result (self.new.saved ≡ self.old.saved) }
-        ensures counted { self.old.failures ≤ self.new.failures }
-        ensures stopped { result ≡ Err Fault.Stopped → (self.old.failures < self.new.failures) ⊎ (self.old.failures ≡ 2 ^ 64 - 1) }
-        ensures only { IfErr result (λ fault. (fault ≡ Fault.NoMemory) ⊎ (fault ≡ Fault.Stopped)) }
-        ensures same { OnErr result ((self.new.id ≡ self.old.id) × (self.new.u ≡ self.old.u)) }
-    {
-        let Outcome { saves, letters } = outcome;
-        if saves {
-            save(alloc, self.u, self.id, &self.state, &mut self.keeper)?;
-        }
-        Ok(letters)
-    }
-
     /// Runs the job, saves what it led to, and gives the letters.
     fn run_and_save<R: Threads + Wait + Sync, G: Gate + Sync>(
         &mut self,
@@ -277,11 +278,14 @@ impl<K: Keeper> ExecNode<K> {
         gate: &G,
     ) -> Result<Vec<Letter<Body>>, Fault>
         ensures ran { IfOk result (λ letters. RanJob self.old (job_of self.old.state.work) self.new letters.items) }
+        ensures none { job_of self.old.state.work ≡ None → IsOk result }
+        ensures as_told { IsTrue self.old.told → IsSome (job_of self.old.state.work) → IsErr result }
+        ensures same { OnErr result ((self.new.id ≡ self.old.id) × (self.new.u ≡ self.old.u)) }
         ensures old_record { OnErr result (self.new.saved ≡ self.old.saved) }
         ensures counted { self.old.failures ≤ self.new.failures }
+        ensures no_memory { result ≡ Err Fault.NoMemory → self.new.failures ≡ self.old.failures }
         ensures stopped { result ≡ Err Fault.Stopped → (self.old.failures < self.new.failures) ⊎ (self.old.failures ≡ 2 ^ 64 - 1) }
         ensures only { IfErr result (λ fault. (fault ≡ Fault.NoMemory) ⊎ (fault ≡ Fault.Stopped)) }
-        ensures same { OnErr result ((self.new.id ≡ self.old.id) × (self.new.u ≡ self.old.u)) }
     {
         let outcome = self.state.run(rt, alloc, self.u, self.id, workers, gate)?;
         let letters = self.keep(alloc, outcome)?;
@@ -303,12 +307,19 @@ impl<K: Keeper> ExecNode<K> {
         gate: &G,
     ) -> Result<Vec<Letter<Body>>, Fault>
         ensures ran { IfOk result (λ letters. RanJob self.old (job_of self.old.state.work) self.new letters.items) }
+        ensures none { IsTrue self.old.up → job_of self.old.state.work ≡ None → IsOk result }
+
+        // After an error.
         ensures ends { OnErr result (IsTrue (not self.new.up)) }
         ensures same { OnErr result ((self.new.id ≡ self.old.id) × (self.new.u ≡ self.old.u)) }
         ensures old_record { OnErr result (self.new.saved ≡ self.old.saved) }
         ensures counted { self.old.failures ≤ self.new.failures }
+
+        // When each comes.
         ensures stopped_before { IsTrue (not self.old.up) → result ≡ Err Fault.Stopped }
         ensures unchanged { IsTrue (not self.old.up) → self.new ≡ self.old }
+        ensures as_told { IsTrue self.old.told → IsSome (job_of self.old.state.work) → IsErr result }
+        ensures save_failed { self.old.failures < self.new.failures → result ≡ Err Fault.Stopped }
         ensures stopped { result ≡ Err Fault.Stopped → IsTrue (not self.old.up) ⊎ (self.old.failures < self.new.failures) ⊎ (self.old.failures ≡ 2 ^ 64 - 1) }
         ensures only { IfErr result (λ fault. (fault ≡ Fault.NoMemory) ⊎ (fault ≡ Fault.Stopped)) }
     {

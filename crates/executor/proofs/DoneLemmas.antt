@@ -19,7 +19,7 @@ use Rattle.states.specs.State.{StateView}
 use Rattle.executor.specs.Fresh.{Runner, runs, fresh_after}
 use Rattle.states.specs.Followed.{moment_of}
 use Rattle.executor.specs.Round.{runners, Round}
-use Rattle.executor.specs.Work.{Progress, begun, all_begun, is_group_done, comes_after, IsFirst, IsNext, IsLast, Worked, began, state_made, replied, replied_to, replies_of, replies_to, is_complete, is_ready, StepDone, WorkStep}
+use Rattle.executor.specs.Work.{Progress, begun, all_begun, is_group_done, comes_after, IsFirst, IsNextGroup, IsLast, Worked, began, state_made, replied, replied_to, replies_of, replies_to, is_complete, is_ready, StepDone, WorkStep}
 use Rattle.executor.proofs.PartialLemmas.{Each, each-of-all, all-of-each, forget}
 use Rattle.round.proofs.Lists.{map_at}
 use Rattle.executor.proofs.OrderLemmas.{found_at}
@@ -121,7 +121,7 @@ found_ready running lent i group place same there ready =
     )
 
 -- a group that comes first
-pub first_is : (running : List BatchRequest) (group : ℕ) → IsNext running None group → IsFirst running group
+pub first_is : (running : List BatchRequest) (group : ℕ) → IsNextGroup running None group → IsFirst running group
 first_is running group next k d l = next.least k d l refl
 
 -- where no request runs in any group, none runs

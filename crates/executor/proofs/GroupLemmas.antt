@@ -4,7 +4,7 @@ use Rattle.std.specs.Prelude.{slice_get}
 use Rattle.std.proofs.lemmas.Bool.{cases_Bool, leb-true, leb-false}
 use Rattle.std.proofs.lemmas.Option.{same_Some}
 use Rattle.executor.specs.BatchRequest.{BatchRequest}
-use Rattle.executor.specs.Work.{comes_after, IsNext, IsLast, lesser, lesser_if, least_of}
+use Rattle.executor.specs.Work.{comes_after, IsNextGroup, IsLast, lesser, lesser_if, least_of}
 use Rattle.executor.proofs.PartialLemmas.{Each, all-of-each}
 
 -- what the least of some groups, and of one that was found before, is
@@ -84,7 +84,7 @@ none_found last found (r ∷ rs) e =
         each zero x at = let here : r ≡ x = cc at in ap (λ (y : BatchRequest). comes_after last y.group) (sym here) ∙ t
         each (suc i) x at = later i x at
 
-pub least_is_next : (last : Option ℕ) (xs : List BatchRequest) (n : ℕ) → least_of last None xs ≡ Some n → IsNext xs last n
+pub least_is_next : (last : Option ℕ) (xs : List BatchRequest) (n : ℕ) → least_of last None xs ≡ Some n → IsNextGroup xs last n
 least_is_next last xs n e =
     let l = least_is last None xs n e in
     elim l.from [

@@ -11,7 +11,7 @@ use Rattle.batches.specs.declared.batch.Batch.{Batch}
 use Rattle.executor.specs.BatchRequest.{BatchRequest}
 use Rattle.states.specs.State.{StateView}
 use Rattle.executor.specs.Round.{first_place, runners}
-use Rattle.executor.specs.Work.{Progress, Worked, IsNext, is_group_done, started, begun, all_begun}
+use Rattle.executor.specs.Work.{Progress, Worked, IsNextGroup, is_group_done, started, begun, all_begun}
 use Rattle.round.specs.Sittings.{Running as RanTask}
 use Rattle.executor.specs.Through.{later}
 use Rattle.executor.specs.GroupRun.{task_of_request, tasks_in, answered_by, ran_of, IsUntouched}
@@ -58,7 +58,7 @@ group_ran base batch ordered w worked untouched now answers runs =
     }
 
 -- a group that comes next was not begun
-pub untouched_next : (base : StateView) (batch : Batch) (ordered : Bool) (w : Progress) → Worked base batch ordered w → (next : ℕ) → IsNext w.running (Some w.group) next
+pub untouched_next : (base : StateView) (batch : Batch) (ordered : Bool) (w : Progress) → Worked base batch ordered w → (next : ℕ) → IsNextGroup w.running (Some w.group) next
     → IsUntouched (record { items = w.items; running = w.running; group = next })
 untouched_next base batch ordered w worked next n =
     let p = worked-partial base batch ordered w worked in

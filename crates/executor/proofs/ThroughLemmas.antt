@@ -9,7 +9,7 @@ use Rattle.item_steps.specs.Schedule.{stamped}
 use Rattle.item_steps.specs.declared.step.Stamp.{Stamp}
 use Rattle.items.specs.Map.{Items}
 use Rattle.executor.specs.BatchRequest.{BatchRequest}
-use Rattle.executor.specs.Work.{Progress, StepDone, IsNext, is_complete}
+use Rattle.executor.specs.Work.{Progress, StepDone, IsNextGroup, is_complete}
 use Rattle.executor.specs.Through.{IsNotLeft, WorkStepAt}
 
 -- a step that was made on the items is a step made at the index
@@ -93,7 +93,7 @@ fewer low (x ∷ rs) (suc i) r at l = by (nat_lt r.group x.group) refl (nat_lt l
     by true p false q h = absurd (let above = ltb-true r.group x.group p in let below = ltb-false low x.group q in omega (arith, above, below, l))
 
 -- fewer requests come after the next group than after this one
-pub fewer_later : (running : List BatchRequest) (group next : ℕ) → IsNext running (Some group) next → length (filter (λ r. nat_lt next r.group) running) < length (filter (λ r. nat_lt group r.group) running)
+pub fewer_later : (running : List BatchRequest) (group next : ℕ) → IsNextGroup running (Some group) next → length (filter (λ r. nat_lt next r.group) running) < length (filter (λ r. nat_lt group r.group) running)
 fewer_later running group next n =
     let above : group < n.request.group = ltb-true group n.request.group (ap (nat_lt group) n.its ∙ n.above) in
     subst (λ g. length (filter (λ r. nat_lt g r.group) running) < length (filter (λ r. nat_lt group r.group) running)) n.its (fewer group running n.index n.request n.there above)

@@ -18,7 +18,7 @@ use Rattle.executor.specs.Fresh.{Runner}
 use Rattle.executor.specs.declared.answered.Answered.{Answered}
 use Rattle.states.specs.Followed.{moment_of}
 use Rattle.executor.specs.Round.{runners, first_place, group_of, steps_in, answered, Round}
-use Rattle.executor.specs.Work.{Progress, begun, all_begun, next_step, is_complete, is_group_done, started, comes_after, IsFirst, IsNext, IsLast, WorkStep, Worked, began, stepped, moved, replied, replies_of, state_made}
+use Rattle.executor.specs.Work.{Progress, begun, all_begun, next_step, is_complete, is_group_done, started, comes_after, IsFirst, IsNextGroup, IsLast, WorkStep, Worked, began, stepped, moved, replied, replies_of, state_made}
 use Rattle.item_steps.proofs.ScheduleLemmas.{items_push, answers_push}
 use Rattle.round.proofs.Lists.{list_all_at, map_at, set_else, set_there}
 use Rattle.executor.proofs.OrderLemmas.{order_push, same_or_not, set_here}
@@ -190,7 +190,7 @@ module _ (base : StateView) (batch : Batch) (ordered : Bool) where
       (ap (λ k. range_with_len 0 w.group ++ range_with_len k (suc (group - (w.group + 1)))) from ∙ sym (range_parts 0 w.group (suc (group - (w.group + 1)))) ∙ ap (range_with_len 0) count)
       (groups_append (λ g. map (steps_in batch ordered g) there) (first base batch ordered) (alive base.items (moment_of base batch)) p.start w.items (range_with_len 0 w.group) (w.group ∷ range_with_len (w.group + 1) (group - (w.group + 1))) p.earlier (answers_in (first base batch ordered) p.start p.order ++ []) p.groups one)
 
-  partial-moved : (w : Progress) (group : ℕ) → Partial base batch ordered w → IsTrue (is_group_done w) → IsNext w.running (Some w.group) group
+  partial-moved : (w : Progress) (group : ℕ) → Partial base batch ordered w → IsTrue (is_group_done w) → IsNextGroup w.running (Some w.group) group
       → Partial base batch ordered (record { items = w.items; running = w.running; group = group })
   partial-moved w group p done next = record {
     same = p.same;

@@ -5,12 +5,12 @@ use Rattle.executor.specs.declared.work.Ended.{Ended}
 use Rattle.executor.specs.declared.work.Ended.TheVariants.{On, Done}
 use Rattle.states.specs.State.{StateView}
 use Rattle.executor.specs.Round.{Round}
-use Rattle.executor.specs.Work.{WorkView, all_begun, started, is_group_done, IsNext, IsLast, tentative_of}
+use Rattle.executor.specs.Work.{WorkView, all_begun, started, is_group_done, IsNextGroup, IsLast, tentative_of}
 
 -- What a batch begins with: work in its first group; where no request runs, it is done at once.
 abbrev pub Begins : StateView → Batch → Bool → Ended → Type 0
 Begins base batch ordered (On w) =
-    (w ≡ record { base = base; batch = batch; ordered = ordered; progress = started base batch ordered w.progress.group }) × IsNext (all_begun base batch ordered) None w.progress.group
+    (w ≡ record { base = base; batch = batch; ordered = ordered; progress = started base batch ordered w.progress.group }) × IsNextGroup (all_begun base batch ordered) None w.progress.group
 Begins base batch ordered (Done t) =
     (all_begun base batch ordered ≡ []) × (t ≡ tentative_of (record { base = base; batch = batch; ordered = ordered; progress = started base batch ordered 0 }))
 
@@ -18,7 +18,7 @@ Begins base batch ordered (Done t) =
 abbrev pub MovesOn : Bool → WorkView → WorkView → Type 0
 MovesOn false w now = now ≡ w
 MovesOn true w now =
-    IsNext w.progress.running (Some w.progress.group) now.progress.group
+    IsNextGroup w.progress.running (Some w.progress.group) now.progress.group
     × (now ≡ record w { progress = record { items = w.progress.items; running = w.progress.running; group = now.progress.group } })
 
 -- How work goes on at the end of a group: to the next one, or after the last one it is done.

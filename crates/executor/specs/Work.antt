@@ -60,7 +60,7 @@ comes_after None group = true
 comes_after (Some last) group = nat_lt last group
 
 -- the first of the groups after this one in which a request runs
-pub record IsNext (running : List BatchRequest) (last : Option ℕ) (next : ℕ) : Type 0 where
+pub record IsNextGroup (running : List BatchRequest) (last : Option ℕ) (next : ℕ) : Type 0 where
   pub index : ℕ
   pub request : BatchRequest
   pub there : slice_get running index ≡ Some request
@@ -120,7 +120,7 @@ HasNoStep w place = list_all (λ r. not (is_ready w.group place r)) w.running �
 pub data Worked (base : StateView) (batch : Batch) (ordered : Bool) : Progress → Type 0 where
   began : (group : ℕ) → IsFirst (all_begun base batch ordered) group → Worked base batch ordered (started base batch ordered group)
   stepped : (w now : Progress) (place : ℕ) → Worked base batch ordered w → WorkStep (first_place base batch) w place now → Worked base batch ordered now
-  moved : (w : Progress) (group : ℕ) → Worked base batch ordered w → IsTrue (is_group_done w) → IsNext w.running (Some w.group) group → Worked base batch ordered (record { items = w.items; running = w.running; group = group })
+  moved : (w : Progress) (group : ℕ) → Worked base batch ordered w → IsTrue (is_group_done w) → IsNextGroup w.running (Some w.group) group → Worked base batch ordered (record { items = w.items; running = w.running; group = group })
 
 -- what is answered to a request that made its steps
 abbrev pub replied : Runner → BatchRequest → Answered

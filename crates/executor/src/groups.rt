@@ -3,7 +3,7 @@
 ghost use Rattle.std.specs.Prelude.{◌≡◌, ◌==◌, ◌||◌, true, Some, None, IfSome, length, not};
 ghost use Rattle.std.specs.List.{list_all};
 ghost use Rattle.executor.specs.Through.{IsFirstLeft};
-ghost use Rattle.executor.specs.Work.{comes_after as after, IsNext, IsLast, is_complete, lesser, least_of};
+ghost use Rattle.executor.specs.Work.{comes_after as after, IsNextGroup, IsLast, is_complete, lesser, least_of};
 
 use crate::batch_request::BatchRequest;
 
@@ -71,7 +71,7 @@ fn least_group(running: &[BatchRequest], last: Option<usize>) -> Option<usize>
 /// The first of the groups after the last one in which a request runs, if there is one.
 #[tactic(auto, using(crate::proofs::GroupLemmas::least_is_next, crate::proofs::GroupLemmas::none_is_last))]
 pub fn next_group(running: &[BatchRequest], last: Option<usize>) -> Option<usize>
-    ensures some { IfSome result (λ next. IsNext running.now last next) }
+    ensures some { IfSome result (λ next. IsNextGroup running.now last next) }
     ensures none { result ≡ None → IsLast running.now last }
 {
     least_group(running, last)

@@ -7,7 +7,7 @@ ghost use Rattle.states.specs.Followed.{moment_of};
 ghost use Rattle.wire.specs.Session.{sessions_text};
 ghost use Rattle.token.specs.Digested.{IsDigested};
 ghost use Rattle.executor.specs.Round.{first_place, kept_after, Round};
-ghost use Rattle.executor.specs.Work.{WorkStep, HasStep, HasNoStep, tentative_of, is_group_done as group_done, IsFirst, IsNext, IsLast, is_ready, all_begun, replies_of, started};
+ghost use Rattle.executor.specs.Work.{WorkStep, HasStep, HasNoStep, tentative_of, is_group_done as group_done, IsFirst, IsNextGroup, IsLast, is_ready, all_begun, replies_of, started};
 ghost use Rattle.executor.specs.Ends.{Begins, Goes, DoneIsRound};
 ghost use Rattle.executor.specs.GroupRun.{IsUntouched, StartsAfresh, is_untouched};
 ghost use Rattle.executor.specs.BatchRequest.{HaveFewSteps};
@@ -225,7 +225,7 @@ impl Work {
 
     /// The next group in which a request runs, if there is one.
     fn group_after(&self) -> Option<usize>
-        ensures some { IfSome result (λ next. IsNext self.now.progress.running (Some self.now.progress.group) next) }
+        ensures some { IfSome result (λ next. IsNextGroup self.now.progress.running (Some self.now.progress.group) next) }
         ensures none { result ≡ None → IsLast self.now.progress.running (Some self.now.progress.group) }
     {
         next_group(&self.running, Some(self.group))
@@ -233,7 +233,7 @@ impl Work {
 
     fn moved_to(mut self, group: usize) -> Work
         requires done { IsTrue (group_done self.progress) }
-        requires next { IsNext self.progress.running (Some self.progress.group) group }
+        requires next { IsNextGroup self.progress.running (Some self.progress.group) group }
         ensures moved { result ≡ record self {
           progress = record {
             items = self.progress.items;

@@ -8,7 +8,7 @@ use Rattle.std.proofs.lemmas.Bool.Decides.{nat_tests}
 use Rattle.proto.specs.declared.command.Command.{Command}
 use Rattle.sessions.specs.declared.request.Request.{Request}
 use Rattle.item_steps.specs.declared.group.Task.{Task}
-use Rattle.mixer.specs.Groups.{commands_of, number_after, numbers_from, numbers_of, tasks_from, members, count_of, groups_of, places_in}
+use Rattle.mixer.specs.Groups.{commands_of, number_after, numbers_from, numbers_of, tasks_from, members, group_count, groups_of, places_in}
 use Rattle.mixer.proofs.GroupLemmas.{members-first, other_is, length-commands}
 
 abbrev places : List Task → List ℕ
@@ -103,4 +103,4 @@ each_place_once rs =
     let ns = numbers_of rs in
     let ts = tasks_from 0 rs in
     let as_many : length ns ≡ length ts = length-numbers [] (commands_of rs) ∙ length-commands rs ∙ sym (length-tasks 0 rs) in
-    subst (λ xs. IsPermutation xs (places_in (groups_of rs))) (places-zip ns ts as_many ∙ places-tasks 0 rs) (every (zip ns ts) (count_of ns) (below-zip (count_of ns) ns ts (below_count 0 ns)))
+    subst (λ xs. IsPermutation xs (places_in (groups_of rs))) (places-zip ns ts as_many ∙ places-tasks 0 rs) (every (zip ns ts) (group_count ns) (below-zip (group_count ns) ns ts (below_count 0 ns)))

@@ -59,14 +59,14 @@ abbrev pub members : ℕ → List (ℕ × Task) → List Task
 members number tasks = map (λ t. t.1) (filter (λ t. t.0 == number) tasks)
 
 -- how many groups there are: 1 more than the greatest number
-abbrev pub count_of : List ℕ → ℕ
-count_of numbers = fold (λ count number. max count (number + 1)) 0 numbers
+abbrev pub group_count : List ℕ → ℕ
+group_count numbers = fold (λ count number. max count (number + 1)) 0 numbers
 
 -- the groups, in order
 abbrev pub groups_of : List Request → List (List Task)
 groups_of requests =
     let numbers = numbers_of requests in
-    map (λ number. members number (zip numbers (tasks_from 0 requests))) (range_with_len 0 (count_of numbers))
+    map (λ number. members number (zip numbers (tasks_from 0 requests))) (range_with_len 0 (group_count numbers))
 
 -- the places that the groups name
 abbrev pub places_in : List (List Task) → List ℕ

@@ -1,7 +1,7 @@
 ghost use Rattle.std.specs.Prelude.{◌≡◌, ◌<◌, ◌≤◌, ◌^◌, length, All, IfOk};
 ghost use Rattle.std.specs.List.{range_with_len, zip};
 ghost use Rattle.std.specs.List.Sorted.{IsPermutation};
-ghost use Rattle.mixer.specs.Groups.{commands_of, number_after as after, numbers_of, count_of as count_in, members, task_of as task_in, tasks_from, groups_of, places_in};
+ghost use Rattle.mixer.specs.Groups.{commands_of, number_after as after, numbers_of, group_count as count_in, members, task_of as task_in, tasks_from, groups_of, places_in};
 
 use crate::conflict::conflict;
 use item_steps::{Group, Steps, Task, steps_of};
@@ -19,7 +19,7 @@ pub fn mix(alloc: Global, requests: &[Request]) -> Result<Vec<Group>, AllocError
         IsPermutation (range_with_len 0 (length requests.now)) (places_in groups.items)) }
 {
     let numbers = group_numbers(alloc, requests)?;
-    let count = count_of(&numbers);
+    let count = group_count(&numbers);
     let mut groups = Vec::with_capacity(alloc, count)?;
     for number in 0..count {
         groups.push(group_at(alloc, requests, &numbers, number)?)?;
@@ -57,7 +57,7 @@ fn number_after(earlier: &[Request], numbers: &[usize], command: &Command) -> us
 }
 
 /// How many groups there are.
-fn count_of(numbers: &[usize]) -> usize
+fn group_count(numbers: &[usize]) -> usize
     requires { All (λ n. n < length numbers.now) numbers.now }
     ensures { result ≡ count_in numbers.now }
 {

@@ -64,6 +64,7 @@ impl Reader {
     pub fn new(alloc: Global) -> Reader
         ensures kept { result.kept ≡ [] }
         ensures open { result.closed ≡ false }
+        ensures none_held { result.held ≡ 0 }
     {
         Reader {
             stage: Stage::new(alloc),

@@ -180,6 +180,7 @@ impl Stage {
     pub fn new(alloc: Global) -> Stage
         ensures stage { IsStage result }
         ensures empty { staged result ≡ [] }
+        ensures held { length result.line + length result.block ≡ 0 }
     {
         Stage {
             line: Held::new(alloc),

@@ -17,7 +17,7 @@ use Rattle.pages.proofs.PartLemmas.{joined-parts}
 use Rattle.round.specs.declared.rule.Entry.{Entry}
 use Rattle.round.specs.declared.rule.Held.{Held}
 use Rattle.round.specs.Tickets.{touches, log_of, name_of_caller, Kinds, AreLogs}
-use Rattle.round.specs.Sittings.{Sitting, Running, dealt, log_at, given_at, running_in, is_done, has_ended, are_apart, Follows, IsSitting}
+use Rattle.round.specs.Sittings.{Sitting, Running, dealt, log_at, answered_at, running_in, is_done, has_ended, are_apart, Follows, IsSitting}
 use Rattle.round.specs.Orders.{AreHistories, AreOf, RoundResult, Gathered, placed_of, answered_of}
 use Rattle.round.proofs.Keeps.{caller_touches}
 use Rattle.round.proofs.Lists.{same_element, in_filter, filter_within, list_all_at, all_at, map_same}
@@ -53,9 +53,9 @@ seated order (h ∷ hs) (s ∷ ss) are logs = (sym are.1 ∙ logs.0 ∙ ap (λ n
 complete_seat : (s : Sitting) → Follows s.tasks s.log → has_ended s ≡ true → Complete s.tasks s.log
 complete_seat s f ended = record {
   steps = λ i t at.
-      let done : leb (length t.steps) (length (given_at t.place s.log)) ≡ true = list_all_at (λ (task : Task). is_done (running_in s.log task)) s.tasks ended i t at in
-      let most = leb-true (length t.steps) (length (given_at t.place s.log)) done in
-      let same : length (given_at t.place s.log) ≡ length (log_at t.place s.log) = length-map (log_at t.place s.log) (λ (e : Entry). e.answer) in
+      let done : leb (length t.steps) (length (answered_at t.place s.log)) ≡ true = list_all_at (λ (task : Task). is_done (running_in s.log task)) s.tasks ended i t at in
+      let most = leb-true (length t.steps) (length (answered_at t.place s.log)) done in
+      let same : length (answered_at t.place s.log) ≡ length (log_at t.place s.log) = length-map (log_at t.place s.log) (λ (e : Entry). e.answer) in
       f.first i t at ∙ take_all (length (log_at t.place s.log)) t.steps (omega arith);
   no_others = f.no_others;
 }
@@ -90,11 +90,11 @@ map_callers g [] = refl
 map_callers g (s ∷ ss) = ap (λ l. g s.caller ∷ l) (map_callers g ss)
 
 -- the answers to a request, of the order and of its answers
-answers_given : (place : ℕ) (order : List Entry) → given_at place order ≡ answers_at place (map answered_of order)
+answers_given : (place : ℕ) (order : List Entry) → answered_at place order ≡ answers_at place (map answered_of order)
 answers_given place [] = refl
 answers_given place (e ∷ es) = by (e.place == place) (answers_given place es)
   where
-    by : (b : Bool) → given_at place es ≡ answers_at place (map answered_of es)
+    by : (b : Bool) → answered_at place es ≡ answers_at place (map answered_of es)
         → map (λ (x : Entry). x.answer) (cond b (e ∷ log_at place es) (log_at place es))
         ≡ map (λ (a : ℕ × Answer). a.1) (cond b ((e.place, e.answer) ∷ filter (λ (a : ℕ × Answer). a.0 == place) (map answered_of es)) (filter (λ (a : ℕ × Answer). a.0 == place) (map answered_of es)))
     by true r = ap (λ l. e.answer ∷ l) r
@@ -106,7 +106,7 @@ group_runs base m now group seats answers e = record {
   order = map placed_of e.order;
   interleaves = e.interleaves;
   items = e.items;
-  replies = e.given ∙ map_same (λ (task : Task). given_at task.place e.order) (λ (task : Task). answers_at task.place (answers_in base m (map placed_of e.order))) group
+  replies = e.given ∙ map_same (λ (task : Task). answered_at task.place e.order) (λ (task : Task). answers_at task.place (answers_in base m (map placed_of e.order))) group
       (λ i t at. answers_given t.place e.order ∙ ap (answers_at t.place) e.replies);
 }
 
@@ -211,7 +211,7 @@ module _ {base : Stamp} {opening : Items} {group : List Task} {callers : ℕ} {o
   pub replayed : Replayed base (parts opening) order now
   replayed = replays_held base opening t.histories.0 now order t.wide t.kinds t.histories.1 t.histories.2
 
-  ends : RoundResult base opening group seats (joined now) (map (λ (task : Task). given_at task.place order) group)
+  ends : RoundResult base opening group seats (joined now) (map (λ (task : Task). answered_at task.place order) group)
   ends = record {
     order = order;
     interleaves = interleaved order group (apart_from group t.apart) (complete group callers t.apart order t.kinds t.none complete_logs t.some);

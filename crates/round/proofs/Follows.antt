@@ -7,7 +7,7 @@ use mathlib.Core.Logic.{dite}
 use native.Mathlib.Decide.{ℕ_discrete}
 use Rattle.item_steps.specs.declared.group.Task.{Task}
 use Rattle.round.specs.declared.rule.Entry.{Entry}
-use Rattle.round.specs.Sittings.{Running, log_at, steps_at, given_at, running_in, next_of, Follows}
+use Rattle.round.specs.Sittings.{Running, log_at, steps_at, answered_at, running_in, next_of, Follows}
 use Rattle.round.proofs.Lists.{same_element, get_push}
 use Rattle.round.proofs.Interleaves.{Apart}
 
@@ -62,16 +62,16 @@ module _ (tasks : List Task) (apart : Apart tasks) (log : List Entry) (e : Entry
       mine : steps_at task.place (log ++ e ∷ []) ≡ take (length (log_at task.place (log ++ e ∷ []))) task.steps
       mine =
           let l = log_at task.place log in
-          let n : length (given_at task.place log) ≡ length l = length-map l (λ (x : Entry). x.answer) in
+          let n : length (answered_at task.place log) ≡ length l = length-map l (λ (x : Entry). x.answer) in
           let at : slice_get task.steps (length l) ≡ Some e.step = ap (slice_get task.steps) (sym n) ∙ next in
           let more : length (l ++ e ∷ []) ≡ length l + 1 = length-append l (e ∷ []) in
           ap (λ m. map (λ (x : Entry). x.step) m) log_more ∙ map-append (λ (x : Entry). x.step) l (e ∷ []) ∙ ap (λ m. m ++ e.step ∷ []) (f.first index task there)
           ∙ take_next task.steps (length l) e.step at ∙ ap (λ m. take m task.steps) (sym more ∙ ap length (sym log_more))
 
-  pub running_push : (after : Running) → after ≡ record { task = task; answers = given_at task.place log ++ e.answer ∷ [] } → set (map (running_in log) tasks) index after ≡ map (running_in (log ++ e ∷ [])) tasks
+  pub running_push : (after : Running) → after ≡ record { task = task; answers = answered_at task.place log ++ e.answer ∷ [] } → set (map (running_in log) tasks) index after ≡ map (running_in (log ++ e ∷ [])) tasks
   running_push after is = set_by (running_in log) (running_in (log ++ e ∷ [])) tasks index after
       (λ i t at off. ap (λ l. record { task = t; answers = map (λ (x : Entry). x.answer) l }) (sym (log_same i t at off)))
       (λ t at.
       let same : task ≡ t = same_element task t (sym there ∙ at) in
-      is ∙ subst (λ (u : Task). record { task = task; answers = given_at task.place log ++ e.answer ∷ [] } ≡ running_in (log ++ e ∷ []) u) same
+      is ∙ subst (λ (u : Task). record { task = task; answers = answered_at task.place log ++ e.answer ∷ [] } ≡ running_in (log ++ e ∷ []) u) same
       (ap (λ l. record { task = task; answers = l }) (sym (map-append (λ (x : Entry). x.answer) (log_at task.place log) (e ∷ [])) ∙ ap (λ m. map (λ (x : Entry). x.answer) m) (sym log_more))))

@@ -9,7 +9,7 @@ use Rattle.item_steps.specs.declared.step.Step.{Step}
 use Rattle.item_steps.specs.declared.step.Answer.{Answer}
 use Rattle.item_steps.specs.declared.group.Task.{Task}
 use Rattle.round.specs.declared.rule.Entry.{Entry}
-use Rattle.round.specs.Sittings.{Running, running_in, next_of, is_done, given_at, dealt, task_fits, are_apart, group_fits, fits, Follows}
+use Rattle.round.specs.Sittings.{Running, running_in, next_of, is_done, answered_at, dealt, task_fits, are_apart, group_fits, fits, Follows}
 use Rattle.round.specs.declared.open.TheConstants.{MOST_CALLERS, MOST_TASKS}
 use Rattle.round.proofs.Lists.{same_element, get_last, list_all_at}
 use Rattle.round.proofs.Interleaves.{apart_from}
@@ -64,7 +64,7 @@ made_last old new step answer next is =
 pub seat_after : (base : Stamp) (group : List Task) (callers caller : ℕ) → fits base group callers ≡ true → (running : List Running) (log : List Entry) → running ≡ map (running_in log) (dealt callers caller group)
     → Follows (dealt callers caller group) log → (index : ℕ) (task : Task) → slice_get (dealt callers caller group) index ≡ Some task
     → (e : Entry) → e.place ≡ task.place → next_of (running_in log task) ≡ Some e.step
-    → (new : Running) → new ≡ record { task = task; answers = given_at task.place log ++ e.answer ∷ [] }
+    → (new : Running) → new ≡ record { task = task; answers = answered_at task.place log ++ e.answer ∷ [] }
     → (set running index new ≡ map (running_in (log ++ e ∷ [])) (dealt callers caller group)) × Follows (dealt callers caller group) (log ++ e ∷ [])
     × (map (λ (r : Running). r.task) (set running index new) ≡ dealt callers caller group)
 seat_after base group callers caller fit running log has follows index task there e its next new is =

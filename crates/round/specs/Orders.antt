@@ -14,7 +14,7 @@ use Rattle.round.specs.declared.rule.Held.{Held}
 use Rattle.round.specs.declared.rule.View.{View}
 use Rattle.round.specs.Tickets.{log_of, name_of_caller}
 use Rattle.round.specs.Histories.{IsHistory}
-use Rattle.round.specs.Sittings.{Sitting, Running, running_in, dealt, given_at}
+use Rattle.round.specs.Sittings.{Sitting, Running, running_in, dealt, answered_at}
 
 abbrev pub placed_of : Entry → Placed
 placed_of e = (e.place, e.step)
@@ -48,11 +48,11 @@ pub record RoundResult (base : Stamp) (opening : Items) (group : List Task) (sea
   pub seated : AllByRecursion (λ s. s.log ≡ log_of (name_of_caller s.caller) order) seats
   pub items : now ≡ items_after base opening (map placed_of order)
   pub replies : map answered_of order ≡ answers_in base opening (map placed_of order)
-  pub given : answers ≡ map (λ task. given_at task.place order) group
+  pub given : answers ≡ map (λ task. answered_at task.place order) group
 
 -- What the pages and the seats of a round give once no step is left: there is one order of all steps, from which each caller's requests have
 -- their answers, and with the answers that it gives to each request the round comes to these items.
 pub record Gathered (base : Stamp) (opening : Items) (group : List Task) (callers : ℕ) (seats : List Sitting) (now : Items) (lists : List (List Running)) : Type 0 where
   pub order : List Entry
-  pub ended : RoundResult base opening group seats now (map (λ task. given_at task.place order) group)
+  pub ended : RoundResult base opening group seats now (map (λ task. answered_at task.place order) group)
   pub requests : lists ≡ map (λ caller. map (running_in order) (dealt callers caller group)) (range_with_len 0 callers)

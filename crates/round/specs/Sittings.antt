@@ -50,12 +50,12 @@ abbrev pub steps_at : ℕ → List Entry → List Step
 steps_at place log = map (λ e. e.step) (log_at place log)
 
 -- and what they answered
-abbrev pub given_at : ℕ → List Entry → List Answer
-given_at place log = map (λ e. e.answer) (log_at place log)
+abbrev pub answered_at : ℕ → List Entry → List Answer
+answered_at place log = map (λ e. e.answer) (log_at place log)
 
 -- a request as the log tells it
 abbrev pub running_in : List Entry → Task → Running
-running_in log task = record { task = task; answers = given_at task.place log }
+running_in log task = record { task = task; answers = answered_at task.place log }
 
 -- the requests of each caller, before their first step
 abbrev pub lists_of : ℕ → List Task → List (List Running)

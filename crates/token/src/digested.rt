@@ -1,4 +1,4 @@
-ghost use Rattle.std.specs.Prelude.{◌≡◌, IfNone, IfSome, IfOk, None, Some, OnOk};
+ghost use Rattle.std.specs.Prelude.{◌≡◌, [], IfNone, IfSome, IfOk, None, Some, OnOk};
 ghost use Rattle.std.specs.Arc.{arc_value};
 ghost use Rattle.wire.specs.Item.{page_text, PageFits};
 ghost use Rattle.wire.specs.Session.{sessions_text, SessionsFit};
@@ -59,6 +59,18 @@ fn kept(alloc: Global, mut text: Text) -> Result<Arc<Text, Global>, AllocError>
     Ok(Arc::new(alloc, text)?)
 }
 
+/// Room for an entry of some 30 bytes of data: longer ones make the text grow as it is written.
+const ROOM_FOR_AN_ENTRY: usize = 64;
+
+/// No bytes yet, with room for so many entries where there is memory for it.
+fn text_for(alloc: Global, entries: usize) -> Text
+    ensures { result ≡ [] }
+{
+    let mut text = Text::new(alloc);
+    let _ = text.reserve(entries.saturating_mul(ROOM_FOR_AN_ENTRY));
+    text
+}
+
 impl Digested {
     /// The text, which is kept where there is memory to share it, and its digest.
     fn of_text(alloc: Global, text: Text) -> Digested
@@ -81,7 +93,7 @@ impl Digested {
         requires { PageFits entries.now }
         ensures { IsDigested (page_text entries.now) result }
     {
-        let mut text = Text::new(alloc);
+        let mut text = text_for(alloc, entries.len());
         match put_page(entries, &mut text) {
             Ok(()) => Digested::of_text(alloc, text),
             Err(_) => Digested {
@@ -98,8 +110,7 @@ impl Digested {
         ensures digested { IsDigested (sessions_text sessions.now) result }
         ensures fit { SessionsFit sessions.now }
     {
-        let _entries = sessions.entries();
-        let mut text = Text::new(alloc);
+        let mut text = text_for(alloc, sessions.entries().len());
         match sessions.put(&mut text) {
             Ok(()) => Digested::of_text(alloc, text),
             Err(_) => Digested {

@@ -3,7 +3,7 @@ use Rattle.std.specs.Prelude.{IsTrue, not}
 use Rattle.std.proofs.lemmas.Result.{err_from_is_err_and}
 use Rattle.exec_lines.specs.Step.{is_refused, fits_a_line, IsCounted}
 use Rattle.exec_node.specs.Executor.{ExecutorView}
-use Rattle.exec_node.proofs.StepLemmas.{errors}
+use Rattle.exec_node.proofs.StepLemmas.{errors, no_error}
 use Rattle.exec_node.proofs.UnfitLemmas.{unfit_unsaved}
 use Rattle.exec_node.proofs.node.ExecNode.step_and_save.Goals as goal
 
@@ -37,7 +37,8 @@ returns-in_err-outcome-clause-only g c =
       | inr other ↦ elim other [ inl memory ↦ inl memory | inr stopped ↦ inr (inl stopped.0) ]
     ])
 
-pub returns-in_err-save-clause-fits_none : goal.returns-in_err-save-clause-fits_none
-returns-in_err-save-clause-fits_none g c unfit other =
-    absurd (unfit_unsaved c.self.inside.u c.self.inside.id c.self.inside.state c.args.input _ c.in_ok-outcome.ensures.done c.if-outcome.true
-    (subst (λ (v : ExecutorView). IsTrue (not (fits_a_line v.u v.id v.state c.args.input))) (sym c.self.view_is) unfit))
+pub returns-in_err-letters-clause-fits_none : goal.returns-in_err-letters-clause-fits_none
+returns-in_err-letters-clause-fits_none g c unfit other =
+    let unsaved = unfit_unsaved c.self.inside.u c.self.inside.id c.self.inside.state c.args.input _ c.in_ok-outcome.ensures.done
+    (subst (λ (v : ExecutorView). IsTrue (not (fits_a_line v.u v.id v.state c.args.input))) (sym c.self.view_is) unfit) in
+    absurd (no_error c.keep.result c.in_err-letters.field-0.0 c.in_err-letters.was (c.keep.ensures.unsaved unsaved))

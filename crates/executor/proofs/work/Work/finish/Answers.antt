@@ -3,7 +3,7 @@ use Rattle.std.specs.Prelude.{IsTrue, not, ◌||◌, ◌==◌}
 use Rattle.std.specs.List.{list_all}
 use Rattle.executor.specs.BatchRequest.{BatchRequest}
 use Rattle.executor.specs.Ends.{MovesOn}
-use Rattle.executor.specs.Work.{WorkView, IsNext, is_complete, is_group_done}
+use Rattle.executor.specs.Work.{WorkView, IsNextGroup, is_complete, is_group_done}
 use Rattle.executor.proofs.work.Work.finish.Goals as goal
 
 pub returns-in_ok-complete-in-None-clause-goes : goal.returns-in_ok-complete-in-None-clause-goes
@@ -26,6 +26,6 @@ returns-in-Some-clause-goes c =
     let whole : is_group_done c.args.self.progress ≡ true = subst (λ (v : WorkView). IsTrue (is_group_done v.progress)) c.self.view_is done in
     let group : c.moved_to.result.progress.group ≡ c.in-Some.group = ap (λ (v : WorkView). v.progress.group) c.moved_to.ensures.moved in
     subst (λ b. MovesOn b c.args.self c.moved_to.result) (sym whole) (
-      subst (λ (g : ℕ). IsNext c.args.self.progress.running (Some c.args.self.progress.group) g) (sym group) c.in-Some.ensures.some,
+      subst (λ (g : ℕ). IsNextGroup c.args.self.progress.running (Some c.args.self.progress.group) g) (sym group) c.in-Some.ensures.some,
       c.moved_to.ensures.moved ∙ ap (λ (g : ℕ). record c.args.self { progress = record { items = c.args.self.progress.items; running = c.args.self.progress.running; group = g } }) (sym group),
     )

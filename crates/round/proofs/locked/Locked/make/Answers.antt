@@ -8,7 +8,7 @@ use Rattle.pages.specs.Step.{step_page}
 use Rattle.round.specs.declared.rule.Entry.{Entry}
 use Rattle.round.specs.Tickets.{view_log, name_of_caller}
 use Rattle.round.specs.Histories.{IsHistory}
-use Rattle.round.specs.Sittings.{Running, Sitting, running_in, next_of, is_done, given_at, dealt, task_fits, Follows}
+use Rattle.round.specs.Sittings.{Running, Sitting, running_in, next_of, is_done, answered_at, dealt, task_fits, Follows}
 use Rattle.round.proofs.Lists.{same_element}
 use Rattle.round.proofs.Histories.{history_push}
 use Rattle.round.proofs.Seats.{running_has, running_at}
@@ -86,7 +86,7 @@ invariant_of-seat-2 g c =
     let next = ap (λ l. next_of (running_in l h.0)) is_log ∙ h.3 ∙ ap (λ x. Some x) (sym step) in
     let task_is = ap (λ (r : Running). r.task) same in
     let answer = last.2 c.last.result.1.now c.last.ensures.answer in
-    let new = ok.3 ∙ (λ k. record { task = task_is k; answers = (ap (λ (r : Running). r.answers) same ∙ ap (λ l. given_at h.0.place l) (sym is_log)) k ++ sym answer k ∷ [] }) in
+    let new = ok.3 ∙ (λ k. record { task = task_is k; answers = (ap (λ (r : Running). r.answers) same ∙ ap (λ l. answered_at h.0.place l) (sym is_log)) k ++ sym answer k ∷ [] }) in
     let after = seat_after g.J.Room.base g.J.Room.group g.J.Room.callers s.inside.caller c.requires.fit s.inside.running.items log s.invariant.has s.invariant.follows c.args.index h.0 there e place next c.make.new.self new in
     let grown = sym (ap (λ m. view_log m.0) c.draw.ensures.caller) in
     record {
@@ -117,7 +117,7 @@ returns-clause-made g c = λ task at.
     let next = ap (λ l. next_of (running_in l h.0)) is_log ∙ h.3 ∙ ap (λ x. Some x) (sym step) in
     let task_is = ap (λ (r : Running). r.task) same in
     let answer = last.2 c.last.result.1.now c.last.ensures.answer in
-    let new = ok.3 ∙ (λ k. record { task = task_is k; answers = (ap (λ (r : Running). r.answers) same ∙ ap (λ l. given_at h.0.place l) (sym is_log)) k ++ sym answer k ∷ [] }) in
+    let new = ok.3 ∙ (λ k. record { task = task_is k; answers = (ap (λ (r : Running). r.answers) same ∙ ap (λ l. answered_at h.0.place l) (sym is_log)) k ++ sym answer k ∷ [] }) in
     let after = seat_after g.J.Room.base g.J.Room.group g.J.Room.callers s.inside.caller c.requires.fit s.inside.running.items log s.invariant.has s.invariant.follows c.args.index h.0 there e place next c.make.new.self new in
     let grown = sym (ap (λ m. view_log m.0) c.draw.ensures.caller) in
     let mine : h.0 ≡ task = same_element h.0 task (sym h.2 ∙ at) in

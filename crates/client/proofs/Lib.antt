@@ -1,0 +1,4 @@
+pub mod TalkLemmas
+pub mod RequestLemmas
+pub mod TakenLemmas
+pub mod LawLemmas
