@@ -1,5 +1,5 @@
 //! Each line of the table through `ExecNode::handle`, and a restart, where memory may be refused:
-//! where a growth is refused the executor is stopped and has its old record. `NoMemory` ends a row that was
+//! where a growth is, the executor is stopped and has its old record. `NoMemory` ends a row that was
 //! refused some, and `NotOpen` one in which something else does not hold.
 
 use crate::adopting::made;
