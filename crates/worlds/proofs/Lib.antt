@@ -1,0 +1,7 @@
+pub mod Places
+pub mod OwnLetters
+pub mod BallotLemmas
+pub mod Follows
+pub mod Restarts
+pub mod Projected
+pub mod Proved

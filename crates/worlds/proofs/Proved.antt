@@ -1,0 +1,102 @@
+-- The laws of reached worlds, from those of reached machines.
+use Rattle.std.proofs.Common.{◌≡◌, ℕ, Bool, true, false, List, [], ◌∷◌, ◌++◌, Some, refl, sym, ap, ◌∙◌, subst, slice_get, option_and_then, arith}
+use Rattle.std.specs.Prelude.{not, IsTrue, ◌↔◌}
+use Rattle.decrees.specs.declared.decree.Decree.{Decree}
+use Rattle.decrees.specs.declared.ballot.Ballot.{Ballot}
+use Rattle.decrees.specs.declared.node.Letter.{Letter}
+use Rattle.decrees.specs.Standing.{decree_at}
+use Rattle.verifier.specs.State.{VerifierState}
+use Rattle.verifier.specs.Record.{record_text}
+use Rattle.verifier.specs.Verifier.{VerifierView}
+use Rattle.agreement.specs.Letters.{Chosen, Backed}
+use Rattle.agreement.specs.Machine as machine
+use Rattle.agreement.specs.Machine.{reached, letters_of}
+use Rattle.agreement.specs.ChosenList.{chosen}
+use Rattle.agreement.specs.Laws.{recorded}
+use Rattle.agreement.proofs.Proved.{at_most_one, all_backed, all_kept, list_is_chosen, list_grows}
+use Rattle.worlds.specs.declared.event.Event.{Event}
+use Rattle.worlds.specs.declared.slot.Slot.{Slot}
+use Rattle.worlds.specs.declared.slot.Slot.TheVariants.{Up, Down, Gone}
+use Rattle.worlds.specs.Config.{ConfigView}
+use Rattle.worlds.specs.World.{WorldView, ReachedWorlds, EndsWith}
+use Rattle.worlds.specs.Machines.{IsSameVerifier, IsOfMachine, HaveMachines}
+use Rattle.worlds.specs.Laws.{IsReached, OneIsChosenInWorlds, ChosenIsBackedInWorlds, verifier_record, is_gone, ChosenIsKeptInWorlds, chosen_list, ListIsChosenInWorlds, ListsGrow, ListGrowsInWorlds}
+use Rattle.worlds.proofs.Places.{get_within}
+use Rattle.worlds.proofs.Projected.{are_of_machines, last_has_machine}
+
+-- the world is of a reached machine
+abbrev HasMachine : WorldView → Type 0
+HasMachine w = (events : List machine.Event) × IsOfMachine w.u w (reached w.u events)
+
+has_machine : (c : ConfigView) (worlds : List WorldView) (w : WorldView) (events : List Event) → ReachedWorlds c events worlds → EndsWith worlds w → HasMachine w
+has_machine c [] w events r ends = absurd r
+has_machine c (first ∷ later) w events r ends =
+    let all = are_of_machines c events (first ∷ later) r in
+    let last = last_has_machine all.0 first later all.1 all.2 in
+    let here : IsOfMachine c.u w (reached c.u last.0) = subst (λ (y : WorldView). IsOfMachine c.u y (reached c.u last.0)) ends last.1 in
+    (last.0, subst (λ (u : ℕ). IsOfMachine u w (reached u last.0)) (sym here.same_u) here)
+
+machine_of : (c : ConfigView) (events : List Event) (w : WorldView) → IsReached c events w → HasMachine w
+machine_of c events w r = has_machine c r.worlds w events r.reached r.ends
+
+pub one_is_chosen : OneIsChosenInWorlds
+one_is_chosen c events w r place a b ca cb =
+    let m = machine_of c events w r in
+    at_most_one w.u m.0 place a b
+    (subst (λ (ls : List (Letter Ballot)). Chosen w.u ls place a) m.1.letters ca)
+    (subst (λ (ls : List (Letter Ballot)). Chosen w.u ls place b) m.1.letters cb)
+
+pub chosen_is_backed : ChosenIsBackedInWorlds
+chosen_is_backed c events w r place d chosen =
+    let m = machine_of c events w r in
+    subst (λ (ls : List (Letter Ballot)). Backed w.u ls place d) (sym m.1.letters) (all_backed w.u m.0 place d (subst (λ (ls : List (Letter Ballot)). Chosen w.u ls place d) m.1.letters chosen))
+
+-- a record of the machine is that of the slot
+same_record : (u id : ℕ) (saved : VerifierState) (mine : machine.Slot) (slot : Slot VerifierView) → IsSameVerifier u id mine slot → recorded mine ≡ Some saved → verifier_record slot ≡ Some (record_text u id saved)
+same_record u id saved machine.New (Up v) same e = absurd same
+same_record u id saved machine.New (Down kept) same e = absurd (cc e)
+same_record u id saved machine.New (Gone kept) same e = absurd (cc e)
+same_record u id saved (machine.Up s x) (Up v) same e = let is : x ≡ saved = cc in ap (λ (y : VerifierView). y.saved) same ∙ ap (λ (y : VerifierState). Some (record_text u id y)) is
+same_record u id saved (machine.Up s x) (Down kept) same e = absurd same
+same_record u id saved (machine.Up s x) (Gone kept) same e = absurd same
+same_record u id saved (machine.Stopped x) (Up v) same e = absurd same
+same_record u id saved (machine.Stopped x) (Down kept) same e = let is : x ≡ saved = cc in same ∙ ap (λ (y : VerifierState). Some (record_text u id y)) is
+same_record u id saved (machine.Stopped x) (Gone kept) same e = let is : x ≡ saved = cc in same ∙ ap (λ (y : VerifierState). Some (record_text u id y)) is
+
+is_false : (b : Bool) → IsTrue (not b) → b ≡ false
+is_false true h = absurd (cc h)
+is_false false h = refl
+
+pub chosen_is_kept : ChosenIsKeptInWorlds
+chosen_is_kept c events w r few place d chosen =
+    let m = machine_of c events w r in
+    let kept = all_kept w.u m.0 (λ id. is_gone (slice_get w.verifiers id)) place d few (subst (λ (ls : List (Letter Ballot)). Chosen w.u ls place d) m.1.letters chosen) in
+    let at = get_within w.verifiers kept.verifier (let within = kept.is_member in let count = m.1.count in omega (arith, within, count)) in
+    let mine = m.1.verifiers kept.verifier at.0 at.1 in
+    record {
+      verifier = kept.verifier;
+      slot = at.0;
+      there = at.1;
+      not_lost = ap is_gone (sym at.1) ∙ is_false (is_gone (slice_get w.verifiers kept.verifier)) kept.not_lost;
+      saved = kept.saved;
+      record_is = same_record w.u kept.verifier kept.saved mine.0 at.0 mine.2 (sym (ap (option_and_then recorded) mine.1) ∙ kept.has_record);
+      holds = kept.holds;
+    }
+
+pub list_is_what_is_chosen : ListIsChosenInWorlds
+list_is_what_is_chosen c events w place d r =
+    let m = machine_of c events w r in
+    subst (λ (ls : List (Letter Ballot)). (decree_at (chosen w.u ls) place ≡ Some d) ↔ Chosen w.u ls place d) (sym m.1.letters) (list_is_chosen w.u m.0 place d)
+
+lists_grow : (u : ℕ) (before : List machine.Event) (w : WorldView) (ws : List WorldView) → IsOfMachine u w (reached u before) → HaveMachines u before ws → ListsGrow w ws
+lists_grow u before w [] is h = tt
+lists_grow u before w (x ∷ ws) is h =
+    let g = list_grows u before h.0 in
+    let now : chosen_list x ≡ chosen u (letters_of u (before ++ h.0)) = λ i. chosen (h.1.same_u i) (h.1.letters i) in
+    let old : chosen_list w ≡ chosen u (letters_of u before) = λ i. chosen (is.same_u i) (is.letters i) in
+    ((g.0, now ∙ (g.1 ∙ ap (λ (ds : List Decree). ds ++ g.0) (sym old))), lists_grow u (before ++ h.0) x ws h.1 h.2)
+
+pub list_only_grows : ListGrowsInWorlds
+list_only_grows c events first later r =
+    let all = are_of_machines c events (first ∷ later) r in
+    lists_grow c.u all.0 first later all.1 all.2

@@ -1,0 +1,94 @@
+-- What holds of every world that is reached.
+use Rattle.std.specs.Prelude.{◌≡◌, ℕ, ◌≤◌, ◌↔◌, Bool, true, false, List, [], ◌∷◌, ◌++◌, Option, None, Some, slice_get}
+use Rattle.decrees.specs.declared.decree.Decree.{Decree}
+use Rattle.decrees.specs.Count.{count_below, member_count}
+use Rattle.decrees.specs.Standing.{decree_at}
+use Rattle.verifier.specs.State.{VerifierState}
+use Rattle.verifier.specs.Record.{record_text}
+use Rattle.verifier.specs.Verifier.{VerifierView}
+use Rattle.agreement.specs.Letters.{Chosen, Backed}
+use Rattle.agreement.specs.ChosenList.{chosen}
+use Rattle.agreement.specs.Laws.{Holds}
+use Rattle.worlds.specs.declared.event.Event.{Event}
+use Rattle.worlds.specs.declared.slot.Slot.{Slot}
+use Rattle.worlds.specs.declared.slot.Slot.TheVariants.{Up, Down, Gone}
+use Rattle.worlds.specs.Config.{ConfigView}
+use Rattle.worlds.specs.World.{WorldView, ReachedWorlds, EndsWith}
+use Rattle.worlds.specs.Ballots.{ballots}
+use Rattle.worlds.specs.Machines.{HaveMachines}
+
+-- each reached world is of a reached machine, and the next world of one that comes of that
+abbrev pub WorldsAreOfMachines : Type 0
+WorldsAreOfMachines = (c : ConfigView) (events : List Event) (worlds : List WorldView) → ReachedWorlds c events worlds → HaveMachines c.u [] worlds
+
+-- the world is the last one that these events lead to
+pub record IsReached (c : ConfigView) (events : List Event) (w : WorldView) : Type 0 where
+  pub worlds : List WorldView
+  pub reached : ReachedWorlds c events worlds
+  pub ends : EndsWith worlds w
+
+-- the decree is chosen at the place, by the letters of this world
+abbrev pub ChosenInWorld : WorldView → ℕ → Decree → Type 0
+ChosenInWorld w place d = Chosen w.u (ballots w.letters) place d
+
+-- two decrees that are chosen at one place are the same
+abbrev pub OneIsChosen : WorldView → Type 0
+OneIsChosen w = (place : ℕ) (a b : Decree) → ChosenInWorld w place a → ChosenInWorld w place b → a ≡ b
+
+-- each chosen decree is backed
+abbrev pub ChosenIsBacked : WorldView → Type 0
+ChosenIsBacked w = (place : ℕ) (d : Decree) → ChosenInWorld w place d → Backed w.u (ballots w.letters) place d
+
+-- what the keeper of a verifier has
+abbrev pub verifier_record : Slot VerifierView → Option (List ℕ)
+verifier_record (Up v) = v.saved
+verifier_record (Down kept) = kept.saved
+verifier_record (Gone kept) = kept.saved
+
+abbrev pub is_gone : {N : Type 0} → Option (Slot N) → Bool
+is_gone None = false
+is_gone (Some (Up n)) = false
+is_gone (Some (Down kept)) = false
+is_gone (Some (Gone kept)) = true
+
+-- how many verifiers are lost for good
+abbrev pub lost_verifiers : WorldView → ℕ
+lost_verifiers w = count_below (λ id. is_gone (slice_get w.verifiers id)) (member_count w.u)
+
+-- a verifier that is not lost has a record that holds the decree, in its log or as what it has accepted
+pub record VerifierKeeps (w : WorldView) (place : ℕ) (d : Decree) : Type 0 where
+  pub verifier : ℕ
+  pub slot : Slot VerifierView
+  pub there : slice_get w.verifiers verifier ≡ Some slot
+  pub not_lost : is_gone (Some slot) ≡ false
+  pub saved : VerifierState
+  pub record_is : verifier_record slot ≡ Some (record_text w.u verifier saved)
+  pub holds : Holds saved place d
+
+-- where at most u verifiers are lost, another one keeps each chosen decree
+abbrev pub ChosenIsKept : WorldView → Type 0
+ChosenIsKept w = lost_verifiers w ≤ w.u → (place : ℕ) (d : Decree) → ChosenInWorld w place d → VerifierKeeps w place d
+
+abbrev pub OneIsChosenInWorlds : Type 0
+OneIsChosenInWorlds = (c : ConfigView) (events : List Event) (w : WorldView) → IsReached c events w → OneIsChosen w
+
+abbrev pub ChosenIsBackedInWorlds : Type 0
+ChosenIsBackedInWorlds = (c : ConfigView) (events : List Event) (w : WorldView) → IsReached c events w → ChosenIsBacked w
+
+abbrev pub ChosenIsKeptInWorlds : Type 0
+ChosenIsKeptInWorlds = (c : ConfigView) (events : List Event) (w : WorldView) → IsReached c events w → ChosenIsKept w
+
+-- the chosen decrees, from place 1 on
+abbrev pub chosen_list : WorldView → List Decree
+chosen_list w = chosen w.u (ballots w.letters)
+
+abbrev pub ListIsChosenInWorlds : Type 0
+ListIsChosenInWorlds = (c : ConfigView) (events : List Event) (w : WorldView) (place : ℕ) (d : Decree) → IsReached c events w → (decree_at (chosen_list w) place ≡ Some d) ↔ ChosenInWorld w place d
+
+-- in each of these worlds, one after another, the list begins with that of the world before
+abbrev pub ListsGrow : WorldView → List WorldView → Type 0
+ListsGrow w [] = Unit {0}
+ListsGrow w (x ∷ xs) = ((new : List Decree) × (chosen_list x ≡ chosen_list w ++ new)) × ListsGrow x xs
+
+abbrev pub ListGrowsInWorlds : Type 0
+ListGrowsInWorlds = (c : ConfigView) (events : List Event) (first : WorldView) (later : List WorldView) → ReachedWorlds c events (first ∷ later) → ListsGrow first later

@@ -1,0 +1,6 @@
+pub mod Config
+pub mod Slots
+pub mod World
+pub mod Ballots
+pub mod Machines
+pub mod Laws
