@@ -1,0 +1,38 @@
+//! Each line where memory may be refused: where a growth of `handle` is, it is `NoMemory`, and the
+//! client's part is stopped and gives nothing more. A row ends at the first one that was refused.
+
+use crate::handed::Handed::{Again, Deleted, Feed, Found, Hangup, Stored};
+use crate::seen::{Row, closes};
+use proto::Fault;
+use std::alloc::Global;
+use std::test::Fail;
+
+fn each_line(alloc: Global) -> Result<(), Fault> {
+    let rows: &[Row] = &[
+        (Feed(b"frob\r\nset a 0 0 1\r\n5"), b"ERROR\r\n", b""),
+        (
+            Feed(b"\r\nget a\r\ndelete a noreply\r\n"),
+            b"",
+            b"1 set a 5",
+        ),
+        (Again, b"", b"1 set a 5"),
+        (Stored(1), b"STORED\r\n", b"2 get a"),
+        (Found(2), b"VALUE a 0 1\r\n5\r\nEND\r\n", b"3 delete a"),
+        (Deleted(3), b"", b""),
+        (Hangup, b"", b""),
+    ];
+    closes(alloc, rows)
+}
+
+#[test]
+fn each_line_answers_with_ample_memory(rt: HostRuntime) -> Result<(), Fail> {
+    assert!(rt; each_line(rt.alloc()) == Ok(()));
+    Ok(())
+}
+
+#[test]
+fn a_refused_growth_stops_it(rt: HostRuntime) -> Result<(), Fail> {
+    let row = each_line(rt.alloc());
+    assert!(rt; row == Ok(()) || row == Err(Fault::NoMemory));
+    Ok(())
+}
