@@ -4,7 +4,10 @@ use Rattle.std.specs.Int.{w8, w64}
 use Rattle.wire.specs.Number.{num}
 use Rattle.token.specs.Token.{token_bytes}
 use Rattle.decrees.specs.declared.standing.Standing.{Standing}
-use Rattle.rollback.specs.Chain.{chain_text}
+use Rattle.states.specs.declared.version.Version.{Version}
+use Rattle.states.specs.declared.version.Version.TheVariants.{Second}
+use Rattle.states.specs.Version.{version_mark}
+use Rattle.rollback.specs.Chain.{chain_text_in}
 use Rattle.exec_lines.specs.State.{ExecutorState}
 
 -- what the decrees stand for
@@ -12,5 +15,9 @@ abbrev pub standing_text : Standing → List ℕ
 standing_text st = ((num w64 st.n ++ token_bytes st.token) ++ num w64 st.epoch) ++ num w64 st.start
 
 -- the version and the kind, the executor's number and how many may fail, and what is saved of its state
+abbrev pub executor_text_in : Version → ℕ → ℕ → ExecutorState → List ℕ
+executor_text_in version u id s = version_mark version ∷ 69 ∷ ((((num w8 id ++ num w8 u) ++ num w64 s.known) ++ standing_text s.standing) ++ chain_text_in version s.chain)
+
+-- what is written
 abbrev pub executor_text : ℕ → ℕ → ExecutorState → List ℕ
-executor_text u id s = 2 ∷ 69 ∷ ((((num w8 id ++ num w8 u) ++ num w64 s.known) ++ standing_text s.standing) ++ chain_text s.chain)
+executor_text u id s = executor_text_in Second u id s

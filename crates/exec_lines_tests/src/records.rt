@@ -7,6 +7,7 @@ use exec_lines::State;
 use executor::Committed;
 use proto::Fault;
 use rollback::Chain;
+use states::Version;
 use std::alloc::{AllocError, Global};
 use std::test::Fail;
 use token::Token;
@@ -35,7 +36,7 @@ fn kept_chain(alloc: Global, state: &State) -> Result<Chain, Fault> {
     let record = record(alloc, state, LEADER)?;
     match record.get(68..) {
         Some(text) => {
-            let (chain, _) = Chain::take(alloc, text)?;
+            let (chain, _) = Chain::take(alloc, Version::Second, text)?;
             Ok(chain)
         }
         None => Err(Fault::BadRecord),

@@ -4,6 +4,8 @@ use Rattle.std.specs.Coded.{Coded, code_by, coded×, coded_ℕ, coded_bool, code
 use Rattle.base.specs.declared.fault.Fault.{Fault}
 use Rattle.wire.specs.Record.{Refused}
 use Rattle.decrees.specs.declared.node.Letter.{Letter}
+use Rattle.states.specs.declared.version.Version.{Version}
+use Rattle.states.specs.declared.version.Version.TheVariants.{First}
 use Rattle.exec_lines.specs.declared.body.Body.{Body}
 use Rattle.exec_lines.specs.declared.input.Input.{Input}
 use Rattle.exec_lines.specs.State.{ExecutorState, ExecutorOutcome, new_executor}
@@ -11,7 +13,7 @@ use Rattle.exec_lines.specs.Lines.{resumed}
 use Rattle.exec_lines.specs.Step.{executor_step, IsCounted}
 use Rattle.exec_lines.specs.Job.{JobView, RunsJob}
 use Rattle.exec_lines.specs.Record.{executor_text}
-use Rattle.exec_node.specs.Record.{IsExecutorRecord}
+use Rattle.exec_node.specs.Record.{IsExecutorRecordIn, IsReadRecord}
 
 pub record ExecutorView : Type 0 where
   pub id : ℕ
@@ -41,30 +43,35 @@ executor_handled e input = record e { state = (executor_outcome e input).state; 
 abbrev pub IsExecutorAtLimit : ExecutorView → Input → Type 0
 IsExecutorAtLimit e input = IsCounted e.state ⊎ (IsTrue (executor_outcome e input).saves × (e.failures ≡ 2 ^ 64 - 1))
 
--- an executor that was opened: new, or with the state of its record
+-- an executor that was opened: new, or with the state of its record, which is saved as it is written today
 abbrev pub OpensExecutor : ℕ → ℕ → Option (List ℕ) → ℕ → Bool → ExecutorView → List (Letter Body) → Type 0
 OpensExecutor u id None failures told e letters =
     (e ≡ record { id = id; u = u; state = new_executor; up = true; saved = Some (executor_text u id new_executor); failures = failures; told = told }) × (letters ≡ [])
 OpensExecutor u id (Some bytes) failures told e letters =
-    (e ≡ record { id = id; u = u; state = e.state; up = true; saved = Some bytes; failures = failures; told = told }) × IsExecutorRecord u id bytes e.state × (letters ≡ (resumed u id e.state).letters)
+    (e ≡ record { id = id; u = u; state = e.state; up = true; saved = Some (executor_text u id e.state); failures = failures; told = told }) × IsReadRecord u id bytes e.state × (letters ≡ (resumed u id e.state).letters)
 
 -- there is a record, and it is not one of this executor
 abbrev pub IsNoExecutorRecord : ℕ → ℕ → Option (List ℕ) → Type 0
 IsNoExecutorRecord u id None = ⊥
-IsNoExecutorRecord u id (Some bytes) = (s : ExecutorState) → IsExecutorRecord u id bytes s → ⊥
+IsNoExecutorRecord u id (Some bytes) = (s : ExecutorState) → IsReadRecord u id bytes s → ⊥
 
 -- there is a record of this executor, and by it no more decrees can be counted
 abbrev pub IsCountedRecord : ℕ → ℕ → Option (List ℕ) → Type 0
 IsCountedRecord u id None = ⊥
-IsCountedRecord u id (Some bytes) = (s : ExecutorState) × IsExecutorRecord u id bytes s × (s.known ≡ 2 ^ 64 - 1)
+IsCountedRecord u id (Some bytes) = (s : ExecutorState) × IsReadRecord u id bytes s × (s.known ≡ 2 ^ 64 - 1)
+
+-- there is no record, or one of version 1: what goes on from it is saved first
+abbrev pub IsToBeSaved : ℕ → ℕ → Option (List ℕ) → Type 0
+IsToBeSaved u id None = Unit {0}
+IsToBeSaved u id (Some bytes) = (s : ExecutorState) × IsExecutorRecordIn First u id bytes s
 
 -- what a keeper's record gives
-abbrev pub StoredExecutor : ℕ → ℕ → Option (List ℕ) → Option (Result ExecutorState Fault) → Type 0
+abbrev pub StoredExecutor : ℕ → ℕ → Option (List ℕ) → Option (Result (Version × ExecutorState) Fault) → Type 0
 StoredExecutor u id None None = Unit {0}
 StoredExecutor u id None (Some r) = ⊥
 StoredExecutor u id (Some bytes) None = ⊥
-StoredExecutor u id (Some bytes) (Some (Ok s)) = IsExecutorRecord u id bytes s
-StoredExecutor u id (Some bytes) (Some (Err fault)) = Refused fault ((s : ExecutorState) → IsExecutorRecord u id bytes s → ⊥)
+StoredExecutor u id (Some bytes) (Some (Ok p)) = IsExecutorRecordIn p.0 u id bytes p.1
+StoredExecutor u id (Some bytes) (Some (Err fault)) = Refused fault ((s : ExecutorState) → IsReadRecord u id bytes s → ⊥)
 
 -- an executor is identified by what it keeps
 abbrev pub executor_view_code : Coded ExecutorState → Coded ExecutorView

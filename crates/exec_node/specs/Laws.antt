@@ -14,7 +14,7 @@ use Rattle.exec_lines.specs.State.{ExecutorState, IsExecutor, unchanged, after_c
 use Rattle.exec_lines.specs.Step.{executor_step, fits_a_line}
 use Rattle.exec_lines.specs.Record.{executor_text}
 use Rattle.exec_lines.specs.Job.{job_of}
-use Rattle.exec_node.specs.Record.{IsExecutorRecord}
+use Rattle.exec_node.specs.Record.{IsExecutorRecord, IsReadRecord}
 use Rattle.exec_node.specs.Executor.{ExecutorView, executor_handled, executor_outcome, RanJob}
 
 -- an input that fits no line changes nothing, and is not answered
@@ -29,9 +29,13 @@ UnsavedExecutorStays = (u id : ℕ) (s : ExecutorState) (input : Input) → (exe
 abbrev pub SavedIsExecutorRecord : Type 0
 SavedIsExecutorRecord = (u id : ℕ) (s : ExecutorState) → 1 ≤ s.standing.epoch → IsRecorded s.chain → IsExecutorRecord u id (executor_text u id s) (after_crash s)
 
--- and nothing else
+-- and nothing else, in whichever version it is read
 abbrev pub OneExecutorState : Type 0
-OneExecutorState = (u id : ℕ) (bytes : List ℕ) (s t : ExecutorState) → IsExecutorRecord u id bytes s → IsExecutorRecord u id bytes t → s ≡ t
+OneExecutorState = (u id : ℕ) (bytes : List ℕ) (s t : ExecutorState) → IsReadRecord u id bytes s → IsReadRecord u id bytes t → s ≡ t
+
+-- what a record that is read gives can be written, and is read again
+abbrev pub OldRecordsAreRenewed : Type 0
+OldRecordsAreRenewed = (u id : ℕ) (bytes : List ℕ) (s : ExecutorState) → IsReadRecord u id bytes s → IsExecutorRecord u id (executor_text u id s) s
 
 -- a tentative state is handed in
 abbrev pub hands_in : Input → Bool

@@ -1,5 +1,6 @@
 ghost use Rattle.std.specs.Prelude.{◌≡◌, ◌*◌, ◌-◌, ◌^◌, ◌<◌, ◌≤◌, ◌⊎◌, Some, None, IfOk, IfErr, IsOk, OnErr, OnOk, Err, IsErr, IsTrue, not, true, []};
 ghost use Rattle.exec_lines.specs.Record.{executor_text};
+ghost use Rattle.exec_lines.specs.Lines.{resumed};
 ghost use Rattle.exec_node.specs.Executor.{StoredExecutor};
 
 use crate::record::read_back;
@@ -8,14 +9,20 @@ use exec_lines::{Body, Input, Job, Outcome, State};
 use keeper::{Keeper, save_record};
 use proto::Fault;
 use round::Gate;
+use states::Version;
 use std::alloc::Global;
 use std::marker::Model;
 use std::sync::Wait;
 use std::thread::Threads;
 use workers::Workers;
 
-/// What the keeper's record gives, if it has one.
-fn stored<K: Keeper>(alloc: Global, u: u8, id: u8, keeper: &K) -> Option<Result<State, Fault>>
+/// What the keeper's record gives, if it has one, and in which version it is.
+fn stored<K: Keeper>(
+    alloc: Global,
+    u: u8,
+    id: u8,
+    keeper: &K,
+) -> Option<Result<(Version, State), Fault>>
     ensures { StoredExecutor u id (K.saved keeper.now) result }
 {
     match keeper.load() {
@@ -38,6 +45,32 @@ fn save<K: Keeper>(alloc: Global, u: u8, id: u8, state: &State, keeper: &mut K) 
 {
     let record = state.record(alloc, u, id)?;
     save_record(record, keeper)
+}
+
+/// The letters of an executor that goes on from a record of version 1, whose state is saved as a record
+/// of today before they are given.
+fn renewed<K: Keeper>(
+    alloc: Global,
+    u: u8,
+    id: u8,
+    state: &State,
+    keeper: &mut K,
+) -> Result<Vec<Letter<Body>>, Fault>
+    requires { u < 4 }
+    ensures letters { IfOk result (λ letters. letters.items ≡ (resumed u id state.now).letters) }
+    ensures saved { OnOk result (K.saved keeper.new ≡ Some (executor_text u id state.now)) }
+    ensures none_failed { OnOk result (K.failed keeper.new ≡ K.failed keeper.old) }
+    ensures same_word { OnOk result (K.told keeper.new ≡ K.told keeper.old) }
+    ensures as_told { IsTrue (K.told keeper.old) → IsErr result }
+    ensures old { OnErr result (K.saved keeper.new ≡ K.saved keeper.old) }
+    ensures no_memory { result ≡ Err Fault.NoMemory → K.failed keeper.new ≡ K.failed keeper.old }
+    ensures stopped { result ≡ Err Fault.Stopped → ((K.failed keeper.old < K.failed keeper.new) ⊎ (K.failed keeper.old ≡ 2 ^ 64 - 1)) ⊎ (state.now.known ≡ 2 ^ 64 - 1) }
+    ensures only { IfErr result (λ fault. (fault ≡ Fault.NoMemory) ⊎ (fault ≡ Fault.Stopped)) }
+    ensures counted { K.failed keeper.old ≤ K.failed keeper.new }
+{
+    let letters = state.resumed(alloc, u, id)?;
+    save(alloc, u, id, state, keeper)?;
+    Ok(letters)
 }
 
 /// An executor. It cannot be dropped, since its chain cannot: it is ended by `end`, which gives its
@@ -68,18 +101,20 @@ impl<K: Keeper> ExecNode<K> {
     ghost use Rattle.std.specs.Prelude.{◌≡◌, ◌*◌, ◌-◌, ◌^◌, ◌<◌, ◌≤◌, ◌⊎◌, Some, None, IfOk, IfErr, IsOk, IsSome, OnErr, OnOk, Ok, Err, IsErr, IsTrue, MatchOption, not, true, false, []};
     ghost use Rattle.std.specs.Borrow.{sem};
     ghost use Rattle.exec_lines.specs.Step.{fits_a_line, is_refused};
-    ghost use Rattle.exec_node.specs.Executor.{StoredExecutor, OpensExecutor, IsNoExecutorRecord, IsCountedRecord, executor_handled, executor_outcome, executor_record_after, IsExecutorAtLimit, RanJob};
+    ghost use Rattle.states.specs.declared.version.Version.TheVariants.{First, Second};
+    ghost use Rattle.exec_node.specs.Executor.{StoredExecutor, OpensExecutor, IsNoExecutorRecord, IsCountedRecord, IsToBeSaved, executor_handled, executor_outcome, executor_record_after, IsExecutorAtLimit, RanJob};
     ghost use Rattle.exec_lines.specs.Job.{job_of};
     ghost use Rattle.exec_node.specs.Lent.{LendsExecutorKeeper};
 
     /// Opens the executor `id` of `2u + 1`. Where the keeper has no record it is new, and its first
-    /// record is saved. Else it goes on from its record, which it leaves as it is: it tells the tokens
-    /// of its tentative states, and asks the others for what it does not know.
+    /// record is saved. Else it goes on from its record: it tells the tokens of its tentative states, and
+    /// asks the others for what it does not know. A record of today is left as it is; one of version 1,
+    /// whose states keep their tokens, is saved as one of today before any letter is given.
     ///
-    /// BadRecord: the record is not one of this executor. Stopped: there was no record, and the first
-    /// save failed, or its failure could not be counted; or by its record it knows 2^64 - 1 decrees.
-    /// NoMemory: an allocation failed, and no save failed. A refused call hands the keeper back with
-    /// the record as before; one that had a record is handed back untouched.
+    /// BadRecord: the record is not one of this executor. Stopped: there was no record, or one of
+    /// version 1, and its save failed, or that failure could not be counted; or by its record it knows
+    /// 2^64 - 1 decrees. NoMemory: an allocation failed, and no save failed. A refused call hands the
+    /// keeper back with the record as before; one that had a record of today is handed back untouched.
     pub fn open(
         alloc: Global,
         u: u8,
@@ -89,18 +124,19 @@ impl<K: Keeper> ExecNode<K> {
         requires few { u < 4 }
         requires member { id ≤ 2 * u }
         ensures opened { IfOk result (λ opened. OpensExecutor u id (K.saved keeper) (K.failed keeper) (K.told keeper) opened.0 opened.1.items) }
-        ensures as_told { K.saved keeper ≡ None → IsTrue (K.told keeper) → IsErr result }
+        ensures as_told { IsToBeSaved u id (K.saved keeper) → IsTrue (K.told keeper) → IsErr result }
         ensures unreadable { IfErr result (λ refused. refused.0 ≡ Fault.BadRecord → IsNoExecutorRecord u id (K.saved keeper)) }
-        ensures stopped { IfErr result (λ refused. refused.0 ≡ Fault.Stopped → ((K.saved keeper ≡ None) × ((K.failed keeper < K.failed refused.1) ⊎ (K.failed keeper ≡ 2 ^ 64 - 1))) ⊎ IsCountedRecord u id (K.saved keeper)) }
+        ensures stopped { IfErr result (λ refused. refused.0 ≡ Fault.Stopped → (IsToBeSaved u id (K.saved keeper) × ((K.failed keeper < K.failed refused.1) ⊎ (K.failed keeper ≡ 2 ^ 64 - 1))) ⊎ IsCountedRecord u id (K.saved keeper)) }
         ensures none_failed { IfErr result (λ refused. refused.0 ≡ Fault.NoMemory → K.failed refused.1 ≡ K.failed keeper) }
-        ensures untouched { IsSome (K.saved keeper) → IfErr result (λ refused. refused.1 ≡ keeper) }
+        ensures untouched { (IsToBeSaved u id (K.saved keeper) → ⊥) → IfErr result (λ refused. refused.1 ≡ keeper) }
         ensures saved { IfErr result (λ refused. K.saved refused.1 ≡ K.saved keeper) }
         ensures counted { IfErr result (λ refused. K.failed keeper ≤ K.failed refused.1) }
         ensures only { IfErr result (λ refused. (refused.0 ≡ Fault.NoMemory) ⊎ (refused.0 ≡ Fault.BadRecord) ⊎ (refused.0 ≡ Fault.Stopped)) }
     {
         match stored(alloc, u, id, &keeper) {
             None => ExecNode::begin(alloc, u, id, keeper),
-            Some(Ok(state)) => ExecNode::go_on(alloc, u, id, state, keeper),
+            Some(Ok((Version::First, state))) => ExecNode::renew(alloc, u, id, state, keeper),
+            Some(Ok((Version::Second, state))) => ExecNode::go_on(alloc, u, id, state, keeper),
             Some(Err(fault)) => Err((fault, keeper)),
         }
     }
@@ -142,6 +178,44 @@ impl<K: Keeper> ExecNode<K> {
         }
     }
 
+    /// Goes on from a record of version 1.
+    #[tactic(auto, using(crate::proofs::OpenLemmas::renews, crate::proofs::OpenLemmas::counted_record))]
+    fn renew(
+        alloc: Global,
+        u: u8,
+        id: u8,
+        state: State,
+        mut keeper: K,
+    ) -> Result<(ExecNode<K>, Vec<Letter<Body>>), (Fault, K)>
+        requires few { u < 4 }
+        requires stored { StoredExecutor u id (K.saved keeper) (Some (Ok (First, state))) }
+        ensures opened { IfOk result (λ opened. OpensExecutor u id (K.saved keeper) (K.failed keeper) (K.told keeper) opened.0 opened.1.items) }
+        ensures as_told { IsTrue (K.told keeper) → IsErr result }
+        ensures only { IfErr result (λ refused. (refused.0 ≡ Fault.NoMemory) ⊎ (refused.0 ≡ Fault.Stopped)) }
+        ensures stopped { IfErr result (λ refused. refused.0 ≡ Fault.Stopped → ((K.failed keeper < K.failed refused.1) ⊎ (K.failed keeper ≡ 2 ^ 64 - 1)) ⊎ IsCountedRecord u id (K.saved keeper)) }
+        ensures none_failed { IfErr result (λ refused. refused.0 ≡ Fault.NoMemory → K.failed refused.1 ≡ K.failed keeper) }
+        ensures saved { IfErr result (λ refused. K.saved refused.1 ≡ K.saved keeper) }
+        ensures counted { IfErr result (λ refused. K.failed keeper ≤ K.failed refused.1) }
+    {
+        match renewed(alloc, u, id, &state, &mut keeper) {
+            Err(fault) => {
+                state.end();
+                Err((fault, keeper))
+            }
+            Ok(letters) => {
+                let node = ExecNode {
+                    id,
+                    u,
+                    state,
+                    stopped: false,
+                    keeper,
+                };
+                Ok((node, letters))
+            }
+        }
+    }
+
+    /// Goes on from a record of today.
     #[tactic(auto, using(crate::proofs::OpenLemmas::opens, crate::proofs::OpenLemmas::counted_record))]
     fn go_on(
         alloc: Global,
@@ -151,7 +225,7 @@ impl<K: Keeper> ExecNode<K> {
         keeper: K,
     ) -> Result<(ExecNode<K>, Vec<Letter<Body>>), (Fault, K)>
         requires few { u < 4 }
-        requires stored { StoredExecutor u id (K.saved keeper) (Some (Ok state)) }
+        requires stored { StoredExecutor u id (K.saved keeper) (Some (Ok (Second, state))) }
         ensures opened { IfOk result (λ opened. OpensExecutor u id (K.saved keeper) (K.failed keeper) (K.told keeper) opened.0 opened.1.items) }
         ensures only { IfErr result (λ refused. (refused.0 ≡ Fault.NoMemory) ⊎ ((refused.0 ≡ Fault.Stopped) × IsCountedRecord u id (K.saved keeper))) }
         ensures untouched { IfErr result (λ refused. refused.1 ≡ keeper) }

@@ -8,7 +8,7 @@ use std::alloc::Global;
 use std::test::Fail;
 
 /// A keeper that has these bytes as its record.
-fn keeper_of(alloc: Global, bytes: &[u8]) -> Result<MemKeeper, Fault> {
+pub fn keeper_of(alloc: Global, bytes: &[u8]) -> Result<MemKeeper, Fault> {
     let mut text = Text::new(alloc);
     text.put(bytes)?;
     let mut keeper = MemKeeper::new();
@@ -51,7 +51,7 @@ fn no_proper_front_of_a_record_is_one(rt: HostRuntime) -> Result<(), Fail> {
 }
 
 /// The bytes with one of them another.
-fn changed(alloc: Global, bytes: &[u8], index: usize) -> Result<Vec<u8>, Fault> {
+pub fn changed(alloc: Global, bytes: &[u8], index: usize) -> Result<Vec<u8>, Fault> {
     let mut other = Vec::from_slice(alloc, bytes)?;
     if let Some(byte) = other.get_mut(index) {
         *byte = 255 - *byte;

@@ -11,7 +11,7 @@ use std::test::Fail;
 use token::Token;
 use wire::read;
 
-type Executor = ExecNode<MemKeeper>;
+pub type Executor = ExecNode<MemKeeper>;
 
 /// The only executor of its cell, new or with the record of this keeper, and its first letters.
 pub fn opened(alloc: Global, keeper: MemKeeper) -> Result<(Executor, Vec<Letter<Body>>), Fault> {
@@ -45,7 +45,7 @@ fn a_new_executor_has_a_record(rt: HostRuntime) -> Result<(), Fail> {
 }
 
 /// Whether it asks the verifier for the decree of place 1, and says nothing else.
-fn asks_for_the_first(letters: &[Letter<Body>]) -> bool {
+pub fn asks_for_the_first(letters: &[Letter<Body>]) -> bool {
     match letters {
         [letter] => {
             letter.to == Node::Verifier(0)
@@ -87,7 +87,7 @@ fn the_record_of_another_is_refused(rt: HostRuntime) -> Result<(), Fail> {
 }
 
 /// The request of client 1 of number 1: `set a 5`.
-fn first_request(alloc: Global) -> Result<Request, Fault> {
+pub fn first_request(alloc: Global) -> Result<Request, Fault> {
     read::<Request>(
         alloc,
         &[
@@ -96,7 +96,7 @@ fn first_request(alloc: Global) -> Result<Request, Fault> {
     )
 }
 
-fn receive(
+pub fn receive(
     alloc: Global,
     executor: &mut Executor,
     from: Node,
@@ -115,7 +115,7 @@ fn told(letters: &[Letter<Body>]) -> Option<(u64, Token)> {
 }
 
 /// Whether client 1 is answered that its value is stored.
-fn is_stored(letters: &[Letter<Body>]) -> bool {
+pub fn is_stored(letters: &[Letter<Body>]) -> bool {
     match letters {
         [letter] => {
             letter.to == Node::Client(1)
@@ -132,7 +132,7 @@ fn is_stored(letters: &[Letter<Body>]) -> bool {
 }
 
 /// Makes a batch of the request that waits, and executes it. It gives the letters at its end.
-fn execute(alloc: Global, executor: &mut Executor) -> Result<Vec<Letter<Body>>, Fault> {
+pub fn execute(alloc: Global, executor: &mut Executor) -> Result<Vec<Letter<Body>>, Fault> {
     drop(executor.handle(alloc, Input::Cut(1000))?);
     for _ in 0..4u8 {
         drop(executor.handle(alloc, Input::Step(0))?);
@@ -190,7 +190,7 @@ fn a_failed_save_stops_it(rt: HostRuntime) -> Result<(), Fail> {
 }
 
 /// Batch 1 of epoch 1, of that request.
-const FIRST_BATCH: [u8; 51] = [
+pub const FIRST_BATCH: [u8; 51] = [
     4, 0, 0, 0, 0, 0, 0, 0, 1, 0, 0, 0, 0, 0, 0, 0, 1, 0, 0, 3, 232, 0, 0, 0, 1, 0, 1, 0, 0, 0, 0,
     0, 0, 0, 1, 2, 1, b'a', 0, 0, 0, 0, 0, 0, 0, 0, 0, 0, 0, 1, b'5',
 ];

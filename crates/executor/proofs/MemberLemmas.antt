@@ -17,12 +17,16 @@ use Rattle.states.specs.State.{StateView}
 use Rattle.executor.specs.Fresh.{runners_among}
 use Rattle.executor.specs.Work.{TentativeView}
 use Rattle.states.specs.Followed.{IsSuccessor}
-use Rattle.executor.specs.Kept.{kept_for, AreKept, LackOne, IsTentativeOver}
+use Rattle.executor.specs.Kept.{kept_for, AreKept, LackOne, IsTentativeOver, IsTentativeOverIn}
 use Rattle.states.specs.declared.head.Head.{Head}
+use Rattle.states.specs.declared.version.Version.{Version}
+use Rattle.states.specs.declared.version.Version.TheVariants.{First, Second}
 use Rattle.states.specs.StateRecord.{head_of_state, head_text, changes_text, after_text}
-use Rattle.executor.specs.MemberRecord.{member_text, OneMember, WholeMember, BaseIsTold}
+use Rattle.states.specs.Version.{after_text_in, IsSuccessorIn}
+use Rattle.executor.specs.MemberRecord.{member_text, member_text_in, OneMember, WholeMember, BaseIsTold}
 use Rattle.states.specs.HeadProofs.{head_prefix_free}
 use Rattle.states.proofs.RecordLemmas.{after_free}
+use Rattle.states.proofs.VersionLemmas.{successor_in, one_after_in}
 use Rattle.executor.proofs.ReplyLemmas.{one_list}
 
 pub empty_is : (xs : List ℕ) → (length xs == 0) ≡ true → xs ≡ []
@@ -30,13 +34,25 @@ empty_is [] e = refl
 empty_is (x ∷ xs) e =
     absurd (grind (arith, nat_tests, e))
 
--- no tentative state over the base has a record that is a prefix of these bytes
-abbrev pub NoMember : StateView → List ℕ → Type 0
-NoMember base bytes = NoPrefix (IsTentativeOver base) member_text bytes
+pub over_of : (version : Version) (base : StateView) (t : TentativeView) → IsTentativeOverIn version base t → IsTentativeOver base t
+over_of First base t is = is.0
+over_of Second base t is = is
 
-pub no_batch : (base : StateView) (bytes : List ℕ) (e : Fault) → Refused e (NoPrefix Always batch_text bytes) → Refused e (NoMember base bytes)
-no_batch base bytes e = Refused-weaker e (λ (none : NoPrefix Always batch_text bytes). record {
-  none = λ t others over same. none.none t.batch (after_text t.before.items t.after ++ others) tt (same ∙ append_assoc (batch_text t.batch) (after_text t.before.items t.after) others);
+follows_of : (version : Version) (base : StateView) (t : TentativeView) → IsTentativeOverIn version base t → IsSuccessorIn version t.before t.batch t.after
+follows_of First base t is = is.1
+follows_of Second base t is = is.is.after
+
+over_in : (version : Version) (base : StateView) (t : TentativeView) → IsTentativeOver base t → IsSuccessorIn version t.before t.batch t.after → IsTentativeOverIn version base t
+over_in First base t over follows = (over, follows)
+over_in Second base t over follows = over
+
+-- no tentative state over the base has a record that is a prefix of these bytes
+abbrev pub NoMember : Version → StateView → List ℕ → Type 0
+NoMember version base bytes = NoPrefix (IsTentativeOverIn version base) (member_text_in version) bytes
+
+pub no_batch : (version : Version) (base : StateView) (bytes : List ℕ) (e : Fault) → Refused e (NoPrefix Always batch_text bytes) → Refused e (NoMember version base bytes)
+no_batch version base bytes e = Refused-weaker e (λ (none : NoPrefix Always batch_text bytes). record {
+  none = λ t others over same. none.none t.batch (after_text_in version t.before.items t.after ++ others) tt (same ∙ append_assoc (batch_text t.batch) (after_text_in version t.before.items t.after) others);
 })
 
 -- the same of what was lent
@@ -46,33 +62,39 @@ same_lack {s} {s'} {before} {before'} {rs} {rs'} e a b c = subst (λ (p : (Repli
 pub same_kept : {s s' before before' : Replies} {rs rs' : List Request} (replies : List Answered) → s ≡ s' → before ≡ before' → rs ≡ rs' → AreKept s (runners_among before rs) replies → AreKept s' (runners_among before' rs') replies
 same_kept {s} {s'} {before} {before'} {rs} {rs'} replies a b c = subst (λ (p : (Replies × Replies) × List Request). AreKept p.0.0 (runners_among p.0.1 p.1) replies) {x = ((s, before), rs)} {y = ((s', before'), rs')} (λ i. ((a i, b i), c i))
 
-module _ (base : StateView) (bytes : List ℕ) (batch : Batch) (rest : List ℕ) (got : bytes ≡ batch_text batch ++ rest) where
-  same_batch : (t : TentativeView) (others : List ℕ) → IsTentativeOver base t → bytes ≡ member_text t ++ others → (batch ≡ t.batch) × (rest ≡ after_text base.items t.after ++ others)
+module _ (version : Version) (base : StateView) (bytes : List ℕ) (batch : Batch) (rest : List ℕ) (got : bytes ≡ batch_text batch ++ rest) where
+  same_batch : (t : TentativeView) (others : List ℕ) → IsTentativeOverIn version base t → bytes ≡ member_text_in version t ++ others → (batch ≡ t.batch) × (rest ≡ after_text_in version base.items t.after ++ others)
   same_batch t others over same =
-      let both = batch_prefix_free.apart batch t.batch rest (after_text t.before.items t.after ++ others) (sym got ∙ (same ∙ append_assoc (batch_text t.batch) (after_text t.before.items t.after) others)) in
-      (both.0, both.1 ∙ ap (λ (b : StateView). after_text b.items t.after ++ others) over.over)
+      let both = batch_prefix_free.apart batch t.batch rest (after_text_in version t.before.items t.after ++ others) (sym got ∙ (same ∙ append_assoc (batch_text t.batch) (after_text_in version t.before.items t.after) others)) in
+      (both.0, both.1 ∙ ap (λ (b : StateView). after_text_in version b.items t.after ++ others) (over_of version base t over).over)
 
-  pub other_number : (batch.n ≡ base.number + 1 → ⊥) → NoMember base bytes
+  pub other_number : (batch.n ≡ base.number + 1 → ⊥) → NoMember version base bytes
   other_number wrong = record {
-    none = λ t others over same. wrong (ap (λ (b : Batch). b.n) (same_batch t others over same).0 ∙ (over.is.next ∙ ap (λ (b : StateView). b.number + 1) over.over));
+    none = λ t others over same.
+        let is = over_of version base t over in
+        wrong (ap (λ (b : Batch). b.n) (same_batch t others over same).0 ∙ (is.is.next ∙ ap (λ (b : StateView). b.number + 1) is.over));
   }
 
-  pub no_after : (e : Fault) → Refused e (NoPrefix (IsSuccessor base batch) (after_text base.items) rest) → Refused e (NoMember base bytes)
-  no_after e = Refused-weaker e (λ (none : NoPrefix (IsSuccessor base batch) (after_text base.items) rest). record {
-    none = λ t others over same.
-        let both = same_batch t others over same in
-        none.none t.after others (subst (λ (b : StateView). IsSuccessor b batch t.after) over.over (subst (λ (b : Batch). IsSuccessor t.before b t.after) (sym both.0) over.is.after)) both.1;
+  -- what a tentative state of this batch follows
+  follows_base : (t : TentativeView) (others : List ℕ) → IsTentativeOverIn version base t → bytes ≡ member_text_in version t ++ others → IsSuccessorIn version base batch t.after
+  follows_base t others over same =
+      subst (λ (b : StateView). IsSuccessorIn version b batch t.after) (over_of version base t over).over
+      (subst (λ (b : Batch). IsSuccessorIn version t.before b t.after) (sym (same_batch t others over same).0) (follows_of version base t over))
+
+  pub no_after : (e : Fault) → Refused e (NoPrefix (IsSuccessorIn version base batch) (after_text_in version base.items) rest) → Refused e (NoMember version base bytes)
+  no_after e = Refused-weaker e (λ (none : NoPrefix (IsSuccessorIn version base batch) (after_text_in version base.items) rest). record {
+    none = λ t others over same. none.none t.after others (follows_base t others over same) (same_batch t others over same).1;
   })
 
-  module _ (after : StateView) (left : List ℕ) (more : rest ≡ after_text base.items after ++ left) where
+  module _ (after : StateView) (left : List ℕ) (more : rest ≡ after_text_in version base.items after ++ left) (follows : IsSuccessorIn version base batch after) where
     -- what a tentative state's sessions keep
-    kept_again : (t : TentativeView) (others : List ℕ) → IsTentativeOver base t → bytes ≡ member_text t ++ others → AreKept after.sessions (runners_among base.sessions batch.requests) t.replies
+    kept_again : (t : TentativeView) (others : List ℕ) → IsTentativeOverIn version base t → bytes ≡ member_text_in version t ++ others → AreKept after.sessions (runners_among base.sessions batch.requests) t.replies
     kept_again t others over same =
         let both = same_batch t others over same in
-        let is = ((after_free base.items).apart after t.after left others (sym more ∙ both.1)).0 in
-        (λ i. map (kept_for (is i).sessions) (runners_among (sym over.over i).sessions (both.0 i).requests)) ∙ over.is.kept
+        let is = (one_after_in version base base batch batch base.items after t.after left others follows (follows_base t others over same) (sym more ∙ both.1)).0 in
+        (λ i. map (kept_for (is i).sessions) (runners_among (sym (over_of version base t over).over i).sessions (both.0 i).requests)) ∙ (over_of version base t over).is.kept
 
-    pub no_reply : (e : Fault) → Refused e (LackOne after.sessions (runners_among base.sessions batch.requests)) → Refused e (NoMember base bytes)
+    pub no_reply : (e : Fault) → Refused e (LackOne after.sessions (runners_among base.sessions batch.requests)) → Refused e (NoMember version base bytes)
     no_reply e = Refused-weaker e (λ (none : LackOne after.sessions (runners_among base.sessions batch.requests)). record {
       none = λ t others over same. none t.replies (kept_again t others over same);
     })
@@ -81,20 +103,23 @@ module _ (base : StateView) (bytes : List ℕ) (batch : Batch) (rest : List ℕ)
       abbrev found : TentativeView
       found = record { before = before; batch = batch; after = after; replies = replies }
 
-      pub is_over : batch.n ≡ base.number + 1 → IsSuccessor base batch after → IsTentativeOver base found
-      is_over next follows = record {
+      pub is_over : batch.n ≡ base.number + 1 → IsTentativeOver base found
+      is_over next = record {
         is = record {
           next = next ∙ ap (λ (b : StateView). b.number + 1) (sym shared);
-          after = subst (λ (b : StateView). IsSuccessor b batch after) (sym shared) follows;
+          after = subst (λ (b : StateView). IsSuccessor b batch after) (sym shared) (successor_in version base batch after follows);
           kept = subst (λ (b : StateView). AreKept after.sessions (runners_among b.sessions batch.requests) replies) (sym shared) kept;
         };
         over = shared;
       }
 
-      pub its_record : bytes ≡ member_text found ++ left
+      pub is_over_in : batch.n ≡ base.number + 1 → IsTentativeOverIn version base found
+      is_over_in next = over_in version base found (is_over next) (subst (λ (b : StateView). IsSuccessorIn version b batch after) (sym shared) follows)
+
+      pub its_record : bytes ≡ member_text_in version found ++ left
       its_record =
-          got ∙ (ap (λ (t : List ℕ). batch_text batch ++ t) (more ∙ ap (λ (b : StateView). after_text b.items after ++ left) (sym shared))
-          ∙ sym (append_assoc (batch_text batch) (after_text before.items after) left))
+          got ∙ (ap (λ (t : List ℕ). batch_text batch ++ t) (more ∙ ap (λ (b : StateView). after_text_in version b.items after ++ left) (sym shared))
+          ∙ sym (append_assoc (batch_text batch) (after_text_in version before.items after) left))
 
 pub whole_member : WholeMember
 whole_member t u rest others over same =
@@ -104,16 +129,22 @@ whole_member t u rest others over same =
     ((λ i. batch_text (both.0 i) ++ after_text (over i).items (after.0 i)), after.1)
 
 -- over one state, a record that stands at the front of bytes is that of one tentative state
-pub one_over : {base : StateView} (t u : TentativeView) (rest others : List ℕ) → IsTentativeOver base t → IsTentativeOver base u → member_text t ++ rest ≡ member_text u ++ others → (t ≡ u) × (rest ≡ others)
-one_over t u rest others over other same =
+pub one_over_in : (version : Version) (base : StateView) (t u : TentativeView) (rest others : List ℕ) → IsTentativeOverIn version base t → IsTentativeOverIn version base u
+    → member_text_in version t ++ rest ≡ member_text_in version u ++ others → (t ≡ u) × (rest ≡ others)
+one_over_in version base t u rest others is it same =
+    let over = over_of version base t is in
+    let other = over_of version base u it in
     let before : t.before ≡ u.before = over.over ∙ sym other.over in
-    let both = batch_prefix_free.apart t.batch u.batch (after_text t.before.items t.after ++ rest) (after_text u.before.items u.after ++ others)
-    (sym (append_assoc (batch_text t.batch) (after_text t.before.items t.after) rest) ∙ (same ∙ append_assoc (batch_text u.batch) (after_text u.before.items u.after) others)) in
-    let after = (after_free t.before.items).apart t.after u.after rest others (both.1 ∙ ap (λ (b : StateView). after_text b.items u.after ++ others) (sym before)) in
+    let both = batch_prefix_free.apart t.batch u.batch (after_text_in version t.before.items t.after ++ rest) (after_text_in version u.before.items u.after ++ others)
+    (sym (append_assoc (batch_text t.batch) (after_text_in version t.before.items t.after) rest) ∙ (same ∙ append_assoc (batch_text u.batch) (after_text_in version u.before.items u.after) others)) in
+    let after = one_after_in version t.before u.before t.batch u.batch t.before.items t.after u.after rest others (follows_of version base t is) (follows_of version base u it) (both.1 ∙ ap (λ (b : StateView). after_text_in version b.items u.after ++ others) (sym before)) in
     let kept : AreKept t.after.sessions (runners_among t.before.sessions t.batch.requests) u.replies =
     (λ i. map (kept_for (after.0 i).sessions) (runners_among (before i).sessions (both.0 i).requests)) ∙ other.is.kept in
     let listed = one_list t.replies u.replies (sym over.is.kept ∙ kept) in
     ((λ i. record { before = before i; batch = both.0 i; after = after.0 i; replies = listed i }), after.1)
+
+pub one_over : {base : StateView} (t u : TentativeView) (rest others : List ℕ) → IsTentativeOver base t → IsTentativeOver base u → member_text t ++ rest ≡ member_text u ++ others → (t ≡ u) × (rest ≡ others)
+one_over {base} t u rest others over other same = one_over_in Second base t u rest others over other same
 
 pub one_member : OneMember
 one_member t u over same =

@@ -6,9 +6,13 @@ use Rattle.sessions.specs.declared.sessions.LastReply.{LastReply}
 use Rattle.base.specs.declared.fault.Fault.{Fault}
 use Rattle.wire.specs.Record.{Refused}
 use Rattle.executor.specs.declared.answered.Answered.{Answered}
-use Rattle.states.specs.State.{StateView, IsState}
+use Rattle.states.specs.declared.version.Version.{Version}
+use Rattle.states.specs.declared.version.Version.TheVariants.{First, Second}
+use Rattle.states.specs.State.{StateView}
 use Rattle.executor.specs.Fresh.{Runner}
 use Rattle.states.specs.Followed.{IsSuccessor}
+use Rattle.states.specs.OldRecord.{IsOldSuccessor}
+use Rattle.states.specs.Version.{IsStateIn}
 use Rattle.executor.specs.Round.{runners}
 use Rattle.executor.specs.Work.{TentativeView, CommittedView}
 
@@ -45,7 +49,12 @@ pub record IsTentativeOver (base : StateView) (t : TentativeView) : Type 0 where
   pub is : IsTentative t
   pub over : t.before ≡ base
 
--- a committed state with no reply beside it
-pub record IsQuiet (c : CommittedView) : Type 0 where
-  pub state : IsState c.state
+-- one that the version has
+abbrev pub IsTentativeOverIn : Version → StateView → TentativeView → Type 0
+IsTentativeOverIn First base t = IsTentativeOver base t × IsOldSuccessor t.before t.batch t.after
+IsTentativeOverIn Second base t = IsTentativeOver base t
+
+-- a committed state that the version has, with no reply beside it
+pub record IsQuietIn (version : Version) (c : CommittedView) : Type 0 where
+  pub state : IsStateIn version c.state
   pub none : c.replies ≡ []

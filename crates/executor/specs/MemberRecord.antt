@@ -1,13 +1,19 @@
 -- The record of a tentative state, as a member of a chain.
 use Rattle.std.specs.Prelude.{ℕ, List, ◌≡◌, ◌++◌}
 use Rattle.wire.specs.Batch.{batch_text}
-use Rattle.states.specs.StateRecord.{after_text}
+use Rattle.states.specs.declared.version.Version.{Version}
+use Rattle.states.specs.declared.version.Version.TheVariants.{Second}
+use Rattle.states.specs.Version.{after_text_in}
 use Rattle.executor.specs.Work.{TentativeView}
 use Rattle.executor.specs.Kept.{IsTentative}
 
 -- the batch, and the state that it led to
+abbrev pub member_text_in : Version → TentativeView → List ℕ
+member_text_in version t = batch_text t.batch ++ after_text_in version t.before.items t.after
+
+-- what is written
 abbrev pub member_text : TentativeView → List ℕ
-member_text t = batch_text t.batch ++ after_text t.before.items t.after
+member_text t = member_text_in Second t
 
 -- over one state, records tell batches apart, and what they led to
 abbrev pub OneMember : Type 0

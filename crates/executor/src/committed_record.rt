@@ -4,12 +4,14 @@ ghost use Rattle.std.specs.Prelude.{◌≡◌, ◌++◌, OnOk, OnErr, IfOk};
 ghost use Rattle.wire.specs.Record.{Puts, Takes, Reads};
 ghost use Rattle.states.specs.State.{StateView, IsState};
 ghost use Rattle.states.specs.StateRecord.{state_text};
-ghost use Rattle.executor.specs.Kept.{IsQuiet};
+ghost use Rattle.states.specs.Version.{state_text_in};
+ghost use Rattle.states.specs.declared.version.Version.TheVariants.{Second};
+ghost use Rattle.executor.specs.Kept.{IsQuietIn};
 
 use crate::base_state::Base;
 use crate::tentative::Committed;
 use proto::Fault;
-use states::State;
+use states::{State, Version};
 use std::alloc::{AllocError, Global};
 use wire::Sink;
 
@@ -37,13 +39,13 @@ impl Committed {
         Ok(())
     }
 
-    /// The committed state whose record is a prefix of the bytes, with its token recomputed, and the
-    /// bytes after it. No reply comes with it. `BadRecord`: no record of a state is one. `NoMemory` is the
-    /// only other error.
-    pub fn take(alloc: Global, bytes: &[u8]) -> Result<(Committed, &[u8]), Fault>
-        ensures { Takes IsQuiet (λ c. state_text c.state) bytes.now result }
+    /// The committed state whose record in this version is a prefix of the bytes, with its token
+    /// recomputed, and the bytes after it. No reply comes with it. `BadRecord`: no record of a state is
+    /// one. `NoMemory` is the only other error.
+    pub fn take(alloc: Global, version: Version, bytes: &[u8]) -> Result<(Committed, &[u8]), Fault>
+        ensures { Takes (IsQuietIn version) (λ c. state_text_in version c.state) bytes.now result }
     {
-        let (state, rest) = State::take(alloc, bytes)?;
+        let (state, rest) = State::take(alloc, version, bytes)?;
         let committed = Committed {
             base: Base { state },
             replies: Vec::new(alloc),
@@ -51,13 +53,13 @@ impl Committed {
         Ok((committed, rest))
     }
 
-    /// The committed state whose record all of the bytes are: see `take`. `BadRecord`: they are the
+    /// The committed state whose record, as `put` writes it, all of the bytes are: see `take`. `BadRecord`: they are the
     /// record of no state. `NoMemory` is the only other error.
     pub fn restore(alloc: Global, bytes: &[u8]) -> Result<Committed, Fault>
-        ensures reads { Reads IsQuiet (λ c. state_text c.state) bytes.now result }
+        ensures reads { Reads (IsQuietIn Second) (λ c. state_text c.state) bytes.now result }
         ensures again { IfOk result (λ committed. (state : StateView) → bytes.now ≡ state_text state → committed.state ≡ state) }
     {
-        let (committed, rest) = Committed::take(alloc, bytes)?;
+        let (committed, rest) = Committed::take(alloc, Version::Second, bytes)?;
         if rest.is_empty() {
             Ok(committed)
         } else {

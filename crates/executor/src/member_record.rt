@@ -3,8 +3,8 @@
 ghost use Rattle.std.specs.Prelude.{◌≡◌, ◌++◌, OnOk, OnErr, IfOk};
 ghost use Rattle.wire.specs.Record.{Puts, Takes, Reads};
 ghost use Rattle.executor.specs.Work.{TentativeView};
-ghost use Rattle.executor.specs.Kept.{IsTentative, IsTentativeOver};
-ghost use Rattle.executor.specs.MemberRecord.{member_text};
+ghost use Rattle.executor.specs.Kept.{IsTentative, IsTentativeOver, IsTentativeOverIn};
+ghost use Rattle.executor.specs.MemberRecord.{member_text, member_text_in};
 
 use crate::base_state::Base;
 use crate::kept_replies::kept_replies;
@@ -12,7 +12,7 @@ use crate::tentative::Tentative;
 use batches::Batch;
 use pages::PageSet;
 use proto::Fault;
-use states::State;
+use states::{State, Version};
 use std::alloc::{AllocError, Global};
 use wire::{Record, Sink};
 
@@ -51,8 +51,8 @@ impl Tentative {
         Ok(())
     }
 
-    /// The tentative state over the base whose record is a prefix of the bytes, and the bytes after
-    /// it. Its pages are shared with the base where they are the same.
+    /// The tentative state over the base whose record in this version is a prefix of the bytes, and the
+    /// bytes after it. Its pages are shared with the base where they are the same.
     ///
     /// `BadRecord`: no tentative state over this base has such a record. So its batch is of the number
     /// after the base's, it is over the base's token, its batch digest, moment and token are the
@@ -60,16 +60,17 @@ impl Tentative {
     /// that they keep. `NoMemory` is the only other error.
     pub fn take<'b>(
         alloc: Global,
+        version: Version,
         base: &Base,
         bytes: &'b [u8],
     ) -> Result<(Tentative, &'b [u8]), Fault>
-        ensures { Takes (IsTentativeOver base.now.state) member_text bytes.now result }
+        ensures { Takes (IsTentativeOverIn version base.now.state) (member_text_in version) bytes.now result }
     {
         let (batch, rest) = Batch::take(alloc, bytes)?;
         if batch.n != base.number() + 1 {
             return Err(Fault::BadRecord);
         }
-        let (after, rest) = State::take_after(alloc, &base.state, &batch, rest)?;
+        let (after, rest) = State::take_after(alloc, version, &base.state, &batch, rest)?;
         let before = base.share()?;
         let requests = batch.requests.as_slice();
         let replies = kept_replies(alloc, before.state.sessions(), requests, after.sessions())?;
@@ -83,14 +84,14 @@ impl Tentative {
         Ok((tentative, rest))
     }
 
-    /// The tentative state over the base whose record all of the bytes are: see `take`. `BadRecord`: no
-    /// tentative state over this base has this record. `NoMemory` is the only other error.
+    /// The tentative state over the base whose record, as `put` writes it, all of the bytes are: see
+    /// `take`. `BadRecord`: no tentative state over this base has this record. `NoMemory` is the only other error.
     pub fn restore(alloc: Global, base: &Base, bytes: &[u8]) -> Result<Tentative, Fault>
         ensures reads { Reads (IsTentativeOver base.now.state) member_text bytes.now result }
         ensures again { IfOk result (λ found. (tentative : TentativeView) → IsTentativeOver base.now.state tentative
             → bytes.now ≡ member_text tentative → found ≡ tentative) }
     {
-        let (tentative, rest) = Tentative::take(alloc, base, bytes)?;
+        let (tentative, rest) = Tentative::take(alloc, Version::Second, base, bytes)?;
         if rest.is_empty() {
             Ok(tentative)
         } else {

@@ -9,6 +9,8 @@ use token::Token;
 use wire::read;
 
 mod chain;
+mod old_bytes;
+mod old_members;
 mod records;
 mod rows;
 mod threads;

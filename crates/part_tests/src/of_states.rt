@@ -4,10 +4,12 @@
 ghost use Rattle.std.specs.Prelude.{◌<◌, length};
 
 use proto::Fault;
-use states::State;
+use states::{State, Version};
 use std::alloc::{AllocError, Global};
 use std::test::Fail;
 use token::{Form, Token};
+
+mod old_limits;
 
 /// The record of the first state: 40 bytes of number and token before, its epoch, 68 bytes of batch,
 /// moment and token, no sessions, and 64 pages without items.
@@ -76,7 +78,7 @@ type Told = (u64, Token, usize);
 
 /// What the bytes of version 1 are read as, and the record of that of today.
 fn read_old(alloc: Global, bytes: &[u8]) -> Result<(Told, Form, Vec<u8>), Fault> {
-    let (state, rest) = State::take_old(alloc, bytes)?;
+    let (state, rest) = State::take(alloc, Version::First, bytes)?;
     let again = record_of(alloc, &state)?;
     Ok((
         (state.number(), state.token(), rest.len()),
@@ -87,7 +89,7 @@ fn read_old(alloc: Global, bytes: &[u8]) -> Result<(Told, Form, Vec<u8>), Fault>
 
 /// What the bytes of today are read as.
 fn read_now(alloc: Global, bytes: &[u8]) -> Result<(Told, Form), Fault> {
-    let (state, rest) = State::take(alloc, bytes)?;
+    let (state, rest) = State::take(alloc, Version::Second, bytes)?;
     Ok(((state.number(), state.token(), rest.len()), state.form()))
 }
 
@@ -142,7 +144,7 @@ fn a_later_state_of_version_1_keeps_its_token(rt: HostRuntime) -> Result<(), Fai
 }
 
 fn is_refused(alloc: Global, bytes: &[u8]) -> Result<bool, Fault> {
-    match State::take_old(alloc, bytes) {
+    match State::take(alloc, Version::First, bytes) {
         Ok(_) => Ok(false),
         Err(Fault::BadRecord) => Ok(true),
         Err(fault) => Err(fault),

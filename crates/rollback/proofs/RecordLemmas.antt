@@ -13,15 +13,16 @@ use Rattle.wire.specs.Number.{num}
 use Rattle.wire.specs.NumberLaws.{num_prefix_free, wide8}
 use Rattle.wire.proofs.Values.{Refused-weaker}
 use Rattle.decrees.specs.Votes.{token_eq}
-use Rattle.states.specs.State.{StateView, IsState}
-use Rattle.states.specs.StateRecord.{state_text}
-use Rattle.states.proofs.RecordLemmas.{state_free}
+use Rattle.states.specs.declared.version.Version.{Version}
+use Rattle.states.specs.State.{StateView}
+use Rattle.states.specs.Version.{state_text_in, IsStateIn}
+use Rattle.states.proofs.VersionLemmas.{one_state_in}
 use Rattle.executor.specs.Work.{TentativeView, CommittedView}
-use Rattle.executor.specs.Kept.{IsTentativeOver, IsQuiet}
-use Rattle.executor.specs.MemberRecord.{member_text}
-use Rattle.executor.proofs.MemberLemmas.{one_over}
+use Rattle.executor.specs.Kept.{IsTentativeOver, IsTentativeOverIn, IsQuietIn}
+use Rattle.executor.specs.MemberRecord.{member_text_in}
+use Rattle.executor.proofs.MemberLemmas.{one_over_in}
 use Rattle.rollback.specs.declared.chain.TheConstants.{MOST_MEMBERS}
-use Rattle.rollback.specs.Chain.{ChainView, tip, is_over, AreOver, AreMembers, IsFilled, IsRecorded, members_text, chain_text}
+use Rattle.rollback.specs.Chain.{ChainView, tip, is_over, AreOverIn, AreMembers, IsFilled, IsRecordedIn, members_text, chain_text_in}
 
 both_true : (b c : Bool) → b ≡ true → c ≡ true → (b && c) ≡ true
 both_true b c e f = (λ i. e i && c) ∙ f
@@ -32,104 +33,106 @@ over_is s t h =
     both_true (t.before.number == s.number) (token_eq t.before.token s.token) ((Decides-eqb t.before.number s.number).1 (ap (λ (x : StateView). x.number) h.over))
     ((bytes_eq-Decides t.before.token.0 s.token.0).1 (ap (λ (x : StateView). x.token.0) h.over))
 
-over_push : (s : StateView) (ts : List TentativeView) (t : TentativeView) → AreOver s ts → IsTentativeOver (tip s ts) t → AreOver s (ts ++ t ∷ [])
-over_push s [] t h over = (over, tt)
-over_push s (x ∷ ts) t h over = (h.0, over_push x.after ts t h.1 over)
-
-two_parts : (x : TentativeView) (xs : List TentativeView) (rest : List ℕ) → flat_map member_text (x ∷ xs) ++ rest ≡ member_text x ++ (flat_map member_text xs ++ rest)
-two_parts x xs rest = ap (λ (t : List ℕ). t ++ rest) (flat_map-cons member_text x xs) ∙ append_assoc (member_text x) (flat_map member_text xs) rest
-
-one_more : (front : List TentativeView) (x : TentativeView) (after : List ℕ) → flat_map member_text front ++ (member_text x ++ after) ≡ flat_map member_text (front ++ x ∷ []) ++ after
-one_more [] x after = sym (two_parts x [] after)
-one_more (y ∷ front) x after =
-    two_parts y front (member_text x ++ after)
-    ∙ (ap (λ (t : List ℕ). member_text y ++ t) (one_more front x after)
-    ∙ sym (two_parts y (front ++ x ∷ []) after))
-
 -- so many members were read, and the rest is still to be read
-pub record HasMembers (s : StateView) (front : List TentativeView) (count : ℕ) (bytes rest : List ℕ) : Type 0 where
-  pub are : AreMembers s count front
-  pub parts : bytes ≡ flat_map member_text front ++ rest
+pub record HasMembers (version : Version) (s : StateView) (front : List TentativeView) (count : ℕ) (bytes rest : List ℕ) : Type 0 where
+  pub are : AreMembers version s count front
+  pub parts : bytes ≡ flat_map (member_text_in version) front ++ rest
 
-pub members_begin : (s : StateView) (ts : List TentativeView) (bytes : List ℕ) → ts ≡ [] → HasMembers s ts 0 bytes bytes
-members_begin s [] bytes e = record { are = record { counted = refl; over = tt }; parts = refl }
-members_begin s (t ∷ ts) bytes e = absurd (cc e)
+-- of a version
+module _ (version : Version) where
+  over_push : (s : StateView) (ts : List TentativeView) (t : TentativeView) → AreOverIn version s ts → IsTentativeOverIn version (tip s ts) t → AreOverIn version s (ts ++ t ∷ [])
+  over_push s [] t h over = (over, tt)
+  over_push s (x ∷ ts) t h over = (h.0, over_push x.after ts t h.1 over)
 
-pub members_go_on : {s : StateView} {front : List TentativeView} {count : ℕ} {bytes rest : List ℕ} (x : TentativeView) (after : List ℕ) → HasMembers s front count bytes rest
-    → IsTentativeOver (tip s front) x → rest ≡ member_text x ++ after → HasMembers s (front ++ x ∷ []) (count + 1) bytes after
-members_go_on {s} {front} {count} {bytes} {rest} x after so_far over e = record {
-  are = record {
-    counted = length-append front (x ∷ []) ∙ ap (λ (n : ℕ). n + 1) so_far.are.counted;
-    over = over_push s front x so_far.are.over over;
-  };
-  parts = so_far.parts ∙ (ap (λ (t : List ℕ). flat_map member_text front ++ t) e ∙ one_more front x after);
-}
+  two_parts : (x : TentativeView) (xs : List TentativeView) (rest : List ℕ) → flat_map (member_text_in version) (x ∷ xs) ++ rest ≡ member_text_in version x ++ (flat_map (member_text_in version) xs ++ rest)
+  two_parts x xs rest = ap (λ (t : List ℕ). t ++ rest) (flat_map-cons (member_text_in version) x xs) ∙ append_assoc (member_text_in version x) (flat_map (member_text_in version) xs) rest
 
-no_more : (s : StateView) (front xs : List TentativeView) (rest after : List ℕ) → length front < length xs → AreOver s front → AreOver s xs
-    → flat_map member_text front ++ rest ≡ flat_map member_text xs ++ after → NoPrefix (IsTentativeOver (tip s front)) member_text rest → ⊥
-no_more s front [] rest after lt are others e none = omega arith
-no_more s [] (x ∷ xs) rest after lt are others e none = none.none x _ others.0 (e ∙ two_parts x xs after)
-no_more s (y ∷ front) (x ∷ xs) rest after lt are others e none =
-    let both = one_over y x (flat_map member_text front ++ rest) (flat_map member_text xs ++ after) are.0 others.0 (sym (two_parts y front rest) ∙ (e ∙ two_parts x xs after)) in
-    no_more y.after front xs rest after (omega (arith, lt)) are.1 (subst (λ (t : TentativeView). AreOver t.after xs) (sym both.0) others.1) both.1 none
+  one_more : (front : List TentativeView) (x : TentativeView) (after : List ℕ) → flat_map (member_text_in version) front ++ (member_text_in version x ++ after) ≡ flat_map (member_text_in version) (front ++ x ∷ []) ++ after
+  one_more [] x after = sym (two_parts x [] after)
+  one_more (y ∷ front) x after =
+      two_parts y front (member_text_in version x ++ after)
+      ∙ (ap (λ (t : List ℕ). member_text_in version y ++ t) (one_more front x after)
+      ∙ sym (two_parts y (front ++ x ∷ []) after))
 
-pub members_end : {s : StateView} {front : List TentativeView} {i : ℕ} {bytes rest : List ℕ} (e : Fault) (count : ℕ) → HasMembers s front i bytes rest
-    → i < count → Refused e (NoPrefix (IsTentativeOver (tip s front)) member_text rest) → Refused e (NoPrefix (AreMembers s count) (flat_map member_text) bytes)
-members_end {s} {front} {i} {bytes} {rest} e count so_far lt = Refused-weaker e (λ (none : NoPrefix (IsTentativeOver (tip s front)) member_text rest). record {
-  none = λ xs after f same. no_more s front xs rest after (omega (arith, lt, so_far.are.counted, f.counted)) so_far.are.over f.over (sym so_far.parts ∙ same) none;
-})
+  pub members_begin : (s : StateView) (ts : List TentativeView) (bytes : List ℕ) → ts ≡ [] → HasMembers version s ts 0 bytes bytes
+  members_begin s [] bytes e = record { are = record { counted = refl; over = tt }; parts = refl }
+  members_begin s (t ∷ ts) bytes e = absurd (cc e)
 
--- where no members stand, no chain is filled with them
-pub not_filled : (s : StateView) (count : ℕ) (bytes : List ℕ) (e : Fault) → Refused e (NoPrefix (AreMembers s count) (flat_map member_text) bytes) → Refused e (NoPrefix (IsFilled s count) members_text bytes)
-not_filled s count bytes e = Refused-weaker e (λ (none : NoPrefix (AreMembers s count) (flat_map member_text) bytes). record { none = λ c after f same. none.none c.members after f.members same })
+  pub members_go_on : {s : StateView} {front : List TentativeView} {count : ℕ} {bytes rest : List ℕ} (x : TentativeView) (after : List ℕ) → HasMembers version s front count bytes rest
+      → IsTentativeOverIn version (tip s front) x → rest ≡ member_text_in version x ++ after → HasMembers version s (front ++ x ∷ []) (count + 1) bytes after
+  members_go_on {s} {front} {count} {bytes} {rest} x after so_far over e = record {
+    are = record {
+      counted = length-append front (x ∷ []) ∙ ap (λ (n : ℕ). n + 1) so_far.are.counted;
+      over = over_push s front x so_far.are.over over;
+    };
+    parts = so_far.parts ∙ (ap (λ (t : List ℕ). flat_map (member_text_in version) front ++ t) e ∙ one_more front x after);
+  }
 
--- the parts of a chain's record
-abbrev body : ChainView → List ℕ → List ℕ
-body c after = num w8 (length c.members) ++ (flat_map member_text c.members ++ after)
+  no_more : (s : StateView) (front xs : List TentativeView) (rest after : List ℕ) → length front < length xs → AreOverIn version s front → AreOverIn version s xs
+      → flat_map (member_text_in version) front ++ rest ≡ flat_map (member_text_in version) xs ++ after → NoPrefix (IsTentativeOverIn version (tip s front)) (member_text_in version) rest → ⊥
+  no_more s front [] rest after lt are others e none = omega arith
+  no_more s [] (x ∷ xs) rest after lt are others e none = none.none x _ others.0 (e ∙ two_parts x xs after)
+  no_more s (y ∷ front) (x ∷ xs) rest after lt are others e none =
+      let both = one_over_in version s y x (flat_map (member_text_in version) front ++ rest) (flat_map (member_text_in version) xs ++ after) are.0 others.0 (sym (two_parts y front rest) ∙ (e ∙ two_parts x xs after)) in
+      no_more y.after front xs rest after (omega (arith, lt)) are.1 (subst (λ (t : TentativeView). AreOverIn version t.after xs) (sym both.0) others.1) both.1 none
 
-in_parts : (c : ChainView) (after : List ℕ) → chain_text c ++ after ≡ state_text c.have ++ body c after
-in_parts c after =
-    append_assoc (state_text c.have) (num w8 (length c.members) ++ flat_map member_text c.members) after
-    ∙ ap (λ (t : List ℕ). state_text c.have ++ t) (append_assoc (num w8 (length c.members)) (flat_map member_text c.members) after)
-
-abbrev quiet_text : CommittedView → List ℕ
-quiet_text c = state_text c.state
-
-pub no_state : (bytes : List ℕ) (e : Fault) → Refused e (NoPrefix IsQuiet quiet_text bytes) → Refused e (NoPrefix IsRecorded chain_text bytes)
-no_state bytes e = Refused-weaker e (λ (none : NoPrefix IsQuiet quiet_text bytes). record {
-  none = λ c after f same. none.none (record { state = c.have; replies = [] }) (body c after) (record { state = f.state; none = refl }) (same ∙ in_parts c after);
-})
-
-module _ (bytes : List ℕ) (have : StateView) (rest : List ℕ) (got : bytes ≡ state_text have ++ rest) where
-  same_state : (c : ChainView) (after : List ℕ) → bytes ≡ chain_text c ++ after → (have ≡ c.have) × (rest ≡ body c after)
-  same_state c after same = state_free.apart have c.have rest (body c after) (sym got ∙ (same ∙ in_parts c after))
-
-  pub no_count : (e : Fault) → Refused e (NoPrefix (λ (n : ℕ). Unit {0}) (num w8) rest) → Refused e (NoPrefix IsRecorded chain_text bytes)
-  no_count e = Refused-weaker e (λ (none : NoPrefix (λ (n : ℕ). Unit {0}) (num w8) rest). record {
-    none = λ c after f same. none.none (length c.members) (flat_map member_text c.members ++ after) tt (same_state c after same).1;
+  pub members_end : {s : StateView} {front : List TentativeView} {i : ℕ} {bytes rest : List ℕ} (e : Fault) (count : ℕ) → HasMembers version s front i bytes rest
+      → i < count → Refused e (NoPrefix (IsTentativeOverIn version (tip s front)) (member_text_in version) rest) → Refused e (NoPrefix (AreMembers version s count) (flat_map (member_text_in version)) bytes)
+  members_end {s} {front} {i} {bytes} {rest} e count so_far lt = Refused-weaker e (λ (none : NoPrefix (IsTentativeOverIn version (tip s front)) (member_text_in version) rest). record {
+    none = λ xs after f same. no_more s front xs rest after (omega (arith, lt, so_far.are.counted, f.counted)) so_far.are.over f.over (sym so_far.parts ∙ same) none;
   })
 
-  module _ (count : ℕ) (left : List ℕ) (more : rest ≡ num w8 count ++ left) where
-    same_count : (c : ChainView) (after : List ℕ) → bytes ≡ chain_text c ++ after → (count ≡ length c.members) × (left ≡ flat_map member_text c.members ++ after)
-    same_count c after same =
-        (num_prefix_free w8 wide8).apart count (length c.members) left (flat_map member_text c.members ++ after) (sym more ∙ (same_state c after same).1)
+  -- where no members stand, no chain is filled with them
+  pub not_filled : (s : StateView) (count : ℕ) (bytes : List ℕ) (e : Fault) → Refused e (NoPrefix (AreMembers version s count) (flat_map (member_text_in version)) bytes) → Refused e (NoPrefix (IsFilled version s count) (members_text version) bytes)
+  not_filled s count bytes e = Refused-weaker e (λ (none : NoPrefix (AreMembers version s count) (flat_map (member_text_in version)) bytes). record { none = λ c after f same. none.none c.members after f.members same })
 
-    pub too_many : MOST_MEMBERS < count → NoPrefix IsRecorded chain_text bytes
-    too_many lt = record { none = λ c after f same. omega (arith, lt, f.few, (same_count c after same).0) }
+  -- the parts of a chain's record
+  abbrev body : ChainView → List ℕ → List ℕ
+  body c after = num w8 (length c.members) ++ (flat_map (member_text_in version) c.members ++ after)
 
-    -- the chain that was filled, or none
-    pub chain_taken : IsState have → count ≤ MOST_MEMBERS → (r : Result (ChainView × Bor (List ℕ)) Fault) → Takes (IsFilled have count) members_text left r → Takes IsRecorded chain_text bytes r
-    chain_taken is few (Ok p) h = (
-      record {
-        state = subst IsState (sym h.0.have) is;
-        few = omega (arith, few, h.0.members.counted);
-        over = subst (λ (s : StateView). AreOver s p.0.members) (sym h.0.have) h.0.members.over;
-      },
-      got ∙ ((λ i. state_text (sym h.0.have i) ++ (more ∙ (λ j. num w8 (sym h.0.members.counted j) ++ h.1 j)) i) ∙ sym (in_parts p.0 p.1.now)),
-    )
-    chain_taken is few (Err e) h = Refused-weaker e (λ (none : NoPrefix (IsFilled have count) members_text left). record {
-      none = λ c after f same.
-          let counted = same_count c after same in
-          none.none (record { have = have; members = c.members }) after
-          (record { have = refl; members = record { counted = sym counted.0; over = subst (λ (s : StateView). AreOver s c.members) (sym (same_state c after same).0) f.over } }) counted.1;
-    }) h
+  in_parts : (c : ChainView) (after : List ℕ) → chain_text_in version c ++ after ≡ state_text_in version c.have ++ body c after
+  in_parts c after =
+      append_assoc (state_text_in version c.have) (num w8 (length c.members) ++ flat_map (member_text_in version) c.members) after
+      ∙ ap (λ (t : List ℕ). state_text_in version c.have ++ t) (append_assoc (num w8 (length c.members)) (flat_map (member_text_in version) c.members) after)
+
+  abbrev quiet_text : CommittedView → List ℕ
+  quiet_text c = state_text_in version c.state
+
+  pub no_state : (bytes : List ℕ) (e : Fault) → Refused e (NoPrefix (IsQuietIn version) quiet_text bytes) → Refused e (NoPrefix (IsRecordedIn version) (chain_text_in version) bytes)
+  no_state bytes e = Refused-weaker e (λ (none : NoPrefix (IsQuietIn version) quiet_text bytes). record {
+    none = λ c after f same. none.none (record { state = c.have; replies = [] }) (body c after) (record { state = f.state; none = refl }) (same ∙ in_parts c after);
+  })
+
+  module _ (bytes : List ℕ) (have : StateView) (rest : List ℕ) (is : IsStateIn version have) (got : bytes ≡ state_text_in version have ++ rest) where
+    same_state : (c : ChainView) (after : List ℕ) → IsRecordedIn version c → bytes ≡ chain_text_in version c ++ after → (have ≡ c.have) × (rest ≡ body c after)
+    same_state c after f same = one_state_in version have c.have rest (body c after) is f.state (sym got ∙ (same ∙ in_parts c after))
+
+    pub no_count : (e : Fault) → Refused e (NoPrefix (λ (n : ℕ). Unit {0}) (num w8) rest) → Refused e (NoPrefix (IsRecordedIn version) (chain_text_in version) bytes)
+    no_count e = Refused-weaker e (λ (none : NoPrefix (λ (n : ℕ). Unit {0}) (num w8) rest). record {
+      none = λ c after f same. none.none (length c.members) (flat_map (member_text_in version) c.members ++ after) tt (same_state c after f same).1;
+    })
+
+    module _ (count : ℕ) (left : List ℕ) (more : rest ≡ num w8 count ++ left) where
+      same_count : (c : ChainView) (after : List ℕ) → IsRecordedIn version c → bytes ≡ chain_text_in version c ++ after → (count ≡ length c.members) × (left ≡ flat_map (member_text_in version) c.members ++ after)
+      same_count c after f same =
+          (num_prefix_free w8 wide8).apart count (length c.members) left (flat_map (member_text_in version) c.members ++ after) (sym more ∙ (same_state c after f same).1)
+
+      pub too_many : MOST_MEMBERS < count → NoPrefix (IsRecordedIn version) (chain_text_in version) bytes
+      too_many lt = record { none = λ c after f same. omega (arith, lt, f.few, (same_count c after f same).0) }
+
+      -- the chain that was filled, or none
+      pub chain_taken : count ≤ MOST_MEMBERS → (r : Result (ChainView × Bor (List ℕ)) Fault) → Takes (IsFilled version have count) (members_text version) left r → Takes (IsRecordedIn version) (chain_text_in version) bytes r
+      chain_taken few (Ok p) h = (
+        record {
+          state = subst (IsStateIn version) (sym h.0.have) is;
+          few = omega (arith, few, h.0.members.counted);
+          over = subst (λ (s : StateView). AreOverIn version s p.0.members) (sym h.0.have) h.0.members.over;
+        },
+        got ∙ ((λ i. state_text_in version (sym h.0.have i) ++ (more ∙ (λ j. num w8 (sym h.0.members.counted j) ++ h.1 j)) i) ∙ sym (in_parts p.0 p.1.now)),
+      )
+      chain_taken few (Err e) h = Refused-weaker e (λ (none : NoPrefix (IsFilled version have count) (members_text version) left). record {
+        none = λ c after f same.
+            let counted = same_count c after f same in
+            none.none (record { have = have; members = c.members }) after
+            (record { have = refl; members = record { counted = sym counted.0; over = subst (λ (s : StateView). AreOverIn version s c.members) (sym (same_state c after f same).0) f.over } }) counted.1;
+      }) h

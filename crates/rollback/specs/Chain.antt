@@ -6,12 +6,14 @@ use Rattle.wire.specs.Number.{num}
 use Rattle.decrees.specs.declared.decree.Decree.{Decree}
 use Rattle.decrees.specs.declared.decree.Decree.TheVariants.{Commit, Rollback}
 use Rattle.decrees.specs.Votes.{token_eq}
-use Rattle.states.specs.State.{StateView, IsState}
-use Rattle.states.specs.StateRecord.{state_text}
+use Rattle.states.specs.declared.version.Version.{Version}
+use Rattle.states.specs.declared.version.Version.TheVariants.{Second}
+use Rattle.states.specs.State.{StateView}
+use Rattle.states.specs.Version.{state_text_in, IsStateIn}
 use Rattle.executor.specs.declared.answered.Answered.{Answered}
 use Rattle.executor.specs.Work.{TentativeView}
-use Rattle.executor.specs.Kept.{IsTentativeOver}
-use Rattle.executor.specs.MemberRecord.{member_text}
+use Rattle.executor.specs.Kept.{IsTentativeOverIn}
+use Rattle.executor.specs.MemberRecord.{member_text_in}
 use Rattle.rollback.specs.declared.chain.TheConstants.{MOST_MEMBERS}
 
 -- A chain: the committed state, and the tentative ones over it, in order.
@@ -78,29 +80,39 @@ abbrev pub chain_code : Coded StateView → Coded TentativeView → Coded ChainV
 chain_code state tentative = code_by (StateView × List TentativeView) (coded× state (coded_list tentative)) (λ c. (c.have, c.members)) (λ p. record { have = p.0; members = p.1 }) (λ _. refl)
 
 -- the record of the committed state, how many members there are, and each of them over the state before it
+abbrev pub chain_text_in : Version → ChainView → List ℕ
+chain_text_in version c = state_text_in version c.have ++ (num w8 (length c.members) ++ flat_map (member_text_in version) c.members)
+
+-- what is written
 abbrev pub chain_text : ChainView → List ℕ
-chain_text c = state_text c.have ++ (num w8 (length c.members) ++ flat_map member_text c.members)
+chain_text c = chain_text_in Second c
 
 -- each member is over just the state before it, and not only by number and token
+abbrev pub AreOverIn : Version → StateView → List TentativeView → Type 0
+AreOverIn version s [] = Unit {0}
+AreOverIn version s (t ∷ ts) = IsTentativeOverIn version s t × AreOverIn version t.after ts
+
 abbrev pub AreOver : StateView → List TentativeView → Type 0
-AreOver s [] = Unit {0}
-AreOver s (t ∷ ts) = IsTentativeOver s t × AreOver t.after ts
+AreOver s ts = AreOverIn Second s ts
 
 -- so many members over a state
-pub record AreMembers (s : StateView) (count : ℕ) (ts : List TentativeView) : Type 0 where
+pub record AreMembers (version : Version) (s : StateView) (count : ℕ) (ts : List TentativeView) : Type 0 where
   pub counted : length ts ≡ count
-  pub over : AreOver s ts
+  pub over : AreOverIn version s ts
 
 -- a chain over this state, with so many members
-pub record IsFilled (s : StateView) (count : ℕ) (c : ChainView) : Type 0 where
+pub record IsFilled (version : Version) (s : StateView) (count : ℕ) (c : ChainView) : Type 0 where
   pub have : c.have ≡ s
-  pub members : AreMembers s count c.members
+  pub members : AreMembers version s count c.members
 
-abbrev pub members_text : ChainView → List ℕ
-members_text c = flat_map member_text c.members
+abbrev pub members_text : Version → ChainView → List ℕ
+members_text version c = flat_map (member_text_in version) c.members
 
--- a chain that can be read back from its record
-pub record IsRecorded (c : ChainView) : Type 0 where
-  pub state : IsState c.have
+-- a chain that can be read back from its record in this version
+pub record IsRecordedIn (version : Version) (c : ChainView) : Type 0 where
+  pub state : IsStateIn version c.have
   pub few : length c.members ≤ MOST_MEMBERS
-  pub over : AreOver c.have c.members
+  pub over : AreOverIn version c.have c.members
+
+abbrev pub IsRecorded : ChainView → Type 0
+IsRecorded c = IsRecordedIn Second c

@@ -5,3 +5,4 @@ pub mod EntryLemmas
 pub mod RecordLemmas
 pub mod OldRecordLemmas
 pub mod OldStateLemmas
+pub mod VersionLemmas

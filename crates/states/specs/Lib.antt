@@ -3,5 +3,8 @@ pub mod Origin
 pub mod Parts
 pub mod Followed
 pub mod StateRecord
+pub mod Within
 pub mod OldRecord
+pub mod Version
+pub mod VersionProofs
 pub mod HeadProofs

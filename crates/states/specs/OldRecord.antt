@@ -9,6 +9,7 @@ use Rattle.wire.specs.Field.{option_text}
 use Rattle.wire.specs.Item.{page_text}
 use Rattle.wire.specs.Session.{sessions_text, SessionsFit}
 use Rattle.token.specs.declared.form.Form.TheVariants.{Old}
+use Rattle.token.specs.declared.form.TheConstants.{OLD_BLOCK_BYTES}
 use Rattle.token.specs.declared.tree.TheConstants.{OLD_PAGES}
 use Rattle.pages.specs.Page.{number_among, each_among}
 use Rattle.pages.specs.Old.{old_entries, given_at}
@@ -16,6 +17,7 @@ use Rattle.states.specs.declared.head.Head.{Head}
 use Rattle.states.specs.State.{StateView, IsState}
 use Rattle.states.specs.Followed.{IsSuccessor}
 use Rattle.states.specs.StateRecord.{changed_page, old_head_text, head_of_state, IsLaterState}
+use Rattle.states.specs.Within.{BlocksWithin, RepliesWithin}
 
 -- the entries of each old page
 abbrev pub old_pages : Items → List (List (List ℕ × Item))
@@ -45,23 +47,28 @@ old_front_text p = old_head_text p.0 ++ sessions_text p.1
 abbrev pub IsOldHead : Head → Type 0
 IsOldHead h = h.origin.form ≡ Old
 
+-- no block that is kept for a client is longer than version 1 takes
 abbrev pub IsOldFront : Head × Replies → Type 0
-IsOldFront p = IsOldHead p.0 × SessionsFit p.1
+IsOldFront p = IsOldHead p.0 × SessionsFit p.1 × RepliesWithin OLD_BLOCK_BYTES p.1
 
 -- A state that version 1 has: the first one, or a state of the old form.
 pub record IsOldState (s : StateView) : Type 0 where
   pub state : IsState s
   pub old : 0 < s.number → s.form ≡ Old
+  pub replies : RepliesWithin OLD_BLOCK_BYTES s.sessions
 
 -- one that a batch led to
 pub record IsOldLaterState (s : StateView) : Type 0 where
   pub later : IsLaterState s
   pub old : s.form ≡ Old
+  pub replies : RepliesWithin OLD_BLOCK_BYTES s.sessions
 
--- one that this batch made of this state
+-- one that this batch, which version 1 has, made of this state
 pub record IsOldSuccessor (before : StateView) (batch : Batch) (s : StateView) : Type 0 where
   pub follows : IsSuccessor before batch s
   pub old : s.form ≡ Old
+  pub blocks : BlocksWithin OLD_BLOCK_BYTES batch
+  pub replies : RepliesWithin OLD_BLOCK_BYTES s.sessions
 
 -- all keys are of old page p
 abbrev pub AreOfOld : ℕ → List (List ℕ × Item) → Type 0

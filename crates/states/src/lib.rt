@@ -17,6 +17,8 @@ mod page_texts;
 mod record_laws;
 mod state;
 mod state_record;
+mod version;
+mod within;
 
 pub use form::fits_form;
 pub use head::Head;
@@ -24,3 +26,4 @@ pub use origin::Origin;
 pub use page_texts::own_page;
 pub use record_laws::states_are_told_apart;
 pub use state::{Parts, State};
+pub use version::Version;

@@ -11,11 +11,12 @@ use crate::head::Head;
 use crate::old_record::{take_old_changes, take_old_pages};
 use crate::origin::Told;
 use crate::state::State;
+use crate::within::{has_blocks_within, has_replies_within};
 use batches::Batch;
 use proto::Fault;
 use sessions::Sessions;
 use std::alloc::{AllocError, Global};
-use token::Token;
+use token::{OLD_BLOCK_BYTES, Token};
 use wire::{Record, Sink};
 
 /// The head of the old form and the sessions, whose record is a prefix of the bytes.
@@ -23,6 +24,9 @@ fn take_front(alloc: Global, bytes: &[u8]) -> Result<((Head, Sessions), &[u8]), 
     ensures { Takes IsOldFront old_front_text bytes.now result }
 {
     let ((told, sessions), rest) = <((Told, Token), Sessions)>::take(alloc, bytes)?;
+    if !has_replies_within(&sessions, OLD_BLOCK_BYTES) {
+        return Err(Fault::BadRecord);
+    }
     Ok(((Head::of_old(told), sessions), rest))
 }
 
@@ -62,10 +66,9 @@ fn take_old_later(alloc: Global, bytes: &[u8]) -> Result<(State, &[u8]), Fault>
 }
 
 impl State {
-    /// The state whose record of version 1 is a prefix of the bytes, and the bytes after it. A state of
-    /// number 1 or more has the old form, and keeps the token that it has there, which is recomputed.
-    /// `BadRecord`: no record of a state is one. `NoMemory` is the only other error.
-    pub fn take_old(alloc: Global, bytes: &[u8]) -> Result<(State, &[u8]), Fault>
+    /// `take` of a record of version 1. A state of number 1 or more has the old form, and keeps the token
+    /// that it has there, which is recomputed.
+    pub(crate) fn take_old(alloc: Global, bytes: &[u8]) -> Result<(State, &[u8]), Fault>
         ensures { Takes IsOldState old_state_text bytes.now result }
     {
         let (head, _) = Head::take_old(alloc, bytes)?;
@@ -76,10 +79,9 @@ impl State {
         }
     }
 
-    /// The state of the old form that the batch made of the one before, whose record of version 1 over
-    /// it is a prefix of the bytes, and the bytes after it. `BadRecord`: there is no such state.
-    /// `NoMemory` is the only other error.
-    pub fn take_old_after<'b>(
+    /// `take_after` of a record of version 1, which has no batch with a longer block than it takes. The
+    /// state has the old form.
+    pub(crate) fn take_old_after<'b>(
         alloc: Global,
         before: &State,
         batch: &Batch,
@@ -87,6 +89,9 @@ impl State {
     ) -> Result<(State, &'b [u8]), Fault>
         ensures { Takes (IsOldSuccessor before.now batch.now) (old_after_text before.now.items) bytes.now result }
     {
+        if !has_blocks_within(batch, OLD_BLOCK_BYTES) {
+            return Err(Fault::BadRecord);
+        }
         let ((head, sessions), rest) = take_front(alloc, bytes)?;
         let (pages, rest) = take_old_changes(alloc, before.pages(), rest)?;
         let state = head.successor(alloc, before, batch, sessions, pages)?;

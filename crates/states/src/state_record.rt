@@ -112,9 +112,8 @@ impl State {
         put_pages(self.pages(), sink)
     }
 
-    /// The state whose record is a prefix of the bytes, with its token recomputed, and the bytes after
-    /// it. `BadRecord`: no record of a state is one. `NoMemory` is the only other error.
-    pub fn take(alloc: Global, bytes: &[u8]) -> Result<(State, &[u8]), Fault>
+    /// `take` of a record of today.
+    pub(crate) fn take_current(alloc: Global, bytes: &[u8]) -> Result<(State, &[u8]), Fault>
         ensures { Takes IsState state_text bytes.now result }
     {
         let (head, _) = Head::take(alloc, bytes)?;
@@ -143,11 +142,8 @@ impl State {
         put_changes(before.pages(), self.pages(), may_differ, sink)
     }
 
-    /// The state that the batch makes of the one before, whose record over it is a prefix of the bytes,
-    /// and the bytes after it. What the batch did to the items and the sessions is read, and all else
-    /// is recomputed. Pages that are the same are shared. `BadRecord`: there is no such state.
-    /// `NoMemory` is the only other error.
-    pub fn take_after<'b>(
+    /// `take_after` of a record of today. Pages that are the same are shared.
+    pub(crate) fn take_current_after<'b>(
         alloc: Global,
         before: &State,
         batch: &Batch,

@@ -25,12 +25,12 @@ use Rattle.agreement.specs.Verifiers.{IsIn, IsKept}
 use Rattle.agreement.proofs.Machine.{Good, reached_ok}
 use Rattle.agreement.proofs.Grows.{run-append}
 use Rattle.agreement.proofs.Verifiers.{handled_is_done}
-use Rattle.worlds.specs.declared.event.Event.{Event}
-use Rattle.worlds.specs.declared.event.Event.TheVariants.{Feed, Again, Hangup, Deliver, Cut, Step, Finish, Suspect, Crash, Restart, Lost, FailSave}
-use Rattle.worlds.specs.declared.event.Replica.TheVariants as replica
+use Rattle.events.specs.declared.event.Event.{Event}
+use Rattle.events.specs.declared.event.Event.TheVariants.{Feed, Again, Hangup, Deliver, Cut, Step, Finish, Suspect, Crash, Restart, Lost, FailSave}
+use Rattle.events.specs.declared.event.Replica.TheVariants as replica
 use Rattle.worlds.specs.declared.slot.Slot.{Slot}
 use Rattle.worlds.specs.declared.slot.Slot.TheVariants.{Up, Down, Gone}
-use Rattle.worlds.specs.Config.{ConfigView}
+use Rattle.events.specs.Config.{ConfigView}
 use Rattle.worlds.specs.Slots.{verifier_kept, verifier_told, executor_kept, executor_told, crashed_slot, lost_slot, told_slot, VerifierSettles, ExecutorSettles, ClientSlot, ClientSettlesWhere}
 use Rattle.worlds.specs.World.{WorldView, with_verifier, ClientAtGiven, ClientGiven, ExecutorAtGiven, VerifierAtGiven, changed_at, ClientReached, VerifierReached, NodeReached, letter_at, IsDelivered, WorldNext, WorldRuns, last_world, nothing_kept, unopened_world, opening_events, IsFirstWorld}
 use Rattle.worlds.specs.Machines.{IsSameVerifier, IsOfMachine, HaveMachines}

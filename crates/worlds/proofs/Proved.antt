@@ -14,10 +14,10 @@ use Rattle.agreement.specs.Machine.{reached, letters_of}
 use Rattle.agreement.specs.ChosenList.{chosen}
 use Rattle.agreement.specs.Laws.{recorded}
 use Rattle.agreement.proofs.Proved.{at_most_one, all_backed, all_kept, list_is_chosen, list_grows}
-use Rattle.worlds.specs.declared.event.Event.{Event}
+use Rattle.events.specs.declared.event.Event.{Event}
 use Rattle.worlds.specs.declared.slot.Slot.{Slot}
 use Rattle.worlds.specs.declared.slot.Slot.TheVariants.{Up, Down, Gone}
-use Rattle.worlds.specs.Config.{ConfigView}
+use Rattle.events.specs.Config.{ConfigView}
 use Rattle.worlds.specs.World.{WorldView, ReachedWorlds, EndsWith}
 use Rattle.worlds.specs.Machines.{IsSameVerifier, IsOfMachine, HaveMachines}
 use Rattle.worlds.specs.Laws.{IsReached, OneIsChosenInWorlds, ChosenIsBackedInWorlds, verifier_record, is_gone, ChosenIsKeptInWorlds, chosen_list, ListIsChosenInWorlds, ListsGrow, ListGrowsInWorlds}

@@ -9,10 +9,10 @@ use Rattle.verifier.specs.Verifier.{VerifierView}
 use Rattle.agreement.specs.Letters.{Chosen, Backed}
 use Rattle.agreement.specs.ChosenList.{chosen}
 use Rattle.agreement.specs.Laws.{Holds}
-use Rattle.worlds.specs.declared.event.Event.{Event}
+use Rattle.events.specs.declared.event.Event.{Event}
 use Rattle.worlds.specs.declared.slot.Slot.{Slot}
 use Rattle.worlds.specs.declared.slot.Slot.TheVariants.{Up, Down, Gone}
-use Rattle.worlds.specs.Config.{ConfigView}
+use Rattle.events.specs.Config.{ConfigView}
 use Rattle.worlds.specs.World.{WorldView, ReachedWorlds, EndsWith}
 use Rattle.worlds.specs.Ballots.{ballots}
 use Rattle.worlds.specs.Machines.{HaveMachines}

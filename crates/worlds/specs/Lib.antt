@@ -1,4 +1,3 @@
-pub mod Config
 pub mod Slots
 pub mod World
 pub mod Ballots

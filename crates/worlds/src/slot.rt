@@ -1,6 +1,7 @@
 use keeper::MemKeeper;
 
 /// A place of a world, with what became of its replica.
+#[derive(Drop)]
 pub enum Slot<N> {
     /// It is up.
     Up(N),

@@ -2,6 +2,7 @@
 
 use super::*;
 use rollback::{Chain, MOST_MEMBERS};
+use states::Version;
 
 /// The batch of this number: one `set` of `a`, by the client of the same number.
 fn next_batch(alloc: Global, number: u8) -> Result<Vec<u8>, AllocError> {
@@ -174,7 +175,7 @@ fn the_record_of_a_chain(rt: HostRuntime) -> Result<(), Fail> {
 
 /// Whether a chain of this record is at the front of the bytes, and leaves so many of them.
 fn reads_back(alloc: Global, bytes: &[u8], record: &[u8], left: usize) -> Result<bool, Fault> {
-    let (chain, rest) = Chain::take(alloc, bytes)?;
+    let (chain, rest) = Chain::take(alloc, Version::Second, bytes)?;
     let again = record_of(alloc, &chain);
     drop(chain.end());
     Ok(again?.as_slice() == record && rest.len() == left)
@@ -182,7 +183,7 @@ fn reads_back(alloc: Global, bytes: &[u8], record: &[u8], left: usize) -> Result
 
 /// Whether no chain has a record at the front of the bytes.
 fn refuses(alloc: Global, bytes: &[u8]) -> bool {
-    match Chain::take(alloc, bytes) {
+    match Chain::take(alloc, Version::Second, bytes) {
         Ok((chain, _)) => {
             drop(chain.end());
             false

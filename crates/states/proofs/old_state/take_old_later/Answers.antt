@@ -1,9 +1,12 @@
-use Rattle.std.proofs.Common.{ap, ◌∙◌, subst}
+use Rattle.std.proofs.Common.{sym, ap, ◌∙◌, subst}
 use Rattle.std.proofs.lemmas.Result.{err_from_is_err_and}
 use Rattle.items.specs.Map.{Items}
 use Rattle.wire.specs.Record.{Refused}
 use Rattle.wire.proofs.Values.{Refused-weaker}
+use Rattle.token.specs.declared.form.TheConstants.{OLD_BLOCK_BYTES}
+use Rattle.states.specs.State.{StateView}
 use Rattle.states.specs.StateRecord.{IsLaterState, state_of}
+use Rattle.states.specs.Within.{RepliesWithin}
 use Rattle.states.specs.OldRecord.{old_pages_text, old_state_text, IsOldLaterState}
 use Rattle.states.proofs.OldRecordLemmas.{old_pages_free}
 use Rattle.states.proofs.OldStateLemmas.{no_old_front, no_old_items, not_made_old, made_old}
@@ -13,7 +16,7 @@ pub returns-in_err-head : goal.returns-in_err-head
 unfolding old_state_text
 returns-in_err-head c =
     let p = err_from_is_err_and c.from_residual.result c.from_residual.ensures.1 in
-    rw (p.1, p.2) (no_old_front old_pages_text IsOldLaterState (λ s f. f.old) c.args.bytes.now (λ s f. f.later.state.sessions_fit) c.in_err-head.field-0.0 c.in_err-head.ensures)
+    rw (p.1, p.2) (no_old_front old_pages_text IsOldLaterState (λ s f. f.old) c.args.bytes.now (λ s f. f.later.state.sessions_fit) (λ s f. f.replies) c.in_err-head.field-0.0 c.in_err-head.ensures)
 
 pub returns-in_err-pages : goal.returns-in_err-pages
 unfolding old_state_text
@@ -35,4 +38,5 @@ unfolding old_state_text
 returns c =
     let made = made_old old_pages_text IsOldLaterState (λ s f. f.old) c.args.bytes.now c.in_ok-head.head c.in_ok-head.sessions c.in_ok-head.rest.now c.in_ok-head.ensures.0.0 c.in_ok-head.ensures.1 old_pages_free
     c.in_ok-pages.pages c.in_ok-pages.rest.now c.in_ok-pages.ensures.1 c.in_ok-state.state (c.in_ok-state.ensures.1 ∙ ap (state_of c.in_ok-head.head c.in_ok-head.sessions) c.seal.ensures) in
-    (record { later = c.in_ok-state.ensures.0; old = made.0 }, made.1)
+    let replies = subst (λ (s : StateView). RepliesWithin OLD_BLOCK_BYTES s.sessions) (sym c.in_ok-state.ensures.1) c.in_ok-head.ensures.0.2 in
+    (record { later = c.in_ok-state.ensures.0; old = made.0; replies = replies }, made.1)

@@ -1,9 +1,10 @@
 use Rattle.std.proofs.Common.{[], rules, sym, ◌∙◌}
 use Rattle.std.proofs.lemmas.Result.{err_from_is_err_and}
 use Rattle.std.proofs.lemmas.List.{append-nil}
+use Rattle.states.specs.declared.version.Version.TheVariants.{Second}
 use Rattle.states.specs.StateRecord.{state_text}
 use Rattle.wire.proofs.Values.{left_over, none_whole}
-use Rattle.executor.specs.Kept.{IsQuiet}
+use Rattle.executor.specs.Kept.{IsQuietIn}
 use Rattle.executor.specs.Work.{CommittedView}
 use Rattle.states.proofs.RecordLemmas.{state_free}
 use Rattle.executor.proofs.tentative.Committed.restore.Goals as goal
@@ -11,7 +12,7 @@ use Rattle.executor.proofs.tentative.Committed.restore.Goals as goal
 pub returns-in_err-committed-clause-reads : goal.returns-in_err-committed-clause-reads
 returns-in_err-committed-clause-reads c =
     let p = err_from_is_err_and c.from_residual.result c.from_residual.ensures.1 in
-    rw (p.1, p.2) (none_whole IsQuiet (λ (x : CommittedView). state_text x.state) c.args.bytes.now c.in_err-committed.field-0.0 c.in_err-committed.ensures)
+    rw (p.1, p.2) (none_whole (IsQuietIn Second) (λ (x : CommittedView). state_text x.state) c.args.bytes.now c.in_err-committed.field-0.0 c.in_err-committed.ensures)
 
 pub returns-then-is_empty-clause-again : goal.returns-then-is_empty-clause-again
 returns-then-is_empty-clause-again c s e =

@@ -5,5 +5,5 @@ use Rattle.rollback.proofs.chain.Chain.fill.Given as goal
 abbrev pub invariant-loop : goal.invariant-loop
 invariant-loop l = record {
   have : l.self.have ≡ l.fn.self.have;
-  read : HasMembers l.fn.self.have l.self.members l.counter l.bytes l.rest;
+  read : HasMembers l.version l.fn.self.have l.self.members l.counter l.bytes l.rest;
 }

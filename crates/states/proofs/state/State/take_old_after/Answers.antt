@@ -1,20 +1,29 @@
-use Rattle.std.proofs.Common.{◌≡◌, ◌++◌, ap, ◌∙◌, subst}
+use Rattle.std.proofs.Common.{◌≡◌, ◌++◌, sym, ap, ◌∙◌, subst}
+use Rattle.std.proofs.lemmas.Bool.{false≢true}
 use Rattle.std.proofs.lemmas.Result.{err_from_is_err_and}
 use Rattle.items.specs.Map.{Items}
 use Rattle.wire.specs.Record.{NoPrefix, Refused}
 use Rattle.wire.proofs.Values.{Refused-weaker}
 use Rattle.token.specs.declared.form.Form.TheVariants.{Old}
+use Rattle.token.specs.declared.form.TheConstants.{OLD_BLOCK_BYTES}
 use Rattle.pages.specs.Form.{HasTexts}
+use Rattle.states.specs.State.{StateView}
+use Rattle.states.specs.Within.{RepliesWithin}
 use Rattle.states.specs.OldRecord.{old_changes_text, old_after_text, IsOldSuccessor}
 use Rattle.states.proofs.OldRecordLemmas.{old_changes_free}
 use Rattle.states.proofs.OldStateLemmas.{no_old_front, no_old_items, not_made_old, made_old}
 use Rattle.states.proofs.state.State.take_old_after.Goals as goal
 
+pub returns-then-not-has_blocks_within : goal.returns-then-not-has_blocks_within
+returns-then-not-has_blocks_within c = record {
+  none = λ v after f here. false≢true (sym c.if-not-has_blocks_within.true ∙ c.has_blocks_within.ensures.1 f.blocks);
+}
+
 pub returns-in_err-head : goal.returns-in_err-head
 unfolding old_after_text
 returns-in_err-head c =
     let p = err_from_is_err_and c.from_residual.result c.from_residual.ensures.1 in
-    rw (p.1, p.2) (no_old_front (old_changes_text c.args.before.now.items) (IsOldSuccessor c.args.before.now c.args.batch.now) (λ s f. f.old) c.args.bytes.now (λ s f. f.follows.sessions_fit) c.in_err-head.field-0.0 c.in_err-head.ensures)
+    rw (p.1, p.2) (no_old_front (old_changes_text c.args.before.now.items) (IsOldSuccessor c.args.before.now c.args.batch.now) (λ s f. f.old) c.args.bytes.now (λ s f. f.follows.sessions_fit) (λ s f. f.replies) c.in_err-head.field-0.0 c.in_err-head.ensures)
 
 pub returns-in_err-pages : goal.returns-in_err-pages
 unfolding old_after_text
@@ -41,4 +50,5 @@ returns c =
     c.in_ok-pages.ensures.1 ∙ ap (λ (m : Items). old_changes_text m c.in_ok-pages.pages ++ c.in_ok-pages.rest.now) c.pages.ensures in
     let made = made_old (old_changes_text c.args.before.now.items) (IsOldSuccessor c.args.before.now c.args.batch.now) (λ s f. f.old) c.args.bytes.now c.in_ok-head.head c.in_ok-head.sessions c.in_ok-head.rest.now
     c.in_ok-head.ensures.0.0 c.in_ok-head.ensures.1 (old_changes_free c.args.before.now.items) c.in_ok-pages.pages c.in_ok-pages.rest.now more c.in_ok-state.state c.in_ok-state.ensures.1 in
-    (record { follows = c.in_ok-state.ensures.0; old = made.0 }, made.1)
+    let replies = subst (λ (s : StateView). RepliesWithin OLD_BLOCK_BYTES s.sessions) (sym c.in_ok-state.ensures.1) c.in_ok-head.ensures.0.2 in
+    (record { follows = c.in_ok-state.ensures.0; old = made.0; blocks = c.has_blocks_within.ensures.0 c.if-not-has_blocks_within.false; replies = replies }, made.1)

@@ -1,7 +1,8 @@
 //! How large a world is.
 
-ghost use Rattle.std.specs.Prelude.{◌≡◌, ◌↔◌, IfOk, IfErr, Err};
-ghost use Rattle.worlds.specs.Config.{IsConfig};
+ghost use Rattle.std.specs.Prelude.{◌≡◌, ◌↔◌, ◌<◌, ◌≤◌, IfOk, IfErr, Err};
+ghost use Rattle.events.specs.Config.{IsConfig};
+ghost use Rattle.events.specs.declared.config.TheConstants.{MOST_CLIENTS};
 
 use proto::Fault;
 use std::marker::Model;
@@ -18,7 +19,7 @@ pub struct Config {
 }
 
 impl Model for Config {
-    ghost use Rattle.worlds.specs.Config.{ConfigView, IsConfig};
+    ghost use Rattle.events.specs.Config.{ConfigView, IsConfig};
 
     ghost Value = { ConfigView };
 
@@ -44,16 +45,19 @@ impl Config {
         }
     }
 
-    /// How many of the executors, and of the verifiers, may fail.
+    /// How many of the executors, and of the verifiers, may fail: 0 to 3.
     pub fn u(&self) -> u8
-        ensures { result ≡ self.now.u }
+        ensures given { result ≡ self.now.u }
+        ensures few { result < 4 }
     {
         self.u
     }
 
-    /// How many clients there are.
+    /// How many clients there are: 1 to `MOST_CLIENTS`.
     pub fn clients(&self) -> u16
-        ensures { result ≡ self.now.clients }
+        ensures given { result ≡ self.now.clients }
+        ensures some_clients { 1 ≤ result }
+        ensures not_too_many { result ≤ MOST_CLIENTS }
     {
         self.clients
     }

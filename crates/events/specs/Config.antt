@@ -1,6 +1,6 @@
 -- How large a world is.
 use Rattle.std.specs.Prelude.{ℕ, ◌<◌, ◌≤◌}
-use Rattle.worlds.specs.declared.config.TheConstants.{MOST_CLIENTS}
+use Rattle.events.specs.declared.config.TheConstants.{MOST_CLIENTS}
 
 pub record ConfigView : Type 0 where
   -- how many of 2u + 1 executors, and of as many verifiers, may fail

@@ -1,0 +1,11 @@
+mod PartsLemmas
+mod OptionLemmas
+mod LinesLemmas
+mod EscapeLemmas
+mod WordLemmas
+mod LineLemmas
+mod HeadLemmas
+mod BadLemmas
+mod LawLemmas
+mod ReadLemmas
+mod PrintedLemmas

@@ -1,0 +1,24 @@
+//! What holds of every schedule and its text. The functions do nothing: what each says is its contract.
+
+ghost use Rattle.schedules.specs.Laws.{OneIsSpelled, BadLineSpellsNone, OneIsFirstBad, PrintedIsRead};
+
+/// The same bytes spell no two schedules.
+pub fn one_schedule_is_spelled()
+    ensures { OneIsSpelled }
+{}
+
+/// Where a line is bad, the bytes spell no schedule. So what spells one is never refused, but for want
+/// of memory.
+pub fn a_bad_line_spells_no_schedule()
+    ensures { BadLineSpellsNone }
+{}
+
+/// No two lines of a file are the first bad one.
+pub fn one_line_is_first_bad()
+    ensures { OneIsFirstBad }
+{}
+
+/// What is printed of bytes stands for them, as the text of a Feed.
+pub fn what_is_printed_is_read()
+    ensures { PrintedIsRead }
+{}
