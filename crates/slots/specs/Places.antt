@@ -1,0 +1,48 @@
+-- What is always true of a place, and by what it is identified.
+use Rattle.std.specs.Prelude.{◌≡◌, ℕ, Bool, IsTrue, List, Option, ◌⊎◌, refl}
+use Rattle.std.specs.Coded.{Coded, code_by, coded×, coded⊎, coded_ℕ, coded_bool, coded_list, coded_option}
+use Rattle.std.proofs.Common.{inl, inr}
+use Rattle.keeper.specs.Kept.{Kept}
+use Rattle.exec_node.specs.Executor.{ExecutorView}
+use Rattle.verifier.specs.Verifier.{VerifierView}
+use Rattle.worlds.specs.declared.slot.Slot.{Slot}
+use Rattle.worlds.specs.declared.slot.Slot.TheVariants.{Up, Down, Gone}
+
+abbrev pub verifier_up : VerifierView → Bool
+verifier_up v = v.up
+
+abbrev pub executor_up : ExecutorView → Bool
+executor_up e = e.up
+
+-- a replica that is there was not stopped
+abbrev pub IsUpAt : {N : Type 0} → (N → Bool) → Slot N → Type 0
+IsUpAt up (Up n) = IsTrue (up n)
+IsUpAt up (Down kept) = Unit {0}
+IsUpAt up (Gone kept) = Unit {0}
+
+abbrev kept_code : Coded Kept
+kept_code =
+    code_by ((Option (List ℕ) × ℕ) × Bool) (coded× (coded× (coded_option (coded_list coded_ℕ)) coded_ℕ) coded_bool)
+    (λ k. ((k.saved, k.failures), k.fails_next))
+    (λ p. record { saved = p.0.0; failures = p.0.1; fails_next = p.1 })
+    (λ _. refl)
+
+module _ {N : Type 0} where
+  abbrev slot_parts : Slot N → N ⊎ (Kept ⊎ Kept)
+  slot_parts (Up n) = inl n
+  slot_parts (Down kept) = inr (inl kept)
+  slot_parts (Gone kept) = inr (inr kept)
+
+  abbrev slot_of_parts : N ⊎ (Kept ⊎ Kept) → Slot N
+  slot_of_parts (inl n) = Up n
+  slot_of_parts (inr (inl kept)) = Down kept
+  slot_of_parts (inr (inr kept)) = Gone kept
+
+  pub slot_of_parts-slot_parts : (s : Slot N) → slot_of_parts (slot_parts s) ≡ s
+  slot_of_parts-slot_parts (Up n) = refl
+  slot_of_parts-slot_parts (Down kept) = refl
+  slot_of_parts-slot_parts (Gone kept) = refl
+
+  -- a place is identified by what is there
+  abbrev pub slot_code : Coded N → Coded (Slot N)
+  slot_code n = code_by (N ⊎ (Kept ⊎ Kept)) (coded⊎ n (coded⊎ kept_code kept_code)) slot_parts slot_of_parts slot_of_parts-slot_parts

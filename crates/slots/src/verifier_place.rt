@@ -1,0 +1,156 @@
+//! The place of a verifier.
+
+ghost use Rattle.std.specs.Prelude.{◌≡◌, ◌<◌, ◌≤◌, ◌*◌, IfSome, IfNone, OnSome, IsTrue};
+ghost use Rattle.worlds.specs.declared.slot.Slot.TheVariants.{Down};
+ghost use Rattle.worlds.specs.Slots.{verifier_kept, VerifierReopens};
+ghost use Rattle.slots.specs.Places.{IsUpAt, verifier_up};
+ghost use Rattle.slots.specs.Steps.{VerifierDoes, VerifierStops};
+
+use crate::kept_node::KeptNode;
+use crate::places::{crash, lose, taken};
+use decrees::{Ballot, Letter};
+use keeper::MemKeeper;
+use std::alloc::Global;
+use std::marker::Model;
+use verifier::{Input, Verifier};
+use worlds::Slot;
+
+impl KeptNode for Verifier<MemKeeper> {
+    ghost kept = { verifier_kept };
+
+    ghost up = { verifier_up };
+
+    #[tactic(auto, using(crate::proofs::StepLemmas::kept_is))]
+    fn into_keeper(self) -> MemKeeper {
+        self.end()
+    }
+}
+
+/// The place of a verifier: one that is there was never stopped.
+#[derive(Drop)]
+pub struct VerifierPlace {
+    slot: Slot<Verifier<MemKeeper>>,
+}
+
+impl Model for VerifierPlace {
+    ghost use Rattle.verifier.specs.Verifier.{VerifierView};
+    ghost use Rattle.worlds.specs.declared.slot.Slot as of_world;
+    ghost use Rattle.slots.specs.Places.{IsUpAt, verifier_up};
+
+    ghost Value = { of_world.Slot VerifierView };
+
+    ghost view = { λ p. p.slot };
+
+    ghost invariant = { λ p. IsUpAt verifier_up p.slot };
+}
+
+/// Does the step of the input, and gives its letters. None: it stopped.
+#[tactic(auto, using(crate::proofs::StepLemmas::ok_is_untold, crate::proofs::StepLemmas::error_fits))]
+fn stepped(
+    node: &mut Verifier<MemKeeper>,
+    alloc: Global,
+    input: Input,
+) -> Option<Vec<Letter<Ballot>>>
+    requires { IsTrue node.old.up }
+    ensures does { IfSome result (λ letters. VerifierDoes node.old input node.new letters.items) }
+    ensures up { OnSome result (IsTrue node.new.up) }
+    ensures stops { IfNone result (VerifierStops node.old input node.new) }
+{
+    match node.handle(alloc, input) {
+        Ok(letters) => Some(letters),
+        Err(_) => None,
+    }
+}
+
+/// What is there after it was opened, and what that sends.
+#[tactic(auto, using(crate::proofs::StepLemmas::verifier_opens, crate::proofs::StepLemmas::verifier_refused, crate::proofs::StepLemmas::verifier_opened_up))]
+fn reopened(
+    slot: Slot<Verifier<MemKeeper>>,
+    alloc: Global,
+    u: u8,
+    id: u8,
+) -> (Slot<Verifier<MemKeeper>>, Vec<Letter<Ballot>>)
+    requires few { u < 4 }
+    requires member { id ≤ 2 * u }
+    requires up { IsUpAt verifier_up slot }
+    ensures opens { VerifierReopens u id slot result.0 result.1.items }
+    ensures up { IsUpAt verifier_up result.0 }
+{
+    match slot {
+        Slot::Down(keeper) => match Verifier::open(alloc, u, id, keeper) {
+            Ok((node, letters)) => (Slot::Up(node), letters),
+            Err((_, keeper)) => (Slot::Down(keeper), Vec::new(alloc)),
+        },
+        other => (other, Vec::new(alloc)),
+    }
+}
+
+impl VerifierPlace {
+    ghost use Rattle.std.specs.Prelude.{◌≡◌, ◌<◌, ◌≤◌, ◌*◌};
+    ghost use Rattle.worlds.specs.declared.slot.Slot.TheVariants.{Down};
+    ghost use Rattle.worlds.specs.Slots.{verifier_kept, verifier_told, crashed_slot, lost_slot, told_slot, VerifierSettles, VerifierReopens};
+    ghost use Rattle.worlds.specs.World.{nothing_kept};
+
+    /// One that was never opened: it is down, and nothing is kept.
+    pub fn unopened() -> VerifierPlace
+        ensures { result ≡ Down nothing_kept }
+    {
+        VerifierPlace {
+            slot: Slot::Down(MemKeeper::new()),
+        }
+    }
+
+    /// Gives it the input, where it is up; the result is what it sends. Where its step meets an error it
+    /// stops, and is down with its record; then nothing is sent.
+    #[tactic(auto, using(crate::proofs::StepLemmas::verifier_settles, crate::proofs::StepLemmas::verifier_stops))]
+    pub fn settle(&mut self, alloc: Global, input: Input) -> Vec<Letter<Ballot>>
+        ensures { VerifierSettles self.old input self.new result.items }
+    {
+        match &mut self.slot {
+            Slot::Up(node) => match stepped(node, alloc, input) {
+                Some(letters) => letters,
+                None => {
+                    crash(&mut self.slot);
+                    Vec::new(alloc)
+                }
+            },
+            Slot::Down(_) => Vec::new(alloc),
+            Slot::Gone(_) => Vec::new(alloc),
+        }
+    }
+
+    /// Opens it as number `id` of `2u + 1`, where it is down; the result is what it sends. Where that is
+    /// refused it stays down.
+    pub fn restart(&mut self, alloc: Global, u: u8, id: u8) -> Vec<Letter<Ballot>>
+        requires few { u < 4 }
+        requires member { id ≤ 2 * u }
+        ensures { VerifierReopens u id self.old self.new result.items }
+    {
+        let (slot, letters) = reopened(taken(&mut self.slot), alloc, u, id);
+        self.slot = slot;
+        letters
+    }
+
+    /// It stops, where it is up.
+    pub fn crash(&mut self)
+        ensures { self.new ≡ crashed_slot verifier_kept self.old }
+    {
+        crash(&mut self.slot);
+    }
+
+    /// It is lost for good, up or down.
+    pub fn lose(&mut self)
+        ensures { self.new ≡ lost_slot verifier_kept self.old }
+    {
+        lose(&mut self.slot);
+    }
+
+    /// Its next save will fail, where it is up.
+    pub fn fail_next(&mut self)
+        ensures { self.new ≡ told_slot verifier_told self.old }
+    {
+        if let Slot::Up(node) = &mut self.slot {
+            node.keeper().fail_next();
+        }
+    }
+}

@@ -1,0 +1,79 @@
+//! All nodes, and all letters that were ever sent.
+
+ghost use Rattle.std.specs.Prelude.{◌≡◌};
+
+use decrees::Letter;
+use exec_lines::Body;
+use slots::{ClientPlace, ExecutorPlace, VerifierPlace};
+use std::marker::Model;
+
+/// All nodes of one world, and all letters that were ever sent. It cannot be dropped, since executors
+/// cannot: `end` ends it.
+pub struct World {
+    pub(crate) u: u8,
+    pub(crate) clients: Vec<ClientPlace>,
+    pub(crate) executors: Vec<ExecutorPlace>,
+    pub(crate) verifiers: Vec<VerifierPlace>,
+    pub(crate) letters: Vec<Letter<Body>>,
+}
+
+impl Model for World {
+    ghost use Rattle.slots.specs.contracts.client_place.ClientPlace as client_place;
+    ghost use Rattle.slots.specs.contracts.executor_place.ExecutorPlace as executor_place;
+    ghost use Rattle.slots.specs.contracts.verifier_place.VerifierPlace as verifier_place;
+    ghost use Rattle.decrees.specs.contracts.node.Letter as letter;
+    ghost use Rattle.exec_lines.specs.contracts.body.Body as body;
+    ghost use Rattle.worlds.specs.World.{WorldView};
+    ghost use Rattle.world.specs.World.{IsWorld, world_code};
+
+    ghost Value = { WorldView };
+
+    ghost coded = { world_code client_place.the_row.coded executor_place.the_row.coded verifier_place.the_row.coded (letter.the_row body.the_row).coded };
+
+    ghost view = { λ w. record { u = w.u; clients = w.clients.items; executors = w.executors.items; verifiers = w.verifiers.items; letters = w.letters.items } };
+
+    ghost invariant = { λ w. IsWorld (record { u = w.u; clients = w.clients.items; executors = w.executors.items; verifiers = w.verifiers.items; letters = w.letters.items }) };
+}
+
+impl World {
+    ghost use Rattle.std.specs.Prelude.{◌≡◌, length};
+    ghost use Rattle.std.specs.Option.{option_map};
+    ghost use Rattle.world.specs.World.{given_to};
+
+    /// How many letters were ever sent. They are numbered from 1, in this order.
+    pub fn sent(&self) -> usize
+        ensures { result ≡ length self.now.letters }
+    {
+        self.letters.len()
+    }
+
+    /// What the client of this number was given so far; clients are numbered from 1. None: there is no
+    /// such client.
+    pub fn given(&self, client: u16) -> Option<&[u8]>
+        ensures { option_map (λ bytes. bytes.now) result ≡ given_to self.now.clients client }
+    {
+        if client == 0 {
+            return None;
+        }
+        let place = self.clients.get(usize::from(client - 1))?;
+        Some(place.given())
+    }
+
+    /// Ends all nodes.
+    pub fn end(self) {
+        let World {
+            u: _,
+            clients,
+            mut executors,
+            verifiers,
+            letters,
+        } = self;
+        while let Some(place) = executors.pop() {
+            place.end();
+        }
+        executors.destroy_empty();
+        drop(clients);
+        drop(verifiers);
+        drop(letters);
+    }
+}
