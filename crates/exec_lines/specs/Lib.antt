@@ -1,5 +1,6 @@
 pub mod Begun
 pub mod State
+pub mod Shown
 pub mod CutProofs
 pub mod Lines
 pub mod Step

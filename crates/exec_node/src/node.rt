@@ -416,6 +416,13 @@ impl<K: Keeper> ExecNode<K> {
         !self.stopped
     }
 
+    /// What it keeps: `State::report` and `State::next_work` say how far it is, and what its work waits for.
+    pub fn state(&self) -> &State
+        ensures { result.now ≡ self.now.state }
+    {
+        &self.state
+    }
+
     /// Lends the keeper.
     pub fn keeper(&mut self) -> &mut K
         ensures* writes_back { sem 𝓛 (LendsExecutorKeeper K.row K.Keeper self.entry result) }

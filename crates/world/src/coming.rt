@@ -4,9 +4,9 @@ use crate::world::World;
 use client::Input as ClientInput;
 use decrees::{Letter, Node};
 use exec_lines::{Body, Input as ExecutorInput};
-use slots::letter_copy;
 use std::alloc::{AllocError, Global};
 use verifier::Input as VerifierInput;
+use worlds::letter_copy;
 
 impl World {
     ghost use Rattle.std.specs.Prelude.{◌≡◌, OnOk};

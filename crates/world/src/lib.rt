@@ -1,7 +1,7 @@
 //! All nodes in one world, stepped by events: whatever happens, and in whatever order.
 //!
-//! It stands on `slots`, whose places it has, and on `worlds`, whose relation `WorldNext` each of its steps
-//! is, and whose laws hold of each world that is reached. The layer above uses `play`: the world that it
+//! It stands on `worlds`, whose places it has, whose relation `WorldNext` each of its steps is, and whose laws
+//! hold of each world that is reached. The layer above uses `play`: the world that it
 //! gives is reached by just these events, so at a place at most one decree is chosen, a chosen one is
 //! backed, and where at most `u` verifiers are lost for good, another one's record holds each.
 #![tactic(auto)]
@@ -13,6 +13,7 @@ mod opening;
 mod plays;
 mod sending;
 mod stepping;
+mod waiting;
 mod world;
 
 pub use crate::world::World;

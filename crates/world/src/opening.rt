@@ -5,9 +5,8 @@ ghost use Rattle.worlds.specs.declared.slot.Slot.TheVariants.{Down};
 ghost use Rattle.worlds.specs.World.{new_clients, nothing_kept};
 
 use crate::world::World;
-use slots::{ClientPlace, ExecutorPlace, VerifierPlace};
 use std::alloc::{AllocError, Global};
-use worlds::{Config, Replica};
+use worlds::{ClientPlace, Config, ExecutorPlace, Replica, VerifierPlace};
 
 /// So many clients, of which nothing came yet.
 fn first_clients(alloc: Global, u: u8, count: u16) -> Result<Vec<ClientPlace>, AllocError>

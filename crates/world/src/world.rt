@@ -4,8 +4,8 @@ ghost use Rattle.std.specs.Prelude.{◌≡◌};
 
 use decrees::Letter;
 use exec_lines::Body;
-use slots::{ClientPlace, ExecutorPlace, VerifierPlace};
 use std::marker::Model;
+use worlds::{ClientPlace, ExecutorPlace, VerifierPlace};
 
 /// All nodes of one world, and all letters that were ever sent. It cannot be dropped, since executors
 /// cannot: `end` ends it.
@@ -18,9 +18,9 @@ pub struct World {
 }
 
 impl Model for World {
-    ghost use Rattle.slots.specs.contracts.client_place.ClientPlace as client_place;
-    ghost use Rattle.slots.specs.contracts.executor_place.ExecutorPlace as executor_place;
-    ghost use Rattle.slots.specs.contracts.verifier_place.VerifierPlace as verifier_place;
+    ghost use Rattle.worlds.specs.contracts.client_place.ClientPlace as client_place;
+    ghost use Rattle.worlds.specs.contracts.executor_place.ExecutorPlace as executor_place;
+    ghost use Rattle.worlds.specs.contracts.verifier_place.VerifierPlace as verifier_place;
     ghost use Rattle.decrees.specs.contracts.node.Letter as letter;
     ghost use Rattle.exec_lines.specs.contracts.body.Body as body;
     ghost use Rattle.worlds.specs.World.{WorldView};
@@ -57,6 +57,34 @@ impl World {
         }
         let place = self.clients.get(usize::from(client - 1))?;
         Some(place.given())
+    }
+
+    /// All letters that were ever sent, in this order: they are numbered from 1.
+    pub fn letters(&self) -> &[Letter<Body>]
+        ensures { result.now ≡ self.now.letters }
+    {
+        &self.letters
+    }
+
+    /// The places of its clients, that of client 1 first.
+    pub fn clients(&self) -> &[ClientPlace]
+        ensures { result.now ≡ self.now.clients }
+    {
+        &self.clients
+    }
+
+    /// The places of its executors, by number.
+    pub fn executors(&self) -> &[ExecutorPlace]
+        ensures { result.now ≡ self.now.executors }
+    {
+        &self.executors
+    }
+
+    /// The places of its verifiers, by number.
+    pub fn verifiers(&self) -> &[VerifierPlace]
+        ensures { result.now ≡ self.now.verifiers }
+    {
+        &self.verifiers
     }
 
     /// Ends all nodes.

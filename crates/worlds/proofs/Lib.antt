@@ -1,7 +1,9 @@
-pub mod Places
+pub mod PlaceLemmas
 pub mod OwnLetters
 pub mod BallotLemmas
 pub mod Follows
 pub mod Restarts
 pub mod Projected
 pub mod Proved
+mod StepLemmas
+mod ClientLemmas

@@ -21,7 +21,7 @@ use Rattle.events.specs.Config.{ConfigView}
 use Rattle.worlds.specs.World.{WorldView, ReachedWorlds, EndsWith}
 use Rattle.worlds.specs.Machines.{IsSameVerifier, IsOfMachine, HaveMachines}
 use Rattle.worlds.specs.Laws.{IsReached, OneIsChosenInWorlds, ChosenIsBackedInWorlds, verifier_record, is_gone, ChosenIsKeptInWorlds, chosen_list, ListIsChosenInWorlds, ListsGrow, ListGrowsInWorlds}
-use Rattle.worlds.proofs.Places.{get_within}
+use Rattle.worlds.proofs.PlaceLemmas.{get_within}
 use Rattle.worlds.proofs.Projected.{are_of_machines, last_has_machine}
 
 -- the world is of a reached machine

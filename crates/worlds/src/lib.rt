@@ -1,18 +1,31 @@
-//! Laws of the world: what all nodes do in one world, stepped by events, and what holds of every world
-//! that is reached.
+//! The places of a world, with what may become of each, and the laws of every world that is reached.
 //!
-//! It stands on `events`, on `client`, `exec_node` and `verifier`, of whose step functions the worlds of
-//! `specs/World.antt` are made, and on `agreement`, whose laws hold of each of these worlds. The layer
-//! above uses the relation `WorldNext`, of which each of its steps is to be one, and calls the laws: each
-//! is the contract of a function that does nothing.
+//! It stands on `events`, on `client`, `exec_node` and `verifier`, whose steps a place makes and of whose step
+//! functions the worlds of `specs/World.antt` are made, on `keeper`, whose keepers in memory outlive their
+//! replicas, and on `agreement`, whose laws hold of each world. The layer above uses the relation `WorldNext`,
+//! of which each of its steps is to be one; `settle`, `restart`, `crash`, `lose` and `fail_next` of a place,
+//! each of which is exactly the part of that relation that it names; `letter_copy`, since a letter may come
+//! any number of times; and the laws: each is the contract of a function that does nothing.
 #![tactic(auto)]
 
+mod client_place;
+mod copies;
+mod executor_place;
+mod kept_node;
 mod laws;
+mod places;
 mod slot;
+mod status;
+mod verifier_place;
 
+pub use client_place::ClientPlace;
+pub use copies::letter_copy;
 pub use events::{Config, Event, MOST_CLIENTS, Replica};
+pub use executor_place::ExecutorPlace;
 pub use laws::{
     chosen_is_backed_in_worlds, chosen_is_kept_in_worlds, chosen_list_only_grows_in_worlds,
     one_is_chosen_in_worlds, worlds_are_of_machines,
 };
 pub use slot::Slot;
+pub use status::{Status, VerifierReport};
+pub use verifier_place::VerifierPlace;

@@ -2,11 +2,12 @@
 
 ghost use Rattle.std.specs.Prelude.{◌≡◌, ◌<◌, ◌≤◌, ◌*◌, IfSome, IfNone, OnSome, IsTrue};
 ghost use Rattle.worlds.specs.Slots.{executor_kept, ExecutorReopens};
-ghost use Rattle.slots.specs.Places.{IsUpAt, executor_up};
-ghost use Rattle.slots.specs.Steps.{ExecutorDoes, ExecutorStops};
+ghost use Rattle.worlds.specs.Places.{IsUpAt, executor_up};
+ghost use Rattle.worlds.specs.Steps.{ExecutorDoes, ExecutorStops};
 
 use crate::kept_node::KeptNode;
 use crate::places::{crash, end, lose, put, taken};
+use crate::slot::Slot;
 use decrees::Letter;
 use exec_lines::{Body, Input};
 use exec_node::{ExecNode, unfit_input_changes_nothing};
@@ -14,7 +15,6 @@ use keeper::MemKeeper;
 use proto::Fault;
 use std::alloc::Global;
 use std::marker::Model;
-use worlds::Slot;
 
 impl KeptNode for ExecNode<MemKeeper> {
     ghost kept = { executor_kept };
@@ -30,14 +30,14 @@ impl KeptNode for ExecNode<MemKeeper> {
 /// The place of an executor: one that is there was never stopped. It cannot be dropped, since an executor
 /// cannot: `end` ends it.
 pub struct ExecutorPlace {
-    slot: Slot<ExecNode<MemKeeper>>,
+    pub(crate) slot: Slot<ExecNode<MemKeeper>>,
 }
 
 impl Model for ExecutorPlace {
     ghost use Rattle.exec_lines.specs.contracts.state.State as state;
     ghost use Rattle.exec_node.specs.Executor.{ExecutorView, executor_view_code};
     ghost use Rattle.worlds.specs.declared.slot.Slot as of_world;
-    ghost use Rattle.slots.specs.Places.{IsUpAt, executor_up, slot_code};
+    ghost use Rattle.worlds.specs.Places.{IsUpAt, executor_up, slot_code};
 
     ghost Value = { of_world.Slot ExecutorView };
 

@@ -11,7 +11,7 @@ use std::marker::Model;
 /// A client's part of the server, and the bytes that its client was given so far.
 #[derive(Drop)]
 pub struct ClientPlace {
-    client: Client,
+    pub(crate) client: Client,
     given: Vec<u8>,
 }
 

@@ -16,7 +16,7 @@ use Rattle.verifier.specs.declared.input.Input as of_verifier
 use Rattle.verifier.specs.Verifier.{VerifierView, Opens}
 use Rattle.worlds.specs.declared.slot.Slot.TheVariants.{Up, Down}
 use Rattle.worlds.specs.Slots.{verifier_kept, executor_kept, verifier_told, executor_told, VerifierSettles, ExecutorSettles, VerifierReopens, ExecutorReopens}
-use Rattle.slots.specs.Steps.{VerifierDoes, VerifierStops, ExecutorDoes, ExecutorStops}
+use Rattle.worlds.specs.Steps.{VerifierDoes, VerifierStops, ExecutorDoes, ExecutorStops}
 
 not_both : (a b : Bool) → (IsTrue a → IsTrue b → ⊥) → IsTrue (not (a && b))
 not_both true true h = absurd (h refl refl)

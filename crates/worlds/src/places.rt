@@ -2,12 +2,12 @@
 
 ghost use Rattle.std.specs.Prelude.{◌≡◌};
 ghost use Rattle.worlds.specs.Slots.{crashed_slot, lost_slot};
-ghost use Rattle.slots.specs.Places.{IsUpAt};
+ghost use Rattle.worlds.specs.Places.{IsUpAt};
 
 use crate::kept_node::KeptNode;
+use crate::slot::Slot;
 use keeper::MemKeeper;
 use std::mem;
-use worlds::Slot;
 
 /// Ends what is there.
 pub fn end<N: KeptNode>(slot: Slot<N>) {

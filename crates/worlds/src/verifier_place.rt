@@ -3,17 +3,17 @@
 ghost use Rattle.std.specs.Prelude.{◌≡◌, ◌<◌, ◌≤◌, ◌*◌, IfSome, IfNone, OnSome, IsTrue};
 ghost use Rattle.worlds.specs.declared.slot.Slot.TheVariants.{Down};
 ghost use Rattle.worlds.specs.Slots.{verifier_kept, VerifierReopens};
-ghost use Rattle.slots.specs.Places.{IsUpAt, verifier_up};
-ghost use Rattle.slots.specs.Steps.{VerifierDoes, VerifierStops};
+ghost use Rattle.worlds.specs.Places.{IsUpAt, verifier_up};
+ghost use Rattle.worlds.specs.Steps.{VerifierDoes, VerifierStops};
 
 use crate::kept_node::KeptNode;
 use crate::places::{crash, lose, taken};
+use crate::slot::Slot;
 use decrees::{Ballot, Letter};
 use keeper::MemKeeper;
 use std::alloc::Global;
 use std::marker::Model;
 use verifier::{Input, Verifier};
-use worlds::Slot;
 
 impl KeptNode for Verifier<MemKeeper> {
     ghost kept = { verifier_kept };
@@ -29,13 +29,13 @@ impl KeptNode for Verifier<MemKeeper> {
 /// The place of a verifier: one that is there was never stopped.
 #[derive(Drop)]
 pub struct VerifierPlace {
-    slot: Slot<Verifier<MemKeeper>>,
+    pub(crate) slot: Slot<Verifier<MemKeeper>>,
 }
 
 impl Model for VerifierPlace {
     ghost use Rattle.verifier.specs.Verifier.{VerifierView};
     ghost use Rattle.worlds.specs.declared.slot.Slot as of_world;
-    ghost use Rattle.slots.specs.Places.{IsUpAt, verifier_up};
+    ghost use Rattle.worlds.specs.Places.{IsUpAt, verifier_up};
 
     ghost Value = { of_world.Slot VerifierView };
 

@@ -3,8 +3,8 @@ use Rattle.exec_node.specs.Executor.{ExecutorView}
 use Rattle.worlds.specs.declared.slot.Slot.{Slot}
 use Rattle.worlds.specs.declared.slot.Slot.TheVariants.{Up}
 use Rattle.worlds.specs.Slots.{ExecutorReopens}
-use Rattle.slots.proofs.StepLemmas.{executor_opens}
-use Rattle.slots.proofs.executor_place.reopened.Goals as goal
+use Rattle.worlds.proofs.StepLemmas.{executor_opens}
+use Rattle.worlds.proofs.executor_place.reopened.Goals as goal
 
 pub returns-in-Ok-clause-opens : goal.returns-in-Ok-clause-opens
 returns-in-Ok-clause-opens c =

@@ -1,0 +1,14 @@
+pub mod Steps
+pub mod Moves
+pub mod Works
+pub mod Lines
+pub mod Inputs
+pub mod Resumed
+pub mod Records
+pub mod VerifierLetters
+pub mod Follows
+pub mod Events
+pub mod Kept
+pub mod Plays
+pub mod Told
+pub mod Proved

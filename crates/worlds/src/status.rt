@@ -1,0 +1,91 @@
+//! What is seen of a place from outside.
+
+ghost use Rattle.std.specs.Prelude.{◌≡◌};
+ghost use Rattle.std.specs.Option.{option_map};
+ghost use Rattle.exec_node.specs.Executor.{ExecutorView};
+ghost use Rattle.verifier.specs.Verifier.{VerifierView};
+ghost use Rattle.worlds.specs.Status.{status_of, executor_report, verifier_report, node_at, WaitsFor, is_open};
+
+use crate::client_place::ClientPlace;
+use crate::executor_place::ExecutorPlace;
+use crate::slot::Slot;
+use crate::verifier_place::VerifierPlace;
+use exec_lines::{NextWork, Report};
+use exec_node::ExecNode;
+use keeper::MemKeeper;
+
+/// Whether a replica is there, and how far it is.
+#[derive(Clone, Copy)]
+pub enum Status<R> {
+    Up(R),
+    Down,
+    /// It is lost for good.
+    Lost,
+}
+
+/// How far a verifier is.
+#[derive(Clone, Copy)]
+pub struct VerifierReport {
+    /// How many decrees it knows.
+    pub decrees: u64,
+    pub view: u64,
+}
+
+impl ExecutorPlace {
+    /// The executor, if it is up.
+    pub fn node(&self) -> Option<&ExecNode<MemKeeper>>
+        ensures { option_map (λ node. node.now) result ≡ node_at self.now }
+    {
+        match &self.slot {
+            Slot::Up(node) => Some(node),
+            _ => None,
+        }
+    }
+
+    /// Whether the executor is there, and how far it is.
+    pub fn status(&self) -> Status<Report>
+        ensures { result ≡ status_of executor_report self.now }
+    {
+        match &self.slot {
+            Slot::Up(node) => Status::Up(node.state().report()),
+            Slot::Down(_) => Status::Down,
+            Slot::Gone(_) => Status::Lost,
+        }
+    }
+
+    /// What comes next of the work of an executor that is up and has work.
+    pub fn next_work(&self) -> Option<NextWork>
+        ensures { WaitsFor self.now result }
+    {
+        match &self.slot {
+            Slot::Up(node) => node.state().next_work(),
+            _ => None,
+        }
+    }
+}
+
+impl VerifierPlace {
+    /// Whether the verifier is there, and how far it is.
+    pub fn status(&self) -> Status<VerifierReport>
+        ensures { result ≡ status_of verifier_report self.now }
+    {
+        match &self.slot {
+            Slot::Up(node) => Status::Up(VerifierReport {
+                decrees: node.known(),
+                view: node.view(),
+            }),
+            Slot::Down(_) => Status::Down,
+            Slot::Gone(_) => Status::Lost,
+        }
+    }
+}
+
+impl ClientPlace {
+    /// Whether what its client sends is still taken: it was not closed, its client did not hang up, and it
+    /// was not stopped.
+    pub fn is_open(&self) -> bool
+        ensures { result ≡ is_open self.now }
+    {
+        self.client.is_up() && !self.client.is_closed()
+    }
+}
