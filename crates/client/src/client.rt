@@ -31,7 +31,7 @@ impl Model for Client {
 }
 
 impl Client {
-    ghost use Rattle.std.specs.Prelude.{◌≡◌, ◌↔◌, ◌⊎◌, IfOk, IfErr, IsOk, Err, IsTrue, not, true};
+    ghost use Rattle.std.specs.Prelude.{◌≡◌, ◌↔◌, ◌⊎◌, IfOk, IfErr, IsOk, Err, IsTrue, is_some, not, true};
     ghost use Rattle.client.specs.declared.input.Input.TheVariants.{Hangup};
     ghost use Rattle.client.specs.Talk.{new_talk};
     ghost use Rattle.client.specs.Step.{IsClientStep, IsOutOfNumbers, fits_talk};
@@ -94,5 +94,12 @@ impl Client {
         ensures { result ≡ self.now.talk.closed }
     {
         self.talk.closed
+    }
+
+    /// Whether it waits for the reply to a request, which an Again asks once more.
+    pub fn is_waiting(&self) -> bool
+        ensures { result ≡ is_some self.now.talk.outstanding }
+    {
+        self.talk.outstanding.is_some()
     }
 }
