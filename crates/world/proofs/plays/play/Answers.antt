@@ -2,6 +2,7 @@ use Rattle.std.proofs.Common.{Result, Ok, Err}
 use Rattle.std.specs.Prelude.{IfOk}
 use Rattle.worlds.specs.World.{WorldView}
 use Rattle.worlds.specs.Laws.{IsReached, OneIsChosen}
+use Rattle.one_server.specs.Laws.{ShowsOneServer, KeepsItsRun}
 use Rattle.world.proofs.plays.play.Goals as goal
 
 weaker : {T E : Type 0} (P Q : T → Type 0) (r : Result T E) → ((x : T) → P x → Q x) → IfOk r P → IfOk r Q
@@ -12,3 +13,17 @@ pub returns-clause-agree : goal.returns-clause-agree
 returns-clause-agree c =
     weaker (λ (w : WorldView). IsReached c.args.config.now c.args.events.now w) (λ (w : WorldView). OneIsChosen w) c.played.result
     (λ w reached. c.one_is_chosen_in_worlds.ensures c.args.config.now c.args.events.now w reached) c.played.ensures
+
+of_each : {T E : Type 0} (P : T → Type 0) (r : Result T E) → ((x : T) → P x) → IfOk r P
+of_each {T} {E} P (Ok x) each = each x
+of_each {T} {E} P (Err e) each = tt
+
+pub returns-clause-one_server : goal.returns-clause-one_server
+returns-clause-one_server c =
+    of_each (λ (w : WorldView). ShowsOneServer c.args.config.now c.args.events.now w) c.played.result
+    (λ w through distinct. c.worlds_are_of_one_server.ensures c.args.config.now c.args.events.now through.worlds through.reached distinct)
+
+pub returns-clause-executors_keep : goal.returns-clause-executors_keep
+returns-clause-executors_keep c =
+    of_each (λ (w : WorldView). KeepsItsRun c.args.config.now c.args.events.now w) c.played.result
+    (λ w through distinct. c.executors_keep_the_run.ensures c.args.config.now c.args.events.now through.worlds w through.reached through.ends distinct)
