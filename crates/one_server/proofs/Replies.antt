@@ -121,7 +121,7 @@ kept_one sessions r a None at e = absurd (cc e)
 kept_one sessions r a (Some kept) at e = by (kept.number == r.1.number) refl e
   where
     by : (b : Bool) → (kept.number == r.1.number) ≡ b → (if b then Some (record { place = r.0; client = r.1.client; number = r.1.number; reply = kept.reply }) else None) ≡ Some a → get sessions a.client ≡ Some (record { number = a.number; reply = a.reply })
-    by false no none = absurd (cc none)
+    by false other none = absurd (cc none)
     by true same some =
         let is : ◌≡◌ {A = Answered} (record { place = r.0; client = r.1.client; number = r.1.number; reply = kept.reply }) a = cc some in
         let number = eqb-true kept.number r.1.number same in

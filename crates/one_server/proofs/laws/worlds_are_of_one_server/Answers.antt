@@ -1,4 +1,3 @@
-use Rattle.one_server.proofs.Ends.{keep_the_run}
 use Rattle.one_server.proofs.Runs.{are_of_one_server}
 use Rattle.one_server.proofs.laws.worlds_are_of_one_server.Goals as goal
 
