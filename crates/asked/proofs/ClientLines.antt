@@ -184,9 +184,10 @@ module _ (events later : List Event) (letters : List (Letter Body)) (i : ℕ) (x
   settles_where : (b : Bool) (old now : ClientSlot) (new : List (Letter Body)) → old.client.up ≡ b → IsClientOf events letters (suc i) old → ClientSettlesWhere b old x now new → Comes new now
   settles_where false old now new up is h =
       let gone : IsReplied events letters (suc i) old.given = is_replied events letters (suc i) old is in
-      subst (Comes new) (sym h.0)
-      (record { same = is.same; is = subst (λ (b : Bool). IsClientWhere b later (letters ++ new) (suc i) old) (sym up) (replied_more events later letters new (suc i) old.given (piece_of x) fed gone) },
-      subst (AreAskedLetters later) (sym h.1) tt)
+      subst (Comes new) (sym h.0) (
+        record { same = is.same; is = subst (λ (b : Bool). IsClientWhere b later (letters ++ new) (suc i) old) (sym up) (replied_more events later letters new (suc i) old.given (piece_of x) fed gone) },
+        subst (AreAskedLetters later) (sym h.1) tt,
+      )
   settles_where true old now new up is (inl h) =
       let talk : IsTalkOf events letters (suc i) old = subst (λ (b : Bool). IsClientWhere b events letters (suc i) old) up is.is in
       let comes = goes_on old h.0 new is.same talk (subst (λ (c : ℕ). IsClientStep old.client.u c old.client.talk x h.0) is.same h.1) h.3 in

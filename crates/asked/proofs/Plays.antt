@@ -87,7 +87,7 @@ clients_new u (suc n) i slot e = ⊎_elim
     (λ (p : (i ≡ length (new_clients u n)) × (slot ≡ record { client = record { client = suc n; u = u; talk = new_talk; up = true }; given = [] })).
     let at : i ≡ n = p.0 ∙ count_clients u n in
     subst (λ (z : ℕ × ClientSlot). IsClientOf [] [] (suc z.0) z.1) (λ j. (sym at j, sym p.1 j)) (client_new u n))
-    (get_push (new_clients u n) (record { client = record { client = suc n; u = u; talk = new_talk; up = true }; given = [] }) i slot e)
+    (get_push (new_clients u n) (record { client = record { client = suc n; u = u; talk = new_talk; up = true }; given = [] }) slot i e)
 
 unopened_asked : (c : ConfigView) → IsAskedWorld [] c.u (unopened_world c)
 unopened_asked c = record {
