@@ -140,6 +140,8 @@ are_of_one_server executed_asked given_replied c events (first ∷ later) reache
     let past = first_past c first reached.0 in
     let among : Among (first ∷ []) (first ∷ later) = λ y at. ⊎_elim (λ (same : first ≡ y). subst (Contains (first ∷ later)) same (in_head first later)) (λ none. absurd (in_none y none)) (first_or_other first y [] at) in
     let replied = replies_first (IsCommittedReply (first ∷ []) first) c first reached.0 in
-    let run = has_run c (first ∷ later) apart executed_asked given_replied past among in
-    (run.0, is_run c (first ∷ later) apart executed_asked given_replied past among run.0 run.1 replied,
-    runs_grow c (first ∷ later) apart executed_asked given_replied past among events later (λ y at. in_tail first y later at) reached.1 (list_only_grows c events first later reached) replied run.0 run.1)
+    let run = has_run c (first ∷ later) apart executed_asked given_replied past among in (
+      run.0,
+      is_run c (first ∷ later) apart executed_asked given_replied past among run.0 run.1 replied,
+      runs_grow c (first ∷ later) apart executed_asked given_replied past among events later (λ y at. in_tail first y later at) reached.1 (list_only_grows c events first later reached) replied run.0 run.1,
+    )
