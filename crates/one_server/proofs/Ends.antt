@@ -1,22 +1,18 @@
 -- The state that a run ends with is in the record of an executor that is not lost.
-use Rattle.std.proofs.Common.{◌≡◌, inl, inr, ℕ, zero, suc, ◌<◌, ◌≤◌, List, [], ◌∷◌, length, Some, refl, sym, ap, ◌∙◌, subst, slice_get, arith}
+use Rattle.std.proofs.Common.{◌≡◌, inr, ℕ, zero, suc, ◌<◌, List, [], ◌∷◌, length, Some, sym, ◌∙◌, subst, slice_get, arith}
 use Rattle.std.specs.Prelude.{Contains}
 use Rattle.decrees.specs.Standing.{standing}
 use Rattle.states.specs.State.{StateView}
-use Rattle.events.specs.declared.event.Event.{Event}
-use Rattle.events.specs.Config.{ConfigView}
 use Rattle.one_run.specs.Run.{Executed, made_in, states_of}
 use Rattle.one_run.specs.Laws.{EndsAt}
 use Rattle.one_run.proofs.Elements.{in_head, in_tail}
 use Rattle.one_run.proofs.Tokens.{both_tell}
 use Rattle.one_run.proofs.Runs.{run_ends}
 use Rattle.custody.specs.Durable.{Keeps}
-use Rattle.worlds.specs.World.{WorldView}
 use Rattle.worlds.specs.Laws.{chosen_list}
 use Rattle.held.specs.Saved.{IsMet}
 use Rattle.held.proofs.Proved.{executors_keep_in_worlds}
 use Rattle.held.proofs.Told.{met_are_told_apart}
-use Rattle.one_server.specs.Run.{IsRun, KeepsTheEnd}
 use Rattle.one_server.specs.Laws.{ExecutorsKeepTheRun}
 
 got_in : (xs : List StateView) (i : ℕ) (x : StateView) → slice_get xs i ≡ Some x → Contains xs x

@@ -1,22 +1,16 @@
 -- Each reply that was ever sent to a client is kept by a committed state.
-use Rattle.std.proofs.Common.{◌≡◌, ◌⊎◌, inl, inr, ℕ, zero, suc, List, [], ◌∷◌, ◌++◌, Option, Some, refl, sym, ap, ◌∙◌, subst, ⊎_elim, slice_get}
+use Rattle.std.proofs.Common.{◌≡◌, inl, inr, ℕ, zero, suc, List, [], ◌∷◌, ◌++◌, Some, refl, sym, subst, ⊎_elim, slice_get}
 use Rattle.std.specs.Prelude.{Contains}
-use Rattle.std.specs.FinMap.{get}
 use Rattle.std.proofs.lemmas.List.Elements.{Contains-append_left}
 use Rattle.proto.specs.declared.reply.Reply as replies
 use Rattle.decrees.specs.declared.decree.Decree.{Decree}
 use Rattle.decrees.specs.declared.decree.Decree.TheVariants.{Commit}
 use Rattle.decrees.specs.declared.node.Letter.{Letter}
 use Rattle.decrees.specs.declared.node.Node.{Node}
-use Rattle.decrees.specs.declared.node.Node.TheVariants.{Client}
 use Rattle.decrees.specs.Count.{member_count}
 use Rattle.states.specs.State.{StateView}
 use Rattle.exec_lines.specs.declared.body.Body.{Body}
-use Rattle.exec_lines.specs.declared.body.Body.TheVariants as body
-use Rattle.exec_lines.specs.declared.input.Input.{Input}
-use Rattle.exec_lines.specs.State.{ExecutorState}
 use Rattle.exec_node.specs.Executor.{ExecutorView, executor_outcome, executor_handled}
-use Rattle.one_run.specs.Met.{IsKnown}
 use Rattle.one_run.specs.Chosen.{IsCommitted}
 use Rattle.one_run.proofs.Elements.{in_none, first_or_other}
 use Rattle.custody.specs.Durable.{Durable}
@@ -26,18 +20,17 @@ use Rattle.events.specs.declared.event.Event.TheVariants.{Restart}
 use Rattle.events.specs.declared.event.Replica.{Replica}
 use Rattle.events.specs.declared.event.Replica.TheVariants as replica
 use Rattle.events.specs.Config.{ConfigView}
-use Rattle.worlds.specs.declared.slot.Slot.{Slot}
 use Rattle.worlds.specs.declared.slot.Slot.TheVariants.{Up}
 use Rattle.worlds.specs.World.{WorldView, WorldNext, WorldRuns, last_world, unopened_world, restarts_below, opening_events, IsFirstWorld}
 use Rattle.worlds.specs.Laws.{chosen_list}
-use Rattle.held.specs.Saved.{saved_of, AreLinked, HasSaved, IsMet}
+use Rattle.held.specs.Saved.{saved_of, AreLinked}
 use Rattle.held.specs.Laws.{IsChosenState}
 use Rattle.held.proofs.Records.{chain_is_linked}
 use Rattle.held.proofs.Plays.{are_of_executor_machines}
 use Rattle.held.proofs.Proved.{committed_is_chosen_in_worlds}
 use Rattle.asked.specs.Asked.{WasSent}
 use Rattle.one_server.proofs.Replies.{SaidTo, AllReplies, replies_more, all-append, KeepsReply, KeepsBeforeOrAfter, step_replies}
-use Rattle.one_server.proofs.Sending.{Sends, StepsReply, opening_sends, event_sends}
+use Rattle.one_server.proofs.Sending.{StepsReply, opening_sends, event_sends}
 use Rattle.one_server.proofs.Past.{Past, next_past, among_push, met_among}
 
 -- A state that was met, or is the first, and of which a Commit is chosen, or that has number 0, keeps this reply for the client.

@@ -1,5 +1,5 @@
 -- Each world of a play has a run, which begins with that of the world before.
-use Rattle.std.proofs.Common.{◌≡◌, ◌⊎◌, inl, inr, ℕ, suc, ◌-◌, List, [], ◌∷◌, ◌++◌, take, Some, refl, sym, ap, ◌∙◌, subst, ⊎_elim, slice_get}
+use Rattle.std.proofs.Common.{◌≡◌, inl, inr, ℕ, suc, ◌-◌, List, [], ◌∷◌, ◌++◌, take, Some, sym, ap, subst, ⊎_elim, slice_get}
 use Rattle.std.specs.Prelude.{Contains}
 use Rattle.std.proofs.lemmas.List.Elements.{Contains-append_cases}
 use Rattle.proto.specs.declared.reply.Reply as replies
@@ -9,35 +9,30 @@ use Rattle.decrees.specs.declared.decree.Decree.TheVariants.{Commit, Rollback}
 use Rattle.decrees.specs.declared.standing.Standing.{Standing}
 use Rattle.decrees.specs.Standing.{standing}
 use Rattle.states.specs.State.{StateView}
-use Rattle.executor.specs.declared.answered.Answered.{Answered}
-use Rattle.client.specs.Taken.{TextsBy, Front}
 use Rattle.client.proofs.TakenLemmas.{texts_imply}
 use Rattle.one_run.specs.Run.{Executed, states_of, Extends}
-use Rattle.one_run.specs.Met.{IsKnown, ToldApart}
+use Rattle.one_run.specs.Met.{ToldApart}
 use Rattle.one_run.specs.Chosen.{IsMade, AllMade, IsRunOf}
 use Rattle.one_run.specs.Replied.{WasGiven}
 use Rattle.one_run.proofs.Runs.{has, grows, of_run}
 use Rattle.one_run.proofs.Replies.{answered_once, kept_was_given}
-use Rattle.custody.specs.Durable.{Durable}
 use Rattle.events.specs.declared.event.Event.{Event}
 use Rattle.events.specs.Config.{ConfigView}
-use Rattle.worlds.specs.Slots.{ClientSlot}
-use Rattle.worlds.specs.World.{WorldView, WorldNext, WorldRuns, IsFirstWorld, ReachedWorlds}
+use Rattle.worlds.specs.World.{WorldView, WorldNext, WorldRuns}
 use Rattle.worlds.specs.Laws.{chosen_list, ListsGrow}
 use Rattle.worlds.proofs.Proved.{list_only_grows}
-use Rattle.held.specs.Saved.{HasSaved, IsMet, IsExecuted, DigestsAreDistinct}
+use Rattle.held.specs.Saved.{IsMet, IsExecuted}
 use Rattle.held.specs.Laws.{IsChosenState}
 use Rattle.held.proofs.Proved.{chosen_is_made_in_worlds, committed_is_chosen_in_worlds}
 use Rattle.held.proofs.Told.{met_are_told_apart}
 use Rattle.one_run.proofs.Elements.{in_head, in_tail, in_none, first_or_other}
-use Rattle.asked.specs.Fed.{fed_to}
 use Rattle.asked.specs.Asked.{WasSent}
 use Rattle.asked.specs.Laws.{ExecutedIsAsked, GivenIsReplied}
-use Rattle.one_server.specs.Served.{WasAnswered, IsServed}
-use Rattle.one_server.specs.Run.{IsRun, RunsGrow, IsOneServer}
+use Rattle.one_server.specs.Served.{WasAnswered}
+use Rattle.one_server.specs.Run.{IsRun, RunsGrow}
 use Rattle.one_server.specs.Laws.{WorldsAreOfOneServer}
 use Rattle.one_server.proofs.Replies.{AllReplies}
-use Rattle.one_server.proofs.Past.{Past, first_past, next_past, Among, among_push, last_seen, met_among, executed_among}
+use Rattle.one_server.proofs.Past.{Past, first_past, next_past, Among, among_push, met_among, executed_among}
 use Rattle.one_server.proofs.Letters.{IsCommittedReply, replies_first, replies_next, sent_reply}
 
 -- more states met

@@ -1,5 +1,5 @@
 -- Of which replies it is asked what, in the letters that an event of a world sends.
-use Rattle.std.proofs.Common.{◌≡◌, ◌⊎◌, inl, inr, ℕ, zero, suc, Bool, true, false, List, [], ◌∷◌, ◌++◌, map, Option, Some, None, refl, sym, ap, ◌∙◌, subst, slice_get, slice_set}
+use Rattle.std.proofs.Common.{◌≡◌, inl, inr, ℕ, zero, suc, Bool, true, false, List, [], ◌∷◌, ◌++◌, map, Option, Some, None, refl, sym, ap, ◌∙◌, subst, slice_get}
 use Rattle.std.proofs.lemmas.Bool.{cond_both}
 use Rattle.std.proofs.lemmas.List.{append-nil}
 use Rattle.std.specs.Prelude.{◌==◌}
@@ -18,8 +18,6 @@ use Rattle.exec_lines.specs.declared.body.Body.{Body}
 use Rattle.exec_lines.specs.declared.body.Body.TheVariants as body
 use Rattle.exec_lines.specs.declared.input.Input as of_executor
 use Rattle.exec_lines.specs.declared.input.Input.TheVariants as executor_input
-use Rattle.exec_lines.specs.State.{ExecutorState}
-use Rattle.exec_lines.specs.Lines.{resumed}
 use Rattle.exec_node.specs.Executor.{ExecutorView, executor_outcome, executor_handled, OpensExecutor}
 use Rattle.verifier.specs.declared.input.Input as of_verifier
 use Rattle.verifier.specs.declared.input.Input.TheVariants as verifier_input
