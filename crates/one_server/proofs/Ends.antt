@@ -10,9 +10,9 @@ use Rattle.one_run.proofs.Tokens.{both_tell}
 use Rattle.one_run.proofs.Runs.{run_ends}
 use Rattle.custody.specs.Durable.{Keeps}
 use Rattle.worlds.specs.Laws.{chosen_list}
-use Rattle.held.specs.Saved.{IsMet}
-use Rattle.held.proofs.Proved.{executors_keep_in_worlds}
-use Rattle.held.proofs.Told.{met_are_told_apart}
+use Rattle.one_server.specs.Saved.{IsMet}
+use Rattle.one_server.proofs.Proved.{executors_keep_in_worlds}
+use Rattle.one_server.proofs.Told.{met_are_told_apart}
 use Rattle.one_server.specs.Laws.{ExecutorsKeepTheRun}
 
 got_in : (xs : List StateView) (i : ℕ) (x : StateView) → slice_get xs i ≡ Some x → Contains xs x

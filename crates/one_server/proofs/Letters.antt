@@ -23,12 +23,12 @@ use Rattle.events.specs.Config.{ConfigView}
 use Rattle.worlds.specs.declared.slot.Slot.TheVariants.{Up}
 use Rattle.worlds.specs.World.{WorldView, WorldNext, WorldRuns, last_world, unopened_world, restarts_below, opening_events, IsFirstWorld}
 use Rattle.worlds.specs.Laws.{chosen_list}
-use Rattle.held.specs.Saved.{saved_of, AreLinked}
-use Rattle.held.specs.Laws.{IsChosenState}
-use Rattle.held.proofs.Records.{chain_is_linked}
-use Rattle.held.proofs.Plays.{are_of_executor_machines}
-use Rattle.held.proofs.Proved.{committed_is_chosen_in_worlds}
-use Rattle.asked.specs.Asked.{WasSent}
+use Rattle.one_server.specs.Saved.{saved_of, AreLinked}
+use Rattle.one_server.specs.HeldLaws.{IsChosenState}
+use Rattle.one_server.proofs.Records.{chain_is_linked}
+use Rattle.one_server.proofs.Plays.{are_of_executor_machines}
+use Rattle.one_server.proofs.Proved.{committed_is_chosen_in_worlds}
+use Rattle.one_server.specs.Asked.{WasSent}
 use Rattle.one_server.proofs.Replies.{SaidTo, AllReplies, replies_more, all-append, KeepsReply, KeepsBeforeOrAfter, step_replies}
 use Rattle.one_server.proofs.Sending.{StepsReply, opening_sends, event_sends}
 use Rattle.one_server.proofs.Past.{Past, next_past, among_push, met_among}

@@ -8,7 +8,7 @@ use Rattle.states.specs.State.{StateView}
 use Rattle.one_run.specs.Run.{Executed}
 use Rattle.one_run.proofs.Elements.{in_head}
 use Rattle.worlds.specs.World.{WorldView, WorldNext, WorldRuns, last_world, IsFirstWorld, ReachedWorlds, EndsWith}
-use Rattle.held.specs.Saved.{IsMet, IsExecuted}
+use Rattle.one_server.specs.Saved.{IsMet, IsExecuted}
 
 -- these worlds were seen up to this one, by these events
 pub record Past (c : ConfigView) (events : List Event) (seen : List WorldView) (w : WorldView) : Type 0 where

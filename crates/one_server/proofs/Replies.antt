@@ -35,7 +35,7 @@ use Rattle.exec_lines.specs.Begun.{begin_of, finish_of}
 use Rattle.exec_lines.specs.State.{ExecutorState, ExecutorOutcome, is_behind, runs_in_order, executor_letter, to_first_verifiers, to_all_verifiers, to_first_executors, to_other_executors, token_told, to_clients, unchanged, one_letter}
 use Rattle.exec_lines.specs.Lines.{waits, wanted, completed, went_on, begin, after_cut, cut_batch, ordered, may_cut, on_cut, may_obey_order, on_order, stepped, work_after, finished, may_adopt, on_adopt, needs, rolled_back, roll_back, commit_first, obey, is_due, on_decree, has_more, on_need, came, on_parcel, resumed}
 use Rattle.exec_lines.specs.Step.{from_client, from_executor, on_ballot, from_verifier, on_letter, executor_step}
-use Rattle.held.specs.Saved.{AreLinked}
+use Rattle.one_server.specs.Saved.{AreLinked}
 
 -- ---- replies among letters
 

@@ -21,13 +21,13 @@ use Rattle.events.specs.Config.{ConfigView}
 use Rattle.worlds.specs.World.{WorldView, WorldNext, WorldRuns}
 use Rattle.worlds.specs.Laws.{chosen_list, ListsGrow}
 use Rattle.worlds.proofs.Proved.{list_only_grows}
-use Rattle.held.specs.Saved.{IsMet, IsExecuted}
-use Rattle.held.specs.Laws.{IsChosenState}
-use Rattle.held.proofs.Proved.{chosen_is_made_in_worlds, committed_is_chosen_in_worlds}
-use Rattle.held.proofs.Told.{met_are_told_apart}
+use Rattle.one_server.specs.Saved.{IsMet, IsExecuted}
+use Rattle.one_server.specs.HeldLaws.{IsChosenState}
+use Rattle.one_server.proofs.Proved.{chosen_is_made_in_worlds, committed_is_chosen_in_worlds}
+use Rattle.one_server.proofs.Told.{met_are_told_apart}
 use Rattle.one_run.proofs.Elements.{in_head, in_tail, in_none, first_or_other}
-use Rattle.asked.specs.Asked.{WasSent}
-use Rattle.asked.specs.Laws.{ExecutedIsAsked, GivenIsReplied}
+use Rattle.one_server.specs.Asked.{WasSent}
+use Rattle.one_server.specs.AskedLaws.{ExecutedIsAsked, GivenIsReplied}
 use Rattle.one_server.specs.Served.{WasAnswered}
 use Rattle.one_server.specs.Run.{IsRun, RunsGrow}
 use Rattle.one_server.specs.Laws.{WorldsAreOfOneServer}

@@ -4,7 +4,7 @@ use Rattle.events.specs.declared.event.Event.{Event}
 use Rattle.events.specs.Config.{ConfigView}
 use Rattle.worlds.specs.World.{WorldView, ReachedWorlds, EndsWith}
 use Rattle.worlds.specs.Laws.{IsReached}
-use Rattle.held.specs.Saved.{IsMet, DigestsAreDistinct}
+use Rattle.one_server.specs.Saved.{IsMet, DigestsAreDistinct}
 use Rattle.one_server.specs.Run.{IsOneServer, ExecutorsKeep}
 
 abbrev pub WorldsAreOfOneServer : Type 0

@@ -1,3 +1,9 @@
+pub mod Saved
+pub mod Machines
+pub mod HeldLaws
+pub mod Fed
+pub mod Asked
+pub mod AskedLaws
 pub mod Served
 pub mod Run
 pub mod Laws

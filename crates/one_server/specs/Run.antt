@@ -14,10 +14,10 @@ use Rattle.worlds.specs.declared.slot.Slot.{Slot}
 use Rattle.worlds.specs.Slots.{ClientSlot}
 use Rattle.worlds.specs.World.{WorldView}
 use Rattle.worlds.specs.Laws.{is_gone, chosen_list}
-use Rattle.held.specs.Saved.{IsSpelled, HasSaved, IsMet}
-use Rattle.held.specs.Laws.{executor_record, lost_executors}
-use Rattle.asked.specs.Fed.{fed_to, IsMoment}
-use Rattle.asked.specs.Asked.{IsAskedRequest}
+use Rattle.one_server.specs.Saved.{IsSpelled, HasSaved, IsMet}
+use Rattle.one_server.specs.HeldLaws.{executor_record, lost_executors}
+use Rattle.one_server.specs.Fed.{fed_to, IsMoment}
+use Rattle.one_server.specs.Asked.{IsAskedRequest}
 use Rattle.one_server.specs.Served.{IsServed}
 
 -- The run is what one server does that is fed as by these events, and this world shows nothing else.

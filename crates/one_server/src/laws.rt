@@ -2,7 +2,7 @@
 
 ghost use Rattle.one_server.specs.Laws.{WorldsAreOfOneServer, ExecutorsKeepTheRun};
 
-use asked::{executed_is_asked_in_worlds, given_is_replied_in_worlds};
+use crate::requests::{executed_is_asked_in_worlds, given_is_replied_in_worlds};
 
 /// Where digests tell the states that executors had in the worlds of a play apart, each of these worlds has
 /// one run of a single server, and that of a later one begins with it: one round for each chosen Commit,

@@ -1,5 +1,0 @@
-use Rattle.held.proofs.Told.{met_are_told_apart}
-use Rattle.held.proofs.laws.met_are_told_apart_in_worlds.Goals as goal
-
-pub returns : goal.returns
-returns c = met_are_told_apart

@@ -1,3 +1,0 @@
-pub mod Saved
-pub mod Machines
-pub mod Laws

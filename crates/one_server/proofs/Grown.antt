@@ -1,0 +1,75 @@
+-- What was asked stays asked where more is fed.
+use Rattle.std.proofs.Common.{◌≡◌, ℕ, zero, suc, ◌-◌, List, [], ◌∷◌, ◌++◌, length, Some, refl, sym, ◌∙◌, ap, subst, arith, append_assoc, slice_get}
+use Rattle.std.specs.Prelude.{flat_map, Contains}
+use Rattle.std.proofs.lemmas.List.{append-nil}
+use Rattle.std.proofs.lemmas.List.Elements.{Contains-append_left}
+use Rattle.std.proofs.lemmas.List.Concat.{flat_map-append}
+use Rattle.proto.specs.declared.command.Command.{Command}
+use Rattle.proto.specs.declared.turn.Turn.{Turn}
+use Rattle.proto.specs.declared.turn.Turn.TheVariants.{Ask, Say, Close}
+use Rattle.proto.proofs.SpellsLemmas.{spells_some, spells_longer}
+use Rattle.sessions.specs.declared.request.Request.{Request}
+use Rattle.batches.specs.declared.batch.Batch.{Batch}
+use Rattle.client.specs.Taken.{asked, Front}
+use Rattle.events.specs.declared.event.Event.{Event}
+use Rattle.events.specs.declared.event.Event.TheVariants.{Cut}
+use Rattle.one_server.specs.Fed.{fed_by, fed_to, IsMoment}
+use Rattle.one_server.specs.Asked.{IsAsked, IsAskedRequest, IsAskedBatch}
+
+-- ---- more bytes
+
+command_stays : (turns more : List Turn) (k : ℕ) (command : Command) → slice_get (asked turns) k ≡ Some command → slice_get (asked (turns ++ more)) k ≡ Some command
+command_stays [] more k command e = absurd (cc e)
+command_stays (Ask c quiet ∷ turns) more zero command e = e
+command_stays (Ask c quiet ∷ turns) more (suc k) command e = command_stays turns more k command e
+command_stays (Say notice ∷ turns) more k command e = command_stays turns more k command e
+command_stays (Close notice ∷ turns) more k command e = command_stays turns more k command e
+
+pub asked_longer : (bytes more : List ℕ) (number : ℕ) (command : Command) → IsAsked bytes number command → IsAsked (bytes ++ more) number command
+asked_longer bytes more number command is =
+    let s = spells_some (suc (length (bytes ++ more))) (bytes ++ more) (omega arith) in
+    let longer = spells_longer bytes more is.turns s.0 is.rest s.1 is.spells s.2 in
+    record {
+      turns = s.0;
+      rest = s.1;
+      spells = s.2;
+      from_one = is.from_one;
+      is = subst (λ (turns : List Turn). slice_get (asked turns) (number - 1) ≡ Some command) (sym longer.1) (command_stays is.turns longer.0 (number - 1) command is.is);
+    }
+
+pub front_longer : (bytes more : List ℕ) (taken : List Turn) → Front bytes taken → Front (bytes ++ more) taken
+front_longer bytes more taken front =
+    let s = spells_some (suc (length (bytes ++ more))) (bytes ++ more) (omega arith) in
+    let longer = spells_longer bytes more front.turns s.0 front.rest s.1 front.spells s.2 in
+    record { turns = s.0; rest = s.1; more = front.more ++ longer.0; spells = s.2; is = longer.1 ∙ (ap (λ (turns : List Turn). turns ++ longer.0) front.is ∙ append_assoc taken front.more longer.0) }
+
+-- ---- more events
+
+-- what is fed to each client only grows, and moments stay
+pub record IsLater (events later : List Event) : Type 0 where
+  pub fed : (client : ℕ) → (more : List ℕ) × (fed_to client later ≡ fed_to client events ++ more)
+  pub moments : (moment : ℕ) → IsMoment events moment → IsMoment later moment
+
+pub later_by : (events more : List Event) → IsLater events (events ++ more)
+later_by events more = record {
+  fed = λ client. (fed_to client more, flat_map-append (fed_by client) events more);
+  moments = λ moment m. (m.0, Contains-append_left events more (Cut m.0 moment) m.1);
+}
+
+module _ {events later : List Event} (on : IsLater events later) where
+  pub request_later : (r : Request) → IsAskedRequest events r → IsAskedRequest later r
+  request_later r is =
+      let more = on.fed r.client in
+      subst (λ (bytes : List ℕ). IsAsked bytes r.number r.command) (sym more.1) (asked_longer (fed_to r.client events) more.0 r.number r.command is)
+
+  pub batch_later : (b : Batch) → IsAskedBatch events b → IsAskedBatch later b
+  batch_later b is = record { requests = λ r c. request_later r (is.requests r c); moment = on.moments b.moment is.moment }
+
+  pub front_later : (client : ℕ) (taken : List Turn) → Front (fed_to client events) taken → Front (fed_to client later) taken
+  front_later client taken front =
+      let more = on.fed client in
+      subst (λ (bytes : List ℕ). Front bytes taken) (sym more.1) (front_longer (fed_to client events) more.0 taken front)
+
+-- one event more
+pub fed_next : (client : ℕ) (events : List Event) (e : Event) → fed_to client (events ++ e ∷ []) ≡ fed_to client events ++ fed_by client e
+fed_next client events e = flat_map-append (fed_by client) events (e ∷ []) ∙ ap (λ (more : List ℕ). fed_to client events ++ more) (append-nil (fed_by client e))
