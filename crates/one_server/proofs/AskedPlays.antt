@@ -29,7 +29,7 @@ use Rattle.worlds.specs.World.{WorldView, WorldNext, WorldRuns, last_world, new_
 use Rattle.worlds.specs.Machines.{IsSameVerifier}
 use Rattle.one_server.specs.Machines.{IsSameExecutor}
 use Rattle.one_server.specs.Saved.{IsSavedIn, IsExecutedIn, IsExecuted}
-use Rattle.one_server.proofs.Plays.{Held, event_held}
+use Rattle.one_server.proofs.Plays.{Held, event_held, AreRestarts, restarts_both, restarts_are, executors_new, unopened_held, now_held}
 use Rattle.one_server.specs.Asked.{IsAskedBatch}
 use Rattle.one_server.proofs.Grown.{later_by, batch_later}
 use Rattle.one_server.proofs.AskedLines.{IsAskedMember, AreAskedMembers}
@@ -38,39 +38,6 @@ use Rattle.one_server.proofs.Slots.{AnyState, AnyRound, IsAskedSlot, saved_is_as
 use Rattle.one_server.proofs.AskedEvents.{IsAskedWorld, opened_asked, event_asked}
 
 -- ---- before any replica is opened
-
-executors_new : (n id : ℕ) (kept : Kept) (slot : Slot ExecutorView) → slice_get (replicate n (Down kept)) id ≡ Some slot → (slot ≡ Down kept) × (slice_get (replicate n first_durable) id ≡ Some first_durable)
-executors_new zero id kept slot e = absurd (cc e)
-executors_new (suc n) zero kept slot e = (cc e, refl)
-executors_new (suc n) (suc id) kept slot e = executors_new n id kept slot e
-
-verifiers_new : (n id : ℕ) (kept : Kept) (slot : Slot VerifierView) → slice_get (replicate n (Down kept)) id ≡ Some slot → (slot ≡ Down kept) × (slice_get (replicate n machine.New) id ≡ Some machine.New)
-verifiers_new zero id kept slot e = absurd (cc e)
-verifiers_new (suc n) zero kept slot e = (cc e, refl)
-verifiers_new (suc n) (suc id) kept slot e = verifiers_new n id kept slot e
-
-unopened_held : (c : ConfigView) → Held c.u AnyState AnyRound (unopened_world c)
-unopened_held c = record {
-  events = [];
-  verifiers_are = record {
-    same_u = refl;
-    letters = refl;
-    count = length-replicate (member_count c.u) (Down nothing_kept);
-    verifiers = λ id slot at. let h = verifiers_new (member_count c.u) id nothing_kept slot at in (machine.New, h.1, subst (IsSameVerifier c.u id machine.New) (sym h.0) refl);
-  };
-  before = [];
-  now = first_executor_machine c.u;
-  is_reached = refl;
-  same = record {
-    same_u = refl;
-    letters = refl;
-    decrees = refl;
-    count = length-replicate (member_count c.u) (Down nothing_kept);
-    executors = λ id slot at. let h = executors_new (member_count c.u) id nothing_kept slot at in (first_durable, h.1, subst (IsSameExecutor c.u id first_durable) (sym h.0) refl);
-  };
-  met_is = λ s c. tt;
-  rounds_is = λ r c. tt;
-}
 
 count_clients : (u n : ℕ) → length (new_clients u n) ≡ n
 count_clients u zero = refl
@@ -101,18 +68,6 @@ unopened_asked c = record {
 both_next : {u : ℕ} (w : WorldView) (e : Event) (x : WorldView) → Held u AnyState AnyRound w → WorldNext w e x → Held u AnyState AnyRound x
 both_next w e x held h = event_held AnyState AnyRound w held e x h (λ s k. tt) (λ r k. tt)
 
-abbrev AreRestarts : List Event → Type 0
-AreRestarts [] = Unit {0}
-AreRestarts (e ∷ es) = (r : Replica) × (e ≡ Restart r) × AreRestarts es
-
-restarts_both : (xs ys : List Event) → AreRestarts xs → AreRestarts ys → AreRestarts (xs ++ ys)
-restarts_both [] ys h k = k
-restarts_both (x ∷ xs) ys h k = (h.0, h.1, restarts_both xs ys h.2 k)
-
-restarts_are : (f : ℕ → Replica) (n : ℕ) → AreRestarts (restarts_below f n)
-restarts_are f zero = tt
-restarts_are f (suc n) = restarts_both (restarts_below f n) (Restart (f n) ∷ []) (restarts_are f n) (f n, refl, tt)
-
 -- both facts of a world
 pub record IsAskedAndHeld (events : List Event) (u : ℕ) (w : WorldView) : Type 0 where
   pub held : Held u AnyState AnyRound w
@@ -128,7 +83,7 @@ opening_asked w (e ∷ es) (x ∷ ws) ok r h =
 first_asked : (c : ConfigView) (first : WorldView) → IsFirstWorld c first → IsAskedAndHeld [] c.u first
 first_asked c first h =
     subst (IsAskedAndHeld [] c.u) h.2
-    (opening_asked (unopened_world c) (opening_events c.u) h.0 (record { held = unopened_held c; is = unopened_asked c })
+    (opening_asked (unopened_world c) (opening_events c.u) h.0 (record { held = now_held c.u AnyState AnyRound (unopened_world c) (unopened_held c); is = unopened_asked c })
     (restarts_both (restarts_below replica.Executor (member_count c.u)) (restarts_below replica.Verifier (member_count c.u)) (restarts_are replica.Executor (member_count c.u)) (restarts_are replica.Verifier (member_count c.u))) h.1)
 
 -- ---- any world

@@ -98,7 +98,7 @@ record_after_is u id e o is unsaved =
     (λ _. λ i. Some (executor_text (is.same_u i) (is.same_id i) o.state))
     (λ quiet. is.recorded ∙ ap (λ (y : Durable). Some (executor_text u id (up_again y))) (sym (unsaved quiet)))
 
-sent_at : (ls : Letters) (k : ℕ) (l : Letter Ballot) → slice_get ls k ≡ Some l → Sent ls l.from l.body
+pub sent_at : (ls : Letters) (k : ℕ) (l : Letter Ballot) → slice_get ls k ≡ Some l → Sent ls l.from l.body
 sent_at [] k l e = absurd (cc e)
 sent_at (x ∷ ls) zero l e = let same : x ≡ l = cc e in here (ap (λ (y : Letter Ballot). y.from) same) (ap (λ (y : Letter Ballot). y.body) same)
 sent_at (x ∷ ls) (suc k) l e = there (sent_at ls k l e)

@@ -26,7 +26,7 @@ use Rattle.worlds.specs.Laws.{chosen_list}
 use Rattle.one_server.specs.Saved.{saved_of, AreLinked}
 use Rattle.one_server.specs.HeldLaws.{IsChosenState}
 use Rattle.one_server.proofs.Records.{chain_is_linked}
-use Rattle.one_server.proofs.Plays.{are_of_executor_machines}
+use Rattle.one_server.proofs.Plays.{are_of_executor_machines, AreRestarts, restarts_both, restarts_are}
 use Rattle.one_server.proofs.Proved.{committed_is_chosen_in_worlds}
 use Rattle.one_server.specs.Asked.{WasSent}
 use Rattle.one_server.proofs.Replies.{SaidTo, AllReplies, replies_more, all-append, KeepsReply, KeepsBeforeOrAfter, step_replies}
@@ -88,18 +88,6 @@ module _ {c : ConfigView} {events : List Event} {seen : List WorldView} {w : Wor
       subst (AllReplies P) (sym sent.1) (all-append P w.letters sent.0 (replies_more (IsCommittedReply seen w) P reply_later w.letters old) sent.2)
 
 -- ---- the first world
-
-abbrev AreRestarts : List Event → Type 0
-AreRestarts [] = Unit {0}
-AreRestarts (e ∷ es) = (r : Replica) × (e ≡ Restart r) × AreRestarts es
-
-restarts_both : (xs ys : List Event) → AreRestarts xs → AreRestarts ys → AreRestarts (xs ++ ys)
-restarts_both [] ys h k = k
-restarts_both (x ∷ xs) ys h k = (h.0, h.1, restarts_both xs ys h.2 k)
-
-restarts_are : (f : ℕ → Replica) (n : ℕ) → AreRestarts (restarts_below f n)
-restarts_are f zero = tt
-restarts_are f (suc n) = restarts_both (restarts_below f n) (Restart (f n) ∷ []) (restarts_are f n) (f n, refl, tt)
 
 module _ (P : ℕ → ℕ → replies.Reply → Type 0) where
   opened_replies : (w : WorldView) (es : List Event) (ws : List WorldView) → AllReplies P w.letters → AreRestarts es → WorldRuns w es ws → AllReplies P (last_world w ws).letters

@@ -84,21 +84,21 @@ module _ {u : ℕ} (met : StateView → Type 0) (rounds : Executed → Type 0) w
 
 -- ---- the opening, in which nothing is executed
 
-abbrev NoState : StateView → Type 0
+abbrev pub NoState : StateView → Type 0
 NoState s = ⊥
 
-abbrev NoRound : Executed → Type 0
+abbrev pub NoRound : Executed → Type 0
 NoRound r = ⊥
 
-abbrev AreRestarts : List Event → Type 0
+abbrev pub AreRestarts : List Event → Type 0
 AreRestarts [] = Unit {0}
 AreRestarts (e ∷ es) = (r : Replica) × (e ≡ Restart r) × AreRestarts es
 
-restarts_both : (xs ys : List Event) → AreRestarts xs → AreRestarts ys → AreRestarts (xs ++ ys)
+pub restarts_both : (xs ys : List Event) → AreRestarts xs → AreRestarts ys → AreRestarts (xs ++ ys)
 restarts_both [] ys h k = k
 restarts_both (x ∷ xs) ys h k = (h.0, h.1, restarts_both xs ys h.2 k)
 
-restarts_are : (f : ℕ → Replica) (n : ℕ) → AreRestarts (restarts_below f n)
+pub restarts_are : (f : ℕ → Replica) (n : ℕ) → AreRestarts (restarts_below f n)
 restarts_are f zero = tt
 restarts_are f (suc n) = restarts_both (restarts_below f n) (Restart (f n) ∷ []) (restarts_are f n) (f n, refl, tt)
 
@@ -114,7 +114,7 @@ opened_held {u} w (e ∷ es) (x ∷ ws) held r h =
     r.2 h.1
 
 -- no replica was opened yet
-executors_new : (n id : ℕ) (kept : Kept) (slot : Slot ExecutorView) → slice_get (replicate n (Down kept)) id ≡ Some slot → (slot ≡ Down kept) × (slice_get (replicate n first_durable) id ≡ Some first_durable)
+pub executors_new : (n id : ℕ) (kept : Kept) (slot : Slot ExecutorView) → slice_get (replicate n (Down kept)) id ≡ Some slot → (slot ≡ Down kept) × (slice_get (replicate n first_durable) id ≡ Some first_durable)
 executors_new zero id kept slot e = absurd (cc e)
 executors_new (suc n) zero kept slot e = (cc e, refl)
 executors_new (suc n) (suc id) kept slot e = executors_new n id kept slot e
@@ -124,7 +124,7 @@ verifiers_new zero id kept slot e = absurd (cc e)
 verifiers_new (suc n) zero kept slot e = (cc e, refl)
 verifiers_new (suc n) (suc id) kept slot e = verifiers_new n id kept slot e
 
-unopened_held : (c : ConfigView) → Held c.u NoState NoRound (unopened_world c)
+pub unopened_held : (c : ConfigView) → Held c.u NoState NoRound (unopened_world c)
 unopened_held c = record {
   events = [];
   verifiers_are = record {
@@ -155,7 +155,7 @@ first_held c first h =
 
 -- ---- any world
 
-now_held : (u : ℕ) (met : StateView → Type 0) (rounds : Executed → Type 0) (w : WorldView) → Held u NoState NoRound w → Held u met rounds w
+pub now_held : (u : ℕ) (met : StateView → Type 0) (rounds : Executed → Type 0) (w : WorldView) → Held u NoState NoRound w → Held u met rounds w
 now_held u met rounds w held = record {
   events = held.events;
   verifiers_are = held.verifiers_are;

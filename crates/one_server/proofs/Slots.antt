@@ -42,6 +42,7 @@ use Rattle.one_server.proofs.Inputs.{MayHear, MayCome, IsStepOf, input_is}
 use Rattle.one_server.proofs.Records.{chain_is_linked, one_is_spelled, one_is_read}
 use Rattle.one_server.proofs.Kept.{saved_is}
 use Rattle.one_server.proofs.Plays.{Held}
+use Rattle.one_server.proofs.Events.{sent_at}
 use Rattle.one_server.proofs.AskedLines.{AreAskedMembers, AreAskedLetters, IsAskedState, IsAskedOutcome, BringsAsked, resumed_heard, step_keeps_asked}
 
 -- any state, and any round
@@ -65,11 +66,6 @@ pub saved_is_asked : (events : List Event) (u id : ℕ) (slot : Slot ExecutorVie
 saved_is_asked events u id (Up e) x is saved = subst (λ (y : Durable). AreAskedMembers events y.chain) saved is.members
 saved_is_asked events u id (Down kept) x is saved = is x saved
 saved_is_asked events u id (Gone kept) x is saved = is x saved
-
-sent_at : (ls : Letters) (k : ℕ) (l : Letter Ballot) → slice_get ls k ≡ Some l → Sent ls l.from l.body
-sent_at [] k l e = absurd (cc e)
-sent_at (x ∷ ls) zero l e = let same : x ≡ l = cc e in here (ap (λ (y : Letter Ballot). y.from) same) (ap (λ (y : Letter Ballot). y.body) same)
-sent_at (x ∷ ls) (suc k) l e = there (sent_at ls k l e)
 
 module _ {u : ℕ} {w : WorldView} (held : Held u AnyState AnyRound w) where
   -- ---- what the letters of the world tell
