@@ -1,2 +1,5 @@
 mod Writing
-mod StepLemmas
+mod PastLemmas
+mod MakingLemmas
+mod PrintedLemmas
+mod PlayLemmas

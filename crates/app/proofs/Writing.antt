@@ -1,12 +1,9 @@
 -- A text that is written piece by piece.
-use Rattle.std.proofs.Common.{◌≡◌, ℕ, ◌+◌, ◌<◌, List, [], ◌++◌, length, take, drop, get_or, Option, Result, Ok, Err, OnErr, refl, sym, ap, ◌∙◌, subst, if◌then◌else◌}
-use Rattle.std.proofs.lemmas.List.{append_assoc, append-nil, take_at, take-append-drop, drop_more}
+use Rattle.std.proofs.Common.{◌≡◌, ℕ, List, [], ◌++◌, length, take, drop, Option, Result, Ok, Err, OnOk, refl, sym, ap, ◌∙◌, subst, arith}
+use Rattle.std.proofs.lemmas.List.{append_assoc, append-nil, take_at, take_all, take-append-drop}
 use Rattle.std.specs.Io.KnownBytes.{Appends, Keeps}
 use Rattle.std.proofs.KnownBytes.{Appends-trans, Appends-nil, Appends-kept}
-use Rattle.proto.specs.declared.turn.Turn.{Turn}
-use Rattle.proto.specs.Grammar.{is_close}
-use Rattle.items.specs.Map.{Items}
-use Rattle.app.specs.First.{AppendsFront, texts, turn_text, items_after_turn, next_batch}
+use Rattle.app.specs.Printed.{AppendsFront}
 
 -- a front of the text was written, and the rest was not
 pub record Wrote (old now : Option (List ℕ)) (text rest : List ℕ) : Type 0 where
@@ -36,32 +33,11 @@ wrote_all old now text rest w e = subst (Appends old now) (sym (w.whole ∙ ap (
 pub wrote_front : (old now : Option (List ℕ)) (text rest : List ℕ) → Wrote old now text rest → AppendsFront old now text
 wrote_front old now text rest w = (length w.front, subst (Appends old now) (sym (ap (take (length w.front)) w.whole ∙ take_at w.front rest (length w.front) refl)) w.written)
 
--- a piece of the rest is written, in part or whole
-pub wrote_part : (old now new : Option (List ℕ)) (text piece more : List ℕ) (k : ℕ) → Wrote old now text (piece ++ more) → Appends now new (take k piece) → Wrote old new text (drop k piece ++ more)
-wrote_part old now new text piece more k w a = record {
-  front = w.front ++ take k piece;
-  written = Appends-trans old now new w.front (take k piece) w.written a;
-  whole = w.whole ∙ ap (λ xs. w.front ++ (xs ++ more)) (sym (take-append-drop k piece)) ∙ ap (λ xs. w.front ++ xs) (append_assoc (take k piece) (drop k piece) more)
-      ∙ sym (append_assoc w.front (take k piece) (drop k piece ++ more));
-}
+-- all of it is a beginning of it
+pub front_of_all : (old new : Option (List ℕ)) (text : List ℕ) → Appends old new text → AppendsFront old new text
+front_of_all old new text a = (length text, subst (Appends old new) (sym (take_all (length text) text (omega arith))) a)
 
-pub wrote_piece : (old now new : Option (List ℕ)) (text piece more : List ℕ) → Wrote old now text (piece ++ more) → Appends now new piece → Wrote old new text more
-wrote_piece old now new text piece more w a = record {
-  front = w.front ++ piece;
-  written = Appends-trans old now new w.front piece w.written a;
-  whole = w.whole ∙ sym (append_assoc w.front piece more);
-}
-
--- where a piece of the rest was written in part, a beginning of the text was
-pub part_front : (old now new : Option (List ℕ)) (text piece more : List ℕ) → Wrote old now text (piece ++ more) → AppendsFront now new piece → AppendsFront old new text
-part_front old now new text piece more w a = wrote_front old new text (drop a.0 piece ++ more) (wrote_part old now new text piece more a.0 w a.1)
-
-pub at_err : {T E : Type 0} (r : Result T E) (P : Type 0) → P → OnErr r P
-at_err (Ok x) P p = tt
-at_err (Err e) P p = p
-
--- the turn that comes next gives its text, and then come the others
-pub texts-next : (m : Items) (n i : ℕ) (turns : List Turn) (turn : Turn) → i < length turns → turn ≡ get_or turns i turn
-    → texts m n (drop i turns) ≡ turn_text m n turn ++ (if is_close turn then [] else texts (items_after_turn m n turn) (next_batch n turn) (drop (i + 1) turns))
-texts-next m n i turns turn l is = ap (texts m n) (drop_more turns i turn l)
-    ∙ ap (λ t. turn_text m n t ++ (if is_close t then [] else texts (items_after_turn m n t) (next_batch n t) (drop (i + 1) turns))) (sym is)
+-- three pieces, of which the last one may not have been written
+pub wrote_three : {T E : Type 0} (r : Result T E) (a b c d : Option (List ℕ)) (x y z whole : List ℕ) → Appends a b x → Appends b c y → OnOk r (Appends c d z) → whole ≡ x ++ (y ++ z) → OnOk r (Appends a d whole)
+wrote_three (Ok t) a b c d x y z whole p q s e = subst (Appends a d) (sym e) (Appends-trans a b d x (y ++ z) p (Appends-trans b c d y z q s))
+wrote_three (Err f) a b c d x y z whole p q s e = tt

@@ -1,1 +1,4 @@
-pub mod First
+pub mod Past
+pub mod Making
+pub mod Printed
+pub mod Play

@@ -1,38 +1,25 @@
 ghost use Rattle.std.specs.Prelude.{◌≡◌};
-ghost use Rattle.base.specs.declared.fault.Fault.TheVariants.{NoMemory};
-ghost use Rattle.app.specs.declared.fault.FirstFault.TheVariants.{Own};
+ghost use Rattle.schedules.specs.declared.fault.ScheduleFault.TheVariants.{NoMemory};
+ghost use Rattle.app.specs.declared.fault.PlayFault.TheVariants.{Refused};
 
-use proto::Fault;
+use schedules::ScheduleFault;
 use std::alloc::AllocError;
-use std::io;
-use thiserror::Error;
 
-/// Why `first` ended early.
-#[derive(Debug, Drop, Error)]
-pub enum FirstFault {
-    /// A refusal of this server's own.
-    #[error("{0}")]
-    Own(Fault),
+/// Why a play ended early.
+#[derive(Clone, Copy)]
+pub enum PlayFault {
+    /// What was read is no schedule, or memory ran out.
+    Refused(ScheduleFault),
     /// A read failed.
-    #[error("{0}")]
-    Read(io::Error),
+    Read,
     /// A write failed.
-    #[error("{0}")]
-    Write(io::Error),
+    Write,
 }
 
-impl From<Fault> for FirstFault {
-    ghost from_gives = { λ fault e. e ≡ Own fault };
+impl From<AllocError> for PlayFault {
+    ghost from_gives = { λ _ e. e ≡ Refused NoMemory };
 
-    fn from(fault: Fault) -> FirstFault {
-        FirstFault::Own(fault)
-    }
-}
-
-impl From<AllocError> for FirstFault {
-    ghost from_gives = { λ _ e. e ≡ Own NoMemory };
-
-    fn from(_e: AllocError) -> FirstFault {
-        FirstFault::Own(Fault::NoMemory)
+    fn from(_e: AllocError) -> PlayFault {
+        PlayFault::Refused(ScheduleFault::NoMemory)
     }
 }

@@ -1,7 +1,8 @@
-ghost use Rattle.std.specs.Prelude.{◌≡◌, ◌<◌, length, IfOk, IfSome};
+ghost use Rattle.std.specs.Prelude.{◌≡◌, ◌⊎◌, ◌<◌, length, IfOk, IfErr, IfSome};
+ghost use Rattle.schedules.specs.declared.fault.ScheduleFault.TheVariants.{NoMemory};
 
-use crate::fault::FirstFault;
-use proto::Fault;
+use crate::fault::PlayFault;
+use schedules::ScheduleFault;
 use std::alloc::Global;
 use std::io::{ErrorKind, Read};
 
@@ -12,9 +13,10 @@ fn read_through<R: Read>(
     alloc: Global,
     reader: &mut R,
     chunk: &mut [u8],
-) -> Result<Vec<u8>, FirstFault>
+) -> Result<Vec<u8>, PlayFault>
     requires { 0 < length chunk.old }
-    ensures { IfOk result (λ bytes. IfSome (R.remaining reader.old) (λ input. bytes.items ≡ input)) }
+    ensures bytes { IfOk result (λ bytes. IfSome (R.remaining reader.old) (λ input. bytes.items ≡ input)) }
+    ensures only { IfErr result (λ fault. (fault ≡ PlayFault.Read) ⊎ (fault ≡ PlayFault.Refused NoMemory)) }
 {
     let mut input = Vec::new(alloc);
     for _ in 0..u64::MAX {
@@ -26,20 +28,21 @@ fn read_through<R: Read>(
             }
             Err(e) => {
                 if e.kind() != ErrorKind::Interrupted {
-                    return Err(FirstFault::Read(e));
+                    return Err(PlayFault::Read);
                 }
             }
         }
     }
     // More bytes than there are addresses.
-    Err(FirstFault::Own(Fault::NoMemory))
+    Err(PlayFault::Refused(ScheduleFault::NoMemory))
 }
 
 /// Reads to the end. A read that is interrupted is made again.
 ///
-/// `Read` where a read failed otherwise, `Own` where memory ran out.
-pub fn read_input<R: Read>(alloc: Global, reader: &mut R) -> Result<Vec<u8>, FirstFault>
-    ensures { IfOk result (λ bytes. IfSome (R.remaining reader.old) (λ input. bytes.items ≡ input)) }
+/// `Read` where a read failed otherwise, `Refused` of `NoMemory` where memory ran out.
+pub fn read_input<R: Read>(alloc: Global, reader: &mut R) -> Result<Vec<u8>, PlayFault>
+    ensures bytes { IfOk result (λ bytes. IfSome (R.remaining reader.old) (λ input. bytes.items ≡ input)) }
+    ensures only { IfErr result (λ fault. (fault ≡ PlayFault.Read) ⊎ (fault ≡ PlayFault.Refused NoMemory)) }
 {
     let mut chunk = vec![in alloc; 0u8; CHUNK]?;
     read_through(alloc, reader, chunk.as_mut_slice())

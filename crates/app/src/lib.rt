@@ -1,14 +1,16 @@
-//! The loops of the programs.
+//! What the programs do.
 //!
-//! It stands on all crates below. `first` is one memcached server without replicas: it answers all
-//! that a reader holds, one request a batch.
+//! It stands on `schedules` and `makers`, which say what a schedule is, and on `world`, in which its events
+//! happen. `eve_play` uses `play_text`: what it writes is a line for each node of the world to which just
+//! the events lead that the schedule makes, so each law of worlds holds of what is shown.
 #![tactic(auto)]
 
 mod fault;
 mod input;
+mod making;
 mod output;
-mod serve;
-mod single;
+mod past;
+mod play;
+mod printing;
 
-pub use fault::FirstFault;
-pub use single::first;
+pub use play::{REFUSED, SHOWN, STREAM_FAILED, play_text};

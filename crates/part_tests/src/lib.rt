@@ -1,12 +1,10 @@
-//! Tests of the crates that `app` stands on, of `app`, of `states`, and of those below `verifier`: worked
+//! Tests of the crates that one server stands on, of `states`, and of those below `verifier`: worked
 //! examples, and each call that asks for memory made once with ample memory, which no contract can promise.
 //!
 //! They call what is public, and stand in a crate of their own: a crate that has tests is proved once
 //! more with them.
 #![tactic(auto)]
 
-#[cfg(test)]
-mod of_app;
 #[cfg(test)]
 mod of_base;
 #[cfg(test)]

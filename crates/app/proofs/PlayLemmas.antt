@@ -1,0 +1,39 @@
+-- What holds of the bytes that were read, where those are known.
+use Rattle.std.proofs.Common.{◌≡◌, ◌⊎◌, ℕ, List, Option, Some, None, ⊎_elim, sym, subst, refl}
+use Rattle.std.specs.Prelude.{IfSome}
+use Rattle.std.specs.Io.KnownBytes.{Appends}
+use Rattle.schedules.specs.declared.fault.ScheduleFault.{ScheduleFault}
+use Rattle.schedules.specs.declared.fault.ScheduleFault.TheVariants.{NoMemory}
+use Rattle.schedules.specs.Schedule.{IsRefusedRightly}
+use Rattle.app.specs.declared.fault.PlayFault.{PlayFault}
+use Rattle.app.specs.declared.fault.PlayFault.TheVariants.{Refused, Read}
+use Rattle.app.specs.Printed.{refusal_text, AppendsFront}
+use Rattle.app.specs.Play.{Shows, IsFaultOf, IsShown, IsShownInPart, IsRefused}
+
+pub shown_known : (known : Option (List ℕ)) (read slice text : List ℕ) → IfSome known (λ input. read ≡ input) → slice ≡ read → Shows slice text → IfSome known (λ bytes. Shows bytes text)
+shown_known None read slice text same is shows = tt
+shown_known (Some input) read slice text same is shows = subst (λ bytes. Shows bytes text) same (subst (λ bytes. Shows bytes text) is shows)
+
+pub refused_known : (known : Option (List ℕ)) (read slice : List ℕ) (fault : ScheduleFault) → IfSome known (λ input. read ≡ input) → slice ≡ read → IsRefusedRightly slice fault → IsFaultOf known (Refused fault)
+refused_known None read slice fault same is right = tt
+refused_known (Some input) read slice fault same is right = subst (λ bytes. IsRefusedRightly bytes fault) same (subst (λ bytes. IsRefusedRightly bytes fault) is right)
+
+no_memory_known : (known : Option (List ℕ)) → IsFaultOf known (Refused NoMemory)
+no_memory_known None = tt
+no_memory_known (Some input) = tt
+
+-- a fault of reading
+pub unread_known : (known : Option (List ℕ)) (fault : PlayFault) → (fault ≡ Read) ⊎ (fault ≡ Refused NoMemory) → IsFaultOf known fault
+unread_known known fault only = ⊎_elim (λ is. subst (IsFaultOf known) (sym is) tt) (λ is. subst (IsFaultOf known) (sym is) (no_memory_known known)) only
+
+pub all_known : (known old new : Option (List ℕ)) (text slice : List ℕ) → IfSome known (λ bytes. Shows bytes text) → slice ≡ text → Appends old new slice → IfSome known (λ bytes. IsShown bytes old new)
+all_known None old new text slice shows is wrote = tt
+all_known (Some input) old new text slice shows is wrote = (text, shows, subst (Appends old new) is wrote)
+
+pub part_known : (known old new : Option (List ℕ)) (text slice : List ℕ) → IfSome known (λ bytes. Shows bytes text) → slice ≡ text → AppendsFront old new slice → IfSome known (λ bytes. IsShownInPart bytes old new)
+part_known None old new text slice shows is wrote = tt
+part_known (Some input) old new text slice shows is wrote = (text, shows, subst (AppendsFront old new) is wrote)
+
+pub refusal_known : (known old new : Option (List ℕ)) (fault : ScheduleFault) → IsFaultOf known (Refused fault) → Appends old new (refusal_text fault) → IfSome known (λ bytes. IsRefused bytes old new)
+refusal_known None old new fault right wrote = tt
+refusal_known (Some input) old new fault right wrote = (fault, right, wrote)

@@ -1,0 +1,49 @@
+//! Plays a schedule, and shows in which world it ends: `eve_play FILE`.
+//!
+//! Status 0, and a line for each node on standard output; 1 where the file is no schedule or memory ran
+//! out, 2 for other words than one, 3 where the file cannot be read or a write failed. What is wrong
+//! stands on standard error.
+#![tactic(auto)]
+
+mod words;
+
+use crate::words::{WordsFault, file_of, words_of};
+use app::{REFUSED, STREAM_FAILED, play_text};
+use std::process::ExitCode;
+use std::{fs, io};
+
+const USAGE: u8 = 2;
+
+fn fail<T: Drop>(told: io::Result<T>, status: u8) -> ExitCode {
+    match told {
+        Ok(_) => ExitCode::from(status),
+        Err(_) => ExitCode::from(STREAM_FAILED),
+    }
+}
+
+fn play(rt: &HostRuntime, name: &str) -> ExitCode {
+    match fs::open(rt, name) {
+        Ok(mut file) => ExitCode::from(play_text(
+            rt.alloc(),
+            name,
+            &mut file,
+            &mut rt.stdout(),
+            &mut rt.stderr(),
+        )),
+        Err(_) => fail(eprintln!(rt; "cannot read {name}"), STREAM_FAILED),
+    }
+}
+
+fn main(rt: HostRuntime) -> ExitCode {
+    let fault = match words_of(&rt) {
+        Ok(words) => match file_of(rt.alloc(), words.as_slice()) {
+            Ok(name) => return play(&rt, name),
+            Err(fault) => fault,
+        },
+        Err(fault) => fault,
+    };
+    match fault {
+        WordsFault::NoMemory => fail(eprintln!(rt; "refused: 1 NoMemory"), REFUSED),
+        WordsFault::Usage => fail(eprintln!(rt; "usage: eve_play FILE"), USAGE),
+    }
+}
