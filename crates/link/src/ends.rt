@@ -81,4 +81,29 @@ impl<T: Drop> Link<T> {
             Err(_) => None,
         }
     }
+
+    /// Puts the item in at the back, or hands it back where it finds no room. It does not wait for
+    /// another end to take. An item that comes back was not put.
+    pub fn try_put<R: Wait>(&mut self, rt: &R, item: T) -> Result<(), T>
+        ensures { MatchResult result (λ _. IsPut self.old item self.new) (λ back. (back ≡ item) × (self.new ≡ self.old)) }
+    {
+        match self
+            .sender
+            .try_send_as::<Putting, R>(rt, &mut self.pass, item)
+        {
+            Ok(()) => Ok(()),
+            Err(failed) => Err(failed.into_inner()),
+        }
+    }
+
+    /// Takes the item at the front, if it finds one. It does not wait for another end to put. Where it
+    /// gives none there may be one: a caller that has to see the last one takes again.
+    pub fn try_take<R: Wait>(&mut self, rt: &R) -> Option<T>
+        ensures { MatchOption result (self.new ≡ self.old) (λ item. IsTaken self.old item self.new) }
+    {
+        match self.receiver.try_recv_as::<Taking, R>(rt, &mut self.pass) {
+            Ok(found) => Some(found),
+            Err(_) => None,
+        }
+    }
 }

@@ -1,0 +1,5 @@
+pub mod Address
+pub mod Doors
+pub mod Held
+pub mod Patience
+pub mod Share

@@ -1,0 +1,12 @@
+//! The two ways of a connection: what is read is handed on piece by piece, and a text is written.
+//!
+//! It stands on `std` alone. The layer above uses `read_session`: what was handed on is what was read, in
+//! order, and then one hangup, or nothing more where the listener said so; and `write_session`: what went
+//! out is the text, or on an error just the beginning of it that the error tells.
+#![tactic(auto)]
+
+mod reading;
+mod writing;
+
+pub use reading::{Ending, Listener, read_session};
+pub use writing::write_session;
