@@ -1,51 +1,26 @@
-//! Whether a batch is worth threads.
+//! How many threads work on a batch.
 
 ghost use Rattle.std.specs.Prelude.{◌≡◌};
-ghost use Rattle.std.specs.List.{list_any};
-ghost use Rattle.serving.specs.Share.{is_large as large, worker_count};
+ghost use Rattle.serving.specs.Share.{workers_of};
 
 use batches::Batch;
-use proto::{Command, Update};
-use sessions::Request;
 use workers::Workers;
 
-/// So many requests are worth threads.
-const REQUESTS_WORTH_THREADS: usize = 16;
-
-/// A block of so many bytes is worth threads: its page is to be hashed.
-const BYTES_WORTH_THREADS: usize = 65536;
-
-/// How many threads then work.
+/// How many threads work at once, at most.
 const MANY: usize = 4;
 
-/// Whether the request stores a large block.
-fn is_large(request: &Request) -> bool
-    ensures { result ≡ large request.now }
-{
-    match &request.command {
-        Command::Update(Update::Store { block, .. } | Update::Cas { block, .. }) => {
-            BYTES_WORTH_THREADS <= block.len()
-        }
-        _ => false,
-    }
-}
+/// To start a thread for the steps of fewer requests costs more than it spares.
+const REQUESTS_OF_A_THREAD: usize = 16;
 
-/// Whether one of the requests stores a large block.
-fn has_large(requests: &[Request]) -> bool
-    ensures { result ≡ list_any (λ request. large request) requests.now }
-{
-    requests.iter().any(|request| is_large(request))
-}
-
-/// How many threads work on the batch: 4 where it has at least 16 requests or stores a block of at least
-/// 65,536 bytes, else the caller's alone. To start a thread costs as much as some requests.
+/// How many threads work on the batch: 4 on its steps where each of them has at least 16 requests, else the
+/// caller's alone; and 4 on the digests of what it writes, which are parted by how much there is to hash.
 pub fn workers_for(batch: &Batch) -> Workers
-    ensures { result ≡ worker_count batch.now.requests }
+    ensures { result ≡ workers_of batch.now.requests }
 {
-    let requests = batch.requests.as_slice();
-    let is_worth = REQUESTS_WORTH_THREADS <= requests.len() || has_large(requests);
+    let is_worth = MANY * REQUESTS_OF_A_THREAD <= batch.requests.len();
     let count = if is_worth { MANY } else { 1 };
-    let Some(workers) = Workers::new(count) else {
+    let workers = Workers::new(count).and_then(|workers| workers.with_digests(MANY));
+    let Some(workers) = workers else {
         // 1 and 4 are between 1 and 16.
         unreachable!()
     };

@@ -1,6 +1,6 @@
 //! The digests of pages and of sessions, by several threads.
 
-ghost use Rattle.std.specs.Prelude.{◌≡◌, ◌<◌, map};
+ghost use Rattle.std.specs.Prelude.{◌≡◌, ◌≤◌, length, map};
 ghost use Rattle.std.specs.Thread.{IsSync};
 ghost use Rattle.wire.specs.Session.{sessions_text, SessionsFit};
 ghost use Rattle.token.specs.Digested.{IsDigested};
@@ -15,46 +15,98 @@ use std::thread;
 use std::thread::Threads;
 use token::Digested;
 
-/// To start a thread for fewer pages than these costs more than it spares.
-const LEAST_PAGES: usize = 4;
+/// What a page to be digested weighs beside its entries, of which each weighs 1.
+const PAGE_WEIGHT: usize = 64;
+
+/// To start a thread for less than this weight costs more than it spares.
+const LEAST_WEIGHT: usize = 256;
 
 /// To start a thread for the sessions of fewer clients than these costs more than it spares.
 const LEAST_CLIENTS: usize = 1024;
 
-/// How many of the pages have no digest.
-fn written(pages: &[Page]) -> usize {
-    pages.iter().filter(|page| page.digest().is_none()).count()
+/// What it costs to make the page's digest new: nothing where it is kept.
+fn weight(page: &Page) -> usize {
+    match page.digest() {
+        Some(_) => 0,
+        None => page.entries().len().saturating_add(PAGE_WEIGHT),
+    }
 }
 
-/// Makes each digest new that is not kept, by at most so many threads.
-fn refresh_each<R: Threads + Sync>(rt: &R, pages: &mut [Page], threads: usize)
-    requires { 0 < threads }
+fn weight_of_all(pages: &[Page]) -> usize {
+    pages
+        .iter()
+        .fold(0usize, |sum, page| sum.saturating_add(weight(page)))
+}
+
+/// How many of the pages, from the front, weigh at least so much: all where they weigh less.
+fn place_of_weight(pages: &[Page], least: usize) -> usize
+    ensures { result ≤ length pages.now }
+{
+    let mut sum = 0usize;
+    for (index, page) in pages.iter().enumerate() {
+        sum = sum.saturating_add(weight(page));
+        if least <= sum {
+            return index + 1;
+        }
+    }
+    pages.len()
+}
+
+/// Makes each digest new that is not kept.
+fn refresh_each<R: Threads + Sync>(rt: &R, pages: &mut [Page])
     ensures { AreRefreshed pages.old pages.new }
 {
-    thread::for_each_mut(rt, pages, threads, &|_, page| { page.refresh() });
+    thread::for_each_mut(rt, pages, 1, &|_, page| { page.refresh() });
 }
 
-/// Recomputes the digest of each page that was written, by at most `workers` threads at once. The thread
-/// that calls is one of them; the others have ended when the call returns.
+/// Recomputes the digest of each page that was written, on the thread that calls.
 #[tactic(auto, using(crate::proofs::InOrder::all_refreshed))]
-fn refresh_all<R: Threads + Sync>(rt: &R, pages: &mut [Page], workers: Workers)
+fn refresh_in_turn<R: Threads + Sync>(rt: &R, pages: &mut [Page])
     ensures { pages.new ≡ map refreshed pages.old }
 {
-    let threads = workers.count().min(written(pages) / LEAST_PAGES).max(1);
-    refresh_each(rt, pages, threads);
+    refresh_each(rt, pages);
 }
 
-/// How many workers the pages have where the digest of the sessions is worth a thread of its own;
-/// `None` where it is not, or where there is but one worker.
-fn beside_sessions(sessions: &Sessions, workers: Workers) -> Option<Workers> {
-    if sessions.entries().len() < LEAST_CLIENTS {
+/// Recomputes the digest of each page that was written, by at most so many threads at once. The thread
+/// that calls is one of them; the others have ended when the call returns. The pages that were written
+/// may stand close together, so pages are parted by what they weigh.
+fn refresh_parted<R: Threads + Sync>(rt: &R, pages: &mut [Page], threads: usize)
+    ensures { pages.new ≡ map refreshed pages.old }
+{
+    let weight = weight_of_all(pages);
+    let busy = threads.min(weight / LEAST_WEIGHT);
+    if busy < 2 {
+        refresh_in_turn(rt, pages);
+        return;
+    }
+    let ours = busy / 2;
+    let others = busy - ours;
+    let place = place_of_weight(pages, (weight / busy).saturating_mul(others));
+    let (front, back) = pages.split_at_mut(place);
+    thread::join_mut(
+        rt,
+        &mut ||
+            requires { IsSync R.row }
+            ensures { front.exit.now ≡ map refreshed front.entry.now }
+        { refresh_parted(rt, front, others) },
+        &mut ||
+            requires { IsSync R.row }
+            ensures { back.exit.now ≡ map refreshed back.entry.now }
+        { refresh_parted(rt, back, ours) },
+    );
+}
+
+/// How many threads the pages have where the digest of the sessions is worth a thread of its own;
+/// `None` where it is not, or where there is but one thread.
+fn beside_sessions(sessions: &Sessions, threads: usize) -> Option<usize> {
+    if threads < 2 || sessions.entries().len() < LEAST_CLIENTS {
         return None;
     }
-    Workers::new(workers.count() - 1)
+    Some(threads - 1)
 }
 
 /// Recomputes the digest of each page that was written, and the digest of the sessions, by at most so
-/// many workers at once; each digest keeps its text where there is memory for it. The thread that
+/// many threads at once as `workers` has on digests; each digest keeps its text where there is memory for it. The thread that
 /// calls is one of them; the others have ended when the call returns.
 pub fn digest_all<R: Threads + Sync>(
     rt: &R,
@@ -67,8 +119,9 @@ pub fn digest_all<R: Threads + Sync>(
     ensures digested { IsDigested (sessions_text sessions.now) result }
     ensures fit { SessionsFit sessions.now }
 {
-    let Some(others) = beside_sessions(sessions, workers) else {
-        refresh_all(rt, pages, workers);
+    let threads = workers.on_digests();
+    let Some(others) = beside_sessions(sessions, threads) else {
+        refresh_parted(rt, pages, threads);
         return Digested::of_sessions(alloc, sessions);
     };
     let (digested, _) = thread::join_mut(
@@ -79,7 +132,7 @@ pub fn digest_all<R: Threads + Sync>(
         &mut ||
             requires { IsSync R.row }
             ensures { pages.exit.now ≡ map refreshed pages.entry.now }
-        { refresh_all(rt, pages, others) },
+        { refresh_parted(rt, pages, others) },
     );
     digested
 }

@@ -104,8 +104,8 @@ fn within<J: Room + Send + Sync, R: Threads + Wait + Sync, G: Gate + Sync>(
     }
 }
 
-/// Runs the steps of the group on the pages, by `workers` threads at once: worker `w` makes the steps of
-/// the requests whose position in the group is `w` modulo their number. One is the thread that calls;
+/// Runs the steps of the group on the pages, by as many threads at once as `workers` has on steps: worker
+/// `w` makes the steps of the requests whose position in the group is `w` modulo their number. One is the thread that calls;
 /// each other one that has a request is a thread of its own, which has ended when the call returns.
 ///
 /// The requests come back with their answers, in the group's order. The pages and the answers are what
@@ -131,7 +131,7 @@ pub fn run<R: Threads + Wait + Sync, G: Gate + Sync>(
         return Err(Fault::Unfit);
     }
     // A worker without a request would have nothing to do.
-    let busy = workers.count().min(group.len()).max(1);
+    let busy = workers.on_steps().min(group.len()).max(1);
     let (word, master) = TicketWord::open(alloc)?;
     within::<Brand, R, G>(rt, alloc, word, master, pages, group, base, busy, gate)
 }
