@@ -1,5 +1,5 @@
 -- What holds of the bytes that were read, where those are known.
-use Rattle.std.proofs.Common.{◌≡◌, ◌⊎◌, ℕ, List, Option, Some, None, ⊎_elim, sym, subst, refl}
+use Rattle.std.proofs.Common.{◌≡◌, ◌⊎◌, ℕ, List, Option, Some, None, ⊎_elim, sym, subst}
 use Rattle.std.specs.Prelude.{IfSome}
 use Rattle.std.specs.Io.KnownBytes.{Appends}
 use Rattle.schedules.specs.declared.fault.ScheduleFault.{ScheduleFault}

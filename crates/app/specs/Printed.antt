@@ -1,5 +1,5 @@
 -- What is printed of a world, a line a node, and of a fault.
-use Rattle.std.specs.Prelude.{◌≡◌, ℕ, ◌+◌, List, [], ◌∷◌, ◌++◌, length, take, Option, if◌then◌else◌, codes, decimal}
+use Rattle.std.specs.Prelude.{ℕ, ◌+◌, List, [], ◌∷◌, ◌++◌, length, take, Option, if◌then◌else◌, codes, decimal}
 use Rattle.std.specs.Io.KnownBytes.{Appends}
 use Rattle.exec_lines.specs.declared.shown.Report.{Report}
 use Rattle.exec_node.specs.Executor.{ExecutorView}

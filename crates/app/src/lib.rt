@@ -12,5 +12,7 @@ mod output;
 mod past;
 mod play;
 mod printing;
+mod progress;
 
 pub use play::{REFUSED, SHOWN, STREAM_FAILED, play_text};
+pub use progress::{Progress, Untold};

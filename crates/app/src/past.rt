@@ -130,6 +130,11 @@ impl Past {
         })
     }
 
+    /// How many events happened.
+    pub fn count(&self) -> usize {
+        self.events.len()
+    }
+
     /// The event happened, and so many letters were sent by now.
     pub fn note(&mut self, event: Event, sent: usize) -> Result<(), AllocError>
         ensures { OnOk result (self.new ≡ spec.past_after self.old event sent) }

@@ -11,6 +11,7 @@ use crate::input::read_input;
 use crate::making::events_of;
 use crate::output::write_text;
 use crate::printing::text_of_world;
+use crate::progress::Progress;
 use itoa::Buffer;
 use schedules::{Schedule, ScheduleFault};
 use std::alloc::Global;
@@ -27,12 +28,16 @@ pub const REFUSED: u8 = 1;
 pub const STREAM_FAILED: u8 = 3;
 
 /// What is shown of the schedule that the bytes spell.
-fn text_of_schedule(alloc: Global, bytes: &[u8]) -> Result<Vec<u8>, ScheduleFault>
+fn text_of_schedule<P: Progress>(
+    alloc: Global,
+    bytes: &[u8],
+    progress: &mut P,
+) -> Result<Vec<u8>, ScheduleFault>
     ensures shown { IfOk result (λ text. Shows bytes.now text.items) }
     ensures refused { IfErr result (λ fault. IsRefusedRightly bytes.now fault) }
 {
     let Schedule { config, lines } = Schedule::read(alloc, bytes)?;
-    let events = events_of(alloc, &config, lines)?;
+    let events = events_of(alloc, &config, lines, progress)?;
     let world = play(alloc, &config, events.as_slice())?;
     let text = text_of_world(alloc, &world);
     world.end();
@@ -41,12 +46,16 @@ fn text_of_schedule(alloc: Global, bytes: &[u8]) -> Result<Vec<u8>, ScheduleFaul
 
 /// What is shown of the schedule that the reader holds.
 #[tactic(auto, using(crate::proofs::PlayLemmas::shown_known, crate::proofs::PlayLemmas::refused_known, crate::proofs::PlayLemmas::unread_known))]
-fn text_of_input<R: Read>(alloc: Global, input: &mut R) -> Result<Vec<u8>, PlayFault>
+fn text_of_input<R: Read, P: Progress>(
+    alloc: Global,
+    input: &mut R,
+    progress: &mut P,
+) -> Result<Vec<u8>, PlayFault>
     ensures shown { IfOk result (λ text. IfSome (R.remaining input.old) (λ bytes. Shows bytes text.items)) }
     ensures refused { IfErr result (λ fault. IsFaultOf (R.remaining input.old) fault) }
 {
     match read_input(alloc, input) {
-        Ok(bytes) => match text_of_schedule(alloc, bytes.as_slice()) {
+        Ok(bytes) => match text_of_schedule(alloc, bytes.as_slice(), progress) {
             Ok(text) => Ok(text),
             Err(fault) => Err(PlayFault::Refused(fault)),
         },
@@ -107,14 +116,16 @@ fn write_unread<E: Write>(err: &mut E, name: &str) -> Result<(), PlayFault>
 /// `SHOWN`: all lines were written. `REFUSED`: `refused: 6 BadSchedule line K`, with the number of the
 /// first bad line, or `refused: 1 NoMemory` was written to `err`, and nothing to `out`. `STREAM_FAILED`:
 /// a read failed, and `cannot read` with the name was written to `err`; or a write failed, and nothing
-/// was written after it.
+/// was written after it. `progress` is told of each event that happens as the events are made; then they are
+/// played once more, from the first world on, for what is shown.
 #[tactic(auto, using(crate::proofs::PlayLemmas::all_known, crate::proofs::PlayLemmas::part_known, crate::proofs::PlayLemmas::refusal_known))]
-pub fn play_text<R: Read, O: Write, E: Write>(
+pub fn play_text<R: Read, O: Write, E: Write, P: Progress>(
     alloc: Global,
     name: &str,
     input: &mut R,
     out: &mut O,
     err: &mut E,
+    progress: &mut P,
 ) -> u8
     ensures status { (result ≡ SHOWN) ⊎ ((result ≡ REFUSED) ⊎ (result ≡ STREAM_FAILED)) }
     ensures shown { result ≡ SHOWN → IfSome (R.remaining input.old) (λ bytes. IsShown bytes (O.contents out.old) (O.contents out.new)) }
@@ -123,7 +134,7 @@ pub fn play_text<R: Read, O: Write, E: Write>(
     ensures refused_alone { result ≡ REFUSED → out.new ≡ out.old }
     ensures in_part { (out.new ≡ out.old) ⊎ IfSome (R.remaining input.old) (λ bytes. IsShownInPart bytes (O.contents out.old) (O.contents out.new)) }
 {
-    match text_of_input(alloc, input) {
+    match text_of_input(alloc, input, progress) {
         Ok(text) => show(out, text.as_slice()),
         Err(PlayFault::Refused(fault)) => refuse(err, fault),
         Err(_) => {

@@ -2,15 +2,19 @@
 //!
 //! Status 0, and a line for each node on standard output; 1 where the file is no schedule or memory ran
 //! out, 2 for other words than one, 3 where the file cannot be read or a write failed. What is wrong
-//! stands on standard error.
+//! stands on standard error. Where this is a terminal, a long play says there once a second how many
+//! events have happened.
 #![tactic(auto)]
 
-mod words;
+mod dial;
+mod given;
 
-use crate::words::{WordsFault, file_of, words_of};
+use crate::dial::Dial;
+use crate::given::file_of;
 use app::{REFUSED, STREAM_FAILED, play_text};
 use std::process::ExitCode;
 use std::{fs, io};
+use words::{WordsFault, words_of};
 
 const USAGE: u8 = 2;
 
@@ -29,6 +33,7 @@ fn play(rt: &HostRuntime, name: &str) -> ExitCode {
             &mut file,
             &mut rt.stdout(),
             &mut rt.stderr(),
+            &mut Dial::new(rt),
         )),
         Err(_) => fail(eprintln!(rt; "cannot read {name}"), STREAM_FAILED),
     }

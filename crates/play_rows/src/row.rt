@@ -1,6 +1,6 @@
 //! A row: a schedule, and what is to be printed of it in its last lines.
 
-use app::{SHOWN, play_text};
+use app::{SHOWN, Untold, play_text};
 use std::alloc::{AllocError, Global};
 
 /// What is to be printed: what stands behind `#> ` in the lines that begin so.
@@ -20,7 +20,7 @@ pub fn difference(alloc: Global, name: &str, row: &str) -> Result<Option<String>
     let mut input = row.as_bytes();
     let mut out = Vec::new(alloc);
     let mut err = Vec::new(alloc);
-    let status = play_text(alloc, name, &mut input, &mut out, &mut err);
+    let status = play_text(alloc, name, &mut input, &mut out, &mut err, &mut Untold);
     let wanted = wanted(alloc, row)?;
     if status == SHOWN && err.is_empty() && out.as_slice() == wanted.as_bytes() {
         return Ok(None);

@@ -1,6 +1,6 @@
 //! A schedule that is played in memory.
 
-use app::play_text;
+use app::{Untold, play_text};
 use std::alloc::Global;
 
 /// How it ended, and what was written.
@@ -16,6 +16,13 @@ pub fn played(alloc: Global, schedule: &[u8]) -> Ending {
     let mut input = schedule;
     let mut out = Vec::new(alloc);
     let mut err = Vec::new(alloc);
-    let status = play_text(alloc, "rows.txt", &mut input, &mut out, &mut err);
+    let status = play_text(
+        alloc,
+        "rows.txt",
+        &mut input,
+        &mut out,
+        &mut err,
+        &mut Untold,
+    );
     Ending { status, out, err }
 }

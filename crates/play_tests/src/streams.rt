@@ -1,6 +1,6 @@
 //! Streams that are cut, interrupted, or fail.
 
-use app::{REFUSED, SHOWN, STREAM_FAILED, play_text};
+use app::{REFUSED, SHOWN, STREAM_FAILED, Untold, play_text};
 use std::io;
 use std::io::{ErrorKind, Read, Write};
 use std::test::Fail;
@@ -88,7 +88,14 @@ fn a_read_that_fails(rt: HostRuntime) -> Result<(), Fail> {
         };
         let mut out = Vec::new(rt.alloc());
         let mut err = Vec::new(rt.alloc());
-        let status = play_text(rt.alloc(), "rows.txt", &mut input, &mut out, &mut err);
+        let status = play_text(
+            rt.alloc(),
+            "rows.txt",
+            &mut input,
+            &mut out,
+            &mut err,
+            &mut Untold,
+        );
         if calls < enough {
             assert_eq!(rt; status, STREAM_FAILED);
             assert!(rt; out.is_empty());
@@ -113,7 +120,14 @@ fn a_write_that_fails(rt: HostRuntime) -> Result<(), Fail> {
             interrupted: false,
         };
         let mut err = Vec::new(rt.alloc());
-        let status = play_text(rt.alloc(), "rows.txt", &mut input, &mut out, &mut err);
+        let status = play_text(
+            rt.alloc(),
+            "rows.txt",
+            &mut input,
+            &mut out,
+            &mut err,
+            &mut Untold,
+        );
         let wanted = if calls < enough { STREAM_FAILED } else { SHOWN };
         assert_eq!(rt; status, wanted);
         assert!(rt; LINES.starts_with(out.taken.as_slice()));
@@ -134,7 +148,14 @@ fn a_refusal_that_cannot_be_written(rt: HostRuntime) -> Result<(), Fail> {
             calls,
             interrupted: false,
         };
-        let status = play_text(rt.alloc(), "rows.txt", &mut input, &mut out, &mut err);
+        let status = play_text(
+            rt.alloc(),
+            "rows.txt",
+            &mut input,
+            &mut out,
+            &mut err,
+            &mut Untold,
+        );
         let wanted = if calls < enough {
             STREAM_FAILED
         } else {

@@ -1,4 +1,4 @@
-use Rattle.std.proofs.Common.{◌≡◌, ◌++◌, rules, ap, ◌∙◌}
+use Rattle.std.proofs.Common.{◌≡◌, ◌++◌, rules}
 use Rattle.app.specs.Printed.{refusal_text}
 use Rattle.app.proofs.Writing.{wrote_three}
 use Rattle.app.proofs.play.write_refusal.Goals as goal

@@ -1,4 +1,4 @@
-use Rattle.std.proofs.Common.{◌≡◌, ◌+◌, ◌++◌, drop}
+use Rattle.std.proofs.Common.{◌≡◌, ◌++◌, drop}
 use Rattle.app.specs.Printed.{lines_from, executor_line}
 use Rattle.app.proofs.printing.write_executors.Given as goal
 

@@ -1,4 +1,4 @@
-use Rattle.std.proofs.Common.{◌≡◌, ◌∷◌, ◌++◌, [], false, ap, sym, ◌∙◌, subst, append_assoc, replicate}
+use Rattle.std.proofs.Common.{◌∷◌, ◌++◌, [], false, ap, sym, ◌∙◌, subst, append_assoc, replicate}
 use Rattle.std.proofs.lemmas.Grind.{replicate_next}
 use Rattle.app.specs.Past.{AllMarkedBelow}
 use Rattle.app.proofs.PastLemmas.{append_all}
