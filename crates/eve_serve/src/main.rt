@@ -1,0 +1,70 @@
+//! A memcached server on replicas: `eve_serve --port P --u U`.
+//!
+//! It listens on 127.0.0.1, prints its address, and ends with status 0 at the end of its standard input.
+//! Status 1 where memory ran out, 2 for other words, 3 where it cannot listen or cannot start. What is
+//! wrong stands on standard error.
+#![tactic(auto)]
+
+mod given;
+
+use crate::given::read_words;
+use server::{ServeFault, serve};
+use std::io;
+use std::net::{Ipv4Addr, SocketAddr, SocketAddrV4, TcpListener};
+use std::process::ExitCode;
+use words::{WordsFault, words_of};
+
+const REFUSED: u8 = 1;
+
+const USAGE: u8 = 2;
+
+const CANNOT: u8 = 3;
+
+fn fail<T: Drop>(told: io::Result<T>, status: u8) -> ExitCode {
+    match told {
+        Ok(_) => ExitCode::from(status),
+        Err(_) => ExitCode::from(CANNOT),
+    }
+}
+
+/// A listener on the port of this machine's own address, whose address is printed.
+fn listen(rt: &HostRuntime, port: u16) -> Result<TcpListener, ExitCode> {
+    let address = SocketAddr::V4(SocketAddrV4::new(Ipv4Addr::LOCALHOST, port));
+    let Ok(listener) = TcpListener::bind(rt, address) else {
+        return Err(fail(eprintln!(rt; "cannot listen"), CANNOT));
+    };
+    let Ok(address) = listener.local_addr() else {
+        return Err(fail(eprintln!(rt; "cannot listen"), CANNOT));
+    };
+    if println!(rt; "listening {address}").is_err() {
+        return Err(ExitCode::from(CANNOT));
+    }
+    Ok(listener)
+}
+
+/// What the program has served ends with this status.
+fn ended(rt: &HostRuntime, served: Result<(), ServeFault>) -> ExitCode {
+    match served {
+        Ok(()) => ExitCode::SUCCESS,
+        Err(ServeFault::Own(fault)) => fail(eprintln!(rt; "refused: {fault}"), REFUSED),
+        Err(ServeFault::Start) => fail(eprintln!(rt; "cannot start"), CANNOT),
+    }
+}
+
+fn main(rt: HostRuntime) -> ExitCode {
+    let words = match words_of(&rt) {
+        Ok(words) => read_words(rt.alloc(), words.as_slice()),
+        Err(fault) => Err(fault),
+    };
+    match words {
+        Ok(words) => match listen(&rt, words.port) {
+            Ok(listener) => {
+                let served = serve(&rt, rt.alloc(), listener, words.u, &mut rt.stdin());
+                ended(&rt, served)
+            }
+            Err(status) => status,
+        },
+        Err(WordsFault::NoMemory) => fail(eprintln!(rt; "refused: 1 NoMemory"), REFUSED),
+        Err(WordsFault::Usage) => fail(eprintln!(rt; "usage: eve_serve --port P --u U"), USAGE),
+    }
+}

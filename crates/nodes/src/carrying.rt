@@ -1,0 +1,27 @@
+//! The loop of a porter, who carries an executor's replies to its clients.
+
+use crate::clients::Clients;
+use crate::message::ToPorter;
+use link::Link;
+use std::alloc::Global;
+use std::sync::Wait;
+
+/// The thread of a porter, until the server ends. To wake the threads of clients takes longer than to put
+/// their replies into one link, and an executor has other work.
+pub fn carry<R: Wait>(rt: &R, alloc: Global, mut inbox: Link<ToPorter>) {
+    let mut clients = Clients::new(alloc);
+    for _ in rt.forever() {
+        match inbox.take(rt) {
+            Some(ToPorter::Come(client, end)) => clients.come(client, end),
+            Some(ToPorter::Gone(client)) => clients.leave(client),
+            Some(
+                ToPorter::Reply {
+                    client,
+                    number,
+                    reply,
+                },
+            ) => clients.reply(rt, client, number, reply),
+            Some(ToPorter::Stop) | None => return,
+        }
+    }
+}

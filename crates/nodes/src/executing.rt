@@ -1,0 +1,256 @@
+//! The loop of an executor.
+
+use crate::member::Member;
+use crate::message::{ToExecutor, ToPorter};
+use crate::posts::Posts;
+use batches::Batch;
+use decrees::{Letter, Node};
+use exec_lines::{Body, Input};
+use exec_node::ExecNode;
+use keeper::MemKeeper;
+use link::Link;
+use proto::Fault;
+use round::NoGate;
+use serving::{Held, MOST_HELD, Post, address, workers_for};
+use std::alloc::Global;
+use std::rt::Clock;
+use std::sync::Wait;
+use std::thread;
+use std::thread::Threads;
+use std::time::SystemTime;
+use workers::Workers;
+
+/// So many letters are taken before a batch is cut, at most.
+const MOST_BEFORE_CUT: usize = 4096;
+
+/// The seconds of the clock, or 0 where it cannot be read.
+fn seconds<R: Clock>(rt: &R) -> u32 {
+    let Ok(now) = SystemTime::now(rt) else {
+        return 0;
+    };
+    match now.duration_since(SystemTime::UNIX_EPOCH) {
+        Ok(since) => u32::try_from(since.as_secs()).unwrap_or(u32::MAX),
+        Err(_) => 0,
+    }
+}
+
+/// What an executor's thread has beside the executor.
+#[derive(Drop)]
+pub struct Desk {
+    member: Member,
+    inbox: Link<ToExecutor>,
+    posts: Posts,
+    held: Held,
+}
+
+impl Desk {
+    /// A desk with no order.
+    pub fn new(alloc: Global, member: Member, inbox: Link<ToExecutor>, posts: Posts) -> Desk {
+        Desk {
+            member,
+            inbox,
+            posts,
+            held: Held::new(alloc),
+        }
+    }
+
+    /// Sends the letters.
+    fn send<R: Wait>(&mut self, rt: &R, letters: Vec<Letter<Body>>) {
+        for letter in letters {
+            match address(letter) {
+                Post::ToExecutor(id, letter) => self.posts.send_to_executor(rt, id, letter),
+                Post::ToVerifier(id, letter) => self.posts.send_to_verifier(rt, id, letter),
+                Post::ToClient {
+                    client,
+                    number,
+                    reply,
+                } => {
+                    let reply = ToPorter::Reply {
+                        client,
+                        number,
+                        reply,
+                    };
+                    self.posts.send_to_porter(rt, self.member.id, reply)
+                }
+                Post::ToNobody => {}
+            }
+        }
+    }
+
+    /// What waits, if something does. Where nothing waits, others may be about to send: they are let go first.
+    fn next<R: Wait>(&mut self, rt: &R) -> Option<ToExecutor> {
+        let found = self.inbox.try_take(rt);
+        if found.is_some() {
+            return found;
+        }
+        thread::yield_now();
+        self.inbox.try_take(rt)
+    }
+
+    /// Takes all until the server ends.
+    fn take_the_rest<R: Wait>(&mut self, rt: &R) {
+        for _ in rt.forever() {
+            match self.inbox.take(rt) {
+                Some(ToExecutor::Stop) | None => return,
+                Some(_) => {}
+            }
+        }
+    }
+}
+
+/// How many threads work on the batch. Several executors of one process share its processors, so each
+/// works on its own thread alone.
+fn workers_of(member: Member, batch: &Batch) -> Workers {
+    match Workers::new(1) {
+        Some(one) if 0 < member.u => one,
+        _ => workers_for(batch),
+    }
+}
+
+/// Runs the executor's job, if there is one.
+fn run_job<R: Threads + Wait + Sync>(
+    rt: &R,
+    alloc: Global,
+    node: &mut ExecNode<MemKeeper>,
+    desk: &mut Desk,
+) -> Result<(), Fault> {
+    let workers = match node.job() {
+        Some(job) => workers_of(desk.member, job.batch),
+        None => return Ok(()),
+    };
+    let letters = node.run(rt, alloc, workers, &NoGate)?;
+    desk.send(rt, letters);
+    Ok(())
+}
+
+/// Hands in the order whose turn has come, if one waits: whether it was obeyed. One that was not waits on.
+/// Orders whose turn is over are let go. Who ordered does not matter.
+fn hand_in_order<R: Wait>(
+    rt: &R,
+    alloc: Global,
+    node: &mut ExecNode<MemKeeper>,
+    desk: &mut Desk,
+) -> Result<bool, Fault> {
+    let before = node.state().report();
+    let tip = before.number.saturating_add(before.chain as u64);
+    desk.held.forget(before.epoch, tip);
+    let Some(order) = desk.held.first(before.epoch, tip.saturating_add(1)) else {
+        return Ok(false);
+    };
+    let order = order.clone()?;
+    let letter = Letter {
+        from: Node::Executor(desk.member.id),
+        to: Node::Executor(desk.member.id),
+        body: Body::Order(order),
+    };
+    let letters = node.handle(alloc, Input::Letter(letter))?;
+    desk.send(rt, letters);
+    let after = node.state().report();
+    Ok(node.job().is_some() || before.chain < after.chain)
+}
+
+/// Runs what there is to run, and then the orders whose turn has come, one after the other.
+fn work_on<R: Threads + Wait + Sync>(
+    rt: &R,
+    alloc: Global,
+    node: &mut ExecNode<MemKeeper>,
+    desk: &mut Desk,
+) -> Result<(), Fault> {
+    for _ in 0..MOST_HELD {
+        run_job(rt, alloc, node, desk)?;
+        if !hand_in_order(rt, alloc, node, desk)? {
+            return Ok(());
+        }
+    }
+    run_job(rt, alloc, node, desk)
+}
+
+/// Hands the executor a letter; an order waits for its turn.
+fn hand_in<R: Threads + Wait + Sync>(
+    rt: &R,
+    alloc: Global,
+    node: &mut ExecNode<MemKeeper>,
+    desk: &mut Desk,
+    letter: Letter<Body>,
+) -> Result<(), Fault> {
+    match letter.body {
+        Body::Order(order) => desk.held.keep(order)?,
+        body => {
+            let Letter { from, to, .. } = letter;
+            let letters = node.handle(alloc, Input::Letter(Letter { from, to, body }))?;
+            desk.send(rt, letters);
+        }
+    }
+    work_on(rt, alloc, node, desk)
+}
+
+/// Does what a message asks for: whether the server goes on.
+fn receive<R: Threads + Wait + Sync>(
+    rt: &R,
+    alloc: Global,
+    node: &mut ExecNode<MemKeeper>,
+    desk: &mut Desk,
+    message: ToExecutor,
+) -> Result<bool, Fault> {
+    match message {
+        ToExecutor::Letter(letter) => hand_in(rt, alloc, node, desk, letter)?,
+        ToExecutor::Stop => return Ok(false),
+    }
+    Ok(true)
+}
+
+/// Takes a message, and all others that wait: whether the server goes on.
+fn receive_all<R: Threads + Wait + Sync>(
+    rt: &R,
+    alloc: Global,
+    node: &mut ExecNode<MemKeeper>,
+    desk: &mut Desk,
+) -> Result<bool, Fault> {
+    let Some(message) = desk.inbox.take(rt) else {
+        return Ok(false);
+    };
+    let mut message = message;
+    for _ in 0..MOST_BEFORE_CUT {
+        if !receive(rt, alloc, node, desk, message)? {
+            return Ok(false);
+        }
+        match desk.next(rt) {
+            Some(next) => message = next,
+            None => return Ok(true),
+        }
+    }
+    receive(rt, alloc, node, desk, message)
+}
+
+/// Does the executor's work until the server ends. When no more letters wait it cuts a batch.
+fn attend<R: Threads + Wait + Clock + Sync>(
+    rt: &R,
+    alloc: Global,
+    node: &mut ExecNode<MemKeeper>,
+    desk: &mut Desk,
+) -> Result<(), Fault> {
+    for _ in rt.forever() {
+        if !receive_all(rt, alloc, node, desk)? {
+            return Ok(());
+        }
+        let letters = node.handle(alloc, Input::Cut(seconds(rt)))?;
+        desk.send(rt, letters);
+        work_on(rt, alloc, node, desk)?;
+    }
+    Ok(())
+}
+
+/// The thread of an executor. One that stops takes what it is sent, so that nobody waits for it.
+pub fn execute<R: Threads + Wait + Clock + Sync>(rt: &R, alloc: Global, mut desk: Desk) {
+    let Member { u, id } = desk.member;
+    let Ok((mut node, letters)) = ExecNode::open(alloc, u, id, MemKeeper::new()) else {
+        desk.take_the_rest(rt);
+        return;
+    };
+    desk.send(rt, letters);
+    let ended = attend(rt, alloc, &mut node, &mut desk);
+    node.end();
+    if ended.is_err() {
+        desk.take_the_rest(rt);
+    }
+}

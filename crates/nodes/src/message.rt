@@ -1,0 +1,50 @@
+//! What comes through the links.
+
+use decrees::{Ballot, Letter};
+use exec_lines::Body;
+use link::Link;
+use proto::Reply;
+
+/// What a client's thread is given.
+#[derive(Drop)]
+pub enum ToClient {
+    /// What is answered to its request of this number.
+    Reply { number: u64, reply: Reply },
+    /// A tenth of a second has gone by.
+    Tick,
+}
+
+/// What an executor's thread is given.
+#[derive(Drop)]
+pub enum ToExecutor {
+    Letter(Letter<Body>),
+    /// The server ends.
+    Stop,
+}
+
+/// What an executor's porter is given.
+#[derive(Drop)]
+pub enum ToPorter {
+    /// The client of this number has come, and gets its replies by this end.
+    Come(u16, Link<ToClient>),
+    /// It has gone.
+    Gone(u16),
+    /// What the executor answers to the client's request of this number.
+    Reply {
+        client: u16,
+        number: u64,
+        reply: Reply,
+    },
+    /// The server ends.
+    Stop,
+}
+
+/// What a verifier's thread is given.
+#[derive(Drop)]
+pub enum ToVerifier {
+    Letter(Letter<Ballot>),
+    /// The leader is suspected to be lost.
+    Suspect,
+    /// The server ends.
+    Stop,
+}

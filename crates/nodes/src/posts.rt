@@ -1,0 +1,142 @@
+//! Ends of the links to all nodes.
+
+use crate::member::Size;
+use crate::message::{ToClient, ToExecutor, ToPorter, ToVerifier};
+use decrees::{Ballot, Letter};
+use exec_lines::Body;
+use link::Link;
+use std::alloc::{AllocError, Global};
+use std::sync::Wait;
+
+/// An end of the link to each executor, to its porter, and to each verifier, by number.
+#[derive(Drop)]
+pub struct Posts {
+    executors: Vec<Link<ToExecutor>>,
+    porters: Vec<Link<ToPorter>>,
+    verifiers: Vec<Link<ToVerifier>>,
+}
+
+/// One more end of each of the links.
+fn others<T: Drop>(alloc: Global, ends: &mut [Link<T>]) -> Result<Vec<Link<T>>, AllocError> {
+    let mut others = Vec::new(alloc);
+    for end in ends.iter_mut() {
+        others.push(end.another()?)?;
+    }
+    Ok(others)
+}
+
+impl Posts {
+    /// New links to `2u + 1` executors, their porters and as many verifiers.
+    pub fn new(alloc: Global, size: Size) -> Result<Posts, AllocError> {
+        let mut executors = Vec::new(alloc);
+        let mut porters = Vec::new(alloc);
+        let mut verifiers = Vec::new(alloc);
+        for _ in 0..2 * size.u + 1 {
+            executors.push(Link::new(alloc)?)?;
+            porters.push(Link::new(alloc)?)?;
+            verifiers.push(Link::new(alloc)?)?;
+        }
+        Ok(Posts {
+            executors,
+            porters,
+            verifiers,
+        })
+    }
+
+    /// Further ends of the same links, for another thread.
+    pub fn another(&mut self, alloc: Global) -> Result<Posts, AllocError> {
+        Ok(Posts {
+            executors: others(alloc, self.executors.as_mut_slice())?,
+            porters: others(alloc, self.porters.as_mut_slice())?,
+            verifiers: others(alloc, self.verifiers.as_mut_slice())?,
+        })
+    }
+
+    /// One more end of the link to this executor.
+    pub fn executor_end(&mut self, id: u8) -> Option<Result<Link<ToExecutor>, AllocError>> {
+        let end = self.executors.get_mut(usize::from(id))?;
+        Some(end.another())
+    }
+
+    /// One more end of the link to this executor's porter.
+    pub fn porter_end(&mut self, id: u8) -> Option<Result<Link<ToPorter>, AllocError>> {
+        let end = self.porters.get_mut(usize::from(id))?;
+        Some(end.another())
+    }
+
+    /// One more end of the link to this verifier.
+    pub fn verifier_end(&mut self, id: u8) -> Option<Result<Link<ToVerifier>, AllocError>> {
+        let end = self.verifiers.get_mut(usize::from(id))?;
+        Some(end.another())
+    }
+
+    /// Gives the executor this, and waits where its link is full. A node never calls it: two nodes could
+    /// wait for one another.
+    pub fn put_to_executor<R: Wait>(&mut self, rt: &R, id: u8, item: ToExecutor) {
+        if let Some(end) = self.executors.get_mut(usize::from(id)) {
+            // Some end takes from each link until the server ends.
+            let _ = end.put(rt, item);
+        }
+    }
+
+    /// Sends the executor a letter. Where its link is full the letter is lost.
+    pub fn send_to_executor<R: Wait>(&mut self, rt: &R, id: u8, letter: Letter<Body>) {
+        if let Some(end) = self.executors.get_mut(usize::from(id)) {
+            let _ = end.try_put(rt, ToExecutor::Letter(letter));
+        }
+    }
+
+    /// Gives the executor's porter a reply. Where its link is full the reply is lost.
+    pub fn send_to_porter<R: Wait>(&mut self, rt: &R, id: u8, reply: ToPorter) {
+        if let Some(end) = self.porters.get_mut(usize::from(id)) {
+            let _ = end.try_put(rt, reply);
+        }
+    }
+
+    /// Sends the verifier a letter. Where its link is full the letter is lost.
+    pub fn send_to_verifier<R: Wait>(&mut self, rt: &R, id: u8, letter: Letter<Ballot>) {
+        if let Some(end) = self.verifiers.get_mut(usize::from(id)) {
+            let _ = end.try_put(rt, ToVerifier::Letter(letter));
+        }
+    }
+
+    /// Tells the verifier that the leader is suspected. Where its link is full this is lost.
+    pub fn suspect<R: Wait>(&mut self, rt: &R, id: u8) {
+        if let Some(end) = self.verifiers.get_mut(usize::from(id)) {
+            let _ = end.try_put(rt, ToVerifier::Suspect);
+        }
+    }
+
+    /// Tells all porters that the client has come, and gives each an end of its link.
+    pub fn client_has_come<R: Wait>(
+        &mut self,
+        rt: &R,
+        client: u16,
+        inbox: &mut Link<ToClient>,
+    ) -> Result<(), AllocError> {
+        for end in self.porters.iter_mut() {
+            let _ = end.put(rt, ToPorter::Come(client, inbox.another()?));
+        }
+        Ok(())
+    }
+
+    /// Tells all porters that the client has gone.
+    pub fn client_has_gone<R: Wait>(&mut self, rt: &R, client: u16) {
+        for end in self.porters.iter_mut() {
+            let _ = end.put(rt, ToPorter::Gone(client));
+        }
+    }
+
+    /// Tells all nodes and porters that the server ends.
+    pub fn stop_all<R: Wait>(&mut self, rt: &R) {
+        for end in self.executors.iter_mut() {
+            let _ = end.put(rt, ToExecutor::Stop);
+        }
+        for end in self.porters.iter_mut() {
+            let _ = end.put(rt, ToPorter::Stop);
+        }
+        for end in self.verifiers.iter_mut() {
+            let _ = end.put(rt, ToVerifier::Stop);
+        }
+    }
+}

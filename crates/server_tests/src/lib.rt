@@ -1,0 +1,11 @@
+//! Tests of `server` over loopback, of `streams` over readers and writers in memory, and of `serving`.
+#![tactic(auto)]
+
+#[cfg(test)]
+mod of_server;
+#[cfg(test)]
+mod of_serving;
+#[cfg(test)]
+mod of_streams;
+#[cfg(test)]
+mod talking;

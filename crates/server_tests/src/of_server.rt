@@ -1,0 +1,288 @@
+//! A server over loopback, with its clients in the same process.
+
+ghost use Rattle.std.specs.Prelude.{◌<◌};
+
+use crate::talking::{connected, hears, is_at_end, says};
+use server::serve;
+use std::alloc::Global;
+use std::io::Read;
+use std::net::{Net, SocketAddr, TcpListener, TcpStream};
+use std::rt::Clock;
+use std::sync::Wait;
+use std::test::Fail;
+use std::thread::{JoinHandle, Threads};
+use std::{io, thread};
+
+/// What the clients of a test do.
+#[derive(Clone, Copy)]
+enum Play {
+    /// One client says all in pieces of so many bytes, or in one piece at 0.
+    Session(usize),
+    /// 64 clients are there at once, and one more comes.
+    Crowd,
+    /// A client closes in the middle of a block, one says bytes at random, and the next one is served.
+    Broken,
+    /// A client asks for more than fits between the two and reads nothing, and the next one is served.
+    Silent,
+    /// 64 clients are in the middle of a block when the server ends.
+    Midway,
+}
+
+/// What a client's thread leaves.
+#[derive(Drop)]
+struct Left {
+    went_well: bool,
+    open: Vec<TcpStream>,
+}
+
+/// A reader that is at its end when the thread of the clients is: so long the server serves.
+#[derive(Drop)]
+struct UntilLeft<'a, R: Threads> {
+    rt: &'a R,
+    clients: Option<JoinHandle<Left>>,
+    left: Option<Left>,
+}
+
+impl<R: Threads> Read for UntilLeft<'_, R> {
+    fn read(&mut self, _buffer: &mut [u8]) -> io::Result<usize> {
+        if let Some(clients) = self.clients.take() {
+            self.left = Some(clients.join(self.rt));
+        }
+        Ok(0)
+    }
+}
+
+const UNIQUES: (&[u8], &[u8]) = (
+    b"set a 0 0 1\r\n5\r\ngets a\r\ncas a 0 0 1 63\r\n6\r\ncas a 0 0 1 64\r\n7\r\ncas b 0 0 1 64\r\n8\r\ngets a\r\n",
+    b"STORED\r\nVALUE a 0 1 64\r\n5\r\nEND\r\nEXISTS\r\nSTORED\r\nNOT_FOUND\r\nVALUE a 0 1 256\r\n7\r\nEND\r\n",
+);
+
+const NUMBERS: (&[u8], &[u8]) = (
+    b"set n 0 0 20\r\n18446744073709551615\r\nincr n 1\r\nset d 0 0 1\r\n3\r\ndecr d 5\r\nset e 0 0 2\r\n10\r\ndecr e 1\r\nget e\r\nincr n x\r\n",
+    b"STORED\r\n0\r\nSTORED\r\n0\r\nSTORED\r\n9\r\nVALUE e 0 1\r\n9\r\nEND\r\nCLIENT_ERROR invalid numeric delta argument\r\n",
+);
+
+const OTHERS: (&[u8], &[u8]) = (
+    b"set g 3 0 1\r\n5\r\ngat 10 g h\r\nset q 0 0 1 noreply\r\nz\r\nget q\r\nversion\r\nGET a\r\nquit\r\n",
+    b"STORED\r\nVALUE g 3 1\r\n5\r\nEND\r\nVALUE q 0 1\r\nz\r\nEND\r\nVERSION eve-1\r\nERROR\r\n",
+);
+
+/// Says the one and hears the other.
+fn talks(alloc: Global, stream: &TcpStream, row: (&[u8], &[u8]), piece: usize) -> bool {
+    says(stream, row.0, piece) && hears(alloc, stream, row.1)
+}
+
+fn session(alloc: Global, stream: &TcpStream, piece: usize) -> bool {
+    talks(alloc, stream, UNIQUES, piece)
+        && talks(alloc, stream, NUMBERS, piece)
+        && talks(alloc, stream, OTHERS, piece)
+        && is_at_end(stream)
+}
+
+/// A bad end of a block closes the connection.
+fn bad_chunk(alloc: Global, stream: &TcpStream, piece: usize) -> bool {
+    says(stream, b"set a 0 0 1\r\n5xx", piece)
+        && hears(alloc, stream, b"CLIENT_ERROR bad data chunk\r\n")
+        && is_at_end(stream)
+}
+
+fn crowd<R: Net<Stream = TcpStream>>(
+    rt: &R,
+    alloc: Global,
+    address: SocketAddr,
+    open: &mut Vec<TcpStream>,
+) -> Option<bool> {
+    for _ in 0..64usize {
+        let stream = connected(rt, address)?;
+        if !talks(alloc, &stream, (b"set a 0 0 1\r\n5\r\n", b"STORED\r\n"), 0) {
+            return None;
+        }
+        open.push(stream).ok()?;
+    }
+    let one_more = connected(rt, address)?;
+    let mut is_right = hears(alloc, &one_more, b"SERVER_ERROR too many sessions\r\n")
+        && is_at_end(&one_more);
+    for stream in open.iter() {
+        is_right = is_right && says(stream, b"get a\r\n", 0);
+    }
+    for stream in open.iter() {
+        is_right = is_right && hears(alloc, stream, b"VALUE a 0 1\r\n5\r\nEND\r\n");
+    }
+    Some(is_right)
+}
+
+/// Bytes that look like nothing, the same at each run.
+fn noise(alloc: Global) -> Option<Vec<u8>> {
+    let mut bytes = Vec::new(alloc);
+    let mut word = 7u32;
+    for _ in 0..6000usize {
+        word = word.wrapping_mul(1664525).wrapping_add(1013904223);
+        bytes.push((word >> 24) as u8).ok()?;
+    }
+    Some(bytes)
+}
+
+fn broken<R: Net<Stream = TcpStream>>(rt: &R, alloc: Global, address: SocketAddr) -> Option<bool> {
+    let first = connected(rt, address)?;
+    let is_said = says(&first, b"set a 0 0 10\r\nabc", 0);
+    drop(first);
+    let second = connected(rt, address)?;
+    let noise = noise(alloc)?;
+    says(&second, noise.as_slice(), 0);
+    drop(second);
+    let third = connected(rt, address)?;
+    Some(is_said && talks(alloc, &third, (b"get a\r\n", b"END\r\n"), 0))
+}
+
+/// A line of a block of so many bytes, the block, and its end.
+fn large_set(alloc: Global, length: usize) -> Option<Vec<u8>> {
+    let mut bytes = Vec::new(alloc);
+    bytes.extend_from_slice(b"set large 0 0 100000\r\n").ok()?;
+    let whole = bytes.len().checked_add(length)?;
+    bytes.resize(whole, b'x').ok()?;
+    bytes.extend_from_slice(b"\r\n").ok()?;
+    Some(bytes)
+}
+
+/// The silent client is still there when the server ends.
+fn silent<R: Net<Stream = TcpStream>>(
+    rt: &R,
+    alloc: Global,
+    address: SocketAddr,
+    open: &mut Vec<TcpStream>,
+) -> Option<bool> {
+    let first = connected(rt, address)?;
+    let block = large_set(alloc, 100000)?;
+    let is_stored = says(&first, block.as_slice(), 0) && hears(alloc, &first, b"STORED\r\n");
+    for _ in 0..200usize {
+        says(&first, b"get large\r\n", 0);
+    }
+    open.push(first).ok()?;
+    let second = connected(rt, address)?;
+    let row: (&[u8], &[u8]) = (
+        b"set a 0 0 1\r\n5\r\nget a\r\n",
+        b"STORED\r\nVALUE a 0 1\r\n5\r\nEND\r\n",
+    );
+    Some(is_stored && talks(alloc, &second, row, 0))
+}
+
+fn midway<R: Net<Stream = TcpStream>>(
+    rt: &R,
+    alloc: Global,
+    address: SocketAddr,
+    open: &mut Vec<TcpStream>,
+) -> Option<bool> {
+    let mut is_right = true;
+    for _ in 0..64usize {
+        let stream = connected(rt, address)?;
+        let row: (&[u8], &[u8]) = (b"set a 0 0 1\r\n5\r\nset b 0 0 10\r\nab", b"STORED\r\n");
+        is_right = talks(alloc, &stream, row, 0) && is_right;
+        open.push(stream).ok()?;
+    }
+    Some(is_right)
+}
+
+fn act<R: Net<Stream = TcpStream>>(rt: &R, alloc: Global, address: SocketAddr, play: Play) -> Left {
+    let mut open = Vec::new(alloc);
+    let went = match play {
+        Play::Session(piece) => match (connected(rt, address), connected(rt, address)) {
+            (Some(first), Some(second)) => {
+                Some(session(alloc, &first, piece) && bad_chunk(alloc, &second, piece))
+            }
+            _ => None,
+        },
+        Play::Crowd => crowd(rt, alloc, address, &mut open),
+        Play::Broken => broken(rt, alloc, address),
+        Play::Silent => silent(rt, alloc, address, &mut open),
+        Play::Midway => midway(rt, alloc, address, &mut open),
+    };
+    Left {
+        went_well: went == Some(true),
+        open,
+    }
+}
+
+/// Whether all went well with a server of this `u`, which was ended after the play.
+fn served<
+    R: Net<Listener = TcpListener, Stream = TcpStream>
+        + Threads
+        + Wait
+        + Clock
+        + Clone
+        + Send
+        + Sync
+        + Drop
+        + 'static,
+>(rt: &R, alloc: Global, u: u8, play: Play) -> bool
+    requires { u < 4 }
+{
+    let Ok(listener) = TcpListener::bind(rt, "127.0.0.1:0") else {
+        return false;
+    };
+    let Ok(address) = listener.local_addr() else {
+        return false;
+    };
+    let Ok(runtime) = rt.clone() else {
+        return false;
+    };
+    let Ok(clients) = thread::spawn(rt, move || act(&runtime, alloc, address, play)) else {
+        return false;
+    };
+    let mut until = UntilLeft {
+        rt,
+        clients: Some(clients),
+        left: None,
+    };
+    let ended = serve(rt, alloc, listener, u, &mut until);
+    let UntilLeft {
+        rt: _,
+        clients: _,
+        left,
+    } = until;
+    match left {
+        Some(left) => ended.is_ok() && left.went_well,
+        None => false,
+    }
+}
+
+#[test]
+fn rows_in_one_piece(rt: HostRuntime) -> Result<(), Fail> {
+    assert!(rt; served(&rt, rt.alloc(), 0, Play::Session(0)));
+    assert!(rt; served(&rt, rt.alloc(), 1, Play::Session(0)));
+    Ok(())
+}
+
+#[test]
+fn rows_byte_by_byte(rt: HostRuntime) -> Result<(), Fail> {
+    assert!(rt; served(&rt, rt.alloc(), 0, Play::Session(1)));
+    assert!(rt; served(&rt, rt.alloc(), 1, Play::Session(1)));
+    Ok(())
+}
+
+#[test]
+fn sixty_four_at_once_and_no_more(rt: HostRuntime) -> Result<(), Fail> {
+    assert!(rt; served(&rt, rt.alloc(), 0, Play::Crowd));
+    assert!(rt; served(&rt, rt.alloc(), 1, Play::Crowd));
+    Ok(())
+}
+
+#[test]
+fn after_broken_clients_the_next_is_served(rt: HostRuntime) -> Result<(), Fail> {
+    assert!(rt; served(&rt, rt.alloc(), 0, Play::Broken));
+    assert!(rt; served(&rt, rt.alloc(), 1, Play::Broken));
+    Ok(())
+}
+
+#[test]
+fn beside_a_client_that_never_reads_the_next_is_served(rt: HostRuntime) -> Result<(), Fail> {
+    assert!(rt; served(&rt, rt.alloc(), 0, Play::Silent));
+    assert!(rt; served(&rt, rt.alloc(), 1, Play::Silent));
+    Ok(())
+}
+
+#[test]
+fn it_ends_with_clients_midway(rt: HostRuntime) -> Result<(), Fail> {
+    assert!(rt; served(&rt, rt.alloc(), 0, Play::Midway));
+    assert!(rt; served(&rt, rt.alloc(), 1, Play::Midway));
+    Ok(())
+}
