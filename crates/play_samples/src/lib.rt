@@ -1,0 +1,8 @@
+//! Small plays that the prover computes: which decrees are chosen by letters, and what is served of them. It
+//! stands on `agreement`, `one_run` and `one_server`, whose definitions it computes, and no crate stands on
+//! it. Tokens are 32 equal bytes: that one round follows from another is no part of it.
+#![tactic(auto)]
+
+mod rows;
+
+pub use rows::{accepted_is_chosen_later, two_batches_are_served, undone_is_made_again};
