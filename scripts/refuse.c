@@ -13,7 +13,8 @@ static int refused(void) {
         const char *text = getenv("REFUSE");
         wanted = text ? atol(text) : -1;
     }
-    if (++calls != wanted)
+    /* Several threads may grow at once. */
+    if (__atomic_add_fetch(&calls, 1, __ATOMIC_SEQ_CST) != wanted)
         return 0;
     return write(2, "refused\n", 8) == 8;
 }
