@@ -6,21 +6,15 @@ use link::Link;
 use std::alloc::Global;
 use std::sync::Wait;
 
-/// The thread of a porter, until the server ends. To wake the threads of clients takes longer than to put
-/// their replies into one link, and an executor has other work.
+/// The thread of a porter, until the server ends. To wake the threads of clients takes longer than to
+/// hand over the answers of a batch at once, and an executor has other work.
 pub fn carry<R: Wait>(rt: &R, alloc: Global, mut inbox: Link<ToPorter>) {
     let mut clients = Clients::new(alloc);
     for _ in rt.forever() {
         match inbox.take(rt) {
             Some(ToPorter::Come(client, end)) => clients.come(client, end),
             Some(ToPorter::Gone(client)) => clients.leave(client),
-            Some(
-                ToPorter::Reply {
-                    client,
-                    number,
-                    reply,
-                },
-            ) => clients.reply(rt, client, number, reply),
+            Some(ToPorter::Answers(answers)) => clients.answer(rt, answers),
             Some(ToPorter::Stop) | None => return,
         }
     }

@@ -1,8 +1,7 @@
 //! Ends of the links to the clients that are here.
 
-use crate::message::ToClient;
+use crate::message::{Answer, ToClient};
 use link::Link;
-use proto::Reply;
 use std::alloc::Global;
 use std::sync::Wait;
 
@@ -30,14 +29,23 @@ impl Clients {
         self.ends.retain(|(number, _)| *number != client);
     }
 
-    /// Gives the client a reply. Where its link is full, or it is gone, the reply is lost.
-    pub fn reply<R: Wait>(&mut self, rt: &R, client: u16, number: u64, reply: Reply) {
-        let item = ToClient::Reply { number, reply };
-        for (other, end) in self.ends.iter_mut() {
-            if *other == client {
-                let _ = end.try_put(rt, item);
-                return;
-            }
+    /// Gives the client its reply.
+    fn reply<R: Wait>(&mut self, rt: &R, answer: Answer) {
+        let Answer {
+            client,
+            number,
+            reply,
+        } = answer;
+        let found = self.ends.iter_mut().find(|(other, _)| *other == client);
+        if let Some((_, end)) = found {
+            let _ = end.try_put(rt, ToClient::Reply { number, reply });
+        }
+    }
+
+    /// Gives each client its reply. Where its link is full, or it is gone, the reply is lost.
+    pub fn answer<R: Wait>(&mut self, rt: &R, answers: Vec<Answer>) {
+        for answer in answers {
+            self.reply(rt, answer);
         }
     }
 

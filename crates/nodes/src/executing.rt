@@ -1,7 +1,7 @@
 //! The loop of an executor.
 
 use crate::member::Member;
-use crate::message::{ToExecutor, ToPorter};
+use crate::message::{Answer, ToExecutor};
 use crate::posts::Posts;
 use batches::Batch;
 use decrees::{Letter, Node};
@@ -54,8 +54,9 @@ impl Desk {
         }
     }
 
-    /// Sends the letters.
-    fn send<R: Wait>(&mut self, rt: &R, letters: Vec<Letter<Body>>) {
+    /// Sends the letters. The porter is given all replies among them at once: it is woken once for them.
+    fn send<R: Wait>(&mut self, rt: &R, alloc: Global, letters: Vec<Letter<Body>>) {
+        let mut answers = Vec::new(alloc);
         for letter in letters {
             match address(letter) {
                 Post::ToExecutor(id, letter) => self.posts.send_to_executor(rt, id, letter),
@@ -65,15 +66,18 @@ impl Desk {
                     number,
                     reply,
                 } => {
-                    let reply = ToPorter::Reply {
+                    // Without memory for it the reply is lost, as each letter may be.
+                    let _ = answers.push(Answer {
                         client,
                         number,
                         reply,
-                    };
-                    self.posts.send_to_porter(rt, self.member.id, reply)
+                    });
                 }
                 Post::ToNobody => {}
             }
+        }
+        if !answers.is_empty() {
+            self.posts.send_to_porter(rt, self.member.id, answers);
         }
     }
 
@@ -119,7 +123,7 @@ fn run_job<R: Threads + Wait + Sync>(
         None => return Ok(()),
     };
     let letters = node.run(rt, alloc, workers, &NoGate)?;
-    desk.send(rt, letters);
+    desk.send(rt, alloc, letters);
     Ok(())
 }
 
@@ -144,7 +148,7 @@ fn hand_in_order<R: Wait>(
         body: Body::Order(order),
     };
     let letters = node.handle(alloc, Input::Letter(letter))?;
-    desk.send(rt, letters);
+    desk.send(rt, alloc, letters);
     let after = node.state().report();
     Ok(node.job().is_some() || before.chain < after.chain)
 }
@@ -178,7 +182,7 @@ fn hand_in<R: Threads + Wait + Sync>(
         body => {
             let Letter { from, to, .. } = letter;
             let letters = node.handle(alloc, Input::Letter(Letter { from, to, body }))?;
-            desk.send(rt, letters);
+            desk.send(rt, alloc, letters);
         }
     }
     work_on(rt, alloc, node, desk)
@@ -234,7 +238,7 @@ fn attend<R: Threads + Wait + Clock + Sync>(
             return Ok(());
         }
         let letters = node.handle(alloc, Input::Cut(seconds(rt)))?;
-        desk.send(rt, letters);
+        desk.send(rt, alloc, letters);
         work_on(rt, alloc, node, desk)?;
     }
     Ok(())
@@ -247,7 +251,7 @@ pub fn execute<R: Threads + Wait + Clock + Sync>(rt: &R, alloc: Global, mut desk
         desk.take_the_rest(rt);
         return;
     };
-    desk.send(rt, letters);
+    desk.send(rt, alloc, letters);
     let ended = attend(rt, alloc, &mut node, &mut desk);
     node.end();
     if ended.is_err() {

@@ -19,6 +19,6 @@ pub use carrying::carry;
 pub use clients::Clients;
 pub use executing::{Desk, execute};
 pub use member::{Member, Size};
-pub use message::{ToClient, ToExecutor, ToPorter, ToVerifier};
+pub use message::{Answer, ToClient, ToExecutor, ToPorter, ToVerifier};
 pub use posts::Posts;
 pub use verifying::{Bench, verify};

@@ -22,6 +22,15 @@ pub enum ToExecutor {
     Stop,
 }
 
+/// What an executor answers to a client's request.
+#[derive(Drop)]
+pub struct Answer {
+    pub client: u16,
+    /// The request's number.
+    pub number: u64,
+    pub reply: Reply,
+}
+
 /// What an executor's porter is given.
 #[derive(Drop)]
 pub enum ToPorter {
@@ -29,12 +38,8 @@ pub enum ToPorter {
     Come(u16, Link<ToClient>),
     /// It has gone.
     Gone(u16),
-    /// What the executor answers to the client's request of this number.
-    Reply {
-        client: u16,
-        number: u64,
-        reply: Reply,
-    },
+    /// What the executor answers to the requests of a batch.
+    Answers(Vec<Answer>),
     /// The server ends.
     Stop,
 }

@@ -1,7 +1,7 @@
 //! Ends of the links to all nodes.
 
 use crate::member::Size;
-use crate::message::{ToClient, ToExecutor, ToPorter, ToVerifier};
+use crate::message::{Answer, ToClient, ToExecutor, ToPorter, ToVerifier};
 use decrees::{Ballot, Letter};
 use exec_lines::Body;
 use link::Link;
@@ -16,6 +16,15 @@ pub struct Posts {
     verifiers: Vec<Link<ToVerifier>>,
 }
 
+/// So many new links.
+fn links<T: Drop>(alloc: Global, count: u8) -> Result<Vec<Link<T>>, AllocError> {
+    let mut links = Vec::new(alloc);
+    for _ in 0..count {
+        links.push(Link::new(alloc)?)?;
+    }
+    Ok(links)
+}
+
 /// One more end of each of the links.
 fn others<T: Drop>(alloc: Global, ends: &mut [Link<T>]) -> Result<Vec<Link<T>>, AllocError> {
     let mut others = Vec::new(alloc);
@@ -28,18 +37,11 @@ fn others<T: Drop>(alloc: Global, ends: &mut [Link<T>]) -> Result<Vec<Link<T>>, 
 impl Posts {
     /// New links to `2u + 1` executors, their porters and as many verifiers.
     pub fn new(alloc: Global, size: Size) -> Result<Posts, AllocError> {
-        let mut executors = Vec::new(alloc);
-        let mut porters = Vec::new(alloc);
-        let mut verifiers = Vec::new(alloc);
-        for _ in 0..2 * size.u + 1 {
-            executors.push(Link::new(alloc)?)?;
-            porters.push(Link::new(alloc)?)?;
-            verifiers.push(Link::new(alloc)?)?;
-        }
+        let count = 2 * size.u + 1;
         Ok(Posts {
-            executors,
-            porters,
-            verifiers,
+            executors: links(alloc, count)?,
+            porters: links(alloc, count)?,
+            verifiers: links(alloc, count)?,
         })
     }
 
@@ -86,10 +88,10 @@ impl Posts {
         }
     }
 
-    /// Gives the executor's porter a reply. Where its link is full the reply is lost.
-    pub fn send_to_porter<R: Wait>(&mut self, rt: &R, id: u8, reply: ToPorter) {
+    /// Gives the executor's porter the answers of a batch. Where its link is full they are lost.
+    pub fn send_to_porter<R: Wait>(&mut self, rt: &R, id: u8, answers: Vec<Answer>) {
         if let Some(end) = self.porters.get_mut(usize::from(id)) {
-            let _ = end.try_put(rt, reply);
+            let _ = end.try_put(rt, ToPorter::Answers(answers));
         }
     }
 

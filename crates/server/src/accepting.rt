@@ -42,18 +42,30 @@ pub struct Porch {
     doors: Doors,
 }
 
+/// The ends of links that a new client's thread is given.
+#[derive(Drop)]
+struct Ends {
+    inbox: Link<ToClient>,
+    posts: Posts,
+    ticker: Link<ToTicker>,
+}
+
+/// What a client's thread shares with the accepting thread.
+#[derive(Drop)]
+struct Shared {
+    stream: Arc<TcpStream, Global>,
+    stopping: Arc<AtomicBool, Global>,
+    is_done: Arc<AtomicBool, Global>,
+}
+
 /// What a new client's thread is given.
 #[derive(Drop)]
 struct Welcome {
     number: u16,
     client: Client,
     size: Size,
-    inbox: Link<ToClient>,
-    posts: Posts,
-    ticker: Link<ToTicker>,
-    stream: Arc<TcpStream, Global>,
-    stopping: Arc<AtomicBool, Global>,
-    is_done: Arc<AtomicBool, Global>,
+    ends: Ends,
+    shared: Shared,
 }
 
 impl Porch {
@@ -73,6 +85,22 @@ impl Porch {
         }
     }
 
+    fn ends(&mut self, alloc: Global) -> Result<Ends, AllocError> {
+        Ok(Ends {
+            inbox: Link::new(alloc)?,
+            posts: self.posts.another(alloc)?,
+            ticker: self.ticker.another()?,
+        })
+    }
+
+    fn shared(&self, alloc: Global, stream: &Arc<TcpStream, Global>) -> Result<Shared, AllocError> {
+        Ok(Shared {
+            stream: Arc::try_clone(stream)?,
+            stopping: Arc::try_clone(&self.stopping)?,
+            is_done: Arc::new(alloc, AtomicBool::new(false))?,
+        })
+    }
+
     /// What the thread of a new client is given.
     fn welcome(
         &mut self,
@@ -82,24 +110,22 @@ impl Porch {
     ) -> Result<Welcome, AllocError>
         requires { 1 ≤ number }
     {
+        let ends = self.ends(alloc)?;
+        let shared = self.shared(alloc, stream)?;
         Ok(Welcome {
             number,
             client: Client::new(alloc, number, self.size.u),
             size: self.size,
-            inbox: Link::new(alloc)?,
-            posts: self.posts.another(alloc)?,
-            ticker: self.ticker.another()?,
-            stream: Arc::try_clone(stream)?,
-            stopping: Arc::try_clone(&self.stopping)?,
-            is_done: Arc::new(alloc, AtomicBool::new(false))?,
+            ends,
+            shared,
         })
     }
 
     /// Tells porters and ticker that the client comes, before it says anything.
     fn announce<R: Wait>(&mut self, rt: &R, welcome: &mut Welcome) -> Result<(), AllocError> {
         self.posts
-            .client_has_come(rt, welcome.number, &mut welcome.inbox)?;
-        let end = welcome.inbox.another()?;
+            .client_has_come(rt, welcome.number, &mut welcome.ends.inbox)?;
+        let end = welcome.ends.inbox.another()?;
         let _ = self.ticker.put(rt, ToTicker::Come(welcome.number, end));
         Ok(())
     }
@@ -118,13 +144,14 @@ fn serve_client<R: Wait>(rt: &R, alloc: Global, welcome: Welcome) {
         number,
         client,
         size,
+        ends,
+        shared,
+    } = welcome;
+    let Ends {
         inbox,
         posts,
         mut ticker,
-        stream,
-        stopping,
-        is_done,
-    } = welcome;
+    } = ends;
     let mut talker = Talker {
         rt,
         alloc,
@@ -132,14 +159,14 @@ fn serve_client<R: Wait>(rt: &R, alloc: Global, welcome: Welcome) {
         client,
         inbox,
         posts,
-        stream: &stream,
-        stopping: &stopping,
+        stream: &shared.stream,
+        stopping: &shared.stopping,
     };
     talk(&mut talker);
     talker.posts.client_has_gone(rt, number);
     let _ = ticker.put(rt, ToTicker::Gone(number));
-    let _ = stream.shutdown(Shutdown::Both);
-    is_done.store(true, Ordering::SeqCst);
+    let _ = shared.stream.shutdown(Shutdown::Both);
+    shared.is_done.store(true, Ordering::SeqCst);
 }
 
 /// Joins the threads of the clients that have gone.
@@ -153,7 +180,37 @@ fn join_the_gone<R: Threads>(rt: &R, doors: &mut Doors, guests: &mut Vec<Guest>)
     }
 }
 
-/// Lets a client in: whether its thread was started.
+/// Makes room for one more guest, and what its thread is given; porters and ticker are told of it.
+fn prepare<R: Wait>(
+    rt: &R,
+    alloc: Global,
+    porch: &mut Porch,
+    guests: &mut Vec<Guest>,
+    number: u16,
+    stream: &Arc<TcpStream, Global>,
+) -> Result<Welcome, AllocError>
+    requires { 1 ≤ number }
+{
+    guests.reserve(1)?;
+    let mut welcome = porch.welcome(alloc, number, stream)?;
+    porch.announce(rt, &mut welcome)?;
+    Ok(welcome)
+}
+
+/// Starts the thread of a client.
+fn start_client<R: Threads + Wait + Clone + Send + Drop + 'static>(
+    rt: &R,
+    alloc: Global,
+    welcome: Welcome,
+) -> Result<JoinHandle<()>, AllocError> {
+    let runtime = rt.clone()?;
+    match thread::spawn(rt, move || serve_client(&runtime, alloc, welcome)) {
+        Ok(thread) => Ok(thread),
+        Err(_) => Err(AllocError),
+    }
+}
+
+/// Lets a client in, with a thread of its own.
 fn let_in<R: Threads + Wait + Clone + Send + Drop + 'static>(
     rt: &R,
     alloc: Global,
@@ -167,14 +224,9 @@ fn let_in<R: Threads + Wait + Clone + Send + Drop + 'static>(
     // Small replies leave at once.
     let _ = stream.set_nodelay(true);
     let stream = Arc::new(alloc, stream)?;
-    let mut welcome = porch.welcome(alloc, number, &stream)?;
-    guests.reserve(1)?;
-    porch.announce(rt, &mut welcome)?;
-    let is_done = Arc::try_clone(&welcome.is_done)?;
-    let runtime = rt.clone()?;
-    let Ok(thread) = thread::spawn(rt, move || serve_client(&runtime, alloc, welcome)) else {
-        return Err(AllocError);
-    };
+    let welcome = prepare(rt, alloc, porch, guests, number, &stream)?;
+    let is_done = Arc::try_clone(&welcome.shared.is_done)?;
+    let thread = start_client(rt, alloc, welcome)?;
     let guest = Guest {
         stream,
         is_done,
