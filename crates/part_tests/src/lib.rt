@@ -35,3 +35,5 @@ mod of_token;
 mod of_view_change;
 #[cfg(test)]
 mod of_wire;
+#[cfg(test)]
+mod requests;

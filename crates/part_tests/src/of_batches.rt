@@ -1,25 +1,11 @@
 ghost use Rattle.std.specs.Prelude.{◌≤◌};
 
+use crate::requests::{ask, keep};
 use batches::{Batch, Gather};
-use proto::{Command, Fault, Key, Reply, Update};
-use sessions::{Request, Sessions};
+use proto::{Fault, Reply};
+use sessions::Sessions;
 use std::alloc::{AllocError, Global};
 use std::test::Fail;
-
-fn ask(alloc: Global, client: u16, number: u64) -> Result<Request, AllocError>
-    requires client { 1 ≤ client }
-    requires number { 1 ≤ number }
-{
-    let mut bytes = Vec::new(alloc);
-    bytes.push(b'k')?;
-    let key = Key::new(bytes);
-    let command = Command::Update(Update::Delete { key });
-    Ok(Request {
-        client,
-        number,
-        command,
-    })
-}
 
 fn add(alloc: Global, gather: &mut Gather, client: u16, number: u64) -> Result<(), AllocError>
     requires client { 1 ≤ client }
@@ -36,13 +22,6 @@ fn add_clients(alloc: Global, gather: &mut Gather, last: u16) -> Result<(), Allo
         add(alloc, gather, client, 1)?;
     }
     Ok(())
-}
-
-fn keep(alloc: Global, sessions: &mut Sessions, client: u16, number: u64) -> Result<(), AllocError>
-    requires client { 1 ≤ client }
-    requires number { 1 ≤ number }
-{
-    sessions.keep(&ask(alloc, client, number)?, Reply::Stored)
 }
 
 /// Adds the clients of the batch's requests.
@@ -62,6 +41,16 @@ fn cut_clients(alloc: Global, gather: &mut Gather, sessions: &Sessions) -> Resul
     Ok(clients)
 }
 
+/// Whether a cut finds requests of just these clients, in this order.
+fn cuts(
+    alloc: Global,
+    gather: &mut Gather,
+    sessions: &Sessions,
+    clients: &[u16],
+) -> Result<bool, Fault> {
+    Ok(cut_clients(alloc, gather, sessions)?.as_slice() == clients)
+}
+
 fn first_numbers(last: u16, numbers: &mut Vec<u16>) -> Result<(), AllocError>
     requires { last ≤ 1000 }
 {
@@ -71,30 +60,35 @@ fn first_numbers(last: u16, numbers: &mut Vec<u16>) -> Result<(), AllocError>
     Ok(())
 }
 
+/// Whether a cut finds the first requests of the clients 1 to 64.
+fn cuts_the_first_64(
+    alloc: Global,
+    gather: &mut Gather,
+    sessions: &Sessions,
+) -> Result<bool, Fault> {
+    let mut expected = Vec::new(alloc);
+    first_numbers(64, &mut expected)?;
+    cuts(alloc, gather, sessions, expected.as_slice())
+}
+
 #[test]
 fn sixty_four_requests_make_one_batch(rt: HostRuntime) -> Result<(), Fail> {
-    let alloc = rt.alloc();
-    let mut gather = Gather::new(alloc);
-    add_clients(alloc, &mut gather, 64)?;
-    let clients = cut_clients(alloc, &mut gather, &Sessions::new(alloc)?)?;
-    assert_eq!(rt; clients.len(), 64);
+    let mut gather = Gather::new(rt.alloc());
+    add_clients(rt.alloc(), &mut gather, 64)?;
+    let sessions = Sessions::new(rt.alloc())?;
+    assert!(rt; cuts_the_first_64(rt.alloc(), &mut gather, &sessions)?);
     assert!(rt; gather.is_empty());
     Ok(())
 }
 
 #[test]
 fn a_65th_client_waits_for_the_next_batch(rt: HostRuntime) -> Result<(), Fail> {
-    let alloc = rt.alloc();
-    let mut gather = Gather::new(alloc);
-    add_clients(alloc, &mut gather, 65)?;
-    let mut expected = Vec::new(alloc);
-    first_numbers(64, &mut expected)?;
-    let sessions = Sessions::new(alloc)?;
-    let first = cut_clients(alloc, &mut gather, &sessions)?;
-    assert_eq!(rt; first.as_slice(), expected.as_slice());
-    assert_eq!(rt; gather.len(), 1);
-    let next = cut_clients(alloc, &mut gather, &sessions)?;
-    assert_eq!(rt; next.as_slice(), [65u16].as_slice());
+    let mut gather = Gather::new(rt.alloc());
+    add_clients(rt.alloc(), &mut gather, 65)?;
+    let sessions = Sessions::new(rt.alloc())?;
+    assert!(rt; cuts_the_first_64(rt.alloc(), &mut gather, &sessions)?);
+    assert!(rt; gather.len() == 1);
+    assert!(rt; cuts(rt.alloc(), &mut gather, &sessions, &[65])?);
     Ok(())
 }
 
@@ -108,39 +102,43 @@ fn add_seven(alloc: Global, gather: &mut Gather) -> Result<(), AllocError> {
     add(alloc, gather, 2, 2)
 }
 
+/// Keeps the first requests of the clients 1 and 3.
+fn keep_two(alloc: Global, sessions: &mut Sessions) -> Result<(), AllocError> {
+    keep(alloc, sessions, 1, 1, Reply::Stored)?;
+    keep(alloc, sessions, 3, 1, Reply::Stored)
+}
+
 #[test]
 fn a_later_request_goes_last(rt: HostRuntime) -> Result<(), Fail> {
-    let alloc = rt.alloc();
-    let mut gather = Gather::new(alloc);
-    let mut sessions = Sessions::new(alloc)?;
-    keep(alloc, &mut sessions, 1, 1)?;
-    keep(alloc, &mut sessions, 3, 1)?;
-    add_seven(alloc, &mut gather)?;
-    let clients = cut_clients(alloc, &mut gather, &sessions)?;
-    assert_eq!(rt; clients.as_slice(), [1u16, 3].as_slice());
+    let mut gather = Gather::new(rt.alloc());
+    let mut sessions = Sessions::new(rt.alloc())?;
+    keep_two(rt.alloc(), &mut sessions)?;
+    add_seven(rt.alloc(), &mut gather)?;
+    assert!(rt; cuts(rt.alloc(), &mut gather, &sessions, &[1, 3])?);
     // The second request of client 2 waits for its first.
-    assert_eq!(rt; gather.len(), 1);
-    keep(alloc, &mut sessions, 2, 2)?;
-    let clients = cut_clients(alloc, &mut gather, &sessions)?;
-    assert!(rt; clients.is_empty());
+    assert!(rt; gather.len() == 1);
+    keep(rt.alloc(), &mut sessions, 2, 2, Reply::Stored)?;
+    assert!(rt; cuts(rt.alloc(), &mut gather, &sessions, &[])?);
     assert!(rt; gather.is_empty());
     Ok(())
 }
 
+/// Adds the second request of client 1 and the third of client 2.
+fn add_two(alloc: Global, gather: &mut Gather) -> Result<(), AllocError> {
+    add(alloc, gather, 1, 2)?;
+    add(alloc, gather, 2, 3)
+}
+
 #[test]
 fn a_cut_that_finds_nothing_changes_nothing(rt: HostRuntime) -> Result<(), Fail> {
-    let alloc = rt.alloc();
-    let mut gather = Gather::new(alloc);
-    add(alloc, &mut gather, 1, 2)?;
-    add(alloc, &mut gather, 2, 3)?;
-    let mut sessions = Sessions::new(alloc)?;
-    let none = cut_clients(alloc, &mut gather, &sessions)?;
-    assert!(rt; none.is_empty());
-    assert_eq!(rt; gather.len(), 2);
-    keep(alloc, &mut sessions, 1, 1)?;
-    let one = cut_clients(alloc, &mut gather, &sessions)?;
-    assert_eq!(rt; one.as_slice(), [1u16].as_slice());
-    assert_eq!(rt; gather.len(), 1);
+    let mut gather = Gather::new(rt.alloc());
+    add_two(rt.alloc(), &mut gather)?;
+    let mut sessions = Sessions::new(rt.alloc())?;
+    assert!(rt; cuts(rt.alloc(), &mut gather, &sessions, &[])?);
+    assert!(rt; gather.len() == 2);
+    keep(rt.alloc(), &mut sessions, 1, 1, Reply::Stored)?;
+    assert!(rt; cuts(rt.alloc(), &mut gather, &sessions, &[1])?);
+    assert!(rt; gather.len() == 1);
     Ok(())
 }
 
@@ -166,11 +164,8 @@ fn the_last_batch_has_the_number_2_to_the_58_less_1(rt: HostRuntime) -> Result<(
             Err(Fault::Full)
         )
     );
-    assert_eq!(rt; gather.len(), 1);
-    assert_eq!(rt;
-        cut_at(alloc, &mut gather, 288230376151711743)?,
-        Some(288230376151711743)
-    );
+    assert!(rt; gather.len() == 1);
+    assert!(rt; cut_at(alloc, &mut gather, 288230376151711743)? == Some(288230376151711743));
     assert!(rt; gather.is_empty());
     Ok(())
 }

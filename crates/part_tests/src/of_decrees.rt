@@ -69,7 +69,7 @@ fn add_others(votes: &mut Votes) -> Result<(), AllocError> {
 fn votes_that_do_not_count(rt: HostRuntime) -> Result<(), Fail> {
     let mut votes = Votes::new(rt.alloc());
     add_others(&mut votes)?;
-    assert_eq!(rt; votes.verdict(0, &Standing::first()), Verdict::Wait);
+    assert!(rt; votes.verdict(0, &Standing::first()) == Verdict::Wait);
     votes.drop_old(&Standing {
         n: 1,
         token: token(7),
@@ -77,10 +77,7 @@ fn votes_that_do_not_count(rt: HostRuntime) -> Result<(), Fail> {
         start: 1,
     });
     votes.add(key(1, 1, 0), token(7))?;
-    assert_eq!(rt;
-        votes.verdict(0, &Standing::first()),
-        Verdict::Commit(token(7))
-    );
+    assert!(rt; votes.verdict(0, &Standing::first()) == Verdict::Commit(token(7)));
     Ok(())
 }
 
@@ -91,36 +88,31 @@ fn a_log_and_what_it_stands_for(rt: HostRuntime) -> Result<(), Fail> {
         n: 1,
         token: token(5),
     };
-    assert_eq!(rt;
-        log.learn(Decree::Commit {
-            n: 2,
-            token: token(5)
-        }),
-        Err(Fault::BadRecord)
-    );
-    assert_eq!(rt; log.learn(Decree::Rollback), Ok(()));
-    assert_eq!(rt; log.learn(first), Ok(()));
-    assert_eq!(rt; log.learn(first), Err(Fault::BadRecord));
-    assert_eq!(rt; log.learn(Decree::Rollback), Ok(()));
-    assert_eq!(rt; log.known(), 3);
-    assert_eq!(rt; log.decree(0), None);
-    assert_eq!(rt; log.decree(2), Some(first));
-    assert_eq!(rt; log.decree(4), None);
-    assert_eq!(rt;
-        log.standing(),
-        Standing {
-            n: 1,
-            token: token(5),
-            epoch: 3,
-            start: 2
-        }
-    );
+    let second = Decree::Commit {
+        n: 2,
+        token: token(5),
+    };
+    let after = Standing {
+        n: 1,
+        token: token(5),
+        epoch: 3,
+        start: 2,
+    };
+    assert!(rt; log.learn(second) == Err(Fault::BadRecord));
+    assert!(rt; log.learn(Decree::Rollback) == Ok(()));
+    assert!(rt; log.learn(first) == Ok(()));
+    assert!(rt; log.learn(first) == Err(Fault::BadRecord));
+    assert!(rt; log.learn(Decree::Rollback) == Ok(()));
+    assert!(rt; log.known() == 3);
+    assert!(rt; log.decree(0).is_none() && log.decree(4).is_none());
+    assert!(rt; log.decree(2) == Some(first));
+    assert!(rt; log.standing() == after);
     Ok(())
 }
 
-#[test]
-fn a_text_of_more_than_one_piece(rt: HostRuntime) -> Result<(), Fail> {
-    let mut log = Log::new(rt.alloc());
+/// A log of 2,500 undone batches and one that was committed.
+fn log_of_2501(alloc: Global) -> Result<Log, Fault> {
+    let mut log = Log::new(alloc);
     for _ in 0..2500 {
         log.learn(Decree::Rollback)?;
     }
@@ -128,12 +120,28 @@ fn a_text_of_more_than_one_piece(rt: HostRuntime) -> Result<(), Fail> {
         n: 1,
         token: token(7),
     })?;
-    let mut text = Text::new(rt.alloc());
+    Ok(log)
+}
+
+/// Its text.
+fn text_of_2501(alloc: Global) -> Result<Vec<u8>, AllocError> {
+    let mut text = vec![in alloc; 0u8; 2500]?;
+    text.extend_from_slice(b"\x01\x00\x00\x00\x00\x00\x00\x00\x01".as_slice())?;
+    text.extend_from_slice(&[7u8; 32])?;
+    Ok(text)
+}
+
+fn joined_text(alloc: Global, log: &Log) -> Result<Vec<u8>, AllocError> {
+    let mut text = Text::new(alloc);
     log.append_text(&mut text)?;
-    let mut expected = vec![in rt.alloc(); 0u8; 2500]?;
-    expected.extend_from_slice(b"\x01\x00\x00\x00\x00\x00\x00\x00\x01".as_slice())?;
-    expected.extend_from_slice(&[7u8; 32])?;
-    let joined = text.joined(rt.alloc())?;
-    assert_eq!(rt; joined.as_slice(), expected.as_slice());
+    text.joined(alloc)
+}
+
+#[test]
+fn a_text_of_more_than_one_piece(rt: HostRuntime) -> Result<(), Fail> {
+    let log = log_of_2501(rt.alloc())?;
+    let text = joined_text(rt.alloc(), &log)?;
+    let expected = text_of_2501(rt.alloc())?;
+    assert!(rt; text.as_slice() == expected.as_slice());
     Ok(())
 }

@@ -63,35 +63,39 @@ fn has_keys(store: &PlainStore, keys: &[u8]) -> bool {
         .eq(keys.iter().copied())
 }
 
+/// Drops what is due: whether it looks at so many entries, and just these keys are left.
+fn drops(store: &mut PlainStore, moment: u32, looks: u64, left: &[u8]) -> Result<bool, AllocError> {
+    Ok(store.drop_due_counted(moment)? == looks && has_keys(store, left))
+}
+
+/// `b` is due at 1015.
+fn touch_b<S: Store>(alloc: Global, store: &mut S) -> Result<(), AllocError> {
+    update(alloc, store, &touch(alloc, b'b', 5)?, 1010)
+}
+
 #[test]
 fn a_drop_looks_at_what_it_drops(rt: HostRuntime) -> Result<(), Fail> {
-    let alloc = rt.alloc();
-    let mut store = PlainStore::new(alloc);
-    set_four(alloc, &mut store)?;
-    assert_eq!(rt; store.drop_due_counted(1009)?, 1);
-    assert!(rt; has_keys(&store, b"abcd"));
-    assert_eq!(rt; store.drop_due_counted(1010)?, 2);
-    assert!(rt; has_keys(&store, b"bcd"));
-    update(alloc, &mut store, &touch(alloc, b'b', 5)?, 1010)?;
-    assert_eq!(rt; store.drop_due_counted(1020)?, 2);
-    assert!(rt; has_keys(&store, b"cd"));
-    assert_eq!(rt; store.drop_due_counted(2011)?, 1);
-    assert!(rt; has_keys(&store, b"c"));
-    assert_eq!(rt; store.drop_due_counted(4000000000)?, 0);
+    let mut store = PlainStore::new(rt.alloc());
+    set_four(rt.alloc(), &mut store)?;
+    assert!(rt; drops(&mut store, 1009, 1, b"abcd")?);
+    assert!(rt; drops(&mut store, 1010, 2, b"bcd")?);
+    touch_b(rt.alloc(), &mut store)?;
+    assert!(rt; drops(&mut store, 1020, 2, b"cd")?);
+    assert!(rt; drops(&mut store, 2011, 1, b"c")?);
+    assert!(rt; drops(&mut store, 4000000000, 0, b"c")?);
     Ok(())
 }
 
 #[test]
 fn a_drop_looks_at_each_page(rt: HostRuntime) -> Result<(), Fail> {
-    let alloc = rt.alloc();
-    let mut pages = Pages::new(alloc)?;
-    set_four(alloc, &mut pages)?;
-    assert_eq!(rt; pages.drop_due_counted(1009)?, 3);
-    assert_eq!(rt; pages.drop_due_counted(1010)?, 3);
-    update(alloc, &mut pages, &touch(alloc, b'b', 5)?, 1010)?;
-    assert_eq!(rt; pages.drop_due_counted(1020)?, 2);
-    assert_eq!(rt; pages.drop_due_counted(2011)?, 1);
-    assert_eq!(rt; pages.page(99).len(), 1);
+    let mut pages = Pages::new(rt.alloc())?;
+    set_four(rt.alloc(), &mut pages)?;
+    assert!(rt; pages.drop_due_counted(1009)? == 3);
+    assert!(rt; pages.drop_due_counted(1010)? == 3);
+    touch_b(rt.alloc(), &mut pages)?;
+    assert!(rt; pages.drop_due_counted(1020)? == 2);
+    assert!(rt; pages.drop_due_counted(2011)? == 1);
+    assert!(rt; pages.page(99).len() == 1);
     Ok(())
 }
 
@@ -109,27 +113,32 @@ fn set_many(alloc: Global, store: &mut PlainStore) -> Result<(), AllocError> {
     Ok(())
 }
 
-#[test]
-fn many_are_dropped_at_once(rt: HostRuntime) -> Result<(), Fail> {
-    let alloc = rt.alloc();
-    let mut store = PlainStore::new(alloc);
-    set_many(alloc, &mut store)?;
-    let mut left = store.as_slice().len();
-    assert_eq!(rt; left, 94);
-    for moment in [1000u32, 1005, 1031, 1032, 1049, 1050, 1051].iter() {
-        let looks = store.drop_due_counted(*moment)?;
-        let dropped = left.saturating_sub(store.as_slice().len()) as u64;
-        left = store.as_slice().len();
-        let last = if left == 0 { 0 } else { 1 };
-        assert_eq!(rt; looks, dropped.saturating_add(last), "at {moment}");
-        assert!(rt;
-            store
+/// Drops what is due: whether it looks at what it drops and at one more, if there is one, and all that is
+/// left is alive.
+fn drops_what_is_due(store: &mut PlainStore, moment: u32) -> Result<bool, AllocError> {
+    let before = store.as_slice().len();
+    let looks = store.drop_due_counted(moment)?;
+    let left = store.as_slice().len();
+    let dropped = before.saturating_sub(left) as u64;
+    let last = if left == 0 { 0 } else { 1 };
+    Ok(
+        looks == dropped.saturating_add(last)
+            && store
                 .as_slice()
                 .iter()
-                .all(|entry| entry.value().is_alive(*moment))
-        );
+                .all(|entry| entry.value().is_alive(moment)),
+    )
+}
+
+#[test]
+fn many_are_dropped_at_once(rt: HostRuntime) -> Result<(), Fail> {
+    let mut store = PlainStore::new(rt.alloc());
+    set_many(rt.alloc(), &mut store)?;
+    assert!(rt; store.as_slice().len() == 94);
+    for moment in [1000u32, 1005, 1031, 1032, 1049, 1050, 1051].iter() {
+        assert!(rt; drops_what_is_due(&mut store, *moment)?, "at {moment}");
     }
-    assert_eq!(rt; left, 0);
+    assert!(rt; store.as_slice().is_empty());
     Ok(())
 }
 
@@ -173,7 +182,7 @@ fn a_refused_put_changes_nothing(rt: HostRuntime) -> Result<(), Fail> {
         let exptime = if n % 5 == 4 { 0 } else { 10 + i32::from(n) };
         assert!(rt; make(rt.alloc(), &mut store, b'a' + n % 13, exptime)?);
     }
-    assert_eq!(rt; counted_again(&store)?, (13, 3, 10));
-    assert_eq!(rt; store.drop_due_counted(1022)?, 6);
+    assert!(rt; counted_again(&store)? == (13, 3, 10));
+    assert!(rt; store.drop_due_counted(1022)? == 6);
     Ok(())
 }

@@ -1,5 +1,5 @@
 use base::Text;
-use keeper::{Keeper, MemKeeper};
+use keeper::{Keeper, MemKeeper, save_record};
 use std::alloc::{AllocError, Global};
 use std::test::Fail;
 
@@ -9,40 +9,41 @@ fn text(alloc: Global, bytes: &[u8]) -> Result<Text, AllocError> {
     Ok(text)
 }
 
-/// The bytes of the record; none where there is no record.
-fn found(alloc: Global, keeper: &MemKeeper) -> Result<Vec<u8>, AllocError> {
+/// Whether the record is found, and has these bytes.
+fn finds(alloc: Global, keeper: &MemKeeper, bytes: &[u8]) -> Result<bool, AllocError> {
     match keeper.load() {
-        Some(text) => text.joined(alloc),
-        None => Ok(Vec::new(alloc)),
+        Some(text) => Ok(text.joined(alloc)?.as_slice() == bytes),
+        None => Ok(false),
     }
+}
+
+/// Whether the record is saved.
+fn saves(alloc: Global, keeper: &mut MemKeeper, bytes: &[u8]) -> Result<bool, AllocError> {
+    Ok(save_record(text(alloc, bytes)?, keeper).is_ok())
 }
 
 #[test]
 fn a_record_is_found_whole(rt: HostRuntime) -> Result<(), Fail> {
     let mut keeper = MemKeeper::new();
-    assert_eq!(rt; keeper.load().is_none(), true);
-    keeper.save(text(rt.alloc(), b"first".as_slice())?)?;
-    keeper.save(text(rt.alloc(), b"second".as_slice())?)?;
-    assert_eq!(rt;
-        found(rt.alloc(), &keeper)?.as_slice(),
-        b"second".as_slice()
-    );
-    assert_eq!(rt; keeper.failures(), 0);
+    assert!(rt; keeper.load().is_none());
+    assert!(rt; saves(rt.alloc(), &mut keeper, b"first")?);
+    assert!(rt; saves(rt.alloc(), &mut keeper, b"second")?);
+    assert!(rt; finds(rt.alloc(), &keeper, b"second")?);
+    assert!(rt; keeper.failures() == 0);
     Ok(())
 }
 
 #[test]
 fn a_save_that_fails_keeps_the_old_record(rt: HostRuntime) -> Result<(), Fail> {
     let mut keeper = MemKeeper::new();
-    keeper.save(text(rt.alloc(), b"first".as_slice())?)?;
+    assert!(rt; saves(rt.alloc(), &mut keeper, b"first")?);
     keeper.fail_next();
     keeper.fail_next();
-    let second = text(rt.alloc(), b"second".as_slice())?;
-    assert_eq!(rt; keeper.save(second).is_err(), true);
-    assert_eq!(rt; found(rt.alloc(), &keeper)?.as_slice(), b"first".as_slice());
-    assert_eq!(rt; keeper.failures(), 1);
-    keeper.save(text(rt.alloc(), b"third".as_slice())?)?;
-    assert_eq!(rt; found(rt.alloc(), &keeper)?.as_slice(), b"third".as_slice());
-    assert_eq!(rt; keeper.failures(), 1);
+    assert!(rt; !saves(rt.alloc(), &mut keeper, b"second")?);
+    assert!(rt; finds(rt.alloc(), &keeper, b"first")?);
+    assert!(rt; keeper.failures() == 1);
+    assert!(rt; saves(rt.alloc(), &mut keeper, b"third")?);
+    assert!(rt; finds(rt.alloc(), &keeper, b"third")?);
+    assert!(rt; keeper.failures() == 1);
     Ok(())
 }

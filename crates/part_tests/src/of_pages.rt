@@ -201,11 +201,10 @@ fn with_five(alloc: Global, kept: &Snapshot) -> Result<Snapshot, AllocError> {
 fn digests_of_pages(rt: HostRuntime) -> Result<(), Fail> {
     let kept = Pages::new(rt.alloc())?.seal();
     let after = with_five(rt.alloc(), &kept)?;
-    assert_eq!(rt; after.digest(97), &ONE);
-    assert_eq!(rt; after.digest(98), &EMPTY);
-    assert_eq!(rt; kept.digest(97), &EMPTY);
-    assert_eq!(rt; kept.page(97).len(), 0);
-    assert_eq!(rt; after.page(97).len(), 1);
+    assert!(rt; *after.digest(97) == ONE);
+    assert!(rt; *after.digest(98) == EMPTY);
+    assert!(rt; *kept.digest(97) == EMPTY);
+    assert!(rt; kept.page(97).is_empty() && after.page(97).len() == 1);
     Ok(())
 }
 
@@ -224,23 +223,37 @@ fn has_text(
     }
 }
 
+/// The text of a page with one item.
+const TEXT_OF_ONE: &[u8] =
+    b"\x00\x00\x00\x00\x01\x01\x61\x00\x00\x00\x00\x00\x00\x00\x00\x00\x00\x00\x00\x40\x00\x00\x00\x01\x35";
+
+/// The text of a page without items.
+const TEXT_OF_NONE: &[u8] = b"\x00\x00\x00\x00\x00";
+
+/// Whether page 97 has the text of one item, and page 98 that of none.
+fn has_its_texts(alloc: Global, kept: &Snapshot) -> Result<bool, AllocError> {
+    Ok(has_text(alloc, kept, 97, TEXT_OF_ONE)? && has_text(alloc, kept, 98, TEXT_OF_NONE)?)
+}
+
+/// Whether the texts of the pages 98 and 97 are put one behind the other.
+fn puts_its_texts(alloc: Global, kept: &Snapshot) -> Result<bool, AllocError> {
+    let mut record = Text::new(alloc);
+    kept.put_text(98, &mut record)?;
+    kept.put_text(97, &mut record)?;
+    let joined = record.joined(alloc)?;
+    Ok(
+        joined.as_slice().get(..5) == Some(TEXT_OF_NONE)
+            && joined.as_slice().get(5..) == Some(TEXT_OF_ONE),
+    )
+}
+
 #[test]
 fn texts_of_pages(rt: HostRuntime) -> Result<(), Fail> {
-    let one =
-        b"\x00\x00\x00\x00\x01\x01\x61\x00\x00\x00\x00\x00\x00\x00\x00\x00\x00\x00\x00\x40\x00\x00\x00\x01\x35".as_slice();
-    let none = b"\x00\x00\x00\x00\x00".as_slice();
     let after = with_five(rt.alloc(), &Pages::new(rt.alloc())?.seal())?;
     let shared = after.share()?;
-    for kept in [&after, &shared] {
-        assert!(rt; has_text(rt.alloc(), kept, 97, one)?);
-        assert!(rt; has_text(rt.alloc(), kept, 98, none)?);
-    }
-    let mut record = Text::new(rt.alloc());
-    after.put_text(98, &mut record)?;
-    after.put_text(97, &mut record)?;
-    let joined = record.joined(rt.alloc())?;
-    assert_eq!(rt; joined.as_slice().get(..5), Some(none));
-    assert_eq!(rt; joined.as_slice().get(5..), Some(one));
+    assert!(rt; has_its_texts(rt.alloc(), &after)?);
+    assert!(rt; has_its_texts(rt.alloc(), &shared)?);
+    assert!(rt; puts_its_texts(rt.alloc(), &after)?);
     Ok(())
 }
 
@@ -290,6 +303,11 @@ fn sizes_of(alloc: Global, kept: &Snapshot) -> Result<Vec<usize>, AllocError> {
     Ok(sizes)
 }
 
+/// Whether the pieces of the text that is kept have these sizes.
+fn has_sizes(alloc: Global, kept: &Snapshot, sizes: &[usize]) -> Result<bool, AllocError> {
+    Ok(sizes_of(alloc, kept)?.as_slice() == sizes)
+}
+
 #[test]
 fn texts_share_large_data(rt: HostRuntime) -> Result<(), Fail> {
     let least = LEAST_SHARED_BYTES;
@@ -297,7 +315,7 @@ fn texts_share_large_data(rt: HostRuntime) -> Result<(), Fail> {
     assert!(rt; is_one_text(rt.alloc(), &kept)?);
     // Before each data stand 3 bytes of the key and 17 of the item, before the first 5 of the page.
     let sizes = [25, 5000, 20 + (least - 1) + 20, least, 20 + 5 + 20, 5000];
-    assert_eq!(rt; sizes_of(rt.alloc(), &kept)?.as_slice(), sizes.as_slice());
+    assert!(rt; has_sizes(rt.alloc(), &kept, sizes.as_slice())?);
     Ok(())
 }
 
@@ -318,23 +336,54 @@ fn one_key(alloc: Global, bytes: &[u8]) -> Result<Keys, AllocError> {
     Ok(Keys::new(vec![in alloc; key(alloc, bytes)?]?))
 }
 
+/// Which of the pages 97 to 101 are in the set.
+fn marks(pages: &PageSet) -> [bool; 5] {
+    [
+        pages.has(97),
+        pages.has(98),
+        pages.has(99),
+        pages.has(100),
+        pages.has(101),
+    ]
+}
+
+/// Adds a `get` of a key of page 98, and a `delete` of one of page 99.
+fn add_get_and_delete(alloc: Global, pages: &mut PageSet) -> Result<(), AllocError> {
+    pages.add_command(&Command::Get(one_key(alloc, b"b")?));
+    pages.add_command(&Command::Update(Update::Delete {
+        key: key(alloc, b"c")?,
+    }));
+    Ok(())
+}
+
+fn add_gat(alloc: Global, pages: &mut PageSet) -> Result<(), AllocError> {
+    pages.add_command(&Command::Gat(0, one_key(alloc, b"d")?));
+    Ok(())
+}
+
+fn add_gats(alloc: Global, pages: &mut PageSet) -> Result<(), AllocError> {
+    pages.add_command(&Command::Gats(0, one_key(alloc, b"e")?));
+    Ok(())
+}
+
 #[test]
 fn pages_that_may_differ(rt: HostRuntime) -> Result<(), Fail> {
     let kept = with_a_due_item(rt.alloc())?;
-    assert!(rt; !kept.due_pages(9).has(97));
+    assert!(rt; marks(&kept.due_pages(9)) == [false, false, false, false, false]);
     let mut may_differ = kept.due_pages(10);
-    assert!(rt; may_differ.has(97) && !may_differ.has(98) && !may_differ.has(99));
-    may_differ.add_command(&Command::Get(one_key(rt.alloc(), b"b")?));
-    may_differ.add_command(&Command::Update(Update::Delete {
-        key: key(rt.alloc(), b"c")?,
-    }));
-    assert!(rt; may_differ.has(97) && !may_differ.has(98) && may_differ.has(99));
-    assert!(rt; !may_differ.has(100));
-    may_differ.add_command(&Command::Gat(0, one_key(rt.alloc(), b"d")?));
-    assert!(rt; may_differ.has(100) && !may_differ.has(101));
-    may_differ.add_command(&Command::Gats(0, one_key(rt.alloc(), b"e")?));
-    assert!(rt; may_differ.has(101) && !may_differ.has(98));
-    assert!(rt; !PageSet::new().has(97));
+    assert!(rt; marks(&may_differ) == [true, false, false, false, false]);
+    add_get_and_delete(rt.alloc(), &mut may_differ)?;
+    assert!(rt; marks(&may_differ) == [true, false, true, false, false]);
+    add_gat(rt.alloc(), &mut may_differ)?;
+    assert!(rt; marks(&may_differ) == [true, false, true, true, false]);
+    add_gats(rt.alloc(), &mut may_differ)?;
+    assert!(rt; marks(&may_differ) == [true, false, true, true, true]);
+    Ok(())
+}
+
+#[test]
+fn a_new_set_of_pages_is_empty(rt: HostRuntime) -> Result<(), Fail> {
+    assert!(rt; marks(&PageSet::new()) == [false, false, false, false, false]);
     Ok(())
 }
 
@@ -437,28 +486,37 @@ fn random_steps_with_undo(rt: HostRuntime) -> Result<(), Fail> {
 /// Keys of old page 33, in their order: the four pages that it is merged from have them in turns.
 const OF_OLD_PAGE_33: [&[u8]; 8] = [b"!", b"a", b"a@", b"a``", b"pq", b"q0", b"qp", b"~~e"];
 
+/// The page of old page 33 on which each of them stands today.
+const THEIR_PAGES: [usize; 8] = [33, 97, 161, 33, 225, 161, 225, 97];
+
+fn page_of_bytes(alloc: Global, bytes: &[u8]) -> Result<usize, AllocError> {
+    Ok(page_of(&key(alloc, bytes)?))
+}
+
+/// The state with an item at the key.
+fn with_key(
+    alloc: Global,
+    state: &(Snapshot, PlainStore),
+    bytes: &[u8],
+) -> Result<(Snapshot, PlainStore), AllocError> {
+    let item = Item {
+        block: Block::from_slice(alloc, b"5")?,
+        flags: 0,
+        due: None,
+        unique: 64,
+    };
+    changed(&state.0, &state.1, &Change::Put(key(alloc, bytes)?, item))
+}
+
 #[test]
 fn roots_of_old_pages(rt: HostRuntime) -> Result<(), Fail> {
-    let numbers: [usize; 8] = [33, 97, 161, 33, 225, 161, 225, 97];
-    let mut kept = Pages::new(rt.alloc())?.seal();
-    let mut plain = PlainStore::new(rt.alloc());
-    assert!(rt; old_root_agrees(&kept, &plain));
-    assert!(rt; kept.has_data_within(0));
-    for (i, bytes) in OF_OLD_PAGE_33.iter().enumerate() {
-        let key = key(rt.alloc(), *bytes)?;
-        assert_eq!(rt; page_of(&key), numbers[i]);
-        let item = Item {
-            block: Block::from_slice(rt.alloc(), b"5")?,
-            flags: 0,
-            due: None,
-            unique: 64,
-        };
-        let (pages, store) = changed(&kept, &plain, &Change::Put(key, item))?;
-        kept = pages;
-        plain = store;
-        assert!(rt; old_root_agrees(&kept, &plain));
+    let mut state = (Pages::new(rt.alloc())?.seal(), PlainStore::new(rt.alloc()));
+    assert!(rt; old_root_agrees(&state.0, &state.1) && state.0.has_data_within(0));
+    for (bytes, number) in OF_OLD_PAGE_33.iter().zip(THEIR_PAGES.iter()) {
+        assert!(rt; page_of_bytes(rt.alloc(), *bytes)? == *number);
+        state = with_key(rt.alloc(), &state, *bytes)?;
+        assert!(rt; old_root_agrees(&state.0, &state.1));
     }
-    assert!(rt; kept.has_data_within(1));
-    assert!(rt; !kept.has_data_within(0));
+    assert!(rt; state.0.has_data_within(1) && !state.0.has_data_within(0));
     Ok(())
 }

@@ -1,44 +1,18 @@
 ghost use Rattle.std.specs.Prelude.{◌≤◌};
 
-use proto::{Command, Key, Reply, Update};
-use sessions::{Request, Sessions};
+use crate::requests::{ask, keep};
+use proto::Reply;
+use sessions::Sessions;
 use std::alloc::{AllocError, Global};
 use std::test::Fail;
-
-fn ask(alloc: Global, client: u16, number: u64) -> Result<Request, AllocError>
-    requires client { 1 ≤ client }
-    requires number { 1 ≤ number }
-{
-    let mut bytes = Vec::new(alloc);
-    bytes.push(b'k')?;
-    let key = Key::new(bytes);
-    let command = Command::Update(Update::Delete { key });
-    Ok(Request {
-        client,
-        number,
-        command,
-    })
-}
 
 /// Whether the client's request is the next.
 fn is_next(alloc: Global, sessions: &Sessions, client: u16, number: u64) -> Result<bool, AllocError>
     requires client { 1 ≤ client }
     requires number { 1 ≤ number }
 {
-    Ok(sessions.fresh(&ask(alloc, client, number)?))
-}
-
-fn keep(
-    alloc: Global,
-    sessions: &mut Sessions,
-    client: u16,
-    number: u64,
-    reply: Reply,
-) -> Result<(), AllocError>
-    requires client { 1 ≤ client }
-    requires number { 1 ≤ number }
-{
-    sessions.keep(&ask(alloc, client, number)?, reply)
+    let request = ask(alloc, client, number)?;
+    Ok(sessions.fresh(&request))
 }
 
 #[test]
@@ -70,22 +44,21 @@ fn keep_three(alloc: Global, sessions: &mut Sessions) -> Result<(), AllocError> 
     keep(alloc, sessions, 9, 2, Reply::Number(4))
 }
 
-fn clients_of(sessions: &Sessions, clients: &mut Vec<u16>) -> Result<(), AllocError> {
-    for entry in sessions.entries() {
-        clients.push(*entry.key())?;
-    }
-    Ok(())
+/// Whether replies to just these clients are kept.
+fn has_clients(sessions: &Sessions, clients: &[u16]) -> bool {
+    sessions
+        .entries()
+        .iter()
+        .map(|entry| *entry.key())
+        .eq(clients.iter().copied())
 }
 
 #[test]
 fn what_is_kept_is_found_again(rt: HostRuntime) -> Result<(), Fail> {
-    let alloc = rt.alloc();
-    let mut sessions = Sessions::new(alloc)?;
-    keep_three(alloc, &mut sessions)?;
+    let mut sessions = Sessions::new(rt.alloc())?;
+    keep_three(rt.alloc(), &mut sessions)?;
     let copy = sessions.clone()?;
-    let mut clients = Vec::new(alloc);
-    clients_of(&copy, &mut clients)?;
-    assert_eq!(rt; clients.as_slice(), [3u16, 9].as_slice());
+    assert!(rt; has_clients(&copy, &[3, 9]));
     assert!(rt; matches!(copy.kept(9), Some((2, &Reply::Number(4)))));
     assert!(rt; matches!(copy.kept(3), Some((1, &Reply::NotFound))));
     assert!(rt; copy.kept(4).is_none());
@@ -129,7 +102,7 @@ fn a_thousand_clients_are_kept(rt: HostRuntime) -> Result<(), Fail> {
     let alloc = rt.alloc();
     let mut sessions = Sessions::new(alloc)?;
     keep_a_thousand(alloc, &mut sessions)?;
-    assert_eq!(rt; sessions.entries().len(), 1000);
+    assert!(rt; sessions.entries().len() == 1000);
     for client in 1..1001u16 {
         assert!(rt; is_kept(&sessions, client));
     }
