@@ -11,6 +11,7 @@ use std::rt::Clock;
 use std::sync::Wait;
 use std::test::Fail;
 use std::thread::{JoinHandle, Threads};
+use std::time::Duration;
 use std::{io, thread};
 
 /// What the clients of a test do.
@@ -18,7 +19,7 @@ use std::{io, thread};
 enum Play {
     /// One client says all in pieces of so many bytes, or in one piece at 0.
     Session(usize),
-    /// 64 clients are there at once, and one more comes.
+    /// 64 clients are there at once, and one more comes. When one has left, another gets in.
     Crowd,
     /// A client closes in the middle of a block, one says bytes at random, and the next one is served.
     Broken,
@@ -26,6 +27,8 @@ enum Play {
     Silent,
     /// 64 clients are in the middle of a block when the server ends.
     Midway,
+    /// An item is gone when its time is over.
+    Dated,
 }
 
 /// What a client's thread leaves.
@@ -111,6 +114,25 @@ fn crowd<R: Net<Stream = TcpStream>>(
     Some(is_right)
 }
 
+/// Whether a client that comes now is served. It is let in once the server has seen that another left.
+fn gets_in<R: Net<Stream = TcpStream> + Clock>(rt: &R, alloc: Global, address: SocketAddr) -> bool {
+    for _ in 0..200usize {
+        let Some(stream) = connected(rt, address) else {
+            return false;
+        };
+        if talks(
+            alloc,
+            &stream,
+            (b"get a\r\n", b"VALUE a 0 1\r\n5\r\nEND\r\n"),
+            0,
+        ) {
+            return true;
+        }
+        thread::sleep(rt, Duration::from_millis(50));
+    }
+    false
+}
+
 /// Bytes that look like nothing, the same at each run.
 fn noise(alloc: Global) -> Option<Vec<u8>> {
     let mut bytes = Vec::new(alloc);
@@ -182,7 +204,29 @@ fn midway<R: Net<Stream = TcpStream>>(
     Some(is_right)
 }
 
-fn act<R: Net<Stream = TcpStream>>(rt: &R, alloc: Global, address: SocketAddr, play: Play) -> Left {
+/// One item has a second, the other a thousand; both are asked for after three.
+fn dated<R: Net<Stream = TcpStream> + Clock>(
+    rt: &R,
+    alloc: Global,
+    address: SocketAddr,
+) -> Option<bool> {
+    let stream = connected(rt, address)?;
+    let sets: (&[u8], &[u8]) = (
+        b"set short 0 1 1\r\n5\r\nset long 0 1000 1\r\n6\r\n",
+        b"STORED\r\nSTORED\r\n",
+    );
+    let gets: (&[u8], &[u8]) = (b"get short long\r\n", b"VALUE long 0 1\r\n6\r\nEND\r\n");
+    let is_stored = talks(alloc, &stream, sets, 0);
+    thread::sleep(rt, Duration::from_millis(3000));
+    Some(is_stored && talks(alloc, &stream, gets, 0))
+}
+
+fn act<R: Net<Stream = TcpStream> + Clock>(
+    rt: &R,
+    alloc: Global,
+    address: SocketAddr,
+    play: Play,
+) -> Left {
     let mut open = Vec::new(alloc);
     let went = match play {
         Play::Session(piece) => match (connected(rt, address), connected(rt, address)) {
@@ -191,10 +235,15 @@ fn act<R: Net<Stream = TcpStream>>(rt: &R, alloc: Global, address: SocketAddr, p
             }
             _ => None,
         },
-        Play::Crowd => crowd(rt, alloc, address, &mut open),
+        Play::Crowd => {
+            let went = crowd(rt, alloc, address, &mut open);
+            open.truncate(63);
+            Some(went == Some(true) && gets_in(rt, alloc, address))
+        }
         Play::Broken => broken(rt, alloc, address),
         Play::Silent => silent(rt, alloc, address, &mut open),
         Play::Midway => midway(rt, alloc, address, &mut open),
+        Play::Dated => dated(rt, alloc, address),
     };
     Left {
         went_well: went == Some(true),
@@ -284,5 +333,12 @@ fn beside_a_client_that_never_reads_the_next_is_served(rt: HostRuntime) -> Resul
 fn it_ends_with_clients_midway(rt: HostRuntime) -> Result<(), Fail> {
     assert!(rt; served(&rt, rt.alloc(), 0, Play::Midway));
     assert!(rt; served(&rt, rt.alloc(), 1, Play::Midway));
+    Ok(())
+}
+
+#[test]
+fn an_item_is_gone_after_its_time(rt: HostRuntime) -> Result<(), Fail> {
+    assert!(rt; served(&rt, rt.alloc(), 0, Play::Dated));
+    assert!(rt; served(&rt, rt.alloc(), 1, Play::Dated));
     Ok(())
 }
