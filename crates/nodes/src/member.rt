@@ -20,6 +20,8 @@ impl Size {
     /// The executor, or the verifier, of this number.
     pub fn member(self, id: u8) -> Member
         requires { id ≤ 2 * self.u }
+        ensures size { result.u ≡ self.u }
+        ensures number { result.id ≡ id }
     {
         Member { u: self.u, id }
     }
