@@ -6,15 +6,17 @@ use std::io::{ErrorKind, Read, Write};
 use std::test::Fail;
 use streams::{Ending, Listener, read_session, write_session};
 
-/// A reader that gives three bytes at a time, and whose reads fail from one on.
+/// A reader that gives three bytes at a time, and whose reads fail from one on. It counts its reads.
 #[derive(Drop)]
 struct Failing<'a> {
     rest: &'a [u8],
     before: usize,
+    reads: usize,
 }
 
 impl Read for Failing<'_> {
     fn read(&mut self, buffer: &mut [u8]) -> io::Result<usize> {
+        self.reads = self.reads.saturating_add(1);
         if self.before == 0 {
             return Err(io::Error::from(ErrorKind::ConnectionReset));
         }
@@ -24,15 +26,17 @@ impl Read for Failing<'_> {
     }
 }
 
-/// A writer that takes two bytes at a time, and whose writes fail from one on.
+/// A writer that takes two bytes at a time, and whose writes fail from one on. It counts its writes.
 #[derive(Drop)]
 struct Stuck {
     taken: Vec<u8>,
     before: usize,
+    writes: usize,
 }
 
 impl Write for Stuck {
     fn write(&mut self, text: &[u8]) -> io::Result<usize> {
+        self.writes = self.writes.saturating_add(1);
         if self.before == 0 {
             return Err(io::Error::from(ErrorKind::BrokenPipe));
         }
@@ -83,6 +87,7 @@ fn each_read_fails_once(rt: HostRuntime) -> Result<(), Fail> {
         let mut input = Failing {
             rest: text,
             before: k,
+            reads: 0,
         };
         let mut notes = new_notes(rt.alloc(), 100);
         let ending = read_session(&mut input, &mut notes);
@@ -91,6 +96,8 @@ fn each_read_fails_once(rt: HostRuntime) -> Result<(), Fail> {
         assert_eq!(rt; notes.hangups, 1, "{k}");
         let expected = if k < 5 { Ending::Failed } else { Ending::AtEnd };
         assert_eq!(rt; ending, expected, "{k}");
+        // Four pieces and the end, or a fault: no read comes after it.
+        assert_eq!(rt; input.reads, if k < 5 { k + 1 } else { 5 }, "{k}");
     }
     Ok(())
 }
@@ -100,12 +107,14 @@ fn a_listener_that_has_enough_hears_no_more(rt: HostRuntime) -> Result<(), Fail>
     let mut input = Failing {
         rest: b"0123456789",
         before: 9,
+        reads: 0,
     };
     let mut notes = new_notes(rt.alloc(), 5);
     let ending = read_session(&mut input, &mut notes);
     assert_eq!(rt; notes.heard.as_slice(), b"012345".as_slice());
     assert_eq!(rt; notes.hangups, 0);
     assert_eq!(rt; ending, Ending::Enough);
+    assert_eq!(rt; input.reads, 2);
     Ok(())
 }
 
@@ -116,12 +125,14 @@ fn each_write_fails_once(rt: HostRuntime) -> Result<(), Fail> {
         let mut output = Stuck {
             taken: Vec::new(rt.alloc()),
             before: k,
+            writes: 0,
         };
         let ended = write_session(&mut output, text);
         let expected = if k < 5 { Err(2 * k) } else { Ok(()) };
         assert_eq!(rt; ended, expected, "{k}");
         let all = if k < 5 { 2 * k } else { 10 };
         assert_eq!(rt; output.taken.as_slice(), &text[..all], "{k}");
+        assert_eq!(rt; output.writes, if k < 5 { k + 1 } else { 5 }, "{k}");
     }
     Ok(())
 }

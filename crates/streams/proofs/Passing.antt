@@ -1,35 +1,123 @@
--- One more piece that is handed on, and one more part of a text that is written.
-use Rattle.std.proofs.Common.{◌≡◌, ℕ, zero, suc, ◌+◌, ◌<◌, Bool, true, List, [], ◌∷◌, ◌++◌, length, take, drop, All, Option, sym, ap, ◌∙◌, subst, arith}
-use Rattle.std.specs.List.{concat}
-use Rattle.std.proofs.lemmas.List.{append-nil, take-append-drop, take-take, drop-take}
-use Rattle.std.proofs.lemmas.List.Elements.{All-append}
+-- One more read of a session, and the last one.
+use Rattle.std.proofs.Common.{◌≡◌, ◌≢◌, refl, ℕ, zero, suc, ◌+◌, ◌-◌, ◌^◌, Bool, true, false, List, [], ◌∷◌, ◌++◌, length, All, Option, Ok, Err, sym, ap, ◌∙◌, subst, inl, inr, arith}
+use Rattle.std.specs.List.{FoldsTo, concat}
+use Rattle.std.proofs.lemmas.List.{append-nil, length-append}
+use Rattle.std.proofs.lemmas.List.Elements.{All-append, filter_map-append}
 use Rattle.std.proofs.lemmas.List.Folds.{concat-append}
 use Rattle.std.proofs.lemmas.Fn.{FoldsTo-push}
-use Rattle.std.specs.Io.KnownBytes.{Consumes}
-use Rattle.std.proofs.KnownBytes.{Consumes-trans}
-use Rattle.streams.specs.Session.{Hears}
+use Rattle.std.specs.Result.{result_ok}
+use Rattle.std.specs.Io.KnownBytes.{Consumes, Keeps, IsAtEnd}
+use Rattle.std.proofs.KnownBytes.{Consumes-trans, Consumes-kept}
+use Rattle.std.specs.declared.io.ErrorKind.{ErrorKind}
+use Rattle.std.specs.declared.io.ErrorKind.TheVariants.{Interrupted}
+use Rattle.streams.specs.Session.{Given, GoesOn, pieces, IsSession}
+use Rattle.streams.specs.declared.reading.Ending.TheVariants.{AtEnd, Failed, Enough}
 
-pub concat_more : (pieces : List (List ℕ)) (piece : List ℕ) → concat (pieces ++ piece ∷ []) ≡ concat pieces ++ piece
-concat_more pieces piece = concat-append pieces (piece ∷ []) ∙ ap (λ xs. concat pieces ++ xs) (append-nil piece)
+pieces_piece : (reads : List Given) (piece : List ℕ) → pieces (reads ++ Ok piece ∷ []) ≡ pieces reads ++ piece ∷ []
+pieces_piece reads piece = filter_map-append result_ok reads (Ok piece ∷ [])
 
-module _ {S : Type 0} (hears : S → List ℕ → Bool → S → Type 0) (leaves : S → S → Type 0) where
-  one_some : (piece : List ℕ) → 0 < length piece → All (λ p. 0 < length p) (piece ∷ [])
-  one_some piece some zero d l = some
-  one_some piece some (suc k) d l = absurd (omega (arith, l))
+pieces_fault : (reads : List Given) (kind : ErrorKind) → pieces (reads ++ Err kind ∷ []) ≡ pieces reads
+pieces_fault reads kind = filter_map-append result_ok reads (Err kind ∷ []) ∙ append-nil (pieces reads)
 
-  -- the listener heard one more piece
-  pub hears_more : (pieces : List (List ℕ)) (s t v : S) (piece : List ℕ) → Hears hears leaves pieces s t → 0 < length piece → hears t piece true v → Hears hears leaves (pieces ++ piece ∷ []) s v
-  hears_more pieces s t v piece h some heard = (
-    All-append (λ p. 0 < length p) pieces (piece ∷ []) h.0 (one_some piece some),
-    FoldsTo-push (λ s p t. hears s p true t) s pieces t piece v h.1 heard,
-  )
+concat_piece : (reads : List Given) (piece : List ℕ) → concat (pieces (reads ++ Ok piece ∷ [])) ≡ concat (pieces reads) ++ piece
+concat_piece reads piece = ap concat (pieces_piece reads piece) ∙ concat-append (pieces reads) (piece ∷ []) ∙ ap (λ xs. concat (pieces reads) ++ xs) (append-nil piece)
 
--- and the reader has lost it
-pub consumes_more : (a b c : Option (List ℕ)) (pieces : List (List ℕ)) (piece : List ℕ) → Consumes a b (concat pieces) → Consumes b c piece → Consumes a c (concat (pieces ++ piece ∷ []))
-consumes_more a b c pieces piece first then = subst (Consumes a c) (sym (concat_more pieces piece)) (Consumes-trans a b c (concat pieces) piece first then)
+-- P holds of one more
+pub all_more : {X : Type 0} (P : X → Type 0) (xs : List X) (x : X) → All P xs → P x → All P (xs ++ x ∷ [])
+all_more {X} P xs x all p = All-append P xs (x ∷ []) all one where
+  one : All P (x ∷ [])
+  one zero d l = p
+  one (suc k) d l = absurd (omega (arith, l))
 
--- n more bytes are written, which are the next ones
-pub take_more : (sent n : ℕ) (text : List ℕ) → take (sent + n) text ≡ take sent text ++ take n (drop sent text)
-take_more sent n text = sym (take-append-drop sent (take (sent + n) text))
-    ∙ ap (λ xs. xs ++ drop sent (take (sent + n) text)) (take-take sent (sent + n) text (omega arith))
-    ∙ ap (λ xs. take sent text ++ xs) (drop-take sent n text)
+pub length_more : {X : Type 0} (xs : List X) (x : X) (count : ℕ) → length xs ≡ count → length (xs ++ x ∷ []) ≡ count + 1
+length_more xs x count counted = length-append xs (x ∷ []) ∙ ap (λ n. n + 1) counted
+
+lost_piece : (a b c : Option (List ℕ)) (reads : List Given) (piece : List ℕ) → Consumes a b (concat (pieces reads)) → Consumes b c piece → Consumes a c (concat (pieces (reads ++ Ok piece ∷ [])))
+lost_piece a b c reads piece first then = subst (Consumes a c) (sym (concat_piece reads piece)) (Consumes-trans a b c (concat (pieces reads)) piece first then)
+
+lost_none : (a b c : Option (List ℕ)) (reads : List Given) (kind : ErrorKind) → Consumes a b (concat (pieces reads)) → Keeps b c → Consumes a c (concat (pieces (reads ++ Err kind ∷ [])))
+lost_none a b c reads kind first kept = subst (λ ps. Consumes a c (concat ps)) (sym (pieces_fault reads kind)) (Consumes-kept a b c (concat (pieces reads)) first kept)
+
+-- the session so far, in which no read was the last one
+pub record IsSoFar {S T : Type 0} (gives : S → Given → S → Type 0) (remaining : S → Option (List ℕ)) (hears : T → List ℕ → Bool → T → Type 0) (before now : S) (s t : T) (count : ℕ) : Type 0 where
+  pub reads : List Given
+  pub counted : length reads ≡ count
+  pub made : FoldsTo gives before reads now
+  pub went_on : All GoesOn reads
+  pub heard : FoldsTo (λ s piece t. hears s piece true t) s (pieces reads) t
+  pub lost : Consumes (remaining before) (remaining now) (concat (pieces reads))
+
+module _ {S T : Type 0} {gives : S → Given → S → Type 0} {remaining : S → Option (List ℕ)} {hears : T → List ℕ → Bool → T → Type 0} {before now : S} {s t : T} {count : ℕ} (far : IsSoFar gives remaining hears before now s t count) where
+  -- a piece was read, and the listener wants more
+  pub one_piece : {after : S} {u : T} (piece : List ℕ) → gives now (Ok piece) after → GoesOn (Ok piece) → Consumes (remaining now) (remaining after) piece → hears t piece true u → IsSoFar gives remaining hears before after s u (count + 1)
+  one_piece {after} {u} piece step goes_on lost heard = record {
+    reads = far.reads ++ Ok piece ∷ [];
+    counted = length_more far.reads (Ok piece) count far.counted;
+    made = FoldsTo-push gives before far.reads now (Ok piece) after far.made step;
+    went_on = all_more GoesOn far.reads (Ok piece) far.went_on goes_on;
+    heard = subst (λ ps. FoldsTo (λ s piece t. hears s piece true t) s ps u) (sym (pieces_piece far.reads piece)) (FoldsTo-push (λ s piece t. hears s piece true t) s (pieces far.reads) t piece u far.heard heard);
+    lost = lost_piece (remaining before) (remaining now) (remaining after) far.reads piece far.lost lost;
+  }
+
+  -- a read was interrupted
+  pub one_interrupted : {after : S} (kind : ErrorKind) → gives now (Err kind) after → GoesOn (Err kind) → Keeps (remaining now) (remaining after) → IsSoFar gives remaining hears before after s t (count + 1)
+  one_interrupted {after} kind step goes_on kept = record {
+    reads = far.reads ++ Err kind ∷ [];
+    counted = length_more far.reads (Err kind) count far.counted;
+    made = FoldsTo-push gives before far.reads now (Err kind) after far.made step;
+    went_on = all_more GoesOn far.reads (Err kind) far.went_on goes_on;
+    heard = subst (λ ps. FoldsTo (λ s piece t. hears s piece true t) s ps t) (sym (pieces_fault far.reads kind)) far.heard;
+    lost = lost_none (remaining before) (remaining now) (remaining after) far.reads kind far.lost kept;
+  }
+
+  -- the end was read
+  pub at_end : {leaves : T → T → Type 0} {after : S} {u : T} → gives now (Ok []) after → Consumes (remaining now) (remaining after) [] → IsAtEnd (remaining after) → leaves t u → IsSession gives remaining hears leaves before after s u AtEnd
+  at_end {after = after} step lost end left = record {
+    reads = far.reads;
+    last = Ok [] ∷ [];
+    then = t;
+    made = FoldsTo-push gives before far.reads now (Ok []) after far.made step;
+    went_on = far.went_on;
+    heard = far.heard;
+    ended = (refl, end, left);
+    lost = lost_piece (remaining before) (remaining now) (remaining after) far.reads [] far.lost lost;
+  }
+
+  -- a read failed
+  pub failed : {leaves : T → T → Type 0} {after : S} {u : T} (kind : ErrorKind) → kind ≢ Interrupted → gives now (Err kind) after → Keeps (remaining now) (remaining after) → leaves t u → IsSession gives remaining hears leaves before after s u Failed
+  failed {after = after} kind other step kept left = record {
+    reads = far.reads;
+    last = Err kind ∷ [];
+    then = t;
+    made = FoldsTo-push gives before far.reads now (Err kind) after far.made step;
+    went_on = far.went_on;
+    heard = far.heard;
+    ended = (inl (kind, refl, other), left);
+    lost = lost_none (remaining before) (remaining now) (remaining after) far.reads kind far.lost kept;
+  }
+
+  -- the listener wants no more
+  pub enough : {leaves : T → T → Type 0} {after : S} {u : T} (piece : List ℕ) → gives now (Ok piece) after → GoesOn (Ok piece) → Consumes (remaining now) (remaining after) piece → hears t piece false u → IsSession gives remaining hears leaves before after s u Enough
+  enough {after = after} piece step goes_on lost heard = record {
+    reads = far.reads;
+    last = Ok piece ∷ [];
+    then = t;
+    made = FoldsTo-push gives before far.reads now (Ok piece) after far.made step;
+    went_on = far.went_on;
+    heard = far.heard;
+    ended = (piece, refl, goes_on, heard);
+    lost = lost_piece (remaining before) (remaining now) (remaining after) far.reads piece far.lost lost;
+  }
+
+  -- there were too many reads
+  pub too_many : {leaves : T → T → Type 0} {u : T} → count ≡ 2 ^ 64 - 1 → leaves t u → IsSession gives remaining hears leaves before now s u Failed
+  too_many all left = record {
+    reads = far.reads;
+    last = [];
+    then = t;
+    made = subst (λ reads. FoldsTo gives before reads now) (sym (append-nil far.reads)) far.made;
+    went_on = far.went_on;
+    heard = far.heard;
+    ended = (inr (refl, far.counted ∙ all), left);
+    lost = subst (λ reads. Consumes (remaining before) (remaining now) (concat (pieces reads))) (sym (append-nil far.reads)) far.lost;
+  }

@@ -1,25 +1,56 @@
--- What a listener is told of what is read.
-use Rattle.std.specs.Prelude.{ℕ, ◌<◌, Bool, true, false, List, ◌++◌, length, All, Option}
-use Rattle.std.specs.List.{FoldsTo, concat}
+-- What the reads of a connection gave, and what its listener was told of them.
+use Rattle.std.specs.Prelude.{◌≡◌, ◌≢◌, ◌⊎◌, ℕ, ◌-◌, ◌^◌, ◌<◌, ◌≤◌, Bool, true, false, List, [], ◌∷◌, ◌++◌, length, take, All, Option, Result, Ok, Err}
+use Rattle.std.specs.List.{FoldsTo, concat, filter_map}
+use Rattle.std.specs.Result.{result_ok}
+use Rattle.std.specs.IoError.{error_kind}
 use Rattle.std.specs.Io.KnownBytes.{Consumes, IsAtEnd}
+use Rattle.std.specs.declared.io.Error.{Error}
+use Rattle.std.specs.declared.io.ErrorKind.{ErrorKind}
+use Rattle.std.specs.declared.io.ErrorKind.TheVariants.{Interrupted}
 use Rattle.streams.specs.declared.reading.Ending.{Ending}
 use Rattle.streams.specs.declared.reading.Ending.TheVariants.{AtEnd, Failed, Enough}
+use Rattle.streams.specs.declared.reading.TheConstants.{MOST_PIECE_BYTES}
 
-module _ {S : Type 0} (hears : S → List ℕ → Bool → S → Type 0) (leaves : S → S → Type 0) where
-  -- How it ends. The reader has lost just the bytes that were handed on. There was one hangup, and where all was read
-  -- none is left; or the last piece was enough.
-  abbrev pub EndsAs : Ending → Option (List ℕ) → Option (List ℕ) → List ℕ → S → S → Type 0
-  EndsAs AtEnd before after handed s t = leaves s t × Consumes before after handed × IsAtEnd after
-  EndsAs Failed before after handed s t = leaves s t × Consumes before after handed
-  EndsAs Enough before after handed s t = (last : List ℕ) × (0 < length last) × hears s last false t × Consumes before after (handed ++ last)
+-- what a read gives: some bytes, none at the end of the input, or how it failed
+abbrev pub Given : Type 0
+Given = Result (List ℕ) ErrorKind
 
-  -- the listener heard these pieces, each of which has some byte, and wanted more after each of them
-  abbrev pub Hears : List (List ℕ) → S → S → Type 0
-  Hears pieces s t = All (λ piece. 0 < length piece) pieces × FoldsTo (λ s piece t. hears s piece true t) s pieces t
+-- what a read into this buffer gave
+abbrev pub given : Result ℕ Error → List ℕ → Given
+given (Ok n) buffer = Ok (take n buffer)
+given (Err e) buffer = Err (error_kind e)
 
-  -- What was handed on is what was read, in order.
-  pub record IsSession (before after : Option (List ℕ)) (s t : S) (ending : Ending) : Type 0 where
-    pub pieces : List (List ℕ)
-    pub then : S
-    pub heard : Hears pieces s then
-    pub ended : EndsAs ending before after (concat pieces) then t
+-- the pieces that reads gave, in order
+abbrev pub pieces : List Given → List (List ℕ)
+pieces reads = filter_map result_ok reads
+
+-- another read may follow this one: it gave a piece, or it was interrupted
+abbrev pub GoesOn : Given → Type 0
+GoesOn (Ok piece) = (0 < length piece) × (length piece ≤ MOST_PIECE_BYTES)
+GoesOn (Err kind) = kind ≡ Interrupted
+
+-- what `Failed` says: the last read failed, or there were 2^64 - 1 reads before and it was not made
+abbrev pub EndsFailed : List Given → List Given → Type 0
+EndsFailed reads last = ((kind : ErrorKind) × (last ≡ Err kind ∷ []) × (kind ≢ Interrupted)) ⊎ ((last ≡ []) × (length reads ≡ 2 ^ 64 - 1))
+
+module _ {S T : Type 0} (gives : S → Given → S → Type 0) (remaining : S → Option (List ℕ)) (hears : T → List ℕ → Bool → T → Type 0) (leaves : T → T → Type 0) where
+  -- How it ends, after reads that went on: by a last one. There is one hangup, and where all was read none is left;
+  -- or the last piece was enough.
+  abbrev pub EndsAs : Ending → List Given → List Given → S → T → T → Type 0
+  EndsAs AtEnd reads last after s t = (last ≡ Ok [] ∷ []) × IsAtEnd (remaining after) × leaves s t
+  EndsAs Failed reads last after s t = EndsFailed reads last × leaves s t
+  EndsAs Enough reads last after s t = (piece : List ℕ) × (last ≡ Ok piece ∷ []) × GoesOn (Ok piece) × hears s piece false t
+
+  -- What was handed on is what was read, in order, and no read was made after the one that ended it.
+  pub record IsSession (before after : S) (s t : T) (ending : Ending) : Type 0 where
+    pub reads : List Given
+    pub last : List Given
+    pub then : T
+    -- these reads were made, and no other
+    pub made : FoldsTo gives before (reads ++ last) after
+    pub went_on : All GoesOn reads
+    -- the listener heard each piece of them, and wanted more after each
+    pub heard : FoldsTo (λ s piece t. hears s piece true t) s (pieces reads) then
+    pub ended : EndsAs ending reads last after then t
+    -- the reader has lost just the bytes that it gave
+    pub lost : Consumes (remaining before) (remaining after) (concat (pieces (reads ++ last)))

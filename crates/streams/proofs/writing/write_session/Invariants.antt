@@ -1,7 +1,5 @@
-use Rattle.std.proofs.Common.{◌≤◌, length, take}
-use Rattle.std.specs.Io.KnownBytes.{Appends}
+use Rattle.streams.proofs.Written.{IsSoFar}
 use Rattle.streams.proofs.writing.write_session.Given as goal
 
--- this much of the text was written so far
 abbrev pub invariant-loop : goal.invariant-loop
-invariant-loop g l = record { few : l.sent ≤ length l.text; written : Appends (g.W.Write.contents l.fn.output) (g.W.Write.contents l.output) (take l.sent l.text) }
+invariant-loop g l = IsSoFar g.W.WriteOnce.takes g.W.Write.contents l.text l.fn.output l.output l.sent l.counter
