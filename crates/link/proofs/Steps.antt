@@ -1,11 +1,12 @@
 -- Each call keeps the rule of a link.
-use Rattle.std.proofs.Common.{◌≡◌, ◌≢◌, ◌⊎◌, ℕ, zero, suc, ◌<◌, Bool, true, false, cond, List, [], ◌∷◌, ◌++◌, length, set, refl, sym, ap, ◌∙◌, subst, inl, inr, ⊎_elim, arith, length-set, length-append, eq-eqb, ne_eqb, append-nil, append_assoc}
+use Rattle.std.proofs.Common.{◌≡◌, ◌≢◌, ◌⊎◌, ℕ, zero, suc, ◌+◌, ◌<◌, Bool, true, false, cond, List, [], ◌∷◌, ◌++◌, length, set, refl, sym, ap, ◌∙◌, subst, inl, inr, ⊎_elim, arith, length-set, length-append, eq-eqb, ne_eqb, append-nil, append_assoc}
 use Rattle.std.specs.Prelude.{◌==◌}
 use mathlib.Core.Option.{some, some-injective, some-ne-none}
 use lib.ListN.{get_elem?}
 use Rattle.atomic_table.proofs.Lists.{at_set, set_again}
 use Rattle.crossbeam_channel.specs.Fifo.{Pushes, Pops, Forks, Learns}
 use Rattle.link.specs.declared.line.View.{View}
+use Rattle.link.specs.declared.line.TheConstants.{MOST_ITEMS}
 use Rattle.link.specs.Lines.{fresh, items_of, by, StartsWith, Knows, IsKept, IsPut, IsTaken}
 
 starts_more : {A : Type 0} (all front more : List A) → StartsWith all front → StartsWith (all ++ more) front
@@ -45,14 +46,18 @@ module _ {T : Type 0} where
   at_push (x ∷ xs) a b (suc j) e = ⊎_elim (λ t. let h = t.0 in inl (omega arith, t.1)) (λ t. inr (ap suc t.0, t.1)) (at_push xs a b j e)
 
   pub begins : IsKept {T = T} [] (fresh [] [] ∷ [])
-  begins = record { puts = []; takes = []; line = refl; knows = one; none = λ _ _. (refl, refl) }
+  begins = record { puts = []; takes = []; line = refl; few = omega arith; knows = one; none = λ _ _. (refl, refl) }
     where
       one : (end : ℕ) (v : View T) → get_elem? (fresh [] [] ∷ []) end ≡ some v → Knows [] [] end v
       one zero v e = subst (Knows [] [] 0) (some-injective _ _ e) (refl, refl, ([], refl), ([], refl))
       one (suc end) v e = absurd (some-ne-none v (sym e))
 
-  pub puts : (n end : ℕ) (v : View T) (x : T) → Pushes IsKept n end v x (IsPut v x)
-  puts n end v x items views room k at =
+  length_items : (ps : List (ℕ × T)) → length (items_of ps) ≡ length ps
+  length_items [] = refl
+  length_items (p ∷ ps) = ap suc (length_items ps)
+
+  pub puts : (n end : ℕ) (v : View T) (x : T) → n ≡ MOST_ITEMS → Pushes IsKept n end v x (IsPut v x)
+  puts n end v x most items views room k at =
       let w : View T = record { put = v.put ++ x ∷ []; got = v.got; puts = v.puts; takes = v.takes } in
       let mine = k.knows end v at in
       let here = at_below views end v at in
@@ -62,6 +67,7 @@ module _ {T : Type 0} where
           puts = ps;
           takes = k.takes;
           line = items-push k.puts (end, x) ∙ ap (λ l. l ++ x ∷ []) k.line ∙ append_assoc (items_of k.takes) items (x ∷ []);
+          few = let joined = length-append items (x ∷ []) in omega arith;
           knows = λ j u is. ⊎_elim
               (λ (t : (j ≡ end) × (w ≡ u)). subst (λ (p : ℕ × View T). Knows ps k.takes p.0 p.1) (λ i. (sym t.0 i, t.1 i))
               (by_own end k.puts x ∙ ap (λ l. l ++ x ∷ []) mine.0, mine.1, starts_more k.puts v.puts ((end, x) ∷ []) mine.2, mine.3))
@@ -81,12 +87,15 @@ module _ {T : Type 0} where
       let here = at_below views end v at in
       let w : View T = record { put = v.put; got = v.got ++ x ∷ []; puts = k.puts; takes = ts } in
       let got : by end ts ≡ v.got ++ x ∷ [] = by_own end k.takes x ∙ ap (λ l. l ++ x ∷ []) mine.1 in
-      let line : items_of k.puts ≡ items_of ts ++ items = k.line ∙ sym (append_assoc (items_of k.takes) (x ∷ []) items) ∙ ap (λ l. l ++ items) (sym (items-push k.takes (end, x))) in (
+      let line : items_of k.puts ≡ items_of ts ++ items = k.line ∙ sym (append_assoc (items_of k.takes) (x ∷ []) items) ∙ ap (λ l. l ++ items) (sym (items-push k.takes (end, x))) in
+      let left : length k.puts < length ts + MOST_ITEMS =
+      let had = k.few in let all = ap length line in let joined = length-append (items_of ts) items in let ps = length_items k.puts in let gone = length_items ts in omega arith in (
         w,
         record {
           puts = k.puts;
           takes = ts;
           line = line;
+          few = let had = k.few in omega arith;
           knows = λ j u is. ⊎_elim
               (λ (t : (j ≡ end) × (w ≡ u)). subst (λ (p : ℕ × View T). Knows k.puts ts p.0 p.1) (λ i. (sym t.0 i, t.1 i)) (mine.0, got, whole k.puts, whole ts))
               (λ (t : (j ≢ end) × (get_elem? views j ≡ some u)). let f = k.knows j u t.1 in (f.0, by_other j end k.takes x (λ e. t.0 (sym e)) ∙ f.1, f.2, starts_more k.takes u.takes ((end, x) ∷ []) f.3))
@@ -99,6 +108,7 @@ module _ {T : Type 0} where
           newest = refl;
           puts_grow = mine.2;
           in_line = (items, line);
+          few = left;
           end = end;
           between = mine.3.0;
           last = ap (λ l. l ++ (end, x) ∷ []) mine.3.1;
@@ -116,6 +126,7 @@ module _ {T : Type 0} where
         puts = k.puts;
         takes = k.takes;
         line = k.line;
+        few = k.few;
         knows = λ j u is. ⊎_elim
             (λ (t : (j < length (set views end v)) × (get_elem? (set views end v) j ≡ some u)). k.knows j u (subst (λ l. get_elem? l j ≡ some u) same t.1))
             (λ (t : (j ≡ length (set views end v)) × (b ≡ u)). let len : length (set views end v) ≡ length views = length-set views end v in let at_end = t.0 in

@@ -1,9 +1,10 @@
 -- What went into a link and came out of it.
-use Rattle.std.specs.Prelude.{◌≡◌, ℕ, ◌≤◌, ◌==◌, cond, List, [], ◌∷◌, ◌++◌, length}
+use Rattle.std.specs.Prelude.{◌≡◌, ℕ, ◌+◌, ◌<◌, ◌≤◌, ◌==◌, cond, List, [], ◌∷◌, ◌++◌, length}
 use mathlib.Core.Option.{some}
 use lib.ListN.{get_elem?}
 use Rattle.crossbeam_channel.specs.Claims.{Pass, view}
 use Rattle.link.specs.declared.line.View.{View}
+use Rattle.link.specs.declared.line.TheConstants.{MOST_ITEMS}
 
 -- these begin with those
 abbrev pub StartsWith : {A : Type 0} → List A → List A → Type 0
@@ -32,11 +33,12 @@ module _ {T : Type 0} where
   abbrev pub Knows : List (ℕ × T) → List (ℕ × T) → ℕ → View T → Type 0
   Knows puts takes end v = (by end puts ≡ v.put) × (by end takes ≡ v.got) × StartsWith puts v.puts × StartsWith takes v.takes
 
-  -- The rule of a link: what was put is what was taken and then what the link holds.
+  -- The rule of a link: what was put is what was taken and then what the link holds, which is never more than its most.
   pub record IsKept (items : List T) (views : List (View T)) : Type 0 where
     pub puts : List (ℕ × T)
     pub takes : List (ℕ × T)
     pub line : items_of puts ≡ items_of takes ++ items
+    pub few : length items ≤ MOST_ITEMS
     pub knows : (end : ℕ) (v : View T) → get_elem? views end ≡ some v → Knows puts takes end v
     pub none : (end : ℕ) → length views ≤ end → (by end puts ≡ []) × (by end takes ≡ [])
 
@@ -45,12 +47,14 @@ module _ {T : Type 0} where
   IsPut v x w = w ≡ record v { put = v.put ++ x ∷ [] }
 
   -- The end took the item, and knows more: what was taken is a beginning of what was put, the item is the last that was
-  -- taken, and of all that was put and taken its own is what it knew before, and now this item.
+  -- taken, and of all that was put and taken its own is what it knew before, and now this item. Before it left, the link
+  -- held no more than its most.
   pub record IsTaken (v : View T) (x : T) (w : View T) : Type 0 where
     pub same_puts : w.put ≡ v.put
     pub newest : w.got ≡ v.got ++ x ∷ []
     pub puts_grow : StartsWith w.puts v.puts
     pub in_line : IsLine w.puts w.takes
+    pub few : length w.puts < length w.takes + MOST_ITEMS
     pub end : ℕ
     pub between : List (ℕ × T)
     pub last : w.takes ≡ (v.takes ++ between) ++ (end, x) ∷ []

@@ -2,18 +2,16 @@
 
 ghost use Rattle.std.specs.Prelude.{◌≡◌, [], IfOk, MatchResult, MatchOption};
 ghost use Rattle.crossbeam_channel.specs.Claims.{IsSeatAt};
-ghost use Rattle.crossbeam_channel.specs.Ends.{sends_on, receives_on};
+ghost use Rattle.crossbeam_channel.specs.Ends.{sends_on, receives_on, ruled_capacity};
 ghost use Rattle.link.specs.Lines.{fresh, known, IsPut, IsTaken};
 ghost use Rattle.link.specs.declared.line.View.{View};
+ghost use Rattle.link.specs.declared.line.TheConstants.{MOST_ITEMS};
 
-use crate::line::{Line, Putting, Taking, Telling, View};
+use crate::line::{Line, MOST_ITEMS, Putting, Taking, Telling, View};
 use crossbeam_channel::{Pass, RuledReceiver, RuledSender, bounded_with};
 use std::alloc::{AllocError, Global};
 use std::marker::Model;
 use std::sync::Wait;
-
-/// The most items that a link holds.
-const CAPACITY: usize = 4096;
 
 /// One end of a link, by which items are put and taken. Contracts see what it knows.
 #[derive(Drop)]
@@ -28,7 +26,7 @@ impl<T: Drop> Model for Link<T> {
 
     ghost view = { λ s. known s.pass };
 
-    ghost invariant = { λ s. (receives_on s.receiver ≡ sends_on s.sender) × IsSeatAt (sends_on s.sender) s.pass };
+    ghost invariant = { λ s. (receives_on s.receiver ≡ sends_on s.sender) × IsSeatAt (sends_on s.sender) s.pass × (ruled_capacity (sends_on s.sender) ≡ MOST_ITEMS) };
 }
 
 impl<T: Drop> Link<T> {
@@ -36,7 +34,7 @@ impl<T: Drop> Link<T> {
     pub fn new(alloc: Global) -> Result<Link<T>, AllocError>
         ensures { IfOk result (λ end. end ≡ fresh [] []) }
     {
-        let (sender, receiver, pass) = bounded_with(alloc, CAPACITY)?;
+        let (sender, receiver, pass) = bounded_with(alloc, MOST_ITEMS)?;
         Ok(Link {
             sender,
             receiver,
@@ -60,7 +58,7 @@ impl<T: Drop> Link<T> {
         })
     }
 
-    /// Puts the item in at the back. Where the link holds 4,096 items it waits until some end takes
+    /// Puts the item in at the back. If the link holds `MOST_ITEMS` items it waits until some end takes
     /// one. An item that comes back was not put.
     pub fn put<R: Wait>(&mut self, rt: &R, item: T) -> Result<(), T>
         ensures { MatchResult result (λ _. IsPut self.old item self.new) (λ back. (back ≡ item) × (self.new ≡ self.old)) }
@@ -82,7 +80,7 @@ impl<T: Drop> Link<T> {
         }
     }
 
-    /// Puts the item in at the back, or hands it back where it finds no room. It does not wait for
+    /// Puts the item in at the back, or hands it back if it finds `MOST_ITEMS` there. It does not wait for
     /// another end to take. An item that comes back was not put.
     pub fn try_put<R: Wait>(&mut self, rt: &R, item: T) -> Result<(), T>
         ensures { MatchResult result (λ _. IsPut self.old item self.new) (λ back. (back ≡ item) × (self.new ≡ self.old)) }

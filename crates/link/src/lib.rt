@@ -1,6 +1,6 @@
 //! Links between threads: what one end puts in at the back, some end takes out at the front.
 //!
-//! A link holds up to 4,096 items. Any number of ends share it, each in a thread of its own. What an
+//! A link holds at most `MOST_ITEMS` items. Any number of ends share it, each in a thread of its own. What an
 //! end knows of the link is a value that contracts see: its own puts and takes, and a beginning of
 //! the puts and of the takes of all ends.
 //!
@@ -14,4 +14,4 @@ mod ends;
 mod line;
 
 pub use ends::Link;
-pub use line::{Line, View};
+pub use line::{Line, MOST_ITEMS, View};

@@ -3,6 +3,9 @@
 use crossbeam_channel::protocol::{Lesson, Outcome, Protocol, Split};
 use std::collections::LinkedList;
 
+/// The most items that a link holds.
+pub const MOST_ITEMS: usize = 4096;
+
 /// What an end knows: the items that it put and those that it took, and a beginning of all puts and
 /// of all takes, each with the number of the end that made it. It stands in contracts alone: no
 /// value of it is ever made.
@@ -13,7 +16,8 @@ pub struct View<T> {
     pub takes: LinkedList<(u64, T)>,
 }
 
-/// The rule: what was put is what was taken and then what the link holds, in that order.
+/// The rule: what was put is what was taken and then what the link holds, in that order, which is at most
+/// `MOST_ITEMS`.
 pub struct Line;
 
 impl<T> Protocol<T, View<T>> for Line {
