@@ -2,7 +2,7 @@
 use Rattle.std.proofs.Common.{◌≡◌, ◌≢◌, ℕ, zero, suc, ◌+◌, ◌%◌, ◌<◌, ◌≤◌, true, false, cond, List, [], ◌∷◌, ◌++◌, map, reverse, length, take, drop, set, Some, None, refl, sym, ap, ◌∙◌, arith, subst, eq-eqb, ne_eqb}
 use Rattle.std.specs.Prelude.{slice_get, ◌==◌}
 use Rattle.std.specs.List.{range_with_len}
-use Rattle.std.proofs.lemmas.List.{length-map, map-append, length-take-le, take_all, reverse-append}
+use Rattle.std.proofs.lemmas.List.{length-map, map-append, length-append, length-take-le, take_all, reverse-append}
 use Rattle.std.proofs.lemmas.List.FromFn.{length-range_with_len}
 use Rattle.item_steps.specs.declared.group.Task.{Task}
 use Rattle.round.specs.declared.rule.Entry.{Entry}
@@ -54,6 +54,17 @@ module _ (f : Task → Running) (callers : ℕ) (group : List Task) (n : ℕ) (s
       ap (λ (l : List Task). map f (dealt callers c l)) longer
       ∙ ap (λ (l : List Task). map f l) (dealt_push callers c 0 (take n group) last.0 ∙ ap (λ b. cond b (dealt callers c (take n group) ++ last.0 ∷ []) (dealt callers c (take n group))) yes)
       ∙ map-append f (dealt callers c (take n group)) (last.0 ∷ [])
+
+  -- the caller whose turn it was has a request left
+  pub is_left : (lists : List (List Running)) → lists ≡ lists_by f callers (take (n + 1) group) → n % callers < callers → (list : List Running) → slice_get lists (n % callers) ≡ Some list → length list ≡ 0 → ⊥
+  is_left lists are low list there empty =
+      let x = there_is (range_with_len 0 callers) (n % callers) (subst (λ k. n % callers < k) (sym (length-range_with_len 0 callers)) low) in
+      let zer : 0 + n % callers ≡ n % callers = omega arith in
+      let is : x.0 ≡ n % callers = range_at callers 0 (n % callers) x.0 x.1 ∙ zer in
+      let whole = map_at (λ caller. map f (dealt callers caller (take (n + 1) group))) (range_with_len 0 callers) (n % callers) x.0 x.1 in
+      let same = same_element list (map f (dealt callers x.0 (take (n + 1) group))) (sym there ∙ ap (λ (l : List (List Running)). slice_get l (n % callers)) are ∙ whole) ∙ mine x.0 is in
+      let long = ap length same in
+      omega (arith, length-append (map f (dealt callers x.0 (take n group))) (f last.0 ∷ []))
 
   module _ (lists : List (List Running)) (rest : List Running) (r : Running) (are : lists ≡ lists_by f callers (take (n + 1) group)) (there : slice_get lists (n % callers) ≡ Some (rest ++ r ∷ [])) where
     parts : (x : ℕ) → slice_get (range_with_len 0 callers) (n % callers) ≡ Some x → (rest ≡ map f (dealt callers x (take n group))) × (r ≡ f last.0)
@@ -107,6 +118,13 @@ one_taken lists before callers n requests ran rest r some small low there t = re
         collected f callers group n within lists rest r was.0 there ran low was.1,
       );
 }
+
+-- where some are left, so is one of the caller whose turn it was
+pub one_left : (lists before : List (List Running)) (callers n requests : ℕ) (ran : List Running) → n < requests → n % callers < callers → Taken lists before callers (n + 1) requests ran
+    → (f : Task → Running) (group : List Task) → length group ≡ requests → before ≡ lists_by f callers group
+    → (list : List Running) → slice_get lists (n % callers) ≡ Some list → length list ≡ 0 → ⊥
+one_left lists before callers n requests ran small low t f group len are =
+    is_left f callers group n (omega arith) lists (t.all f group len are).0 low
 
 pub all_taken : (lists before : List (List Running)) (callers requests : ℕ) (ran : List Running) → Taken lists before callers 0 requests ran
     → (f : Task → Running) (group : List Task) → length group ≡ requests → before ≡ lists_by f callers group → reverse ran ≡ map f group

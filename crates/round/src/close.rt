@@ -48,7 +48,7 @@ pub(crate) fn gather_pages<J: Room>(
             token,
             of: _,
         } = lock.into_inner();
-        // Each lock has the page of its place, which no clause can say.
+        // Cannot come, as in `Round::step`: lock i has page i, and its type cannot say so.
         if number != pages.len() {
             return Err(AllocError);
         }
@@ -111,13 +111,16 @@ pub(crate) fn gather<J: Room>(
     Ok((Pages::join(pages), running))
 }
 
-/// So many requests, which were dealt to callers in turn, in the order of the group.
+/// So many requests, which were dealt to callers in turn, in the order of the group. It errs only where an
+/// allocation fails.
 pub(crate) fn collect(
     alloc: Global,
     lists: Vec<Vec<Running>>,
     requests: usize,
 ) -> Result<Vec<Ran>, AllocError>
-    requires { 0 < vec_len lists }
+    requires some { 0 < vec_len lists }
+    requires dealt { (f : Task → Running) × (group : List Task) × (length group ≡ requests)
+        × (map (λ l. l.items) lists.items ≡ map (λ caller. map f (dealt (vec_len lists) caller group)) (range_with_len 0 (vec_len lists))) }
     ensures { IfOk result (λ ran. (f : Task → Running) (group : List Task) → length group ≡ requests
         → map (λ l. l.items) lists.items ≡ map (λ caller. map f (dealt (vec_len lists) caller group)) (range_with_len 0 (vec_len lists))
         → ran.items ≡ map f group) }
@@ -129,7 +132,7 @@ pub(crate) fn collect(
         // The last of those that are left.
         let position = requests - 1 - taken;
         let Some(running) = lists[position % callers].pop() else {
-            return Err(AllocError);
+            unreachable!();
         };
         ran.push(running.into_ran())?;
     }

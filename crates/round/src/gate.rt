@@ -5,8 +5,8 @@
 //! rest on one.
 
 /// Is called at each step that was made: `inside` within the lock of the step's page, and `outside`
-/// after the lock. Both are told the page, from 0 to 63, and the request's place. It may look and wait;
-/// it changes nothing of the round.
+/// after the lock. Both are told the page's number, below `pages::PAGES`, and the request's place. It may
+/// look and wait; it changes nothing of the round.
 pub trait Gate {
     fn inside(&self, page: usize, place: u32);
 

@@ -137,7 +137,8 @@ impl<J: Room> Round<J> {
         let (index, number) = seat.next(place)?;
         seat.note_latest(index);
         let mut locked = self.pages[number].lock(rt);
-        // Each lock has the page of its place, which no clause can say.
+        // Cannot come: `lock_pages` puts page i under lock i, and no call moves a lock or a page. But what lies
+        // under a lock is known by its type alone, which is that of every page; so no clause can say it.
         if locked.number != number {
             return Err(Fault::NoMemory);
         }

@@ -98,7 +98,7 @@ fn within<J: Room + Send + Sync, R: Threads + Wait + Sync, G: Gate + Sync>(
     let (round, mut seats) = Round::<J>::open(alloc, word, master, pages, group, base, callers)?;
     work(rt, alloc, &round, seats.as_mut_slice(), gate);
     match round.close(alloc, seats) {
-        // A step is left where there was no memory for it.
+        // A thread stops at a step for which it finds no memory, and that step is left.
         Err(Fault::NotOpen) => Err(Fault::NoMemory),
         closed => closed,
     }

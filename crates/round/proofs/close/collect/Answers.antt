@@ -4,7 +4,7 @@ use Rattle.std.proofs.lemmas.Option.{slice_get-get_or}
 use Rattle.std.proofs.Math.Nat.{mod-lt}
 use Rattle.round.specs.Sittings.{Running}
 use Rattle.round.proofs.Lists.{map_at}
-use Rattle.round.proofs.Collects.{Taken, lists_by, none_taken, one_taken, all_taken}
+use Rattle.round.proofs.Collects.{Taken, lists_by, none_taken, one_taken, one_left, all_taken}
 use Rattle.round.proofs.close.collect.Goals as goal
 
 pub loop-taken-init : goal.loop-taken-init
@@ -23,7 +23,7 @@ loop-taken-preserved c =
     let next : c.args.requests - c.loop-taken.taken ≡ n + 1 = omega arith in
     let now : n ≡ c.args.requests - (c.loop-taken.taken + 1) = omega arith in
     let ok = c.loop-taken.lists.ok in
-    let any : 0 < callers = let some = c.requires in let same = i.1 in omega arith in
+    let any : 0 < callers = let some = c.requires.some in let same = i.1 in omega arith in
     let small : n < c.args.requests = omega arith in
     let low : n % callers < callers = mod-lt n any in
     let within : n % callers < length c.loop-taken.lists.items = let same = i.0 in omega arith in
@@ -44,3 +44,23 @@ returns c = λ f group len are.
     let before = map (λ v. v.items) c.args.lists.items in
     let all = subst (λ k. Taken (map (λ v. v.items) c.loop-taken.lists.items) before c.len-callers.result k c.args.requests c.loop-taken.ran.items) none i.2 in
     c.reverse.ensures.items ∙ all_taken (map (λ v. v.items) c.loop-taken.lists.items) before c.len-callers.result c.args.requests c.loop-taken.ran.items all f group len (are ∙ ap (λ n. lists_by f n group) i.1)
+
+pub unreachable-requires : goal.unreachable-requires
+unreachable-requires c =
+    let i = c.loop-taken.invariant in
+    let v = c.index_mut.result.now in
+    let callers : ℕ = c.len-callers.result in
+    let n : ℕ = c.args.requests - 1 - c.loop-taken.taken in
+    let more = c.loop-taken-test.true in
+    let next : c.args.requests - c.loop-taken.taken ≡ n + 1 = omega arith in
+    let ok = c.loop-taken.lists.ok in
+    let any : 0 < callers = let some = c.requires.some in let same = i.1 in omega arith in
+    let small : n < c.args.requests = omega arith in
+    let low : n % callers < callers = mod-lt n any in
+    let within : n % callers < length c.loop-taken.lists.items = let same = i.0 in omega arith in
+    let there = slice_get-get_or c.loop-taken.lists.items (n % callers) v within ∙ ap (λ x. Some x) (sym c.index_mut.ensures.value) in
+    let empty : length v.items ≡ 0 = let held = v.ok in let none = c.in_default.ensures.cases.0 in omega arith in
+    let was = subst (λ k. Taken (map (λ v. v.items) c.loop-taken.lists.items) (map (λ v. v.items) c.args.lists.items) callers k c.args.requests c.loop-taken.ran.items) next i.2 in
+    let dealt = c.requires.dealt in
+    one_left _ _ callers n c.args.requests c.loop-taken.ran.items small low was dealt.0 dealt.1 dealt.2 (dealt.3 ∙ ap (λ k. lists_by dealt.0 k dealt.1) i.1)
+    v.items (map_at (λ v. v.items) c.loop-taken.lists.items (n % callers) v there) empty

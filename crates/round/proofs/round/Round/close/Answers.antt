@@ -30,11 +30,20 @@ ran g c =
 pub gather-requires-clause-ended : goal.gather-requires-clause-ended
 gather-requires-clause-ended g c = sym (c.all_ended.ensures ∙ ap (list_all has_ended) c.deref.ensures.value) ∙ c.if-not-all_ended.false
 
-pub collect-requires : goal.collect-requires
-collect-requires g c =
+pub collect-requires-clause-some : goal.collect-requires-clause-some
+collect-requires-clause-some g c =
     let some = fit_some g.J.Room.base g.J.Room.group g.J.Room.callers c.args.self.fit in
     let callers = count g c in
     omega arith
+
+pub collect-requires-clause-dealt : goal.collect-requires-clause-dealt
+collect-requires-clause-dealt g c =
+    let f = running_in c.in_ok-pages.ensures.order in (
+      f,
+      g.J.Room.group,
+      sym c.args.self.counted,
+      c.in_ok-pages.ensures.requests ∙ sym (ap (λ n. lists_by f n g.J.Room.group) (count g c)),
+    )
 
 pub returns-clause-ended : goal.returns-clause-ended
 returns-clause-ended g c =
