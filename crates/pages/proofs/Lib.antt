@@ -4,6 +4,7 @@ pub mod PartLemmas
 pub mod StateLemmas
 pub mod PageLemmas
 pub mod CountLemmas
+mod DueLemmas
 pub mod OwnLemmas
 pub mod EffectLemmas
 pub mod OtherLemmas

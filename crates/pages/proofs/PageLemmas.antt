@@ -17,7 +17,7 @@ use Rattle.pages.specs.declared.page.TheConstants.{MOST_ENTRIES}
 use Rattle.pages.proofs.KeyLemmas.{same_key, all_keys}
 use Rattle.pages.proofs.JoinedLemmas.{no_items}
 
-length_filter : {X : Type 0} (p : X → Bool) (xs : List X) → length (filter p xs) ≤ length xs
+pub length_filter : {X : Type 0} (p : X → Bool) (xs : List X) → length (filter p xs) ≤ length xs
 length_filter p [] = omega arith
 length_filter p (x ∷ xs) = elim (p x) as (λ b. length (cond b (x ∷ filter p xs) (filter p xs)) ≤ suc (length xs)) [
   | true ↦ omega (arith, length_filter p xs)
@@ -28,7 +28,7 @@ pub fits-filter : (p : List ℕ × Item → Bool) (es : List (List ℕ × Item))
 fits-filter p es fits = omega (arith, fits, length_filter p es)
 
 -- the map of a map's entries
-same_map_of : (m : Items) → from_sorted (entries m) ≡ m
+pub same_map_of : (m : Items) → from_sorted (entries m) ≡ m
 same_map_of m = from_sorted_is (entries m) m refl (from_t _ (entries_sorted m))
 
 entries-remove : (m : Items) (k : List ℕ) → entries (remove m k) ≡ where_key by_bytes (λ x. not (eq_by_cmp by_bytes k x)) (entries m)
@@ -37,7 +37,7 @@ entries-remove m k =
     ap entries (sym (map_remove nat_list_cmp_total (slice_cmp-IsAntisymmetric nat_cmp-IsAntisymmetric) k (entries m) sorted ∙ ap (λ n. remove n k) (same_map_of m)))
     ∙ entries-from_sorted by_bytes _ (as_t _ (sorted_without nat_list_cmp_total (λ x. not (eq_by_cmp by_bytes k x)) (entries m) sorted))
 
-entries-alive : (m : Items) (moment : ℕ) → entries (alive m moment) ≡ filter (λ e. is_alive moment e.1) (entries m)
+pub entries-alive : (m : Items) (moment : ℕ) → entries (alive m moment) ≡ filter (λ e. is_alive moment e.1) (entries m)
 entries-alive m moment = entries-from_sorted by_bytes _ (as_t _ (sorted_filter by_bytes (λ e. is_alive moment e.1) (entries m) (from_t _ (entries_sorted m))))
 
 -- no items

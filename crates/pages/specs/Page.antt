@@ -1,11 +1,11 @@
 -- The page of a key, the page's part of a map, and what is kept of a page.
-use Rattle.std.specs.Prelude.{◌<◌, ◌⊎◌, ℕ, length, IsTrue, List, Option, Some, IfSome, map, sum, filter, ◌%◌, ◌==◌, refl}
+use Rattle.std.specs.Prelude.{◌<◌, ◌⊎◌, ℕ, Bool, nat_lt, length, IsTrue, List, Option, Some, IfSome, map, sum, filter, ◌%◌, ◌==◌, refl}
 use Rattle.std.specs.Coded.{Coded, code_by, coded×, coded_option, coded_list, coded_ℕ}
 use Rattle.std.specs.List.{range_with_len, flat_map}
 use Rattle.std.specs.FinMap.{entries, from_sorted, get}
 use Rattle.std.specs.Option.{is_some, option_map}
 use Rattle.items.specs.declared.item.Item.{Item}
-use Rattle.items.specs.Map.{Items}
+use Rattle.items.specs.Map.{Items, alive}
 use Rattle.wire.specs.Item.{page_text, PageFits}
 use Rattle.token.specs.Digest.{digest}
 use Rattle.token.specs.declared.tree.TheConstants.{PAGES}
@@ -81,3 +81,11 @@ pub record IsPage (items : Items) (digested : Option DigestedView) : Type 0 wher
 -- how many items pages have
 abbrev pub item_count : List Items → ℕ
 item_count pages = length (flat_map entries pages)
+
+-- something of the page is due at the moment
+abbrev pub is_due : ℕ → Items → Bool
+is_due moment page = nat_lt (length (entries (alive page moment))) (length (entries page))
+
+-- how many items there are in the pages of which something is due: their entries are copied or walked to drop it
+abbrev pub beside_due : ℕ → List Items → ℕ
+beside_due moment pages = item_count (filter (is_due moment) pages)

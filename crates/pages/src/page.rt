@@ -1,4 +1,4 @@
-ghost use Rattle.std.specs.Prelude.{◌≡◌, ◌≢◌, ◌≤◌, ◌+◌, ◌^◌, ◌==◌, ◌↔◌, true, false, length, map as map_list, None, IfOk, IfSome, OnOk, OnErr, IsTrue};
+ghost use Rattle.std.specs.Prelude.{◌≡◌, ◌≢◌, ◌≤◌, ◌+◌, ◌-◌, ◌^◌, ◌==◌, ◌↔◌, ◌∷◌, [], true, false, min, length, map as map_list, None, IfOk, IfSome, OnOk, OnErr, IsTrue};
 ghost use Rattle.std.specs.Option.{option_copied};
 ghost use Rattle.std.specs.List.{list_all};
 ghost use Rattle.std.specs.FinMap as map;
@@ -7,7 +7,7 @@ ghost use Rattle.wire.specs.Item.{page_text, PageFits};
 ghost use Rattle.wire.specs.Record.{Puts};
 ghost use Rattle.token.specs.declared.tree.TheConstants.{HEIGHT};
 ghost use Rattle.token.specs.Digest.{root_of};
-ghost use Rattle.pages.specs.Page.{page_number, items_digest, item_count, refreshed, HasRoom};
+ghost use Rattle.pages.specs.Page.{page_number, items_digest, item_count, beside_due, refreshed, HasRoom};
 ghost use Rattle.pages.specs.declared.page.TheConstants.{MOST_ENTRIES};
 ghost use Rattle.pages.specs.Joined.{IsOwn, items_of};
 
@@ -199,20 +199,26 @@ impl Page {
     }
 
     /// Drops every item that is due at the moment or before it, as `drop_due`, and answers how many
-    /// entries of the page's index it looked at: one more than it dropped, at most. Where nothing is
-    /// due the page stays shared. The only error is a failed allocation, and then nothing has changed.
+    /// entries it looked at or copied: of the page's index one more than it dropped, at most, and where
+    /// something is due all entries of the page. Where nothing is due the page stays shared. The only
+    /// error is a failed allocation, and then nothing has changed.
     pub fn drop_due_counted(&mut self, moment: u32) -> Result<u64, AllocError>
         ensures ok { OnOk result (self.new.items ≡ alive self.old.items moment) }
         ensures same { alive self.old.items moment ≡ self.old.items → self.new ≡ self.old }
         ensures err { OnErr result (self.new ≡ self.old) }
-        ensures count { IfOk result (λ looks. looks + length (map.entries self.new.items) ≤ length (map.entries self.old.items) + 1) }
+        ensures count { IfOk result (λ looks. looks + length (map.entries self.new.items)
+            ≤ length (map.entries self.old.items) + 1 + beside_due moment (self.old.items ∷ [])) }
+        ensures least { IfOk result (λ looks. beside_due moment (self.old.items ∷ []) ≤ looks) }
+        ensures dropped { IfOk result (λ looks. length (map.entries self.old.items) ≤ looks + length (map.entries self.new.items)) }
     {
         let mut looks = 0;
-        if self.has_due(moment, &mut looks) {
-            Arc::make_mut(&mut self.store)?.drop_found(moment, &mut looks);
-            forget(&mut self.digested);
+        if !self.has_due(moment, &mut looks) {
+            return Ok(looks);
         }
-        Ok(looks)
+        let copied = self.entries().len() as u64;
+        Arc::make_mut(&mut self.store)?.drop_found(moment, &mut looks);
+        forget(&mut self.digested);
+        Ok(looks.saturating_add(copied))
     }
 
     /// Whether the page may have an item at this key: it has one there, or fewer entries than it has
@@ -225,29 +231,33 @@ impl Page {
     }
 }
 
-/// Drops every item of these pages that is due at the moment or before it. A page is copied only where
-/// it has such an item and is shared. The only error is a failed allocation, and then nothing has
-/// changed: the copies of all pages are made before the first of them is written.
+/// Drops every item of these pages that is due at the moment or before it, and answers how many entries
+/// the pages have that it copies or walks: a page is copied only where it has such an item and is shared,
+/// and from its ninth such item on it is walked. The count saturates. The only error is a failed
+/// allocation, and then nothing has changed: the copies of all pages are made before the first of them is
+/// written.
 pub(crate) fn drop_from_all(
     pages: &mut [Page],
     moment: u32,
     looks: &mut u64,
-) -> Result<(), AllocError>
+) -> Result<u64, AllocError>
     ensures ok { OnOk result (items_of pages.new ≡ map_list (λ page. alive page moment) (items_of pages.old)) }
     ensures err { OnErr result (pages.new ≡ pages.old) }
     ensures count { OnOk result (looks.new + item_count (items_of pages.new) ≤ looks.old + item_count (items_of pages.old) + length pages.old) }
+    ensures copied { IfOk result (λ copied. copied ≡ min (beside_due moment (items_of pages.old)) (2 ^ 64 - 1)) }
 {
     let Some((first, rest)) = pages.split_first_mut() else {
-        return Ok(());
+        return Ok(0);
     };
     if !first.has_due(moment, looks) {
         return drop_from_all(rest, moment, looks);
     }
+    let copied = first.entries().len() as u64;
     let store = Arc::make_mut(&mut first.store)?;
-    drop_from_all(rest, moment, looks)?;
+    let beside = drop_from_all(rest, moment, looks)?;
     store.drop_found(moment, looks);
     forget(&mut first.digested);
-    Ok(())
+    Ok(beside.saturating_add(copied))
 }
 
 impl Clone for Page {

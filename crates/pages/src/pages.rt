@@ -1,8 +1,8 @@
-ghost use Rattle.std.specs.Prelude.{◌≡◌, ◌≤◌, ◌<◌, ◌+◌, length, IfOk, OnOk, OnErr, map as map_list, replicate};
+ghost use Rattle.std.specs.Prelude.{◌≡◌, ◌≤◌, ◌<◌, ◌+◌, ◌-◌, ◌^◌, min, length, IfOk, OnOk, OnErr, map as map_list, replicate};
 ghost use Rattle.std.specs.FinMap as map;
 ghost use Rattle.items.specs.Map.{alive};
 ghost use Rattle.wire.specs.Item.{PageFits};
-ghost use Rattle.pages.specs.Page.{page_entries, page_count, refreshed};
+ghost use Rattle.pages.specs.Page.{page_entries, page_count, beside_due, refreshed};
 ghost use Rattle.pages.specs.Joined.{ArePages, joined, parts, items_of};
 
 use crate::number::page_of;
@@ -108,17 +108,21 @@ impl Pages {
     }
 
     /// Drops every item that is due at the moment or before it, as `drop_due`, and answers how many
-    /// entries of the pages' indexes it looked at: one more for each page than it dropped, at most. A
-    /// page is copied only where something of it is due and it is shared. The only error is a failed
-    /// allocation, and then nothing has changed.
+    /// entries it looked at or copied: of the pages' indexes one more for each page than it dropped, at
+    /// most, and all entries of the pages of which something is due. A page is copied only where something
+    /// of it is due and it is shared, and walked from its ninth such item on. The count saturates. The only
+    /// error is a failed allocation, and then nothing has changed.
     pub fn drop_due_counted(&mut self, moment: u32) -> Result<u64, AllocError>
         ensures ok { OnOk result (self.new ≡ alive self.old moment) }
         ensures err { OnErr result (self.new ≡ self.old) }
-        ensures count { IfOk result (λ looks. looks + length (map.entries self.new) ≤ length (map.entries self.old) + page_count) }
+        ensures count { IfOk result (λ looks. looks + length (map.entries self.new)
+            ≤ length (map.entries self.old) + page_count + beside_due moment (parts self.old)) }
+        ensures least { IfOk result (λ looks. min (beside_due moment (parts self.old)) (2 ^ 64 - 1) ≤ looks) }
+        ensures dropped { IfOk result (λ looks. min (length (map.entries self.old)) (2 ^ 64 - 1) ≤ looks + length (map.entries self.new)) }
     {
         let mut looks = 0;
-        drop_from_all(&mut self.pages, moment, &mut looks)?;
-        Ok(looks)
+        let copied = drop_from_all(&mut self.pages, moment, &mut looks)?;
+        Ok(looks.saturating_add(copied))
     }
 }
 

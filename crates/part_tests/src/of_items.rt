@@ -86,15 +86,16 @@ fn a_drop_looks_at_what_it_drops(rt: HostRuntime) -> Result<(), Fail> {
     Ok(())
 }
 
+/// Each item is on a page of its own, of which a drop counts all items where something is due.
 #[test]
 fn a_drop_looks_at_each_page(rt: HostRuntime) -> Result<(), Fail> {
     let mut pages = Pages::new(rt.alloc())?;
     set_four(rt.alloc(), &mut pages)?;
     assert!(rt; pages.drop_due_counted(1009)? == 3);
-    assert!(rt; pages.drop_due_counted(1010)? == 3);
+    assert!(rt; pages.drop_due_counted(1010)? == 4);
     touch_b(rt.alloc(), &mut pages)?;
-    assert!(rt; pages.drop_due_counted(1020)? == 2);
-    assert!(rt; pages.drop_due_counted(2011)? == 1);
+    assert!(rt; pages.drop_due_counted(1020)? == 3);
+    assert!(rt; pages.drop_due_counted(2011)? == 2);
     assert!(rt; pages.page(99).len() == 1);
     Ok(())
 }
