@@ -1,4 +1,4 @@
-//! Plays a schedule, and shows in which world it ends: `eve_play FILE`.
+//! Plays a schedule, and shows in which world it ends: `eve-play FILE`.
 //!
 //! Status 0, and a line for each node on standard output; 1 where the file is no schedule or memory ran
 //! out, 2 for other words than one, 3 where the file cannot be read or a write failed. What is wrong
@@ -49,6 +49,6 @@ fn main(rt: HostRuntime) -> ExitCode {
     };
     match fault {
         WordsFault::NoMemory => fail(eprintln!(rt; "refused: 1 NoMemory"), REFUSED),
-        WordsFault::Usage => fail(eprintln!(rt; "usage: eve_play FILE"), USAGE),
+        WordsFault::Usage => fail(eprintln!(rt; "usage: eve-play FILE"), USAGE),
     }
 }
