@@ -1,4 +1,4 @@
-//! A memcached server on replicas: `eve_serve --port P --u U`.
+//! A memcached server on replicas: `eve-serve --port P --u U`.
 //!
 //! It listens on 127.0.0.1, prints its address, and ends with status 0 at the end of its standard input.
 //! Status 1 where memory ran out, 2 for other words, 3 where it cannot listen or cannot start. What is
@@ -8,7 +8,7 @@
 mod given;
 
 use crate::given::read_words;
-use server::{ServeFault, serve};
+use server::{Incidents, ServeFault, serve};
 use std::io;
 use std::net::{Ipv4Addr, SocketAddr, SocketAddrV4, TcpListener};
 use std::process::ExitCode;
@@ -42,10 +42,25 @@ fn listen(rt: &HostRuntime, port: u16) -> Result<TcpListener, ExitCode> {
     Ok(listener)
 }
 
+/// A line on standard error if a leader was suspected or a batch rolled back.
+fn report(rt: &HostRuntime, incidents: Incidents) -> io::Result<()> {
+    let Incidents {
+        suspicions,
+        rollbacks,
+    } = incidents;
+    if suspicions == 0 && rollbacks == 0 {
+        return Ok(());
+    }
+    eprintln!(rt; "suspected {suspicions} times, rolled back {rollbacks} times")
+}
+
 /// What the program has served ends with this status.
-fn ended(rt: &HostRuntime, served: Result<(), ServeFault>) -> ExitCode {
+fn ended(rt: &HostRuntime, served: Result<Incidents, ServeFault>) -> ExitCode {
     match served {
-        Ok(()) => ExitCode::SUCCESS,
+        Ok(incidents) => {
+            let _ = report(rt, incidents);
+            ExitCode::SUCCESS
+        }
         Err(ServeFault::Own(fault)) => fail(eprintln!(rt; "refused: {fault}"), REFUSED),
         Err(ServeFault::Start) => fail(eprintln!(rt; "cannot start"), CANNOT),
     }
@@ -65,6 +80,6 @@ fn main(rt: HostRuntime) -> ExitCode {
             Err(status) => status,
         },
         Err(WordsFault::NoMemory) => fail(eprintln!(rt; "refused: 1 NoMemory"), REFUSED),
-        Err(WordsFault::Usage) => fail(eprintln!(rt; "usage: eve_serve --port P --u U"), USAGE),
+        Err(WordsFault::Usage) => fail(eprintln!(rt; "usage: eve-serve --port P --u U"), USAGE),
     }
 }

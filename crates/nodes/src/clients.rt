@@ -2,6 +2,7 @@
 
 use crate::message::{Answer, ToClient};
 use link::Link;
+use serving::Seen;
 use std::alloc::Global;
 use std::sync::Wait;
 
@@ -19,9 +20,12 @@ impl Clients {
         }
     }
 
-    /// A client has come. Where there is no memory it is not heard of any more.
-    pub fn come(&mut self, client: u16, end: Link<ToClient>) {
-        let _ = self.ends.push((client, end));
+    /// A client has come. If there is no memory for its end, it is told so, and hears no more.
+    pub fn come<R: Wait>(&mut self, rt: &R, client: u16, end: Link<ToClient>) {
+        if let Err(refused) = self.ends.push((client, end)) {
+            let (_, mut end) = refused.value;
+            let _ = end.try_put(rt, ToClient::NoMemory);
+        }
     }
 
     /// It has gone.
@@ -50,9 +54,9 @@ impl Clients {
     }
 
     /// Gives each client a tick.
-    pub fn tick<R: Wait>(&mut self, rt: &R) {
+    pub fn tick<R: Wait>(&mut self, rt: &R, seen: Seen) {
         for (_, end) in self.ends.iter_mut() {
-            let _ = end.try_put(rt, ToClient::Tick);
+            let _ = end.try_put(rt, ToClient::Tick(seen));
         }
     }
 }

@@ -4,8 +4,8 @@ use crate::member::Member;
 use crate::message::{Answer, ToExecutor};
 use crate::posts::Posts;
 use batches::Batch;
-use decrees::{Letter, Node};
-use exec_lines::{Body, Input};
+use decrees::{Ballot, Letter, Node};
+use exec_lines::{Body, Input, Report};
 use exec_node::ExecNode;
 use keeper::MemKeeper;
 use link::Link;
@@ -15,13 +15,16 @@ use serving::{Held, MOST_HELD, Post, address, workers_for};
 use std::alloc::Global;
 use std::rt::Clock;
 use std::sync::Wait;
-use std::thread;
 use std::thread::Threads;
 use std::time::SystemTime;
+use std::{mem, thread};
 use workers::Workers;
 
 /// So many letters are taken before a batch is cut, at most.
 const MOST_BEFORE_CUT: usize = 4096;
+
+/// `2u + 1` with the greatest `u`.
+const MOST_VERIFIERS: usize = 7;
 
 /// The seconds of the clock, or 0 where it cannot be read.
 fn seconds<R: Clock>(rt: &R) -> u32 {
@@ -41,6 +44,12 @@ pub struct Desk {
     inbox: Link<ToExecutor>,
     posts: Posts,
     held: Held,
+    /// The place that each verifier was asked for since it was last done with all that it had taken.
+    asked: [u64; MOST_VERIFIERS],
+    /// How many letters it has taken and not done with.
+    taken: u64,
+    /// The number of its committed state and its epoch, added: how many steps it has made.
+    steps: u64,
 }
 
 impl Desk {
@@ -51,6 +60,9 @@ impl Desk {
             inbox,
             posts,
             held: Held::new(alloc),
+            asked: [0; MOST_VERIFIERS],
+            taken: 0,
+            steps: 0,
         }
     }
 
@@ -60,7 +72,11 @@ impl Desk {
         for letter in letters {
             match address(letter) {
                 Post::ToExecutor(id, letter) => self.posts.send_to_executor(rt, id, letter),
-                Post::ToVerifier(id, letter) => self.posts.send_to_verifier(rt, id, letter),
+                Post::ToVerifier(id, letter) => {
+                    if !self.asks_once_more(id, &letter.body) {
+                        self.posts.send_to_verifier(rt, id, letter);
+                    }
+                }
                 Post::ToClient {
                     client,
                     number,
@@ -81,6 +97,19 @@ impl Desk {
         }
     }
 
+    /// Whether the verifier was asked for this place a moment ago. Each decree of a later place makes an
+    /// executor ask for the one that it lacks, and each answer has 16 decrees: if that one is lost, the
+    /// questions would multiply.
+    fn asks_once_more(&mut self, verifier: u8, ballot: &Ballot) -> bool {
+        let Ballot::Ask { place } = ballot else {
+            return false;
+        };
+        let Some(last) = self.asked.get_mut(usize::from(verifier)) else {
+            return false;
+        };
+        mem::replace(last, *place) == *place
+    }
+
     /// What waits, if something does. Where nothing waits, others may be about to send: they are let go first.
     fn next<R: Wait>(&mut self, rt: &R) -> Option<ToExecutor> {
         let found = self.inbox.try_take(rt);
@@ -96,9 +125,25 @@ impl Desk {
         for _ in rt.forever() {
             match self.inbox.take(rt) {
                 Some(ToExecutor::Stop) | None => return,
-                Some(_) => {}
+                Some(_) => self.posts.end(1),
             }
         }
+    }
+
+    /// It is done with all that it has taken, and has come so far.
+    fn settle(&mut self, report: Report) {
+        let steps = report.number.saturating_add(report.epoch);
+        self.posts
+            .advance(steps.saturating_sub(self.steps), report.epoch);
+        self.steps = steps;
+        self.let_go();
+    }
+
+    /// It is done with all that it has taken.
+    fn let_go(&mut self) {
+        self.posts.end(self.taken);
+        self.taken = 0;
+        self.asked = [0; MOST_VERIFIERS];
     }
 }
 
@@ -197,7 +242,10 @@ fn receive<R: Threads + Wait + Sync>(
     message: ToExecutor,
 ) -> Result<bool, Fault> {
     match message {
-        ToExecutor::Letter(letter) => hand_in(rt, alloc, node, desk, letter)?,
+        ToExecutor::Letter(letter) => {
+            desk.taken = desk.taken.saturating_add(1);
+            hand_in(rt, alloc, node, desk, letter)?;
+        }
         ToExecutor::Stop => return Ok(false),
     }
     Ok(true)
@@ -240,6 +288,7 @@ fn attend<R: Threads + Wait + Clock + Sync>(
         let letters = node.handle(alloc, Input::Cut(seconds(rt)))?;
         desk.send(rt, alloc, letters);
         work_on(rt, alloc, node, desk)?;
+        desk.settle(node.state().report());
     }
     Ok(())
 }
@@ -253,6 +302,7 @@ pub fn execute<R: Threads + Wait + Clock + Sync>(rt: &R, alloc: Global, mut desk
     };
     desk.send(rt, alloc, letters);
     let ended = attend(rt, alloc, &mut node, &mut desk);
+    desk.let_go();
     node.end();
     if ended.is_err() {
         desk.take_the_rest(rt);

@@ -4,14 +4,18 @@ use decrees::{Ballot, Letter};
 use exec_lines::Body;
 use link::Link;
 use proto::Reply;
+use serving::Seen;
 
 /// What a client's thread is given.
 #[derive(Drop)]
 pub enum ToClient {
     /// What is answered to its request of this number.
     Reply { number: u64, reply: Reply },
-    /// A tenth of a second has gone by.
-    Tick,
+    /// A tenth of a second has gone by, and the server was so far. Each reply that was given before that
+    /// comes before it.
+    Tick(Seen),
+    /// There is no memory to serve this client.
+    NoMemory,
 }
 
 /// What an executor's thread is given.

@@ -1,16 +1,20 @@
 //! Ends of the links to all nodes.
 
+use crate::activity::{Activity, Incidents};
 use crate::member::Size;
 use crate::message::{Answer, ToClient, ToExecutor, ToPorter, ToVerifier};
 use decrees::{Ballot, Letter};
 use exec_lines::Body;
 use link::Link;
+use serving::Seen;
 use std::alloc::{AllocError, Global};
-use std::sync::Wait;
+use std::sync::{Arc, Wait};
 
-/// An end of the link to each executor, to its porter, and to each verifier, by number.
+/// An end of the link to each executor, to its porter, and to each verifier, by number. What is sent is
+/// counted as under way.
 #[derive(Drop)]
 pub struct Posts {
+    activity: Arc<Activity, Global>,
     executors: Vec<Link<ToExecutor>>,
     porters: Vec<Link<ToPorter>>,
     verifiers: Vec<Link<ToVerifier>>,
@@ -39,6 +43,7 @@ impl Posts {
     pub fn new(alloc: Global, size: Size) -> Result<Posts, AllocError> {
         let count = 2 * size.u + 1;
         Ok(Posts {
+            activity: Arc::new(alloc, Activity::new())?,
             executors: links(alloc, count)?,
             porters: links(alloc, count)?,
             verifiers: links(alloc, count)?,
@@ -48,10 +53,47 @@ impl Posts {
     /// Further ends of the same links, for another thread.
     pub fn another(&mut self, alloc: Global) -> Result<Posts, AllocError> {
         Ok(Posts {
+            activity: self.activity()?,
             executors: others(alloc, self.executors.as_mut_slice())?,
             porters: others(alloc, self.porters.as_mut_slice())?,
             verifiers: others(alloc, self.verifiers.as_mut_slice())?,
         })
+    }
+
+    /// What is under way.
+    pub fn activity(&self) -> Result<Arc<Activity, Global>, AllocError> {
+        Arc::try_clone(&self.activity)
+    }
+
+    /// What the server has come through.
+    pub fn incidents(&self) -> Incidents {
+        self.activity.incidents()
+    }
+
+    /// How far the server has come.
+    pub fn seen(&self) -> Seen {
+        self.activity.seen()
+    }
+
+    /// How far the server has come. From now on something is under way, until `release`.
+    pub fn hold(&self) -> Seen {
+        self.activity.begin();
+        self.activity.seen()
+    }
+
+    /// What was held is done with.
+    pub fn release(&self) {
+        self.activity.end(1);
+    }
+
+    /// So many messages that a node took are done with.
+    pub fn end(&self, count: u64) {
+        self.activity.end(count);
+    }
+
+    /// An executor has made so many steps, and is in this epoch.
+    pub fn advance(&self, steps: u64, epoch: u64) {
+        self.activity.advance(steps, epoch);
     }
 
     /// One more end of the link to this executor.
@@ -72,41 +114,61 @@ impl Posts {
         Some(end.another())
     }
 
-    /// Gives the executor this, and waits where its link is full. A node never calls it: two nodes could
-    /// wait for one another.
-    pub fn put_to_executor<R: Wait>(&mut self, rt: &R, id: u8, item: ToExecutor) {
+    /// Sends the executor a letter, and waits while its link is full. A node never calls it: two nodes
+    /// could wait for one another.
+    pub fn put_to_executor<R: Wait>(&mut self, rt: &R, id: u8, letter: Letter<Body>) {
         if let Some(end) = self.executors.get_mut(usize::from(id)) {
+            self.activity.begin();
             // Some end takes from each link until the server ends.
-            let _ = end.put(rt, item);
+            if end.put(rt, ToExecutor::Letter(letter)).is_err() {
+                self.activity.end(1);
+            }
         }
     }
 
     /// Sends the executor a letter. Where its link is full the letter is lost.
     pub fn send_to_executor<R: Wait>(&mut self, rt: &R, id: u8, letter: Letter<Body>) {
         if let Some(end) = self.executors.get_mut(usize::from(id)) {
-            let _ = end.try_put(rt, ToExecutor::Letter(letter));
+            self.activity.begin();
+            if end.try_put(rt, ToExecutor::Letter(letter)).is_err() {
+                self.activity.end(1);
+            }
         }
     }
 
     /// Gives the executor's porter the answers of a batch. Where its link is full they are lost.
     pub fn send_to_porter<R: Wait>(&mut self, rt: &R, id: u8, answers: Vec<Answer>) {
         if let Some(end) = self.porters.get_mut(usize::from(id)) {
-            let _ = end.try_put(rt, ToPorter::Answers(answers));
+            self.activity.begin();
+            if end.try_put(rt, ToPorter::Answers(answers)).is_err() {
+                self.activity.end(1);
+            }
         }
     }
 
     /// Sends the verifier a letter. Where its link is full the letter is lost.
     pub fn send_to_verifier<R: Wait>(&mut self, rt: &R, id: u8, letter: Letter<Ballot>) {
         if let Some(end) = self.verifiers.get_mut(usize::from(id)) {
-            let _ = end.try_put(rt, ToVerifier::Letter(letter));
+            self.activity.begin();
+            if end.try_put(rt, ToVerifier::Letter(letter)).is_err() {
+                self.activity.end(1);
+            }
         }
     }
 
-    /// Tells the verifier that the leader is suspected. Where its link is full this is lost.
-    pub fn suspect<R: Wait>(&mut self, rt: &R, id: u8) {
-        if let Some(end) = self.verifiers.get_mut(usize::from(id)) {
-            let _ = end.try_put(rt, ToVerifier::Suspect);
+    /// Tells the next verifier that the leader is suspected, if nothing is under way and no other client
+    /// did so after this rest. Verifiers take turns, from the second one on.
+    pub fn suspect<R: Wait>(&mut self, rt: &R, seen: Seen) {
+        let Some(number) = self.activity.suspect(seen) else {
+            return;
+        };
+        let count = (self.verifiers.len() as u64).max(1);
+        if let Some(end) = self.verifiers.get_mut((number % count) as usize) {
+            if end.try_put(rt, ToVerifier::Suspect).is_ok() {
+                return;
+            }
         }
+        self.activity.end(1);
     }
 
     /// Tells all porters that the client has come, and gives each an end of its link.

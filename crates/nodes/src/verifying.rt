@@ -57,7 +57,7 @@ impl Bench {
         for _ in rt.forever() {
             match self.inbox.take(rt) {
                 Some(ToVerifier::Stop) | None => return,
-                Some(_) => {}
+                Some(_) => self.posts.end(1),
             }
         }
     }
@@ -91,13 +91,14 @@ fn attend<R: Wait>(
     bench: &mut Bench,
 ) -> Result<(), Fault> {
     for _ in rt.forever() {
-        match bench.inbox.take(rt) {
-            Some(ToVerifier::Letter(letter)) => {
-                hand_in(rt, alloc, node, bench, Input::Letter(letter))?
-            }
-            Some(ToVerifier::Suspect) => hand_in(rt, alloc, node, bench, Input::Suspect)?,
+        let input = match bench.inbox.take(rt) {
+            Some(ToVerifier::Letter(letter)) => Input::Letter(letter),
+            Some(ToVerifier::Suspect) => Input::Suspect,
             Some(ToVerifier::Stop) | None => return Ok(()),
-        }
+        };
+        let done = hand_in(rt, alloc, node, bench, input);
+        bench.posts.end(1);
+        done?;
     }
     Ok(())
 }

@@ -7,7 +7,7 @@ use crate::ticking::ToTicker;
 use client::Client;
 use link::Link;
 use nodes::{Posts, Size, ToClient};
-use serving::Doors;
+use serving::{Doors, Patience};
 use std::alloc::{AllocError, Global};
 use std::net::{Shutdown, TcpListener, TcpStream};
 use std::rt::Clock;
@@ -152,6 +152,7 @@ fn serve_client<R: Wait>(rt: &R, alloc: Global, welcome: Welcome) {
         posts,
         mut ticker,
     } = ends;
+    let patience = Patience::new(posts.seen());
     let mut talker = Talker {
         rt,
         alloc,
@@ -159,6 +160,8 @@ fn serve_client<R: Wait>(rt: &R, alloc: Global, welcome: Welcome) {
         client,
         inbox,
         posts,
+        patience,
+        ahead: 0,
         stream: &shared.stream,
         stopping: &shared.stopping,
     };

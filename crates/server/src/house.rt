@@ -4,7 +4,7 @@ use crate::accepting::{Porch, accept};
 use crate::fault::ServeFault;
 use crate::ticking::{ToTicker, tick};
 use link::Link;
-use nodes::{Bench, Desk, Member, Posts, Size, ToPorter, carry, execute, verify};
+use nodes::{Bench, Desk, Incidents, Member, Posts, Size, ToPorter, carry, execute, verify};
 use std::alloc::{AllocError, Global};
 use std::net::TcpListener;
 use std::rt::Clock;
@@ -105,8 +105,9 @@ fn start_porter<R: Threads + Wait + Clone + Send + Drop + 'static>(
     member: Member,
 ) -> Result<(), ServeFault> {
     let inbox = house.porter(member)?;
+    let activity = house.posts.activity()?;
     let runtime = rt.clone()?;
-    match thread::spawn(rt, move || carry(&runtime, alloc, inbox)) {
+    match thread::spawn(rt, move || carry(&runtime, alloc, inbox, activity)) {
         Ok(thread) => house.keep(thread),
         Err(_) => Err(ServeFault::Start),
     }
@@ -134,8 +135,9 @@ fn start_ticker<R: Threads + Wait + Clock + Clone + Send + Drop + 'static>(
     house: &mut House,
 ) -> Result<(), ServeFault> {
     let inbox = house.ticker.another()?;
+    let activity = house.posts.activity()?;
     let runtime = rt.clone()?;
-    match thread::spawn(rt, move || tick(&runtime, alloc, inbox)) {
+    match thread::spawn(rt, move || tick(&runtime, alloc, inbox, activity)) {
         Ok(thread) => house.keep(thread),
         Err(_) => Err(ServeFault::Start),
     }
@@ -171,8 +173,8 @@ pub fn start_accepting<R: Threads + Wait + Clock + Clone + Send + Drop + 'static
     }
 }
 
-/// Tells all threads to end, and joins them.
-pub fn end<R: Threads + Wait>(rt: &R, house: House) {
+/// Tells all threads to end, and joins them. It gives what the server has come through.
+pub fn end<R: Threads + Wait>(rt: &R, house: House) -> Incidents {
     let House {
         mut posts,
         mut ticker,
@@ -183,4 +185,5 @@ pub fn end<R: Threads + Wait>(rt: &R, house: House) {
     for thread in threads {
         thread.join(rt);
     }
+    posts.incidents()
 }

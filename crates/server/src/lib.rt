@@ -15,3 +15,4 @@ mod ticking;
 
 pub use fault::ServeFault;
 pub use life::serve;
+pub use nodes::Incidents;

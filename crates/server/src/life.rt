@@ -4,7 +4,7 @@ ghost use Rattle.std.specs.Prelude.{◌<◌};
 
 use crate::fault::ServeFault;
 use crate::house::{House, end, start_accepting, start_nodes};
-use nodes::Size;
+use nodes::{Incidents, Size};
 use std::alloc::Global;
 use std::io::{ErrorKind, Read};
 use std::net::{Net, TcpListener, TcpStream};
@@ -64,7 +64,8 @@ fn serve_until<
 
 /// Serves memcached's text protocol on the listener, kept on `2u + 1` executors and `2u + 1` verifiers,
 /// each in a thread of this process. It returns after the end or a fault of `until`: no more connections
-/// are taken, those that are here are shut, and all threads are joined.
+/// are taken, those that are here are shut, and all threads are joined. The incidents say how often a leader was
+/// suspected and how many batches were rolled back; without a fault of a node both are 0.
 ///
 /// `Own` where memory ran out before it began to serve, `Start` where a thread could not be started or
 /// the listener tells no address. Then no thread is left. Where memory runs out later, a connection is
@@ -80,7 +81,13 @@ pub fn serve<
         + Drop
         + 'static,
     I: Read,
->(rt: &R, alloc: Global, listener: TcpListener, u: u8, until: &mut I) -> Result<(), ServeFault>
+>(
+    rt: &R,
+    alloc: Global,
+    listener: TcpListener,
+    u: u8,
+    until: &mut I,
+) -> Result<Incidents, ServeFault>
     requires { u < 4 }
 {
     let size = Size::new(u);
@@ -89,6 +96,6 @@ pub fn serve<
         Ok(()) => serve_until(rt, alloc, &mut house, size, listener, until),
         Err(fault) => Err(fault),
     };
-    end(rt, house);
-    served
+    let incidents = end(rt, house);
+    served.map(|()| incidents)
 }

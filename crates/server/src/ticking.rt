@@ -1,10 +1,10 @@
 //! The thread that ticks.
 
 use link::Link;
-use nodes::{Clients, ToClient};
+use nodes::{Activity, Clients, ToClient};
 use std::alloc::Global;
 use std::rt::Clock;
-use std::sync::Wait;
+use std::sync::{Arc, Wait};
 use std::thread;
 use std::time::Duration;
 
@@ -26,7 +26,7 @@ const TICK: u64 = 100;
 fn take_all<R: Wait>(rt: &R, inbox: &mut Link<ToTicker>, clients: &mut Clients) -> bool {
     for _ in rt.forever() {
         match inbox.try_take(rt) {
-            Some(ToTicker::Come(client, end)) => clients.come(client, end),
+            Some(ToTicker::Come(client, end)) => clients.come(rt, client, end),
             Some(ToTicker::Gone(client)) => clients.leave(client),
             Some(ToTicker::Stop) => return false,
             None => return true,
@@ -36,13 +36,19 @@ fn take_all<R: Wait>(rt: &R, inbox: &mut Link<ToTicker>, clients: &mut Clients) 
 }
 
 /// Gives each client a tick, ten times a second, until the server ends.
-pub fn tick<R: Wait + Clock>(rt: &R, alloc: Global, mut inbox: Link<ToTicker>) {
+pub fn tick<R: Wait + Clock>(
+    rt: &R,
+    alloc: Global,
+    mut inbox: Link<ToTicker>,
+    activity: Arc<Activity, Global>,
+) {
     let mut clients = Clients::new(alloc);
     for _ in rt.forever() {
         thread::sleep(rt, Duration::from_millis(TICK));
         if !take_all(rt, &mut inbox, &mut clients) {
             return;
         }
-        clients.tick(rt);
+        let seen = activity.seen();
+        clients.tick(rt, seen);
     }
 }

@@ -3,7 +3,7 @@
 ghost use Rattle.std.specs.Prelude.{◌<◌};
 
 use crate::talking::{connected, hears, is_at_end, says};
-use server::serve;
+use server::{Incidents, serve};
 use std::alloc::Global;
 use std::io::Read;
 use std::net::{Net, SocketAddr, TcpListener, TcpStream};
@@ -29,6 +29,10 @@ enum Play {
     Midway,
     /// An item is gone when its time is over.
     Dated,
+    /// 60 clients set values of so many bytes, twice, each under a key of its own, and a new one is served.
+    Large(usize),
+    /// 64 clients leave while their requests are outstanding, and 64 others get in.
+    Leaving,
 }
 
 /// What a client's thread leaves.
@@ -156,10 +160,11 @@ fn broken<R: Net<Stream = TcpStream>>(rt: &R, alloc: Global, address: SocketAddr
     Some(is_said && talks(alloc, &third, (b"get a\r\n", b"END\r\n"), 0))
 }
 
-/// A line of a block of so many bytes, the block, and its end.
-fn large_set(alloc: Global, length: usize) -> Option<Vec<u8>> {
+/// A set of a block of so many bytes under this key.
+fn large_set(alloc: Global, key: u8, length: usize) -> Option<Vec<u8>> {
+    let line = format!(in alloc; "set large{key} 0 0 {length}\r\n").ok()?;
     let mut bytes = Vec::new(alloc);
-    bytes.extend_from_slice(b"set large 0 0 100000\r\n").ok()?;
+    bytes.extend_from_slice(line.as_bytes()).ok()?;
     let whole = bytes.len().checked_add(length)?;
     bytes.resize(whole, b'x').ok()?;
     bytes.extend_from_slice(b"\r\n").ok()?;
@@ -174,10 +179,10 @@ fn silent<R: Net<Stream = TcpStream>>(
     open: &mut Vec<TcpStream>,
 ) -> Option<bool> {
     let first = connected(rt, address)?;
-    let block = large_set(alloc, 100000)?;
+    let block = large_set(alloc, 0, 100000)?;
     let is_stored = says(&first, block.as_slice(), 0) && hears(alloc, &first, b"STORED\r\n");
     for _ in 0..200usize {
-        says(&first, b"get large\r\n", 0);
+        says(&first, b"get large0\r\n", 0);
     }
     open.push(first).ok()?;
     let second = connected(rt, address)?;
@@ -202,6 +207,82 @@ fn midway<R: Net<Stream = TcpStream>>(
         open.push(stream).ok()?;
     }
     Some(is_right)
+}
+
+/// So many clients.
+fn clients<R: Net<Stream = TcpStream>>(
+    rt: &R,
+    alloc: Global,
+    address: SocketAddr,
+    count: usize,
+) -> Option<Vec<TcpStream>> {
+    let mut clients = Vec::new(alloc);
+    for _ in 0..count {
+        clients.push(connected(rt, address)?).ok()?;
+    }
+    Some(clients)
+}
+
+/// Each client sets a large value under a key of its own: whether all was said.
+fn all_set(alloc: Global, clients: &[TcpStream], first_key: u8, length: usize) -> bool {
+    let mut is_said = true;
+    for (at, client) in clients.iter().enumerate() {
+        let key = first_key.wrapping_add(at as u8);
+        is_said = is_said
+            && match large_set(alloc, key, length) {
+                Some(text) => says(client, text.as_slice(), 0),
+                None => false,
+            };
+    }
+    is_said
+}
+
+/// Whether each client hears this.
+fn all_hear(alloc: Global, clients: &[TcpStream], expected: &[u8]) -> bool {
+    clients.iter().all(|client| hears(alloc, client, expected))
+}
+
+fn large<R: Net<Stream = TcpStream>>(
+    rt: &R,
+    alloc: Global,
+    address: SocketAddr,
+    length: usize,
+) -> Option<bool> {
+    let clients = clients(rt, alloc, address, 60)?;
+    let all = clients.as_slice();
+    let first = all_set(alloc, all, 0, length) && all_hear(alloc, all, b"STORED\r\n");
+    let second = all_set(alloc, all, 100, length) && all_hear(alloc, all, b"STORED\r\n");
+    let fresh = connected(rt, address)?;
+    Some(first && second && talks(alloc, &fresh, (b"get a\r\n", b"END\r\n"), 0))
+}
+
+/// Whether 64 clients that come now are served.
+fn all_get_in<R: Net<Stream = TcpStream>>(
+    rt: &R,
+    alloc: Global,
+    address: SocketAddr,
+) -> Option<bool> {
+    let clients = clients(rt, alloc, address, 64)?;
+    let is_served = |client: &TcpStream| talks(alloc, client, (b"get a\r\n", b"END\r\n"), 0);
+    Some(clients.iter().all(is_served))
+}
+
+/// Those who left have given their places back, though nobody heard their replies.
+fn leaving<R: Net<Stream = TcpStream> + Clock>(
+    rt: &R,
+    alloc: Global,
+    address: SocketAddr,
+) -> Option<bool> {
+    let first = clients(rt, alloc, address, 64)?;
+    let is_said = all_set(alloc, first.as_slice(), 0, 100000);
+    drop(first);
+    for _ in 0..200usize {
+        if all_get_in(rt, alloc, address)? {
+            return Some(is_said);
+        }
+        thread::sleep(rt, Duration::from_millis(50));
+    }
+    Some(false)
 }
 
 /// One item has a second, the other a thousand; both are asked for after three.
@@ -244,6 +325,8 @@ fn act<R: Net<Stream = TcpStream> + Clock>(
         Play::Silent => silent(rt, alloc, address, &mut open),
         Play::Midway => midway(rt, alloc, address, &mut open),
         Play::Dated => dated(rt, alloc, address),
+        Play::Large(length) => large(rt, alloc, address, length),
+        Play::Leaving => leaving(rt, alloc, address),
     };
     Left {
         went_well: went == Some(true),
@@ -251,7 +334,12 @@ fn act<R: Net<Stream = TcpStream> + Clock>(
     }
 }
 
-/// Whether all went well with a server of this `u`, which was ended after the play.
+/// Whether no leader was suspected and nothing rolled back.
+fn is_quiet(incidents: Incidents) -> bool {
+    incidents.suspicions == 0 && incidents.rollbacks == 0
+}
+
+/// Whether all went well with a server of this `u`, which was ended after the play. Nobody suspected a leader.
 fn served<
     R: Net<Listener = TcpListener, Stream = TcpStream>
         + Threads
@@ -289,7 +377,7 @@ fn served<
         left,
     } = until;
     match left {
-        Some(left) => ended.is_ok() && left.went_well,
+        Some(left) => left.went_well && matches!(&ended, Ok(incidents) if is_quiet(*incidents)),
         None => false,
     }
 }
@@ -340,5 +428,26 @@ fn it_ends_with_clients_midway(rt: HostRuntime) -> Result<(), Fail> {
 fn an_item_is_gone_after_its_time(rt: HostRuntime) -> Result<(), Fail> {
     assert!(rt; served(&rt, rt.alloc(), 0, Play::Dated));
     assert!(rt; served(&rt, rt.alloc(), 1, Play::Dated));
+    Ok(())
+}
+
+#[test]
+fn large_values_of_many_clients_are_stored(rt: HostRuntime) -> Result<(), Fail> {
+    assert!(rt; served(&rt, rt.alloc(), 0, Play::Large(1048576)));
+    assert!(rt; served(&rt, rt.alloc(), 1, Play::Large(1048576)));
+    Ok(())
+}
+
+#[test]
+fn large_values_are_stored_on_many_replicas(rt: HostRuntime) -> Result<(), Fail> {
+    assert!(rt; served(&rt, rt.alloc(), 2, Play::Large(200000)));
+    assert!(rt; served(&rt, rt.alloc(), 3, Play::Large(100000)));
+    Ok(())
+}
+
+#[test]
+fn who_leaves_gives_its_place_back(rt: HostRuntime) -> Result<(), Fail> {
+    assert!(rt; served(&rt, rt.alloc(), 0, Play::Leaving));
+    assert!(rt; served(&rt, rt.alloc(), 1, Play::Leaving));
     Ok(())
 }

@@ -4,7 +4,7 @@ use batches::Batch;
 use decrees::{Ballot, Letter, Node};
 use exec_lines::Body;
 use proto::{Fault, Reply};
-use serving::{Doors, Held, MOST_HELD, Patience, Post, Urge, address, workers_for};
+use serving::{Doors, Held, MOST_HELD, Patience, Post, Seen, Urge, address, workers_for};
 use std::alloc::Global;
 use std::test::Fail;
 use wire::read;
@@ -73,19 +73,56 @@ fn a_letter_goes_to_whom_it_names(rt: HostRuntime) -> Result<(), Fail> {
     Ok(())
 }
 
+/// How far a server has come, after so many rests and steps.
+fn seen(rests: u32, steps: u64) -> Seen {
+    Seen { rests, steps }
+}
+
 #[test]
-fn who_waits_asks_again_and_suspects(rt: HostRuntime) -> Result<(), Fail> {
-    let mut patience = Patience::new();
-    for tick in 1..61u64 {
-        let urge = patience.tick(1);
-        let expected = match tick {
-            5 | 15 | 25 | 35 | 45 | 55 => Urge::Again,
-            10 | 40 => Urge::Suspect(1),
-            20 | 50 => Urge::Suspect(2),
-            30 | 60 => Urge::Suspect(0),
-            _ => Urge::Wait,
-        };
-        assert_eq!(rt; urge, expected, "{tick}");
+fn who_waits_asks_again_at_the_next_rest_and_then_suspects(rt: HostRuntime) -> Result<(), Fail> {
+    let mut patience = Patience::new(seen(7, 100));
+    assert_eq!(rt; patience.tick(1, seen(7, 100)), Urge::Wait);
+    assert_eq!(rt; patience.tick(1, seen(7, 123)), Urge::Wait);
+    assert_eq!(rt; patience.tick(1, seen(8, 123)), Urge::Again);
+    patience.ask_again(seen(8, 123));
+    assert_eq!(rt; patience.tick(1, seen(8, 123)), Urge::Wait);
+    assert_eq!(rt; patience.tick(1, seen(9, 123)), Urge::Suspect);
+    patience.ask_again(seen(9, 123));
+    assert_eq!(rt;
+        patience.tick(1, seen(10, 123)),
+        Urge::Wait,
+        "a pause of one tick"
+    );
+    assert_eq!(rt; patience.tick(1, seen(10, 123)), Urge::Suspect);
+    Ok(())
+}
+
+#[test]
+fn who_is_left_behind_asks_again_and_does_not_suspect(rt: HostRuntime) -> Result<(), Fail> {
+    let mut patience = Patience::new(seen(7, 100));
+    assert_eq!(rt; patience.tick(1, seen(7, 124)), Urge::Again);
+    patience.ask_again(seen(7, 124));
+    assert_eq!(rt; patience.tick(1, seen(7, 147)), Urge::Wait);
+    assert_eq!(rt; patience.tick(1, seen(7, 148)), Urge::Again);
+    Ok(())
+}
+
+/// The ticks until the next suspicion, where nothing is ever under way.
+fn ticks_to_suspicion(patience: &mut Patience) -> usize {
+    for tick in 1..100usize {
+        if patience.tick(0, seen(1, 0)) == Urge::Suspect {
+            return tick;
+        }
+    }
+    0
+}
+
+#[test]
+fn the_pause_between_suspicions_doubles(rt: HostRuntime) -> Result<(), Fail> {
+    let mut patience = Patience::new(seen(0, 0));
+    patience.ask_again(seen(0, 0));
+    for ticks in [1, 2, 3, 5, 9, 17, 33, 65, 65usize] {
+        assert_eq!(rt; ticks_to_suspicion(&mut patience), ticks);
     }
     Ok(())
 }

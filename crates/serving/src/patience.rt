@@ -1,14 +1,23 @@
-//! How long a client waits for a reply.
+//! When a client that waits asks again, and when it suspects the leader.
 
-ghost use Rattle.std.specs.Prelude.{◌≡◌, ◌<◌, ◌^◌, ◌-◌, ◌+◌};
-ghost use Rattle.serving.specs.Patience.{urge_at};
-ghost use Rattle.serving.specs.declared.patience.Urge.TheVariants.{Wait};
+ghost use Rattle.std.specs.Prelude.{◌≡◌, ◌<◌, true, false};
+ghost use Rattle.serving.specs.Patience.{urge_of, after_tick};
 
-/// After so many ticks a client asks again.
-const TICKS_TO_AGAIN: u64 = 5;
+/// A client asks again if the executors went on by so many steps each since it asked: its request is in
+/// none of their batches. A chain has four batches, and the request waits for the one after them.
+const STEPS_TO_AGAIN: u64 = 8;
 
-/// After so many ticks, which is each second time that it asks again, a verifier is told.
-const TICKS_TO_SUSPECT: u64 = 10;
+/// The most ticks between two suspicions of one client.
+const MOST_PAUSE: u8 = 64;
+
+/// How far a server has come. It tells a client that waits whether anything may still answer it.
+#[derive(Clone, Copy, Debug, PartialEq, Eq)]
+pub struct Seen {
+    /// How often nothing was under way any more. It wraps.
+    pub rests: u32,
+    /// The sum of the steps of all executors. A decree that an executor obeys is a step.
+    pub steps: u64,
+}
 
 /// What is due after a tick.
 #[derive(Clone, Copy, Debug, PartialEq, Eq)]
@@ -17,40 +26,71 @@ pub enum Urge {
     Wait,
     /// To ask again.
     Again,
-    /// To ask again, and to tell this verifier that the leader is suspected.
-    Suspect(u8),
+    /// To ask again, and to tell a verifier that the leader is suspected.
+    Suspect,
 }
 
-/// How many ticks a client has waited since its last reply.
+/// What a client that waits knows of its request.
 #[derive(Clone, Copy)]
 pub struct Patience {
-    ticks: u64,
+    /// How far the server was when the request was last sent.
+    since: Seen,
+    /// Whether it was sent more than once.
+    has_asked_again: bool,
+    /// For so many ticks nothing is due.
+    pause: u8,
+    /// The pause after the next suspicion.
+    next_pause: u8,
 }
 
 impl Patience {
-    /// It begins to wait.
-    pub fn new() -> Patience
-        ensures { result ≡ record { ticks = 0 } }
+    /// The request is sent for the first time, and the server is so far.
+    pub fn new(seen: Seen) -> Patience
+        ensures since { result.since ≡ seen }
+        ensures first { result.has_asked_again ≡ false }
+        ensures pause { result.pause ≡ 0 }
+        ensures next_pause { result.next_pause ≡ 1 }
     {
-        Patience { ticks: 0 }
+        Patience {
+            since: seen,
+            has_asked_again: false,
+            pause: 0,
+            next_pause: 1,
+        }
     }
 
-    /// One more tick, before `2u + 1` verifiers: what is due. After 2^64 - 1 ticks nothing is due any more.
-    pub fn tick(&mut self, u: u8) -> Urge
-        requires { u < 4 }
-        ensures counted { self.old.ticks < 2 ^ 64 - 1 → self.new.ticks ≡ self.old.ticks + 1 }
-        ensures urge { self.old.ticks < 2 ^ 64 - 1 → result ≡ urge_at u (self.old.ticks + 1) }
-        ensures at_limit { self.old.ticks ≡ 2 ^ 64 - 1 → (result ≡ Wait) }
+    /// The request is sent again, and the server is so far.
+    pub fn ask_again(&mut self, seen: Seen)
+        ensures since { self.new.since ≡ seen }
+        ensures again { self.new.has_asked_again ≡ true }
+        ensures pause { self.new.pause ≡ self.old.pause }
+        ensures next_pause { self.new.next_pause ≡ self.old.next_pause }
     {
-        let Some(ticks) = self.ticks.checked_add(1) else {
+        self.since = seen;
+        self.has_asked_again = true;
+    }
+
+    /// One more tick, with `2u + 1` executors and the server so far: what is due. The pause after a
+    /// suspicion doubles, up to 64 ticks.
+    pub fn tick(&mut self, u: u8, seen: Seen) -> Urge
+        requires { u < 4 }
+        ensures urge { result ≡ urge_of u self.old seen }
+        ensures after { self.new ≡ after_tick u self.old seen }
+    {
+        if 0 < self.pause {
+            self.pause -= 1;
             return Urge::Wait;
-        };
-        self.ticks = ticks;
-        if ticks % TICKS_TO_SUSPECT == 0 {
-            let verifier = (ticks / TICKS_TO_SUSPECT) % u64::from(2 * u + 1);
-            return Urge::Suspect(verifier as u8);
         }
-        if ticks % TICKS_TO_AGAIN == 0 {
+        if seen.rests != self.since.rests {
+            if !self.has_asked_again {
+                return Urge::Again;
+            }
+            self.pause = self.next_pause;
+            self.next_pause = self.next_pause.saturating_mul(2).min(MOST_PAUSE);
+            return Urge::Suspect;
+        }
+        let steps = seen.steps.saturating_sub(self.since.steps);
+        if STEPS_TO_AGAIN * u64::from(2 * u + 1) <= steps {
             return Urge::Again;
         }
         Urge::Wait
