@@ -1,4 +1,4 @@
-ghost use Rattle.std.specs.Prelude.{◌≡◌, ◌*◌, ◌-◌, ◌^◌, ◌<◌, ◌≤◌, ◌⊎◌, Some, None, IfOk, IfErr, IsOk, OnErr, OnOk, Err, IsErr, IsTrue, not, true, []};
+ghost use Rattle.std.specs.Prelude.{◌≡◌, ◌*◌, ◌-◌, ◌^◌, ◌<◌, ◌≤◌, ◌⊎◌, Some, None, IfOk, IfErr, IsOk, OnErr, OnOk, Err, IsErr, IsTrue, not, true, false, []};
 ghost use Rattle.exec_lines.specs.Record.{executor_text};
 ghost use Rattle.exec_lines.specs.Lines.{resumed};
 ghost use Rattle.exec_node.specs.Executor.{StoredExecutor};
@@ -42,6 +42,8 @@ fn save<K: Keeper>(alloc: Global, u: u8, id: u8, state: &State, keeper: &mut K) 
     ensures stopped { result ≡ Err Fault.Stopped → (K.failed keeper.old < K.failed keeper.new) ⊎ (K.failed keeper.old ≡ 2 ^ 64 - 1) }
     ensures only { IfErr result (λ fault. (fault ≡ Fault.NoMemory) ⊎ (fault ≡ Fault.Stopped)) }
     ensures counted { K.failed keeper.old ≤ K.failed keeper.new }
+    ensures untried { K.failed keeper.new ≡ K.failed keeper.old → K.told keeper.new ≡ K.told keeper.old }
+    ensures spent { K.failed keeper.old < K.failed keeper.new → K.told keeper.new ≡ false }
 {
     let record = state.record(alloc, u, id)?;
     save_record(record, keeper)
@@ -67,6 +69,8 @@ fn renewed<K: Keeper>(
     ensures stopped { result ≡ Err Fault.Stopped → ((K.failed keeper.old < K.failed keeper.new) ⊎ (K.failed keeper.old ≡ 2 ^ 64 - 1)) ⊎ (state.now.known ≡ 2 ^ 64 - 1) }
     ensures only { IfErr result (λ fault. (fault ≡ Fault.NoMemory) ⊎ (fault ≡ Fault.Stopped)) }
     ensures counted { K.failed keeper.old ≤ K.failed keeper.new }
+    ensures untried { K.failed keeper.new ≡ K.failed keeper.old → K.told keeper.new ≡ K.told keeper.old }
+    ensures spent { K.failed keeper.old < K.failed keeper.new → K.told keeper.new ≡ false }
 {
     let letters = state.resumed(alloc, u, id)?;
     save(alloc, u, id, state, keeper)?;
@@ -115,6 +119,7 @@ impl<K: Keeper> ExecNode<K> {
     /// version 1, and its save failed, or that failure could not be counted; or by its record it knows
     /// 2^64 - 1 decrees. NoMemory: an allocation failed, and no save failed. A refused call hands the
     /// keeper back with the record as before; one that had a record of today is handed back untouched.
+    /// Whether the next save is set to fail stays as it was, unless a save failed, which spends it.
     pub fn open(
         alloc: Global,
         u: u8,
@@ -131,6 +136,8 @@ impl<K: Keeper> ExecNode<K> {
         ensures untouched { (IsToBeSaved u id (K.saved keeper) → ⊥) → IfErr result (λ refused. refused.1 ≡ keeper) }
         ensures saved { IfErr result (λ refused. K.saved refused.1 ≡ K.saved keeper) }
         ensures counted { IfErr result (λ refused. K.failed keeper ≤ K.failed refused.1) }
+        ensures untried { IfErr result (λ refused. K.failed refused.1 ≡ K.failed keeper → K.told refused.1 ≡ K.told keeper) }
+        ensures spent { IfErr result (λ refused. K.failed keeper < K.failed refused.1 → K.told refused.1 ≡ false) }
         ensures only { IfErr result (λ refused. (refused.0 ≡ Fault.NoMemory) ⊎ (refused.0 ≡ Fault.BadRecord) ⊎ (refused.0 ≡ Fault.Stopped)) }
     {
         match stored(alloc, u, id, &keeper) {
@@ -156,6 +163,8 @@ impl<K: Keeper> ExecNode<K> {
         ensures none_failed { IfErr result (λ refused. refused.0 ≡ Fault.NoMemory → K.failed refused.1 ≡ K.failed keeper) }
         ensures saved { IfErr result (λ refused. K.saved refused.1 ≡ K.saved keeper) }
         ensures counted { IfErr result (λ refused. K.failed keeper ≤ K.failed refused.1) }
+        ensures untried { IfErr result (λ refused. K.failed refused.1 ≡ K.failed keeper → K.told refused.1 ≡ K.told keeper) }
+        ensures spent { IfErr result (λ refused. K.failed keeper < K.failed refused.1 → K.told refused.1 ≡ false) }
     {
         match State::first(alloc) {
             Err(_) => Err((Fault::NoMemory, keeper)),
@@ -196,6 +205,8 @@ impl<K: Keeper> ExecNode<K> {
         ensures none_failed { IfErr result (λ refused. refused.0 ≡ Fault.NoMemory → K.failed refused.1 ≡ K.failed keeper) }
         ensures saved { IfErr result (λ refused. K.saved refused.1 ≡ K.saved keeper) }
         ensures counted { IfErr result (λ refused. K.failed keeper ≤ K.failed refused.1) }
+        ensures untried { IfErr result (λ refused. K.failed refused.1 ≡ K.failed keeper → K.told refused.1 ≡ K.told keeper) }
+        ensures spent { IfErr result (λ refused. K.failed keeper < K.failed refused.1 → K.told refused.1 ≡ false) }
     {
         match renewed(alloc, u, id, &state, &mut keeper) {
             Err(fault) => {
@@ -257,6 +268,8 @@ impl<K: Keeper> ExecNode<K> {
         ensures same { OnErr result ((self.new.id ≡ self.old.id) × (self.new.u ≡ self.old.u)) }
         ensures old_record { OnErr result (self.new.saved ≡ self.old.saved) }
         ensures counted { self.old.failures ≤ self.new.failures }
+        ensures untried { self.new.failures ≡ self.old.failures → self.new.told ≡ self.old.told }
+        ensures spent { self.old.failures < self.new.failures → self.new.told ≡ false }
         ensures no_memory { result ≡ Err Fault.NoMemory → self.new.failures ≡ self.old.failures }
         ensures stopped { result ≡ Err Fault.Stopped → (self.old.failures < self.new.failures) ⊎ (self.old.failures ≡ 2 ^ 64 - 1) }
         ensures only { IfErr result (λ fault. (fault ≡ Fault.NoMemory) ⊎ (fault ≡ Fault.Stopped)) }
@@ -278,6 +291,8 @@ impl<K: Keeper> ExecNode<K> {
         ensures same { OnErr result ((self.new.id ≡ self.old.id) × (self.new.u ≡ self.old.u)) }
         ensures old_record { OnErr result (self.new.saved ≡ self.old.saved) }
         ensures counted { self.old.failures ≤ self.new.failures }
+        ensures untried { self.new.failures ≡ self.old.failures → self.new.told ≡ self.old.told }
+        ensures spent { self.old.failures < self.new.failures → self.new.told ≡ false }
         ensures unsaved { (executor_outcome self.old input).saves ≡ false → self.new.failures ≡ self.old.failures }
         ensures no_memory { result ≡ Err Fault.NoMemory → self.new.failures ≡ self.old.failures }
         ensures stopped { result ≡ Err Fault.Stopped → (self.old.failures < self.new.failures) ⊎ IsExecutorAtLimit self.old input }
@@ -296,8 +311,9 @@ impl<K: Keeper> ExecNode<K> {
     /// changed, and the executor goes on. After any other error it is stopped for good, and its record
     /// is the old one; where it was stopped before, nothing of it changes, and what was handed in is
     /// let go. Stopped: it was stopped before, or a save failed, or a counter is at its limit;
-    /// NoMemory: an allocation failed in this call, and no save. A save that the keeper was told to
-    /// fail does, and none fails where the step saves nothing.
+    /// NoMemory: an allocation failed in this call, and no save. A save that is set to fail does, and
+    /// none fails where the step saves nothing. Whether the next save is set to fail stays as it was,
+    /// unless a save failed, which spends it.
     pub fn handle(&mut self, alloc: Global, input: Input) -> Result<Vec<Letter<Body>>, Fault>
         ensures done { IfOk result (λ letters. self.new ≡ executor_handled self.old input) }
         ensures letters { IfOk result (λ letters. letters.items ≡ (executor_outcome self.old input).letters) }
@@ -312,6 +328,8 @@ impl<K: Keeper> ExecNode<K> {
         ensures same { OnErr result ((self.new.id ≡ self.old.id) × (self.new.u ≡ self.old.u)) }
         ensures old_record { OnErr result (self.new.saved ≡ self.old.saved) }
         ensures counted { self.old.failures ≤ self.new.failures }
+        ensures untried { self.new.failures ≡ self.old.failures → self.new.told ≡ self.old.told }
+        ensures spent { self.old.failures < self.new.failures → self.new.told ≡ false }
         ensures unsaved { (executor_outcome self.old input).saves ≡ false → self.new.failures ≡ self.old.failures }
 
         // When each comes.
@@ -357,6 +375,8 @@ impl<K: Keeper> ExecNode<K> {
         ensures same { OnErr result ((self.new.id ≡ self.old.id) × (self.new.u ≡ self.old.u)) }
         ensures old_record { OnErr result (self.new.saved ≡ self.old.saved) }
         ensures counted { self.old.failures ≤ self.new.failures }
+        ensures untried { self.new.failures ≡ self.old.failures → self.new.told ≡ self.old.told }
+        ensures spent { self.old.failures < self.new.failures → self.new.told ≡ false }
         ensures no_memory { result ≡ Err Fault.NoMemory → self.new.failures ≡ self.old.failures }
         ensures stopped { result ≡ Err Fault.Stopped → (self.old.failures < self.new.failures) ⊎ (self.old.failures ≡ 2 ^ 64 - 1) }
         ensures only { IfErr result (λ fault. (fault ≡ Fault.NoMemory) ⊎ (fault ≡ Fault.Stopped)) }
@@ -372,7 +392,8 @@ impl<K: Keeper> ExecNode<K> {
     ///
     /// Stopped: it was stopped before, or the save failed, or its failure could not be counted.
     /// NoMemory: an allocation failed, and no save. After any error it is stopped for good, and its
-    /// record is the old one.
+    /// record is the old one. Whether the next save is set to fail stays as it was, unless a save
+    /// failed, which spends it.
     pub fn run<R: Threads + Wait + Sync, G: Gate + Sync>(
         &mut self,
         rt: &R,
@@ -388,6 +409,8 @@ impl<K: Keeper> ExecNode<K> {
         ensures same { OnErr result ((self.new.id ≡ self.old.id) × (self.new.u ≡ self.old.u)) }
         ensures old_record { OnErr result (self.new.saved ≡ self.old.saved) }
         ensures counted { self.old.failures ≤ self.new.failures }
+        ensures untried { self.new.failures ≡ self.old.failures → self.new.told ≡ self.old.told }
+        ensures spent { self.old.failures < self.new.failures → self.new.told ≡ false }
 
         // When each comes.
         ensures stopped_before { IsTrue (not self.old.up) → result ≡ Err Fault.Stopped }

@@ -1,4 +1,4 @@
-ghost use Rattle.std.specs.Prelude.{◌≡◌, ◌<◌, ◌≤◌, ◌⊎◌, ◌^◌, ◌-◌, List, ℕ, Bool, Option, Some, OnOk, OnErr, IfErr, IsTrue, IsErr};
+ghost use Rattle.std.specs.Prelude.{◌≡◌, ◌<◌, ◌≤◌, ◌⊎◌, ◌^◌, ◌-◌, List, ℕ, Bool, false, Option, Some, OnOk, OnErr, IfErr, IsTrue, IsErr};
 ghost use Rattle.std.specs.Option.{option_copied};
 
 use base::Text;
@@ -12,14 +12,14 @@ pub trait Keeper {
     /// How many saves have failed.
     ghost failed: { Self → ℕ };
 
-    /// Whether it was told that the next save fails. It may fail where it was not told so.
+    /// Whether the next save is set to fail. One that is not may fail, too.
     ghost told: { Self → Bool };
 
     /// Keeps this text in place of the old record. It takes the pieces as they are, and copies none
     /// of their bytes.
     ///
-    /// After an error the old record is there as before, and the failure was counted: so the caller
-    /// sees to it that the count is not at its limit.
+    /// After an error the old record is there as before, the failure was counted, and the save after it
+    /// is not set to fail. So the caller sees to it that the count is not at its limit.
     fn save(&mut self, text: Text) -> Result<(), Fault>
         requires countable { failed self.old < 2 ^ 64 - 1 }
         ensures kept { OnOk result (saved self.new ≡ Some text) }
@@ -27,7 +27,8 @@ pub trait Keeper {
         ensures same_word { OnOk result (told self.new ≡ told self.old) }
         ensures as_told { IsTrue (told self.old) → IsErr result }
         ensures old { OnErr result (saved self.new ≡ saved self.old) }
-        ensures counted { OnErr result (failed self.old < failed self.new) };
+        ensures counted { OnErr result (failed self.old < failed self.new) }
+        ensures spent { OnErr result (told self.new ≡ false) };
 
     /// The record, whole.
     fn load(&self) -> Option<&Text>
@@ -40,6 +41,7 @@ pub trait Keeper {
 
 /// Saves the text as the record. Stopped: the save failed, or its failure could not be counted, and
 /// then nothing was tried. After it the old record is there as before. There is no other error.
+/// Whether the next save is set to fail stays as it is, unless a save failed, which spends it.
 pub fn save_record<K: Keeper>(text: Text, keeper: &mut K) -> Result<(), Fault>
     ensures kept { OnOk result (K.saved keeper.new ≡ Some text) }
     ensures none_failed { OnOk result (K.failed keeper.new ≡ K.failed keeper.old) }
@@ -49,6 +51,8 @@ pub fn save_record<K: Keeper>(text: Text, keeper: &mut K) -> Result<(), Fault>
     ensures stopped { OnErr result ((K.failed keeper.old < K.failed keeper.new) ⊎ (K.failed keeper.old ≡ 2 ^ 64 - 1)) }
     ensures only { IfErr result (λ fault. fault ≡ Fault.Stopped) }
     ensures counted { K.failed keeper.old ≤ K.failed keeper.new }
+    ensures untried { K.failed keeper.new ≡ K.failed keeper.old → K.told keeper.new ≡ K.told keeper.old }
+    ensures spent { K.failed keeper.old < K.failed keeper.new → K.told keeper.new ≡ false }
 {
     if keeper.failures() == u64::MAX {
         return Err(Fault::Stopped);

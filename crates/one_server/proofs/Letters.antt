@@ -44,7 +44,7 @@ pub record IsCommittedReply (seen : List WorldView) (w : WorldView) (client numb
 module _ {c : ConfigView} {events : List Event} {seen : List WorldView} {w : WorldView} (past : Past c events seen w) where
   -- what an executor has committed that is up
   up_is_chosen : (id : ℕ) (e : ExecutorView) → slice_get w.executors id ≡ Some (Up e) → IsChosenState seen w e.state.chain.have
-  up_is_chosen id e placed = committed_is_chosen_in_worlds c events seen w id (saved_of e.state) past.reached past.ends (record { slot = Up e; there = placed; saved = refl })
+  up_is_chosen id e placed = committed_is_chosen_in_worlds c events seen w id (saved_of e.state) past.reached past.ends (record { slot = Up e; there = placed; had = refl })
 
   up_is_linked : (id : ℕ) (e : ExecutorView) → slice_get w.executors id ≡ Some (Up e) → AreLinked e.state.chain.have e.state.chain.members
   up_is_linked id e placed =

@@ -2,6 +2,7 @@
 use Rattle.std.proofs.Common.{◌≡◌, ℕ, ◌-◌, ◌<◌, Bool, true, false, List, take, Option, Some, inl, inr, refl, sym, ap, ◌∙◌, subst, ⊎_elim, slice_get, arith}
 use Rattle.std.specs.Prelude.{Contains, not, IsTrue}
 use Rattle.std.proofs.lemmas.Option.{slice_get_within}
+use Rattle.decrees.specs.Count.{member_count}
 use Rattle.decrees.specs.declared.decree.Decree.{Decree}
 use Rattle.decrees.specs.declared.decree.Decree.TheVariants.{Commit, Rollback}
 use Rattle.decrees.specs.declared.standing.Standing.{Standing}
@@ -19,11 +20,11 @@ use Rattle.worlds.specs.declared.slot.Slot.{Slot}
 use Rattle.worlds.specs.World.{WorldView}
 use Rattle.worlds.specs.Laws.{is_gone, chosen_list}
 use Rattle.worlds.proofs.PlaceLemmas.{get_within}
-use Rattle.one_server.specs.Saved.{AreLinked, IsMet, IsExecuted, DigestsAreDistinct}
+use Rattle.one_server.specs.Saved.{AreLinked, Has, HasOne, IsMet, IsExecuted, DigestsAreDistinct}
 use Rattle.one_server.specs.Machines.{IsSameExecutor, HasExecutorMachine}
-use Rattle.one_server.specs.HeldLaws.{ChosenIsMadeInWorlds, IsChosenState, CommittedIsChosenInWorlds, ExecutorKeeps, ExecutorsKeep, ExecutorsKeepInWorlds}
+use Rattle.one_server.specs.HeldLaws.{SavedIsHad, EachHasOneInWorlds, ChosenIsMadeInWorlds, IsChosenState, CommittedIsChosenInWorlds, ExecutorKeeps, ExecutorsKeep, ExecutorsKeepInWorlds}
 use Rattle.one_server.proofs.Records.{chain_is_linked}
-use Rattle.one_server.proofs.Kept.{saved_is, recorded_in, saved_in}
+use Rattle.one_server.proofs.Kept.{saved_is_had, had_in, had_is, recorded_in, saved_in}
 use Rattle.one_server.proofs.Plays.{are_of_executor_machines}
 
 -- ---- the laws
@@ -62,6 +63,25 @@ module _ {worlds : List WorldView} {w : WorldView} (h : HasExecutorMachine w.u w
       let is = committed_is_chosen w.u h.before h.now id y h.reached at in
       record { known = ⊎_elim inl (λ m. inr (h.met y.have m)) is.known; committed = subst (λ (ds : List Decree). IsCommitted ds y.have) decrees_are is.committed }
 
+  some_same : (x y : Durable) → ◌≡◌ {A = Option Durable} (Some x) (Some y) → x ≡ y
+  some_same x y e = cc e
+
+  -- what the machine has of an executor is what this one has
+  had_is_mine : (id : ℕ) (x : Durable) → Has w id x → (y : Durable) × (slice_get h.now.executors id ≡ Some y) × (x ≡ y)
+  had_is_mine id x has =
+      let mine = h.same.executors id has.slot has.there in
+      (mine.0, mine.1, had_is w.u id has.slot x mine.0 (linked_at id mine.0 mine.1) mine.2 has.had)
+
+  has_one : (id : ℕ) → id < member_count w.u → HasOne w id
+  has_one id within =
+      let count = h.same.count in
+      let slot = get_within w.executors id (omega (arith, within, count)) in
+      let mine = h.same.executors id slot.0 slot.1 in (
+        mine.0,
+        record { slot = slot.0; there = slot.1; had = had_in w.u id slot.0 mine.0 (linked_at id mine.0 mine.1) mine.2 },
+        λ y has. let other = had_is_mine id y has in other.2 ∙ some_same other.0 mine.0 (sym other.1 ∙ mine.1),
+      )
+
   -- digests tell apart what the machine has met
   told_apart : DigestsAreDistinct worlds → ToldApart (Contains h.now.met)
   told_apart distinct = record {
@@ -72,9 +92,6 @@ module _ {worlds : List WorldView} {w : WorldView} (h : HasExecutorMachine w.u w
   not_true : (b : Bool) → IsTrue (not b) → b ≡ false
   not_true true e = absurd (cc e)
   not_true false e = refl
-
-  some_same : (x y : Durable) → ◌≡◌ {A = Option Durable} (Some x) (Some y) → x ≡ y
-  some_same x y e = cc e
 
   -- what the machine keeps is in the record of this slot
   keeps_in : (kept : IsInCustody h.now (λ id. is_gone (slice_get w.executors id))) (slot : Slot ExecutorView) (mine : Durable) → slice_get w.executors kept.executor ≡ Some slot → slice_get h.now.executors kept.executor ≡ Some mine
@@ -118,9 +135,14 @@ chosen_is_made_in_worlds c events worlds w r ends place d at = made_at (are_of_e
 pub committed_is_chosen_in_worlds : CommittedIsChosenInWorlds
 committed_is_chosen_in_worlds c events worlds w id x r ends has =
     let h = are_of_executor_machines c events worlds w r ends in
-    let mine = h.same.executors id has.slot has.there in
-    let same = saved_is w.u id has.slot x mine.0 (linked_at h id mine.0 mine.1) mine.2 has.saved in
-    subst (λ (y : Durable). IsChosenState worlds w y.have) (sym same) (chosen_of h id mine.0 mine.1)
+    let mine = had_is_mine h id x has in
+    subst (λ (y : Durable). IsChosenState worlds w y.have) (sym mine.2) (chosen_of h id mine.0 mine.1)
+
+pub saved_is_had_by : SavedIsHad
+saved_is_had_by w id x has = record { slot = has.slot; there = has.there; had = saved_is_had w.u id has.slot x has.saved }
+
+pub each_has_one_in_worlds : EachHasOneInWorlds
+each_has_one_in_worlds c events worlds w id r ends within = has_one (are_of_executor_machines c events worlds w r ends) id within
 
 pub executors_keep_in_worlds : ExecutorsKeepInWorlds
 executors_keep_in_worlds c events worlds w r ends distinct = keeps (are_of_executor_machines c events worlds w r ends) distinct

@@ -23,7 +23,7 @@ use Rattle.worlds.specs.Laws.{chosen_list, ListsGrow}
 use Rattle.worlds.proofs.Proved.{list_only_grows}
 use Rattle.one_server.specs.Saved.{IsMet, IsExecuted}
 use Rattle.one_server.specs.HeldLaws.{IsChosenState}
-use Rattle.one_server.proofs.Proved.{chosen_is_made_in_worlds, committed_is_chosen_in_worlds}
+use Rattle.one_server.proofs.Proved.{each_has_one_in_worlds, chosen_is_made_in_worlds, committed_is_chosen_in_worlds}
 use Rattle.one_server.proofs.Told.{met_are_told_apart}
 use Rattle.one_run.proofs.Elements.{in_head, in_tail, in_none, first_or_other}
 use Rattle.one_server.specs.Asked.{WasSent}
@@ -89,7 +89,8 @@ module _ (c : ConfigView) (all : List WorldView) (apart : ToldApart (IsMet all))
         follows = built.follows;
         one_each = built.one_each;
         states_met = built.states_met;
-        committed = λ id x has_saved. chosen_is_of x.have (committed_is_chosen_in_worlds c events seen w id x past.reached past.ends has_saved);
+        each_has_one = λ id within. each_has_one_in_worlds c events seen w id past.reached past.ends within;
+        committed = λ id x has. chosen_is_of x.have (committed_is_chosen_in_worlds c events seen w id x past.reached past.ends has);
         asked = λ r q at inside. let ok = executed_asked c events seen r past.reached (built.known_rounds r at) in ok.requests q inside;
         once = λ i j a b g k client number. answered_once run i j a b built.follows g k client number;
         moments = λ r at. let ok = executed_asked c events seen r past.reached (built.known_rounds r at) in ok.moment;

@@ -15,7 +15,7 @@ use Rattle.worlds.specs.declared.slot.Slot.{Slot}
 use Rattle.worlds.specs.declared.slot.Slot.TheVariants.{Up, Down, Gone}
 use Rattle.worlds.specs.World.{WorldView, ReachedWorlds, EndsWith}
 use Rattle.worlds.specs.Laws.{is_gone, chosen_list}
-use Rattle.one_server.specs.Saved.{up_again, IsSpelled, IsSavedIn, HasSaved, IsMet, IsExecuted, DigestsAreDistinct}
+use Rattle.one_server.specs.Saved.{up_again, IsSpelled, IsSavedIn, HasSaved, Has, HasOne, IsMet, IsExecuted, DigestsAreDistinct}
 use Rattle.one_server.specs.Machines.{HasExecutorMachine}
 
 -- a record spells one saved state
@@ -37,13 +37,21 @@ MetAreToldApart = (c : ConfigView) (events : List Event) (worlds : List WorldVie
 abbrev pub ChosenIsMadeInWorlds : Type 0
 ChosenIsMadeInWorlds = (c : ConfigView) (events : List Event) (worlds : List WorldView) (w : WorldView) → ReachedWorlds c events worlds → EndsWith worlds w → AllMade (IsMet worlds) (IsExecuted worlds) (chosen_list w)
 
+-- what an executor has saved is what it has
+abbrev pub SavedIsHad : Type 0
+SavedIsHad = (w : WorldView) (id : ℕ) (x : Durable) → HasSaved w id x → Has w id x
+
+-- each of the 2u + 1 executors, up, down or lost, has one saved state
+abbrev pub EachHasOneInWorlds : Type 0
+EachHasOneInWorlds = (c : ConfigView) (events : List Event) (worlds : List WorldView) (w : WorldView) (id : ℕ) → ReachedWorlds c events worlds → EndsWith worlds w → id < member_count w.u → HasOne w id
+
 -- what an executor has committed was met, or is the first state, and a Commit of it is chosen
 pub record IsChosenState (worlds : List WorldView) (w : WorldView) (s : StateView) : Type 0 where
   pub known : IsKnown (IsMet worlds) s
   pub committed : IsCommitted (chosen_list w) s
 
 abbrev pub CommittedIsChosenInWorlds : Type 0
-CommittedIsChosenInWorlds = (c : ConfigView) (events : List Event) (worlds : List WorldView) (w : WorldView) (id : ℕ) (x : Durable) → ReachedWorlds c events worlds → EndsWith worlds w → HasSaved w id x → IsChosenState worlds w x.have
+CommittedIsChosenInWorlds = (c : ConfigView) (events : List Event) (worlds : List WorldView) (w : WorldView) (id : ℕ) (x : Durable) → ReachedWorlds c events worlds → EndsWith worlds w → Has w id x → IsChosenState worlds w x.have
 
 -- what the keeper of an executor has
 abbrev pub executor_record : Slot ExecutorView → Option (List ℕ)

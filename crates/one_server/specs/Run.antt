@@ -1,5 +1,6 @@
 -- The one run of a world, and how runs grow along a play.
 use Rattle.std.specs.Prelude.{◌≡◌, ℕ, suc, ◌<◌, ◌≤◌, false, List, [], ◌∷◌, ◌++◌, length, Some, Contains, slice_get}
+use Rattle.decrees.specs.Count.{member_count}
 use Rattle.sessions.specs.declared.request.Request.{Request}
 use Rattle.states.specs.State.{StateView, initial_state}
 use Rattle.executor.specs.declared.answered.Answered.{Answered}
@@ -14,7 +15,7 @@ use Rattle.worlds.specs.declared.slot.Slot.{Slot}
 use Rattle.worlds.specs.Slots.{ClientSlot}
 use Rattle.worlds.specs.World.{WorldView}
 use Rattle.worlds.specs.Laws.{is_gone, chosen_list}
-use Rattle.one_server.specs.Saved.{IsSpelled, HasSaved, IsMet}
+use Rattle.one_server.specs.Saved.{IsSpelled, Has, HasOne, IsMet}
 use Rattle.one_server.specs.HeldLaws.{executor_record, lost_executors}
 use Rattle.one_server.specs.Fed.{fed_to, IsMoment}
 use Rattle.one_server.specs.Asked.{IsAskedRequest}
@@ -27,8 +28,10 @@ pub record IsRun (met : StateView → Type 0) (events : List Event) (w : WorldVi
   pub one_each : known_by run ≡ commits (chosen_list w)
   -- an executor had each state, committed or in its chain
   pub states_met : AreAll (made_in run) met
-  -- what an executor has committed, up, down or lost, is the state after so many rounds, whole
-  pub committed : (id : ℕ) (x : Durable) → HasSaved w id x → slice_get (states_of run) x.have.number ≡ Some x.have
+  -- each of the 2u + 1 executors, up, down or lost, has one saved state, which is the first one where it never saved
+  pub each_has_one : (id : ℕ) → id < member_count w.u → HasOne w id
+  -- what it has committed is the state after so many rounds, whole
+  pub committed : (id : ℕ) (x : Durable) → Has w id x → slice_get (states_of run) x.have.number ≡ Some x.have
   -- a round is of requests that their clients asked, as the bytes that they were fed spell
   pub asked : (r : Executed) (q : Request) → Contains run r → Contains r.batch.requests q → IsAskedRequest events q
   -- a request is answered at most once

@@ -9,7 +9,7 @@ use Rattle.exec_lines.specs.Record.{executor_text}
 use Rattle.exec_node.specs.Executor.{ExecutorView}
 use Rattle.one_run.specs.Run.{Executed}
 use Rattle.one_run.specs.Texts.{Distinct, IsTextOf}
-use Rattle.custody.specs.Durable.{Durable, executed_of, In, Keeps}
+use Rattle.custody.specs.Durable.{Durable, first_durable, executed_of, In, Keeps}
 use Rattle.worlds.specs.declared.slot.Slot.{Slot}
 use Rattle.worlds.specs.declared.slot.Slot.TheVariants.{Up, Down, Gone}
 use Rattle.worlds.specs.World.{WorldView}
@@ -43,6 +43,26 @@ pub record HasSaved (w : WorldView) (id : ℕ) (x : Durable) : Type 0 where
   pub slot : Slot ExecutorView
   pub there : slice_get w.executors id ≡ Some slot
   pub saved : IsSavedIn w.u id slot x
+
+-- what is found in a record: what it spells, or the first state where there is none
+abbrev pub FoundIn : ℕ → ℕ → Option (List ℕ) → Durable → Type 0
+FoundIn u id None x = x ≡ first_durable
+FoundIn u id (Some bytes) x = IsSpelled u id (Some bytes) x
+
+-- what an executor has, up, down or lost: by its state while it is up, and else what is found in its record
+abbrev pub IsHadIn : ℕ → ℕ → Slot ExecutorView → Durable → Type 0
+IsHadIn u id (Up e) x = saved_of e.state ≡ x
+IsHadIn u id (Down kept) x = FoundIn u id kept.saved x
+IsHadIn u id (Gone kept) x = FoundIn u id kept.saved x
+
+pub record Has (w : WorldView) (id : ℕ) (x : Durable) : Type 0 where
+  pub slot : Slot ExecutorView
+  pub there : slice_get w.executors id ≡ Some slot
+  pub had : IsHadIn w.u id slot x
+
+-- an executor has one saved state, and no other
+abbrev pub HasOne : WorldView → ℕ → Type 0
+HasOne w id = (x : Durable) × Has w id x × ((y : Durable) → Has w id y → y ≡ x)
 
 -- the state is committed, or in the chain, of an executor of this world
 abbrev pub IsKeptIn : WorldView → StateView → Type 0

@@ -1,7 +1,7 @@
 //! What holds of the executors of every world that is reached. The functions do nothing: what each says
 //! is its contract.
 
-ghost use Rattle.one_server.specs.HeldLaws.{OneIsSpelled, OneIsRead, WorldsAreOfExecutorMachines, MetAreToldApart, ChosenIsMadeInWorlds, CommittedIsChosenInWorlds, ExecutorsKeepInWorlds};
+ghost use Rattle.one_server.specs.HeldLaws.{OneIsSpelled, OneIsRead, WorldsAreOfExecutorMachines, MetAreToldApart, SavedIsHad, EachHasOneInWorlds, ChosenIsMadeInWorlds, CommittedIsChosenInWorlds, ExecutorsKeepInWorlds};
 
 /// The bytes of a record are the text of one saved state, where each tentative state in it is over just
 /// the state before it. Whoever reads them gets that state.
@@ -28,6 +28,13 @@ pub fn met_are_told_apart_in_worlds()
 /// state that the decrees before it stand for.
 pub fn chosen_is_made_in_worlds()
     ensures { ChosenIsMadeInWorlds }
+{}
+
+/// Each of the `2u + 1` executors, up, down or lost, has one saved state: what its state has while it is up,
+/// and else what its record spells, or the first state where it never saved.
+pub fn each_executor_has_one_state_in_worlds()
+    ensures saved { SavedIsHad }
+    ensures one { EachHasOneInWorlds }
 {}
 
 /// What an executor has committed, up, down or lost, is the first state, or a state that was met and of

@@ -15,8 +15,9 @@ mod laws;
 mod requests;
 
 pub use executors::{
-    chosen_is_made_in_worlds, committed_is_chosen_in_worlds, executors_keep_in_worlds,
-    met_are_told_apart_in_worlds, records_are_of_one_state, worlds_are_of_executor_machines,
+    chosen_is_made_in_worlds, committed_is_chosen_in_worlds, each_executor_has_one_state_in_worlds,
+    executors_keep_in_worlds, met_are_told_apart_in_worlds, records_are_of_one_state,
+    worlds_are_of_executor_machines,
 };
 pub use laws::{executors_keep_the_run, worlds_are_of_one_server};
 pub use requests::{

@@ -1,4 +1,4 @@
-ghost use Rattle.std.specs.Prelude.{◌≡◌, ◌*◌, ◌-◌, ◌^◌, ◌<◌, ◌≤◌, ◌⊎◌, Some, None, IfOk, IfErr, IsOk, OnErr, OnOk, Err, IsErr, IsTrue, not, length, true, []};
+ghost use Rattle.std.specs.Prelude.{◌≡◌, ◌*◌, ◌-◌, ◌^◌, ◌<◌, ◌≤◌, ◌⊎◌, Some, None, IfOk, IfErr, IsOk, OnErr, OnOk, Err, IsErr, IsTrue, not, length, true, false, []};
 ghost use Rattle.verifier.specs.Step.{fits_line};
 ghost use Rattle.verifier.specs.Record.{record_text, IsRecord};
 ghost use Rattle.verifier.specs.State.{VerifierState};
@@ -59,6 +59,8 @@ fn save<K: Keeper>(alloc: Global, u: u8, id: u8, state: &State, keeper: &mut K) 
     ensures stopped { result ≡ Err Fault.Stopped → (K.failed keeper.old < K.failed keeper.new) ⊎ (K.failed keeper.old ≡ 2 ^ 64 - 1) }
     ensures only { IfErr result (λ fault. (fault ≡ Fault.NoMemory) ⊎ (fault ≡ Fault.Stopped)) }
     ensures counted { K.failed keeper.old ≤ K.failed keeper.new }
+    ensures untried { K.failed keeper.new ≡ K.failed keeper.old → K.told keeper.new ≡ K.told keeper.old }
+    ensures spent { K.failed keeper.old < K.failed keeper.new → K.told keeper.new ≡ false }
 {
     let record = state.record(alloc, u, id)?;
     save_record(record, keeper)
@@ -100,7 +102,8 @@ impl<K: Keeper> Verifier<K> {
     /// BadRecord: the record is not one of this verifier. Stopped: there was no record, and the first
     /// save failed, or its failure could not be counted. NoMemory: an allocation failed, and no save
     /// failed. A refused call hands the keeper back with the record as before; one that had a record
-    /// is handed back untouched.
+    /// is handed back untouched. Whether the next save is set to fail stays as it was, unless a save
+    /// failed, which spends it.
     pub fn open(
         alloc: Global,
         u: u8,
@@ -117,6 +120,8 @@ impl<K: Keeper> Verifier<K> {
         ensures untouched { IsSome (K.saved keeper) → IfErr result (λ refused. refused.1 ≡ keeper) }
         ensures saved { IfErr result (λ refused. K.saved refused.1 ≡ K.saved keeper) }
         ensures counted { IfErr result (λ refused. K.failed keeper ≤ K.failed refused.1) }
+        ensures untried { IfErr result (λ refused. K.failed refused.1 ≡ K.failed keeper → K.told refused.1 ≡ K.told keeper) }
+        ensures spent { IfErr result (λ refused. K.failed keeper < K.failed refused.1 → K.told refused.1 ≡ false) }
         ensures only { IfErr result (λ refused. (refused.0 ≡ Fault.NoMemory) ⊎ (refused.0 ≡ Fault.BadRecord) ⊎ (refused.0 ≡ Fault.Stopped)) }
     {
         match stored(alloc, u, id, &keeper) {
@@ -141,6 +146,8 @@ impl<K: Keeper> Verifier<K> {
         ensures none_failed { IfErr result (λ refused. refused.0 ≡ Fault.NoMemory → K.failed refused.1 ≡ K.failed keeper) }
         ensures saved { IfErr result (λ refused. K.saved refused.1 ≡ K.saved keeper) }
         ensures counted { IfErr result (λ refused. K.failed keeper ≤ K.failed refused.1) }
+        ensures untried { IfErr result (λ refused. K.failed refused.1 ≡ K.failed keeper → K.told refused.1 ≡ K.told keeper) }
+        ensures spent { IfErr result (λ refused. K.failed keeper < K.failed refused.1 → K.told refused.1 ≡ false) }
     {
         let Ok(state) = State::first(alloc, u, id) else {
             return Err((Fault::NoMemory, keeper));
@@ -196,6 +203,8 @@ impl<K: Keeper> Verifier<K> {
         ensures same { OnErr result ((self.new.id ≡ self.old.id) × (self.new.u ≡ self.old.u)) }
         ensures old_record { OnErr result (self.new.saved ≡ self.old.saved) }
         ensures counted { self.old.failures ≤ self.new.failures }
+        ensures untried { self.new.failures ≡ self.old.failures → self.new.told ≡ self.old.told }
+        ensures spent { self.old.failures < self.new.failures → self.new.told ≡ false }
         ensures unsaved { (outcome self.old input).saves ≡ false → self.new.failures ≡ self.old.failures }
         ensures no_memory { result ≡ Err Fault.NoMemory → self.new.failures ≡ self.old.failures }
         ensures stopped { result ≡ Err Fault.Stopped → (self.old.failures < self.new.failures) ⊎ IsAtLimit self.old input }
@@ -215,7 +224,8 @@ impl<K: Keeper> Verifier<K> {
     /// After an error the verifier is stopped for good, and its record is the old one; where it was
     /// stopped before, nothing of it changes. Stopped: it was stopped before, or a save failed, or a
     /// counter is at its limit; NoMemory: an allocation failed in this call, and no save. A save
-    /// that the keeper was told to fail does, and none fails where the step saves nothing.
+    /// that is set to fail does, and none fails where the step saves nothing. Whether the next save is
+    /// set to fail stays as it was, unless a save failed, which spends it.
     pub fn handle(&mut self, alloc: Global, input: Input) -> Result<Vec<Letter<Ballot>>, Fault>
         ensures done { IfOk result (λ letters. self.new ≡ handled self.old input) }
         ensures letters { IfOk result (λ letters. letters.items ≡ (outcome self.old input).letters) }
@@ -227,6 +237,8 @@ impl<K: Keeper> Verifier<K> {
         ensures same { OnErr result ((self.new.id ≡ self.old.id) × (self.new.u ≡ self.old.u)) }
         ensures old_record { OnErr result (self.new.saved ≡ self.old.saved) }
         ensures counted { self.old.failures ≤ self.new.failures }
+        ensures untried { self.new.failures ≡ self.old.failures → self.new.told ≡ self.old.told }
+        ensures spent { self.old.failures < self.new.failures → self.new.told ≡ false }
         ensures unsaved { (outcome self.old input).saves ≡ false → self.new.failures ≡ self.old.failures }
 
         // When each comes.

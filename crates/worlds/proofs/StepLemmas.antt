@@ -1,5 +1,5 @@
 -- What an input and a restart lead to, by what a replica's calls say.
-use Rattle.std.proofs.Common.{◌≡◌, ◌≤◌, ℕ, Bool, true, false, List, [], Option, None, Some, Result, Ok, Err, refl, sym, ap, ◌∙◌, subst, inl, inr}
+use Rattle.std.proofs.Common.{◌≡◌, ◌<◌, ◌≤◌, ℕ, Bool, true, false, List, [], Option, None, Some, Result, Ok, Err, refl, sym, ap, ◌∙◌, subst, inl, inr}
 use Rattle.std.specs.Prelude.{◌&&◌, IsTrue, IsOk, IsErr, not, is_none}
 use Rattle.keeper.specs.Kept.{Kept}
 use Rattle.decrees.specs.declared.ballot.Ballot.{Ballot}
@@ -72,13 +72,13 @@ pub verifier_settles : (v now : VerifierView) (x : of_verifier.Input) (letters :
 verifier_settles v now x letters does = inl (does.0, ap Up does.1, does.2)
 
 pub verifier_stops : (v now : VerifierView) (x : of_verifier.Input) → VerifierStops v x now → VerifierSettles (Up v) x (Down (verifier_kept now)) []
-verifier_stops v now x stops = inr (stops.0, (verifier_kept now, refl, refl, record { record_is = inl stops.1; counted = stops.2 }))
+verifier_stops v now x stops = inr (stops.0, (verifier_kept now, refl, refl, record { record_is = inl stops.1; counted = stops.2; untried = stops.3.0; spent = stops.3.1 }))
 
 pub executor_settles : (e now : ExecutorView) (x : of_executor.Input) (letters : List (Letter Body)) → ExecutorDoes e x now letters → ExecutorSettles (Up e) x (Up now) letters
 executor_settles e now x letters does = inl (does.0, ap Up does.1, does.2)
 
 pub executor_stops : (e now : ExecutorView) (x : of_executor.Input) → ExecutorStops e x now → ExecutorSettles (Up e) x (Down (executor_kept now)) []
-executor_stops e now x stops = inr (stops.0, (executor_kept now, refl, refl, record { record_is = inl stops.1; counted = stops.2 }))
+executor_stops e now x stops = inr (stops.0, (executor_kept now, refl, refl, record { record_is = inl stops.1; counted = stops.2; untried = stops.3.0; spent = stops.3.1 }))
 
 new_is_untold : (saved : Option (List ℕ)) (told : Bool) → (saved ≡ None → IsTrue told → ⊥) → IsTrue (not (told && is_none saved))
 new_is_untold None told h = not_both told true (λ t s. h refl t)
@@ -89,8 +89,9 @@ pub verifier_opens : {T E : Type 0} (u id : ℕ) (kept : Kept) (v : VerifierView
 verifier_opens {T} {E} u id kept v letters r x is fails opens =
     inl (new_is_untold kept.saved kept.fails_next (λ n t. cc (subst (λ (y : Result T E). IsErr y) is (fails n t))), (v, refl, opens))
 
-pub verifier_refused : (u id : ℕ) (kept left : Kept) → left.saved ≡ kept.saved → kept.failures ≤ left.failures → VerifierReopens u id (Down kept) (Down left) []
-verifier_refused u id kept left same counted = inr (left, refl, refl, record { record_is = inl same; counted = counted })
+pub verifier_refused : (u id : ℕ) (kept left : Kept) → left.saved ≡ kept.saved → kept.failures ≤ left.failures → (left.failures ≡ kept.failures → left.fails_next ≡ kept.fails_next) → (kept.failures < left.failures → left.fails_next ≡ false)
+    → VerifierReopens u id (Down kept) (Down left) []
+verifier_refused u id kept left same counted untried spent = inr (left, refl, refl, record { record_is = inl same; counted = counted; untried = untried; spent = spent })
 
 pub verifier_opened_up : (u id : ℕ) (saved : Option (List ℕ)) (failures : ℕ) (told : Bool) (v : VerifierView) (letters : List (Letter Ballot)) → Opens u id saved failures told v letters → IsTrue v.up
 verifier_opened_up u id None failures told v letters opens = ap (λ (y : VerifierView). y.up) opens.0
@@ -101,8 +102,9 @@ pub executor_opens : {T E : Type 0} (u id : ℕ) (kept : Kept) (e : ExecutorView
 executor_opens {T} {E} u id kept e letters r x is fails opens =
     inl (new_is_untold kept.saved kept.fails_next (λ n t. cc (subst (λ (y : Result T E). IsErr y) is (fails (subst (IsToBeSaved u id) (sym n) tt) t))), (e, refl, opens))
 
-pub executor_refused : (u id : ℕ) (kept left : Kept) → left.saved ≡ kept.saved → kept.failures ≤ left.failures → ExecutorReopens u id (Down kept) (Down left) []
-executor_refused u id kept left same counted = inr (left, refl, refl, record { record_is = inl same; counted = counted })
+pub executor_refused : (u id : ℕ) (kept left : Kept) → left.saved ≡ kept.saved → kept.failures ≤ left.failures → (left.failures ≡ kept.failures → left.fails_next ≡ kept.fails_next) → (kept.failures < left.failures → left.fails_next ≡ false)
+    → ExecutorReopens u id (Down kept) (Down left) []
+executor_refused u id kept left same counted untried spent = inr (left, refl, refl, record { record_is = inl same; counted = counted; untried = untried; spent = spent })
 
 pub executor_opened_up : (u id : ℕ) (saved : Option (List ℕ)) (failures : ℕ) (told : Bool) (e : ExecutorView) (letters : List (Letter Body)) → OpensExecutor u id saved failures told e letters → IsTrue e.up
 executor_opened_up u id None failures told e letters opens = ap (λ (y : ExecutorView). y.up) opens.0

@@ -1,5 +1,5 @@
 -- What becomes of one node in an event.
-use Rattle.std.specs.Prelude.{◌≡◌, ◌≤◌, ◌⊎◌, ℕ, ◌&&◌, Bool, true, false, not, IsTrue, List, [], ◌++◌, Option, None, Some, is_none}
+use Rattle.std.specs.Prelude.{◌≡◌, ◌<◌, ◌≤◌, ◌⊎◌, ℕ, ◌&&◌, Bool, true, false, not, IsTrue, List, [], ◌++◌, Option, None, Some, is_none}
 use Rattle.keeper.specs.Kept.{Kept}
 use Rattle.decrees.specs.declared.ballot.Ballot.{Ballot}
 use Rattle.decrees.specs.declared.node.Letter.{Letter}
@@ -55,16 +55,19 @@ told_slot tells (Up n) = Up (tells n)
 told_slot tells (Down kept) = Down kept
 told_slot tells (Gone kept) = Gone kept
 
--- A replica stopped in a step: its record is the one before or the one after, whole.
-pub record StopsIn (before after : Option (List ℕ)) (failures : ℕ) (kept : Kept) : Type 0 where
-  pub record_is : (kept.saved ≡ before) ⊎ (kept.saved ≡ after)
-  pub counted : failures ≤ kept.failures
+-- A replica stopped in a step, and what its keeper had is `old`: its record is the one before or the one after, whole.
+pub record StopsIn (old : Kept) (after : Option (List ℕ)) (kept : Kept) : Type 0 where
+  pub record_is : (kept.saved ≡ old.saved) ⊎ (kept.saved ≡ after)
+  pub counted : old.failures ≤ kept.failures
+  -- whether the next save is to fail is as before, unless a save failed, which spends it
+  pub untried : kept.failures ≡ old.failures → kept.fails_next ≡ old.fails_next
+  pub spent : old.failures < kept.failures → kept.fails_next ≡ false
 
 -- A verifier is given an input. It does the step, which it does not where that saves and the save is to fail; or, where the input fits a line, it stops, and nothing is sent.
 abbrev pub VerifierSettles : Slot VerifierView → of_verifier.Input → Slot VerifierView → List (Letter Ballot) → Type 0
 VerifierSettles (Up v) x now new =
     (IsTrue (not (v.told && (outcome v x).saves)) × (now ≡ Up (handled v x)) × (new ≡ (outcome v x).letters))
-    ⊎ (IsTrue (fits_line v.state x) × ((kept : Kept) × (now ≡ Down kept) × (new ≡ []) × StopsIn v.saved (record_after v (outcome v x)) v.failures kept))
+    ⊎ (IsTrue (fits_line v.state x) × ((kept : Kept) × (now ≡ Down kept) × (new ≡ []) × StopsIn (verifier_kept v) (record_after v (outcome v x)) kept))
 VerifierSettles (Down kept) x now new = (now ≡ Down kept) × (new ≡ [])
 VerifierSettles (Gone kept) x now new = (now ≡ Gone kept) × (new ≡ [])
 
@@ -72,7 +75,7 @@ VerifierSettles (Gone kept) x now new = (now ≡ Gone kept) × (new ≡ [])
 abbrev pub ExecutorSettles : Slot ExecutorView → of_executor.Input → Slot ExecutorView → List (Letter Body) → Type 0
 ExecutorSettles (Up e) x now new =
     (IsTrue (not (e.told && (executor_outcome e x).saves)) × (now ≡ Up (executor_handled e x)) × (new ≡ (executor_outcome e x).letters))
-    ⊎ (IsTrue (fits_a_line e.u e.id e.state x) × ((kept : Kept) × (now ≡ Down kept) × (new ≡ []) × StopsIn e.saved (executor_record_after e (executor_outcome e x)) e.failures kept))
+    ⊎ (IsTrue (fits_a_line e.u e.id e.state x) × ((kept : Kept) × (now ≡ Down kept) × (new ≡ []) × StopsIn (executor_kept e) (executor_record_after e (executor_outcome e x)) kept))
 ExecutorSettles (Down kept) x now new = (now ≡ Down kept) × (new ≡ [])
 ExecutorSettles (Gone kept) x now new = (now ≡ Gone kept) × (new ≡ [])
 
@@ -86,7 +89,7 @@ abbrev pub VerifierReopens : ℕ → ℕ → Slot VerifierView → Slot Verifier
 VerifierReopens u id (Up v) now new = (now ≡ Up v) × (new ≡ [])
 VerifierReopens u id (Down kept) now new =
     (IsTrue (not (kept.fails_next && is_none kept.saved)) × ((v : VerifierView) × (now ≡ Up v) × Opens u id kept.saved kept.failures kept.fails_next v new))
-    ⊎ ((left : Kept) × (now ≡ Down left) × (new ≡ []) × StopsIn kept.saved (first_if_none kept.saved (record_text u id (new_state u id))) kept.failures left)
+    ⊎ ((left : Kept) × (now ≡ Down left) × (new ≡ []) × StopsIn kept (first_if_none kept.saved (record_text u id (new_state u id))) left)
 VerifierReopens u id (Gone kept) now new = (now ≡ Gone kept) × (new ≡ [])
 
 -- An executor alike.
@@ -94,7 +97,7 @@ abbrev pub ExecutorReopens : ℕ → ℕ → Slot ExecutorView → Slot Executor
 ExecutorReopens u id (Up e) now new = (now ≡ Up e) × (new ≡ [])
 ExecutorReopens u id (Down kept) now new =
     (IsTrue (not (kept.fails_next && is_none kept.saved)) × ((e : ExecutorView) × (now ≡ Up e) × OpensExecutor u id kept.saved kept.failures kept.fails_next e new))
-    ⊎ ((left : Kept) × (now ≡ Down left) × (new ≡ []) × StopsIn kept.saved (first_if_none kept.saved (executor_text u id new_executor)) kept.failures left)
+    ⊎ ((left : Kept) × (now ≡ Down left) × (new ≡ []) × StopsIn kept (first_if_none kept.saved (executor_text u id new_executor)) left)
 ExecutorReopens u id (Gone kept) now new = (now ≡ Gone kept) × (new ≡ [])
 
 -- A client's part of the server, and the bytes that its client was given so far.

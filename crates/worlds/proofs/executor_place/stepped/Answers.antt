@@ -24,5 +24,6 @@ returns-in_default c =
             (λ r. c.in_default.not-Unfit (cc (c.in-Err.is, (c.handle.ensures.refused c.requires r).0))),
         c.in-Err.ensures.old_record,
         c.handle.ensures.counted,
+        (c.handle.ensures.untried, c.handle.ensures.spent),
       );
     }
