@@ -4,6 +4,8 @@ use std::test::Fail;
 
 mod line;
 mod play;
+mod records;
+mod refusals;
 mod schedules;
 
 #[test]

@@ -1,0 +1,119 @@
+//! Records that are cut at each byte, and those of which each byte is another in turn.
+
+use base::Text;
+use decrees::{Ballot, Letter, Node};
+use keeper::{Keeper, MemKeeper};
+use proto::Fault;
+use std::alloc::{AllocError, Global};
+use std::test::Fail;
+use verifier::{Input, Verifier};
+
+/// A keeper that has these bytes as its record.
+pub fn keeper_of(alloc: Global, bytes: &[u8]) -> Result<MemKeeper, Fault> {
+    let mut text = Text::new(alloc);
+    text.put(bytes)?;
+    let mut keeper = MemKeeper::new();
+    if keeper.failures() == 0 {
+        keeper.save(text)?;
+    }
+    Ok(keeper)
+}
+
+/// The record that is kept; where there is none, nothing.
+pub fn record(alloc: Global, keeper: &MemKeeper) -> Result<Vec<u8>, Fault> {
+    match keeper.load() {
+        None => Ok(Vec::new(alloc)),
+        Some(text) => Ok(text.joined(alloc)?),
+    }
+}
+
+/// A step that saves the record, of which nothing but the view changes.
+fn save(alloc: Global, verifier: &mut Verifier<MemKeeper>) -> Result<(), Fault> {
+    let change = Letter {
+        from: Node::Verifier(2),
+        to: Node::Verifier(1),
+        body: Ballot::Change { view: u64::MAX - 1 },
+    };
+    drop(verifier.handle(alloc, Input::Letter(change))?);
+    Ok(())
+}
+
+/// Whether the record that the verifier saves is this one, but for the view.
+fn saves(alloc: Global, verifier: Verifier<MemKeeper>, bytes: &[u8]) -> Result<bool, Fault> {
+    let mut verifier = verifier;
+    save(alloc, &mut verifier)?;
+    let saved = record(alloc, &verifier.end())?;
+    Ok(saved.get(..4) == bytes.get(..4) && saved.get(12..) == bytes.get(12..))
+}
+
+/// Whether verifier 1 of three refuses the bytes, which are kept then, or goes on from them, if it may, as
+/// the one whose record they are.
+fn is_opened(alloc: Global, bytes: &[u8], may_be: bool) -> Result<bool, Fault> {
+    match Verifier::open(alloc, 1, 1, keeper_of(alloc, bytes)?) {
+        Ok((verifier, _)) => Ok(saves(alloc, verifier, bytes)? && may_be),
+        Err((fault, keeper)) => {
+            Ok(fault == Fault::BadRecord && record(alloc, &keeper)?.as_slice() == bytes)
+        }
+    }
+}
+
+/// The first byte at which a front of the record is taken.
+fn first_front(alloc: Global, bytes: &[u8]) -> Result<Option<usize>, Fault> {
+    for at in 0..bytes.len() {
+        if !is_opened(alloc, &bytes[..at], false)? {
+            return Ok(Some(at));
+        }
+    }
+    Ok(None)
+}
+
+/// Whether the record is no other verifier's where one byte of it is another.
+fn is_told_apart(alloc: Global, bytes: &[u8], at: usize, turned: u8) -> Result<bool, Fault> {
+    let mut other = Vec::from_slice(alloc, bytes)?;
+    if let Some(byte) = other.get_mut(at) {
+        *byte ^= turned;
+    }
+    is_opened(alloc, &other, true)
+}
+
+/// The first byte at which another one is not told apart.
+fn first_change(alloc: Global, bytes: &[u8]) -> Result<Option<usize>, Fault> {
+    for at in 0..bytes.len() {
+        for turned in [1u8, 2, 128, 255] {
+            if !is_told_apart(alloc, bytes, at, turned)? {
+                return Ok(Some(at));
+            }
+        }
+    }
+    Ok(None)
+}
+
+/// Verifier 1 of three is in view 7, has accepted a Commit of number 2 in view 4, and knows a Rollback and
+/// the Commit of number 1.
+fn known(alloc: Global) -> Result<Vec<u8>, AllocError> {
+    let mut bytes = Vec::new(alloc);
+    bytes.extend_from_slice(b"\x01\x56\x01\x01\x00\x00\x00\x00\x00\x00\x00\x07".as_slice())?;
+    bytes.extend_from_slice(b"\x01\x00\x00\x00\x00\x00\x00\x00\x04".as_slice())?;
+    bytes.extend_from_slice(b"\x01\x00\x00\x00\x00\x00\x00\x00\x02".as_slice())?;
+    bytes.extend_from_slice(&[9; 32])?;
+    bytes.extend_from_slice(
+        b"\x00\x00\x00\x02\x00\x01\x00\x00\x00\x00\x00\x00\x00\x01".as_slice(),
+    )?;
+    bytes.extend_from_slice(&[7; 32])?;
+    Ok(bytes)
+}
+
+#[test]
+fn no_front_of_a_record_is_one(rt: HostRuntime) -> Result<(), Fail> {
+    let bytes = known(rt.alloc())?;
+    assert!(rt; is_opened(rt.alloc(), &bytes, true)?);
+    assert_eq!(rt; first_front(rt.alloc(), &bytes)?, None);
+    Ok(())
+}
+
+#[test]
+fn a_changed_record_is_refused_or_is_another(rt: HostRuntime) -> Result<(), Fail> {
+    let bytes = known(rt.alloc())?;
+    assert_eq!(rt; first_change(rt.alloc(), &bytes)?, None);
+    Ok(())
+}

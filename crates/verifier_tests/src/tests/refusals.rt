@@ -1,0 +1,173 @@
+//! Each line of a verifier where memory may be refused: where a growth is, the verifier is stopped and has its
+//! old record. `scripts/refusals` refuses each growth in turn. `NoMemory` ends a row that was refused some, and
+//! `NotOpen` one in which something else does not hold.
+
+use super::records::{keeper_of, record};
+use decrees::{Ballot, Decree, Letter, Node};
+use keeper::MemKeeper;
+use proto::Fault;
+use std::alloc::Global;
+use std::test::Fail;
+use token::Token;
+use verifier::{Input, Verifier};
+
+/// What verifier 0 of three is given and by whom, how many letters it answers, and whether it saves.
+type Line = (Node, Ballot, usize, bool);
+
+const DECREE: Decree = Decree::Commit {
+    n: 1,
+    token: Token([7; 32]),
+};
+
+const VOTE: Ballot = Ballot::Token {
+    epoch: 1,
+    n: 1,
+    previous: Token([0; 32]),
+    token: Token([7; 32]),
+};
+
+const ACCEPTED: Ballot = Ballot::Accepted {
+    view: 0,
+    place: 1,
+    decree: DECREE,
+};
+
+const LINES: [Line; 13] = [
+    (Node::Executor(0), VOTE, 0, false),
+    (Node::Executor(1), VOTE, 3, false),
+    (
+        Node::Verifier(0),
+        Ballot::Accept {
+            view: 0,
+            place: 1,
+            decree: DECREE,
+        },
+        3,
+        true,
+    ),
+    (Node::Verifier(0), ACCEPTED, 0, false),
+    (Node::Verifier(1), ACCEPTED, 5, true),
+    (Node::Executor(2), Ballot::Ask { place: 1 }, 1, false),
+    (
+        Node::Verifier(2),
+        Ballot::Decided {
+            place: 5,
+            decree: DECREE,
+        },
+        1,
+        false,
+    ),
+    (
+        Node::Verifier(2),
+        Ballot::Decided {
+            place: 2,
+            decree: Decree::Rollback,
+        },
+        0,
+        true,
+    ),
+    (Node::Verifier(1), Ballot::Change { view: 1 }, 1, true),
+    (
+        Node::Verifier(2),
+        Ballot::Accept {
+            view: 2,
+            place: 3,
+            decree: Decree::Rollback,
+        },
+        3,
+        true,
+    ),
+    (
+        Node::Verifier(2),
+        Ballot::Promise {
+            view: 3,
+            known: 2,
+            accepted: None,
+        },
+        0,
+        false,
+    ),
+    (Node::Verifier(1), Ballot::Ask { place: 1 }, 2, false),
+    (
+        Node::Verifier(1),
+        Ballot::Accept {
+            view: 2,
+            place: 1,
+            decree: DECREE,
+        },
+        1,
+        false,
+    ),
+];
+
+fn holds(is_so: bool) -> Result<(), Fault> {
+    if is_so { Ok(()) } else { Err(Fault::NotOpen) }
+}
+
+/// Does the input: the letters that were expected, and the record is another where it is to be saved; or
+/// `NoMemory`, and then it is stopped with its old record.
+fn does(
+    alloc: Global,
+    verifier: &mut Verifier<MemKeeper>,
+    input: Input,
+    letters: usize,
+    saves: bool,
+) -> Result<(), Fault> {
+    let before = record(alloc, verifier.keeper())?;
+    let answer = verifier.handle(alloc, input);
+    let after = record(alloc, verifier.keeper())?;
+    let is_same = before == after;
+    match answer {
+        Ok(sent) => holds(sent.len() == letters && is_same != saves),
+        Err(fault) => {
+            holds(fault == Fault::NoMemory && is_same && !verifier.is_up())?;
+            Err(fault)
+        }
+    }
+}
+
+fn each_line(alloc: Global, verifier: &mut Verifier<MemKeeper>) -> Result<(), Fault> {
+    for (from, body, letters, saves) in LINES {
+        let to = Node::Verifier(0);
+        let letter = Input::Letter(Letter { from, to, body });
+        does(alloc, verifier, letter, letters, saves)?;
+    }
+    does(alloc, verifier, Input::Suspect, 3, true)
+}
+
+/// The verifier of the keeper; where it is refused, its keeper has the record that it had.
+fn opened(alloc: Global, keeper: MemKeeper, letters: usize) -> Result<Verifier<MemKeeper>, Fault> {
+    let before = record(alloc, &keeper)?;
+    match Verifier::open(alloc, 1, 0, keeper) {
+        Ok((verifier, sent)) => {
+            holds(sent.len() == letters)?;
+            Ok(verifier)
+        }
+        Err((fault, keeper)) => {
+            holds(fault == Fault::NoMemory && record(alloc, &keeper)? == before)?;
+            Err(fault)
+        }
+    }
+}
+
+/// Each line, and a restart, after which it asks the others for decrees.
+fn row(alloc: Global) -> Result<(), Fault> {
+    let mut verifier = opened(alloc, MemKeeper::new(), 0)?;
+    each_line(alloc, &mut verifier)?;
+    let bytes = record(alloc, &verifier.end())?;
+    opened(alloc, keeper_of(alloc, &bytes)?, 2)?;
+    Ok(())
+}
+
+#[test]
+fn each_line_answers_with_ample_memory(rt: HostRuntime) -> Result<(), Fail> {
+    assert!(rt; row(rt.alloc()) == Ok(()));
+    Ok(())
+}
+
+#[test]
+fn a_refused_growth_stops_it_with_its_old_record(rt: HostRuntime) -> Result<(), Fail> {
+    let row = row(rt.alloc());
+    assert!(rt; row == Ok(()) || row == Err(Fault::NoMemory));
+    Ok(())
+}
