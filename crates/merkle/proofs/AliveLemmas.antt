@@ -2,10 +2,11 @@
 use Rattle.std.proofs.Common.{◌≡◌, ℕ, suc, ◌+◌, ◌<◌, ◌≤◌, Bool, true, false, cond, List, [], ◌∷◌, ◌++◌, length, Option, Some, None, refl, sym, ap, ◌∙◌, subst, arith, length-append}
 use Rattle.std.specs.Prelude.{min, IfNone, IfSome}
 use Rattle.std.proofs.lemmas.Bool.{ltb-true, lt-ltb}
-use Rattle.merkle.specs.Shape.{Shape, none, one, fork, pairs, AllOn, Stands, earlier, least}
+use Rattle.merkle.specs.Shape.{Shape, none, one, fork, pairs, AllOn, IsTrie, earlier, least}
 use Rattle.merkle.specs.Remove.{kind}
 use Rattle.merkle.specs.Alive.{is_above, alive, IsPartOf, IsLessOf, IsAlive}
 use Rattle.merkle.proofs.PutLemmas.{all_append, all_left, all_right}
+use Rattle.merkle.proofs.RemoveLemmas.{two_of_kinds, small_trie}
 
 above_both : (moment : ℕ) (a b : Option ℕ) → is_above moment (earlier a b) ≡ true → (is_above moment a ≡ true) × (is_above moment b ≡ true)
 above_both moment None b h = (refl, h)
@@ -39,17 +40,17 @@ module _ {K V : Type 0} (due : V → Option ℕ) (moment : ℕ) where
         | false ↦ fewer_on test side es all.1
       ]
 
-  module _ (bit : K → ℕ → Bool) (most : ℕ) where
-    pub nothing_due : (depth : ℕ) (s : Shape K V) → Stands bit most depth s → IsPartOf due bit most depth moment s s
-    nothing_due depth s st = record { same = refl; sides = λ test side all. all; stands = st }
+  module _ (bit : K → ℕ → Bool) (bits : ℕ) where
+    pub nothing_due : (depth : ℕ) (s : Shape K V) → IsTrie bit bits depth s → IsPartOf due bit bits depth moment s s
+    nothing_due depth s st = record { same = refl; sides = λ test side all. all; trie = st; fewer = omega arith }
 
     -- a leaf that is due
-    pub due_leaf : (depth : ℕ) (s : Shape K V) → kind s ≤ 1 → is_above moment (least due s) ≡ false → IsPartOf due bit most depth moment s none
-    due_leaf depth none h e = record { same = refl; sides = λ test side all. tt; stands = tt }
-    due_leaf depth (one k v) h e = record { same = ap (λ b. cond b ((k, v) ∷ []) []) (sym e); sides = λ test side all. tt; stands = tt }
+    pub due_leaf : (depth : ℕ) (s : Shape K V) → kind s ≤ 1 → is_above moment (least due s) ≡ false → IsPartOf due bit bits depth moment s none
+    due_leaf depth none h e = record { same = refl; sides = λ test side all. tt; trie = tt; fewer = omega arith }
+    due_leaf depth (one k v) h e = record { same = ap (λ b. cond b ((k, v) ∷ []) []) (sym e); sides = λ test side all. tt; trie = tt; fewer = omega arith }
     due_leaf depth (fork l r) h e = absurd (omega arith)
 
-    pub less_of : (depth : ℕ) (l r m s : Shape K V) → Stands bit most depth (fork l r) → IsPartOf due bit most (depth + 1) moment l m → IsPartOf due bit most (depth + 1) moment r s → IsLessOf due bit most depth moment (fork l r) m s
+    pub less_of : (depth : ℕ) (l r m s : Shape K V) → IsTrie bit bits depth (fork l r) → IsPartOf due bit bits (depth + 1) moment l m → IsPartOf due bit bits (depth + 1) moment r s → IsLessOf due bit bits depth moment (fork l r) m s
     less_of depth l r m s st p q =
         record {
           same = alive_append (pairs m) (pairs s) ∙ (λ i. p.same i ++ q.same i) ∙ sym (alive_append (pairs l) (pairs r));
@@ -57,31 +58,25 @@ module _ {K V : Type 0} (due : V → Option ℕ) (moment : ℕ) where
           within = st.0;
           lefts = p.sides (λ k. bit k depth) false st.2;
           rights = q.sides (λ k. bit k depth) true st.3;
-          left_stands = subst (λ (d : ℕ). Stands bit most d m) (omega arith) p.stands;
-          right_stands = subst (λ (d : ℕ). Stands bit most d s) (omega arith) q.stands;
+          left_trie = subst (λ (d : ℕ). IsTrie bit bits d m) (omega arith) p.trie;
+          right_trie = subst (λ (d : ℕ). IsTrie bit bits d s) (omega arith) q.trie;
+          fewer = (let a : length (pairs m) ≤ length (pairs l) = p.fewer in let b : length (pairs s) ≤ length (pairs r) = q.fewer in omega (arith, length-append (pairs m) (pairs s), length-append (pairs l) (pairs r)));
         }
 
-    two_of_kinds : (depth : ℕ) (l r : Shape K V) → Stands bit most depth l → Stands bit most depth r → 2 ≤ kind l + kind r → 2 ≤ length (pairs l ++ pairs r)
-    two_of_kinds depth none none p q n = absurd (omega arith)
-    two_of_kinds depth none (one k v) p q n = absurd (omega arith)
-    two_of_kinds depth none (fork l r) p q n = q.1
-    two_of_kinds depth (one k v) none p q n = absurd (omega arith)
-    two_of_kinds depth (one k v) (one j w) p q n = omega arith
-    two_of_kinds depth (one k v) (fork l r) p q n = (let two : 2 ≤ length (pairs l ++ pairs r) = q.1 in omega arith)
-    two_of_kinds depth (fork l r) s p q n = (let two : 2 ≤ length (pairs l ++ pairs r) = p.1 in omega (arith, length-append (pairs l ++ pairs r) (pairs s)))
-
-    pub fork_stays : (depth : ℕ) (old l r : Shape K V) → IsLessOf due bit most depth moment old l r → 2 ≤ kind l + kind r → IsPartOf due bit most depth moment old (fork l r)
+    pub fork_stays : (depth : ℕ) (old l r : Shape K V) → IsLessOf due bit bits depth moment old l r → 2 ≤ kind l + kind r → IsPartOf due bit bits depth moment old (fork l r)
     fork_stays depth old l r is n =
-        record { same = is.same; sides = is.sides; stands = (is.within, two_of_kinds (suc depth) l r is.left_stands is.right_stands n, is.lefts, is.rights, is.left_stands, is.right_stands) }
+        record { same = is.same; sides = is.sides; trie = (is.within, two_of_kinds bit bits (suc depth) l r is.left_trie is.right_trie n, is.lefts, is.rights, is.left_trie, is.right_trie); fewer = is.fewer }
 
-    small_stands : (depth : ℕ) (s : Shape K V) → kind s ≤ 1 → Stands bit most depth s
-    small_stands depth none e = tt
-    small_stands depth (one k v) e = tt
-    small_stands depth (fork l r) e = absurd (omega arith)
-
-    pub small_left : (depth : ℕ) (old l r s : Shape K V) → IsLessOf due bit most depth moment old l r → pairs s ≡ pairs (fork l r) → kind s ≤ 1 → IsPartOf due bit most depth moment old s
+    pub small_left : (depth : ℕ) (old l r s : Shape K V) → IsLessOf due bit bits depth moment old l r → pairs s ≡ pairs (fork l r) → kind s ≤ 1 → IsPartOf due bit bits depth moment old s
     small_left depth old l r s is e few =
-        record { same = ap (alive due moment) e ∙ is.same; sides = λ test side all. subst (AllOn test side) (sym e) (is.sides test side all); stands = small_stands depth s few }
+        let same : length (pairs s) ≡ length (pairs l ++ pairs r) = ap length e in
+        let fewer : length (pairs l ++ pairs r) ≤ length (pairs old) = is.fewer in
+        record {
+          same = ap (alive due moment) e ∙ is.same;
+          sides = λ test side all. subst (AllOn test side) (sym e) (is.sides test side all);
+          trie = small_trie bit bits depth s few;
+          fewer = omega arith;
+        }
 
   pub both_alive : (l r : Shape K V) → IsAlive due moment l → IsAlive due moment r → IsAlive due moment (fork l r)
   both_alive l r p q = alive_append (pairs l) (pairs r) ∙ (λ i. p i ++ q i)

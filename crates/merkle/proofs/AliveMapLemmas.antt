@@ -9,7 +9,7 @@ use Rattle.std.specs.FinMap.{FinMap, entries, from_sorted, find, is_sorted, IsAn
 use Rattle.std.specs.FinMap.Entries.{below_all}
 use Rattle.std.proofs.lemmas.Bool.{and_parts, and_from}
 use Rattle.merkle.specs.Alive.{is_above, alive, alive_map}
-use Rattle.merkle.specs.Shape.{Shape, pairs, Stands}
+use Rattle.merkle.specs.Shape.{Shape, pairs, IsTrie}
 use Rattle.merkle.proofs.FindLemmas.{equal_of}
 use Rattle.merkle.proofs.MapLemmas.{Unique, unique_pairs}
 
@@ -28,7 +28,7 @@ module _ {K V : Type 0} {R : K → K → Ordering} (o : IsTotalOrder R) (same : 
   absent : (q : K) (e : K × V) (es : List (K × V)) → R q e.0 ≡ Equal → find R e.0 es ≡ None → find R q es ≡ None
   absent q e es t h = ap (λ k. find R k es) (same q e.0 t) ∙ h
 
-  -- of entries of which no key stands twice
+  -- of entries of which no key trie twice
   find_alive : (q : K) (es : List (K × V)) → Unique R es → find R q (filter (λ e. p e.1) es) ≡ if_above p (find R q es)
   unfolding if_above
   find_alive q [] u = refl
@@ -82,5 +82,5 @@ module _ {K V : Type 0} {R : K → K → Ordering} (o : IsTotalOrder R) (same : 
       ∙ sym (get-from_sorted R (filter (λ e. p e.1) (entries m)) q rises ∙ find_alive q (entries m) (sorted_unique (entries m) (entries_sorted m))))
 
 module _ {K V : Type 0} {R : K → K → Ordering} (o : IsTotalOrder R) (same : IsAntisymmetric R) where
-  pub dropped : (due : V → Option ℕ) (moment : ℕ) (bit : K → ℕ → Bool) (most : ℕ) (s : Shape K V) (new : List (K × V)) → Stands bit most 0 s → new ≡ alive due moment (pairs s) → from_entries {R = R} new ≡ alive_map due moment (from_entries (pairs s))
-  dropped due moment bit most s new st e = ap (λ es. from_entries {R = R} es) e ∙ alive_of_map o same (λ v. is_above moment (due v)) (pairs s) (unique_pairs o same bit most 0 s st)
+  pub dropped : (due : V → Option ℕ) (moment : ℕ) (bit : K → ℕ → Bool) (bits : ℕ) (s : Shape K V) (new : List (K × V)) → IsTrie bit bits 0 s → new ≡ alive due moment (pairs s) → from_entries {R = R} new ≡ alive_map due moment (from_entries (pairs s))
+  dropped due moment bit bits s new st e = ap (λ es. from_entries {R = R} es) e ∙ alive_of_map o same (λ v. is_above moment (due v)) (pairs s) (unique_pairs o same bit bits 0 s st)

@@ -1,146 +1,127 @@
--- A digest tells the entries that it is of.
-use Rattle.std.proofs.Common.{◌≡◌, ℕ, zero, suc, Bool, true, false, cond, not, List, [], ◌∷◌, ◌++◌, length, None, refl, sym, ap, ◌∙◌, arith}
-use Rattle.std.specs.Prelude.{Contains, T}
+-- A digest tells the map that it is of.
+use Rattle.std.proofs.Common.{◌≡◌, ℕ, zero, suc, Bool, true, false, cond, not, List, [], ◌∷◌, ◌++◌, length, Option, Some, None, refl, sym, ap, ◌∙◌, arith, append-nil}
+use Rattle.std.specs.Prelude.{Contains}
 use Rattle.std.proofs.lemmas.List.Elements.{Contains-append_left, Contains-append_right}
 use Rattle.std.specs.declared.cmp.Ordering.{Ordering}
 use Rattle.std.specs.declared.cmp.Ordering.TheVariants.{Equal}
 use Rattle.std.specs.Cmp.{IsTotalOrder}
-use Rattle.std.specs.FinMap.{entries, find, is_sorted, IsAntisymmetric, entries_sorted, same_entries_map}
-use Rattle.std.specs.FinMap.Entries.{is_sorted-where_key, find-where_key, same_entries}
+use Rattle.std.specs.FinMap.{FinMap, entries, find, IsAntisymmetric, entries_sorted, same_entries_map}
+use Rattle.std.specs.FinMap.Entries.{find-where_key, same_entries}
 use Rattle.sha2.specs.Sha256.{sha256}
 use Rattle.sha2.proofs.Facts256.{length-sha256}
-use Rattle.merkle.specs.Shape.{leaf_text, fork_text}
-use Rattle.merkle.specs.Digest.{on_side, chain_digest, digest_at, chain_texts, texts_at, tree_digest}
+use Rattle.wire.specs.FrontLaws.{split_at}
+use Rattle.merkle.specs.Shape.{Shape, none, one, fork, pairs, leaf_text, fork_text, hash_of}
+use Rattle.merkle.specs.Digest.{on_side, fork_over, chain_of, tree_of, texts_of, map_tree, map_texts, map_digest}
 use Rattle.merkle.specs.Laws.{Distinct, AreAmong, IsExact, TellsMaps}
-
-head_of : List ℕ → ℕ
-head_of [] = 0
-head_of (x ∷ xs) = suc x
+use Rattle.merkle.proofs.PutLemmas.{or_else, find_append}
 
 tail_of : List ℕ → List ℕ
 tail_of [] = []
 tail_of (x ∷ xs) = xs
 
--- texts of one length before others
-fronts : (xs ys us bs : List ℕ) → length xs ≡ length ys → xs ++ us ≡ ys ++ bs → (xs ≡ ys) × (us ≡ bs)
-unfolding head_of tail_of
-fronts [] [] us bs l e = (refl, e)
-fronts [] (y ∷ ys) us bs l e = absurd (omega arith)
-fronts (x ∷ xs) [] us bs l e = absurd (omega arith)
-fronts (x ∷ xs) (y ∷ ys) us bs l e =
-    let heads : suc x ≡ suc y = ap head_of e in
-    let head : x ≡ y = omega arith in
-    let rest = fronts xs ys us bs (omega arith) (ap tail_of e) in
-    ((λ i. head i ∷ rest.0 i), rest.1)
-
 two_fronts : (a b c d : List ℕ) → length a ≡ 32 → length c ≡ 32 → fork_text a b ≡ fork_text c d → (a ≡ c) × (b ≡ d)
 unfolding tail_of
-two_fronts a b c d k l e = fronts a c b d (k ∙ sym l) (ap tail_of e)
+two_fronts a b c d k l e = split_at a c b d (k ∙ sym l) (ap tail_of e)
 
 -- texts of other marks differ
 not_leaf : (xs ys : List ℕ) → 1 ∷ xs ≡ 5 ∷ ys → ⊥
 not_leaf xs ys e = (let h : ◌≡◌ {A = ℕ} 1 5 = cc e in cc h)
 
 not_empty : (x : ℕ) (xs : List ℕ) → [] ≡ x ∷ xs → ⊥
-unfolding head_of
-not_empty x xs e = (let h : 0 ≡ suc x = ap head_of e in absurd (omega arith))
+not_empty x xs e = cc
 
-in_head : (x : List ℕ) (xs : List (List ℕ)) → Contains (x ∷ xs) x
-in_head x xs = (0, omega arith, refl)
+module _ (among : List ℕ → Type 0) where
+  first_among : (x : List ℕ) (xs : List (List ℕ)) → AreAmong (x ∷ xs) among → among x
+  first_among x xs h = h.each x (0, omega arith, refl)
 
-among_head : (x : List ℕ) (xs all : List (List ℕ)) → AreAmong (x ∷ xs) all → Contains all x
-among_head x xs all h = h.each x (in_head x xs)
+  rest_among : (x : List ℕ) (xs : List (List ℕ)) → AreAmong (x ∷ xs) among → AreAmong xs among
+  rest_among x xs h = record { each = later }
+    where
+      later : (y : List ℕ) → Contains xs y → among y
+      later y (k, lt, e) = h.each y (suc k, omega (arith, lt), e)
 
-among_tail : (x : List ℕ) (xs all : List (List ℕ)) → AreAmong (x ∷ xs) all → AreAmong xs all
-among_tail x xs all h = record { each = later }
-  where
-    later : (y : List ℕ) → Contains xs y → Contains all y
-    later y (k, lt, e) = h.each y (suc k, omega (arith, lt), e)
+  left_among : (xs ys : List (List ℕ)) → AreAmong (xs ++ ys) among → AreAmong xs among
+  left_among xs ys h = record { each = λ x c. h.each x (Contains-append_left xs ys x c) }
 
-among_left : (xs ys all : List (List ℕ)) → AreAmong (xs ++ ys) all → AreAmong xs all
-among_left xs ys all h = record { each = λ x c. h.each x (Contains-append_left xs ys x c) }
+  right_among : (xs ys : List (List ℕ)) → AreAmong (xs ++ ys) among → AreAmong ys among
+  right_among xs ys h = record { each = λ x c. h.each x (Contains-append_right xs ys x c) }
 
-among_right : (xs ys all : List (List ℕ)) → AreAmong (xs ++ ys) all → AreAmong ys all
-among_right xs ys all h = record { each = λ x c. h.each x (Contains-append_right xs ys x c) }
+module _ {K V : Type 0} (text : K → V → List ℕ) where
+  length-hash : (s : Shape K V) → length (hash_of text s) ≡ 32
+  length-hash none = length-sha256 []
+  length-hash (one k v) = length-sha256 _
+  length-hash (fork l r) = length-sha256 _
 
-module _ {K V : Type 0} (text : K → V → List ℕ) (exact : IsExact text) (texts : List (List ℕ)) (distinct : Distinct texts) where
-  one_leaf : (e f : K × V) → Contains texts (leaf_text text e.0 e.1) → Contains texts (leaf_text text f.0 f.1) → sha256 (leaf_text text e.0 e.1) ≡ sha256 (leaf_text text f.0 f.1) → e ≡ f
-  unfolding tail_of
-  one_leaf e f p q d =
-      let both = exact e.0 f.0 e.1 f.1 (ap tail_of (distinct _ _ p q d)) in
-      λ i. (both.0 i, both.1 i)
+  module _ (exact : IsExact text) (among : List ℕ → Type 0) (distinct : Distinct among) where
+    same_leaf : (k j : K) (v w : V) → leaf_text text k v ≡ leaf_text text j w → one k v ≡ one j w
+    unfolding tail_of
+    same_leaf k j v w e = (let both = exact k j v w (ap tail_of e) in λ i. one (both.0 i) (both.1 i))
 
-  length-chain : (es : List (K × V)) → length (chain_digest text es) ≡ 32
-  length-chain [] = length-sha256 []
-  length-chain (e ∷ es) = length-sha256 _
+    -- trees of one digest are one tree
+    told : (s t : Shape K V) → AreAmong (texts_of text s) among → AreAmong (texts_of text t) among → hash_of text s ≡ hash_of text t → s ≡ t
+    told none none p q d = refl
+    told none (one k v) p q d = absurd (not_empty 5 _ (distinct _ _ (first_among among _ _ p) (first_among among _ _ q) d))
+    told none (fork l r) p q d = absurd (not_empty 1 _ (distinct _ _ (first_among among _ _ p) (first_among among _ _ q) d))
+    told (one k v) none p q d = absurd (not_empty 5 _ (sym (distinct _ _ (first_among among _ _ p) (first_among among _ _ q) d)))
+    told (one k v) (one j w) p q d = same_leaf k j v w (distinct _ _ (first_among among _ _ p) (first_among among _ _ q) d)
+    told (one k v) (fork l r) p q d = absurd (not_leaf _ _ (sym (distinct _ _ (first_among among _ _ p) (first_among among _ _ q) d)))
+    told (fork l r) none p q d = absurd (not_empty 1 _ (sym (distinct _ _ (first_among among _ _ p) (first_among among _ _ q) d)))
+    told (fork l r) (one k v) p q d = absurd (not_leaf _ _ (distinct _ _ (first_among among _ _ p) (first_among among _ _ q) d))
+    told (fork l r) (fork m n) p q d =
+        let both = two_fronts (hash_of text l) (hash_of text r) (hash_of text m) (hash_of text n) (length-hash l) (length-hash m) (distinct _ _ (first_among among _ _ p) (first_among among _ _ q) d) in
+        let p' = rest_among among _ _ p in
+        let q' = rest_among among _ _ q in
+        let left = told l m (left_among among (texts_of text l) (texts_of text r) p') (left_among among (texts_of text m) (texts_of text n) q') both.0 in
+        let right = told r n (right_among among (texts_of text l) (texts_of text r) p') (right_among among (texts_of text m) (texts_of text n) q') both.1 in
+        λ i. fork (left i) (right i)
 
-  same_chain : (xs ys : List (K × V)) → AreAmong (chain_texts text xs) texts → AreAmong (chain_texts text ys) texts → chain_digest text xs ≡ chain_digest text ys → xs ≡ ys
-  same_chain [] [] p q d = refl
-  same_chain [] (y ∷ ys) p q d = absurd (not_empty 1 _ (distinct _ _ (among_head _ _ texts p) (among_head _ _ texts q) d))
-  same_chain (x ∷ xs) [] p q d = absurd (not_empty 1 _ (sym (distinct _ _ (among_head _ _ texts p) (among_head _ _ texts q) d)))
-  same_chain (x ∷ xs) (y ∷ ys) p q d =
-      let both = two_fronts _ _ _ _ (length-sha256 (leaf_text text x.0 x.1)) (length-sha256 (leaf_text text y.0 y.1)) (distinct _ _ (among_head _ _ texts p) (among_head _ _ texts q) d) in
-      let p' = among_tail _ _ texts p in
-      let q' = among_tail _ _ texts q in
-      let first = one_leaf x y (among_head _ _ texts p') (among_head _ _ texts q') both.0 in
-      let rest = same_chain xs ys (among_tail _ _ texts p') (among_tail _ _ texts q') both.1 in
-      λ i. first i ∷ rest i
+pairs_over : {K V : Type 0} (l r : Shape K V) → pairs (fork_over l r) ≡ pairs l ++ pairs r
+pairs_over none r = refl
+pairs_over (one k v) none = refl
+pairs_over (one k v) (one j w) = refl
+pairs_over (one k v) (fork m n) = refl
+pairs_over (fork l m) none = sym (append-nil (pairs (fork l m)))
+pairs_over (fork l m) (one j w) = refl
+pairs_over (fork l m) (fork n r) = refl
 
-  length-digest : (bit : K → ℕ → Bool) (left depth : ℕ) (es : List (K × V)) → length (digest_at text bit left depth es) ≡ 32
-  length-digest bit left depth [] = length-sha256 []
-  length-digest bit left depth (e ∷ []) = length-sha256 _
-  length-digest bit zero depth (e ∷ f ∷ es) = length-sha256 _
-  length-digest bit (suc left) depth (e ∷ f ∷ es) = length-sha256 _
+pairs_chain : {K V : Type 0} (es : List (K × V)) → pairs (chain_of es) ≡ es
+pairs_chain [] = refl
+pairs_chain (e ∷ es) = ap (λ xs. e ∷ xs) (pairs_chain es)
 
-  module _ {R : K → K → Ordering} (o : IsTotalOrder R) (same : IsAntisymmetric R) where
-    -- entries are known by those on both sides
-    same_sides : (test : K → Bool) (xs ys : List (K × V)) → T (is_sorted R xs) → T (is_sorted R ys) → on_side (λ k. not (test k)) xs ≡ on_side (λ k. not (test k)) ys → on_side test xs ≡ on_side test ys → xs ≡ ys
-    same_sides test xs ys g h l r = same_entries R o same xs ys g h (λ q. on q (test q) refl)
-      where
-        alike : (p : K → Bool) (q x : K) → R q x ≡ Equal → p x ≡ p q
-        alike p q x t = ap p (sym (same q x t))
+module _ {K V : Type 0} {R : K → K → Ordering} (same : IsAntisymmetric R) (bit : K → ℕ → Bool) where
+  -- what is found on both sides is what is found in all
+  on_sides : (test : K → Bool) (q : K) (es : List (K × V)) → or_else (find R q (on_side (λ k. not (test k)) es)) (find R q (on_side test es)) ≡ find R q es
+  on_sides test q es =
+      (λ i. or_else (find-where_key R (λ k. not (test k)) q (λ x t. ap (λ k. not (test k)) (sym (same q x t))) es i) (find-where_key R test q (λ x t. ap test (sym (same q x t))) es i))
+      ∙ by (test q) (find R q es)
+    where
+      by : (b : Bool) (o : Option V) → or_else (cond (not b) o None) (cond b o None) ≡ o
+      by true o = refl
+      by false None = refl
+      by false (Some v) = refl
 
-        on : (q : K) (b : Bool) → test q ≡ b → find R q xs ≡ find R q ys
-        on q true e =
-            sym (find-where_key R test q (alike test q) xs ∙ ap (λ b. cond b (find R q xs) None) e)
-            ∙ ap (find R q) r ∙ (find-where_key R test q (alike test q) ys ∙ ap (λ b. cond b (find R q ys) None) e)
-        on q false e =
-            let p : K → Bool = λ k. not (test k) in
-            sym (find-where_key R p q (alike p q) xs ∙ ap (λ b. cond (not b) (find R q xs) None) e)
-            ∙ ap (find R q) l ∙ (find-where_key R p q (alike p q) ys ∙ ap (λ b. cond (not b) (find R q ys) None) e)
+  -- the tree of entries has just these
+  found : (left depth : ℕ) (q : K) (es : List (K × V)) → find R q (pairs (tree_of bit left depth es)) ≡ find R q es
+  found left depth q [] = refl
+  found left depth q (e ∷ []) = refl
+  found zero depth q (e ∷ f ∷ es) = ap (find R q) (pairs_chain (e ∷ f ∷ es))
+  found (suc left) depth q (e ∷ f ∷ es) =
+      let test : K → Bool = λ k. bit k depth in
+      let other : K → Bool = λ k. not (bit k depth) in
+      let all : List (K × V) = e ∷ f ∷ es in
+      let l = tree_of bit left (suc depth) (on_side other all) in
+      let r = tree_of bit left (suc depth) (on_side test all) in
+      ap (find R q) (pairs_over l r) ∙ find_append R q (pairs l) (pairs r)
+      ∙ (λ i. or_else (found left (suc depth) q (on_side other all) i) (found left (suc depth) q (on_side test all) i))
+      ∙ on_sides test q all
 
-    told : (bit : K → ℕ → Bool) (left depth : ℕ) (xs ys : List (K × V)) → T (is_sorted R xs) → T (is_sorted R ys) → AreAmong (texts_at text bit left depth xs) texts → AreAmong (texts_at text bit left depth ys) texts
-        → digest_at text bit left depth xs ≡ digest_at text bit left depth ys → xs ≡ ys
-    told bit left depth [] [] g h p q d = refl
-    told bit left depth [] (y ∷ []) g h p q d = absurd (not_empty 5 _ (distinct _ _ (among_head _ _ texts p) (among_head _ _ texts q) d))
-    told bit zero depth [] (y ∷ z ∷ ys) g h p q d = absurd (not_empty 1 _ (distinct _ _ (among_head _ _ texts p) (among_head _ _ texts q) d))
-    told bit (suc left) depth [] (y ∷ z ∷ ys) g h p q d = absurd (not_empty 1 _ (distinct _ _ (among_head _ _ texts p) (among_head _ _ texts q) d))
-    told bit left depth (x ∷ []) [] g h p q d = absurd (not_empty 5 _ (sym (distinct _ _ (among_head _ _ texts p) (among_head _ _ texts q) d)))
-    told bit left depth (x ∷ []) (y ∷ []) g h p q d = (let first = one_leaf x y (among_head _ _ texts p) (among_head _ _ texts q) d in λ i. first i ∷ [])
-    told bit zero depth (x ∷ []) (y ∷ z ∷ ys) g h p q d = absurd (not_leaf _ _ (sym (distinct _ _ (among_head _ _ texts p) (among_head _ _ texts q) d)))
-    told bit (suc left) depth (x ∷ []) (y ∷ z ∷ ys) g h p q d = absurd (not_leaf _ _ (sym (distinct _ _ (among_head _ _ texts p) (among_head _ _ texts q) d)))
-    told bit zero depth (x ∷ w ∷ xs) [] g h p q d = absurd (not_empty 1 _ (sym (distinct _ _ (among_head _ _ texts p) (among_head _ _ texts q) d)))
-    told bit (suc left) depth (x ∷ w ∷ xs) [] g h p q d = absurd (not_empty 1 _ (sym (distinct _ _ (among_head _ _ texts p) (among_head _ _ texts q) d)))
-    told bit zero depth (x ∷ w ∷ xs) (y ∷ []) g h p q d = absurd (not_leaf _ _ (distinct _ _ (among_head _ _ texts p) (among_head _ _ texts q) d))
-    told bit (suc left) depth (x ∷ w ∷ xs) (y ∷ []) g h p q d = absurd (not_leaf _ _ (distinct _ _ (among_head _ _ texts p) (among_head _ _ texts q) d))
-    told bit zero depth (x ∷ w ∷ xs) (y ∷ z ∷ ys) g h p q d = same_chain (x ∷ w ∷ xs) (y ∷ z ∷ ys) p q d
-    told bit (suc left) depth (x ∷ w ∷ xs) (y ∷ z ∷ ys) g h p q d =
-        let test : K → Bool = λ k. bit k depth in
-        let other : K → Bool = λ k. not (bit k depth) in
-        let es : List (K × V) = x ∷ w ∷ xs in
-        let fs : List (K × V) = y ∷ z ∷ ys in
-        let both = two_fronts _ _ _ _ (length-digest bit left (suc depth) (on_side other es)) (length-digest bit left (suc depth) (on_side other fs)) (distinct _ _ (among_head _ _ texts p) (among_head _ _ texts q) d) in
-        let p' = among_tail _ _ texts p in
-        let q' = among_tail _ _ texts q in
-        same_sides test es fs g h
-        (told bit left (suc depth) (on_side other es) (on_side other fs) (is_sorted-where_key R other es g) (is_sorted-where_key R other fs h)
-        (among_left (texts_at text bit left (suc depth) (on_side other es)) (texts_at text bit left (suc depth) (on_side test es)) texts p')
-        (among_left (texts_at text bit left (suc depth) (on_side other fs)) (texts_at text bit left (suc depth) (on_side test fs)) texts q') both.0)
-        (told bit left (suc depth) (on_side test es) (on_side test fs) (is_sorted-where_key R test es g) (is_sorted-where_key R test fs h)
-        (among_right (texts_at text bit left (suc depth) (on_side other es)) (texts_at text bit left (suc depth) (on_side test es)) texts p')
-        (among_right (texts_at text bit left (suc depth) (on_side other fs)) (texts_at text bit left (suc depth) (on_side test fs)) texts q') both.1)
+pub same_maps : {K V : Type 0} {R : K → K → Ordering} → IsTotalOrder R → IsAntisymmetric R → (text : K → V → List ℕ) (bit : K → ℕ → Bool) (bits : ℕ) → IsExact text → (among : List ℕ → Type 0) → Distinct among → (m n : FinMap R V)
+    → AreAmong (map_texts text bit bits m) among → AreAmong (map_texts text bit bits n) among → map_digest text bit bits m ≡ map_digest text bit bits n → m ≡ n
+unfolding map_tree
+same_maps {R = R} o same text bit bits exact among distinct m n p q d =
+    let e = told text exact among distinct (tree_of bit bits 0 (entries m)) (tree_of bit bits 0 (entries n)) p q d in
+    same_entries_map m n (same_entries R o same (entries m) (entries n) (entries_sorted m) (entries_sorted n) (λ k.
+    sym (found same bit bits 0 k (entries m)) ∙ ap (λ s. find R k (pairs s)) e ∙ found same bit bits 0 k (entries n)))
 
-pub tells_maps : {K V : Type 0} {R : K → K → Ordering} → IsTotalOrder R → IsAntisymmetric R → (text : K → V → List ℕ) (bit : K → ℕ → Bool) (most : ℕ) → TellsMaps {V = V} R text bit most
-unfolding tree_digest
-tells_maps o same text bit most exact texts distinct m n p q d =
-    same_entries_map m n (told text exact texts distinct o same bit most 0 (entries m) (entries n) (entries_sorted m) (entries_sorted n) p q d)
+pub tells_maps : {K V : Type 0} {R : K → K → Ordering} → IsTotalOrder R → IsAntisymmetric R → (text : K → V → List ℕ) (bit : K → ℕ → Bool) (bits : ℕ) → TellsMaps {V = V} R text bit bits
+tells_maps o same text bit bits exact texts distinct m n p q d = same_maps o same text bit bits exact (Contains texts) distinct m n p q d

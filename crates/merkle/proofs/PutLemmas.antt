@@ -5,7 +5,7 @@ use Rattle.std.specs.declared.cmp.Ordering.{Ordering}
 use Rattle.std.specs.declared.cmp.Ordering.TheVariants.{Equal}
 use Rattle.std.specs.Ordering.{eq_by_cmp, is_eq}
 use Rattle.std.specs.FinMap.{find, IsAntisymmetric}
-use Rattle.merkle.specs.Shape.{Shape, none, one, fork, pairs, AllOn, Stands}
+use Rattle.merkle.specs.Shape.{Shape, none, one, fork, pairs, AllOn, IsTrie}
 use Rattle.merkle.specs.Put.{IsPut, IsPutInto}
 use Rattle.merkle.proofs.FindLemmas.{equal_of, not_found}
 
@@ -111,42 +111,42 @@ module _ {K V : Type 0} {R : K → K → Ordering} (same : IsAntisymmetric R) wh
       through q false h = refl
       through q true h = ap (λ o. or_else o (Some v)) (not_found same test false q l all (ap test (same q k (equal_of _ h)) ∙ on))
 
-module _ {K V : Type 0} {R : K → K → Ordering} (same : IsAntisymmetric R) (bit : K → ℕ → Bool) (most : ℕ) where
-  pub into_left : (k : K) (v : V) (depth : ℕ) (l m r : Shape K V) → bit k depth ≡ false → Stands bit most depth (fork l r) → IsPutInto R bit most (depth + 1) k v l m → IsPutInto R bit most depth k v (fork l r) (fork m r)
+module _ {K V : Type 0} {R : K → K → Ordering} (same : IsAntisymmetric R) (bit : K → ℕ → Bool) (bits : ℕ) where
+  pub into_left : (k : K) (v : V) (depth : ℕ) (l m r : Shape K V) → bit k depth ≡ false → IsTrie bit bits depth (fork l r) → IsPutInto R bit bits (depth + 1) k v l m → IsPutInto R bit bits depth k v (fork l r) (fork m r)
   into_left k v depth l m r at old is =
       let h : 2 ≤ length (pairs l ++ pairs r) = old.1 in
       let longer : length (pairs l) ≤ length (pairs m) = not_fewer (is_some (find R k (pairs l))) (length (pairs m)) (length (pairs l)) is.put.count in
       record {
         put = put_in_left same (λ x. bit x depth) k v (pairs l) (pairs m) (pairs r) old.3 at is.put;
-        stands = (old.0, omega (arith, length-append (pairs l) (pairs r), length-append (pairs m) (pairs r)), is.put.sides (λ x. bit x depth) false old.2 at, old.3, subst (λ (d : ℕ). Stands bit most d m) (omega arith) is.stands, old.5);
+        trie = (old.0, omega (arith, length-append (pairs l) (pairs r), length-append (pairs m) (pairs r)), is.put.sides (λ x. bit x depth) false old.2 at, old.3, subst (λ (d : ℕ). IsTrie bit bits d m) (omega arith) is.trie, old.5);
       }
 
-  pub into_right : (k : K) (v : V) (depth : ℕ) (l r s : Shape K V) → bit k depth ≡ true → Stands bit most depth (fork l r) → IsPutInto R bit most (depth + 1) k v r s → IsPutInto R bit most depth k v (fork l r) (fork l s)
+  pub into_right : (k : K) (v : V) (depth : ℕ) (l r s : Shape K V) → bit k depth ≡ true → IsTrie bit bits depth (fork l r) → IsPutInto R bit bits (depth + 1) k v r s → IsPutInto R bit bits depth k v (fork l r) (fork l s)
   into_right k v depth l r s at old is =
       let h : 2 ≤ length (pairs l ++ pairs r) = old.1 in
       let longer : length (pairs r) ≤ length (pairs s) = not_fewer (is_some (find R k (pairs r))) (length (pairs s)) (length (pairs r)) is.put.count in
       record {
         put = put_in_right same (λ x. bit x depth) k v (pairs l) (pairs r) (pairs s) old.2 at is.put;
-        stands = (old.0, omega (arith, length-append (pairs l) (pairs r), length-append (pairs l) (pairs s)), old.2, is.put.sides (λ x. bit x depth) true old.3 at, old.4, subst (λ (d : ℕ). Stands bit most d s) (omega arith) is.stands);
+        trie = (old.0, omega (arith, length-append (pairs l) (pairs r), length-append (pairs l) (pairs s)), old.2, is.put.sides (λ x. bit x depth) true old.3 at, old.4, subst (λ (d : ℕ). IsTrie bit bits d s) (omega arith) is.trie);
       }
 
   -- two leaves whose bits here are alike
-  pub both_right : (k : K) (v : V) (depth : ℕ) (e : K × V) (s : Shape K V) → depth < most → eq_by_cmp R k e.0 ≡ false → bit e.0 depth ≡ true → bit k depth ≡ true → IsPutInto R bit most (depth + 1) k v (one e.0 e.1) s → IsPutInto R bit most depth k v (one e.0 e.1) (fork none s)
+  pub both_right : (k : K) (v : V) (depth : ℕ) (e : K × V) (s : Shape K V) → depth < bits → eq_by_cmp R k e.0 ≡ false → bit e.0 depth ≡ true → bit k depth ≡ true → IsPutInto R bit bits (depth + 1) k v (one e.0 e.1) s → IsPutInto R bit bits depth k v (one e.0 e.1) (fork none s)
   both_right k v depth e s below apart first second is =
       let many : 2 ≡ length (pairs s) = two same k e apart ∙ sym is.put.count in
-      record { put = is.put; stands = (below, omega arith, tt, is.put.sides (λ x. bit x depth) true (first, tt) second, tt, subst (λ (d : ℕ). Stands bit most d s) (omega arith) is.stands) }
+      record { put = is.put; trie = (below, omega arith, tt, is.put.sides (λ x. bit x depth) true (first, tt) second, tt, subst (λ (d : ℕ). IsTrie bit bits d s) (omega arith) is.trie) }
 
-  pub both_left : (k : K) (v : V) (depth : ℕ) (e : K × V) (s : Shape K V) → depth < most → eq_by_cmp R k e.0 ≡ false → bit e.0 depth ≡ false → bit k depth ≡ false → IsPutInto R bit most (depth + 1) k v (one e.0 e.1) s → IsPutInto R bit most depth k v (one e.0 e.1) (fork s none)
+  pub both_left : (k : K) (v : V) (depth : ℕ) (e : K × V) (s : Shape K V) → depth < bits → eq_by_cmp R k e.0 ≡ false → bit e.0 depth ≡ false → bit k depth ≡ false → IsPutInto R bit bits (depth + 1) k v (one e.0 e.1) s → IsPutInto R bit bits depth k v (one e.0 e.1) (fork s none)
   both_left k v depth e s below apart first second is =
       let many : 2 ≡ length (pairs s) = two same k e apart ∙ sym is.put.count in
       record {
         put = put_in_left same (λ x. bit x depth) k v (e ∷ []) (pairs s) [] tt second is.put;
-        stands = (below, omega (arith, length-append (pairs s) []), is.put.sides (λ x. bit x depth) false (first, tt) second, tt, subst (λ (d : ℕ). Stands bit most d s) (omega arith) is.stands, tt);
+        trie = (below, omega (arith, length-append (pairs s) []), is.put.sides (λ x. bit x depth) false (first, tt) second, tt, subst (λ (d : ℕ). IsTrie bit bits d s) (omega arith) is.trie, tt);
       }
 
   -- two leaves whose bits here differ
-  pub new_left : (k : K) (v : V) (depth : ℕ) (e : K × V) → depth < most → eq_by_cmp R k e.0 ≡ false → bit e.0 depth ≡ true → bit k depth ≡ false → IsPutInto R bit most depth k v (one e.0 e.1) (fork (one k v) (one e.0 e.1))
-  new_left k v depth e below apart first second = record { put = put_first same k v e apart; stands = (below, omega arith, (second, tt), (first, tt), tt, tt) }
+  pub new_left : (k : K) (v : V) (depth : ℕ) (e : K × V) → depth < bits → eq_by_cmp R k e.0 ≡ false → bit e.0 depth ≡ true → bit k depth ≡ false → IsPutInto R bit bits depth k v (one e.0 e.1) (fork (one k v) (one e.0 e.1))
+  new_left k v depth e below apart first second = record { put = put_first same k v e apart; trie = (below, omega arith, (second, tt), (first, tt), tt, tt) }
 
-  pub new_right : (k : K) (v : V) (depth : ℕ) (e : K × V) → depth < most → eq_by_cmp R k e.0 ≡ false → bit e.0 depth ≡ false → bit k depth ≡ true → IsPutInto R bit most depth k v (one e.0 e.1) (fork (one e.0 e.1) (one k v))
-  new_right k v depth e below apart first second = record { put = put_last same k v e apart; stands = (below, omega arith, (first, tt), (second, tt), tt, tt) }
+  pub new_right : (k : K) (v : V) (depth : ℕ) (e : K × V) → depth < bits → eq_by_cmp R k e.0 ≡ false → bit e.0 depth ≡ false → bit k depth ≡ true → IsPutInto R bit bits depth k v (one e.0 e.1) (fork (one e.0 e.1) (one k v))
+  new_right k v depth e below apart first second = record { put = put_last same k v e apart; trie = (below, omega arith, (first, tt), (second, tt), tt, tt) }

@@ -1,12 +1,23 @@
 ghost use Rattle.std.specs.Prelude.{◌≡◌};
-ghost use Rattle.merkle.specs.Shape.{earlier as earlier_of, least, fork};
-ghost use Rattle.merkle.specs.Tree.{shape, Keeps};
+ghost use Rattle.merkle.specs.Shape.{earlier as earlier_of, least};
+ghost use Rattle.merkle.specs.Tree.{shape, IsCached};
+ghost use Rattle.merkle.specs.Alive.{is_above as above};
 
 use crate::fork::Tree;
 use crate::key::{TreeKey, TreeValue};
 
+/// Whether a due time is above the moment, or there is none.
+pub(crate) fn is_above(moment: u64, due: Option<u64>) -> bool
+    ensures { result ≡ above moment due }
+{
+    match due {
+        None => true,
+        Some(time) => moment < time,
+    }
+}
+
 /// The earlier of two moments.
-fn earlier(a: Option<u64>, b: Option<u64>) -> Option<u64>
+pub(crate) fn earlier(a: Option<u64>, b: Option<u64>) -> Option<u64>
     ensures { result ≡ earlier_of a b }
 {
     match a {
@@ -18,26 +29,14 @@ fn earlier(a: Option<u64>, b: Option<u64>) -> Option<u64>
     }
 }
 
-/// When the first of its values goes that does.
+/// The first due time of the entries.
 pub(crate) fn due_of<K: TreeKey, V: TreeValue<K>>(tree: &Tree<K, V>) -> Option<u64>
-    requires { Keeps K.hash V.text V.due tree.now }
+    requires { IsCached K.hash V.text V.due tree.now }
     ensures { result ≡ least V.due (shape tree.now) }
 {
     match tree {
         Tree::Empty => None,
-        Tree::Leaf(leaf) => leaf.value.due(),
-        Tree::Fork(fork) => fork.due,
+        Tree::Leaf(leaf) => leaf.entry.value().due(),
+        Tree::Fork(fork) => earlier(fork.left_due, fork.right_due),
     }
-}
-
-/// The same of two trees.
-pub(crate) fn due_of_both<K: TreeKey, V: TreeValue<K>>(
-    left: &Tree<K, V>,
-    right: &Tree<K, V>,
-) -> Option<u64>
-    requires left { Keeps K.hash V.text V.due left.now }
-    requires right { Keeps K.hash V.text V.due right.now }
-    ensures { result ≡ least V.due (fork (shape left.now) (shape right.now)) }
-{
-    earlier(due_of(left), due_of(right))
 }

@@ -6,5 +6,5 @@ use crate::key::{TreeKey, TreeValue};
 
 /// Maps that have one digest are one map, where digests tell apart the texts that they are made of.
 pub fn digests_tell_maps<K: TreeKey, V: TreeValue<K>>()
-    ensures { TellsMaps {V = V} K.cmp V.text K.bit K.MOST }
+    ensures { TellsMaps {V = V} K.cmp V.text K.bit K.BITS }
 {}

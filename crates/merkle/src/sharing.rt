@@ -1,14 +1,14 @@
-ghost use Rattle.merkle.specs.Tree.{IsSame, IsSameFork};
+ghost use Rattle.merkle.specs.Tree.{IsSameTree, IsSameFork};
 
 use crate::fork::{Fork, Tree};
 use std::alloc::AllocError;
 use std::sync::Arc;
 
 impl<K: Drop, V: Drop> Clone for Tree<K, V> {
-    ghost is_clone = { IsSame };
+    ghost is_clone = { IsSameTree };
 
-    /// The same tree, shared. It takes no memory, and fails only where a node has too many clones to
-    /// be counted.
+    /// The same tree, shared. It takes no memory, and fails only if a node has too many clones to be
+    /// counted.
     fn clone(&self) -> Result<Tree<K, V>, AllocError> {
         match self {
             Tree::Empty => Ok(Tree::Empty),
@@ -27,7 +27,8 @@ impl<K: Drop, V: Drop> Clone for Fork<K, V> {
             left: self.left.clone()?,
             right: self.right.clone()?,
             digest: self.digest,
-            due: self.due,
+            left_due: self.left_due,
+            right_due: self.right_due,
         })
     }
 }

@@ -1,13 +1,10 @@
-use Rattle.std.proofs.Common.{ap, ◌∙◌}
-use Rattle.std.proofs.lemmas.Result.{on_ok_weaker}
-use Rattle.std.specs.FinMap.{remove, from_entries}
-use Rattle.merkle.specs.Shape.{pairs}
-use Rattle.merkle.specs.Tree.{shape}
-use Rattle.merkle.proofs.RemoveLemmas.{removal_removes}
+use Rattle.std.proofs.Common.{sym, ap, ◌∙◌}
+use Rattle.std.specs.Prelude.{is_some}
+use Rattle.std.specs.FinMap.{find}
+use Rattle.merkle.proofs.RemoveLemmas.{absent_removed, none_of}
 use Rattle.merkle.proofs.merkle_map.MerkleMap.remove.Goals as goal
 
-pub returns-clause-ok : goal.returns-clause-ok
-returns-clause-ok g c =
-    on_ok_weaker c.remove_at.result (λ is.
-    removal_removes g.met.K.TreeKey.only_equal_tie g.met.K.Ord.total c.args.key.now (pairs (shape c.self.inside.tree)) (pairs (shape c.remove_at.new.tree)) is.removed
-    ∙ ap (λ es. remove (from_entries {R = g.K.Ord.cmp} es) c.args.key.now) c.self.view_is) c.remove_at.ensures.ok
+pub returns-else-found-clause-ok : goal.returns-else-found-clause-ok
+returns-else-found-clause-ok g c =
+    absent_removed g.met.K.TreeKey.only_equal_tie g.met.K.Ord.total c.args.key.now c.args.self.now
+    (none_of _ (ap (λ es. is_some (find g.K.Ord.cmp c.args.key.now es)) (sym c.self.view_is) ∙ sym c.has_key-found.ensures ∙ c.if-found.false))

@@ -1,7 +1,7 @@
 ghost use Rattle.std.specs.Prelude.{OnOk};
 ghost use Rattle.wire.specs.Record.{Puts};
 ghost use Rattle.merkle.specs.Shape.{leaf_text};
-ghost use Rattle.merkle.specs.ItemValue.{item_leaf};
+ghost use Rattle.merkle.specs.ItemLeaf.{item_leaf};
 
 use crate::key::TreeValue;
 use items::Item;
@@ -10,7 +10,7 @@ use sha2::{Digest, Sha256};
 use wire::{Record, Sink};
 
 impl TreeValue<Key> for Item {
-    ghost use Rattle.merkle.specs.ItemValue.{item_leaf};
+    ghost use Rattle.merkle.specs.ItemLeaf.{item_leaf};
 
     ghost text = { item_leaf };
 

@@ -1,4 +1,4 @@
--- Paths tell names apart.
+-- Paths tell keys apart.
 use Rattle.std.proofs.Common.{◌≡◌, ℕ, zero, suc, ◌+◌, ◌*◌, ◌<◌, ◌≤◌, ◌/◌, ◌%◌, true, List, [], ◌∷◌, ◌++◌, length, refl, sym, ap, ◌∙◌, arith}
 use Rattle.std.proofs.lemmas.Nat.{and_mask}
 use Rattle.std.proofs.lemmas.Bool.{and_parts, leb-true}
@@ -8,14 +8,14 @@ use Rattle.proto.specs.Key.{IsKey, is_key_byte}
 use Rattle.std.specs.Prelude.{slice_index, nat_eq, bit_and}
 use Rattle.sha2.specs.Sha256.{sha256}
 use Rattle.sha2.proofs.Facts256.{length-sha256}
-use Rattle.merkle.specs.ItemPath.{IsName, path, bit_of, path_bit}
+use Rattle.merkle.specs.KeyPath.{IsShort, path, bit_of, path_bit}
 
 index_right : (xs ys : List ℕ) (i : ℕ) → slice_index (xs ++ ys) (length xs + i) ≡ slice_index ys i
 index_right [] ys i = let e : 0 + i ≡ i = omega arith in ap (slice_index ys) e
 index_right (x ∷ xs) ys i = let e : length (x ∷ xs) + i ≡ suc (length xs + i) = omega arith in ap (slice_index (x ∷ (xs ++ ys))) e ∙ index_right xs ys i
 
-behind_digest : (name : List ℕ) (i : ℕ) → slice_index (path name) (32 + i) ≡ slice_index (length name ∷ name) i
-behind_digest name i = ap (λ n. slice_index (path name) (n + i)) (sym (length-sha256 name)) ∙ index_right (sha256 name) (length name ∷ name) i
+after_digest : (key : List ℕ) (i : ℕ) → slice_index (path key) (32 + i) ≡ slice_index (length key ∷ key) i
+after_digest key i = ap (λ n. slice_index (path key) (n + i)) (sym (length-sha256 key)) ∙ index_right (sha256 key) (length key ∷ key) i
 
 -- lists of one length that have the same numbers
 same_list : (xs ys : List ℕ) → length xs ≡ length ys → ((i : ℕ) → i < length xs → slice_index xs i ≡ slice_index ys i) → xs ≡ ys
@@ -56,22 +56,22 @@ same_byte x y p q h =
     let s0 : x / 1 ≡ y / 1 = halves (x / 1) (y / 1) (omega arith) (parity (x / 1) (y / 1) (h 7 (omega arith))) in
     omega arith
 
-is_byte : (name : List ℕ) → IsName name → (i : ℕ) → slice_index (length name ∷ name) i < 256
-is_byte name is zero = (let h : length name ≤ 250 = is.short in omega arith)
-is_byte name is (suc i) = is.bytes i
+is_byte : (key : List ℕ) → IsShort key → (i : ℕ) → slice_index (length key ∷ key) i < 256
+is_byte key is zero = (let h : length key ≤ 250 = is.short in omega arith)
+is_byte key is (suc i) = is.bytes i
 
--- what stands behind the digests
-same_rest : (a b : List ℕ) → IsName a → IsName b → ((i : ℕ) → i < 2264 → path_bit a i ≡ path_bit b i) → (i : ℕ) → i < 251 → slice_index (length a ∷ a) i ≡ slice_index (length b ∷ b) i
+-- what follows the digests
+same_rest : (a b : List ℕ) → IsShort a → IsShort b → ((i : ℕ) → i < 2264 → path_bit a i ≡ path_bit b i) → (i : ℕ) → i < 251 → slice_index (length a ∷ a) i ≡ slice_index (length b ∷ b) i
 same_rest a b p q h i k =
     same_byte (slice_index (length a ∷ a) i) (slice_index (length b ∷ b) i) (is_byte a p i) (is_byte b q i) (λ t l.
     let place : ℕ = 8 * (32 + i) + t in
     let byte : place / 8 ≡ 32 + i = omega arith in
     let bit : place % 8 ≡ t = omega arith in
-    let at : (name : List ℕ) → path_bit name place ≡ bit_of (slice_index (length name ∷ name) i) t =
-    λ name. (λ j. bit_of (slice_index (path name) (byte j)) (bit j)) ∙ ap (λ x. bit_of x t) (behind_digest name i) in
+    let at : (key : List ℕ) → path_bit key place ≡ bit_of (slice_index (length key ∷ key) i) t =
+    λ key. (λ j. bit_of (slice_index (path key) (byte j)) (bit j)) ∙ ap (λ x. bit_of x t) (after_digest key i) in
     sym (at a) ∙ (h place (omega arith) ∙ at b))
 
-pub paths_apart : (a b : List ℕ) → IsName a → IsName b → ((i : ℕ) → i < 2264 → path_bit a i ≡ path_bit b i) → a ≡ b
+pub paths_apart : (a b : List ℕ) → IsShort a → IsShort b → ((i : ℕ) → i < 2264 → path_bit a i ≡ path_bit b i) → a ≡ b
 paths_apart a b p q h =
     let short : length a ≤ 250 = p.short in
     same_list a b (same_rest a b p q h 0 (omega arith)) (λ i k. same_rest a b p q h (suc i) (omega arith))
@@ -84,10 +84,10 @@ key_bytes [] h i = omega arith
 key_bytes (b ∷ bs) h zero = key_byte b (and_parts _ _ h).0
 key_bytes (b ∷ bs) h (suc i) = key_bytes bs (and_parts _ _ h).1 i
 
-key_is_name : (key : List ℕ) → IsKey key → IsName key
-key_is_name key h =
+key_is_short : (key : List ℕ) → IsKey key → IsShort key
+key_is_short key h =
     let parts = and_parts _ _ h in
     record { short = leb-true (length key) 250 (and_parts _ _ parts.0).1; bytes = key_bytes key parts.1 }
 
 pub keys_apart : (a b : List ℕ) → IsKey a → IsKey b → ((i : ℕ) → i < 2264 → path_bit a i ≡ path_bit b i) → a ≡ b
-keys_apart a b p q h = paths_apart a b (key_is_name a p) (key_is_name b q) h
+keys_apart a b p q h = paths_apart a b (key_is_short a p) (key_is_short b q) h

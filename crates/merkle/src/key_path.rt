@@ -1,12 +1,12 @@
 ghost use Rattle.std.specs.Prelude.{◌≡◌, ◌<◌, length, slice_index, ◌∷◌};
 ghost use Rattle.sha2.specs.Sha256.{sha256};
-ghost use Rattle.merkle.specs.ItemPath.{path};
+ghost use Rattle.merkle.specs.KeyPath.{path};
 
 use crate::key::TreeKey;
 use proto::Key;
 use sha2::{Digest, Sha256};
 
-/// The byte of a length and these bytes, or 0 behind them.
+/// A byte of the length followed by the bytes, or 0 after their end.
 fn byte_of(bytes: &[u8], at: usize) -> u8
     requires { length bytes.now < 256 }
     ensures { result ≡ slice_index (length bytes.now ∷ bytes.now) at }
@@ -17,7 +17,7 @@ fn byte_of(bytes: &[u8], at: usize) -> u8
     if at <= bytes.len() { bytes[at - 1] } else { 0 }
 }
 
-/// A byte of the path of a key.
+/// A byte of the path of a key. `kept` is the key's hash.
 fn path_byte(key: &Key, kept: &[u8; 32], at: usize) -> u8
     requires { kept.now ≡ sha256 key.now }
     ensures { result ≡ slice_index (path key.now) at }
@@ -33,16 +33,16 @@ impl TreeKey for Key {
     ghost use Rattle.std.specs.FinMap.{nat_cmp-IsAntisymmetric, slice_cmp-IsAntisymmetric};
     ghost use Rattle.sha2.specs.Sha256.{sha256};
     ghost use Rattle.proto.specs.Key.{IsKey};
-    ghost use Rattle.merkle.specs.ItemPath.{path_bit, few};
-    ghost use Rattle.merkle.specs.ItemPathLaws.{keys_apart};
+    ghost use Rattle.merkle.specs.KeyPath.{path_bit, few};
+    ghost use Rattle.merkle.specs.KeyPathLaws.{keys_apart};
 
     ghost hash = { sha256 };
 
     ghost bit = { path_bit };
 
-    ghost MOST = { 2264 };
+    ghost BITS = { 2264 };
 
-    const MOST: u32 = 2264;
+    const BITS: u32 = 2264;
 
     ghost fits = { IsKey };
 
