@@ -28,7 +28,7 @@ module _ {K V : Type 0} {R : K → K → Ordering} (o : IsTotalOrder R) (same : 
   absent : (q : K) (e : K × V) (es : List (K × V)) → R q e.0 ≡ Equal → find R e.0 es ≡ None → find R q es ≡ None
   absent q e es t h = ap (λ k. find R k es) (same q e.0 t) ∙ h
 
-  -- of entries of which no key trie twice
+  -- of entries in which no key comes twice
   find_alive : (q : K) (es : List (K × V)) → Unique R es → find R q (filter (λ e. p e.1) es) ≡ if_above p (find R q es)
   unfolding if_above
   find_alive q [] u = refl

@@ -77,7 +77,7 @@ module _ {K V : Type 0} {R : K → K → Ordering} (same : IsAntisymmetric R) wh
         found = λ q. find_append R q m r ∙ ap (λ o. or_else o (find R q r)) (is.found q) ∙ through q (eq_by_cmp R q k) refl ∙ ap (cond (eq_by_cmp R q k) None) (sym (find_append R q l r));
         sides = λ test side all. all_append test side m r (is.sides test side (all_left test side l r all)) (all_right test side l r all);
         count = length-append l r ∙ fewer_left (find R k l) (length l) (length m) (length r) is.count
-        ∙ (λ i. cond (is_some (sym (find_left same test k l r all on) i)) (sym (length-append m r) i + 1) (sym (length-append m r) i));
+            ∙ (λ i. cond (is_some (sym (find_left same test k l r all on) i)) (sym (length-append m r) i + 1) (sym (length-append m r) i));
       }
     where
       through : (q : K) (b : Bool) → eq_by_cmp R q k ≡ b → or_else (cond b None (find R q l)) (find R q r) ≡ cond b None (or_else (find R q l) (find R q r))
@@ -90,7 +90,7 @@ module _ {K V : Type 0} {R : K → K → Ordering} (same : IsAntisymmetric R) wh
         found = λ q. find_append R q l s ∙ ap (or_else (find R q l)) (is.found q) ∙ through q (eq_by_cmp R q k) refl ∙ ap (cond (eq_by_cmp R q k) None) (sym (find_append R q l r));
         sides = λ test side all. all_append test side l s (all_left test side l r all) (is.sides test side (all_right test side l r all));
         count = length-append l r ∙ fewer_right (find R k r) (length r) (length s) (length l) is.count
-        ∙ (λ i. cond (is_some (sym (find_right same test k l r all on) i)) (sym (length-append l s) i + 1) (sym (length-append l s) i));
+            ∙ (λ i. cond (is_some (sym (find_right same test k l r all on) i)) (sym (length-append l s) i + 1) (sym (length-append l s) i));
       }
     where
       through : (q : K) (b : Bool) → eq_by_cmp R q k ≡ b → or_else (find R q l) (cond b None (find R q r)) ≡ cond b None (or_else (find R q l) (find R q r))

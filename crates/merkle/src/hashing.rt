@@ -33,12 +33,7 @@ fn fork_digest(left: &[u8; 32], right: &[u8; 32]) -> [u8; 32]
 }
 
 /// The digest of a fork over two sides of these digests. A side without keys adds nothing.
-fn joined_digest(
-    left_empty: bool,
-    right_empty: bool,
-    left: &[u8; 32],
-    right: &[u8; 32],
-) -> [u8; 32]
+fn joined_digest(left_empty: bool, right_empty: bool, left: &[u8; 32], right: &[u8; 32]) -> [u8; 32]
     ensures { result ≡ joined left_empty right_empty left.now right.now (sha256 (fork_text left.now right.now)) }
 {
     if left_empty {

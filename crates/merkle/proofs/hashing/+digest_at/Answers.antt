@@ -1,6 +1,6 @@
-use Rattle.std.proofs.Common.{◌≡◌, sym, ap, ◌∙◌}
+use Rattle.std.proofs.Common.{sym, ap, ◌∙◌}
 use Rattle.merkle.specs.declared.fork.Fork.{Fork as ForkOf}
-use Rattle.merkle.specs.Shape.{fork, is_none, digest_of}
+use Rattle.merkle.specs.Shape.{is_none, digest_of}
 use Rattle.merkle.specs.Tree.{shape}
 use Rattle.merkle.proofs.HashLemmas.{both_digests}
 use Rattle.merkle.proofs.hashing.+digest_at.Goals as goal

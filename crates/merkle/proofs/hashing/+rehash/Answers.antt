@@ -1,4 +1,4 @@
-use Rattle.std.proofs.Common.{◌≡◌, ℕ, rules, sym, ap, ◌∙◌, subst}
+use Rattle.std.proofs.Common.{◌≡◌, rules, sym, ap, ◌∙◌, subst}
 use Rattle.merkle.specs.declared.fork.Tree.{Tree}
 use Rattle.merkle.specs.declared.fork.Fork.{Fork as ForkOf}
 use Rattle.merkle.specs.Shape.{fork, is_none, digest_of, least, nodes}
@@ -41,6 +41,10 @@ rehash_fork-returns-clause-digest g t c =
 pub rehash_fork-returns-clause-cached : goal.rehash_fork-returns-clause-cached
 rehash_fork-returns-clause-cached g t c =
     let text = g.V.TreeValue.text in
-    let due = g.V.TreeValue.due in
-    (rehash_fork-returns-clause-digest g t c ∙ (λ i. digest_of text (fork (sym c.rehash_at.ensures.same i) (sym c.rehash_at-2.ensures.same i))),
-    c.requires.1 ∙ ap (least due) (sym c.rehash_at.ensures.same), c.requires.2 ∙ ap (least due) (sym c.rehash_at-2.ensures.same), c.rehash_at.ensures.cached, c.rehash_at-2.ensures.cached)
+    let due = g.V.TreeValue.due in (
+      rehash_fork-returns-clause-digest g t c ∙ (λ i. digest_of text (fork (sym c.rehash_at.ensures.same i) (sym c.rehash_at-2.ensures.same i))),
+      c.requires.1 ∙ ap (least due) (sym c.rehash_at.ensures.same),
+      c.requires.2 ∙ ap (least due) (sym c.rehash_at-2.ensures.same),
+      c.rehash_at.ensures.cached,
+      c.rehash_at-2.ensures.cached,
+    )
