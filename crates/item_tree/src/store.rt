@@ -1,0 +1,104 @@
+use base::Entry;
+use items::{Item, Store};
+use merkle::{MerkleMap, Visitor};
+use proto::Key;
+use std::alloc::{AllocError, Global};
+use std::marker::Model;
+
+/// Items in a Merkle tree over the paths of their keys. Clones share all.
+#[derive(Drop)]
+pub struct ItemTree {
+    items: MerkleMap<Key, Item>,
+    alloc: Global,
+}
+
+impl Model for ItemTree {
+    ghost use Rattle.std.specs.Coded.{coded_list, coded_ℕ};
+    ghost use Rattle.std.specs.FinMap as map;
+    ghost use Rattle.items.specs.Map.{Items};
+    ghost use Rattle.items.specs.contracts.item.Item as item;
+
+    ghost Value = { Items };
+
+    ghost coded = { map.code (coded_list coded_ℕ) item.the_row.coded };
+
+    ghost view = { λ a. map.from_entries a.items };
+}
+
+impl ItemTree {
+    ghost use Rattle.std.specs.Prelude.{◌≡◌, ◌+◌, length, IfOk, OnOk, OnErr};
+    ghost use Rattle.std.specs.FinMap as map;
+    ghost use Rattle.items.specs.Map.{alive};
+    ghost use Rattle.item_tree.specs.Told.{items_digest};
+
+    /// A store without items.
+    pub fn new(alloc: Global) -> ItemTree
+        ensures { result ≡ map.empty }
+    {
+        ItemTree {
+            items: MerkleMap::new(),
+            alloc,
+        }
+    }
+
+    /// The digest of the items. This takes no memory. It hashes what was written since the last `seal`,
+    /// and caches nothing.
+    pub fn digest(&self) -> [u8; 32]
+        ensures { result ≡ items_digest self.now }
+    {
+        self.items.digest()
+    }
+
+    /// The digest of the items, which is cached for the next call. It does not fail: what there is no
+    /// memory for is not cached.
+    pub fn seal(&mut self) -> [u8; 32]
+        ensures digest { result ≡ items_digest self.old }
+        ensures same { self.new ≡ self.old }
+    {
+        self.items.seal()
+    }
+
+    /// Puts an entry, which may be shared with others. The only error is a failed allocation, and then
+    /// nothing has changed.
+    pub fn put_entry(&mut self, entry: Entry<Key, Item>) -> Result<(), AllocError>
+        ensures ok { OnOk result (self.new ≡ map.insert self.old entry.0 entry.1) }
+        ensures err { OnErr result (self.new ≡ self.old) }
+    {
+        self.items.put_entry(self.alloc, entry)
+    }
+}
+
+impl Clone for ItemTree {
+    ghost use Rattle.std.specs.Prelude.{◌≡◌};
+
+    ghost is_clone = { λ store copy. copy ≡ store };
+
+    /// The same store, shared.
+    fn clone(&self) -> Result<ItemTree, AllocError> {
+        Ok(ItemTree {
+            items: self.items.clone()?,
+            alloc: self.alloc,
+        })
+    }
+}
+
+impl Store for ItemTree {
+    ghost contents = { λ s. s };
+
+    fn get(&self, key: &Key) -> Option<&Item> {
+        self.items.get(key)
+    }
+
+    fn put(&mut self, key: Key, item: Item) -> Result<(), AllocError> {
+        self.items.put(self.alloc, key, item)
+    }
+
+    fn remove(&mut self, key: &Key) -> Result<(), AllocError> {
+        self.items.remove(key)
+    }
+
+    fn drop_due(&mut self, moment: u32) -> Result<(), AllocError> {
+        self.items.drop_due(moment as u64)?;
+        Ok(())
+    }
+}

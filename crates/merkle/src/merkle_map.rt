@@ -1,0 +1,215 @@
+ghost use Rattle.std.specs.Prelude.{◌≡◌, ◌+◌, cond, true, IfOk, OnOk, MatchOption};
+ghost use Rattle.merkle.specs.Tree.{IsLeaf};
+
+use crate::dropping::drop_at;
+use crate::finding::{find_at, has_key};
+use crate::fork::{Leaf, Tree};
+use crate::hashing::{digest_at, rehash_at};
+use crate::key::{TreeKey, TreeValue};
+use crate::putting::put_at;
+use crate::removing::remove_at;
+use crate::walking::{Visitor, walk_at};
+use base::Entry;
+use std::alloc::{AllocError, Global};
+use std::marker::Model;
+use std::sync::Arc;
+
+/// A map as a Merkle tree: a binary tree over the paths of its keys, which caches digests and due
+/// times. Clones share the tree, and a write copies the forks on one path.
+///
+/// Contracts see it as the list of its keys with their values, in the order of their paths.
+#[derive(Drop)]
+pub struct MerkleMap<K: TreeKey, V: TreeValue<K>> {
+    tree: Tree<K, V>,
+    /// The first due time of its entries.
+    due: Option<u64>,
+    len: u64,
+}
+
+impl<K: TreeKey, V: TreeValue<K>> Model for MerkleMap<K, V> {
+    ghost use Rattle.std.specs.Prelude.{List};
+    ghost use Rattle.merkle.specs.Shape.{pairs};
+    ghost use Rattle.merkle.specs.Tree.{shape, IsMap};
+
+    ghost Value = { List (K × V) };
+
+    ghost view = { λ a. pairs (shape a.tree) };
+
+    ghost invariant = { λ a. IsMap K.hash V.text V.due K.bit K.BITS a.tree a.due a.len };
+}
+
+/// A leaf of this entry.
+fn new_leaf<K: TreeKey + Drop, V: TreeValue<K> + Drop>(
+    alloc: Global,
+    entry: Entry<K, V>,
+) -> Result<Arc<Leaf<K, V>, Global>, AllocError>
+    ensures { IfOk result (λ leaf. IsLeaf K.hash V.text entry leaf.value) }
+{
+    let hash = entry.key().hash();
+    let digest = entry.value().digest(entry.key());
+    Ok(Arc::new(
+        alloc,
+        Leaf {
+            entry,
+            hash,
+            digest,
+        },
+    )?)
+}
+
+/// The count of entries after a put. The error: it would not fit 64 bits.
+fn len_after(len: u64, found: bool) -> Result<u64, AllocError>
+    ensures { IfOk result (λ after. after ≡ cond found len (len + 1)) }
+{
+    if found {
+        return Ok(len);
+    }
+    match len.checked_add(1) {
+        Some(after) => Ok(after),
+        None => Err(AllocError),
+    }
+}
+
+impl<K: TreeKey + Drop, V: TreeValue<K> + Drop> MerkleMap<K, V> {
+    ghost use Rattle.std.specs.Prelude.{◌≡◌, ◌≤◌, ◌+◌, [], true, is_some, length, IfOk, OnOk, OnErr};
+    ghost use Rattle.std.specs.Option.{option_copied};
+    ghost use Rattle.std.specs.FinMap as map;
+    ghost use Rattle.merkle.specs.Digest.{map_digest, map_pairs};
+    ghost use Rattle.merkle.specs.Alive.{alive_map};
+    ghost use Rattle.merkle.specs.Walk.{Sees};
+
+    /// A map of no keys.
+    pub fn new() -> MerkleMap<K, V>
+        ensures { result ≡ [] }
+    {
+        MerkleMap {
+            tree: Tree::Empty,
+            due: None,
+            len: 0,
+        }
+    }
+
+    /// How many entries it has.
+    pub fn len(&self) -> u64
+        ensures { result ≡ length self.now }
+    {
+        self.len
+    }
+
+    /// The value of the key, if there is one.
+    pub fn get(&self, key: &K) -> Option<&V>
+        ensures { option_copied result ≡ map.get (map.from_entries {R = K.cmp} self.now) key.now }
+    {
+        find_at(&self.tree, key, &key.hash(), 0)
+    }
+
+    /// Puts the value at the key, as `put_entry`.
+    pub fn put(&mut self, alloc: Global, key: K, value: V) -> Result<(), AllocError>
+        ensures ok { OnOk result (map.from_entries {R = K.cmp} self.new ≡ map.insert (map.from_entries self.old) key value) }
+        ensures err { OnErr result (self.new ≡ self.old) }
+    {
+        self.put_entry(alloc, Entry::new(alloc, key, value)?)
+    }
+
+    /// Puts an entry, which may be shared with others, in place of the one that has its key. The only
+    /// error is a failed allocation, and then nothing has changed.
+    pub fn put_entry(&mut self, alloc: Global, entry: Entry<K, V>) -> Result<(), AllocError>
+        ensures ok { OnOk result (map.from_entries {R = K.cmp} self.new ≡ map.insert (map.from_entries self.old) entry.0 entry.1) }
+        ensures err { OnErr result (self.new ≡ self.old) }
+    {
+        let leaf = new_leaf(alloc, entry)?;
+        let found = has_key(&self.tree, leaf.entry.key(), &leaf.hash);
+        let len = len_after(self.len, found)?;
+        put_at(alloc, &mut self.tree, &mut self.due, &leaf, 0)?;
+        self.len = len;
+        Ok(())
+    }
+
+    /// Removes the key, if it is there. The only error is a failed allocation, and then nothing has
+    /// changed.
+    pub fn remove(&mut self, key: &K) -> Result<(), AllocError>
+        ensures ok { OnOk result (map.from_entries {R = K.cmp} self.new ≡ map.remove (map.from_entries self.old) key.now) }
+        ensures err { OnErr result (self.new ≡ self.old) }
+    {
+        let hash = key.hash();
+        let found = has_key(&self.tree, key, &hash);
+        if found {
+            self.remove_found(key, &hash)
+        } else {
+            Ok(())
+        }
+    }
+
+    /// Removes the key, which is there.
+    fn remove_found(&mut self, key: &K, hash: &[u8; 32]) -> Result<(), AllocError>
+        requires known { hash.now ≡ K.hash key.now }
+        requires found { is_some (map.find K.cmp key.now self.old) ≡ true }
+        ensures ok { OnOk result (map.from_entries {R = K.cmp} self.new ≡ map.remove (map.from_entries self.old) key.now) }
+        ensures err { OnErr result (self.new ≡ self.old) }
+    {
+        remove_at(&mut self.tree, &mut self.due, key, hash, 0)?;
+        self.len -= 1;
+        Ok(())
+    }
+
+    /// Drops each entry that is due at the moment or before it, and answers how many. It visits just
+    /// these. The only error is a failed allocation, and then nothing has changed.
+    pub fn drop_due(&mut self, moment: u64) -> Result<u64, AllocError>
+        ensures ok { OnOk result (map.from_entries {R = K.cmp} self.new ≡ alive_map V.due moment (map.from_entries self.old)) }
+        ensures err { OnErr result (self.new ≡ self.old) }
+        ensures count { IfOk result (λ dropped. dropped + length self.new ≡ length self.old) }
+    {
+        let mut next = self.clone()?;
+        next.drop_now(moment)?;
+        let dropped = self.len - next.len;
+        *self = next;
+        Ok(dropped)
+    }
+
+    /// The same. If an allocation fails, a part of what is due may be dropped.
+    fn drop_now(&mut self, moment: u64) -> Result<(), AllocError>
+        ensures ok { OnOk result (map.from_entries {R = K.cmp} self.new ≡ alive_map V.due moment (map.from_entries self.old)) }
+        ensures fewer { length self.new ≤ length self.old }
+    {
+        drop_at(&mut self.tree, &mut self.due, &mut self.len, moment, 0)
+    }
+
+    /// The digest of the map. This takes no memory. It hashes what was written since the last `seal`
+    /// and caches nothing.
+    pub fn digest(&self) -> [u8; 32]
+        ensures { result ≡ map_digest V.text K.bit K.BITS (map.from_entries {R = K.cmp} self.now) }
+    {
+        digest_at(&self.tree)
+    }
+
+    /// The digest of the map, which is cached for the next call. It does not fail: what there is no
+    /// memory for is not cached.
+    pub fn seal(&mut self) -> [u8; 32]
+        ensures digest { result ≡ map_digest V.text K.bit K.BITS (map.from_entries {R = K.cmp} self.old) }
+        ensures same { self.new ≡ self.old }
+    {
+        let _ = rehash_at(&mut self.tree);
+        self.digest()
+    }
+
+    /// Shows the entries to a visitor, in the order of their paths, until it takes no more.
+    pub fn walk<W: Visitor<K, V>>(&self, visitor: &mut W) -> Result<(), W::Refusal>
+        ensures shown { OnOk result (Sees W.seen self.now visitor.old visitor.new) }
+        ensures order { self.now ≡ map_pairs K.bit K.BITS (map.from_entries {R = K.cmp} self.now) }
+    {
+        walk_at(&self.tree, visitor)
+    }
+}
+
+impl<K: TreeKey + Drop, V: TreeValue<K> + Drop> Clone for MerkleMap<K, V> {
+    ghost is_clone = { λ map copy. copy ≡ map };
+
+    /// The same map, shared.
+    fn clone(&self) -> Result<MerkleMap<K, V>, AllocError> {
+        Ok(MerkleMap {
+            tree: self.tree.clone()?,
+            due: self.due,
+            len: self.len,
+        })
+    }
+}
