@@ -1,0 +1,10 @@
+//! Tests of `merkle`: rows worked by another program, orders of writes, and each call that asks for
+//! memory made once with ample memory.
+#![tactic(auto)]
+
+#[cfg(test)]
+mod entries;
+#[cfg(test)]
+mod of_orders;
+#[cfg(test)]
+mod of_rows;

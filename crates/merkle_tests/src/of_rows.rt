@@ -1,0 +1,70 @@
+//! Digests of small pages, as `scripts/page_digests` works them.
+
+use crate::entries::{item, key};
+use items::Item;
+use merkle::MerkleMap;
+use proto::Key;
+use std::alloc::{AllocError, Global};
+use std::test::Fail;
+
+const OF_NONE: [u8; 32] = [
+    0xe3, 0xb0, 0xc4, 0x42, 0x98, 0xfc, 0x1c, 0x14, 0x9a, 0xfb, 0xf4, 0xc8, 0x99, 0x6f, 0xb9, 0x24,
+    0x27, 0xae, 0x41, 0xe4, 0x64, 0x9b, 0x93, 0x4c, 0xa4, 0x95, 0x99, 0x1b, 0x78, 0x52, 0xb8, 0x55,
+];
+
+const OF_A: [u8; 32] = [
+    0x5c, 0x61, 0x0e, 0x42, 0x54, 0x74, 0xff, 0x97, 0x0c, 0x44, 0x8f, 0x5a, 0x2e, 0x39, 0x7c, 0xb4,
+    0x85, 0xab, 0x72, 0x86, 0xf8, 0xd7, 0x94, 0x6d, 0x9c, 0x44, 0x7c, 0xd0, 0xbb, 0x0b, 0x44, 0x36,
+];
+
+const OF_A_AND_B: [u8; 32] = [
+    0xe9, 0xd8, 0x0c, 0x1c, 0xdd, 0xab, 0xc4, 0xd4, 0x4f, 0x1e, 0x69, 0x0d, 0x31, 0xbb, 0x77, 0x64,
+    0xc7, 0xe9, 0x4f, 0x7b, 0x02, 0x56, 0xa8, 0x2b, 0x66, 0xc2, 0x5a, 0x4f, 0xe1, 0x0a, 0x74, 0xd6,
+];
+
+const OF_A_B_AND_C: [u8; 32] = [
+    0xef, 0xe7, 0xd4, 0x11, 0x5c, 0x37, 0xdc, 0x8b, 0xf9, 0x7e, 0xd6, 0x00, 0x33, 0xbe, 0x28, 0xcf,
+    0x61, 0xfe, 0x41, 0x3b, 0x53, 0xa3, 0xbc, 0xe3, 0xab, 0x35, 0x52, 0xa6, 0x96, 0xc7, 0xa9, 0xfb,
+];
+
+fn put_a(alloc: Global, page: &mut MerkleMap<Key, Item>) -> Result<(), AllocError> {
+    let key = key(alloc, b"a")?;
+    page.put(alloc, key, item(alloc, b"x", 0, None, 1)?)
+}
+
+fn put_b(alloc: Global, page: &mut MerkleMap<Key, Item>) -> Result<(), AllocError> {
+    let key = key(alloc, b"b")?;
+    page.put(alloc, key, item(alloc, b"", 7, Some(2592000), 2)?)
+}
+
+fn put_c(alloc: Global, page: &mut MerkleMap<Key, Item>) -> Result<(), AllocError> {
+    let key = key(alloc, b"c")?;
+    page.put(
+        alloc,
+        key,
+        item(alloc, b"\r\n", u32::MAX, Some(1), u64::MAX)?,
+    )
+}
+
+/// Whether this is the digest, before it is cached and after it.
+fn is_digest(page: &mut MerkleMap<Key, Item>, digest: &[u8; 32]) -> bool {
+    page.digest() == *digest && page.seal() == *digest && page.digest() == *digest
+}
+
+/// Puts three entries: whether each digest is that of the row.
+fn has_rows(alloc: Global, page: &mut MerkleMap<Key, Item>) -> Result<bool, AllocError> {
+    put_a(alloc, page)?;
+    let one = is_digest(page, &OF_A);
+    put_b(alloc, page)?;
+    let two = is_digest(page, &OF_A_AND_B);
+    put_c(alloc, page)?;
+    Ok(one && two && is_digest(page, &OF_A_B_AND_C))
+}
+
+#[test]
+fn digests_of_small_pages(rt: HostRuntime) -> Result<(), Fail> {
+    let mut page = MerkleMap::new();
+    assert!(rt; is_digest(&mut page, &OF_NONE));
+    assert!(rt; has_rows(rt.alloc(), &mut page)?);
+    Ok(())
+}
