@@ -15,9 +15,9 @@ use serving::{Held, MOST_HELD, Post, address, workers_for};
 use std::alloc::Global;
 use std::rt::Clock;
 use std::sync::Wait;
+use std::thread;
 use std::thread::Threads;
 use std::time::SystemTime;
-use std::{mem, thread};
 use workers::Workers;
 
 /// So many letters are taken before a batch is cut, at most.
@@ -25,6 +25,9 @@ const MOST_BEFORE_CUT: usize = 4096;
 
 /// `2u + 1` with the greatest `u`.
 const MOST_VERIFIERS: usize = 7;
+
+/// So often a verifier is asked for one place before all that was taken is done with.
+const MOST_QUESTIONS: u8 = 4;
 
 /// The seconds of the clock, or 0 where it cannot be read.
 fn seconds<R: Clock>(rt: &R) -> u32 {
@@ -44,8 +47,9 @@ pub struct Desk {
     inbox: Link<ToExecutor>,
     posts: Posts,
     held: Held,
-    /// The place that each verifier was asked for since it was last done with all that it had taken.
-    asked: [u64; MOST_VERIFIERS],
+    /// The place that each verifier was last asked for, and how often, since it was last done with all that
+    /// it had taken.
+    asked: [(u64, u8); MOST_VERIFIERS],
     /// How many letters it has taken and not done with.
     taken: u64,
     /// The number of its committed state and its epoch, added: how many steps it has made.
@@ -60,7 +64,7 @@ impl Desk {
             inbox,
             posts,
             held: Held::new(alloc),
-            asked: [0; MOST_VERIFIERS],
+            asked: [(0, 0); MOST_VERIFIERS],
             taken: 0,
             steps: 0,
         }
@@ -73,7 +77,7 @@ impl Desk {
             match address(letter) {
                 Post::ToExecutor(id, letter) => self.posts.send_to_executor(rt, id, letter),
                 Post::ToVerifier(id, letter) => {
-                    if !self.asks_once_more(id, &letter.body) {
+                    if !self.asks_too_often(id, &letter.body) {
                         self.posts.send_to_verifier(rt, id, letter);
                     }
                 }
@@ -97,17 +101,23 @@ impl Desk {
         }
     }
 
-    /// Whether the verifier was asked for this place a moment ago. Each decree of a later place makes an
-    /// executor ask for the one that it lacks, and each answer has 16 decrees: if that one is lost, the
-    /// questions would multiply.
-    fn asks_once_more(&mut self, verifier: u8, ballot: &Ballot) -> bool {
+    /// Whether the verifier was asked for this place often enough a moment ago. Each decree of a later place
+    /// makes an executor ask for the one that it lacks, and each answer has up to 16 decrees: if that one
+    /// is lost, the questions would multiply.
+    fn asks_too_often(&mut self, verifier: u8, ballot: &Ballot) -> bool {
         let Ballot::Ask { place } = ballot else {
             return false;
         };
-        let Some(last) = self.asked.get_mut(usize::from(verifier)) else {
+        let Some((last, times)) = self.asked.get_mut(usize::from(verifier)) else {
             return false;
         };
-        mem::replace(last, *place) == *place
+        *times = if *last == *place {
+            times.saturating_add(1)
+        } else {
+            1
+        };
+        *last = *place;
+        MOST_QUESTIONS < *times
     }
 
     /// What waits, if something does. Where nothing waits, others may be about to send: they are let go first.
@@ -143,7 +153,7 @@ impl Desk {
     fn let_go(&mut self) {
         self.posts.end(self.taken);
         self.taken = 0;
-        self.asked = [0; MOST_VERIFIERS];
+        self.asked = [(0, 0); MOST_VERIFIERS];
     }
 }
 

@@ -8,7 +8,7 @@ ghost use Rattle.serving.specs.Patience.{urge_of, after_tick};
 const STEPS_TO_AGAIN: u64 = 8;
 
 /// The most ticks between two suspicions of one client.
-const MOST_PAUSE: u8 = 64;
+const MOST_PAUSE: u8 = 16;
 
 /// How far a server has come. It tells a client that waits whether anything may still answer it.
 #[derive(Clone, Copy, Debug, PartialEq, Eq)]
@@ -71,7 +71,7 @@ impl Patience {
     }
 
     /// One more tick, with `2u + 1` executors and the server so far: what is due. The pause after a
-    /// suspicion doubles, up to 64 ticks.
+    /// suspicion doubles, up to 16 ticks.
     pub fn tick(&mut self, u: u8, seen: Seen) -> Urge
         requires { u < 4 }
         ensures urge { result ≡ urge_of u self.old seen }
