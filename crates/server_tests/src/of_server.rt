@@ -227,7 +227,7 @@ fn clients<R: Net<Stream = TcpStream>>(
 fn all_set(alloc: Global, clients: &[TcpStream], first_key: u8, length: usize) -> bool {
     let mut is_said = true;
     for (at, client) in clients.iter().enumerate() {
-        let key = first_key.wrapping_add(at as u8);
+        let key = first_key.wrapping_add((at % 100) as u8);
         is_said = is_said
             && match large_set(alloc, key, length) {
                 Some(text) => says(client, text.as_slice(), 0),
