@@ -40,6 +40,27 @@ fn seconds<R: Clock>(rt: &R) -> u32 {
     }
 }
 
+/// What a verifier was last asked for.
+#[derive(Clone, Copy)]
+struct Question {
+    place: u64,
+    /// How often.
+    times: u8,
+}
+
+impl Question {
+    const NONE: Question = Question { place: 0, times: 0 };
+
+    /// The question after this one, for this place.
+    fn asked_again(&self, place: u64) -> Question {
+        let before = if self.place == place { self.times } else { 0 };
+        Question {
+            place,
+            times: before.saturating_add(1),
+        }
+    }
+}
+
 /// What an executor's thread has beside the executor.
 #[derive(Drop)]
 pub struct Desk {
@@ -49,7 +70,7 @@ pub struct Desk {
     held: Held,
     /// The place that each verifier was last asked for, and how often, since it was last done with all that
     /// it had taken.
-    asked: [(u64, u8); MOST_VERIFIERS],
+    asked: [Question; MOST_VERIFIERS],
     /// How many letters it has taken and not done with.
     taken: u64,
     /// The number of its committed state and its epoch, added: how many steps it has made.
@@ -64,7 +85,7 @@ impl Desk {
             inbox,
             posts,
             held: Held::new(alloc),
-            asked: [(0, 0); MOST_VERIFIERS],
+            asked: [Question::NONE; MOST_VERIFIERS],
             taken: 0,
             steps: 0,
         }
@@ -108,16 +129,14 @@ impl Desk {
         let Ballot::Ask { place } = ballot else {
             return false;
         };
-        let Some((last, times)) = self.asked.get_mut(usize::from(verifier)) else {
+        let Some(last) = self.asked.get(usize::from(verifier)) else {
             return false;
         };
-        *times = if *last == *place {
-            times.saturating_add(1)
-        } else {
-            1
-        };
-        *last = *place;
-        MOST_QUESTIONS < *times
+        let question = last.asked_again(*place);
+        if let Some(last) = self.asked.get_mut(usize::from(verifier)) {
+            *last = question;
+        }
+        MOST_QUESTIONS < question.times
     }
 
     /// What waits, if something does. Where nothing waits, others may be about to send: they are let go first.
@@ -153,7 +172,7 @@ impl Desk {
     fn let_go(&mut self) {
         self.posts.end(self.taken);
         self.taken = 0;
-        self.asked = [(0, 0); MOST_VERIFIERS];
+        self.asked = [Question::NONE; MOST_VERIFIERS];
     }
 }
 
