@@ -1,11 +1,10 @@
 -- The entries of items, by their keys and by their keys' paths.
 use Rattle.std.proofs.Common.{◌≡◌, ℕ, List, [], ◌∷◌, ◌++◌, length, sym, ap, ◌∙◌}
-use Rattle.std.specs.Prelude.{flat_map, IsTrue}
-use Rattle.base.proofs.MapLemmas.{as_t}
+use Rattle.std.specs.Prelude.{flat_map}
 use Rattle.std.specs.Int.{w32}
 use Rattle.std.proofs.lemmas.List.{append_assoc}
 use Rattle.std.specs.Cmp.Lexicographic.{nat_list_cmp_total}
-use Rattle.std.specs.FinMap.{is_sorted, from_entries, from_sorted, get-from_entries, get-from_sorted, same_map, IsAntisymmetric, nat_cmp-IsAntisymmetric, slice_cmp-IsAntisymmetric}
+use Rattle.std.specs.FinMap.{entries, from_entries, get-entries, get-from_entries, same_map, IsAntisymmetric, nat_cmp-IsAntisymmetric, slice_cmp-IsAntisymmetric}
 use Rattle.items.specs.declared.item.Item.{Item}
 use Rattle.items.specs.Map.{Items, by_bytes}
 use Rattle.wire.specs.Number.{num}
@@ -17,8 +16,8 @@ use Rattle.item_tree.specs.Text.{path_entries}
 only_equal : IsAntisymmetric by_bytes
 only_equal = slice_cmp-IsAntisymmetric nat_cmp-IsAntisymmetric
 
-pub sorted_make : (es : List (List ℕ × Item)) → IsTrue (is_sorted by_bytes es) → from_entries es ≡ from_sorted {R = by_bytes} es
-sorted_make es s = same_map nat_list_cmp_total only_equal _ _ (λ q. get-from_entries nat_list_cmp_total es q ∙ sym (get-from_sorted by_bytes es q (as_t _ s)))
+pub entries_make : (m : Items) → from_entries (entries m) ≡ m
+entries_make m = same_map nat_list_cmp_total only_equal _ _ (λ q. get-from_entries nat_list_cmp_total (entries m) q ∙ sym (get-entries m q))
 
 pub paths_make : (m : Items) → from_entries (path_entries m) ≡ m
 paths_make m = pairs_make nat_list_cmp_total only_equal path_bit 2264 m

@@ -1,8 +1,7 @@
 //! Items that go from one kind of store to the other.
 
-ghost use Rattle.std.specs.Prelude.{◌≡◌, IsTrue, IfOk, OnOk};
+ghost use Rattle.std.specs.Prelude.{◌≡◌, IfOk, OnOk};
 ghost use Rattle.std.specs.FinMap as map;
-ghost use Rattle.items.specs.Map.{by_bytes};
 
 use crate::store::ItemTree;
 use base::Entry;
@@ -24,17 +23,12 @@ fn copy_into<S: Store>(entries: &[Entry<Key, Item>], store: &mut S) -> Result<()
 }
 
 impl ItemTree {
-    /// A store of these entries, which are by strictly rising keys. Data is shared. The only error is a
-    /// failed allocation.
-    pub fn from_sorted(
-        alloc: Global,
-        entries: &[Entry<Key, Item>],
-    ) -> Result<ItemTree, AllocError>
-        requires { IsTrue (map.is_sorted by_bytes entries.now) }
-        ensures { IfOk result (λ store. store ≡ map.from_sorted entries.now) }
+    /// The items of a sorted vector. Data is shared. The only error is a failed allocation.
+    pub fn from_plain(alloc: Global, plain: &PlainStore) -> Result<ItemTree, AllocError>
+        ensures { IfOk result (λ store. store ≡ plain.now) }
     {
         let mut store = ItemTree::new(alloc);
-        copy_into(entries, &mut store)?;
+        copy_into(plain.as_slice(), &mut store)?;
         Ok(store)
     }
 
