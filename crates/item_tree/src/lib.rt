@@ -5,6 +5,7 @@
 //! digest is a function of that map.
 #![tactic(auto)]
 
+mod converting;
 mod laws;
 mod store;
 

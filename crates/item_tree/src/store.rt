@@ -1,9 +1,10 @@
 use base::Entry;
 use items::{Item, Store};
-use merkle::{MerkleMap, Visitor};
+use merkle::MerkleMap;
 use proto::Key;
 use std::alloc::{AllocError, Global};
 use std::marker::Model;
+use wire::{Sink, put_count};
 
 /// Items in a Merkle tree over the paths of their keys. Clones share all.
 #[derive(Drop)]
@@ -26,10 +27,12 @@ impl Model for ItemTree {
 }
 
 impl ItemTree {
-    ghost use Rattle.std.specs.Prelude.{◌≡◌, ◌+◌, length, IfOk, OnOk, OnErr};
+    ghost use Rattle.std.specs.Prelude.{◌≡◌, ◌≢◌, ◌+◌, true, false, length, IfOk, OnOk, OnErr};
     ghost use Rattle.std.specs.FinMap as map;
+    ghost use Rattle.wire.specs.Record.{Puts};
     ghost use Rattle.items.specs.Map.{alive};
     ghost use Rattle.item_tree.specs.Told.{items_digest};
+    ghost use Rattle.item_tree.specs.Text.{path_entries, tree_text, TreeFits};
 
     /// A store without items.
     pub fn new(alloc: Global) -> ItemTree
@@ -39,6 +42,54 @@ impl ItemTree {
             items: MerkleMap::new(),
             alloc,
         }
+    }
+
+    /// How many items it has.
+    pub fn len(&self) -> u64
+        ensures { result ≡ length (map.entries self.now) }
+    {
+        self.items.len()
+    }
+
+    /// Whether an item is due at the moment or before it. It visits none.
+    pub fn has_due(&self, moment: u32) -> bool
+        ensures none { result ≡ false → alive self.now moment ≡ self.now }
+        ensures some { result ≡ true → alive self.now moment ≢ self.now }
+    {
+        self.items.has_due(moment as u64)
+    }
+
+    /// Drops every item that is due at the moment or before it, and answers how many. It visits just
+    /// these. The only error is a failed allocation, and then nothing has changed.
+    pub fn drop_due_counted(&mut self, moment: u32) -> Result<u64, AllocError>
+        ensures ok { OnOk result (self.new ≡ alive self.old moment) }
+        ensures err { OnErr result (self.new ≡ self.old) }
+        ensures count { IfOk result (λ dropped. dropped + length (map.entries self.new) ≡ length (map.entries self.old)) }
+    {
+        let _before = self.items.len();
+        let dropped = self.items.drop_due(moment as u64)?;
+        let _after = self.items.len();
+        Ok(dropped)
+    }
+
+    /// Writes the text of a page of these items, in the order of their paths.
+    #[tactic(auto, unfolding(wire::specs::Item::page_text))]
+    pub fn put_text<S: Sink>(&self, sink: &mut S) -> Result<(), S::Refusal>
+        requires { TreeFits self.now }
+        ensures { OnOk result (Puts S.holds (tree_text self.now) sink.old sink.new) }
+    {
+        sink.put(&[0u8])?;
+        put_count(self.items.len() as usize, sink)?;
+        self.items.put_texts(sink)
+    }
+
+    /// Its entries, shared, in the order of their paths. The only error is a failed allocation.
+    pub fn entries(&self, alloc: Global) -> Result<Vec<Entry<Key, Item>>, AllocError>
+        ensures { IfOk result (λ entries. entries.items ≡ path_entries self.now) }
+    {
+        let mut entries = Vec::new(alloc);
+        self.items.walk(&mut entries)?;
+        Ok(entries)
     }
 
     /// The digest of the items. This takes no memory. It hashes what was written since the last `seal`,
@@ -98,7 +149,7 @@ impl Store for ItemTree {
     }
 
     fn drop_due(&mut self, moment: u32) -> Result<(), AllocError> {
-        self.items.drop_due(moment as u64)?;
+        self.drop_due_counted(moment)?;
         Ok(())
     }
 }

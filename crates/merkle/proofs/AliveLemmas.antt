@@ -15,6 +15,14 @@ above_both moment (Some x) (Some y) h =
     let below : moment < min x y = ltb-true moment (min x y) h in
     (lt-ltb moment x (omega arith), lt-ltb moment y (omega arith))
 
+above_earlier : (moment : ℕ) (a b : Option ℕ) → is_above moment a ≡ true → is_above moment b ≡ true → is_above moment (earlier a b) ≡ true
+above_earlier moment None b p q = q
+above_earlier moment (Some x) None p q = p
+above_earlier moment (Some x) (Some y) p q =
+    let first : moment < x = ltb-true moment x p in
+    let second : moment < y = ltb-true moment y q in
+    lt-ltb moment (min x y) (omega arith)
+
 module _ {K V : Type 0} (due : V → Option ℕ) (moment : ℕ) where
   alive_append : (xs ys : List (K × V)) → alive due moment (xs ++ ys) ≡ alive due moment xs ++ alive due moment ys
   alive_append [] ys = refl
@@ -31,6 +39,31 @@ module _ {K V : Type 0} (due : V → Option ℕ) (moment : ℕ) where
   all_alive (fork l r) h =
       let both = above_both moment (least due l) (least due r) h in
       alive_append (pairs l) (pairs r) ∙ (λ i. all_alive l both.0 i ++ all_alive r both.1 i)
+
+  at_most : (es : List (K × V)) → length (alive due moment es) ≤ length es
+  at_most [] = omega arith
+  at_most (e ∷ es) =
+      let rest : length (alive due moment es) ≤ length es = at_most es in
+      elim (is_above moment (due e.1)) as (λ b. length (cond b (e ∷ alive due moment es) (alive due moment es)) ≤ suc (length es)) [ true ↦ omega arith | false ↦ omega arith ]
+
+  -- where it is not, something is due
+  pub fewer_alive : (s : Shape K V) → is_above moment (least due s) ≡ false → length (alive due moment (pairs s)) < length (pairs s)
+  fewer_alive none h = absurd (let e : true ≡ false = h in cc)
+  fewer_alive (one k v) h = (let e : length (alive due moment (pairs (one k v))) ≡ 0 = ap (λ b. length {A = K × V} (cond b ((k, v) ∷ []) [])) h in omega arith)
+  fewer_alive (fork l r) h = by (is_above moment (least due l)) (is_above moment (least due r)) refl refl (λ e. fewer_alive l e) (λ e. fewer_alive r e)
+    where
+      whole : length (alive due moment (pairs l ++ pairs r)) ≡ length (alive due moment (pairs l)) + length (alive due moment (pairs r))
+      whole = ap length (alive_append (pairs l) (pairs r)) ∙ length-append (alive due moment (pairs l)) (alive due moment (pairs r))
+      by : (a b : Bool) → is_above moment (least due l) ≡ a → is_above moment (least due r) ≡ b → (is_above moment (least due l) ≡ false → length (alive due moment (pairs l)) < length (pairs l)) → (is_above moment (least due r) ≡ false → length (alive due moment (pairs r)) < length (pairs r)) → length (alive due moment (pairs l ++ pairs r)) < length (pairs l ++ pairs r)
+      by false b p q on_left on_right =
+          let left : length (alive due moment (pairs l)) < length (pairs l) = on_left p in
+          let right : length (alive due moment (pairs r)) ≤ length (pairs r) = at_most (pairs r) in
+          omega (arith, whole, length-append (pairs l) (pairs r))
+      by true false p q on_left on_right =
+          let left : length (alive due moment (pairs l)) ≤ length (pairs l) = at_most (pairs l) in
+          let right : length (alive due moment (pairs r)) < length (pairs r) = on_right q in
+          omega (arith, whole, length-append (pairs l) (pairs r))
+      by true true p q on_left on_right = absurd (let e : true ≡ false = sym (above_earlier moment (least due l) (least due r) p q) ∙ h in cc)
 
   pub fewer_on : (test : K → Bool) (side : Bool) (es : List (K × V)) → AllOn test side es → AllOn test side (alive due moment es)
   fewer_on test side [] all = tt

@@ -1,15 +1,16 @@
 -- What is alive of the entries of a map is what is alive of the map.
-use Rattle.std.proofs.Common.{◌≡◌, ℕ, Bool, true, false, cond, List, [], ◌∷◌, Option, Some, None, refl, sym, ap, ◌∙◌, subst}
-use Rattle.std.specs.Prelude.{T, filter}
+use Rattle.std.proofs.Common.{◌≡◌, ℕ, ◌+◌, ◌<◌, Bool, true, false, cond, List, [], ◌∷◌, length, Option, Some, None, refl, sym, ap, ◌∙◌, subst, arith}
+use Rattle.std.specs.Prelude.{T, filter, is_some}
 use Rattle.std.specs.declared.cmp.Ordering.{Ordering}
 use Rattle.std.specs.declared.cmp.Ordering.TheVariants.{Less, Equal, Greater}
 use Rattle.std.specs.Ordering.{eq_by_cmp, is_eq, is_lt}
 use Rattle.std.specs.Cmp.{IsTotalOrder}
-use Rattle.std.specs.FinMap.{FinMap, entries, from_sorted, find, is_sorted, IsAntisymmetric, entries_sorted, same_map, get-entries, get-from_entries, get-from_sorted, from_entries}
+use Rattle.std.specs.FinMap.{FinMap, empty, entries, from_sorted, find, is_sorted, len, IsAntisymmetric, entries_sorted, same_map, get-entries, get-from_entries, get-from_sorted, from_entries, len-entries, len-empty, len-insert}
 use Rattle.std.specs.FinMap.Entries.{below_all}
 use Rattle.std.proofs.lemmas.Bool.{and_parts, and_from}
 use Rattle.merkle.specs.Alive.{is_above, alive, alive_map}
-use Rattle.merkle.specs.Shape.{Shape, pairs, IsTrie}
+use Rattle.merkle.specs.Shape.{Shape, pairs, IsTrie, least}
+use Rattle.merkle.proofs.AliveLemmas.{all_alive, fewer_alive}
 use Rattle.merkle.proofs.FindLemmas.{equal_of}
 use Rattle.merkle.proofs.MapLemmas.{Unique, unique_pairs}
 
@@ -40,6 +41,15 @@ module _ {K V : Type 0} {R : K → K → Ordering} (o : IsTotalOrder R) (same : 
       by true false f g rest = ap (λ c. cond c (Some e.1) (find R q (filter (λ x. p x.1) es))) g ∙ rest
       by false true f g rest = rest ∙ ap (if_above p) (absent q e es (equal_of _ g) u.0) ∙ sym (ap (λ b. cond b (Some e.1) None) f)
       by false false f g rest = rest
+
+  unique_alive : (es : List (K × V)) → Unique R es → Unique R (filter (λ e. p e.1) es)
+  unfolding if_above
+  unique_alive [] u = tt
+  unique_alive (e ∷ es) u =
+      elim (p e.1) as (λ b. Unique R (cond b (e ∷ filter (λ x. p x.1) es) (filter (λ x. p x.1) es))) [
+        | true ↦ (find_alive e.0 es u.1 ∙ ap (if_above p) u.0, unique_alive es u.1)
+        | false ↦ unique_alive es u.1
+      ]
 
   -- sorted ones are such
   none_below : (x : K) (es : List (K × V)) → T (below_all R x es) → find R x es ≡ None
@@ -84,3 +94,22 @@ module _ {K V : Type 0} {R : K → K → Ordering} (o : IsTotalOrder R) (same : 
 module _ {K V : Type 0} {R : K → K → Ordering} (o : IsTotalOrder R) (same : IsAntisymmetric R) where
   pub dropped : (due : V → Option ℕ) (moment : ℕ) (bit : K → ℕ → Bool) (bits : ℕ) (s : Shape K V) (new : List (K × V)) → IsTrie bit bits 0 s → new ≡ alive due moment (pairs s) → from_entries {R = R} new ≡ alive_map due moment (from_entries (pairs s))
   dropped due moment bit bits s new st e = ap (λ es. from_entries {R = R} es) e ∙ alive_of_map o same (λ v. is_above moment (due v)) (pairs s) (unique_pairs o same bit bits 0 s st)
+
+  -- a map of entries in which no key comes twice has as many
+  pub length_unique : (es : List (K × V)) → Unique R es → length (entries (from_entries {R = R} es)) ≡ length es
+  length_unique [] u = sym (len-entries empty) ∙ len-empty R V
+  length_unique (e ∷ es) u =
+      let m : FinMap R V = from_entries {R = R} es in
+      let rest : len m ≡ length es = len-entries m ∙ length_unique es u.1 in
+      sym (len-entries (from_entries {R = R} (e ∷ es))) ∙ len-insert o m e.0 e.1 ∙ ap (λ v. cond (is_some v) (len m) (len m + 1)) (get-from_entries o es e.0 ∙ u.0) ∙ omega (arith, rest)
+
+  pub none_due : (due : V → Option ℕ) (moment : ℕ) (bit : K → ℕ → Bool) (bits : ℕ) (s : Shape K V) → IsTrie bit bits 0 s → is_above moment (least due s) ≡ true → alive_map due moment (from_entries {R = R} (pairs s)) ≡ from_entries (pairs s)
+  none_due due moment bit bits s st above = sym (dropped due moment bit bits s (pairs s) st (sym (all_alive due moment s above)))
+
+  pub some_due : (due : V → Option ℕ) (moment : ℕ) (bit : K → ℕ → Bool) (bits : ℕ) (s : Shape K V) → IsTrie bit bits 0 s → is_above moment (least due s) ≡ false → alive_map due moment (from_entries {R = R} (pairs s)) ≡ from_entries (pairs s) → ⊥
+  some_due due moment bit bits s st low e =
+      let u = unique_pairs o same bit bits 0 s st in
+      let left : List (K × V) = alive due moment (pairs s) in
+      let less : length left < length (pairs s) = fewer_alive due moment s low in
+      let as_many : length left ≡ length (pairs s) = sym (length_unique left (unique_alive o same (λ v. is_above moment (due v)) (pairs s) u)) ∙ ap (λ m. length (entries m)) (dropped due moment bit bits s left st refl ∙ e) ∙ length_unique (pairs s) u in
+      omega arith

@@ -4,12 +4,12 @@ use Rattle.std.specs.Prelude.{Contains}
 use Rattle.std.proofs.lemmas.List.Elements.{Contains-append_left, Contains-append_right}
 use Rattle.std.specs.declared.cmp.Ordering.{Ordering}
 use Rattle.std.specs.Cmp.{IsTotalOrder}
-use Rattle.std.specs.FinMap.{FinMap, entries, find, IsAntisymmetric, entries_sorted, same_entries_map}
+use Rattle.std.specs.FinMap.{FinMap, entries, find, from_entries, get-entries, get-from_entries, IsAntisymmetric, entries_sorted, same_map, same_entries_map}
 use Rattle.std.specs.FinMap.Entries.{find-where_key, same_entries}
 use Rattle.sha2.proofs.Facts256.{length-sha256}
 use Rattle.wire.specs.FrontLaws.{split_at}
 use Rattle.merkle.specs.Shape.{Shape, none, one, fork, pairs, leaf_text, fork_text, hash_of}
-use Rattle.merkle.specs.Digest.{on_side, fork_over, chain_of, tree_of, texts_of, map_tree, map_texts, map_digest}
+use Rattle.merkle.specs.Digest.{on_side, fork_over, chain_of, tree_of, texts_of, map_tree, map_pairs, map_texts, map_digest}
 use Rattle.merkle.specs.Laws.{Distinct, AreAmong, IsExact, TellsMaps}
 use Rattle.merkle.proofs.PutLemmas.{or_else, find_append}
 
@@ -112,6 +112,11 @@ module _ {K V : Type 0} {R : K → K → Ordering} (same : IsAntisymmetric R) (b
       ap (find R q) (pairs_over l r) ∙ find_append R q (pairs l) (pairs r)
       ∙ (λ i. or_else (found left (suc depth) q (on_side other all) i) (found left (suc depth) q (on_side test all) i))
       ∙ on_sides test q all
+
+-- the entries of a map in the order of their paths are the map's
+pub pairs_make : {K V : Type 0} {R : K → K → Ordering} → IsTotalOrder R → IsAntisymmetric R → (bit : K → ℕ → Bool) (bits : ℕ) (m : FinMap R V) → from_entries {R = R} (map_pairs bit bits m) ≡ m
+unfolding map_tree
+pairs_make o same bit bits m = same_map o same _ _ (λ q. get-from_entries o (map_pairs bit bits m) q ∙ found same bit bits 0 q (entries m) ∙ sym (get-entries m q))
 
 pub same_maps : {K V : Type 0} {R : K → K → Ordering} → IsTotalOrder R → IsAntisymmetric R → (text : K → V → List ℕ) (bit : K → ℕ → Bool) (bits : ℕ) → IsExact text → (among : List ℕ → Type 0) → Distinct among → (m n : FinMap R V)
     → AreAmong (map_texts text bit bits m) among → AreAmong (map_texts text bit bits n) among → map_digest text bit bits m ≡ map_digest text bit bits n → m ≡ n

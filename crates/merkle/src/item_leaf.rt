@@ -20,6 +20,11 @@ impl TreeValue<Key> for Item {
         self.due
     }
 
+    fn put_text<S: Sink>(&self, key: &Key, sink: &mut S) -> Result<(), S::Refusal> {
+        key.put(sink)?;
+        self.put(sink)
+    }
+
     fn digest(&self, key: &Key) -> [u8; 32] {
         let mut hasher = Sha256::new();
         match put_leaf(key, self, &mut hasher) {
@@ -34,6 +39,5 @@ fn put_leaf<S: Sink>(key: &Key, item: &Item, sink: &mut S) -> Result<(), S::Refu
     ensures { OnOk result (Puts S.holds (leaf_text item_leaf key.now item.now) sink.old sink.new) }
 {
     sink.put(&[5u8])?;
-    key.put(sink)?;
-    item.put(sink)
+    item.put_text(key, sink)
 }

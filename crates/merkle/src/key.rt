@@ -1,7 +1,10 @@
-ghost use Rattle.std.specs.Prelude.{◌≡◌, ◌<◌, ℕ, Bool, List, Option};
+ghost use Rattle.std.specs.Prelude.{◌≡◌, ◌<◌, ℕ, Bool, List, Option, OnOk};
 ghost use Rattle.std.specs.FinMap.{IsAntisymmetric};
 ghost use Rattle.sha2.specs.Sha256.{sha256};
+ghost use Rattle.wire.specs.Record.{Puts};
 ghost use Rattle.merkle.specs.Shape.{leaf_text};
+
+use wire::Sink;
 
 /// A key that has a path: the bits by which a tree finds it. Only equal keys tie.
 pub trait TreeKey: Ord {
@@ -48,6 +51,10 @@ pub trait TreeValue<K> {
 
     fn due(&self) -> Option<u64>
         ensures { result ≡ due self.now };
+
+    /// Writes the text of the key with the value.
+    fn put_text<S: Sink>(&self, key: &K, sink: &mut S) -> Result<(), S::Refusal>
+        ensures { OnOk result (Puts S.holds (text key.now self.now) sink.old sink.new) };
 
     /// The digest of a leaf with this key and the value.
     fn digest(&self, key: &K) -> [u8; 32]

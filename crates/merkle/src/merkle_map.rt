@@ -2,17 +2,19 @@ ghost use Rattle.std.specs.Prelude.{◌≡◌, ◌+◌, cond, true, IfOk, OnOk, 
 ghost use Rattle.merkle.specs.Tree.{IsLeaf};
 
 use crate::dropping::drop_at;
+use crate::due::is_above;
 use crate::finding::{find_at, has_key};
 use crate::fork::{Leaf, Tree};
 use crate::hashing::{digest_at, rehash_at};
 use crate::key::{TreeKey, TreeValue};
 use crate::putting::put_at;
 use crate::removing::remove_at;
-use crate::walking::{Visitor, walk_at};
+use crate::walking::{Visitor, put_texts_at, walk_at};
 use base::Entry;
 use std::alloc::{AllocError, Global};
 use std::marker::Model;
 use std::sync::Arc;
+use wire::Sink;
 
 /// A map as a Merkle tree: a binary tree over the paths of its keys, which caches digests and due
 /// times. Clones share the tree, and a write copies the forks on one path.
@@ -71,8 +73,9 @@ fn len_after(len: u64, found: bool) -> Result<u64, AllocError>
 }
 
 impl<K: TreeKey + Drop, V: TreeValue<K> + Drop> MerkleMap<K, V> {
-    ghost use Rattle.std.specs.Prelude.{◌≡◌, ◌≤◌, ◌+◌, [], true, is_some, length, IfOk, OnOk, OnErr};
+    ghost use Rattle.std.specs.Prelude.{◌≡◌, ◌≢◌, ◌≤◌, ◌+◌, [], true, false, is_some, length, flat_map, IfOk, OnOk, OnErr};
     ghost use Rattle.std.specs.Option.{option_copied};
+    ghost use Rattle.wire.specs.Record.{Puts};
     ghost use Rattle.std.specs.FinMap as map;
     ghost use Rattle.merkle.specs.Digest.{map_digest, map_pairs};
     ghost use Rattle.merkle.specs.Alive.{alive_map};
@@ -91,7 +94,8 @@ impl<K: TreeKey + Drop, V: TreeValue<K> + Drop> MerkleMap<K, V> {
 
     /// How many entries it has.
     pub fn len(&self) -> u64
-        ensures { result ≡ length self.now }
+        ensures listed { result ≡ length self.now }
+        ensures mapped { result ≡ length (map.entries (map.from_entries {R = K.cmp} self.now)) }
     {
         self.len
     }
@@ -152,6 +156,14 @@ impl<K: TreeKey + Drop, V: TreeValue<K> + Drop> MerkleMap<K, V> {
         Ok(())
     }
 
+    /// Whether an entry is due at the moment or before it. It visits none.
+    pub fn has_due(&self, moment: u64) -> bool
+        ensures none { result ≡ false → alive_map V.due moment (map.from_entries {R = K.cmp} self.now) ≡ map.from_entries self.now }
+        ensures some { result ≡ true → alive_map V.due moment (map.from_entries {R = K.cmp} self.now) ≢ map.from_entries self.now }
+    {
+        !is_above(moment, self.due)
+    }
+
     /// Drops each entry that is due at the moment or before it, and answers how many. It visits just
     /// these. The only error is a failed allocation, and then nothing has changed.
     pub fn drop_due(&mut self, moment: u64) -> Result<u64, AllocError>
@@ -190,6 +202,14 @@ impl<K: TreeKey + Drop, V: TreeValue<K> + Drop> MerkleMap<K, V> {
     {
         let _ = rehash_at(&mut self.tree);
         self.digest()
+    }
+
+    /// Writes the texts of its entries, in the order of their paths.
+    pub fn put_texts<S: Sink>(&self, sink: &mut S) -> Result<(), S::Refusal>
+        ensures written { OnOk result (Puts S.holds (flat_map (λ e. V.text e.0 e.1) self.now) sink.old sink.new) }
+        ensures order { self.now ≡ map_pairs K.bit K.BITS (map.from_entries {R = K.cmp} self.now) }
+    {
+        put_texts_at(&self.tree, sink)
     }
 
     /// Shows the entries to a visitor, in the order of their paths, until it takes no more.

@@ -1,11 +1,14 @@
-ghost use Rattle.std.specs.Prelude.{◌≡◌, [], ◌∷◌, List, OnOk};
+ghost use Rattle.std.specs.Prelude.{◌≡◌, [], ◌∷◌, List, flat_map, OnOk};
+ghost use Rattle.wire.specs.Record.{Puts};
 ghost use Rattle.merkle.specs.Shape.{pairs};
 ghost use Rattle.merkle.specs.Tree.{shape};
 ghost use Rattle.merkle.specs.Walk.{Sees};
 
 use crate::fork::Tree;
+use crate::key::{TreeKey, TreeValue};
 use base::Entry;
 use std::alloc::AllocError;
+use wire::Sink;
 
 /// What is shown the entries of a map, one after another: a vector of them, say, or what writes their
 /// texts.
@@ -45,6 +48,23 @@ pub(crate) fn walk_at<K, V, W: Visitor<K, V>>(
         Tree::Fork(fork) => {
             walk_at(&fork.left, visitor)?;
             walk_at(&fork.right, visitor)
+        }
+    }
+}
+
+/// Writes the texts of the entries of a tree, in the order of their paths.
+pub(crate) fn put_texts_at<K: TreeKey, V: TreeValue<K>, S: Sink>(
+    tree: &Tree<K, V>,
+    sink: &mut S,
+) -> Result<(), S::Refusal>
+    ensures { OnOk result (Puts S.holds (flat_map (λ e. V.text e.0 e.1) (pairs (shape tree.now))) sink.old sink.new) }
+{
+    match tree {
+        Tree::Empty => Ok(()),
+        Tree::Leaf(leaf) => leaf.entry.value().put_text(leaf.entry.key(), sink),
+        Tree::Fork(fork) => {
+            put_texts_at(&fork.left, sink)?;
+            put_texts_at(&fork.right, sink)
         }
     }
 }

@@ -1,6 +1,6 @@
 ghost use Rattle.std.specs.Prelude.{◌≤◌, length};
 
-use items::Item;
+use items::{Item, Store};
 use merkle::MerkleMap;
 use proto::{Block, Key, is_key_text};
 use std::alloc::{AllocError, Global};
@@ -58,6 +58,11 @@ pub fn put_numbered(
 ) -> Result<(), AllocError> {
     let key = numbered_key(alloc, number)?;
     page.put(alloc, key, numbered_item(alloc, number)?)
+}
+
+/// Puts the item of a number into a store.
+pub fn put_into<S: Store>(alloc: Global, store: &mut S, number: u32) -> Result<(), AllocError> {
+    store.put(numbered_key(alloc, number)?, numbered_item(alloc, number)?)
 }
 
 pub fn remove_numbered(

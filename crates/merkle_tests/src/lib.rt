@@ -1,4 +1,4 @@
-//! Tests of `merkle`: rows worked by another program, orders of writes, and each call that asks for
+//! Tests of `merkle` and `item_tree`: rows worked by another program, orders of writes, and each call that asks for
 //! memory made once with ample memory.
 #![tactic(auto)]
 
@@ -8,3 +8,5 @@ mod entries;
 mod of_orders;
 #[cfg(test)]
 mod of_rows;
+#[cfg(test)]
+mod of_stores;
