@@ -1,5 +1,6 @@
 //! Each line where memory may be refused: where a growth of `handle` is, it is `NoMemory`, and the
 //! client's part is stopped and gives nothing more. A row ends at the first one that was refused.
+//! `scripts/refusals` refuses each in turn.
 
 use crate::handed::Handed::{Again, Deleted, Feed, Found, Hangup, Stored};
 use crate::seen::{Row, closes};

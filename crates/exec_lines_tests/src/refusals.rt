@@ -1,6 +1,7 @@
 //! Each line of the table through `ExecNode::handle`, and a restart, where memory may be refused:
-//! where a growth is, the executor is stopped and has its old record. `NoMemory` ends a row that was
-//! refused some, and `NotOpen` one in which something else does not hold.
+//! where a growth is, the executor is stopped and has its old record, with which it is opened again.
+//! `scripts/refusals` refuses each growth in turn. `NoMemory` ends a row that was refused some, and
+//! `NotOpen` one in which something else does not hold.
 
 use crate::adopting::made;
 use crate::given::{batch, commit, decided, from_executor, order, want};
@@ -51,6 +52,13 @@ fn ends(executor: Executor, fault: Fault) -> Result<Executor, Fault> {
     Err(fault)
 }
 
+/// Whether it is stopped with the record of these bytes, and stays so.
+fn is_stopped(alloc: Global, executor: &mut Executor, bytes: &[u8]) -> Result<bool, Fault> {
+    let again = executor.handle(alloc, Input::Step(0));
+    let stays = matches!(again, Err(Fault::Stopped)) && !executor.is_up();
+    Ok(stays && kept(alloc, executor.keeper())?.as_slice() == bytes)
+}
+
 /// What `handle` answered: the letters that were expected, after `*` where the record is another and
 /// else `.`; or `NoMemory`, and then it is stopped and has its old record.
 fn answered(
@@ -60,16 +68,19 @@ fn answered(
     answer: Result<Letters, Fault>,
     expected: &[u8],
 ) -> Result<Letters, Fault> {
-    let after = kept(alloc, executor.keeper())?;
-    let is_same = after.as_slice() == before;
     let letters = match answer {
         Ok(letters) => letters,
         Err(fault) => {
-            holds(fault == Fault::NoMemory && is_same && !executor.is_up())?;
+            holds(fault == Fault::NoMemory && is_stopped(alloc, executor, before)?)?;
             return Err(fault);
         }
     };
-    let first = if is_same { b'.' } else { b'*' };
+    let after = kept(alloc, executor.keeper())?;
+    let first = if after.as_slice() == before {
+        b'.'
+    } else {
+        b'*'
+    };
     holds(are_letters(alloc, first, letters.as_slice(), expected)?)?;
     Ok(letters)
 }
@@ -155,6 +166,18 @@ fn restart(alloc: Global, leader: Executor) -> Result<(), Fault> {
     Ok(())
 }
 
+/// It goes on from its record also where it, or the other one, was refused some memory, which is there
+/// then.
+fn restart_after(alloc: Global, leader: Executor, fault: Fault) -> Result<(), Fault> {
+    match ExecNode::open(alloc, U, LEADER, leader.end()) {
+        Ok((again, _)) => {
+            drop(again.end());
+            Err(fault)
+        }
+        Err(_) => Err(Fault::NotOpen),
+    }
+}
+
 fn play_with(alloc: Global, leader: Executor) -> Result<(), Fault> {
     let mut leader = leader;
     let mut other = match opens(alloc, OTHER, MemKeeper::new(), b">") {
@@ -168,10 +191,7 @@ fn play_with(alloc: Global, leader: Executor) -> Result<(), Fault> {
     drop(other.end());
     match played {
         Ok(()) => restart(alloc, leader),
-        Err(fault) => {
-            drop(leader.end());
-            Err(fault)
-        }
+        Err(fault) => restart_after(alloc, leader, fault),
     }
 }
 

@@ -52,14 +52,10 @@ fn kept_after(alloc: Global, bytes: &[u8]) -> Result<Option<Vec<u8>>, Fault> {
     }
 }
 
-/// How many of the proper fronts of the bytes are tried.
-const FRONTS: usize = 50;
-
-/// How many of them are taken.
+/// How many of the proper fronts of the bytes are taken.
 fn fronts_taken(alloc: Global, bytes: &[u8]) -> Result<u32, Fault> {
     let mut taken = 0u32;
-    for part in 0..FRONTS {
-        let len = bytes.len().wrapping_mul(part) / FRONTS;
+    for len in 0..bytes.len() {
         let front = bytes.get(..len).unwrap_or(&[]);
         if kept_after(alloc, front)?.is_some() {
             taken = taken.saturating_add(1);
@@ -94,19 +90,10 @@ fn is_taken(alloc: Global, old: &[u8], now: &[u8], index: usize) -> Result<bool,
     }
 }
 
-/// Which of the bytes are changed in turn: one in so many, from an index on.
-#[derive(Clone, Copy)]
-struct Changed {
-    from: usize,
-    apart: usize,
-    count: usize,
-}
-
 /// How many of the records with one byte changed are taken.
-fn changes_taken(alloc: Global, old: &[u8], now: &[u8], which: Changed) -> Result<u32, Fault> {
+fn changes_taken(alloc: Global, old: &[u8], now: &[u8]) -> Result<u32, Fault> {
     let mut taken = 0u32;
-    for i in 0..which.count {
-        let index = which.from.wrapping_add(which.apart.wrapping_mul(i));
+    for index in 0..old.len() {
         if is_taken(alloc, old, now, index)? {
             taken = taken.saturating_add(1);
         }
@@ -114,32 +101,22 @@ fn changes_taken(alloc: Global, old: &[u8], now: &[u8], which: Changed) -> Resul
     Ok(taken)
 }
 
+/// In a record that is taken with one byte changed, that byte is one of 64: of the count of decrees, and of
+/// the number, the token, the epoch and its first number that they stand for.
 #[test]
 fn what_decrees_came_to_may_be_another_in_an_old_record(rt: HostRuntime) -> Result<(), Fail> {
-    // The count of decrees, and the number, the token, the epoch and its first number that they stand
-    // for: 8, 8, 32, 8 and 8 bytes. What stands before and after them is fixed.
-    let which = Changed {
-        from: 0,
-        apart: 1,
-        count: 80,
-    };
     let (old, now) = (new_record(rt.alloc(), OLD)?, new_record(rt.alloc(), NOW)?);
-    let taken = changes_taken(rt.alloc(), old.as_slice(), now.as_slice(), which)?;
+    let taken = changes_taken(rt.alloc(), old.as_slice(), now.as_slice())?;
     assert_eq!(rt; taken, 64);
     Ok(())
 }
 
 #[test]
 fn the_chain_of_an_old_record_may_not_be_another(rt: HostRuntime) -> Result<(), Fail> {
-    let which = Changed {
-        from: 68,
-        apart: 11,
-        count: 65,
-    };
     let old = stopped_record(rt.alloc(), OLD)?;
     let now = stopped_record(rt.alloc(), NOW)?;
-    let taken = changes_taken(rt.alloc(), old.as_slice(), now.as_slice(), which)?;
-    assert_eq!(rt; taken, 0);
+    let taken = changes_taken(rt.alloc(), old.as_slice(), now.as_slice())?;
+    assert_eq!(rt; taken, 64);
     Ok(())
 }
 

@@ -1,6 +1,7 @@
-//! Records that are cut short or changed.
+//! Records of today that are cut at each byte, and those of which each byte is another in turn.
 
-use crate::tests::{first_keeper, opened, record};
+use crate::old_bytes::{NOW, stopped_record};
+use crate::tests::{Executor, opened, record};
 use base::Text;
 use keeper::{Keeper, MemKeeper};
 use proto::Fault;
@@ -18,23 +19,31 @@ pub fn keeper_of(alloc: Global, bytes: &[u8]) -> Result<MemKeeper, Fault> {
     Ok(keeper)
 }
 
-/// Whether an executor goes on from these bytes. It leaves them as they are.
+/// Whether these bytes are the executor's record, and are kept. `NotOpen` where they are not.
+fn is_of(alloc: Global, executor: Executor, bytes: &[u8]) -> Result<bool, Fault> {
+    let own = executor.state().record(alloc, 0, 0);
+    let kept = record(alloc, &executor.end())?;
+    if kept.as_slice() == bytes && own?.joined(alloc)?.as_slice() == bytes {
+        Ok(true)
+    } else {
+        Err(Fault::NotOpen)
+    }
+}
+
+/// Whether an executor goes on from these bytes, as the one whose record they are.
 fn goes_on_from(alloc: Global, bytes: &[u8]) -> Result<bool, Fault> {
     match opened(alloc, keeper_of(alloc, bytes)?) {
         Err(Fault::BadRecord) => Ok(false),
         Err(fault) => Err(fault),
-        Ok((executor, _)) => {
-            let after = record(alloc, &executor.end())?;
-            Ok(after.as_slice() == bytes)
-        }
+        Ok((executor, _)) => is_of(alloc, executor, bytes),
     }
 }
 
-/// From how many of the fronts of the bytes an executor goes on: of 40, which lie 37 bytes apart.
+/// From how many of the proper fronts of the bytes an executor goes on.
 fn fronts_taken(alloc: Global, bytes: &[u8]) -> Result<u32, Fault> {
     let mut taken = 0u32;
-    for count in 0..40u32 {
-        let front = bytes.get(..37 * count as usize).unwrap_or(&[]);
+    for len in 0..bytes.len() {
+        let front = bytes.get(..len).unwrap_or(&[]);
         if goes_on_from(alloc, front)? {
             taken = taken.saturating_add(1);
         }
@@ -44,7 +53,7 @@ fn fronts_taken(alloc: Global, bytes: &[u8]) -> Result<u32, Fault> {
 
 #[test]
 fn no_proper_front_of_a_record_is_one(rt: HostRuntime) -> Result<(), Fail> {
-    let bytes = record(rt.alloc(), &first_keeper(rt.alloc())?)?;
+    let bytes = stopped_record(rt.alloc(), NOW)?;
     assert!(rt; goes_on_from(rt.alloc(), bytes.as_slice())?);
     assert_eq!(rt; fronts_taken(rt.alloc(), bytes.as_slice())?, 0);
     Ok(())
@@ -59,11 +68,11 @@ pub fn changed(alloc: Global, bytes: &[u8], index: usize) -> Result<Vec<u8>, Fau
     Ok(other)
 }
 
-/// From how many of the records with one of the first 80 bytes changed an executor goes on.
+/// From how many of the records with one byte changed an executor goes on.
 fn changes_taken(alloc: Global, bytes: &[u8]) -> Result<u32, Fault> {
     let mut taken = 0u32;
-    for index in 0..80u32 {
-        let other = changed(alloc, bytes, index as usize)?;
+    for index in 0..bytes.len() {
+        let other = changed(alloc, bytes, index)?;
         if goes_on_from(alloc, other.as_slice())? {
             taken = taken.saturating_add(1);
         }
@@ -75,7 +84,7 @@ fn changes_taken(alloc: Global, bytes: &[u8]) -> Result<u32, Fault> {
 fn only_what_decrees_came_to_may_be_another(rt: HostRuntime) -> Result<(), Fail> {
     // The count of decrees, and of what they stand for the number, the token, the epoch and the first
     // number of the epoch: 8, 8, 32, 8 and 8 bytes. What stands before and after them is fixed.
-    let bytes = record(rt.alloc(), &first_keeper(rt.alloc())?)?;
+    let bytes = stopped_record(rt.alloc(), NOW)?;
     assert_eq!(rt; changes_taken(rt.alloc(), bytes.as_slice())?, 64);
     Ok(())
 }

@@ -61,7 +61,7 @@ fn replay_one(
 
 /// Adds the answers to each request, the request at place `p` being the one at position `p`, where the
 /// steps are made one after the other in the order of these places.
-fn replay(
+pub fn replay(
     alloc: Global,
     plain: &mut PlainStore,
     group: &[Task],
@@ -308,7 +308,7 @@ fn orders_of_many_rounds_replay(rt: HostRuntime) -> Result<(), Fail> {
 }
 
 /// One of the eight shared keys, at random.
-fn shared_key(words: &mut Lcg64Xsh32) -> u8 {
+pub fn shared_key(words: &mut Lcg64Xsh32) -> u8 {
     b'0' + (words.next_word() % 8) as u8
 }
 

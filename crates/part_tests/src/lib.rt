@@ -1,5 +1,5 @@
-//! Tests of the crates that one server stands on, of `states`, and of those below `verifier`: worked
-//! examples, and each call that asks for memory made once with ample memory, which no contract can promise.
+//! Tests of the crates that one server stands on, and of those below `verifier`: worked examples, and
+//! each call that asks for memory made once with ample memory, which no contract can promise.
 //!
 //! They call what is public, and stand in a crate of their own: a crate that has tests is proved once
 //! more with them.
@@ -28,12 +28,8 @@ mod of_proto;
 #[cfg(test)]
 mod of_sessions;
 #[cfg(test)]
-mod of_states;
-#[cfg(test)]
 mod of_token;
 #[cfg(test)]
 mod of_view_change;
-#[cfg(test)]
-mod of_wire;
 #[cfg(test)]
 mod requests;

@@ -32,10 +32,22 @@ fn add_clients_of(batch: &Batch, clients: &mut Vec<u16>) -> Result<(), AllocErro
     Ok(())
 }
 
+/// The next batch. Where a growth is refused it is cut once more: nothing has changed by then.
+fn cut_again(
+    alloc: Global,
+    gather: &mut Gather,
+    sessions: &Sessions,
+) -> Result<Option<Batch>, Fault> {
+    match gather.cut(alloc, 1, 1, 1000, sessions) {
+        Err(Fault::NoMemory) => gather.cut(alloc, 1, 1, 1000, sessions),
+        cut => cut,
+    }
+}
+
 /// The clients of the next batch's requests.
 fn cut_clients(alloc: Global, gather: &mut Gather, sessions: &Sessions) -> Result<Vec<u16>, Fault> {
     let mut clients = Vec::new(alloc);
-    if let Some(batch) = gather.cut(alloc, 1, 1, 1000, sessions)? {
+    if let Some(batch) = cut_again(alloc, gather, sessions)? {
         add_clients_of(&batch, &mut clients)?;
     }
     Ok(clients)
@@ -81,14 +93,30 @@ fn sixty_four_requests_make_one_batch(rt: HostRuntime) -> Result<(), Fail> {
     Ok(())
 }
 
+/// Whether of 65 clients the first 64 are in a batch, and the last one in the next.
+fn cuts_65_in_two(alloc: Global) -> Result<bool, Fault> {
+    let mut gather = Gather::new(alloc);
+    add_clients(alloc, &mut gather, 65)?;
+    let sessions = Sessions::new(alloc)?;
+    Ok(
+        cuts_the_first_64(alloc, &mut gather, &sessions)?
+            && gather.len() == 1
+            && cuts(alloc, &mut gather, &sessions, &[65])?
+            && gather.is_empty(),
+    )
+}
+
 #[test]
 fn a_65th_client_waits_for_the_next_batch(rt: HostRuntime) -> Result<(), Fail> {
-    let mut gather = Gather::new(rt.alloc());
-    add_clients(rt.alloc(), &mut gather, 65)?;
-    let sessions = Sessions::new(rt.alloc())?;
-    assert!(rt; cuts_the_first_64(rt.alloc(), &mut gather, &sessions)?);
-    assert!(rt; gather.len() == 1);
-    assert!(rt; cuts(rt.alloc(), &mut gather, &sessions, &[65])?);
+    assert!(rt; cuts_65_in_two(rt.alloc())?);
+    Ok(())
+}
+
+/// `scripts/refusals` refuses each growth of it in turn.
+#[test]
+fn a_refused_cut_changes_nothing(rt: HostRuntime) -> Result<(), Fail> {
+    let cut = cuts_65_in_two(rt.alloc());
+    assert!(rt; cut == Ok(true) || cut == Err(Fault::NoMemory));
     Ok(())
 }
 

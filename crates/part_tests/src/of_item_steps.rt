@@ -1,36 +1,49 @@
 //! Commands on pages, each as a batch by itself at a moment of its own.
 
 use item_steps::{Answer, Stamp, Step, apply, reply_of, steps_of};
-use items::Store;
+use items::{PlainStore, Store};
 use pages::Pages;
 use proto::{Command, Reader, Turn, write_reply};
 use std::alloc::{AllocError, Global};
 use std::test::Fail;
 
-fn make_steps(
+/// What the step gives. Where a growth is refused it is made once more: nothing has changed by then.
+fn apply_again<S: Store>(
     alloc: Global,
-    pages: &mut Pages,
+    store: &mut S,
+    step: &Step,
+    at: Stamp,
+) -> Result<Answer, AllocError> {
+    match apply(alloc, store, step, at) {
+        Ok(answer) => Ok(answer),
+        Err(_) => apply(alloc, store, step, at),
+    }
+}
+
+fn make_steps<S: Store>(
+    alloc: Global,
+    store: &mut S,
     at: Stamp,
     steps: &[Step],
     answers: &mut Vec<Answer>,
 ) -> Result<(), AllocError> {
     for step in steps {
-        answers.push(apply(alloc, pages, step, at)?)?;
+        answers.push(apply_again(alloc, store, step, at)?)?;
     }
     Ok(())
 }
 
 /// Adds the text of the command's reply.
-fn run(
+fn run<S: Store>(
     alloc: Global,
-    pages: &mut Pages,
+    store: &mut S,
     at: Stamp,
     command: &Command,
     out: &mut Vec<u8>,
 ) -> Result<(), AllocError> {
     let steps = steps_of(alloc, command)?;
     let mut answers = Vec::new(alloc);
-    make_steps(alloc, pages, at, steps.as_slice(), &mut answers)?;
+    make_steps(alloc, store, at, steps.as_slice(), &mut answers)?;
     if answers.len() == steps.len() {
         let reply = reply_of(alloc, command, answers.as_slice())?;
         write_reply(&reply, out)?;
@@ -38,26 +51,37 @@ fn run(
     Ok(())
 }
 
-fn run_turns(
+/// Drops what is due; once more where a growth is refused.
+fn drop_due_again<S: Store>(store: &mut S, moment: u32) -> Result<(), AllocError> {
+    match store.drop_due(moment) {
+        Ok(()) => Ok(()),
+        Err(_) => store.drop_due(moment),
+    }
+}
+
+fn run_turns<S: Store>(
     alloc: Global,
-    pages: &mut Pages,
+    store: &mut S,
     at: Stamp,
     turns: &[Turn],
     out: &mut Vec<u8>,
 ) -> Result<(), AllocError> {
-    pages.drop_due(at.moment)?;
+    drop_due_again(store, at.moment)?;
     for turn in turns {
         if let Turn::Ask(command, _) = turn {
-            run(alloc, pages, at, command, out)?;
+            run(alloc, store, at, command, out)?;
         }
     }
     Ok(())
 }
 
-fn run_lines(
+/// A command's lines, and the moment of the batch that it is.
+type Asked<'a> = (u32, &'a [u8]);
+
+fn run_lines<S: Store>(
     alloc: Global,
-    pages: &mut Pages,
-    lines: &[(u32, &[u8])],
+    store: &mut S,
+    lines: &[Asked],
     out: &mut Vec<u8>,
 ) -> Result<(), AllocError> {
     for (i, (moment, line)) in lines.iter().enumerate() {
@@ -66,13 +90,13 @@ fn run_lines(
             moment: *moment,
             stamp: (i as u64).wrapping_add(1).wrapping_mul(64),
         };
-        run_turns(alloc, pages, at, turns.as_slice(), out)?;
+        run_turns(alloc, store, at, turns.as_slice(), out)?;
     }
     Ok(())
 }
 
 /// What these lines give, each as a batch at its moment, the first as batch 1.
-fn given(alloc: Global, lines: &[(u32, &[u8])]) -> Result<Vec<u8>, AllocError> {
+fn given(alloc: Global, lines: &[Asked]) -> Result<Vec<u8>, AllocError> {
     let mut pages = Pages::new(alloc)?;
     let mut out = Vec::new(alloc);
     run_lines(alloc, &mut pages, lines, &mut out)?;
@@ -128,5 +152,131 @@ fn a_get_beside_a_gat_sees_the_item_in_both_orders(rt: HostRuntime) -> Result<()
             b"STORED\r\nVALUE c 0 1\r\n5\r\nEND\r\nVALUE c 0 1\r\n5\r\nEND\r\n".as_slice()
         );
     }
+    Ok(())
+}
+
+/// Whether these lines give this, over the store.
+fn give<S: Store>(
+    alloc: Global,
+    store: &mut S,
+    lines: &[Asked],
+    expected: &[u8],
+) -> Result<bool, AllocError> {
+    let mut out = Vec::new(alloc);
+    run_lines(alloc, store, lines, &mut out)?;
+    Ok(out.as_slice() == expected)
+}
+
+fn give_on_pages(alloc: Global, lines: &[Asked], expected: &[u8]) -> Result<bool, AllocError> {
+    let mut pages = Pages::new(alloc)?;
+    give(alloc, &mut pages, lines, expected)
+}
+
+/// Whether these lines give this, over pages and over a plain store.
+fn give_on_both(alloc: Global, lines: &[Asked], expected: &[u8]) -> Result<bool, AllocError> {
+    let mut plain = PlainStore::new(alloc);
+    Ok(give(alloc, &mut plain, lines, expected)? && give_on_pages(alloc, lines, expected)?)
+}
+
+const NO_NUMBER: &[u8] =
+    b"STORED\r\nCLIENT_ERROR cannot increment or decrement non-numeric value\r\n";
+
+#[test]
+fn what_is_counted_is_below_2_to_the_64(rt: HostRuntime) -> Result<(), Fail> {
+    for line in [b"incr n 1\r\n", b"decr n 1\r\n", b"incr n 0\r\n"] {
+        let lines: [Asked; 2] = [
+            (1000, b"set n 0 0 20\r\n18446744073709551616\r\n"),
+            (1000, line.as_slice()),
+        ];
+        assert!(rt; give_on_both(rt.alloc(), &lines, NO_NUMBER)?);
+    }
+    Ok(())
+}
+
+fn add_all(out: &mut Vec<u8>, pieces: &[&[u8]]) -> Result<(), AllocError> {
+    for piece in pieces {
+        out.extend_from_slice(*piece)?;
+    }
+    Ok(())
+}
+
+fn joined(alloc: Global, pieces: &[&[u8]]) -> Result<Vec<u8>, AllocError> {
+    let mut out = Vec::new(alloc);
+    add_all(&mut out, pieces)?;
+    Ok(out)
+}
+
+/// Whether an item of this block, which is one byte short of the limit, takes one byte more, and then none.
+fn is_filled(alloc: Global, block: &[u8]) -> Result<bool, AllocError> {
+    let set = joined(alloc, &[b"set a 0 0 1048575\r\n", block, b"\r\n"])?;
+    let lines: [Asked; 4] = [
+        (1000, set.as_slice()),
+        (1000, b"append a 0 0 1\r\ny\r\n"),
+        (1000, b"append a 0 0 1\r\nz\r\n"),
+        (1000, b"get a\r\n"),
+    ];
+    let expected = joined(
+        alloc,
+        &[
+            b"STORED\r\nSTORED\r\nSERVER_ERROR object too large for cache\r\nVALUE a 0 1048576\r\n",
+            block,
+            b"y\r\nEND\r\n",
+        ],
+    )?;
+    let out = given(alloc, &lines)?;
+    Ok(out.as_slice() == expected.as_slice())
+}
+
+#[test]
+fn what_is_appended_fits_the_limit_of_a_block(rt: HostRuntime) -> Result<(), Fail> {
+    let block = vec![in rt.alloc(); b'x'; 1048575]?;
+    assert!(rt; is_filled(rt.alloc(), block.as_slice())?);
+    Ok(())
+}
+
+/// Each command, once where it does something and once where it does not. The unique of what line `n`
+/// stores is `64 * n`.
+const EACH: [Asked<'static>; 25] = [
+    (1000, b"set a 1 0 1\r\n5\r\n"),
+    (1000, b"add a 1 0 1\r\n6\r\n"),
+    (1000, b"add b 2 20 1\r\n6\r\n"),
+    (1000, b"replace c 1 0 1\r\n7\r\n"),
+    (1000, b"replace a 3 0 1\r\n7\r\n"),
+    (1000, b"append a 0 0 2\r\n89\r\n"),
+    (1000, b"prepend a 0 0 1\r\n6\r\n"),
+    (1000, b"append c 0 0 1\r\n6\r\n"),
+    (1000, b"incr a 5\r\n"),
+    (1000, b"decr a 1\r\n"),
+    (1000, b"incr c 1\r\n"),
+    (1000, b"gets a b c\r\n"),
+    (1000, b"cas a 4 0 1 64\r\nx\r\n"),
+    (1000, b"cas a 4 0 1 640\r\nx\r\n"),
+    (1000, b"cas c 4 0 1 640\r\nx\r\n"),
+    (1000, b"incr a 1\r\n"),
+    (1000, b"touch a 10\r\n"),
+    (1000, b"touch c 10\r\n"),
+    (1005, b"gats 30 b c a\r\n"),
+    (1034, b"gat 1 a b\r\n"),
+    (1035, b"get a b\r\n"),
+    (1036, b"set d 0 0 1\r\n1\r\n"),
+    (1036, b"delete d\r\n"),
+    (1036, b"delete d\r\n"),
+    (1036, b"get a b c d\r\n"),
+];
+
+const EACH_GIVES: &[u8] =
+    b"STORED\r\nNOT_STORED\r\nSTORED\r\nNOT_STORED\r\nSTORED\r\nSTORED\r\nSTORED\r\nNOT_STORED\r\n6794\r\n6793\r\nNOT_FOUND\r\nVALUE a 3 4 640\r\n6793\r\nVALUE b 2 1 192\r\n6\r\nEND\r\nEXISTS\r\nSTORED\r\nNOT_FOUND\r\nCLIENT_ERROR cannot increment or decrement non-numeric value\r\nTOUCHED\r\nNOT_FOUND\r\nVALUE b 2 1 192\r\n6\r\nVALUE a 4 1 896\r\nx\r\nEND\r\nVALUE a 4 1\r\nx\r\nVALUE b 2 1\r\n6\r\nEND\r\nEND\r\nSTORED\r\nDELETED\r\nNOT_FOUND\r\nEND\r\n";
+
+#[test]
+fn each_command_on_pages_and_on_a_plain_store(rt: HostRuntime) -> Result<(), Fail> {
+    assert!(rt; give_on_both(rt.alloc(), &EACH, EACH_GIVES)?);
+    Ok(())
+}
+
+/// `scripts/refusals` refuses each growth of it in turn.
+#[test]
+fn a_refused_step_changes_nothing(rt: HostRuntime) -> Result<(), Fail> {
+    let gave = give_on_both(rt.alloc(), &EACH, EACH_GIVES);
+    assert!(rt; gave == Ok(true) || gave.is_err());
     Ok(())
 }

@@ -468,12 +468,13 @@ fn last_agrees(states: &[(Snapshot, PlainStore)]) -> bool {
     states.last().is_some_and(|state| agree(&state.0, &state.1))
 }
 
+/// 1,000 random steps, of which some of the last 10 are undone after every 10th.
 #[test]
 fn random_steps_with_undo(rt: HostRuntime) -> Result<(), Fail> {
     let alloc = rt.alloc();
     let mut words = Lcg64Xsh32::seed_from_u64(20);
     let mut states = vec![in alloc; (Pages::new(alloc)?.seal(), PlainStore::new(alloc))]?;
-    for tens in 0..40u32 {
+    for tens in 0..100u32 {
         add_states(alloc, &mut words, &mut states, 10)?;
         assert!(rt; last_agrees(states.as_slice()), "before undo {tens}");
         let back = 1 + (words.next_word() % 9) as usize;

@@ -67,34 +67,9 @@ fn is_need(alloc: Global, bytes: &[u8]) -> Result<bool, Fault> {
     }
 }
 
-/// The record of a need of so many digests.
-fn add_digests(bytes: &mut Vec<u8>, count: u32) -> Result<(), AllocError> {
-    bytes.extend_from_slice(&[0; 8])?;
-    bytes.extend_from_slice(&count.to_be_bytes())?;
-    for _ in 0..count {
-        bytes.extend_from_slice(&[1; 32])?;
-    }
-    Ok(())
-}
-
-fn is_need_of(alloc: Global, count: u32) -> Result<bool, Fault> {
-    let mut bytes = Vec::new(alloc);
-    add_digests(&mut bytes, count)?;
-    is_need(alloc, bytes.as_slice())
-}
-
-#[test]
-fn a_need_has_a_digest_for_each_page(rt: HostRuntime) -> Result<(), Fail> {
-    let count = PAGES as u32;
-    assert!(rt; is_need_of(rt.alloc(), count)?);
-    assert!(rt; !is_need_of(rt.alloc(), count - 1)?);
-    assert!(rt; !is_need_of(rt.alloc(), count + 1)?);
-    Ok(())
-}
-
-/// The fields and sessions of the state of a number, whose first and last bytes are these.
-fn add_fields(bytes: &mut Vec<u8>, first: u8, last: u8) -> Result<(), AllocError> {
-    bytes.extend_from_slice(&[2, first, 0, 0, 0, 0, 0, 0, last])?;
+/// The fields and sessions of the state of number 3.
+fn add_fields(bytes: &mut Vec<u8>) -> Result<(), AllocError> {
+    bytes.extend_from_slice(&[2, 0, 0, 0, 0, 0, 0, 0, 3])?;
     bytes.extend_from_slice(&[7; 32])?;
     bytes.extend_from_slice(&[0, 0, 0, 0, 0, 0, 0, 4])?;
     bytes.extend_from_slice(&[9; 32])?;
@@ -110,25 +85,12 @@ const PAGE: &[u8] = &[
 /// Page 34, without items.
 const EMPTY: &[u8] = &[34, 0, 0, 0, 0, 0];
 
-/// Page 35, with a key of page 33.
-const STRAY: &[u8] = &[
-    35, 0, 0, 0, 0, 1, 1, b'!', 0, 0, 0, 0, 0, 0, 0, 0, 0, 0, 0, 0, 64, 0, 0, 0, 1, b'2',
-];
-
-/// The record of a parcel of this number with these pages.
-fn add_parcel(
-    bytes: &mut Vec<u8>,
-    first: u8,
-    last: u8,
-    count: u8,
-    pages: &[&[u8]],
-) -> Result<(), AllocError> {
-    add_fields(bytes, first, last)?;
-    bytes.extend_from_slice(&[0, 0, 0, count])?;
-    for page in pages {
-        bytes.extend_from_slice(page)?;
-    }
-    Ok(())
+/// The record of a parcel of that state with both pages.
+fn add_parcel(bytes: &mut Vec<u8>) -> Result<(), AllocError> {
+    add_fields(bytes)?;
+    bytes.extend_from_slice(&[0, 0, 0, 2])?;
+    bytes.extend_from_slice(PAGE)?;
+    bytes.extend_from_slice(EMPTY)
 }
 
 fn parcel_bytes(alloc: Global, parcel: &Parcel) -> Result<Vec<u8>, AllocError> {
@@ -141,15 +103,6 @@ fn parcel_bytes(alloc: Global, parcel: &Parcel) -> Result<Vec<u8>, AllocError> {
 fn parcel_has_bytes(alloc: Global, parcel: &Parcel, expected: &[u8]) -> Result<bool, Fault> {
     let bytes = parcel_bytes(alloc, parcel)?;
     Ok(bytes.as_slice() == expected)
-}
-
-/// Whether the bytes are a parcel's record, which is then written again.
-fn is_parcel(alloc: Global, bytes: &[u8]) -> Result<bool, Fault> {
-    match read::<Parcel>(alloc, bytes) {
-        Ok(parcel) => parcel_has_bytes(alloc, &parcel, bytes),
-        Err(Fault::BadRecord) => Ok(false),
-        Err(fault) => Err(fault),
-    }
 }
 
 /// Whether the answer has these bytes.
@@ -174,7 +127,7 @@ fn is_answer_taken(
 /// Page 33 has another item, and page 34 none any more: both come along.
 fn is_written_so(alloc: Global, own: &State, more: &State) -> Result<bool, Fault> {
     let mut expected = Vec::new(alloc);
-    add_parcel(&mut expected, 0, 3, 2, &[PAGE, EMPTY])?;
+    add_parcel(&mut expected)?;
     is_answer_taken(alloc, own, more, expected.as_slice())
 }
 
@@ -191,36 +144,5 @@ fn is_third_written_for_second(alloc: Global) -> Result<bool, Fault> {
 #[test]
 fn the_record_of_a_parcel_which_is_taken(rt: HostRuntime) -> Result<(), Fail> {
     assert!(rt; is_third_written_for_second(rt.alloc())?);
-    Ok(())
-}
-
-fn is_parcel_of(
-    alloc: Global,
-    first: u8,
-    last: u8,
-    count: u8,
-    pages: &[&[u8]],
-) -> Result<bool, Fault> {
-    let mut bytes = Vec::new(alloc);
-    add_parcel(&mut bytes, first, last, count, pages)?;
-    is_parcel(alloc, bytes.as_slice())
-}
-
-#[test]
-fn numbers_of_parcels(rt: HostRuntime) -> Result<(), Fail> {
-    assert!(rt; is_parcel_of(rt.alloc(), 0, 1, 1, &[PAGE])?);
-    assert!(rt; is_parcel_of(rt.alloc(), 3, 255, 1, &[PAGE])?);
-    assert!(rt; !is_parcel_of(rt.alloc(), 0, 0, 1, &[PAGE])?);
-    assert!(rt; !is_parcel_of(rt.alloc(), 4, 0, 1, &[PAGE])?);
-    Ok(())
-}
-
-#[test]
-fn pages_of_parcels(rt: HostRuntime) -> Result<(), Fail> {
-    assert!(rt; is_parcel_of(rt.alloc(), 0, 3, 2, &[PAGE, EMPTY])?);
-    assert!(rt; !is_parcel_of(rt.alloc(), 0, 3, 1, &[PAGE, EMPTY])?);
-    assert!(rt; !is_parcel_of(rt.alloc(), 0, 3, 2, &[EMPTY, PAGE])?);
-    assert!(rt; !is_parcel_of(rt.alloc(), 0, 3, 2, &[PAGE, PAGE])?);
-    assert!(rt; !is_parcel_of(rt.alloc(), 0, 3, 1, &[STRAY])?);
     Ok(())
 }

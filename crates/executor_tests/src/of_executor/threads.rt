@@ -10,6 +10,25 @@ use std::thread::Threads;
 use workers::Workers;
 
 /// Runs a batch by that many workers.
+pub fn executed<R: Threads + Wait + Sync, G: Gate + Sync>(
+    rt: &R,
+    alloc: Global,
+    base: &Base,
+    batch: Batch,
+    ordered: bool,
+    workers: usize,
+    gate: &G,
+) -> Result<Tentative, Fault> {
+    let Some(workers) = Workers::new(workers) else {
+        return Err(Fault::Unfit);
+    };
+    if batch.n != base.number() + 1 {
+        return Err(Fault::Unfit);
+    }
+    Ok(execute(rt, alloc, base, batch, ordered, workers, gate)?)
+}
+
+/// Runs the batch of this record by that many workers.
 fn on_threads<R: Threads + Wait + Sync, G: Gate + Sync>(
     rt: &R,
     alloc: Global,
@@ -19,14 +38,8 @@ fn on_threads<R: Threads + Wait + Sync, G: Gate + Sync>(
     workers: usize,
     gate: &G,
 ) -> Result<Tentative, Fault> {
-    let Some(workers) = Workers::new(workers) else {
-        return Err(Fault::Unfit);
-    };
     let batch = read::<Batch>(alloc, bytes)?;
-    if batch.n != base.number() + 1 {
-        return Err(Fault::Unfit);
-    }
-    Ok(execute(rt, alloc, base, batch, ordered, workers, gate)?)
+    executed(rt, alloc, base, batch, ordered, workers, gate)
 }
 
 /// The replies of batch 1, which is run by four workers and committed.

@@ -1,6 +1,6 @@
 //! Each line of a verifier where memory may be refused: where a growth is, the verifier is stopped and has its
-//! old record. `scripts/refusals` refuses each growth in turn. `NoMemory` ends a row that was refused some, and
-//! `NotOpen` one in which something else does not hold.
+//! old record, with which it is opened again. `scripts/refusals` refuses each growth in turn. `NoMemory` ends a
+//! row that was refused some, and `NotOpen` one in which something else does not hold.
 
 use super::records::{keeper_of, record};
 use decrees::{Ballot, Decree, Letter, Node};
@@ -104,6 +104,17 @@ fn holds(is_so: bool) -> Result<(), Fault> {
     if is_so { Ok(()) } else { Err(Fault::NotOpen) }
 }
 
+/// Whether it is stopped with the record of these bytes, and stays so.
+fn is_stopped(
+    alloc: Global,
+    verifier: &mut Verifier<MemKeeper>,
+    bytes: &[u8],
+) -> Result<bool, Fault> {
+    let again = verifier.handle(alloc, Input::Suspect);
+    let stays = matches!(again, Err(Fault::Stopped)) && !verifier.is_up();
+    Ok(stays && record(alloc, verifier.keeper())?.as_slice() == bytes)
+}
+
 /// Does the input: the letters that were expected, and the record is another where it is to be saved; or
 /// `NoMemory`, and then it is stopped with its old record.
 fn does(
@@ -114,13 +125,13 @@ fn does(
     saves: bool,
 ) -> Result<(), Fault> {
     let before = record(alloc, verifier.keeper())?;
-    let answer = verifier.handle(alloc, input);
-    let after = record(alloc, verifier.keeper())?;
-    let is_same = before == after;
-    match answer {
-        Ok(sent) => holds(sent.len() == letters && is_same != saves),
+    match verifier.handle(alloc, input) {
+        Ok(sent) => {
+            let after = record(alloc, verifier.keeper())?;
+            holds(sent.len() == letters && (before != after) == saves)
+        }
         Err(fault) => {
-            holds(fault == Fault::NoMemory && is_same && !verifier.is_up())?;
+            holds(fault == Fault::NoMemory && is_stopped(alloc, verifier, before.as_slice())?)?;
             Err(fault)
         }
     }
@@ -150,13 +161,21 @@ fn opened(alloc: Global, keeper: MemKeeper, letters: usize) -> Result<Verifier<M
     }
 }
 
-/// Each line, and a restart, after which it asks the others for decrees.
-fn row(alloc: Global) -> Result<(), Fault> {
-    let mut verifier = opened(alloc, MemKeeper::new(), 0)?;
-    each_line(alloc, &mut verifier)?;
+/// It is opened again with the record that it has, and asks the others for decrees.
+fn restarted(alloc: Global, verifier: Verifier<MemKeeper>) -> Result<(), Fault> {
     let bytes = record(alloc, &verifier.end())?;
     opened(alloc, keeper_of(alloc, &bytes)?, 2)?;
     Ok(())
+}
+
+/// Each line, and a restart: also where a line was refused some memory, which is there then.
+fn row(alloc: Global) -> Result<(), Fault> {
+    let mut verifier = opened(alloc, MemKeeper::new(), 0)?;
+    let played = each_line(alloc, &mut verifier);
+    let again = restarted(alloc, verifier);
+    holds(played.is_ok() || again.is_ok())?;
+    played?;
+    again
 }
 
 #[test]

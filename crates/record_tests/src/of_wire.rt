@@ -1,35 +1,15 @@
+//! Records of `wire`, and of the small values of the crates above it.
+
+use crate::rows::first_wrong;
 use batches::Batch;
+use decrees::Decree;
 use proto::{Command, Fault, Reply};
 use sessions::{Request, Sessions};
+use states::{Head, Origin, Version};
 use std::alloc::{AllocError, Global};
 use std::test::Fail;
-use wire::{Entries, Record, read, write};
-
-/// Whether the bytes are the record of a value, which is then written as just these bytes.
-fn is_record<T: Record + Drop>(alloc: Global, bytes: &[u8]) -> Result<bool, Fail> {
-    match read::<T>(alloc, bytes) {
-        Ok(value) => {
-            let mut out = Vec::new(alloc);
-            write(alloc, &value, &mut out)?;
-            Ok(out.as_slice() == bytes)
-        }
-        Err(Fault::BadRecord) => Ok(false),
-        Err(fault) => Err(fault)?,
-    }
-}
-
-/// The first of the rows that is wrong: whose bytes are a record, or are none, against what it says.
-fn first_wrong<T: Record + Drop>(
-    alloc: Global,
-    rows: &[(&[u8], bool)],
-) -> Result<Option<usize>, Fail> {
-    for i in 0..rows.len() {
-        if is_record::<T>(alloc, rows[i].0)? != rows[i].1 {
-            return Ok(Some(i));
-        }
-    }
-    Ok(None)
-}
+use token::{Form, Token};
+use wire::{Entries, InnerText, TokenText};
 
 #[test]
 fn pages(rt: HostRuntime) -> Result<(), Fail> {
@@ -191,24 +171,19 @@ fn replies(rt: HostRuntime) -> Result<(), Fail> {
     Ok(())
 }
 
+/// Batch 1 of epoch 1 at moment 1000: client 1's request 1 is `set a`.
+const BATCH: &[u8] =
+    b"\x04\x00\x00\x00\x00\x00\x00\x00\x01\x00\x00\x00\x00\x00\x00\x00\x01\x00\x00\x03\xe8\x00\x00\x00\x01\x00\x01\x00\x00\x00\x00\x00\x00\x00\x01\x02\x01\x61\x00\x00\x00\x00\x00\x00\x00\x00\x00\x00\x00\x01\x35";
+
+/// The same with a byte more.
+const LONGER_BATCH: &[u8] =
+    b"\x04\x00\x00\x00\x00\x00\x00\x00\x01\x00\x00\x00\x00\x00\x00\x00\x01\x00\x00\x03\xe8\x00\x00\x00\x01\x00\x01\x00\x00\x00\x00\x00\x00\x00\x01\x02\x01\x61\x00\x00\x00\x00\x00\x00\x00\x00\x00\x00\x00\x01\x35\x00";
+
 #[test]
-fn fronts_of_a_batch(rt: HostRuntime) -> Result<(), Fail> {
-    let bytes =
-        b"\x04\x00\x00\x00\x00\x00\x00\x00\x01\x00\x00\x00\x00\x00\x00\x00\x01\x00\x00\x03\xe8\x00\x00\x00\x01\x00\x01\x00\x00\x00\x00\x00\x00\x00\x01\x02\x01\x61\x00\x00\x00\x00\x00\x00\x00\x00\x00\x00\x00\x01\x35".as_slice();
-    assert_eq!(rt; bytes.len(), 51);
-    assert!(rt; is_record::<Batch>(rt.alloc(), bytes)?);
-    for at in 0..51usize {
-        if at < bytes.len() {
-            let (front, _) = bytes.split_at(at);
-            assert!(rt; !is_record::<Batch>(rt.alloc(), front)?);
-        }
-    }
-    assert!(rt;
-        !is_record::<Batch>(
-            rt.alloc(),
-            b"\x04\x00\x00\x00\x00\x00\x00\x00\x01\x00\x00\x00\x00\x00\x00\x00\x01\x00\x00\x03\xe8\x00\x00\x00\x01\x00\x01\x00\x00\x00\x00\x00\x00\x00\x01\x02\x01\x61\x00\x00\x00\x00\x00\x00\x00\x00\x00\x00\x00\x01\x35\x00".as_slice()
-        )?
-    );
+fn a_batch_of_51_bytes(rt: HostRuntime) -> Result<(), Fail> {
+    let rows = [(BATCH, true), (LONGER_BATCH, false)];
+    assert_eq!(rt; BATCH.len(), 51);
+    assert_eq!(rt; first_wrong::<Batch>(rt.alloc(), rows.as_slice())?, None);
     Ok(())
 }
 
@@ -271,16 +246,78 @@ fn add_batch(count: u8, bytes: &mut Vec<u8>) -> Result<(), AllocError> {
     Ok(())
 }
 
-/// Whether a batch of so many requests has a record.
-fn has_record(alloc: Global, count: u8) -> Result<bool, Fail> {
+/// Whether a batch of so many requests has a record, or has none.
+fn is_so_of_batch(alloc: Global, count: u8, has_record: bool) -> Result<bool, Fault> {
     let mut bytes = Vec::new(alloc);
     add_batch(count, &mut bytes)?;
-    is_record::<Batch>(alloc, bytes.as_slice())
+    Ok(first_wrong::<Batch>(alloc, &[(bytes.as_slice(), has_record)])?.is_none())
 }
 
 #[test]
 fn a_batch_has_64_requests_at_most(rt: HostRuntime) -> Result<(), Fail> {
-    assert!(rt; has_record(rt.alloc(), 64)?);
-    assert!(rt; !has_record(rt.alloc(), 65)?);
+    assert!(rt; is_so_of_batch(rt.alloc(), 64, true)?);
+    assert!(rt; is_so_of_batch(rt.alloc(), 65, false)?);
+    Ok(())
+}
+
+#[test]
+fn decrees(rt: HostRuntime) -> Result<(), Fail> {
+    let rows = [
+        ([0u8].as_slice(), true),
+        ([1u8; 41].as_slice(), true),
+        ([1u8; 42].as_slice(), false),
+        ([2u8; 41].as_slice(), false),
+        ([0u8; 41].as_slice(), false),
+    ];
+    assert_eq!(rt; first_wrong::<Decree>(rt.alloc(), rows.as_slice())?, None);
+    Ok(())
+}
+
+/// What digests of inner nodes and tokens are made of: a mark, and fields of fixed lengths.
+#[test]
+fn texts_to_be_digested(rt: HostRuntime) -> Result<(), Fail> {
+    let rows = [([1u8; 65].as_slice(), true), ([2u8; 65].as_slice(), false)];
+    assert_eq!(rt;
+        first_wrong::<InnerText>(rt.alloc(), rows.as_slice())?,
+        None
+    );
+    let rows = [
+        ([2u8; 149].as_slice(), true),
+        ([1u8; 149].as_slice(), false),
+    ];
+    assert_eq!(rt;
+        first_wrong::<TokenText>(rt.alloc(), rows.as_slice())?,
+        None
+    );
+    Ok(())
+}
+
+/// How a state's record begins: form 1 or 2, and fields of fixed lengths.
+#[test]
+fn heads(rt: HostRuntime) -> Result<(), Fail> {
+    let rows = [
+        ([1u8; 117].as_slice(), true),
+        ([2u8; 117].as_slice(), true),
+        ([3u8; 117].as_slice(), false),
+        ([0u8; 117].as_slice(), false),
+    ];
+    assert_eq!(rt; first_wrong::<Head>(rt.alloc(), rows.as_slice())?, None);
+    let rows = [([1u8; 85].as_slice(), true), ([3u8; 85].as_slice(), false)];
+    assert_eq!(rt; first_wrong::<Origin>(rt.alloc(), rows.as_slice())?, None);
+    Ok(())
+}
+
+#[test]
+fn marks_and_tokens(rt: HostRuntime) -> Result<(), Fail> {
+    let rows = [
+        ([1u8].as_slice(), true),
+        ([2u8].as_slice(), true),
+        ([3u8].as_slice(), false),
+        ([0u8].as_slice(), false),
+    ];
+    assert_eq!(rt; first_wrong::<Form>(rt.alloc(), rows.as_slice())?, None);
+    assert_eq!(rt; first_wrong::<Version>(rt.alloc(), rows.as_slice())?, None);
+    let rows = [([7u8; 32].as_slice(), true), ([7u8; 33].as_slice(), false)];
+    assert_eq!(rt; first_wrong::<Token>(rt.alloc(), rows.as_slice())?, None);
     Ok(())
 }

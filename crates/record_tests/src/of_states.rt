@@ -1,8 +1,7 @@
-//! States that are read from records of version 1, their bytes by hand. Expected values are those of the
-//! program that wrote them.
+//! States that are read from records of both versions, their bytes by hand. Expected values are those of
+//! the program that wrote them.
 
-ghost use Rattle.std.specs.Prelude.{◌<◌, length};
-
+use crate::rows::turn;
 use proto::Fault;
 use states::{State, Version};
 use std::alloc::{AllocError, Global};
@@ -33,25 +32,44 @@ const TOKEN: [u8; 32] = [
     0x84, 0x93, 0x21, 0xb4, 0x09, 0x9e, 0x34, 0xd9, 0x2e, 0x8b, 0x19, 0xea, 0x0d, 0x26, 0x2f, 0x4e,
 ];
 
-fn add_old_head(bytes: &mut Vec<u8>) -> Result<(), AllocError> {
+/// The token that it has where the root is over 256 pages.
+const TOKEN_OF_TODAY: [u8; 32] = [
+    0xd6, 0xfa, 0xbc, 0x9b, 0x91, 0x08, 0xa6, 0xbc, 0x5a, 0x18, 0xa7, 0x6b, 0x45, 0x60, 0x68, 0x87,
+    0x8a, 0x9a, 0xa2, 0xff, 0x34, 0xd7, 0xe9, 0x24, 0xa3, 0x27, 0x59, 0x8c, 0xf0, 0xcd, 0xd3, 0x9b,
+];
+
+/// The head, without its form, of the state after batch 1 of one `set` of `a` by client 1, and its
+/// sessions: client 1 was answered `STORED`.
+fn add_front(bytes: &mut Vec<u8>, token: &[u8; 32]) -> Result<(), AllocError> {
     bytes.extend_from_slice(&[0, 0, 0, 0, 0, 0, 0, 1])?;
     bytes.extend_from_slice(&[0; 32])?;
     bytes.extend_from_slice(&[0, 0, 0, 0, 0, 0, 0, 1])?;
     bytes.extend_from_slice(&BATCH)?;
     bytes.extend_from_slice(&[0, 0, 3, 232])?;
-    bytes.extend_from_slice(&TOKEN)
+    bytes.extend_from_slice(token)?;
+    bytes.extend_from_slice(&[3, 0, 0, 0, 1, 0, 1, 0, 0, 0, 0, 0, 0, 0, 1, 0])
 }
 
-/// The record of the state after batch 1 of one `set` of `a` by client 1, which was answered `STORED`:
-/// `a` stands on page 33.
+/// The page with `a`.
+const PAGE: [u8; 25] = [
+    0, 0, 0, 0, 1, 1, b'a', 0, 0, 0, 0, 0, 0, 0, 0, 0, 0, 0, 0, 64, 0, 0, 0, 1, b'5',
+];
+
+/// The record of that state: `a` stands on page 33.
 fn add_old_set(bytes: &mut Vec<u8>) -> Result<(), AllocError> {
-    add_old_head(bytes)?;
-    bytes.extend_from_slice(&[3, 0, 0, 0, 1, 0, 1, 0, 0, 0, 0, 0, 0, 0, 1, 0])?;
+    add_front(bytes, &TOKEN)?;
     bytes.extend_from_slice(&[0; 165])?;
-    bytes.extend_from_slice(&[
-        0, 0, 0, 0, 1, 1, b'a', 0, 0, 0, 0, 0, 0, 0, 0, 0, 0, 0, 0, 64, 0, 0, 0, 1, b'5',
-    ])?;
+    bytes.extend_from_slice(&PAGE)?;
     bytes.extend_from_slice(&[0; 150])
+}
+
+/// That of today of this form and token: `a` stands on page 97.
+fn add_set(bytes: &mut Vec<u8>, form: u8, token: &[u8; 32]) -> Result<(), AllocError> {
+    bytes.push(form)?;
+    add_front(bytes, token)?;
+    bytes.extend_from_slice(&[0; 485])?;
+    bytes.extend_from_slice(&PAGE)?;
+    bytes.extend_from_slice(&[0; 790])
 }
 
 fn old_first(alloc: Global) -> Result<Vec<u8>, AllocError> {
@@ -143,43 +161,67 @@ fn a_later_state_of_version_1_keeps_its_token(rt: HostRuntime) -> Result<(), Fai
     Ok(())
 }
 
-fn is_refused(alloc: Global, bytes: &[u8]) -> Result<bool, Fault> {
-    match State::take(alloc, Version::First, bytes) {
+/// Whether no state's record in this version is at the front of the bytes.
+fn is_refused(alloc: Global, version: Version, bytes: &[u8]) -> Result<bool, Fault> {
+    match State::take(alloc, version, bytes) {
         Ok(_) => Ok(false),
         Err(Fault::BadRecord) => Ok(true),
         Err(fault) => Err(fault),
     }
 }
 
-fn changed_at(alloc: Global, bytes: &[u8], at: usize) -> Result<Vec<u8>, AllocError>
-    requires { at < length bytes.now }
-{
-    let mut copy = Vec::from_slice(alloc, bytes)?;
-    copy[at] ^= 2;
-    Ok(copy)
-}
-
 /// Whether the bytes are no record where they are cut here, and where this one of them is changed.
-fn is_sealed_at(alloc: Global, bytes: &[u8], at: usize) -> Result<bool, Fault>
-    requires { at < length bytes.now }
-{
-    let changed = changed_at(alloc, bytes, at)?;
-    Ok(is_refused(alloc, changed.as_slice())? && is_refused(alloc, &bytes[..at])?)
+fn is_sealed_at(
+    alloc: Global,
+    version: Version,
+    bytes: &mut [u8],
+    at: usize,
+) -> Result<bool, Fault> {
+    turn(bytes, at, 2);
+    let changed = is_refused(alloc, version, bytes);
+    turn(bytes, at, 2);
+    Ok(changed? && is_refused(alloc, version, bytes.get(..at).unwrap_or(&[]))?)
 }
 
-/// Whether it is so at a byte of the batch's digest, of the token, of the data, and of the last page.
-fn is_sealed(alloc: Global, bytes: &[u8]) -> Result<bool, Fault> {
-    for at in [48, 115, 321, 471usize] {
-        if bytes.len() <= at || !is_sealed_at(alloc, bytes, at)? {
+/// Whether the bytes are a record, and none where they are cut at each byte, and where each is changed.
+fn is_sealed(alloc: Global, version: Version, bytes: &mut [u8]) -> Result<bool, Fault> {
+    for at in 0..bytes.len() {
+        if !is_sealed_at(alloc, version, bytes, at)? {
             return Ok(false);
         }
     }
-    Ok(true)
+    Ok(!is_refused(alloc, version, bytes)?)
 }
 
 #[test]
 fn a_record_of_version_1_that_is_cut_or_changed_is_refused(rt: HostRuntime) -> Result<(), Fail> {
-    let set = old_set(rt.alloc())?;
-    assert!(rt; is_sealed(rt.alloc(), set.as_slice())?);
+    let mut set = old_set(rt.alloc())?;
+    assert!(rt; is_sealed(rt.alloc(), Version::First, set.as_mut_slice())?);
+    Ok(())
+}
+
+#[test]
+fn the_first_state_that_is_cut_or_changed_is_refused(rt: HostRuntime) -> Result<(), Fail> {
+    let mut first = old_first(rt.alloc())?;
+    assert!(rt; is_sealed(rt.alloc(), Version::First, first.as_mut_slice())?);
+    Ok(())
+}
+
+/// Whether the record of today of this form and token is sealed.
+fn is_set_sealed(alloc: Global, form: u8, token: &[u8; 32]) -> Result<bool, Fault> {
+    let mut bytes = Vec::new(alloc);
+    add_set(&mut bytes, form, token)?;
+    is_sealed(alloc, Version::Second, bytes.as_mut_slice())
+}
+
+#[test]
+fn a_record_of_the_old_form_that_is_cut_or_changed_is_refused(rt: HostRuntime) -> Result<(), Fail> {
+    assert!(rt; is_set_sealed(rt.alloc(), 1, &TOKEN)?);
+    Ok(())
+}
+
+#[test]
+fn a_record_of_todays_form_that_is_cut_or_changed_is_refused(rt: HostRuntime) -> Result<(), Fail> {
+    assert!(rt; is_set_sealed(rt.alloc(), 2, &TOKEN_OF_TODAY)?);
     Ok(())
 }
