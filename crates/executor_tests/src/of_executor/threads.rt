@@ -10,7 +10,7 @@ use std::thread::Threads;
 use workers::Workers;
 
 /// Runs a batch by that many workers.
-fn on_threads<R: Threads + Wait + Sync, G: Gate + Sync>(
+pub fn on_threads<R: Threads + Wait + Sync, G: Gate + Sync>(
     rt: &R,
     alloc: Global,
     base: &Base,
