@@ -26,6 +26,8 @@ mod records;
 #[cfg(test)]
 mod refusals;
 #[cfg(test)]
+mod refused_runs;
+#[cfg(test)]
 mod seen;
 #[cfg(test)]
 mod senders;

@@ -15,12 +15,12 @@ use std::alloc::Global;
 use std::test::Fail;
 use token::Token;
 
-type Executor = ExecNode<MemKeeper>;
+pub type Executor = ExecNode<MemKeeper>;
 
 type Letters = Vec<Letter<Body>>;
 
 /// The bytes of the record that is kept.
-fn kept(alloc: Global, keeper: &MemKeeper) -> Result<Vec<u8>, Fault> {
+pub fn kept(alloc: Global, keeper: &MemKeeper) -> Result<Vec<u8>, Fault> {
     match keeper.load() {
         None => Ok(Vec::new(alloc)),
         Some(text) => Ok(text.joined(alloc)?),
@@ -29,7 +29,7 @@ fn kept(alloc: Global, keeper: &MemKeeper) -> Result<Vec<u8>, Fault> {
 
 /// The executor `id` of three, and its first letters, after `>`. Where it is refused, its keeper has
 /// the record that it had.
-fn opens(alloc: Global, id: u8, keeper: MemKeeper, expected: &[u8]) -> Result<Executor, Fault> {
+pub fn opens(alloc: Global, id: u8, keeper: MemKeeper, expected: &[u8]) -> Result<Executor, Fault> {
     if id > OTHER {
         return Err(Fault::NotOpen);
     }
@@ -61,7 +61,7 @@ fn is_stopped(alloc: Global, executor: &mut Executor, bytes: &[u8]) -> Result<bo
 
 /// What `handle` answered: the letters that were expected, after `*` where the record is another and
 /// else `.`; or `NoMemory`, and then it is stopped and has its old record.
-fn answered(
+pub fn answered(
     alloc: Global,
     executor: &mut Executor,
     before: &[u8],
@@ -85,7 +85,7 @@ fn answered(
     Ok(letters)
 }
 
-fn gives(
+pub fn gives(
     alloc: Global,
     executor: &mut Executor,
     input: Input,

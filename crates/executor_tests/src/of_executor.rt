@@ -12,6 +12,7 @@ mod chain;
 mod old_bytes;
 mod old_members;
 mod records;
+mod refusals;
 mod replays;
 mod rows;
 mod threads;

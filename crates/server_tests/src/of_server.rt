@@ -2,7 +2,8 @@
 
 ghost use Rattle.std.specs.Prelude.{◌<◌};
 
-use crate::talking::{connected, hears, is_at_end, says};
+use crate::of_rows::{bad_chunk, session};
+use crate::talking::{connected, hears, is_at_end, says, talks};
 use server::{Incidents, serve};
 use std::alloc::Global;
 use std::io::Read;
@@ -17,7 +18,7 @@ use std::{io, thread};
 /// What the clients of a test do.
 #[derive(Clone, Copy)]
 enum Play {
-    /// One client says all in pieces of so many bytes, or in one piece at 0.
+    /// One client says all rows in pieces of so many bytes, or each in one piece at 0; another one a bad block.
     Session(usize),
     /// 64 clients are there at once, and one more comes. When one has left, another gets in.
     Crowd,
@@ -57,40 +58,6 @@ impl<R: Threads> Read for UntilLeft<'_, R> {
         }
         Ok(0)
     }
-}
-
-const UNIQUES: (&[u8], &[u8]) = (
-    b"set a 0 0 1\r\n5\r\ngets a\r\ncas a 0 0 1 63\r\n6\r\ncas a 0 0 1 64\r\n7\r\ncas b 0 0 1 64\r\n8\r\ngets a\r\n",
-    b"STORED\r\nVALUE a 0 1 64\r\n5\r\nEND\r\nEXISTS\r\nSTORED\r\nNOT_FOUND\r\nVALUE a 0 1 256\r\n7\r\nEND\r\n",
-);
-
-const NUMBERS: (&[u8], &[u8]) = (
-    b"set n 0 0 20\r\n18446744073709551615\r\nincr n 1\r\nset d 0 0 1\r\n3\r\ndecr d 5\r\nset e 0 0 2\r\n10\r\ndecr e 1\r\nget e\r\nincr n x\r\n",
-    b"STORED\r\n0\r\nSTORED\r\n0\r\nSTORED\r\n9\r\nVALUE e 0 1\r\n9\r\nEND\r\nCLIENT_ERROR invalid numeric delta argument\r\n",
-);
-
-const OTHERS: (&[u8], &[u8]) = (
-    b"set g 3 0 1\r\n5\r\ngat 10 g h\r\nset q 0 0 1 noreply\r\nz\r\nget q\r\nversion\r\nGET a\r\nquit\r\n",
-    b"STORED\r\nVALUE g 3 1\r\n5\r\nEND\r\nVALUE q 0 1\r\nz\r\nEND\r\nVERSION eve-1\r\nERROR\r\n",
-);
-
-/// Says the one and hears the other.
-fn talks(alloc: Global, stream: &TcpStream, row: (&[u8], &[u8]), piece: usize) -> bool {
-    says(stream, row.0, piece) && hears(alloc, stream, row.1)
-}
-
-fn session(alloc: Global, stream: &TcpStream, piece: usize) -> bool {
-    talks(alloc, stream, UNIQUES, piece)
-        && talks(alloc, stream, NUMBERS, piece)
-        && talks(alloc, stream, OTHERS, piece)
-        && is_at_end(stream)
-}
-
-/// A bad end of a block closes the connection.
-fn bad_chunk(alloc: Global, stream: &TcpStream, piece: usize) -> bool {
-    says(stream, b"set a 0 0 1\r\n5xx", piece)
-        && hears(alloc, stream, b"CLIENT_ERROR bad data chunk\r\n")
-        && is_at_end(stream)
 }
 
 fn crowd<R: Net<Stream = TcpStream>>(

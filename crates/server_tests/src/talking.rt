@@ -38,3 +38,8 @@ pub fn is_at_end(stream: &TcpStream) -> bool {
     let mut rest = [0u8; 1];
     matches!(&input.read(&mut rest), Ok(0) | Err(_))
 }
+
+/// Says the one and hears the other.
+pub fn talks(alloc: Global, stream: &TcpStream, row: (&[u8], &[u8]), piece: usize) -> bool {
+    says(stream, row.0, piece) && hears(alloc, stream, row.1)
+}

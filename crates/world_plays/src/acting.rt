@@ -184,11 +184,12 @@ pub fn step_at_random(
     alloc: Global,
     stage: &mut Stage,
     words: &mut Words,
+    kind: Kind,
     world: World,
 ) -> Result<World, AllocError> {
-    let act = next_act(stage.kind, words);
+    let act = next_act(kind, words);
     match event_of(alloc, stage, words, &world, act) {
-        Ok(Some(event)) => world.step(alloc, &event),
+        Ok(Some(event)) => stage.happen(alloc, world, &event),
         Ok(None) => Ok(world),
         Err(e) => {
             world.end();
@@ -213,7 +214,7 @@ pub fn settle(
             next_letter(stage, &world)
         };
         match next {
-            Some(event) => world = world.step(alloc, &event)?,
+            Some(event) => world = stage.happen(alloc, world, &event)?,
             None => {
                 if is_done {
                     return Ok(world);

@@ -4,6 +4,17 @@ use decrees::{Ballot, Decree};
 use exec_lines::Body;
 use world::World;
 
+/// A play that shows what no server would.
+#[derive(Clone, Copy)]
+pub enum Failed {
+    /// Of a kind that is made of the seed.
+    Kind { seed: u32 },
+    /// Of random events, where `u` replicas of each kind may fail.
+    Random { seed: u32, u: u8 },
+    /// Of a row, with a restart after so many events of the replica of this number, executors first.
+    Restart { after: u32, number: u8 },
+}
+
 /// What came of plays, all together.
 #[derive(Clone, Copy)]
 pub struct Counts {
@@ -16,8 +27,8 @@ pub struct Counts {
     /// The highest views that were led to, added up.
     pub views: u64,
     pub parcels: u64,
-    /// The first seed whose play shows what no server would.
-    pub failed: Option<u32>,
+    /// The first play that shows what no server would.
+    pub failed: Option<Failed>,
 }
 
 /// What the letters of one play tell.

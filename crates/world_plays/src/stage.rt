@@ -1,7 +1,13 @@
 //! Where a play stands.
 
+use crate::judge::Judge;
 use decrees::Node;
-use events::{Config, Replica};
+use events::{Config, Event, Replica};
+use std::alloc::{AllocError, Global};
+use world::World;
+
+/// More than the batches and the numbers of a play.
+pub const MOST: usize = 100_000;
 
 /// What a play is about: how often each of its acts comes.
 #[derive(Clone, Copy)]
@@ -30,14 +36,22 @@ pub fn kind_of(n: u32) -> Kind {
     }
 }
 
-/// Where a play stands.
+/// A replica that crashes and is opened again after so many events.
 #[derive(Clone, Copy)]
+pub struct Again {
+    pub after: u32,
+    pub replica: Replica,
+}
+
+/// Where a play stands.
+#[derive(Drop)]
 pub struct Stage {
-    pub kind: Kind,
+    pub judge: Judge,
     pub u: u8,
     pub clients: u16,
-    /// How many events are left.
-    pub left: u32,
+    /// How many events happened.
+    pub happened: u32,
+    pub again: Option<Again>,
     /// How many letters were delivered in order, or never come.
     pub passed: u64,
     /// The replica that no letter reaches now.
@@ -48,17 +62,19 @@ pub struct Stage {
 }
 
 impl Stage {
-    pub fn new(kind: Kind, config: &Config, events: u32) -> Stage {
-        Stage {
-            kind,
+    /// Of a world of this size in which nothing happened yet.
+    pub fn new(alloc: Global, config: &Config) -> Result<Stage, AllocError> {
+        Ok(Stage {
+            judge: Judge::new(alloc, config.clients(), MOST)?,
             u: config.u(),
             clients: config.clients(),
-            left: events,
+            happened: 0,
+            again: None,
             passed: 0,
             deaf: None,
             lost_executors: 0,
             lost_verifiers: 0,
-        }
+        })
     }
 
     /// How many executors there are, and how many verifiers.
@@ -72,6 +88,46 @@ impl Stage {
             (Node::Executor(id), Some(Replica::Executor(deaf))) => id != deaf,
             (Node::Verifier(id), Some(Replica::Verifier(deaf))) => id != deaf,
             _ => true,
+        }
+    }
+
+    /// The event happens, and what comes of it is judged.
+    fn happen_once(
+        &mut self,
+        alloc: Global,
+        world: World,
+        event: &Event,
+    ) -> Result<World, AllocError> {
+        if let Err(error) = self.judge.hear(alloc, event) {
+            world.end();
+            return Err(error);
+        }
+        let world = world.step(alloc, event)?;
+        match self.judge.look(alloc, &world) {
+            Ok(()) => Ok(world),
+            Err(error) => {
+                world.end();
+                Err(error)
+            }
+        }
+    }
+
+    /// The event happens, and what comes of it is judged; and a replica crashes and is opened again, if it
+    /// is to by now.
+    pub fn happen(
+        &mut self,
+        alloc: Global,
+        world: World,
+        event: &Event,
+    ) -> Result<World, AllocError> {
+        let world = self.happen_once(alloc, world, event)?;
+        self.happened = self.happened.saturating_add(1);
+        match self.again {
+            Some(again) if again.after == self.happened => {
+                let world = self.happen_once(alloc, world, &Event::Crash(again.replica))?;
+                self.happen_once(alloc, world, &Event::Restart(again.replica))
+            }
+            _ => Ok(world),
         }
     }
 }

@@ -8,4 +8,6 @@ mod failures;
 #[cfg(test)]
 mod random;
 #[cfg(test)]
+mod refusals;
+#[cfg(test)]
 mod stage;

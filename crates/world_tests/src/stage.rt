@@ -15,7 +15,11 @@ pub enum Done<'a> {
     Hangup,
     /// The executor cuts a batch.
     Cut(u8),
-    /// All letters that were not delivered yet are, in order, and all work is done.
+    /// The last letter that was sent comes before all others, and this executor executes the batch of one
+    /// request that is in it.
+    First(u8),
+    /// All letters that were not delivered yet are, in order, and all work is done: each letter before more
+    /// work, and the work of the lowest executor first.
     Settle,
     /// As `Settle`, but each letter comes twice.
     SettleTwice,
@@ -31,7 +35,6 @@ pub enum Done<'a> {
 /// Where a row stands.
 #[derive(Clone, Copy)]
 struct Stage {
-    executors: u8,
     /// How many letters were delivered, or never come.
     delivered: u64,
 }
@@ -62,25 +65,18 @@ fn deliver_all(
     Ok(world)
 }
 
-/// Each executor makes a step of each of the first places, and comes to the end of a group.
-fn work(alloc: Global, executors: u8, world: World) -> Result<World, AllocError> {
-    let mut world = world;
-    for executor in 0..executors {
-        for place in 0..2 {
-            world = world.step(alloc, &Event::Step { executor, place })?;
-        }
-        world = world.step(alloc, &Event::Finish { executor })?;
-    }
-    Ok(world)
-}
-
+/// All letters that were not delivered come so many times each, and then the lowest executor that has work
+/// does what comes next of it; until nothing is left to do.
 fn settle(alloc: Global, stage: &mut Stage, world: World, times: u8) -> Result<World, AllocError> {
     let mut world = world;
-    for _ in 0..4 {
+    for _ in 0..1000u32 {
         world = deliver_all(alloc, stage, world, times)?;
-        world = work(alloc, stage.executors, world)?;
+        match world.next_work() {
+            Some(event) => world = world.step(alloc, &event)?,
+            None => return Ok(world),
+        }
     }
-    deliver_all(alloc, stage, world, times)
+    Ok(world)
 }
 
 /// The bytes come from the only client.
@@ -94,11 +90,19 @@ pub fn fed(alloc: Global, bytes: &[u8], world: World) -> Result<World, AllocErro
     }
 }
 
+fn execute_first(alloc: Global, executor: u8, world: World) -> Result<World, AllocError> {
+    let letter = world.sent() as u64;
+    let world = world.step(alloc, &Event::Deliver { letter })?;
+    let world = world.step(alloc, &Event::Step { executor, place: 0 })?;
+    world.step(alloc, &Event::Finish { executor })
+}
+
 fn does(alloc: Global, stage: &mut Stage, world: World, done: Done) -> Result<World, AllocError> {
     let event = match done {
         Done::Feed(bytes) => return fed(alloc, bytes, world),
         Done::Settle => return settle(alloc, stage, world, 1),
         Done::SettleTwice => return settle(alloc, stage, world, 2),
+        Done::First(executor) => return execute_first(alloc, executor, world),
         Done::LoseLetters => {
             stage.delivered = world.sent() as u64;
             return Ok(world);
@@ -118,18 +122,29 @@ fn does(alloc: Global, stage: &mut Stage, world: World, done: Done) -> Result<Wo
     world.step(alloc, &event)
 }
 
-/// Whether the only client is given just these bytes, where `u` of the replicas may fail.
-pub fn gives(alloc: Global, u: u8, row: &[Done], bytes: &[u8]) -> Result<bool, Fault> {
+/// The world in which the row has happened, where `u` of the replicas may fail.
+pub fn played(alloc: Global, u: u8, row: &[Done]) -> Result<World, Fault> {
     let config = Config::new(u, 1)?;
-    let mut stage = Stage {
-        executors: 2 * config.u() + 1,
-        delivered: 0,
-    };
+    let mut stage = Stage { delivered: 0 };
     let mut world = World::open(alloc, &config)?;
     for done in row {
         world = does(alloc, &mut stage, world, *done)?;
     }
+    Ok(world)
+}
+
+/// Whether the only client is given just these bytes.
+pub fn gives(alloc: Global, u: u8, row: &[Done], bytes: &[u8]) -> Result<bool, Fault> {
+    let world = played(alloc, u, row)?;
     let gave = world.given(1) == Some(bytes);
     world.end();
     Ok(gave)
+}
+
+/// How many letters are sent.
+pub fn sends(alloc: Global, u: u8, row: &[Done]) -> Result<usize, Fault> {
+    let world = played(alloc, u, row)?;
+    let sent = world.sent();
+    world.end();
+    Ok(sent)
 }

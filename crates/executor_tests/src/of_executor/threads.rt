@@ -29,7 +29,7 @@ pub fn executed<R: Threads + Wait + Sync, G: Gate + Sync>(
 }
 
 /// Runs the batch of this record by that many workers.
-fn on_threads<R: Threads + Wait + Sync, G: Gate + Sync>(
+pub fn on_threads<R: Threads + Wait + Sync, G: Gate + Sync>(
     rt: &R,
     alloc: Global,
     base: &Base,
