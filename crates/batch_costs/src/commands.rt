@@ -1,9 +1,7 @@
 //! Commands over numbered items.
 
 use crate::plan::KeyKind;
-use proto::{
-    Block, Command, Fault, Key, Keys, MOST_BLOCK_BYTES, StoreVerb, Update, is_key_text,
-};
+use proto::{Block, Command, Fault, Key, Keys, MOST_BLOCK_BYTES, StoreVerb, Update, is_key_text};
 use rand_core::SeedableRng;
 use rand_core::utils::NextWord;
 use rand_pcg::Lcg64Xsh32;
@@ -55,7 +53,13 @@ fn block(alloc: Global, bytes: u32, number: u32) -> Result<Block, AllocError> {
 }
 
 /// Sets an item, for so many seconds: 0 for good.
-pub fn set(alloc: Global, key: Key, bytes: u32, number: u32, exptime: i32) -> Result<Command, Fault> {
+pub fn set(
+    alloc: Global,
+    key: Key,
+    bytes: u32,
+    number: u32,
+    exptime: i32,
+) -> Result<Command, Fault> {
     Ok(Command::Update(Update::Store {
         verb: StoreVerb::Set,
         key,

@@ -105,7 +105,15 @@ impl<'a, R: Threads + Wait + Sync> Site<'a, R> {
         if batch.n != base.number().saturating_add(1) {
             return Err(Fault::Unfit);
         }
-        Ok(execute(self.threads, self.alloc(), base, batch, false, self.workers, &NoGate)?)
+        Ok(execute(
+            self.threads,
+            self.alloc(),
+            base,
+            batch,
+            false,
+            self.workers,
+            &NoGate,
+        )?)
     }
 
     /// The record of the state, as it is saved.

@@ -54,6 +54,7 @@ module _ {K V : Type 0} (due : V → Option ℕ) (moment : ℕ) where
     where
       whole : length (alive due moment (pairs l ++ pairs r)) ≡ length (alive due moment (pairs l)) + length (alive due moment (pairs r))
       whole = ap length (alive_append (pairs l) (pairs r)) ∙ length-append (alive due moment (pairs l)) (alive due moment (pairs r))
+
       by : (a b : Bool) → is_above moment (least due l) ≡ a → is_above moment (least due r) ≡ b → (is_above moment (least due l) ≡ false → length (alive due moment (pairs l)) < length (pairs l)) → (is_above moment (least due r) ≡ false → length (alive due moment (pairs r)) < length (pairs r)) → length (alive due moment (pairs l ++ pairs r)) < length (pairs l ++ pairs r)
       by false b p q on_left on_right =
           let left : length (alive due moment (pairs l)) < length (pairs l) = on_left p in
