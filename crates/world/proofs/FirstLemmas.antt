@@ -1,7 +1,7 @@
 -- The first world: what a replica is after it was opened for the first time, and that to open them all leads there.
 use Rattle.std.proofs.Common.{◌≡◌, ℕ, zero, suc, ◌+◌, List, [], ◌∷◌, ◌++◌, length, Option, Some, refl, sym, ap, ◌∙◌, subst, inl, inr, slice_get, slice_set, replicate, append_assoc}
 use Rattle.std.proofs.lemmas.List.{append-nil, length-append}
-use Rattle.std.proofs.Math.Nat.{add-zero, add-suc}
+use Rattle.std.proofs.Math.Nat.{add-zero, zero-add, add-suc, suc-add}
 use Rattle.std.proofs.Math.Numerals.{add-one}
 use Rattle.decrees.specs.Count.{member_count}
 use Rattle.decrees.specs.declared.ballot.Ballot.{Ballot}
@@ -47,33 +47,30 @@ module _ {X : Type 0} where
   set_seam [] x ys y = refl
   set_seam (z ∷ xs) x ys y = ap (λ (zs : List X). z ∷ zs) (set_seam xs x ys y)
 
+pub length_all_up : {N : Type 0} (node : ℕ → N) (n : ℕ) → length (all_up node n) ≡ n
+length_all_up node zero = refl
+length_all_up node (suc n) = length-append (all_up node n) (Up (node n) ∷ []) ∙ (ap (λ (k : ℕ). k + 1) (length_all_up node n) ∙ add-one n)
+
 -- the replicas of one kind, where the next one is opened in each step
 module _ {N : Type 0} (replica : ℕ → Replica) (node : ℕ → N) (make : List (Slot N) → WorldView)
     (opens : (xs ys : List (Slot N)) → WorldNext (make (xs ++ Down nothing_kept ∷ ys)) (Restart (replica (length xs))) (make (xs ++ Up (node (length xs)) ∷ ys))) where
   abbrev down : ℕ → List (Slot N)
   down n = replicate n (Down nothing_kept)
 
-  length-all_up : (n : ℕ) → length (all_up node n) ≡ n
-  length-all_up zero = refl
-  length-all_up (suc n) = length-append (all_up node n) (Up (node n) ∷ []) ∙ (ap (λ (k : ℕ). k + 1) (length-all_up n) ∙ add-one n)
-
   opens_at : (n : ℕ) (ys : List (Slot N)) → WorldNext (make (all_up node n ++ Down nothing_kept ∷ ys)) (Restart (replica n)) (make (all_up node (suc n) ++ ys))
   opens_at n ys =
       subst (λ (zs : List (Slot N)). WorldNext (make (all_up node n ++ Down nothing_kept ∷ ys)) (Restart (replica n)) (make zs)) (sym (append_assoc (all_up node n) (Up (node n) ∷ []) ys))
-      (subst (λ (k : ℕ). WorldNext (make (all_up node n ++ Down nothing_kept ∷ ys)) (Restart (replica k)) (make (all_up node n ++ Up (node k) ∷ ys))) (length-all_up n)
+      (subst (λ (k : ℕ). WorldNext (make (all_up node n ++ Down nothing_kept ∷ ys)) (Restart (replica k)) (make (all_up node n ++ Up (node k) ∷ ys))) (length_all_up node n)
       (opens (all_up node n) ys))
 
-  opened_below : (n k : ℕ) → LeadsTo (make (down (n + k))) (restarts_below replica n) (make (all_up node n ++ down k))
-  opened_below zero k = leads_nowhere (make (down k))
-  opened_below (suc n) k =
-      leads_on (make (down (suc n + k))) (make (all_up node n ++ down (suc k))) (make (all_up node (suc n) ++ down k)) (restarts_below replica n) (Restart (replica n))
-      (subst (λ (m : ℕ). LeadsTo (make (down m)) (restarts_below replica n) (make (all_up node n ++ down (suc k)))) (add-suc n k) (opened_below n (suc k)))
-      (opens_at n (down k))
+  opened_below : (n k m : ℕ) → m ≡ n + k → LeadsTo (make (down m)) (restarts_below replica n) (make (all_up node n ++ down k))
+  opened_below zero k m is = subst (λ (j : ℕ). LeadsTo (make (down j)) [] (make (down k))) (sym (is ∙ zero-add k)) (leads_nowhere (make (down k)))
+  opened_below (suc n) k m is =
+      leads_on (make (down m)) (make (all_up node n ++ down (suc k))) (make (all_up node (suc n) ++ down k)) (restarts_below replica n) (Restart (replica n))
+      (opened_below n (suc k) m (is ∙ (suc-add n k ∙ sym (add-suc n k)))) (opens_at n (down k))
 
   all_opened : (n : ℕ) → LeadsTo (make (down n)) (restarts_below replica n) (make (all_up node n))
-  all_opened n =
-      subst (λ (zs : List (Slot N)). LeadsTo (make (down n)) (restarts_below replica n) (make zs)) (append-nil (all_up node n))
-      (subst (λ (m : ℕ). LeadsTo (make (down m)) (restarts_below replica n) (make (all_up node n ++ []))) (add-zero n) (opened_below n 0))
+  all_opened n = subst (λ (zs : List (Slot N)). LeadsTo (make (down n)) (restarts_below replica n) (make zs)) (append-nil (all_up node n)) (opened_below n 0 n (sym (add-zero n)))
 
 -- executors are opened first
 abbrev of_executors : ConfigView → List (Slot ExecutorView) → WorldView
@@ -86,13 +83,13 @@ executor_opens : (c : ConfigView) (xs ys : List (Slot ExecutorView)) → WorldNe
 executor_opens c xs ys =
     let new = Up (first_executor c.u (length xs)) in
     subst (λ (slot : Option (Slot ExecutorView)). ExecutorAtOpened (of_executors c (xs ++ Down nothing_kept ∷ ys)) (length xs) slot (of_executors c (xs ++ new ∷ ys))) (sym (get_seam xs (Down nothing_kept) ys))
-    (new, [], inl (refl, (first_executor c.u (length xs), refl, refl, refl)), ap (of_executors c) (sym (set_seam xs (Down nothing_kept) ys new)))
+    (new, [], inl (refl, (first_executor c.u (length xs), refl, (refl, refl))), ap (of_executors c) (sym (set_seam xs (Down nothing_kept) ys new)))
 
 verifier_opens : (c : ConfigView) (xs ys : List (Slot VerifierView)) → WorldNext (of_verifiers c (xs ++ Down nothing_kept ∷ ys)) (Restart (Verifier (length xs))) (of_verifiers c (xs ++ Up (first_verifier c.u (length xs)) ∷ ys))
 verifier_opens c xs ys =
     let new = Up (first_verifier c.u (length xs)) in
     subst (λ (slot : Option (Slot VerifierView)). VerifierAtOpened (of_verifiers c (xs ++ Down nothing_kept ∷ ys)) (length xs) slot (of_verifiers c (xs ++ new ∷ ys))) (sym (get_seam xs (Down nothing_kept) ys))
-    (new, [], inl (refl, (first_verifier c.u (length xs), refl, refl, refl)), ap (of_verifiers c) (sym (set_seam xs (Down nothing_kept) ys new)))
+    (new, [], inl (refl, (first_verifier c.u (length xs), refl, (refl, refl))), ap (of_verifiers c) (sym (set_seam xs (Down nothing_kept) ys new)))
 
 -- to open all replicas leads to the first world
 pub opening_leads : (c : ConfigView) → IsFirstWorld c (first_world c)
