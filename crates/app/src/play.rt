@@ -1,6 +1,6 @@
 //! A schedule, from its bytes to what is shown of it.
 
-ghost use Rattle.std.specs.Prelude.{◌≡◌, ◌⊎◌, ◌×◌, IfOk, IfErr, OnOk, IfSome};
+ghost use Rattle.std.specs.Prelude.{◌≡◌, ◌⊎◌, IfOk, IfErr, OnOk, IfSome};
 ghost use Rattle.std.specs.Io.KnownBytes.{Appends};
 ghost use Rattle.schedules.specs.Schedule.{IsRefusedRightly};
 ghost use Rattle.app.specs.Printed.{refusal_text, unread_text};
