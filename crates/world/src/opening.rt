@@ -91,6 +91,7 @@ impl World {
     /// The first world: each replica is up with its first record, and nothing was sent yet. The only
     /// error is that there is no memory for the world's lists or for one of its nodes; then all nodes
     /// are ended.
+    #[tactic(auto, using(crate::proofs::FirstLemmas::length_all_up))]
     pub fn open(alloc: Global, config: &Config) -> Result<World, AllocError>
         ensures { IfOk result (λ world. world ≡ first_world config.now) }
     {
