@@ -5,10 +5,11 @@ use Rattle.std.specs.Io.KnownBytes.{Appends}
 use Rattle.schedules.specs.declared.fault.ScheduleFault.{ScheduleFault}
 use Rattle.schedules.specs.declared.fault.ScheduleFault.TheVariants.{NoMemory}
 use Rattle.schedules.specs.Schedule.{IsRefusedRightly}
+use Rattle.streams.specs.Writes.{Taken}
 use Rattle.app.specs.declared.fault.PlayFault.{PlayFault}
 use Rattle.app.specs.declared.fault.PlayFault.TheVariants.{Refused, Read}
-use Rattle.app.specs.Printed.{refusal_text, AppendsFront}
-use Rattle.app.specs.Play.{Shows, IsFaultOf, IsShown, IsShownInPart, IsRefused}
+use Rattle.app.specs.Printed.{refusal_text}
+use Rattle.app.specs.Play.{Shows, IsFaultOf, IsTold, IsToldInPart, IsShown, IsShownInPart, IsRefused}
 
 pub shown_known : (known : Option (List ℕ)) (read slice text : List ℕ) → IfSome known (λ input. read ≡ input) → slice ≡ read → Shows slice text → IfSome known (λ bytes. Shows bytes text)
 shown_known None read slice text same is shows = tt
@@ -26,13 +27,12 @@ no_memory_known (Some input) = tt
 pub unread_known : (known : Option (List ℕ)) (fault : PlayFault) → (fault ≡ Read) ⊎ (fault ≡ Refused NoMemory) → IsFaultOf known fault
 unread_known known fault only = ⊎_elim (λ is. subst (IsFaultOf known) (sym is) tt) (λ is. subst (IsFaultOf known) (sym is) (no_memory_known known)) only
 
-pub all_known : (known old new : Option (List ℕ)) (text slice : List ℕ) → IfSome known (λ bytes. Shows bytes text) → slice ≡ text → Appends old new slice → IfSome known (λ bytes. IsShown bytes old new)
-all_known None old new text slice shows is wrote = tt
-all_known (Some input) old new text slice shows is wrote = (text, shows, subst (Appends old new) is wrote)
+module _ {S : Type 0} {takes : S → List ℕ → Taken → S → Type 0} {contents : S → Option (List ℕ)} where
+  pub all_known : (known : Option (List ℕ)) (old new : S) (text slice : List ℕ) → IfSome known (λ bytes. Shows bytes text) → slice ≡ text → IsTold takes contents slice old new → IsShown takes contents known old new
+  all_known known old new text slice shows is wrote = (text, shows, subst (λ (t : List ℕ). IsTold takes contents t old new) is wrote)
 
-pub part_known : (known old new : Option (List ℕ)) (text slice : List ℕ) → IfSome known (λ bytes. Shows bytes text) → slice ≡ text → AppendsFront old new slice → IfSome known (λ bytes. IsShownInPart bytes old new)
-part_known None old new text slice shows is wrote = tt
-part_known (Some input) old new text slice shows is wrote = (text, shows, subst (AppendsFront old new) is wrote)
+  pub part_known : (known : Option (List ℕ)) (old new : S) (text slice : List ℕ) → IfSome known (λ bytes. Shows bytes text) → slice ≡ text → IsToldInPart takes contents slice old new → IsShownInPart takes contents known old new
+  part_known known old new text slice shows is wrote = (text, shows, subst (λ (t : List ℕ). IsToldInPart takes contents t old new) is wrote)
 
 pub refusal_known : (known old new : Option (List ℕ)) (fault : ScheduleFault) → IsFaultOf known (Refused fault) → Appends old new (refusal_text fault) → IfSome known (λ bytes. IsRefused bytes old new)
 refusal_known None old new fault right wrote = tt

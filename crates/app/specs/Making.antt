@@ -9,7 +9,8 @@ use Rattle.events.specs.declared.event.Event.TheVariants.{Deliver}
 use Rattle.makers.specs.Table.{next_event, after_event}
 use Rattle.schedules.specs.declared.line.ScheduleLine.{ScheduleLine}
 use Rattle.schedules.specs.declared.line.ScheduleLine.TheVariants.{Happens, Settle, Random}
-use Rattle.worlds.specs.World.{WorldView, WorldNext, IsFirstWorld}
+use Rattle.worlds.specs.World.{WorldView, WorldNext}
+use Rattle.world.specs.World.{first_world}
 use Rattle.world.specs.Work.{IsNextWork}
 use Rattle.app.specs.Past.{PastView, first_past, past_after, IsNextLetter}
 
@@ -84,7 +85,7 @@ LinesMake c (line ∷ lines) s t = (middle : Stage) × LineMakes c line s middle
 
 -- the first world, in which nothing happened yet
 abbrev pub IsFirstStage : ConfigView → Stage → Type 0
-IsFirstStage c s = IsFirstWorld c s.world × (s.past ≡ first_past (length s.world.letters))
+IsFirstStage c s = s ≡ stage (first_world c) (first_past 0)
 
 -- the events are those that the lines make, from the first world on
 pub record Makes (c : ConfigView) (lines : List ScheduleLine) (events : List Event) : Type 0 where

@@ -1,16 +1,17 @@
 -- What is shown of a schedule.
-use Rattle.std.specs.Prelude.{◌≡◌, ℕ, List, Option, IfSome}
+use Rattle.std.specs.Prelude.{◌≡◌, ℕ, List, take, Option, Ok, Err, IfSome}
 use Rattle.std.specs.Io.KnownBytes.{Appends}
 use Rattle.events.specs.declared.event.Event.{Event}
 use Rattle.schedules.specs.declared.fault.ScheduleFault.{ScheduleFault}
 use Rattle.schedules.specs.declared.schedule.Schedule.{Schedule}
 use Rattle.schedules.specs.Schedule.{SpellsSchedule, IsRefusedRightly}
+use Rattle.streams.specs.Writes.{Taken, IsWritten}
 use Rattle.worlds.specs.World.{WorldView}
 use Rattle.worlds.specs.Laws.{IsReached}
 use Rattle.app.specs.declared.fault.PlayFault.{PlayFault}
-use Rattle.app.specs.declared.fault.PlayFault.TheVariants.{Refused, Read, Write}
+use Rattle.app.specs.declared.fault.PlayFault.TheVariants.{Refused, Read}
 use Rattle.app.specs.Making.{Makes}
-use Rattle.app.specs.Printed.{world_text, refusal_text, AppendsFront}
+use Rattle.app.specs.Printed.{world_text, refusal_text}
 
 -- The text shows the world in which the schedule ends: the bytes spell a schedule, this makes events, and they lead to a world of which the text is.
 pub record Shows (bytes text : List ℕ) : Type 0 where
@@ -22,13 +23,25 @@ pub record Shows (bytes text : List ℕ) : Type 0 where
   pub reached : IsReached schedule.config events world
   pub printed : text ≡ world_text world
 
--- all of what is shown was written
-abbrev pub IsShown : List ℕ → Option (List ℕ) → Option (List ℕ) → Type 0
-IsShown bytes old new = (text : List ℕ) × Shows bytes text × Appends old new text
+module _ {S : Type 0} (takes : S → List ℕ → Taken → S → Type 0) (contents : S → Option (List ℕ)) where
+  -- all of the text was written, by writes that each took some of the rest
+  pub record IsTold (text : List ℕ) (before after : S) : Type 0 where
+    pub bytes : Appends (contents before) (contents after) text
+    pub writes : IsWritten takes before after text (Ok tt)
 
--- a beginning of it was written
-abbrev pub IsShownInPart : List ℕ → Option (List ℕ) → Option (List ℕ) → Type 0
-IsShownInPart bytes old new = (text : List ℕ) × Shows bytes text × AppendsFront old new text
+  -- a beginning of the text was written, and then a write failed, after which none was made
+  pub record IsToldInPart (text : List ℕ) (before after : S) : Type 0 where
+    pub sent : ℕ
+    pub bytes : Appends (contents before) (contents after) (take sent text)
+    pub writes : IsWritten takes before after text (Err sent)
+
+  -- all of what is shown was written: if the bytes are known that were read, it is what is shown of them
+  abbrev pub IsShown : Option (List ℕ) → S → S → Type 0
+  IsShown known before after = (text : List ℕ) × IfSome known (λ bytes. Shows bytes text) × IsTold text before after
+
+  -- a beginning of it was written
+  abbrev pub IsShownInPart : Option (List ℕ) → S → S → Type 0
+  IsShownInPart known before after = (text : List ℕ) × IfSome known (λ bytes. Shows bytes text) × IsToldInPart text before after
 
 -- the refusal was written, and it is the right one
 abbrev pub IsRefused : List ℕ → Option (List ℕ) → Option (List ℕ) → Type 0
@@ -38,4 +51,3 @@ IsRefused bytes old new = (fault : ScheduleFault) × IsRefusedRightly bytes faul
 abbrev pub IsFaultOf : Option (List ℕ) → PlayFault → Type 0
 IsFaultOf known (Refused fault) = IfSome known (λ bytes. IsRefusedRightly bytes fault)
 IsFaultOf known Read = Unit {0}
-IsFaultOf known Write = ⊥

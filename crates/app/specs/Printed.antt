@@ -1,6 +1,5 @@
 -- What is printed of a world, a line a node, and of a fault.
-use Rattle.std.specs.Prelude.{ℕ, ◌+◌, List, [], ◌∷◌, ◌++◌, length, take, Option, if◌then◌else◌, codes, decimal}
-use Rattle.std.specs.Io.KnownBytes.{Appends}
+use Rattle.std.specs.Prelude.{ℕ, ◌+◌, List, [], ◌∷◌, ◌++◌, length, if◌then◌else◌, codes, decimal}
 use Rattle.exec_lines.specs.declared.shown.Report.{Report}
 use Rattle.exec_node.specs.Executor.{ExecutorView}
 use Rattle.verifier.specs.Verifier.{VerifierView}
@@ -59,7 +58,3 @@ refusal_text (BadSchedule line) = codes "refused: 6 BadSchedule line " ++ decima
 
 abbrev pub unread_text : List ℕ → List ℕ
 unread_text name = codes "cannot read " ++ name ++ 10 ∷ []
-
--- known bytes grow by a beginning of the text
-abbrev pub AppendsFront : Option (List ℕ) → Option (List ℕ) → List ℕ → Type 0
-AppendsFront old new text = (k : ℕ) × Appends old new (take k text)

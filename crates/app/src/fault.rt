@@ -5,15 +5,13 @@ ghost use Rattle.app.specs.declared.fault.PlayFault.TheVariants.{Refused};
 use schedules::ScheduleFault;
 use std::alloc::AllocError;
 
-/// Why a play ended early.
+/// Why nothing is shown.
 #[derive(Clone, Copy)]
 pub enum PlayFault {
     /// What was read is no schedule, or memory ran out.
     Refused(ScheduleFault),
     /// A read failed.
     Read,
-    /// A write failed.
-    Write,
 }
 
 impl From<AllocError> for PlayFault {

@@ -3,19 +3,19 @@
 ghost use Rattle.std.specs.Prelude.{◌≡◌, ◌⊎◌, IfOk, IfErr, OnOk, IfSome};
 ghost use Rattle.std.specs.Io.KnownBytes.{Appends};
 ghost use Rattle.schedules.specs.Schedule.{IsRefusedRightly};
-ghost use Rattle.app.specs.Printed.{refusal_text, unread_text, AppendsFront};
-ghost use Rattle.app.specs.Play.{Shows, IsFaultOf, IsShown, IsShownInPart, IsRefused};
+ghost use Rattle.app.specs.Printed.{refusal_text, unread_text};
+ghost use Rattle.app.specs.Play.{Shows, IsFaultOf, IsTold, IsToldInPart, IsShown, IsShownInPart, IsRefused};
 
 use crate::fault::PlayFault;
 use crate::input::read_input;
 use crate::making::events_of;
-use crate::output::write_text;
 use crate::printing::text_of_world;
 use crate::progress::Progress;
 use itoa::Buffer;
 use schedules::{Schedule, ScheduleFault};
 use std::alloc::Global;
 use std::io::{Read, Write};
+use streams::{WriteOnce, write_session};
 use world::play;
 
 /// All is shown.
@@ -64,28 +64,28 @@ fn text_of_input<R: Read, P: Progress>(
 }
 
 /// Writes what is shown: the status.
-fn show<O: Write>(out: &mut O, text: &[u8]) -> u8
+fn show<O: WriteOnce>(out: &mut O, text: &[u8]) -> u8
     ensures status { (result ≡ SHOWN) ⊎ (result ≡ STREAM_FAILED) }
-    ensures shown { result ≡ SHOWN → Appends (O.contents out.old) (O.contents out.new) text.now }
-    ensures in_part { AppendsFront (O.contents out.old) (O.contents out.new) text.now }
+    ensures shown { result ≡ SHOWN → IsTold O.takes O.contents text.now out.old out.new }
+    ensures in_part { result ≡ STREAM_FAILED → IsToldInPart O.takes O.contents text.now out.old out.new }
 {
-    match write_text(out, text) {
+    match write_session(out, text) {
         Ok(()) => SHOWN,
         Err(_) => STREAM_FAILED,
     }
 }
 
-/// Writes the refusal.
-fn write_refusal<E: Write>(err: &mut E, fault: ScheduleFault) -> Result<(), PlayFault>
+/// Writes the refusal. An error is that of `write_session`, of the piece that was not written whole.
+fn write_refusal<E: Write>(err: &mut E, fault: ScheduleFault) -> Result<(), usize>
     ensures { OnOk result (Appends (E.contents err.old) (E.contents err.new) (refusal_text fault)) }
 {
     match fault {
-        ScheduleFault::NoMemory => write_text(err, b"refused: 1 NoMemory\n".as_slice()),
+        ScheduleFault::NoMemory => write_session(err, b"refused: 1 NoMemory\n".as_slice()),
         ScheduleFault::BadSchedule { line } => {
-            write_text(err, b"refused: 6 BadSchedule line ".as_slice())?;
+            write_session(err, b"refused: 6 BadSchedule line ".as_slice())?;
             let mut buffer = Buffer::new();
-            write_text(err, buffer.format(line).as_bytes())?;
-            write_text(err, b"\n".as_slice())
+            write_session(err, buffer.format(line).as_bytes())?;
+            write_session(err, b"\n".as_slice())
         }
     }
 }
@@ -102,12 +102,12 @@ fn refuse<E: Write>(err: &mut E, fault: ScheduleFault) -> u8
 }
 
 /// Writes that the file of this name cannot be read.
-fn write_unread<E: Write>(err: &mut E, name: &str) -> Result<(), PlayFault>
+fn write_unread<E: Write>(err: &mut E, name: &str) -> Result<(), usize>
     ensures { OnOk result (Appends (E.contents err.old) (E.contents err.new) (unread_text name.now)) }
 {
-    write_text(err, b"cannot read ".as_slice())?;
-    write_text(err, name.as_bytes())?;
-    write_text(err, b"\n".as_slice())
+    write_session(err, b"cannot read ".as_slice())?;
+    write_session(err, name.as_bytes())?;
+    write_session(err, b"\n".as_slice())
 }
 
 /// Reads a schedule to its end, makes its events, plays them all from the first world on, and writes a
@@ -116,10 +116,11 @@ fn write_unread<E: Write>(err: &mut E, name: &str) -> Result<(), PlayFault>
 /// `SHOWN`: all lines were written. `REFUSED`: `refused: 6 BadSchedule line K`, with the number of the
 /// first bad line, or `refused: 1 NoMemory` was written to `err`, and nothing to `out`. `STREAM_FAILED`:
 /// a read failed, and `cannot read` with the name was written to `err`; or a write failed, and nothing
-/// was written after it. `progress` is told of each event that happens as the events are made; then they are
-/// played once more, from the first world on, for what is shown.
+/// was written after it. If a write to `out` failed, what was written before it is a beginning of the lines,
+/// and `err` is untouched. `progress` is told of each event that happens as the events are made; then they
+/// are played once more, from the first world on, for what is shown.
 #[tactic(auto, using(crate::proofs::PlayLemmas::all_known, crate::proofs::PlayLemmas::part_known, crate::proofs::PlayLemmas::refusal_known))]
-pub fn play_text<R: Read, O: Write, E: Write, P: Progress>(
+pub fn play_text<R: Read, O: WriteOnce, E: Write, P: Progress>(
     alloc: Global,
     name: &str,
     input: &mut R,
@@ -128,16 +129,16 @@ pub fn play_text<R: Read, O: Write, E: Write, P: Progress>(
     progress: &mut P,
 ) -> u8
     ensures status { (result ≡ SHOWN) ⊎ ((result ≡ REFUSED) ⊎ (result ≡ STREAM_FAILED)) }
-    ensures shown { result ≡ SHOWN → IfSome (R.remaining input.old) (λ bytes. IsShown bytes (O.contents out.old) (O.contents out.new)) }
+    ensures shown { result ≡ SHOWN → IsShown O.takes O.contents (R.remaining input.old) out.old out.new }
     ensures shown_alone { result ≡ SHOWN → err.new ≡ err.old }
     ensures refused { result ≡ REFUSED → IfSome (R.remaining input.old) (λ bytes. IsRefused bytes (E.contents err.old) (E.contents err.new)) }
     ensures refused_alone { result ≡ REFUSED → out.new ≡ out.old }
-    ensures in_part { (out.new ≡ out.old) ⊎ IfSome (R.remaining input.old) (λ bytes. IsShownInPart bytes (O.contents out.old) (O.contents out.new)) }
+    ensures told_in_part { result ≡ STREAM_FAILED → (out.new ≡ out.old) ⊎ (IsShownInPart O.takes O.contents (R.remaining input.old) out.old out.new × (err.new ≡ err.old)) }
 {
     match text_of_input(alloc, input, progress) {
         Ok(text) => show(out, text.as_slice()),
         Err(PlayFault::Refused(fault)) => refuse(err, fault),
-        Err(_) => {
+        Err(PlayFault::Read) => {
             let _told = write_unread(err, name);
             STREAM_FAILED
         }

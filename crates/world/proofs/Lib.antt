@@ -1,3 +1,4 @@
 mod RunLemmas
+mod FirstLemmas
 mod FedLemmas
 mod WorkLemmas

@@ -1,14 +1,10 @@
 -- Events that lead from one world to another, one list after the other.
 use Rattle.std.proofs.Common.{◌≡◌, ℕ, ◌+◌, ◌<◌, length, get_or, List, [], ◌∷◌, ◌++◌, take, refl, sym, ap, ◌∙◌, subst}
 use Rattle.std.proofs.lemmas.List.{take_more}
-use Rattle.std.proofs.Math.Numerals.{add-one}
 use Rattle.events.specs.declared.event.Event.{Event}
-use Rattle.events.specs.declared.event.Event.TheVariants.{Restart}
-use Rattle.events.specs.declared.event.Replica.{Replica}
 use Rattle.events.specs.Config.{ConfigView}
-use Rattle.worlds.specs.World.{WorldView, WorldNext, WorldRuns, last_world, restarts_below, IsFirstWorld, ReachedWorlds, EndsWith}
+use Rattle.worlds.specs.World.{WorldView, WorldNext, WorldRuns, last_world, ReachedWorlds, EndsWith}
 use Rattle.worlds.specs.Laws.{IsReached}
-use Rattle.world.specs.World.{LeadsTo}
 
 runs_append : (w : WorldView) (es fs : List Event) (xs ys : List WorldView) → WorldRuns w es xs → WorldRuns (last_world w xs) fs ys → WorldRuns w (es ++ fs) (xs ++ ys)
 runs_append w [] fs [] ys runs more = more
@@ -20,6 +16,10 @@ last_append : (w : WorldView) (xs ys : List WorldView) → last_world w (xs ++ y
 last_append w [] ys = refl
 last_append w (x ∷ xs) ys = last_append x xs ys
 
+-- the events lead from the first world to this one
+abbrev pub LeadsTo : WorldView → List Event → WorldView → Type 0
+LeadsTo first events now = (worlds : List WorldView) × WorldRuns first events worlds × (last_world first worlds ≡ now)
+
 pub leads_nowhere : (w : WorldView) → LeadsTo w [] w
 leads_nowhere w = ([], tt, refl)
 
@@ -30,17 +30,8 @@ leads_append a b c es fs p q = (
   last_append a p.0 q.0 ∙ (ap (λ (w : WorldView). last_world w q.0) p.2 ∙ q.2),
 )
 
-leads_on : (a b c : WorldView) (es : List Event) (e : Event) → LeadsTo a es b → WorldNext b e c → LeadsTo a (es ++ e ∷ []) c
+pub leads_on : (a b c : WorldView) (es : List Event) (e : Event) → LeadsTo a es b → WorldNext b e c → LeadsTo a (es ++ e ∷ []) c
 leads_on a b c es e p next = leads_append a b c es (e ∷ []) p (c ∷ [], (next, tt), refl)
-
--- one more replica is opened
-pub restarts_next : (replica : ℕ → Replica) (a b c : WorldView) (n : ℕ) → LeadsTo a (restarts_below replica n) b → WorldNext b (Restart (replica n)) c → LeadsTo a (restarts_below replica (n + 1)) c
-restarts_next replica a b c n p next =
-    subst (λ (es : List Event). LeadsTo a es c) (ap (restarts_below replica) (sym (add-one n))) (leads_on a b c (restarts_below replica n) (Restart (replica n)) p next)
-
--- the first world is reached by no event
-pub reached_first : (config : ConfigView) (w : WorldView) → IsFirstWorld config w → IsReached config [] w
-reached_first config w first = record { worlds = w ∷ []; reached = (first, tt); ends = refl }
 
 reached_on : (config : ConfigView) (es : List Event) (worlds : List WorldView) (w x : WorldView) (e : Event) → ReachedWorlds config es worlds → EndsWith worlds w → WorldNext w e x → IsReached config (es ++ e ∷ []) x
 reached_on config es [] w x e reached ends next = absurd reached

@@ -1,12 +1,13 @@
 //! The first world.
 
-ghost use Rattle.std.specs.Prelude.{◌≡◌, ◌<◌, ◌≤◌, ◌*◌, ◌+◌, IfOk, replicate, length};
-ghost use Rattle.worlds.specs.declared.slot.Slot.TheVariants.{Down};
-ghost use Rattle.worlds.specs.World.{new_clients, nothing_kept};
+ghost use Rattle.std.specs.Prelude.{◌≡◌, ◌<◌, ◌≤◌, ◌*◌, ◌+◌, IfOk};
+ghost use Rattle.worlds.specs.declared.slot.Slot.TheVariants.{Up};
+ghost use Rattle.worlds.specs.World.{new_clients};
+ghost use Rattle.world.specs.World.{first_executor, first_verifier, all_up};
 
-use crate::world::World;
+use crate::world::{World, end_executors};
 use std::alloc::{AllocError, Global};
-use worlds::{ClientPlace, Config, ExecutorPlace, Replica, VerifierPlace};
+use worlds::{ClientPlace, Config, ExecutorPlace, Status, VerifierPlace};
 
 /// So many clients, of which nothing came yet.
 fn first_clients(alloc: Global, u: u8, count: u16) -> Result<Vec<ClientPlace>, AllocError>
@@ -20,44 +21,84 @@ fn first_clients(alloc: Global, u: u8, count: u16) -> Result<Vec<ClientPlace>, A
     Ok(clients)
 }
 
-/// So many verifiers that were never opened.
-#[tactic(auto, using(std::proofs::lemmas::Grind::replicate_next))]
-fn unopened_verifiers(alloc: Global, count: u8) -> Result<Vec<VerifierPlace>, AllocError>
-    ensures { IfOk result (λ places. places.items ≡ replicate count (Down nothing_kept)) }
+/// A verifier that is opened for the first time. Without a record it sends nothing.
+fn opened_verifier(alloc: Global, u: u8, id: u8) -> Result<VerifierPlace, AllocError>
+    requires few { u < 4 }
+    requires member { id ≤ 2 * u }
+    ensures { IfOk result (λ place. place ≡ Up (first_verifier u id)) }
+{
+    let mut place = VerifierPlace::unopened();
+    place.restart(alloc, u, id);
+    match place.status() {
+        Status::Up(_) => Ok(place),
+        _ => Err(AllocError),
+    }
+}
+
+/// An executor alike.
+fn opened_executor(alloc: Global, u: u8, id: u8) -> Result<ExecutorPlace, AllocError>
+    requires few { u < 4 }
+    requires member { id ≤ 2 * u }
+    ensures { IfOk result (λ place. place ≡ Up (first_executor u id)) }
+{
+    let mut place = ExecutorPlace::unopened();
+    place.restart(alloc, u, id);
+    match place.status() {
+        Status::Up(_) => Ok(place),
+        _ => {
+            place.end();
+            Err(AllocError)
+        }
+    }
+}
+
+/// The verifiers below this number, each opened.
+fn first_verifiers(alloc: Global, u: u8, count: u8) -> Result<Vec<VerifierPlace>, AllocError>
+    requires few { u < 4 }
+    requires members { count ≤ 2 * u + 1 }
+    ensures { IfOk result (λ places. places.items ≡ all_up (first_verifier u) count) }
 {
     let mut places = Vec::new(alloc);
-    for i in 0..count {
-        places.push(VerifierPlace::unopened())?;
+    for id in 0..count {
+        places.push(opened_verifier(alloc, u, id)?)?;
     }
     Ok(places)
 }
 
-/// So many executors that were never opened. Room is taken first, since they cannot be dropped.
-#[tactic(auto, using(std::proofs::lemmas::Grind::replicate_next))]
-fn unopened_executors(alloc: Global, count: u8) -> Result<Vec<ExecutorPlace>, AllocError>
-    ensures { IfOk result (λ places. places.items ≡ replicate count (Down nothing_kept)) }
+/// The executors below this number, each opened. Room is taken first, since they cannot be dropped.
+fn first_executors(alloc: Global, u: u8, count: u8) -> Result<Vec<ExecutorPlace>, AllocError>
+    requires few { u < 4 }
+    requires members { count ≤ 2 * u + 1 }
+    ensures { IfOk result (λ places. places.items ≡ all_up (first_executor u) count) }
 {
     let mut places = Vec::with_capacity(alloc, usize::from(count))?;
-    for i in 0..count {
-        places.push_reserved(ExecutorPlace::unopened());
+    for id in 0..count {
+        match opened_executor(alloc, u, id) {
+            Ok(place) => places.push_reserved(place),
+            Err(error) => {
+                end_executors(places);
+                return Err(error);
+            }
+        }
     }
     Ok(places)
 }
 
 impl World {
-    ghost use Rattle.std.specs.Prelude.{◌≡◌, ◌++◌, OnOk, IfOk};
-    ghost use Rattle.events.specs.declared.event.Replica.TheVariants as replica;
-    ghost use Rattle.worlds.specs.World.{unopened_world, restarts_below, IsFirstWorld};
-    ghost use Rattle.world.specs.World.{LeadsTo};
+    ghost use Rattle.std.specs.Prelude.{◌≡◌, IfOk};
+    ghost use Rattle.world.specs.World.{first_world};
 
-    /// All replicas are down, and none has a record.
-    fn unopened(alloc: Global, config: &Config) -> Result<World, AllocError>
-        ensures { IfOk result (λ world. world ≡ unopened_world config.now) }
+    /// The first world: each replica is up with its first record, and nothing was sent yet. The only
+    /// error is that there is no memory for the world's lists or for one of its nodes; then all nodes
+    /// are ended.
+    #[tactic(auto, using(crate::proofs::FirstLemmas::length_all_up))]
+    pub fn open(alloc: Global, config: &Config) -> Result<World, AllocError>
+        ensures { IfOk result (λ world. world ≡ first_world config.now) }
     {
         let u = config.u();
         let clients = first_clients(alloc, u, config.clients())?;
-        let verifiers = unopened_verifiers(alloc, 2 * u + 1)?;
-        let executors = unopened_executors(alloc, 2 * u + 1)?;
+        let verifiers = first_verifiers(alloc, u, 2 * u + 1)?;
+        let executors = first_executors(alloc, u, 2 * u + 1)?;
         Ok(World {
             u,
             clients,
@@ -65,51 +106,5 @@ impl World {
             verifiers,
             letters: Vec::new(alloc),
         })
-    }
-
-    /// The executors below this number are opened.
-    #[tactic(auto, using(crate::proofs::RunLemmas::leads_nowhere, crate::proofs::RunLemmas::restarts_next))]
-    fn open_executors(&mut self, alloc: Global, count: u8) -> Result<(), AllocError>
-        ensures { OnOk result (LeadsTo self.old (restarts_below replica.Executor count) self.new) }
-    {
-        for id in 0..count {
-            self.restart(alloc, Replica::Executor(id))?;
-        }
-        Ok(())
-    }
-
-    /// The verifiers below this number are opened.
-    #[tactic(auto, using(crate::proofs::RunLemmas::leads_nowhere, crate::proofs::RunLemmas::restarts_next))]
-    fn open_verifiers(&mut self, alloc: Global, count: u8) -> Result<(), AllocError>
-        ensures { OnOk result (LeadsTo self.old (restarts_below replica.Verifier count) self.new) }
-    {
-        for id in 0..count {
-            self.restart(alloc, Replica::Verifier(id))?;
-        }
-        Ok(())
-    }
-
-    #[tactic(auto, using(crate::proofs::RunLemmas::leads_append))]
-    fn open_all(&mut self, alloc: Global, count: u8) -> Result<(), AllocError>
-        ensures { OnOk result (LeadsTo self.old (restarts_below replica.Executor count ++ restarts_below replica.Verifier count) self.new) }
-    {
-        self.open_executors(alloc, count)?;
-        self.open_verifiers(alloc, count)?;
-        Ok(())
-    }
-
-    /// The first world: all replicas are opened, as far as there is memory for it. One for which there is
-    /// none is down. The only error is that the world finds no memory for its lists.
-    pub fn open(alloc: Global, config: &Config) -> Result<World, AllocError>
-        ensures { IfOk result (λ world. IsFirstWorld config.now world) }
-    {
-        let mut world = World::unopened(alloc, config)?;
-        match world.open_all(alloc, 2 * config.u() + 1) {
-            Ok(()) => Ok(world),
-            Err(error) => {
-                world.end();
-                Err(error)
-            }
-        }
     }
 }

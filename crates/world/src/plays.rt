@@ -12,7 +12,7 @@ use worlds::{
 };
 
 /// The world to which the events lead from the first one.
-#[tactic(auto, using(crate::proofs::RunLemmas::reached_first, crate::proofs::RunLemmas::reached_next))]
+#[tactic(auto, using(crate::proofs::FirstLemmas::reached_first, crate::proofs::RunLemmas::reached_next))]
 fn played(alloc: Global, config: &Config, events: &[Event]) -> Result<World, AllocError>
     ensures { IfOk result (λ world. IsReached config.now events.now world) }
 {

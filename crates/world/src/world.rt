@@ -35,6 +35,14 @@ impl Model for World {
     ghost invariant = { λ w. IsWorld (record { u = w.u; clients = w.clients.items; executors = w.executors.items; verifiers = w.verifiers.items; letters = w.letters.items }) };
 }
 
+/// Ends these executors.
+pub fn end_executors(mut executors: Vec<ExecutorPlace>) {
+    while let Some(place) = executors.pop() {
+        place.end();
+    }
+    executors.destroy_empty();
+}
+
 impl World {
     ghost use Rattle.std.specs.Prelude.{◌≡◌, length};
     ghost use Rattle.std.specs.Option.{option_map};
@@ -92,14 +100,11 @@ impl World {
         let World {
             u: _,
             clients,
-            mut executors,
+            executors,
             verifiers,
             letters,
         } = self;
-        while let Some(place) = executors.pop() {
-            place.end();
-        }
-        executors.destroy_empty();
+        end_executors(executors);
         drop(clients);
         drop(verifiers);
         drop(letters);

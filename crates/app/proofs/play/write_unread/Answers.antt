@@ -7,6 +7,6 @@ pub returns : goal.returns
 returns g c =
     let contents = g.E.Write.contents in
     let text : unread_text c.args.name.now ≡ c.as_slice.result.now ++ (c.as_bytes.result.now ++ c.as_slice-2.result.now) = search rules in
-    wrote_three c.write_text-3.result (contents c.args.err.now) (contents c.write_text.new.writer) (contents c.write_text-2.new.writer) (contents c.write_text-3.new.writer)
+    wrote_three c.write_session-3.result (contents c.args.err.now) (contents c.write_session.new.output) (contents c.write_session-2.new.output) (contents c.write_session-3.new.output)
     c.as_slice.result.now c.as_bytes.result.now c.as_slice-2.result.now (unread_text c.args.name.now)
-    c.in_ok-write_text.ensures.ok c.in_ok-write_text-2.ensures.ok c.write_text-3.ensures.ok text
+    c.in_ok-write_session.ensures.bytes c.in_ok-write_session-2.ensures.bytes c.write_session-3.ensures.bytes text

@@ -1,0 +1,10 @@
+use Rattle.std.proofs.Common.{◌≡◌, ◌≤◌, vec_len, vec_capacity}
+use Rattle.world.specs.World.{first_executor, all_up}
+use Rattle.world.proofs.opening.first_executors.Given as goal
+
+abbrev pub invariant-loop-id : goal.invariant-loop-id
+invariant-loop-id l = record {
+  made : l.places.items ≡ all_up (first_executor l.u) l.id;
+  count : vec_len l.places ≡ l.id;
+  room : l.fn.count ≤ vec_capacity l.places;
+}
