@@ -7,8 +7,8 @@ mod blocks;
 #[cfg(test)]
 mod crashes;
 #[cfg(test)]
+mod failing;
+#[cfg(test)]
 mod played;
 #[cfg(test)]
 mod statuses;
-#[cfg(test)]
-mod streams;
