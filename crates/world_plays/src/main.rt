@@ -10,7 +10,8 @@
 //! - `random FIRST SEEDS EVENTS`: for each seed, and where 0 to 3 replicas of each kind may fail, eight
 //!   clients ask twenty commands each, and then come so many events of a line `random` of a schedule.
 //! - `restarts FILE`: the row in this file, with a crash and a restart after each of its events, of each
-//!   replica. What clients are given is a beginning of what the row gives.
+//!   replica. What a client is given has to be a beginning of what the row gives it; so no reply of the row
+//!   may depend on whether a request of another client came through.
 //!
 //! For each line it prints what came of the plays. A play that shows what no server would is told, and the
 //! status is 1; it is 2 where a line cannot be played.
@@ -60,7 +61,7 @@ fn print_failed(rt: &HostRuntime, failed: Failed) -> io::Result<()> {
             println!(rt; "seed {seed} with u {u} shows what no server would")
         }
         Failed::Restart { after, number } => println!(rt;
-            "a restart of replica {number} after event {after} shows what no server would"
+            "a restart of replica {number} after event {after} shows what no server would, or not the row"
         ),
     }
 }
