@@ -56,7 +56,10 @@ impl Talk {
 
     /// What the reader says by itself before the next request.
     fn add_notices(&mut self) -> Result<(), AllocError> {
-        while let Some(notice) = self.next_notice() {
+        for _ in self.ends.len()..self.turns.len() {
+            let Some(notice) = self.next_notice() else {
+                return Ok(());
+            };
             self.text.extend_from_slice(notice.text())?;
             self.ends.push(self.text.len())?;
         }
