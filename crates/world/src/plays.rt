@@ -34,8 +34,8 @@ fn played(alloc: Global, config: &Config, events: &[Event]) -> Result<World, All
 /// way to it, and more events only extend that run; and where at most `u` executors are lost for good, the
 /// record of another one has the state that the run ends with.
 ///
-/// A node that finds no memory stops. The only error is that the world finds none for its lists or for the
-/// copy of a letter.
+/// A node that finds no memory stops. The only error is that the world finds none for its lists, for the copy
+/// of a letter, or for a node that is opened for the first time.
 pub fn play(alloc: Global, config: &Config, events: &[Event]) -> Result<World, AllocError>
     ensures reached { IfOk result (λ world. IsReached config.now events.now world) }
     ensures agree { IfOk result (λ world. OneIsChosen world) }
