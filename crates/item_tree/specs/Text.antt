@@ -1,9 +1,10 @@
 -- The text of a page of items that a tree keeps.
-use Rattle.std.specs.Prelude.{ℕ, List, ◌<◌, ◌^◌, length}
+use Rattle.std.specs.Prelude.{ℕ, List, ◌∷◌, ◌<◌, ◌^◌, length}
 use Rattle.std.specs.FinMap.{entries}
 use Rattle.items.specs.declared.item.Item.{Item}
 use Rattle.items.specs.Map.{Items}
-use Rattle.wire.specs.Item.{page_text}
+use Rattle.wire.specs.Field.{list_text}
+use Rattle.wire.specs.Item.{entry_text}
 use Rattle.merkle.specs.Digest.{map_pairs}
 use Rattle.merkle.specs.KeyPath.{path_bit}
 
@@ -11,8 +12,8 @@ use Rattle.merkle.specs.KeyPath.{path_bit}
 abbrev pub path_entries : Items → List (List ℕ × Item)
 path_entries m = map_pairs path_bit 2264 m
 
-abbrev pub tree_text : Items → List ℕ
-tree_text m = page_text (path_entries m)
+unfoldable pub tree_text : Items → List ℕ
+tree_text m = 6 ∷ list_text entry_text (path_entries m)
 
 -- so many items as have a count
 abbrev pub TreeFits : Items → Type 0

@@ -23,13 +23,23 @@ fn copy_into<S: Store>(entries: &[Entry<Key, Item>], store: &mut S) -> Result<()
 }
 
 impl ItemTree {
-    /// The items of a sorted vector. Data is shared. The only error is a failed allocation.
+    /// The items of these entries, which are shared. Of two entries with one key the first one counts. The
+    /// only error is a failed allocation.
+    pub fn of_entries(alloc: Global, entries: &[Entry<Key, Item>]) -> Result<ItemTree, AllocError>
+        ensures { IfOk result (λ store. store ≡ map.from_entries entries.now) }
+    {
+        let mut store = ItemTree::new(alloc);
+        for back in 0..entries.len() {
+            store.put_entry(entries[entries.len() - 1 - back].clone()?)?;
+        }
+        Ok(store)
+    }
+
+    /// The items of a sorted vector, whose entries are shared. The only error is a failed allocation.
     pub fn from_plain(alloc: Global, plain: &PlainStore) -> Result<ItemTree, AllocError>
         ensures { IfOk result (λ store. store ≡ plain.now) }
     {
-        let mut store = ItemTree::new(alloc);
-        copy_into(plain.as_slice(), &mut store)?;
-        Ok(store)
+        ItemTree::of_entries(alloc, plain.as_slice())
     }
 
     /// The same items in a sorted vector. Data is shared. The only error is a failed allocation.

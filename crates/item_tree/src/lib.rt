@@ -7,7 +7,10 @@
 
 mod converting;
 mod laws;
+mod record;
+mod same;
 mod store;
 
 pub use laws::digests_tell_items;
+pub use same::are_same;
 pub use store::ItemTree;

@@ -4,12 +4,11 @@ use merkle::MerkleMap;
 use proto::Key;
 use std::alloc::{AllocError, Global};
 use std::marker::Model;
-use wire::{Sink, put_count};
 
 /// Items in a Merkle tree over the paths of their keys. Clones share all.
 #[derive(Drop)]
 pub struct ItemTree {
-    items: MerkleMap<Key, Item>,
+    pub(crate) items: MerkleMap<Key, Item>,
     alloc: Global,
 }
 
@@ -29,10 +28,9 @@ impl Model for ItemTree {
 impl ItemTree {
     ghost use Rattle.std.specs.Prelude.{◌≡◌, ◌≢◌, ◌+◌, true, false, length, IfOk, OnOk, OnErr};
     ghost use Rattle.std.specs.FinMap as map;
-    ghost use Rattle.wire.specs.Record.{Puts};
     ghost use Rattle.items.specs.Map.{alive};
     ghost use Rattle.item_tree.specs.Told.{items_digest};
-    ghost use Rattle.item_tree.specs.Text.{path_entries, tree_text, TreeFits};
+    ghost use Rattle.item_tree.specs.Text.{path_entries};
 
     /// A store without items.
     pub fn new(alloc: Global) -> ItemTree
@@ -70,17 +68,6 @@ impl ItemTree {
         let dropped = self.items.drop_due(moment as u64)?;
         let _after = self.items.len();
         Ok(dropped)
-    }
-
-    /// Writes the text of a page of these items, in the order of their paths.
-    #[tactic(auto, unfolding(wire::specs::Item::page_text))]
-    pub fn put_text<S: Sink>(&self, sink: &mut S) -> Result<(), S::Refusal>
-        requires { TreeFits self.now }
-        ensures { OnOk result (Puts S.holds (tree_text self.now) sink.old sink.new) }
-    {
-        sink.put(&[0u8])?;
-        put_count(self.items.len() as usize, sink)?;
-        self.items.put_texts(sink)
     }
 
     /// Its entries, shared, in the order of their paths. The only error is a failed allocation.

@@ -1,6 +1,8 @@
 -- A digest tells the map that it is of.
-use Rattle.std.proofs.Common.{◌≡◌, ℕ, zero, suc, Bool, true, false, cond, not, List, [], ◌∷◌, ◌++◌, length, Option, Some, None, refl, sym, ap, ◌∙◌, arith, append-nil}
+use Rattle.std.proofs.Common.{◌≡◌, ℕ, zero, suc, ◌+◌, Bool, true, false, cond, not, List, [], ◌∷◌, ◌++◌, length, Option, Some, None, refl, sym, ap, ◌∙◌, arith, append-nil}
 use Rattle.std.specs.Prelude.{Contains}
+use Rattle.std.proofs.lemmas.List.{length-append}
+use Rattle.std.proofs.lemmas.List.Filters.{length-filter_both}
 use Rattle.std.proofs.lemmas.List.Elements.{Contains-append_left, Contains-append_right}
 use Rattle.std.specs.declared.cmp.Ordering.{Ordering}
 use Rattle.std.specs.Cmp.{IsTotalOrder}
@@ -12,6 +14,10 @@ use Rattle.merkle.specs.Shape.{Shape, none, one, fork, pairs, leaf_text, fork_te
 use Rattle.merkle.specs.Digest.{on_side, fork_over, chain_of, tree_of, texts_of, map_tree, map_pairs, map_texts, map_digest}
 use Rattle.merkle.specs.Laws.{Distinct, AreAmong, IsExact, TellsMaps}
 use Rattle.merkle.proofs.PutLemmas.{or_else, find_append}
+
+not-not : (b : Bool) → not (not b) ≡ b
+not-not true = refl
+not-not false = refl
 
 tail_of : List ℕ → List ℕ
 tail_of [] = []
@@ -112,6 +118,24 @@ module _ {K V : Type 0} {R : K → K → Ordering} (same : IsAntisymmetric R) (b
       ap (find R q) (pairs_over l r) ∙ find_append R q (pairs l) (pairs r)
       ∙ (λ i. or_else (found left (suc depth) q (on_side other all) i) (found left (suc depth) q (on_side test all) i))
       ∙ on_sides test q all
+
+module _ {K V : Type 0} (bit : K → ℕ → Bool) where
+  -- as many as there are
+  length_tree : (left depth : ℕ) (es : List (K × V)) → length (pairs (tree_of bit left depth es)) ≡ length es
+  length_tree left depth [] = refl
+  length_tree left depth (e ∷ []) = refl
+  length_tree zero depth (e ∷ f ∷ es) = ap length (pairs_chain (e ∷ f ∷ es))
+  length_tree (suc left) depth (e ∷ f ∷ es) =
+      let all : List (K × V) = e ∷ f ∷ es in
+      let l = tree_of bit left (suc depth) (on_side (λ k. not (bit k depth)) all) in
+      let r = tree_of bit left (suc depth) (on_side (λ k. bit k depth) all) in
+      ap length (pairs_over l r) ∙ length-append (pairs l) (pairs r)
+      ∙ (λ i. length_tree left (suc depth) (on_side (λ k. not (bit k depth)) all) i + length_tree left (suc depth) (on_side (λ k. bit k depth) all) i)
+      ∙ length-filter_both (λ e. not (bit e.0 depth)) (λ e. bit e.0 depth) (λ e. sym (not-not (bit e.0 depth))) all
+
+pub length_pairs : {K V : Type 0} {R : K → K → Ordering} (bit : K → ℕ → Bool) (bits : ℕ) (m : FinMap R V) → length (map_pairs bit bits m) ≡ length (entries m)
+unfolding map_tree
+length_pairs bit bits m = length_tree bit bits 0 (entries m)
 
 -- the entries of a map in the order of their paths are the map's
 pub pairs_make : {K V : Type 0} {R : K → K → Ordering} → IsTotalOrder R → IsAntisymmetric R → (bit : K → ℕ → Bool) (bits : ℕ) (m : FinMap R V) → from_entries {R = R} (map_pairs bit bits m) ≡ m

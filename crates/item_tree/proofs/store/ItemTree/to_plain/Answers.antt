@@ -1,6 +1,6 @@
 use Rattle.std.proofs.Common.{ap, ◌∙◌}
 use Rattle.std.specs.FinMap.{from_entries}
-use Rattle.item_tree.proofs.TextLemmas.{paths_make}
+use Rattle.item_tree.specs.TextLaws.{paths_make}
 use Rattle.item_tree.proofs.store.ItemTree.to_plain.Goals as goal
 
 pub returns : goal.returns
