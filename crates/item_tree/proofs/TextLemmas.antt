@@ -1,11 +1,8 @@
 -- The entries of items, by their keys and by their keys' paths.
-use Rattle.std.proofs.Common.{◌≡◌, ◌<◌, ℕ, List, length, sym, ap, ◌∙◌, arith}
-use Rattle.std.specs.Prelude.{◌^◌}
+use Rattle.std.proofs.Common.{◌≡◌, sym, ◌∙◌}
 use Rattle.std.specs.Cmp.Lexicographic.{nat_list_cmp_total}
 use Rattle.std.specs.FinMap.{entries, from_entries, get-entries, get-from_entries, same_map, IsAntisymmetric, nat_cmp-IsAntisymmetric, slice_cmp-IsAntisymmetric}
-use Rattle.items.specs.declared.item.Item.{Item}
 use Rattle.items.specs.Map.{Items, by_bytes}
-use Rattle.item_tree.specs.Text.{path_entries}
 
 only_equal : IsAntisymmetric by_bytes
 only_equal = slice_cmp-IsAntisymmetric nat_cmp-IsAntisymmetric

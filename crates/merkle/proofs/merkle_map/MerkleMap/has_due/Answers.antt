@@ -1,6 +1,6 @@
-use Rattle.std.proofs.Common.{◌≡◌, Bool, true, false, not, refl, sym, ap, ◌∙◌, subst}
+use Rattle.std.proofs.Common.{◌≡◌, Bool, true, false, not, sym, ap, ◌∙◌, subst}
 use Rattle.std.specs.FinMap.{from_entries}
-use Rattle.merkle.specs.Shape.{pairs, least}
+use Rattle.merkle.specs.Shape.{least}
 use Rattle.merkle.specs.Tree.{shape}
 use Rattle.merkle.specs.Alive.{is_above, alive_map}
 use Rattle.merkle.proofs.AliveMapLemmas.{none_due, some_due}
