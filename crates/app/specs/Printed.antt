@@ -6,7 +6,7 @@ use Rattle.verifier.specs.Verifier.{VerifierView}
 use Rattle.schedules.specs.declared.fault.ScheduleFault.{ScheduleFault}
 use Rattle.schedules.specs.declared.fault.ScheduleFault.TheVariants.{NoMemory, BadSchedule}
 use Rattle.schedules.specs.Escape.{printed_text}
-use Rattle.worlds.specs.declared.slot.Slot.{Slot}
+use Rattle.worlds.specs.Slot.{Slot}
 use Rattle.worlds.specs.declared.status.Status.{Status}
 use Rattle.worlds.specs.declared.status.Status.TheVariants.{Up, Down, Lost}
 use Rattle.worlds.specs.declared.status.VerifierReport.{VerifierReport}

@@ -116,7 +116,7 @@ impl<'a, R: Threads + Wait + Sync> Site<'a, R> {
         )?)
     }
 
-    /// The record of the state, as it is saved.
+    /// The text of the record of the state.
     fn record(&self) -> Result<Text, AllocError> {
         let mut text = Text::new(self.alloc());
         self.committed.put(&mut text)?;
@@ -132,8 +132,8 @@ impl<'a, R: Threads + Wait + Sync> Site<'a, R> {
         })
     }
 
-    /// Executes and commits the batch of these commands, and makes the record of the state. The time of
-    /// each part is added.
+    /// Executes the batch of these commands, takes what a keeper would be handed of it, which shares the
+    /// states, and commits. The time of each part is added.
     pub fn execute(
         &mut self,
         commands: Vec<Command>,
@@ -145,13 +145,14 @@ impl<'a, R: Threads + Wait + Sync> Site<'a, R> {
         laps.end_part(0);
         let tentative = self.run(batch)?;
         laps.end_part(1);
+        let saved = tentative.saved();
+        laps.end_part(3);
         let Some(committed) = commit(tentative) else {
             return Err(Fault::NotOpen);
         };
         self.committed = committed;
         laps.end_part(2);
-        let _record = self.record()?;
-        laps.end_part(3);
+        drop(saved?);
         times.add(laps.times)?;
         Ok(())
     }

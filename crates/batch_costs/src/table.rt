@@ -50,7 +50,7 @@ fn print_times(rt: &HostRuntime, name: &str, times: &Times) -> Result<(), Fault>
         medians[part] = times.median(rt.alloc(), part)?;
     }
     let [cut, run, commit, save] = medians;
-    let _told = eprintln!(rt; "{name}: cut {cut} execute {run} commit {commit} record {save}");
+    let _told = eprintln!(rt; "{name}: cut {cut} execute {run} commit {commit} save {save}");
     Ok(())
 }
 

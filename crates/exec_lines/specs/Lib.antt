@@ -6,3 +6,4 @@ pub mod Lines
 pub mod Step
 pub mod Job
 pub mod Record
+pub mod Kept

@@ -21,3 +21,7 @@ executor_text_in version u id s = version_mark version ∷ 69 ∷ ((((num w8 id 
 -- what is written
 abbrev pub executor_text : ℕ → ℕ → ExecutorState → List ℕ
 executor_text u id s = executor_text_in Second u id s
+
+-- the same of what is saved: how many decrees are known, what they stand for, and the text of the chain
+abbrev pub saved_text : ℕ → ℕ → ℕ → Standing → List ℕ → List ℕ
+saved_text u id known standing chain = version_mark Second ∷ 69 ∷ ((((num w8 id ++ num w8 u) ++ num w64 known) ++ standing_text standing) ++ chain)

@@ -1,38 +1,118 @@
 //! The record of an executor.
 
 ghost use Rattle.std.specs.Prelude.{◌≡◌, ◌++◌, IfOk, OnOk};
-ghost use Rattle.exec_lines.specs.Record.{executor_text, standing_text};
+ghost use Rattle.exec_lines.specs.Record.{executor_text, saved_text, standing_text};
 
 use crate::state::State;
 use base::Text;
+use decrees::Standing;
+use keeper::ToText;
+use rollback::SavedChain;
 use std::alloc::{AllocError, Global};
+use std::marker::Model;
 use wire::Record;
 
 /// The version that records are written in, and the kind.
 const MARKS: [u8; 2] = [2, b'E'];
 
-impl State {
-    /// Writes what the decrees stand for.
-    fn put_standing(&self, whole: &mut Text) -> Result<(), AllocError>
-        ensures { OnOk result (whole.new ≡ whole.old ++ standing_text self.now.standing) }
-    {
-        self.standing.n.put(whole)?;
-        self.standing.token.put(whole)?;
-        self.standing.epoch.put(whole)?;
-        self.standing.start.put(whole)
-    }
+/// What is saved of an executor's state.
+#[derive(Drop)]
+struct Saved {
+    u: u8,
+    id: u8,
+    known: u64,
+    standing: Standing,
+    chain: SavedChain,
+}
 
-    /// The record. It shares the texts that are kept of the pages and of the sessions.
-    pub fn record(&self, alloc: Global, u: u8, id: u8) -> Result<Text, AllocError>
-        ensures { IfOk result (λ text. text ≡ executor_text u id self.now) }
+/// A record that was made of a state, or one whose bytes were read.
+#[derive(Drop)]
+enum Kept {
+    Shared(Saved),
+    Bytes(Text),
+}
+
+/// The record of an executor, to be kept. One that is made of a state shares all of it, and is
+/// written only when it is asked for its text.
+///
+/// Contracts see the text that it stands for.
+#[derive(Drop)]
+pub struct ExecutorRecord {
+    kept: Kept,
+}
+
+impl Model for ExecutorRecord {
+    ghost use Rattle.std.specs.Prelude.{List, ℕ};
+
+    ghost Value = { List ℕ };
+
+    ghost use Rattle.exec_lines.specs.Kept.{kept_text};
+
+    ghost view = { λ r. kept_text r.kept };
+}
+
+/// Writes what the decrees stand for.
+fn put_standing(standing: &Standing, whole: &mut Text) -> Result<(), AllocError>
+    ensures { OnOk result (whole.new ≡ whole.old ++ standing_text standing.now) }
+{
+    standing.n.put(whole)?;
+    standing.token.put(whole)?;
+    standing.epoch.put(whole)?;
+    standing.start.put(whole)
+}
+
+impl Saved {
+    /// Writes its text. It shares the texts that are kept of the pages and of the sessions.
+    fn text(&self, alloc: Global) -> Result<Text, AllocError>
+        ensures { IfOk result (λ text. text ≡ saved_text self.now.u self.now.id self.now.known self.now.standing self.now.chain) }
     {
         let mut whole = Text::new(alloc);
         whole.put(&MARKS)?;
-        id.put(&mut whole)?;
-        u.put(&mut whole)?;
+        self.id.put(&mut whole)?;
+        self.u.put(&mut whole)?;
         self.known.put(&mut whole)?;
-        self.put_standing(&mut whole)?;
-        self.chain.put(&mut whole)?;
+        put_standing(&self.standing, &mut whole)?;
+        self.chain.put(alloc, &mut whole)?;
         Ok(whole)
+    }
+}
+
+impl ExecutorRecord {
+    /// The record of these bytes, as they were read. Nothing is said of whether they are one.
+    pub fn of_text(text: Text) -> ExecutorRecord
+        ensures { result ≡ text }
+    {
+        ExecutorRecord {
+            kept: Kept::Bytes(text),
+        }
+    }
+}
+
+impl ToText for ExecutorRecord {
+    ghost text = { λ bytes. bytes };
+
+    fn to_text(&self, alloc: Global) -> Result<Text, AllocError> {
+        match &self.kept {
+            Kept::Shared(saved) => saved.text(alloc),
+            Kept::Bytes(text) => text.clone(),
+        }
+    }
+}
+
+impl State {
+    /// The record. It shares the pages, the sessions and the batches. No text is written.
+    pub fn record(&self, alloc: Global, u: u8, id: u8) -> Result<ExecutorRecord, AllocError>
+        ensures { IfOk result (λ text. text ≡ executor_text u id self.now) }
+    {
+        let saved = Saved {
+            u,
+            id,
+            known: self.known,
+            standing: self.standing,
+            chain: self.chain.saved(alloc)?,
+        };
+        Ok(ExecutorRecord {
+            kept: Kept::Shared(saved),
+        })
     }
 }

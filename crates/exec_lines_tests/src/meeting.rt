@@ -2,6 +2,7 @@
 //! seen inside.
 
 use crate::given::{from_client, set_of};
+use crate::refusals::Executor;
 use crate::seen::{LEADER, U, are_letters, holds};
 use exec_lines::{Body, Input};
 use exec_node::ExecNode;
@@ -43,7 +44,7 @@ impl<R: Clock> Gate for Meets<'_, R> {
 }
 
 /// Begins a batch that sets `C` and `E`, which are on pages 67 and 69.
-fn begin(alloc: Global, executor: &mut ExecNode<MemKeeper>) -> Result<(), Fault> {
+fn begin(alloc: Global, executor: &mut Executor) -> Result<(), Fault> {
     for client in 1..3u8 {
         let request = set_of(alloc, client, 1, if client == 1 { b'C' } else { b'E' })?;
         let want = from_client(u16::from(client), Body::Want(request));
@@ -56,7 +57,7 @@ fn begin(alloc: Global, executor: &mut ExecNode<MemKeeper>) -> Result<(), Fault>
 fn run_by_two<R: Threads + Wait + Sync, G: Gate + Sync>(
     rt: &R,
     alloc: Global,
-    executor: &mut ExecNode<MemKeeper>,
+    executor: &mut Executor,
     gate: &G,
 ) -> Result<(), Fault> {
     begin(alloc, executor)?;

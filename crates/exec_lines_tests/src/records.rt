@@ -1,10 +1,12 @@
 //! Records of executors.
 
 use crate::given::{decided, execute, execute_and_commit};
+use crate::refusals::kept;
 use crate::seen::{LEADER, U, holds, record, resumes};
 use decrees::{Decree, Standing};
 use exec_lines::State;
 use executor::Committed;
+use keeper::{MemKeeper, ToText, save_record};
 use proto::Fault;
 use rollback::Chain;
 use states::Version;
@@ -14,7 +16,7 @@ use token::Token;
 
 /// The record at `u` 0, of executor 0.
 fn record_of_one(alloc: Global, state: &State) -> Result<Vec<u8>, AllocError> {
-    state.record(alloc, 0, 0)?.joined(alloc)
+    state.record(alloc, 0, 0)?.to_text(alloc)?.joined(alloc)
 }
 
 fn is_short(alloc: Global, state: &State) -> Result<(), Fault> {
@@ -68,6 +70,27 @@ fn is_read_back(alloc: Global, state: &mut State) -> Result<(), Fault> {
 fn an_executor_goes_on_from_its_record(rt: HostRuntime) -> Result<(), Fail> {
     let mut state = State::first(rt.alloc())?;
     let row = is_read_back(rt.alloc(), &mut state);
+    state.end();
+    assert!(rt; row == Ok(()));
+    Ok(())
+}
+
+/// Whether a keeper lends the record as it was saved, after the executor went on.
+fn is_lent_as_it_was(alloc: Global, state: &mut State) -> Result<(), Fault> {
+    execute_and_commit(alloc, state, 1, 1, 1)?;
+    execute(alloc, state, LEADER, 2, 1)?;
+    let bytes = record(alloc, state, LEADER)?;
+    let mut keeper = MemKeeper::new();
+    save_record(state.record(alloc, U, LEADER)?, &mut keeper)?;
+    execute(alloc, state, LEADER, 3, 1)?;
+    holds(record(alloc, state, LEADER)? != bytes)?;
+    holds(kept(alloc, &keeper)? == bytes)
+}
+
+#[test]
+fn a_keeper_lends_the_record_as_it_was_saved(rt: HostRuntime) -> Result<(), Fail> {
+    let mut state = State::first(rt.alloc())?;
+    let row = is_lent_as_it_was(rt.alloc(), &mut state);
     state.end();
     assert!(rt; row == Ok(()));
     Ok(())

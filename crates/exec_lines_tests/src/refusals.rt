@@ -7,29 +7,32 @@ use crate::adopting::made;
 use crate::given::{batch, commit, decided, from_executor, order, want};
 use crate::seen::{LEADER, OTHER, U, are_letters, holds, told_in};
 use decrees::{Decree, Letter};
-use exec_lines::{Body, Input};
+use exec_lines::{Body, ExecutorRecord, Input};
 use exec_node::ExecNode;
-use keeper::{Keeper, MemKeeper};
+use keeper::{Keeper, MemKeeper, ToText};
 use proto::Fault;
 use std::alloc::Global;
 use std::test::Fail;
 use token::Token;
 
-pub type Executor = ExecNode<MemKeeper>;
+/// An executor's keeper.
+pub type Kept = MemKeeper<ExecutorRecord>;
+
+pub type Executor = ExecNode<Kept>;
 
 type Letters = Vec<Letter<Body>>;
 
 /// The bytes of the record that is kept.
-pub fn kept(alloc: Global, keeper: &MemKeeper) -> Result<Vec<u8>, Fault> {
+pub fn kept(alloc: Global, keeper: &Kept) -> Result<Vec<u8>, Fault> {
     match keeper.load() {
         None => Ok(Vec::new(alloc)),
-        Some(text) => Ok(text.joined(alloc)?),
+        Some(found) => Ok(found.to_text(alloc)?.joined(alloc)?),
     }
 }
 
 /// The executor `id` of three, and its first letters, after `>`. Where it is refused, its keeper has
 /// the record that it had.
-pub fn opens(alloc: Global, id: u8, keeper: MemKeeper, expected: &[u8]) -> Result<Executor, Fault> {
+pub fn opens(alloc: Global, id: u8, keeper: Kept, expected: &[u8]) -> Result<Executor, Fault> {
     if id > OTHER {
         return Err(Fault::NotOpen);
     }

@@ -2,6 +2,7 @@
 
 use decrees::{Ballot, Letter, Node};
 use exec_lines::{Body, Input, Job, Outcome, State};
+use keeper::ToText;
 use proto::{Fault, Reply};
 use std::alloc::{AllocError, Global};
 use token::Token;
@@ -146,7 +147,7 @@ pub fn last_body(outcome: Outcome) -> Result<Body, Fault> {
 
 /// The bytes of the record of executor `id`.
 pub fn record(alloc: Global, state: &State, id: u8) -> Result<Vec<u8>, AllocError> {
-    state.record(alloc, U, id)?.joined(alloc)
+    state.record(alloc, U, id)?.to_text(alloc)?.joined(alloc)
 }
 
 fn byte_at(bytes: &[u8], at: usize) -> u8 {

@@ -5,7 +5,7 @@ ghost use Rattle.exec_node.specs.Executor.{StoredExecutor};
 
 use crate::record::read_back;
 use decrees::Letter;
-use exec_lines::{Body, Input, Job, Outcome, State};
+use exec_lines::{Body, ExecutorRecord, Input, Job, Outcome, State};
 use keeper::{Keeper, save_record};
 use proto::Fault;
 use round::Gate;
@@ -17,7 +17,7 @@ use std::thread::Threads;
 use workers::Workers;
 
 /// What the keeper's record gives, if it has one, and in which version it is.
-fn stored<K: Keeper>(
+fn stored<K: Keeper<ExecutorRecord>>(
     alloc: Global,
     u: u8,
     id: u8,
@@ -27,12 +27,18 @@ fn stored<K: Keeper>(
 {
     match keeper.load() {
         None => None,
-        Some(text) => Some(read_back(alloc, u, id, text)),
+        Some(found) => Some(read_back(alloc, u, id, found)),
     }
 }
 
 /// Saves the record of this state. Where a failure could not be counted it is Stopped at once.
-fn save<K: Keeper>(alloc: Global, u: u8, id: u8, state: &State, keeper: &mut K) -> Result<(), Fault>
+fn save<K: Keeper<ExecutorRecord>>(
+    alloc: Global,
+    u: u8,
+    id: u8,
+    state: &State,
+    keeper: &mut K,
+) -> Result<(), Fault>
     ensures saved { OnOk result (K.saved keeper.new ≡ Some (executor_text u id state.now)) }
     ensures none_failed { OnOk result (K.failed keeper.new ≡ K.failed keeper.old) }
     ensures same_word { OnOk result (K.told keeper.new ≡ K.told keeper.old) }
@@ -51,7 +57,7 @@ fn save<K: Keeper>(alloc: Global, u: u8, id: u8, state: &State, keeper: &mut K) 
 
 /// The letters of an executor that goes on from a record of version 1, whose state is saved as a record
 /// of today before they are given.
-fn renewed<K: Keeper>(
+fn renewed<K: Keeper<ExecutorRecord>>(
     alloc: Global,
     u: u8,
     id: u8,
@@ -79,7 +85,7 @@ fn renewed<K: Keeper>(
 
 /// An executor. It cannot be dropped, since its chain cannot: it is ended by `end`, which gives its
 /// keeper back.
-pub struct ExecNode<K: Keeper> {
+pub struct ExecNode<K: Keeper<ExecutorRecord>> {
     id: u8,
     u: u8,
     state: State,
@@ -87,7 +93,7 @@ pub struct ExecNode<K: Keeper> {
     keeper: K,
 }
 
-impl<K: Keeper> Model for ExecNode<K> {
+impl<K: Keeper<ExecutorRecord>> Model for ExecNode<K> {
     ghost use Rattle.std.specs.Prelude.{◌<◌, not};
     ghost use Rattle.exec_lines.specs.contracts.state.State as kept;
     ghost use Rattle.exec_node.specs.Executor.{ExecutorView, executor_view_code};
@@ -101,7 +107,7 @@ impl<K: Keeper> Model for ExecNode<K> {
     ghost invariant = { λ e. e.u < 4 };
 }
 
-impl<K: Keeper> ExecNode<K> {
+impl<K: Keeper<ExecutorRecord>> ExecNode<K> {
     ghost use Rattle.std.specs.Prelude.{◌≡◌, ◌*◌, ◌-◌, ◌^◌, ◌<◌, ◌≤◌, ◌⊎◌, Some, None, IfOk, IfErr, IsOk, IsSome, OnErr, OnOk, Ok, Err, IsErr, IsTrue, MatchOption, not, true, false, []};
     ghost use Rattle.std.specs.Borrow.{sem};
     ghost use Rattle.exec_lines.specs.Step.{fits_a_line, is_refused};

@@ -6,9 +6,9 @@ ghost use Rattle.rollback.specs.Chain.{IsRecordedIn, chain_text_in};
 ghost use Rattle.exec_lines.specs.State.{ExecutorState};
 ghost use Rattle.exec_node.specs.Record.{IsExecutorRecordIn, IsReadRecord, executor_head_text};
 
-use base::Text;
 use decrees::Standing;
-use exec_lines::State;
+use exec_lines::{ExecutorRecord, State};
+use keeper::ToText;
 use proto::Fault;
 use rollback::Chain;
 use states::Version;
@@ -64,11 +64,17 @@ fn restore(alloc: Global, u: u8, id: u8, bytes: &[u8]) -> Result<(Version, State
     Ok((version, State::restored(alloc, known, standing, chain)))
 }
 
-/// The state of the executor whose record this text is, and its version.
-pub fn read_back(alloc: Global, u: u8, id: u8, text: &Text) -> Result<(Version, State), Fault>
-    ensures ok { IfOk result (λ p. IsExecutorRecordIn p.0 u id text.now p.1) }
-    ensures err { IfErr result (λ fault. Refused fault ((s : ExecutorState) → IsReadRecord u id text.now s → ⊥)) }
+/// The state of the executor whose record this is, and its version. It is read from its text.
+pub fn read_back(
+    alloc: Global,
+    u: u8,
+    id: u8,
+    found: &ExecutorRecord,
+) -> Result<(Version, State), Fault>
+    ensures ok { IfOk result (λ p. IsExecutorRecordIn p.0 u id found.now p.1) }
+    ensures err { IfErr result (λ fault. Refused fault ((s : ExecutorState) → IsReadRecord u id found.now s → ⊥)) }
 {
+    let text = found.to_text(alloc)?;
     let bytes = text.joined(alloc)?;
     restore(alloc, u, id, &bytes)
 }

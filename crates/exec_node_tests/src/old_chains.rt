@@ -5,10 +5,9 @@ use crate::old_bytes::{
     NEXT_TOKEN, NOW, OLD, TOKEN, TOKEN_OF_TODAY, committed_record, next_record, stopped_record,
 };
 use crate::records::keeper_of;
-use crate::tests::{Executor, execute, is_stored, opened, receive, record};
+use crate::tests::{Executor, Kept, execute, is_stored, opened, receive, record};
 use decrees::{Ballot, Decree, Letter, Node};
 use exec_lines::Body;
-use keeper::MemKeeper;
 use proto::Fault;
 use sessions::Request;
 use std::alloc::Global;
@@ -77,7 +76,7 @@ fn commit(
 
 /// Whether the executor's record is this one.
 fn has(alloc: Global, executor: &mut Executor, expected: &[u8]) -> Result<bool, Fault> {
-    let keeper: &MemKeeper = executor.keeper();
+    let keeper: &Kept = executor.keeper();
     Ok(record(alloc, keeper)?.as_slice() == expected)
 }
 

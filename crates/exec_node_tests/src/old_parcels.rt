@@ -3,7 +3,7 @@
 
 use crate::old_bytes::{TOKEN, Written, committed_record, stopped_record};
 use crate::records::keeper_of;
-use crate::tests::{Executor, first_request, is_stored, record};
+use crate::tests::{Executor, Kept, first_request, is_stored, record};
 use decrees::{Ballot, Decree, Letter, Node};
 use exec_lines::{Body, Input};
 use exec_node::ExecNode;
@@ -22,7 +22,7 @@ const HAS: u8 = 0;
 const NEEDS: u8 = 1;
 
 /// One of three executors, new or with the record of this keeper.
-fn opened(alloc: Global, id: u8, keeper: MemKeeper) -> Result<Executor, Fault> {
+fn opened(alloc: Global, id: u8, keeper: Kept) -> Result<Executor, Fault> {
     if id > NEEDS {
         return Err(Fault::NotOpen);
     }
@@ -95,7 +95,7 @@ fn is_handed_over(alloc: Global, has: &mut Executor, needs: &mut Executor) -> Re
         id: NEEDS,
     };
     let expected = committed_record(alloc, of)?;
-    let keeper: &MemKeeper = needs.keeper();
+    let keeper: &Kept = needs.keeper();
     let kept = record(alloc, keeper)?;
     Ok(taken.is_empty() && kept == expected && answers(alloc, needs)?)
 }

@@ -4,9 +4,8 @@
 
 use crate::old_bytes::{NOW, OLD, new_record, stopped_record};
 use crate::records::{changed, keeper_of};
-use crate::tests::{asks_for_the_first, opened, record};
+use crate::tests::{Kept, asks_for_the_first, opened, record};
 use exec_node::ExecNode;
-use keeper::MemKeeper;
 use proto::Fault;
 use std::alloc::Global;
 use std::test::Fail;
@@ -147,7 +146,7 @@ fn a_record_of_the_one_version_is_none_of_the_other(rt: HostRuntime) -> Result<(
 }
 
 /// Opens with these bytes while the save will fail: why it was refused, if so, and the keeper.
-fn opened_under_failure(alloc: Global, bytes: &[u8]) -> Result<(Option<Fault>, MemKeeper), Fault> {
+fn opened_under_failure(alloc: Global, bytes: &[u8]) -> Result<(Option<Fault>, Kept), Fault> {
     let mut keeper = keeper_of(alloc, bytes)?;
     keeper.fail_next();
     match ExecNode::open(alloc, 0, 0, keeper) {

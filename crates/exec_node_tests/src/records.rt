@@ -1,20 +1,21 @@
 //! Records of today that are cut at each byte, and those of which each byte is another in turn.
 
 use crate::old_bytes::{NOW, stopped_record};
-use crate::tests::{Executor, opened, record};
+use crate::tests::{Executor, Kept, opened, record};
 use base::Text;
-use keeper::{Keeper, MemKeeper};
+use exec_lines::ExecutorRecord;
+use keeper::{Keeper, MemKeeper, ToText};
 use proto::Fault;
 use std::alloc::Global;
 use std::test::Fail;
 
 /// A keeper that has these bytes as its record.
-pub fn keeper_of(alloc: Global, bytes: &[u8]) -> Result<MemKeeper, Fault> {
+pub fn keeper_of(alloc: Global, bytes: &[u8]) -> Result<Kept, Fault> {
     let mut text = Text::new(alloc);
     text.put(bytes)?;
     let mut keeper = MemKeeper::new();
     if keeper.failures() == 0 {
-        keeper.save(text)?;
+        keeper.save(ExecutorRecord::of_text(text))?;
     }
     Ok(keeper)
 }
@@ -23,7 +24,7 @@ pub fn keeper_of(alloc: Global, bytes: &[u8]) -> Result<MemKeeper, Fault> {
 fn is_of(alloc: Global, executor: Executor, bytes: &[u8]) -> Result<bool, Fault> {
     let own = executor.state().record(alloc, 0, 0);
     let kept = record(alloc, &executor.end())?;
-    if kept.as_slice() == bytes && own?.joined(alloc)?.as_slice() == bytes {
+    if kept.as_slice() == bytes && own?.to_text(alloc)?.joined(alloc)?.as_slice() == bytes {
         Ok(true)
     } else {
         Err(Fault::NotOpen)

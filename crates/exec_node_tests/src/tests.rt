@@ -1,9 +1,9 @@
 use batches::Batch;
 use decrees::{Ballot, Decree, Letter, Node};
-use exec_lines::{Body, Input};
+use exec_lines::{Body, ExecutorRecord, Input};
 use exec_node::ExecNode;
 use executor::{Committed, Ended, Tentative, Work};
-use keeper::{Keeper, MemKeeper};
+use keeper::{Keeper, MemKeeper, ToText};
 use proto::{Fault, Reply};
 use sessions::Request;
 use std::alloc::Global;
@@ -11,10 +11,13 @@ use std::test::Fail;
 use token::Token;
 use wire::read;
 
-pub type Executor = ExecNode<MemKeeper>;
+/// An executor's keeper.
+pub type Kept = MemKeeper<ExecutorRecord>;
+
+pub type Executor = ExecNode<Kept>;
 
 /// The only executor of its cell, new or with the record of this keeper, and its first letters.
-pub fn opened(alloc: Global, keeper: MemKeeper) -> Result<(Executor, Vec<Letter<Body>>), Fault> {
+pub fn opened(alloc: Global, keeper: Kept) -> Result<(Executor, Vec<Letter<Body>>), Fault> {
     match ExecNode::open(alloc, 0, 0, keeper) {
         Ok(both) => Ok(both),
         Err((fault, _)) => Err(fault),
@@ -22,15 +25,15 @@ pub fn opened(alloc: Global, keeper: MemKeeper) -> Result<(Executor, Vec<Letter<
 }
 
 /// The record that is kept; where there is none, nothing.
-pub fn record(alloc: Global, keeper: &MemKeeper) -> Result<Vec<u8>, Fault> {
+pub fn record(alloc: Global, keeper: &Kept) -> Result<Vec<u8>, Fault> {
     match keeper.load() {
         None => Ok(Vec::new(alloc)),
-        Some(text) => Ok(text.joined(alloc)?),
+        Some(found) => Ok(found.to_text(alloc)?.joined(alloc)?),
     }
 }
 
 /// The keeper of an executor that was opened for the first time, and ended.
-pub fn first_keeper(alloc: Global) -> Result<MemKeeper, Fault> {
+pub fn first_keeper(alloc: Global) -> Result<Kept, Fault> {
     let (executor, _) = opened(alloc, MemKeeper::new())?;
     Ok(executor.end())
 }
@@ -69,7 +72,7 @@ fn it_goes_on_from_its_record(rt: HostRuntime) -> Result<(), Fail> {
 }
 
 /// Why the first executor of three does not open with the record of this keeper, if so.
-fn refused(alloc: Global, keeper: MemKeeper) -> Option<Fault> {
+fn refused(alloc: Global, keeper: Kept) -> Option<Fault> {
     match ExecNode::open(alloc, 1, 0, keeper) {
         Ok((executor, _)) => {
             drop(executor.end());

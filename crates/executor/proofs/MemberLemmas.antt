@@ -21,6 +21,7 @@ use Rattle.executor.specs.Kept.{kept_for, AreKept, LackOne, IsTentativeOver, IsT
 use Rattle.states.specs.declared.head.Head.{Head}
 use Rattle.states.specs.declared.version.Version.{Version}
 use Rattle.states.specs.declared.version.Version.TheVariants.{First, Second}
+use Rattle.pages.specs.Form.{layout_of}
 use Rattle.states.specs.StateRecord.{head_of_state, head_text, changes_text, after_text}
 use Rattle.states.specs.Version.{after_text_in, IsSuccessorIn}
 use Rattle.executor.specs.MemberRecord.{member_text, member_text_in, OneMember, WholeMember, BaseIsTold}
@@ -153,15 +154,15 @@ one_member t u over same =
     (both.0, after.0)
 
 -- a head stands first
-head_first : (before : Items) (s : StateView) → after_text before s ≡ head_text (head_of_state s) ++ (sessions_text s.sessions ++ changes_text before s.items)
+head_first : (before : Items) (s : StateView) → after_text before s ≡ head_text (head_of_state s) ++ (sessions_text s.sessions ++ changes_text (layout_of s.form) before s.items)
 unfolding after_text
-head_first before s = append_assoc (head_text (head_of_state s)) (sessions_text s.sessions) (changes_text before s.items)
+head_first before s = append_assoc (head_text (head_of_state s)) (sessions_text s.sessions) (changes_text (layout_of s.form) before s.items)
 
 pub base_is_told : BaseIsTold
 base_is_told t u is other same =
     let both = batch_prefix_free.apart t.batch u.batch (after_text t.before.items t.after) (after_text u.before.items u.after) same in
     let heads = head_prefix_free.apart (head_of_state t.after) (head_of_state u.after)
-    (sessions_text t.after.sessions ++ changes_text t.before.items t.after.items) (sessions_text u.after.sessions ++ changes_text u.before.items u.after.items)
+    (sessions_text t.after.sessions ++ changes_text (layout_of t.after.form) t.before.items t.after.items) (sessions_text u.after.sessions ++ changes_text (layout_of u.after.form) u.before.items u.after.items)
     (sym (head_first t.before.items t.after) ∙ (both.1 ∙ head_first u.before.items u.after)) in
     let number : t.batch.n ≡ u.batch.n = ap (λ (b : Batch). b.n) both.0 in (
       omega (arith, is.next, other.next, number),

@@ -14,9 +14,8 @@ use Rattle.mixer.specs.Groups.{numbers_of}
 use Rattle.wire.specs.Batch.{batch_text}
 use Rattle.token.specs.Digest.{digest}
 use Rattle.executor.specs.declared.answered.Answered.{Answered}
-use Rattle.token.specs.declared.form.Form.TheVariants.{Current}
 use Rattle.states.specs.State.{StateView, with_token}
-use Rattle.states.specs.Followed.{moment_of}
+use Rattle.states.specs.Followed.{moment_of, form_after}
 use Rattle.executor.specs.Fresh.{Runner, runners_among}
 
 -- the requests of the batch that run over a state
@@ -63,7 +62,7 @@ pub record Round (old : StateView) (batch : Batch) (ordered : Bool) (new : State
   pub sessions : new.sessions ≡ kept_after old.sessions replies
   pub moment : new.moment ≡ moment_of old batch
   -- what the state is told by
-  pub form : new.form ≡ Current
+  pub form : new.form ≡ form_after old batch
   pub number : new.number ≡ batch.n
   pub previous : new.previous ≡ old.token
   pub epoch : new.epoch ≡ batch.epoch

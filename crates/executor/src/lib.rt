@@ -7,7 +7,8 @@
 //! decree of that token alone. `as_base` lends a tentative or committed state for the batch after it.
 //! Where a caller orders the steps itself, `Work` makes them one by one. For a keeper there are the
 //! records that `put` writes and `take` reads, with a rest: of a committed state, and of a tentative one
-//! over its base. `restore` reads one that has no rest.
+//! over its base. `restore` reads one that has no rest. `Tentative::saved` is what a record needs of a
+//! tentative state: a value that can be dropped, and is written only when it is asked for its text.
 #![tactic(auto)]
 
 mod answered;
@@ -25,6 +26,7 @@ mod member_record;
 mod on_threads;
 mod parallel;
 mod record_laws;
+mod saved_member;
 mod tentative;
 mod witness;
 mod work;
@@ -34,5 +36,6 @@ pub use answered::Answered;
 pub use laws::{ordered_batch_has_one_round, orders_determine_the_round};
 pub use on_threads::execute;
 pub use record_laws::{members_are_told_apart, members_tell_their_base};
+pub use saved_member::SavedMember;
 pub use tentative::{Committed, Tentative};
 pub use work::{Ended, Work};

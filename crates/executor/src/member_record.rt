@@ -8,6 +8,7 @@ ghost use Rattle.executor.specs.MemberRecord.{member_text, member_text_in};
 
 use crate::base_state::Base;
 use crate::kept_replies::kept_replies;
+use crate::saved_member::put_member;
 use crate::tentative::Tentative;
 use batches::Batch;
 use pages::PageSet;
@@ -26,15 +27,23 @@ impl Tentative {
 
     /// Writes its record as a member of a chain: its batch, and the state that it led to over the base.
     /// A sink that takes shared pieces gets the texts that are kept of its sessions and of the pages
-    /// that are not the same; so a record in a text of pieces copies little. The sink may refuse it, as
-    /// where an allocation fails.
-    pub fn put<S: Sink>(&self, sink: &mut S) -> Result<(), S::Refusal>
+    /// that are not the same; so a record in a text of pieces copies little. The only error is a failed
+    /// allocation.
+    pub fn put<S: Sink<Refusal = AllocError>>(
+        &self,
+        alloc: Global,
+        sink: &mut S,
+    ) -> Result<(), AllocError>
         ensures { OnOk result (Puts S.holds (member_text self.now) sink.old sink.new) }
     {
-        self.batch.put(sink)?;
-        self.after
-            .state
-            .put_after(&self.before.state, &self.may_differ, sink)
+        put_member(
+            alloc,
+            &self.before.state,
+            &self.batch,
+            &self.after.state,
+            &self.may_differ,
+            sink,
+        )
     }
 
     /// Appends its record as a member of a chain: its batch, and the state that it led to over the
@@ -45,8 +54,9 @@ impl Tentative {
         ensures is { IsTentative self.now }
     {
         self.is_tentative();
-        let mut text = Vec::new(*out.allocator());
-        self.put(&mut text)?;
+        let alloc = *out.allocator();
+        let mut text = Vec::new(alloc);
+        self.put(alloc, &mut text)?;
         out.extend_from_slice(text.as_slice())?;
         Ok(())
     }

@@ -3,8 +3,7 @@
 ghost use Rattle.std.specs.Prelude.{◌≡◌, true, map, IfOk};
 ghost use Rattle.item_steps.specs.Schedule.{GroupRuns};
 ghost use Rattle.round.specs.Sittings.{group_fits};
-ghost use Rattle.wire.specs.Session.{sessions_text};
-ghost use Rattle.token.specs.Digested.{IsDigested};
+ghost use Rattle.token.specs.Digested.{AreDigested};
 
 use item_steps::{Stamp, Task};
 use pages::Pages;
@@ -14,7 +13,7 @@ use sessions::Sessions;
 use std::alloc::{AllocError, Global};
 use std::sync::Wait;
 use std::thread::Threads;
-use token::Digested;
+use token::{Digested, Form};
 use workers::{Workers, digest_all, run};
 
 /// Runs the group on the pages, by at most `workers` threads at once. Place 0 is at `base`.
@@ -40,19 +39,20 @@ pub fn run_group<R: Threads + Wait + Sync, G: Gate + Sync>(
     }
 }
 
-/// The same pages, and the digest of the sessions: at most `workers` threads at once make it, and those
+/// The same pages, and the digest of the sessions in a state of this form: at most `workers` threads at once make it, and those
 /// of the pages that were written, so that little is left to do when the pages are sealed.
 pub fn digest<R: Threads + Sync>(
     rt: &R,
     alloc: Global,
     pages: Pages,
+    form: Form,
     sessions: &Sessions,
     workers: Workers,
 ) -> (Pages, Digested)
     ensures pages { result.0 ≡ pages }
-    ensures digested { IsDigested (sessions_text sessions.now) result.1 }
+    ensures digested { AreDigested form sessions.now result.1 }
 {
     let mut parts = pages.part();
-    let digested = digest_all(rt, alloc, parts.as_mut_slice(), sessions, workers);
+    let digested = digest_all(rt, alloc, parts.as_mut_slice(), form, sessions, workers);
     (Pages::join(parts), digested)
 }

@@ -1,5 +1,5 @@
 ghost use Rattle.std.specs.Prelude.{◌≡◌, ◌<◌, ◌^◌, ◌↔◌, [], false, IfOk, IfErr, IsOk, IsTrue};
-ghost use Rattle.pages.specs.Form.{FitForm};
+ghost use Rattle.pages.specs.Form.{FitForm, layout_of};
 ghost use Rattle.states.specs.State.{initial_state, with_token};
 ghost use Rattle.states.specs.Parts.{parts_of};
 ghost use Rattle.decrees.specs.declared.decree.Decree.TheVariants.{Commit};
@@ -171,7 +171,8 @@ impl Committed {
     /// Its number is from 1 to 2^58 - 1.
     pub fn of_parts(alloc: Global, parts: Parts) -> Committed
         requires number { (0 < parts.origin.number) × (parts.origin.number < 2 ^ 58) }
-        requires form { FitForm parts.origin.form parts.pages }
+        requires form { FitForm parts.origin.form parts.pages.items }
+        requires laid { parts.pages.layout ≡ layout_of parts.origin.form }
         ensures { result ≡ record { state = with_token (parts_of parts); replies = [] } }
     {
         Committed {

@@ -1,13 +1,14 @@
 //! Misuses of what is not committed yet do not compile: this file would not, if they did.
 //!
 //! A `State` shows its sessions, and so the replies that they keep. So nothing lends the state of a
-//! `Base`, a `Work` or a `Tentative`; a `Tentative` lends its states as bases.
+//! `Base`, a `Work`, a `Tentative` or a `SavedMember`; a `Tentative` lends its states as bases.
 //!
-//! Each of these breaks it: `Drop` on `Tentative`; `Debug` on `Base`, `Work` or `Tentative`; on one of
-//! these three a function of its own with the name `reply`, `replies`, `state`, `sessions` or `after`,
-//! whatever it takes and gives.
+//! Each of these breaks it: `Drop` on `Tentative`; `Debug` on `Base`, `Work`, `Tentative` or
+//! `SavedMember`; on one of these four a function of its own with the name `reply`, `replies`, `state`,
+//! `sessions` or `after`, whatever it takes and gives.
 
 use crate::base_state::Base;
+use crate::saved_member::SavedMember;
 use crate::tentative::Tentative;
 use crate::work::Work;
 use std::fmt::Debug;
@@ -19,7 +20,7 @@ impl HasToBeSpent for Tentative {}
 
 impl<T: Drop> HasToBeSpent for T {}
 
-/// What is printed shows no reply: if one of the three could be printed, it would overlap with the last.
+/// What is printed shows no reply: if one of the four could be printed, it would overlap with the last.
 trait IsNotPrinted {}
 
 impl IsNotPrinted for Base {}
@@ -27,6 +28,8 @@ impl IsNotPrinted for Base {}
 impl IsNotPrinted for Work {}
 
 impl IsNotPrinted for Tentative {}
+
+impl IsNotPrinted for SavedMember {}
 
 impl<T: Debug> IsNotPrinted for T {}
 
@@ -63,6 +66,8 @@ impl HidesReplies for Work {}
 
 impl HidesReplies for Tentative {}
 
+impl HidesReplies for SavedMember {}
+
 fn base_shows_none(base: &Base) {
     let _: NotShown = Base::reply(base);
     let _: NotShown = Base::replies(base);
@@ -85,4 +90,12 @@ fn tentative_shows_none(tentative: &Tentative) {
     let _: NotShown = Tentative::state(tentative);
     let _: NotShown = Tentative::sessions(tentative);
     let _: NotShown = Tentative::after(tentative);
+}
+
+fn saved_member_shows_none(saved: &SavedMember) {
+    let _: NotShown = SavedMember::reply(saved);
+    let _: NotShown = SavedMember::replies(saved);
+    let _: NotShown = SavedMember::state(saved);
+    let _: NotShown = SavedMember::sessions(saved);
+    let _: NotShown = SavedMember::after(saved);
 }

@@ -3,9 +3,8 @@ ghost use Rattle.std.specs.List.{list_all};
 ghost use Rattle.std.specs.Bool.{OnTrue, OnFalse, then_some};
 ghost use Rattle.batches.specs.declared.batch.TheConstants.{MOST_REQUESTS};
 ghost use Rattle.item_steps.specs.Schedule.{stamped};
-ghost use Rattle.states.specs.Followed.{moment_of};
-ghost use Rattle.wire.specs.Session.{sessions_text};
-ghost use Rattle.token.specs.Digested.{IsDigested};
+ghost use Rattle.states.specs.Followed.{moment_of, form_after};
+ghost use Rattle.token.specs.Digested.{AreDigested};
 ghost use Rattle.executor.specs.Round.{first_place, kept_after, Round};
 ghost use Rattle.executor.specs.Work.{WorkStep, HasStep, HasNoStep, tentative_of, is_group_done as group_done, IsFirst, IsNextGroup, IsLast, is_ready, all_begun, replies_of, started};
 ghost use Rattle.executor.specs.Ends.{Begins, Goes, DoneIsRound};
@@ -30,11 +29,12 @@ use items::Store;
 use pages::Pages;
 use round::Gate;
 use sessions::Sessions;
+use states::{form_over, layout_of};
 use std::alloc::{AllocError, Global};
 use std::marker::Model;
 use std::sync::Wait;
 use std::thread::Threads;
-use token::Digested;
+use token::{Digested, Form};
 use workers::Workers;
 
 /// A batch that is being executed over its base: its requests run group by group, and the steps of
@@ -44,6 +44,8 @@ pub struct Work {
     base: Base,
     batch: Batch,
     ordered: bool,
+    /// The form of the state that the batch makes.
+    form: Form,
     pages: Pages,
     running: Vec<BatchRequest>,
     group: usize,
@@ -56,6 +58,8 @@ impl Model for Work {
     ghost use Rattle.batches.specs.contracts.batch.Batch as taken;
     ghost use Rattle.states.specs.contracts.state.State as made;
     ghost use Rattle.executor.specs.contracts.batch_request.BatchRequest as runs;
+    ghost use Rattle.std.specs.Prelude.{◌≡◌};
+    ghost use Rattle.states.specs.Followed.{form_after};
     ghost use Rattle.executor.specs.Work.{WorkView, IsWork, work_code};
 
     ghost Value = { WorkView };
@@ -74,7 +78,7 @@ impl Model for Work {
       batch = w.batch;
       ordered = w.ordered;
       progress = record { items = w.pages; running = w.running.items; group = w.group };
-    }) };
+    }) × (w.form ≡ form_after w.base.state w.batch) };
 }
 
 /// Whether work goes on, or is done.
@@ -130,10 +134,12 @@ impl Work {
     {
         let mut pages = base.state.pages().share()?.open();
         pages.drop_due(batch.moment.max(base.state.moment()))?;
+        let form = form_over(pages.len());
         Ok(Work {
             base: base.share()?,
             batch,
             ordered,
+            form,
             pages,
             running,
             group,
@@ -261,36 +267,44 @@ impl Work {
         Ok((sessions, replies))
     }
 
-    /// What the work made, with its sessions, their digest, and its replies. This takes no memory.
-    fn end(self, sessions: Sessions, digested: Digested, replies: Vec<Answered>) -> Tentative
+    /// What the work made, with its sessions, their digest, and its replies. The only error is a failed
+    /// allocation.
+    fn end(
+        self,
+        sessions: Sessions,
+        digested: Digested,
+        replies: Vec<Answered>,
+    ) -> Result<Tentative, AllocError>
         requires done { IsTrue (group_done self.progress) }
         requires last { IsLast self.progress.running (Some self.progress.group) }
         requires sessions { sessions ≡ kept_after self.base.sessions (replies_of self.base self.batch self.progress.running) }
         requires replies { replies.items ≡ replies_of self.base self.batch self.progress.running }
-        requires digested { IsDigested (sessions_text sessions) digested }
-        ensures tentative { result ≡ tentative_of self }
-        ensures made { ComesOfWork self.base self.batch self.ordered result }
-        ensures round { Round self.base self.batch self.ordered result.after result.replies }
+        requires digested { AreDigested (form_after self.base self.batch) sessions digested }
+        ensures tentative { IfOk result (λ tentative. tentative ≡ tentative_of self) }
+        ensures made { IfOk result (λ tentative. ComesOfWork self.base self.batch self.ordered tentative) }
+        ensures round { IfOk result (λ tentative. Round self.base self.batch self.ordered tentative.after tentative.replies) }
     {
         let Work {
             base,
             batch,
             ordered: _,
+            form,
             pages,
             running: _,
             group: _,
         } = self;
         let differing = may_differ(&base, &batch);
+        let sealed = pages.seal(layout_of(form))?;
         let after = base
             .state
-            .followed_by(&batch, sessions, digested, pages.seal());
-        Tentative {
+            .followed_by(form, &batch, sessions, digested, sealed);
+        Ok(Tentative {
             before: base,
             batch,
             after: Base { state: after },
             replies,
             may_differ: differing,
-        }
+        })
     }
 
     /// What the work made. The thread that calls makes all digests.
@@ -302,8 +316,8 @@ impl Work {
         ensures round { IfOk result (λ tentative. Round self.base self.batch self.ordered tentative.after tentative.replies) }
     {
         let (sessions, replies) = self.answers(alloc)?;
-        let digested = Digested::of_sessions(alloc, &sessions);
-        Ok(self.end(sessions, digested, replies))
+        let digested = Digested::of_sessions(alloc, self.form, &sessions);
+        self.end(sessions, digested, replies)
     }
 
     /// Makes the next step of the request at the place, if it is in the group that runs and has one
@@ -354,6 +368,7 @@ impl Work {
             base,
             batch,
             ordered,
+            form,
             pages,
             mut running,
             group,
@@ -366,6 +381,7 @@ impl Work {
             base,
             batch,
             ordered,
+            form,
             pages,
             running,
             group,
@@ -382,21 +398,23 @@ impl Work {
         workers: Workers,
     ) -> (Work, Digested)
         ensures same { result.0 ≡ self }
-        ensures digested { IsDigested (sessions_text sessions.now) result.1 }
+        ensures digested { AreDigested (form_after self.base self.batch) sessions.now result.1 }
     {
         let Work {
             base,
             batch,
             ordered,
+            form,
             pages,
             running,
             group,
         } = self;
-        let (pages, digested) = digest(rt, alloc, pages, sessions, workers);
+        let (pages, digested) = digest(rt, alloc, pages, form, sessions, workers);
         let work = Work {
             base,
             batch,
             ordered,
+            form,
             pages,
             running,
             group,
@@ -418,7 +436,7 @@ impl Work {
     {
         let (sessions, replies) = self.answers(alloc)?;
         let (work, digested) = self.digested(rt, alloc, &sessions, workers);
-        Ok(work.end(sessions, digested, replies))
+        work.end(sessions, digested, replies)
     }
 
     /// Makes all steps that are left on at most so many threads at once, group by group, and ends: see

@@ -9,6 +9,8 @@ use token::Token;
 use wire::read;
 
 mod chain;
+mod forms;
+mod migration;
 mod old_bytes;
 mod old_members;
 mod records;
@@ -186,7 +188,7 @@ fn is_first(state: &State) -> bool {
         && (state.previous(), state.token()) == (none, none)
         && *state.batch() == [0; 32]
         && state.sessions().entries().is_empty()
-        && state.pages().page(97).is_empty()
+        && state.pages().len(97) == 0
 }
 
 /// The token of batch 1.
@@ -209,20 +211,20 @@ fn the_token_of_one_set(rt: HostRuntime) -> Result<(), Fail> {
 }
 
 /// The greatest unique that a `gets` would show of the keys on the key's page.
-fn latest(state: &State, key: u8) -> u64 {
+fn latest(alloc: Global, state: &State, key: u8) -> Result<u64, AllocError> {
     let mut latest = 0;
-    for entry in state.pages().page(key as usize) {
+    for entry in &state.pages().entries(alloc, key as usize)? {
         latest = entry.value().unique.max(latest);
     }
-    latest
+    Ok(latest)
 }
 
-fn latest_of(state: &State, keys: [u8; 3]) -> [u64; 3] {
-    [
-        latest(state, keys[0]),
-        latest(state, keys[1]),
-        latest(state, keys[2]),
-    ]
+fn latest_of(alloc: Global, state: &State, keys: [u8; 3]) -> Result<[u64; 3], AllocError> {
+    Ok([
+        latest(alloc, state, keys[0])?,
+        latest(alloc, state, keys[1])?,
+        latest(alloc, state, keys[2])?,
+    ])
 }
 
 fn after_full_batch(alloc: Global) -> Result<Committed, Fault> {
@@ -233,13 +235,13 @@ fn after_full_batch(alloc: Global) -> Result<Committed, Fault> {
 /// The greatest uniques on these keys' pages after one more `set` of `a`.
 fn latest_with_one_more(alloc: Global, full: &Committed, keys: [u8; 3]) -> Result<[u64; 3], Fault> {
     let later = committed(alloc, full.as_base(), SET_MORE, false)?;
-    Ok(latest_of(later.state(), keys))
+    Ok(latest_of(alloc, later.state(), keys)?)
 }
 
 /// Those of three keys after the full batch, and of three after one more `set`.
 fn stamps(alloc: Global) -> Result<([u64; 3], [u64; 3]), Fault> {
     let full = after_full_batch(alloc)?;
-    let first = latest_of(full.state(), *b"!_`");
+    let first = latest_of(alloc, full.state(), *b"!_`")?;
     Ok((first, latest_with_one_more(alloc, &full, *b"_`a")?))
 }
 

@@ -16,7 +16,7 @@ use std::mem;
 use std::sync::{Mutex, Wait};
 use std::test::*;
 use std::thread::Threads;
-use token::sessions_digest;
+use token::{Form, sessions_digest, told_digest_of};
 use workers::{Workers, digest_all, run};
 
 fn is_same_item(a: &Item, b: &Item) -> bool {
@@ -371,14 +371,6 @@ fn orders_of_touching_rounds_replay(rt: HostRuntime) -> Result<(), Fail> {
     Ok(())
 }
 
-/// Whether both pages keep a digest, and the same one.
-fn is_same_digest(a: &Page, b: &Page) -> bool {
-    match (a.digest(), b.digest()) {
-        (Some(a), Some(b)) => a.as_slice() == b.as_slice(),
-        _ => false,
-    }
-}
-
 /// Writes each of the 256 pages: those from 128 on by keys of one byte, and the others by keys of two.
 fn write_each(alloc: Global, pages: &mut Pages) -> Result<(), AllocError> {
     for more in 0..128u8 {
@@ -418,41 +410,67 @@ fn sessions_below(alloc: Global, end: u16) -> Result<Sessions, AllocError> {
     Ok(sessions)
 }
 
+/// The digest of the sessions in a state of this form.
+fn digest_in(form: Form, sessions: &Sessions) -> [u8; 32] {
+    match form {
+        Form::Old | Form::Current => sessions_digest(sessions),
+        Form::Tree => told_digest_of(sessions),
+    }
+}
+
 /// Whether that many workers make the digests that one thread makes of these pages and sessions.
 fn make_the_same<R: Threads + Sync>(
     rt: &R,
     alloc: Global,
     pages: &mut [Page],
     alone: &mut [Page],
+    form: Form,
     sessions: &Sessions,
     workers: Workers,
 ) -> bool {
-    let written = pages.len() == 256 && pages.iter().all(|page| page.digest().is_none());
     for page in alone.iter_mut() {
         page.refresh();
     }
-    let digested = digest_all(rt, alloc, pages, sessions, workers);
-    let same = pages.iter().zip(&*alone).all(|(a, b)| is_same_digest(a, b));
-    written && same && *digested.digest() == sessions_digest(sessions)
+    let digested = digest_all(rt, alloc, pages, form, sessions, workers);
+    let same = pages
+        .iter()
+        .zip(&*alone)
+        .all(|(a, b)| a.digest() == b.digest());
+    pages.len() == 256 && same && *digested.digest() == digest_in(form, sessions)
 }
 
+fn make_the_same_of<R: Threads + Sync>(
+    rt: &R,
+    alloc: Global,
+    form: Form,
+    sessions: &Sessions,
+    workers: Workers,
+) -> Result<bool, AllocError> {
+    let mut pages = written_pages(alloc)?;
+    let mut alone = pages.clone()?;
+    Ok(make_the_same(
+        rt,
+        alloc,
+        pages.as_mut_slice(),
+        alone.as_mut_slice(),
+        form,
+        sessions,
+        workers,
+    ))
+}
+
+/// The same of the sessions of the clients below this one, in states of both forms of today.
 fn workers_make_the_same<R: Threads + Sync>(
     rt: &R,
     alloc: Global,
     end: u16,
     workers: Workers,
 ) -> Result<bool, AllocError> {
-    let mut pages = written_pages(alloc)?;
-    let mut alone = pages.clone()?;
     let sessions = sessions_below(alloc, end)?;
-    Ok(make_the_same(
-        rt,
-        alloc,
-        pages.as_mut_slice(),
-        alone.as_mut_slice(),
-        &sessions,
-        workers,
-    ))
+    Ok(
+        make_the_same_of(rt, alloc, Form::Current, &sessions, workers)?
+            && make_the_same_of(rt, alloc, Form::Tree, &sessions, workers)?,
+    )
 }
 
 #[test]

@@ -1,11 +1,14 @@
 ghost use Rattle.std.specs.Prelude.{◌≡◌, ◌<◌, ◌≤◌, ◌⊎◌, ◌^◌, ◌-◌, List, ℕ, Bool, false, Option, Some, OnOk, OnErr, IfErr, IsTrue, IsErr};
-ghost use Rattle.std.specs.Option.{option_copied};
+ghost use Rattle.std.specs.Option.{option_map};
 
-use base::Text;
+use crate::to_text::ToText;
 use proto::Fault;
 
-/// Keeps the record of one node: the text that was saved last.
-pub trait Keeper {
+/// Keeps the record of one node: the value that was saved last.
+///
+/// Contracts see the bytes that the value stands for. They need not be written: a keeper in memory keeps the
+/// value, and one on a disk asks it for its text.
+pub trait Keeper<R: ToText> {
     /// The bytes of the record that is kept, if one was saved.
     ghost saved: { Self → Option (List ℕ) };
 
@@ -15,14 +18,13 @@ pub trait Keeper {
     /// Whether the next save is set to fail. One that is not may fail, too.
     ghost told: { Self → Bool };
 
-    /// Keeps this text in place of the old record. It takes the pieces as they are, and copies none
-    /// of their bytes.
+    /// Keeps this value in place of the old record.
     ///
     /// After an error the old record is there as before, the failure was counted, and the save after it
     /// is not set to fail. So the caller sees to it that the count is not at its limit.
-    fn save(&mut self, text: Text) -> Result<(), Fault>
+    fn save(&mut self, value: R) -> Result<(), Fault>
         requires countable { failed self.old < 2 ^ 64 - 1 }
-        ensures kept { OnOk result (saved self.new ≡ Some text) }
+        ensures kept { OnOk result (saved self.new ≡ Some (R.text value)) }
         ensures none_failed { OnOk result (failed self.new ≡ failed self.old) }
         ensures same_word { OnOk result (told self.new ≡ told self.old) }
         ensures as_told { IsTrue (told self.old) → IsErr result }
@@ -31,19 +33,19 @@ pub trait Keeper {
         ensures spent { OnErr result (told self.new ≡ false) };
 
     /// The record, whole.
-    fn load(&self) -> Option<&Text>
-        ensures { option_copied result ≡ saved self.now };
+    fn load(&self) -> Option<&R>
+        ensures { option_map (λ kept. R.text kept.now) result ≡ saved self.now };
 
     /// How many saves have failed.
     fn failures(&self) -> u64
         ensures { result ≡ failed self.now };
 }
 
-/// Saves the text as the record. Stopped: the save failed, or its failure could not be counted, and
+/// Saves the value as the record. Stopped: the save failed, or its failure could not be counted, and
 /// then nothing was tried. After it the old record is there as before. There is no other error.
 /// Whether the next save is set to fail stays as it is, unless a save failed, which spends it.
-pub fn save_record<K: Keeper>(text: Text, keeper: &mut K) -> Result<(), Fault>
-    ensures kept { OnOk result (K.saved keeper.new ≡ Some text) }
+pub fn save_record<R: ToText, K: Keeper<R>>(value: R, keeper: &mut K) -> Result<(), Fault>
+    ensures kept { OnOk result (K.saved keeper.new ≡ Some (R.text value)) }
     ensures none_failed { OnOk result (K.failed keeper.new ≡ K.failed keeper.old) }
     ensures same_word { OnOk result (K.told keeper.new ≡ K.told keeper.old) }
     ensures as_told { IsTrue (K.told keeper.old) → IsErr result }
@@ -57,7 +59,7 @@ pub fn save_record<K: Keeper>(text: Text, keeper: &mut K) -> Result<(), Fault>
     if keeper.failures() == u64::MAX {
         return Err(Fault::Stopped);
     }
-    match keeper.save(text) {
+    match keeper.save(value) {
         Ok(()) => Ok(()),
         Err(_) => Err(Fault::Stopped),
     }

@@ -1,30 +1,31 @@
 ghost use Rattle.std.specs.Prelude.{◌≡◌, ◌<◌, ◌+◌, ◌^◌, ◌-◌, None, Some, true, false, OnOk, OnErr, Err, IsOk, IsTrue, not};
 
 use crate::keeper::Keeper;
-use base::Text;
+use crate::to_text::ToText;
 use proto::Fault;
 use std::marker::Model;
 
-/// Keeps its record in memory: the very text that it was given, for which it takes no memory. For
+/// Keeps its record in memory: the very value that it was given, for which it takes no memory. For
 /// tests of what a node does when a save fails, it can be told to fail the next one.
 #[derive(Drop)]
-pub struct MemKeeper {
-    saved: Option<Text>,
+pub struct MemKeeper<R: ToText> {
+    saved: Option<R>,
     failures: u64,
     fails_next: bool,
 }
 
-impl Model for MemKeeper {
+impl<R: ToText> Model for MemKeeper<R> {
+    ghost use Rattle.std.specs.Option.{option_map};
     ghost use Rattle.keeper.specs.Kept.{Kept};
 
     ghost Value = { Kept };
 
-    ghost view = { λ k. record { saved = k.saved; failures = k.failures; fails_next = k.fails_next } };
+    ghost view = { λ k. record { saved = option_map R.text k.saved; failures = k.failures; fails_next = k.fails_next } };
 }
 
-impl MemKeeper {
+impl<R: ToText> MemKeeper<R> {
     /// A keeper with no record yet.
-    pub fn new() -> MemKeeper
+    pub fn new() -> MemKeeper<R>
         ensures { result ≡ record { saved = None; failures = 0; fails_next = false } }
     {
         MemKeeper {
@@ -42,7 +43,7 @@ impl MemKeeper {
     }
 }
 
-impl Keeper for MemKeeper {
+impl<R: ToText> Keeper<R> for MemKeeper<R> {
     ghost saved = { λ k. k.saved };
 
     ghost failed = { λ k. k.failures };
@@ -50,9 +51,9 @@ impl Keeper for MemKeeper {
     ghost told = { λ k. k.fails_next };
 
     /// Stopped: it was told to fail this save. It fails no other one.
-    fn save(&mut self, text: Text) -> Result<(), Fault>
+    fn save(&mut self, value: R) -> Result<(), Fault>
         requires countable { self.old.failures < 2 ^ 64 - 1 }
-        ensures ok { OnOk result (self.new ≡ record self.old { saved = Some text }) }
+        ensures ok { OnOk result (self.new ≡ record self.old { saved = Some (R.text value) }) }
         ensures told { IsTrue self.old.fails_next → result ≡ Err Fault.Stopped }
         ensures not_told { IsTrue (not self.old.fails_next) → IsOk result }
         ensures err { OnErr result (self.new ≡ record self.old { failures = self.old.failures + 1; fails_next = false }) }
@@ -62,11 +63,11 @@ impl Keeper for MemKeeper {
             self.failures += 1;
             return Err(Fault::Stopped);
         }
-        self.saved = Some(text);
+        self.saved = Some(value);
         Ok(())
     }
 
-    fn load(&self) -> Option<&Text> {
+    fn load(&self) -> Option<&R> {
         self.saved.as_ref()
     }
 

@@ -12,7 +12,8 @@ use Rattle.sha2.proofs.Facts256.{length-sha256}
 use Rattle.wire.specs.FrontLaws.{split_at}
 use Rattle.merkle.specs.Shape.{Shape, none, one, fork, pairs, leaf_text, fork_text, hash_of}
 use Rattle.merkle.specs.Digest.{on_side, fork_over, chain_of, tree_of, texts_of, map_tree, map_pairs, map_texts, map_digest}
-use Rattle.merkle.specs.Laws.{Distinct, AreAmong, IsExact, TellsMaps}
+use Rattle.wire.specs.Distinct.{Distinct}
+use Rattle.merkle.specs.Laws.{AreAmong, IsExact, TellsMaps}
 use Rattle.merkle.proofs.PutLemmas.{or_else, find_append}
 
 not-not : (b : Bool) → not (not b) ≡ b

@@ -8,7 +8,7 @@ use Rattle.proto.specs.Key.{IsKey, is_key_byte}
 use Rattle.std.specs.Prelude.{slice_index, nat_eq, bit_and}
 use Rattle.sha2.specs.Sha256.{sha256}
 use Rattle.sha2.proofs.Facts256.{length-sha256}
-use Rattle.merkle.specs.KeyPath.{IsShort, path, bit_of, path_bit}
+use Rattle.merkle.specs.KeyPath.{IsShort, path, bit_of, path_bit, path_bits}
 
 index_right : (xs ys : List ℕ) (i : ℕ) → slice_index (xs ++ ys) (length xs + i) ≡ slice_index ys i
 index_right [] ys i = let e : 0 + i ≡ i = omega arith in ap (slice_index ys) e
@@ -61,7 +61,7 @@ is_byte key is zero = (let h : length key ≤ 250 = is.short in omega arith)
 is_byte key is (suc i) = is.bytes i
 
 -- what follows the digests
-same_rest : (a b : List ℕ) → IsShort a → IsShort b → ((i : ℕ) → i < 2264 → path_bit a i ≡ path_bit b i) → (i : ℕ) → i < 251 → slice_index (length a ∷ a) i ≡ slice_index (length b ∷ b) i
+same_rest : (a b : List ℕ) → IsShort a → IsShort b → ((i : ℕ) → i < path_bits → path_bit a i ≡ path_bit b i) → (i : ℕ) → i < 251 → slice_index (length a ∷ a) i ≡ slice_index (length b ∷ b) i
 same_rest a b p q h i k =
     same_byte (slice_index (length a ∷ a) i) (slice_index (length b ∷ b) i) (is_byte a p i) (is_byte b q i) (λ t l.
     let place : ℕ = 8 * (32 + i) + t in
@@ -71,7 +71,7 @@ same_rest a b p q h i k =
     λ key. (λ j. bit_of (slice_index (path key) (byte j)) (bit j)) ∙ ap (λ x. bit_of x t) (after_digest key i) in
     sym (at a) ∙ (h place (omega arith) ∙ at b))
 
-pub paths_apart : (a b : List ℕ) → IsShort a → IsShort b → ((i : ℕ) → i < 2264 → path_bit a i ≡ path_bit b i) → a ≡ b
+pub paths_apart : (a b : List ℕ) → IsShort a → IsShort b → ((i : ℕ) → i < path_bits → path_bit a i ≡ path_bit b i) → a ≡ b
 paths_apart a b p q h =
     let short : length a ≤ 250 = p.short in
     same_list a b (same_rest a b p q h 0 (omega arith)) (λ i k. same_rest a b p q h (suc i) (omega arith))
@@ -89,5 +89,5 @@ key_is_short key h =
     let parts = and_parts _ _ h in
     record { short = leb-true (length key) 250 (and_parts _ _ parts.0).1; bytes = key_bytes key parts.1 }
 
-pub keys_apart : (a b : List ℕ) → IsKey a → IsKey b → ((i : ℕ) → i < 2264 → path_bit a i ≡ path_bit b i) → a ≡ b
+pub keys_apart : (a b : List ℕ) → IsKey a → IsKey b → ((i : ℕ) → i < path_bits → path_bit a i ≡ path_bit b i) → a ≡ b
 keys_apart a b p q h = paths_apart a b (key_is_short a p) (key_is_short b q) h

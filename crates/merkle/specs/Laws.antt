@@ -2,12 +2,8 @@
 use Rattle.std.specs.Prelude.{◌≡◌, ℕ, Bool, List, Contains}
 use Rattle.std.specs.declared.cmp.Ordering.{Ordering}
 use Rattle.std.specs.FinMap.{FinMap}
-use Rattle.sha2.specs.Sha256.{sha256}
+use Rattle.wire.specs.Distinct.{Distinct}
 use Rattle.merkle.specs.Digest.{map_digest, map_texts}
-
--- two of these texts that have one digest are one text
-abbrev pub Distinct : (List ℕ → Type 0) → Type 0
-Distinct among = (a b : List ℕ) → among a → among b → sha256 a ≡ sha256 b → a ≡ b
 
 pub record AreAmong (texts : List (List ℕ)) (among : List ℕ → Type 0) : Type 0 where
   pub each : (a : List ℕ) → Contains texts a → among a

@@ -33,14 +33,14 @@ impl TreeKey for Key {
     ghost use Rattle.std.specs.FinMap.{nat_cmp-IsAntisymmetric, slice_cmp-IsAntisymmetric};
     ghost use Rattle.sha2.specs.Sha256.{sha256};
     ghost use Rattle.proto.specs.Key.{IsKey};
-    ghost use Rattle.merkle.specs.KeyPath.{path_bit, few};
+    ghost use Rattle.merkle.specs.KeyPath.{path_bit, path_bits, few};
     ghost use Rattle.merkle.specs.KeyPathLaws.{keys_apart};
 
     ghost hash = { sha256 };
 
     ghost bit = { path_bit };
 
-    ghost BITS = { 2264 };
+    ghost BITS = { path_bits };
 
     const BITS: u32 = 2264;
 

@@ -5,7 +5,7 @@ use crate::message::{Answer, ToExecutor};
 use crate::posts::Posts;
 use batches::Batch;
 use decrees::{Ballot, Letter, Node};
-use exec_lines::{Body, Input, Report};
+use exec_lines::{Body, ExecutorRecord, Input, Report};
 use exec_node::ExecNode;
 use keeper::MemKeeper;
 use link::Link;
@@ -19,6 +19,9 @@ use std::thread;
 use std::thread::Threads;
 use std::time::SystemTime;
 use workers::Workers;
+
+/// An executor over a keeper in memory.
+type Executor = ExecNode<MemKeeper<ExecutorRecord>>;
 
 /// So many letters are taken before a batch is cut, at most.
 const MOST_BEFORE_CUT: usize = 4096;
@@ -189,7 +192,7 @@ fn workers_of(member: Member, batch: &Batch) -> Workers {
 fn run_job<R: Threads + Wait + Sync>(
     rt: &R,
     alloc: Global,
-    node: &mut ExecNode<MemKeeper>,
+    node: &mut Executor,
     desk: &mut Desk,
 ) -> Result<(), Fault> {
     let workers = match node.job() {
@@ -206,7 +209,7 @@ fn run_job<R: Threads + Wait + Sync>(
 fn hand_in_order<R: Wait>(
     rt: &R,
     alloc: Global,
-    node: &mut ExecNode<MemKeeper>,
+    node: &mut Executor,
     desk: &mut Desk,
 ) -> Result<bool, Fault> {
     let before = node.state().report();
@@ -231,7 +234,7 @@ fn hand_in_order<R: Wait>(
 fn work_on<R: Threads + Wait + Sync>(
     rt: &R,
     alloc: Global,
-    node: &mut ExecNode<MemKeeper>,
+    node: &mut Executor,
     desk: &mut Desk,
 ) -> Result<(), Fault> {
     for _ in 0..MOST_HELD {
@@ -247,7 +250,7 @@ fn work_on<R: Threads + Wait + Sync>(
 fn hand_in<R: Threads + Wait + Sync>(
     rt: &R,
     alloc: Global,
-    node: &mut ExecNode<MemKeeper>,
+    node: &mut Executor,
     desk: &mut Desk,
     letter: Letter<Body>,
 ) -> Result<(), Fault> {
@@ -266,7 +269,7 @@ fn hand_in<R: Threads + Wait + Sync>(
 fn receive<R: Threads + Wait + Sync>(
     rt: &R,
     alloc: Global,
-    node: &mut ExecNode<MemKeeper>,
+    node: &mut Executor,
     desk: &mut Desk,
     message: ToExecutor,
 ) -> Result<bool, Fault> {
@@ -284,7 +287,7 @@ fn receive<R: Threads + Wait + Sync>(
 fn receive_all<R: Threads + Wait + Sync>(
     rt: &R,
     alloc: Global,
-    node: &mut ExecNode<MemKeeper>,
+    node: &mut Executor,
     desk: &mut Desk,
 ) -> Result<bool, Fault> {
     let Some(message) = desk.inbox.take(rt) else {
@@ -307,7 +310,7 @@ fn receive_all<R: Threads + Wait + Sync>(
 fn attend<R: Threads + Wait + Clock + Sync>(
     rt: &R,
     alloc: Global,
-    node: &mut ExecNode<MemKeeper>,
+    node: &mut Executor,
     desk: &mut Desk,
 ) -> Result<(), Fault> {
     for _ in rt.forever() {

@@ -3,6 +3,7 @@
 use crate::member::Member;
 use crate::message::ToVerifier;
 use crate::posts::Posts;
+use base::Text;
 use decrees::{Ballot, Letter, Node};
 use exec_lines::Body;
 use keeper::MemKeeper;
@@ -67,7 +68,7 @@ impl Bench {
 fn hand_in<R: Wait>(
     rt: &R,
     alloc: Global,
-    node: &mut Verifier<MemKeeper>,
+    node: &mut Verifier<MemKeeper<Text>>,
     bench: &mut Bench,
     first: Input,
 ) -> Result<(), Fault> {
@@ -87,7 +88,7 @@ fn hand_in<R: Wait>(
 fn attend<R: Wait>(
     rt: &R,
     alloc: Global,
-    node: &mut Verifier<MemKeeper>,
+    node: &mut Verifier<MemKeeper<Text>>,
     bench: &mut Bench,
 ) -> Result<(), Fault> {
     for _ in rt.forever() {

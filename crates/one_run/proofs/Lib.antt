@@ -1,4 +1,5 @@
 pub mod Elements
+pub mod Small
 pub mod Trees
 pub mod Tokens
 pub mod Runs

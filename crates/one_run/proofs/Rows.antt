@@ -36,6 +36,7 @@ use Rattle.one_run.specs.Texts.{inner_texts}
 use Rattle.one_run.specs.Run.{Executed, IsOver, states_of}
 use Rattle.one_run.specs.Chosen.{IsMade, commits, IsRunOf, IsCommitted}
 use Rattle.one_run.proofs.Elements.{in_head, in_none}
+use Rattle.one_run.proofs.Small.{form_over_none}
 
 -- ---- no Commit, no round
 
@@ -104,7 +105,7 @@ is_over = record {
     replied = refl;
     sessions = refl;
     moment = refl;
-    form = refl;
+    form = sym (form_over_none 1000);
     number = refl;
     previous = refl;
     epoch = refl;
@@ -223,7 +224,7 @@ its_round = record {
     replied = ap (λ rs. map (answered its_answers) rs) (sym it_runs);
     sessions = refl;
     moment = refl;
-    form = refl;
+    form = sym (form_over_none 1000);
     number = refl;
     previous = refl;
     epoch = refl;

@@ -3,8 +3,8 @@ use Rattle.std.specs.Prelude.{◌≡◌, ℕ, ◌<◌, List, ◌++◌, length, S
 use Rattle.decrees.specs.declared.decree.Decree.{Decree}
 use Rattle.decrees.specs.Standing.{standing}
 use Rattle.wire.specs.Batch.{batch_text}
+use Rattle.wire.specs.Distinct.{Distinct}
 use Rattle.states.specs.State.{StateView}
-use Rattle.one_run.specs.Texts.{Distinct}
 use Rattle.one_run.specs.Met.{AreAmong, IsKnown, ToldApart}
 use Rattle.one_run.specs.Run.{Executed, IsOver, states_of, Extends}
 use Rattle.one_run.specs.Chosen.{AllMade, IsRunOf, IsCommitted}

@@ -1,7 +1,8 @@
 -- States that were met, by any node at any time.
 use Rattle.std.specs.Prelude.{◌≡◌, ◌⊎◌, ◌<◌, List, Contains}
 use Rattle.states.specs.State.{StateView, initial_state, with_token}
-use Rattle.one_run.specs.Texts.{Distinct, IsTextOf}
+use Rattle.wire.specs.Distinct.{Distinct}
+use Rattle.one_run.specs.Texts.{IsTextOf}
 
 -- each of these is one of those
 abbrev pub AreAmong : {X : Type 0} → List X → List X → Type 0

@@ -37,7 +37,7 @@ use Rattle.events.specs.declared.event.Event.{Event}
 use Rattle.events.specs.declared.event.Event.TheVariants.{Feed, Again, Hangup, Deliver, Cut, Step, Finish, Suspect, Crash, Restart, Lost, FailSave}
 use Rattle.events.specs.declared.event.Replica.{Replica}
 use Rattle.events.specs.declared.event.Replica.TheVariants as replica
-use Rattle.worlds.specs.declared.slot.Slot.{Slot}
+use Rattle.worlds.specs.Slot.{Slot}
 use Rattle.worlds.specs.declared.slot.Slot.TheVariants.{Up, Down, Gone}
 use Rattle.worlds.specs.Slots.{executor_kept, executor_told, verifier_kept, verifier_told, crashed_slot, lost_slot, told_slot, first_if_none, VerifierSettles, ExecutorSettles, VerifierReopens, ExecutorReopens, ClientSlot, ClientSettlesWhere}
 use Rattle.worlds.specs.World.{WorldView, as_sent, with_executor, with_verifier, ClientAtGiven, ClientGiven, ExecutorAtGiven, VerifierAtGiven, ExecutorAtOpened, VerifierAtOpened, changed_at, ClientReached, VerifierReached, NodeReached, letter_at, IsDelivered, WorldNext}

@@ -13,7 +13,7 @@ use Rattle.one_run.specs.Run.{Executed}
 use Rattle.custody.specs.Durable.{Durable, Keeps}
 use Rattle.custody.specs.Machine.{ExecutorMachine, HaveNoToken, Hear, Reached}
 use Rattle.custody.proofs.Custody.{reached_ok}
-use Rattle.worlds.specs.declared.slot.Slot.{Slot}
+use Rattle.worlds.specs.Slot.{Slot}
 use Rattle.worlds.specs.Slots.{ClientSlot}
 use Rattle.worlds.specs.World.{WorldView, with_executor}
 use Rattle.worlds.specs.Ballots.{ballots}

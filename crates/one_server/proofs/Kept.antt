@@ -4,7 +4,7 @@ use Rattle.states.specs.State.{StateView}
 use Rattle.executor.specs.Work.{TentativeView}
 use Rattle.exec_node.specs.Executor.{ExecutorView}
 use Rattle.custody.specs.Durable.{Durable, first_durable, In, Keeps}
-use Rattle.worlds.specs.declared.slot.Slot.{Slot}
+use Rattle.worlds.specs.Slot.{Slot}
 use Rattle.worlds.specs.declared.slot.Slot.TheVariants.{Up, Down, Gone}
 use Rattle.one_server.specs.Saved.{AreLinked, IsSpelled, FoundIn, IsSavedIn, IsHadIn}
 use Rattle.one_server.specs.Machines.{IsRecordOf, IsSameExecutor}

@@ -22,7 +22,7 @@ use Rattle.events.specs.declared.event.Event.TheVariants.{Restart}
 use Rattle.events.specs.declared.event.Replica.{Replica}
 use Rattle.events.specs.declared.event.Replica.TheVariants as replica
 use Rattle.events.specs.Config.{ConfigView}
-use Rattle.worlds.specs.declared.slot.Slot.{Slot}
+use Rattle.worlds.specs.Slot.{Slot}
 use Rattle.worlds.specs.declared.slot.Slot.TheVariants.{Down}
 use Rattle.worlds.specs.World.{WorldView, WorldNext, WorldRuns, last_world, nothing_kept, unopened_world, restarts_below, opening_events, IsFirstWorld, ReachedWorlds, EndsWith}
 use Rattle.worlds.specs.Machines.{IsSameVerifier, IsOfMachine}

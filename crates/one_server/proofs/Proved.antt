@@ -16,7 +16,7 @@ use Rattle.one_run.specs.Chosen.{IsMade, IsCommitted}
 use Rattle.custody.specs.Durable.{Durable}
 use Rattle.custody.specs.Laws.{IsInCustody}
 use Rattle.custody.proofs.Custody.{reached_ok, chosen_is_made, committed_is_chosen, last_commit_is_kept}
-use Rattle.worlds.specs.declared.slot.Slot.{Slot}
+use Rattle.worlds.specs.Slot.{Slot}
 use Rattle.worlds.specs.World.{WorldView}
 use Rattle.worlds.specs.Laws.{is_gone, chosen_list}
 use Rattle.worlds.proofs.PlaceLemmas.{get_within}

@@ -32,7 +32,7 @@ use Rattle.events.specs.declared.event.Event.{Event}
 use Rattle.events.specs.declared.event.Event.TheVariants.{Feed, Again, Hangup, Deliver, Cut, Step, Finish, Suspect, Crash, Restart, Lost, FailSave}
 use Rattle.events.specs.declared.event.Replica.{Replica}
 use Rattle.events.specs.declared.event.Replica.TheVariants as replica
-use Rattle.worlds.specs.declared.slot.Slot.{Slot}
+use Rattle.worlds.specs.Slot.{Slot}
 use Rattle.worlds.specs.declared.slot.Slot.TheVariants.{Up, Down, Gone}
 use Rattle.worlds.specs.Slots.{ExecutorSettles, ExecutorReopens, ClientSlot, ClientSettlesWhere}
 use Rattle.worlds.specs.World.{WorldView, as_sent, with_executor, ClientAtGiven, ClientGiven, ExecutorAtGiven, VerifierAtGiven, ExecutorAtOpened, VerifierAtOpened, ClientReached, VerifierReached, NodeReached, letter_at, IsDelivered, WorldNext}

@@ -27,7 +27,7 @@ use Rattle.custody.specs.Durable.{Durable, first_durable}
 use Rattle.custody.specs.Machine.{ExecutorMachine, Reached}
 use Rattle.custody.proofs.Custody.{reached_ok}
 use Rattle.events.specs.declared.event.Event.{Event}
-use Rattle.worlds.specs.declared.slot.Slot.{Slot}
+use Rattle.worlds.specs.Slot.{Slot}
 use Rattle.worlds.specs.declared.slot.Slot.TheVariants.{Up, Down, Gone}
 use Rattle.worlds.specs.Slots.{executor_kept, executor_told, crashed_slot, lost_slot, told_slot, first_if_none, StopsIn, ExecutorSettles, ExecutorReopens}
 use Rattle.worlds.specs.World.{WorldView}

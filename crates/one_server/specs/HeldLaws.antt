@@ -11,7 +11,7 @@ use Rattle.one_run.specs.Chosen.{AllMade, IsCommitted}
 use Rattle.custody.specs.Durable.{Durable, Keeps}
 use Rattle.events.specs.declared.event.Event.{Event}
 use Rattle.events.specs.Config.{ConfigView}
-use Rattle.worlds.specs.declared.slot.Slot.{Slot}
+use Rattle.worlds.specs.Slot.{Slot}
 use Rattle.worlds.specs.declared.slot.Slot.TheVariants.{Up, Down, Gone}
 use Rattle.worlds.specs.World.{WorldView, ReachedWorlds, EndsWith}
 use Rattle.worlds.specs.Laws.{is_gone, chosen_list}

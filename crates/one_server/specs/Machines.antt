@@ -10,7 +10,7 @@ use Rattle.agreement.specs.ChosenList.{chosen}
 use Rattle.one_run.specs.Run.{Executed}
 use Rattle.custody.specs.Durable.{Durable, first_durable}
 use Rattle.custody.specs.Machine.{ExecutorMachine, Reached}
-use Rattle.worlds.specs.declared.slot.Slot.{Slot}
+use Rattle.worlds.specs.Slot.{Slot}
 use Rattle.worlds.specs.declared.slot.Slot.TheVariants.{Up, Down, Gone}
 use Rattle.worlds.specs.World.{WorldView}
 use Rattle.worlds.specs.Ballots.{ballots}

@@ -11,7 +11,7 @@ use Rattle.one_run.specs.Chosen.{commits, known_by}
 use Rattle.one_run.specs.Replied.{GivenIn}
 use Rattle.custody.specs.Durable.{Durable, Keeps}
 use Rattle.events.specs.declared.event.Event.{Event}
-use Rattle.worlds.specs.declared.slot.Slot.{Slot}
+use Rattle.worlds.specs.Slot.{Slot}
 use Rattle.worlds.specs.Slots.{ClientSlot}
 use Rattle.worlds.specs.World.{WorldView}
 use Rattle.worlds.specs.Laws.{is_gone, chosen_list}

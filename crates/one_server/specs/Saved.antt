@@ -8,9 +8,10 @@ use Rattle.exec_lines.specs.State.{ExecutorState}
 use Rattle.exec_lines.specs.Record.{executor_text}
 use Rattle.exec_node.specs.Executor.{ExecutorView}
 use Rattle.one_run.specs.Run.{Executed}
-use Rattle.one_run.specs.Texts.{Distinct, IsTextOf}
+use Rattle.wire.specs.Distinct.{Distinct}
+use Rattle.one_run.specs.Texts.{IsTextOf}
 use Rattle.custody.specs.Durable.{Durable, first_durable, executed_of, In, Keeps}
-use Rattle.worlds.specs.declared.slot.Slot.{Slot}
+use Rattle.worlds.specs.Slot.{Slot}
 use Rattle.worlds.specs.declared.slot.Slot.TheVariants.{Up, Down, Gone}
 use Rattle.worlds.specs.World.{WorldView}
 

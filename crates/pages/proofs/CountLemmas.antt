@@ -1,15 +1,16 @@
 -- How many items there are in pages.
-use Rattle.std.proofs.Common.{◌≡◌, ℕ, zero, suc, ◌+◌, ◌<◌, ◌≤◌, Bool, true, false, cond, List, [], ◌∷◌, ◌++◌, map, length, refl, sym, ap, ◌∙◌, arith}
+use Rattle.std.proofs.Common.{◌≡◌, ℕ, zero, suc, ◌+◌, ◌<◌, ◌≤◌, Bool, true, false, cond, List, [], ◌∷◌, ◌++◌, map, length, take, get_or, refl, sym, ap, ◌∙◌, arith}
 use Rattle.std.specs.Prelude.{◌==◌, filter}
 use Rattle.std.specs.List.{range_with_len, flat_map}
 use Rattle.std.specs.FinMap.{entries}
 use Rattle.std.proofs.lemmas.Bool.Decides.{nat_tests}
-use Rattle.std.proofs.lemmas.List.{length-append}
+use Rattle.std.proofs.lemmas.List.{length-append, take_more, append-nil}
+use Rattle.std.proofs.lemmas.Grind.{flat_map-append}
 use Rattle.items.specs.declared.item.Item.{Item}
 use Rattle.items.specs.Map.{Items}
 use Rattle.pages.specs.Page.{page_number, page_count, page_items, item_count}
 use Rattle.pages.specs.Joined.{ArePages, joined}
-use Rattle.pages.proofs.JoinedLemmas.{page_number-lt}
+use Rattle.pages.proofs.JoinedLemmas.{page_number-lt, no_items}
 use Rattle.pages.proofs.PartLemmas.{entries-page_items, parts-joined}
 
 pub count-more : (m : Items) (pages : List Items) → item_count (m ∷ pages) ≡ length (entries m) + item_count pages
@@ -74,3 +75,11 @@ part_entries m a (suc n) = λ i. entries-page_items m a i ++ part_entries m (a +
 pub count-joined : (pages : List Items) → ArePages pages → item_count pages ≡ length (entries (joined pages))
 count-joined pages a =
     ap item_count (sym (parts-joined pages a)) ∙ ap length (part_entries (joined pages) 0 page_count) ∙ all_of (entries (joined pages))
+
+-- the items of one page more
+pub count-next : (pages : List Items) (n : ℕ) → n < length pages → item_count (take (n + 1) pages) ≡ item_count (take n pages) + length (entries (get_or pages n no_items))
+count-next pages n l =
+    let more = take_more pages n no_items l in
+    let one = get_or pages n no_items in
+    let both = flat_map-append entries (take n pages) (one ∷ []) in
+    ap item_count more ∙ ap length both ∙ length-append (flat_map entries (take n pages)) (entries one ++ []) ∙ ap (λ es. length (flat_map entries (take n pages)) + length es) (append-nil (entries one))

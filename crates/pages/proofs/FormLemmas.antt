@@ -11,14 +11,19 @@ use Rattle.std.proofs.lemmas.Bool.Decides.{nat_tests}
 use Rattle.std.proofs.lemmas.List.FromFn.{get_or-map-range_with_len}
 use Rattle.items.specs.declared.item.Item.{Item}
 use Rattle.items.specs.Map.{Items, by_bytes}
-use Rattle.token.specs.declared.form.Form.TheVariants.{Old}
+use Rattle.wire.specs.Item.{page_text}
+use Rattle.token.specs.declared.form.Form.TheVariants.{Old, Current}
+use Rattle.token.specs.declared.tree.TheConstants.{HEIGHT}
+use Rattle.token.specs.Digest.{digest, root_of}
 use Rattle.token.specs.declared.form.TheConstants.{OLD_BLOCK_BYTES}
 use Rattle.token.specs.Form.{pages_of}
-use Rattle.pages.specs.Page.{number_among, entries_among, each_among}
-use Rattle.pages.specs.Form.{HasTexts, DataWithin, fits_form, FitForm}
+use Rattle.pages.specs.Page.{number_among, entries_among, each_among, of_each}
+use Rattle.pages.specs.Form.{HasTexts, DataWithin, fits_form, FitForm, root_in, root_by}
+use Rattle.pages.specs.declared.layout.Layout.TheVariants.{Sorted}
 use Rattle.pages.proofs.OldLemmas.{within-from_test, test-from_within}
 use Rattle.pages.proofs.KeyLemmas.{same_key, all_keys}
 use Rattle.pages.proofs.JoinedLemmas.{same_number}
+use Rattle.pages.proofs.PartLemmas.{entries-page_items}
 
 -- what stands at a key is what stands there on its page
 pub get_among : (count : ℕ) (m : Items) (q : List ℕ) → get m q ≡ find by_bytes q (entries_among count m (number_among count q))
@@ -81,3 +86,7 @@ tests_old m texts blocks has short = λ i. first i && second i
 
     second : blocks ≡ list_all is_short (entries m)
     second = alike blocks (list_all is_short (entries m)) (λ is. test-from_within OLD_BLOCK_BYTES (entries m) (short.0 is)) (λ all. short.1 (within-from_test OLD_BLOCK_BYTES (entries m) all))
+
+-- the root over sorted pages is that of a state of today's form
+pub root_sorted : (m : Items) → root_in Sorted m ≡ root_by Current m
+root_sorted m = λ i. root_of HEIGHT (of_each (λ p. digest (page_text (entries-page_items m p i))))

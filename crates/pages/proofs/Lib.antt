@@ -12,3 +12,5 @@ mod TreeLemmas
 pub mod FormLemmas
 pub mod OldLemmas
 pub mod GivenLemmas
+pub mod RecordLemmas
+pub mod Crossing

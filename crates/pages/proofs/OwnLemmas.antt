@@ -1,15 +1,20 @@
 -- Whether a page has keys of its own number alone.
-use Rattle.std.proofs.Common.{◌≡◌, ◌≢◌, ℕ, Bool, true, false, cond, List, [], ◌∷◌, Some, None, Option, refl, sym, ap, ◌∙◌, arith}
+use Rattle.std.proofs.Common.{◌≡◌, ◌≢◌, ℕ, Bool, true, false, cond, List, [], ◌∷◌, Some, None, Option, refl, sym, ap, ◌∙◌, arith, subst}
 use Rattle.std.specs.Prelude.{◌==◌}
 use Rattle.std.specs.List.{list_all}
 use Rattle.std.specs.Cmp.{eq_by_cmp_equiv}
 use Rattle.std.specs.Cmp.Lexicographic.{nat_list_cmp_total}
-use Rattle.std.specs.FinMap.{find, entries, get-entries}
+use Rattle.std.specs.FinMap.{find, entries, get-entries, from_entries, get-from_entries, same_entries_map}
 use Rattle.std.proofs.lemmas.Bool.{and_parts, and_from}
 use Rattle.std.proofs.lemmas.Bool.Decides.{nat_tests}
 use Rattle.items.specs.declared.item.Item.{Item}
 use Rattle.items.specs.Map.{Items, by_bytes}
 use Rattle.pages.specs.Page.{page_number}
+use Rattle.item_tree.specs.Text.{path_entries}
+use Rattle.item_tree.specs.TextLaws.{paths_make}
+use Rattle.pages.specs.Layout.{entries_in}
+use Rattle.pages.specs.declared.layout.Layout.{Layout}
+use Rattle.pages.specs.declared.layout.Layout.TheVariants.{Sorted, Tree}
 use Rattle.pages.specs.Joined.{IsOwn}
 use Rattle.pages.proofs.KeyLemmas.{other_key}
 
@@ -47,3 +52,24 @@ module _ (p : ℕ) where
 
   pub all-from_own : (m : Items) → IsOwn p m → list_all is_of (entries m) ≡ true
   all-from_own m own = all_own (entries m) (λ q apart. sym (get-entries m q) ∙ own q apart)
+
+  -- the same of entries in whatever order
+  own-from_list : (es : List (List ℕ × Item)) → list_all is_of es ≡ true → IsOwn p (from_entries es)
+  own-from_list es all q apart = get-from_entries nat_list_cmp_total es q ∙ none_other es q all apart
+
+  list-from_own : (es : List (List ℕ × Item)) → IsOwn p (from_entries es) → list_all is_of es ≡ true
+  list-from_own es own = all_own es (λ q apart. sym (get-from_entries nat_list_cmp_total es q) ∙ own q apart)
+
+  -- and in the order of a layout
+  pub own-in_layout : (layout : Layout) (m : Items) → list_all is_of (entries_in layout m) ≡ true → IsOwn p m
+  own-in_layout Sorted m all = own-from_all m all
+  own-in_layout Tree m all = subst (IsOwn p) (paths_make m) (own-from_list (path_entries m) all)
+
+  pub all-in_layout : (layout : Layout) (m : Items) → IsOwn p m → list_all is_of (entries_in layout m) ≡ true
+  all-in_layout Sorted m own = all-from_own m own
+  all-in_layout Tree m own = list-from_own (path_entries m) (subst (IsOwn p) (sym (paths_make m)) own)
+
+-- entries in the order of a layout tell the items
+pub entries_tell : (layout : Layout) (m n : Items) → entries_in layout m ≡ entries_in layout n → m ≡ n
+entries_tell Sorted m n e = same_entries_map m n e
+entries_tell Tree m n e = sym (paths_make m) ∙ ap from_entries e ∙ paths_make n

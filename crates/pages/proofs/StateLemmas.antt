@@ -1,14 +1,16 @@
 -- Pages with what is kept of their digests: what they contain, and an edit of one of them.
-use Rattle.std.proofs.Common.{◌≡◌, ℕ, zero, suc, ◌+◌, ◌<◌, ◌≤◌, List, [], ◌∷◌, ◌++◌, map, length, take, drop, get_or, set, Option, IsSome, Result, Ok, Err, OnOk, OnErr, refl, sym, ap, ◌∙◌, arith, subst, inl, inr}
+use Rattle.std.proofs.Common.{◌≡◌, ℕ, zero, suc, ◌+◌, ◌<◌, ◌≤◌, Bool, List, [], ◌∷◌, ◌++◌, map, length, take, drop, get_or, set, Result, Ok, Err, OnOk, OnErr, refl, sym, ap, ◌∙◌, arith, subst, inl, inr}
 use Rattle.std.specs.FinMap.{entries}
 use Rattle.std.proofs.Math.Nat.{eq-or-lt_of_le}
 use Rattle.std.proofs.lemmas.List.{get_or-set_same, get_or-set_other, map-set, set-get_or, get_or-map, length-map, take_more, map_push}
 use Rattle.base.proofs.ListLemmas.{next-same, next-changed}
 use Rattle.items.specs.Map.{Items}
-use Rattle.pages.specs.Page.{PageState, page_count, page_entries, refreshed}
+use Rattle.pages.specs.Page.{PageState, Laid, page_count, page_entries, page_items, page_digest_in, sealed_in}
+use Rattle.pages.specs.Layout.{digest_in}
+use Rattle.pages.specs.declared.layout.Layout.{Layout}
 use Rattle.pages.specs.Joined.{ArePages, AreSealed, joined, items_of}
 use Rattle.pages.proofs.JoinedLemmas.{no_items, pages-set, own-page}
-use Rattle.pages.proofs.PartLemmas.{page-entries}
+use Rattle.pages.proofs.PartLemmas.{page-entries, page-items}
 
 pub items-set : (pages : List PageState) (i : ℕ) (page : PageState) → items_of (set pages i page) ≡ set (items_of pages) i page.items
 items-set pages i page = map-set (λ (a : PageState). a.items) pages i page
@@ -36,6 +38,27 @@ pub page-at : (pages : List PageState) (i : ℕ) (page : PageState) → ArePages
 page-at pages i page a l read =
     ap entries (items-at pages i page (omega (arith, l, length-states pages a)) read) ∙ page-entries (items_of pages) i a
 
+-- the items of a page that was read, as a part of the whole
+pub part-at : (pages : List PageState) (i : ℕ) (page : PageState) → ArePages (items_of pages) → i < page_count → page ≡ get_or pages i page
+    → page.items ≡ page_items (joined (items_of pages)) i
+part-at pages i page a l read = items-at pages i page (omega (arith, l, length-states pages a)) read ∙ page-items (items_of pages) i a
+
+-- its layout
+pub laid-at : (layout : Layout) (pages : List PageState) (i : ℕ) (page : PageState) → AreSealed layout pages → i < page_count → page ≡ get_or pages i page → page.layout ≡ layout
+laid-at layout pages i page sealed l read =
+    ap (λ (a : PageState). a.layout) read ∙ sealed.laid i page (omega (arith, l, length-states pages sealed.are))
+
+-- its digest
+pub digest-at : (layout : Layout) (pages : List PageState) (i : ℕ) (page : PageState) → AreSealed layout pages → i < page_count → page ≡ get_or pages i page
+    → digest_in page.layout page.items ≡ page_digest_in layout (joined (items_of pages)) i
+digest-at layout pages i page sealed l read = λ j. digest_in (laid-at layout pages i page sealed l read j) (part-at pages i page sealed.are l read j)
+
+-- what is made of its layout and its items, where these pages are seen together
+pub seen-at : {X : Type 0} (f : Layout → Items → X) (layout : Layout) (pages : List PageState) (i : ℕ) (page : PageState) (seen : Laid) → AreSealed layout pages
+    → record { items = joined (items_of pages); layout = layout } ≡ seen → i < page_count → page ≡ get_or pages i page → f page.layout page.items ≡ f seen.layout (page_items seen.items i)
+seen-at f layout pages i page seen sealed is l read =
+    (λ j. f (laid-at layout pages i page sealed l read j) (part-at pages i page sealed.are l read j)) ∙ ap (λ (s : Laid). f s.layout (page_items s.items i)) is
+
 -- after an edit of each page before i, and now of page i
 pub next-edited : (f : Items → Items) (all : List Items) (pages : List PageState) (i : ℕ) (page new : PageState)
     → items_of pages ≡ map f (take i all) ++ drop i all → i < length pages → i < length all → page ≡ get_or pages i page → new.items ≡ f (get_or pages i page).items
@@ -52,25 +75,26 @@ all-edited f [] (suc i) l = refl
 all-edited f (m ∷ all) zero l = absurd (omega arith)
 all-edited f (m ∷ all) (suc i) l = ap (λ (ms : List Items). f m ∷ ms) (all-edited f all i (omega arith))
 
-items-refreshed : (pages : List PageState) → items_of (map refreshed pages) ≡ items_of pages
-items-refreshed [] = refl
-items-refreshed (page ∷ pages) = ap (λ (ms : List Items). page.items ∷ ms) (items-refreshed pages)
+items-sealed : (layout : Layout) (pages : List PageState) → items_of (map (sealed_in layout) pages) ≡ items_of pages
+items-sealed layout [] = refl
+items-sealed layout (page ∷ pages) = ap (λ (ms : List Items). page.items ∷ ms) (items-sealed layout pages)
 
--- pages whose digests were recomputed contain what they did
-pub still-items : (pages new : List PageState) → new ≡ map refreshed pages → items_of new ≡ items_of pages
-still-items pages new is = ap items_of is ∙ items-refreshed pages
+-- pages that were brought into a layout contain what they did
+pub still-items : (layout : Layout) (pages new : List PageState) → new ≡ map (sealed_in layout) pages → items_of new ≡ items_of pages
+still-items layout pages new is = ap items_of is ∙ items-sealed layout pages
 
--- and are sealed
-pub sealed-refreshed : (pages new : List PageState) → ArePages (items_of pages) → new ≡ map refreshed pages → AreSealed new
-sealed-refreshed pages new a is = subst AreSealed (sym is) (record {
-  are = subst ArePages (sym (items-refreshed pages)) a;
-  digests = λ k d l. subst (λ (o : PageState). IsSome o.digest) (sym (get_or-map refreshed pages k d d (omega (arith, l, length-map pages refreshed)))) refl;
+-- and are all in it
+pub all-sealed : (layout : Layout) (pages new : List PageState) → ArePages (items_of pages) → new ≡ map (sealed_in layout) pages → AreSealed layout new
+all-sealed layout pages new a is = subst (AreSealed layout) (sym is) (record {
+  are = subst ArePages (sym (items-sealed layout pages)) a;
+  laid = λ k d l. ap (λ (page : PageState). page.layout) (get_or-map (sealed_in layout) pages k d d (omega (arith, l, length-map pages (sealed_in layout))));
+  digests = λ k d l. ap (λ (page : PageState). page.sealed) (get_or-map (sealed_in layout) pages k d d (omega (arith, l, length-map pages (sealed_in layout))));
 })
 
 -- the items of a page that was set
-pub ok-items : {E : Type 0} (r : Result (Unit {0}) E) (new : PageState) (m : Items) (digest : Option (List ℕ)) → OnOk r (new ≡ record { items = m; digest = digest }) → OnOk r (new.items ≡ m)
-ok-items (Ok x) new m digest ok = ap (λ (page : PageState). page.items) ok
-ok-items (Err e) new m digest ok = tt
+pub ok-items : {E : Type 0} (r : Result (Unit {0}) E) (new : PageState) (m : Items) (layout : Layout) (sealed : Bool) → OnOk r (new ≡ record { items = m; layout = layout; sealed = sealed }) → OnOk r (new.items ≡ m)
+ok-items (Ok x) new m layout sealed ok = ap (λ (page : PageState). page.items) ok
+ok-items (Err e) new m layout sealed ok = tt
 
 -- an edit of one page, which may be refused
 pub edit-page : {E : Type 0} (r : Result (Unit {0}) E) (pages : List PageState) (i n : ℕ) (old new : PageState) (edit : Items → Items) (whole : Items)

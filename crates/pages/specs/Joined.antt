@@ -1,11 +1,11 @@
 -- Pages, each of its own keys alone, and the map that they are together.
-use Rattle.std.specs.Prelude.{◌≡◌, ◌≢◌, ℕ, ◌+◌, List, [], ◌∷◌, map, length, None, IsSome, All}
+use Rattle.std.specs.Prelude.{◌≡◌, ◌≢◌, ℕ, ◌+◌, List, [], ◌∷◌, map, length, None, All, true}
 use Rattle.std.specs.List.{flat_map}
 use Rattle.std.specs.FinMap.{entries, from_entries, get}
 use Rattle.items.specs.Map.{Items}
-use Rattle.token.specs.declared.form.Form.TheVariants.{Current}
 use Rattle.pages.specs.Page.{PageState, page_number, page_count, page_items, of_each}
-use Rattle.pages.specs.Form.{root_by}
+use Rattle.pages.specs.Form.{root_in}
+use Rattle.pages.specs.declared.layout.Layout.{Layout}
 
 -- only keys of page p stand in it
 abbrev pub IsOwn : ℕ → Items → Type 0
@@ -31,16 +31,13 @@ parts m = of_each (page_items m)
 abbrev pub items_of : List PageState → List Items
 items_of pages = map (λ page. page.items) pages
 
--- Pages of which each digest is kept.
-pub record AreSealed (pages : List PageState) : Type 0 where
+-- Pages that are all in this layout, and of which each digest is kept.
+pub record AreSealed (layout : Layout) (pages : List PageState) : Type 0 where
   pub are : ArePages (items_of pages)
-  pub digests : All (λ page. IsSome page.digest) pages
+  pub laid : All (λ page. page.layout ≡ layout) pages
+  pub digests : All (λ page. page.sealed ≡ true) pages
 
--- the root over the digests of the pages, from scratch
-abbrev pub root_of_pages : List PageState → List ℕ
-root_of_pages pages = root_by Current (joined (items_of pages))
-
--- Sealed pages beside their root.
-pub record IsSnapshot (pages : List PageState) (root : List ℕ) : Type 0 where
-  pub sealed : AreSealed pages
-  pub rooted : root ≡ root_of_pages pages
+-- Such pages beside the root over their digests.
+pub record IsSnapshot (layout : Layout) (pages : List PageState) (root : List ℕ) : Type 0 where
+  pub sealed : AreSealed layout pages
+  pub rooted : root ≡ root_in layout (joined (items_of pages))

@@ -1,4 +1,8 @@
+pub mod Layout
+pub mod Kept
 pub mod Page
+pub mod Record
+pub mod LayoutLaws
 pub mod Form
 pub mod Joined
 pub mod Tree

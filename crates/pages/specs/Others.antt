@@ -5,7 +5,7 @@ use Rattle.items.specs.Map.{Items}
 use Rattle.item_steps.specs.Schedule.{Placed}
 use Rattle.item_steps.specs.declared.step.Step.{Step}
 use Rattle.item_steps.specs.declared.step.Step.TheVariants as variant
-use Rattle.pages.specs.Page.{page_number, page_entries, page_count}
+use Rattle.pages.specs.Page.{page_number, page_entries, page_items, page_count}
 
 -- whether the set has page p
 abbrev pub has_page : List Bool → ℕ → Bool
@@ -28,3 +28,11 @@ Covers pages (variant.Update update) = has_page pages (page_number (key_of_updat
 -- and those of all steps
 abbrev pub CoversAll : List Bool → List Placed → Type 0
 CoversAll pages order = All (λ s. Covers pages s.1) order
+
+-- the answer is whether page p has other items in the one than in the other
+abbrev pub IsChangedAt : Items → Items → ℕ → Bool → Type 0
+IsChangedAt before after p answer = (answer ≡ true → page_items before p ≡ page_items after p → ⊥) × (answer ≡ false → page_items before p ≡ page_items after p)
+
+-- the set has just the pages that have other items in the one than in the other
+abbrev pub AreChanged : List Bool → Items → Items → Type 0
+AreChanged pages before after = (p : ℕ) → p < page_count → IsChangedAt before after p (has_page pages p)

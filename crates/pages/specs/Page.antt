@@ -1,15 +1,17 @@
 -- The page of a key, the page's part of a map, and what is kept of a page.
-use Rattle.std.specs.Prelude.{◌<◌, ◌⊎◌, ℕ, Bool, nat_lt, length, IsTrue, List, Option, Some, IfSome, map, sum, filter, ◌%◌, ◌==◌, refl}
-use Rattle.std.specs.Coded.{Coded, code_by, coded×, coded_option, coded_list, coded_ℕ}
+use Rattle.std.specs.Prelude.{◌<◌, ◌⊎◌, ℕ, Bool, true, nat_lt, length, IsTrue, List, Option, IfSome, map, sum, filter, ◌%◌, ◌==◌, refl}
+use Rattle.std.specs.Coded.{Coded, code_by, coded×, coded_bool}
 use Rattle.std.specs.List.{range_with_len, flat_map}
 use Rattle.std.specs.FinMap.{entries, from_sorted, get}
-use Rattle.std.specs.Option.{is_some, option_map}
+use Rattle.std.specs.Option.{is_some}
 use Rattle.items.specs.declared.item.Item.{Item}
 use Rattle.items.specs.Map.{Items, alive}
 use Rattle.wire.specs.Item.{page_text, PageFits}
 use Rattle.token.specs.Digest.{digest}
 use Rattle.token.specs.declared.tree.TheConstants.{PAGES}
 use Rattle.token.specs.Digested.{DigestedView, IsDigested}
+use Rattle.pages.specs.Layout.{digest_in}
+use Rattle.pages.specs.declared.layout.Layout.{Layout}
 use Rattle.pages.specs.declared.page.TheConstants.{MOST_ENTRIES}
 
 abbrev pub page_count : ℕ
@@ -52,26 +54,36 @@ page_digest m p = digest_among page_count m p
 abbrev pub of_each : {X : Type 0} → (ℕ → X) → List X
 of_each of_page = each_among page_count of_page
 
--- What is kept of a page: its items, and their digest where it was made since the last write.
+-- What is kept of a page: its items, in a layout, and whether their digest was made since the last write.
 pub record PageState : Type 0 where
   pub items : Items
-  pub digest : Option (List ℕ)
+  pub layout : Layout
+  pub sealed : Bool
 
--- a page is identified by its items and what is kept of their digest
-abbrev pub page_code : Coded Items → Coded PageState
-page_code items = code_by (Items × Option (List ℕ)) (coded× items (coded_option (coded_list coded_ℕ))) (λ a. (a.items, a.digest)) (λ p. record { items = p.0; digest = p.1 }) (λ _. refl)
+-- a page is identified by these
+abbrev pub page_code : Coded Items → Coded Layout → Coded PageState
+page_code items layout =
+    code_by ((Items × Layout) × Bool) (coded× (coded× items layout) coded_bool) (λ a. ((a.items, a.layout), a.sealed)) (λ p. record { items = p.0.0; layout = p.0.1; sealed = p.1 }) (λ _. refl)
 
--- the digest of the items, from scratch
-abbrev pub items_digest : Items → List ℕ
-items_digest m = digest (page_text (entries m))
+-- the same items in this layout, with their digest
+abbrev pub sealed_in : Layout → PageState → PageState
+sealed_in layout page = record { items = page.items; layout = layout; sealed = true }
 
--- a page whose digest was recomputed
+-- a page whose digest was made
 abbrev pub refreshed : PageState → PageState
-refreshed page = record { items = page.items; digest = Some (items_digest page.items) }
+refreshed page = sealed_in page.layout page
 
--- the digest that is kept beside a text, if one is
-abbrev pub digest_kept : Option DigestedView → Option (List ℕ)
-digest_kept digested = option_map (λ kept. kept.0) digested
+-- Items, all in one layout.
+pub record Laid : Type 0 where
+  pub items : Items
+  pub layout : Layout
+
+abbrev pub laid_code : Coded Items → Coded Layout → Coded Laid
+laid_code items layout = code_by (Items × Layout) (coded× items layout) (λ a. (a.items, a.layout)) (λ p. record { items = p.0; layout = p.1 }) (λ _. refl)
+
+-- the digest of page p in this layout, from scratch
+abbrev pub page_digest_in : Layout → Items → ℕ → List ℕ
+page_digest_in layout m p = digest_in layout (page_items m p)
 
 -- Each page has a text, and where a digest is kept it is that of the items now, and a text beside it is theirs.
 pub record IsPage (items : Items) (digested : Option DigestedView) : Type 0 where

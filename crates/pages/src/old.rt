@@ -10,6 +10,7 @@ ghost use Rattle.token.specs.Merged.{AreParts, lent};
 ghost use Rattle.pages.specs.Form.{root_by, HasTexts, DataWithin};
 ghost use Rattle.pages.specs.Page.{digest_among, page_number, page_count, of_each};
 ghost use Rattle.pages.specs.Joined.{items_of};
+ghost use Rattle.pages.specs.declared.layout.Layout.TheVariants.{Sorted};
 ghost use Rattle.pages.specs.Old.{old_entries, part_of_old, part_given, page_over_old, given_or, given_at, AreGiven};
 
 use crate::number::page_of;
@@ -106,32 +107,34 @@ impl Pages {
 impl Snapshot {
     /// The pages that an old page is merged from.
     fn old_parts(&self, number: usize) -> [&[Entry<Key, Item>]; 4]
-        requires { number < OLD_PAGES }
-        ensures { AreParts part_of_old (old_entries self.now number) (lent result) }
+        requires within { number < OLD_PAGES }
+        requires sorted { self.now.layout ≡ Sorted }
+        ensures { AreParts part_of_old (old_entries self.now.items number) (lent result) }
     {
         [
-            self.page(number),
-            self.page(number + OLD_PAGES),
-            self.page(number + 2 * OLD_PAGES),
-            self.page(number + 3 * OLD_PAGES),
+            self.sorted_page(number),
+            self.sorted_page(number + OLD_PAGES),
+            self.sorted_page(number + 2 * OLD_PAGES),
+            self.sorted_page(number + 3 * OLD_PAGES),
         ]
     }
 
     /// How many entries an old page has.
     fn old_len(&self, number: usize) -> usize
         requires { number < OLD_PAGES }
-        ensures { result ≡ length (old_entries self.now number) }
+        ensures { result ≡ length (old_entries self.now.items number) }
     {
-        self.page(number).len()
-            + self.page(number + OLD_PAGES).len()
-            + self.page(number + 2 * OLD_PAGES).len()
-            + self.page(number + 3 * OLD_PAGES).len()
+        (self.len(number)
+            + self.len(number + OLD_PAGES)
+            + self.len(number + 2 * OLD_PAGES)
+            + self.len(number + 3 * OLD_PAGES)) as usize
     }
 
     fn old_digest(&self, number: usize) -> [u8; 32]
         requires within { number < OLD_PAGES }
-        requires fits { PageFits (old_entries self.now number) }
-        ensures { result ≡ digest_among OLD_PAGES self.now number }
+        requires sorted { self.now.layout ≡ Sorted }
+        requires fits { PageFits (old_entries self.now.items number) }
+        ensures { result ≡ digest_among OLD_PAGES self.now.items number }
     {
         token::merged_digest(self.old_parts(number))
     }
@@ -139,8 +142,9 @@ impl Snapshot {
     /// The root over the digests of the pages of the old form. It is made anew with each call, from
     /// all entries, and takes no memory.
     pub fn old_root(&self) -> [u8; 32]
-        requires { HasTexts Old self.now }
-        ensures { result ≡ root_by Old self.now }
+        requires sorted { self.now.layout ≡ Sorted }
+        requires texts { HasTexts Old self.now.items }
+        ensures { result ≡ root_by Old self.now.items }
     {
         let mut digests = [[0u8; 32]; OLD_PAGES];
         for number in 0..OLD_PAGES {
@@ -152,7 +156,7 @@ impl Snapshot {
     /// Whether each page of the old form has a text: one of today's has by itself, and four together
     /// may have too many entries for one.
     pub fn has_old_texts(&self) -> bool
-        ensures { IsTrue result ↔ HasTexts Old self.now }
+        ensures { IsTrue result ↔ HasTexts Old self.now.items }
     {
         for number in 0..OLD_PAGES {
             if self.old_len(number) > MOST_ENTRIES {
@@ -164,10 +168,11 @@ impl Snapshot {
 
     /// Whether the data of each item has so many bytes at most. It looks at every item.
     pub fn has_data_within(&self, most: usize) -> bool
-        ensures { IsTrue result ↔ DataWithin most self.now }
+        requires { self.now.layout ≡ Sorted }
+        ensures { IsTrue result ↔ DataWithin most self.now.items }
     {
         for number in 0..PAGES {
-            if !are_within(self.page(number), most) {
+            if !are_within(self.sorted_page(number), most) {
                 return false;
             }
         }

@@ -1,41 +1,48 @@
-ghost use Rattle.std.specs.Prelude.{◌≡◌, ◌≢◌, ◌≤◌, ◌+◌, ◌-◌, ◌^◌, ◌==◌, ◌↔◌, ◌∷◌, [], true, false, min, length, map as map_list, None, IfOk, IfSome, OnOk, OnErr, IsTrue};
-ghost use Rattle.std.specs.Option.{option_copied};
+ghost use Rattle.std.specs.Prelude.{◌≡◌, ◌≢◌, ◌≤◌, ◌<◌, ◌+◌, ◌-◌, ◌^◌, ◌==◌, ◌↔◌, ◌∷◌, [], true, false, min, length, map as map_list, None, IfOk, OnOk, OnErr, IsTrue};
 ghost use Rattle.std.specs.List.{list_all};
 ghost use Rattle.std.specs.FinMap as map;
 ghost use Rattle.items.specs.Map.{alive};
-ghost use Rattle.wire.specs.Item.{page_text, PageFits};
+ghost use Rattle.wire.specs.Item.{PageFits};
 ghost use Rattle.wire.specs.Record.{Puts};
 ghost use Rattle.token.specs.declared.tree.TheConstants.{HEIGHT};
 ghost use Rattle.token.specs.Digest.{root_of};
-ghost use Rattle.pages.specs.Page.{page_number, items_digest, item_count, beside_due, refreshed, HasRoom};
+ghost use Rattle.pages.specs.Page.{page_number, item_count, beside_due, refreshed, sealed_in, HasRoom};
+ghost use Rattle.pages.specs.Layout.{digest_in, text_in, entries_in};
+ghost use Rattle.pages.specs.declared.layout.Layout.TheVariants.{Sorted};
+ghost use Rattle.pages.specs.declared.layout.Layout.TheVariants as laid;
 ghost use Rattle.pages.specs.declared.page.TheConstants.{MOST_ENTRIES};
 ghost use Rattle.pages.specs.Joined.{IsOwn, items_of};
 
+use crate::kept::Kept;
+use crate::layout::Layout;
 use crate::number::page_of;
+use crate::sorted_page::SortedPage;
 use crate::tree::Tree;
-use base::{Entry, Text};
+use base::Entry;
+use item_tree::{ItemTree, are_same};
 use items::{Item, PlainStore, Store};
 use proto::Key;
 use std::alloc::{AllocError, Global};
 use std::marker::Model;
-use std::sync::Arc;
-use token::{Digested, HEIGHT, PAGES};
-use wire::{Entries, Sink, put_page, share_text};
+use token::{HEIGHT, PAGES};
+use wire::{Entries, Sink};
 
 /// How many entries a page has at most: its text counts them by four bytes.
 pub(crate) const MOST_ENTRIES: usize = 4294967295;
 
-/// One page: a store by itself.
+/// What a page that was written weighs, beside the entries that its text is written of anew.
+const PAGE_WEIGHT: usize = 64;
+
+/// One page: a store by itself, in one of two layouts.
 ///
-/// Its entries are shared with its clones. Where they are, the first write copies the pointers to
-/// them, so a clone keeps what it had. The digest of the items and, where there was memory for it,
-/// the text that it is of are kept until a write; clones share that text.
+/// It shares all with its clones, and a write copies what it changes, so a clone keeps what it had. What
+/// is known of its digest is kept until a write.
 #[derive(Drop)]
 pub struct Page {
     alloc: Global,
-    store: Arc<PlainStore, Global>,
-    /// Of the page's text; none where it is to be recomputed.
-    digested: Option<Digested>,
+    kept: Kept,
+    /// Whether the digest was made since the last write.
+    sealed: bool,
     /// The tree over the digests of all pages of a store. Only page 0 keeps it, so that it goes
     /// along where the pages are parted and joined again. It spares time and no more: the tree of
     /// any other pages would do as well. In a box, so that the other pages stay small.
@@ -43,19 +50,21 @@ pub struct Page {
 }
 
 impl Model for Page {
-    ghost use Rattle.std.specs.Arc.{arc_value};
     ghost use Rattle.std.specs.Coded.{coded_list, coded_ℕ};
     ghost use Rattle.std.specs.FinMap as map;
     ghost use Rattle.items.specs.contracts.item.Item as item;
-    ghost use Rattle.pages.specs.Page.{PageState, IsPage, digest_kept, page_code};
+    ghost use Rattle.wire.specs.Item.{PageFits};
+    ghost use Rattle.pages.specs.contracts.layout.Layout as kind;
+    ghost use Rattle.pages.specs.Page.{PageState, page_code};
+    ghost use Rattle.pages.specs.Kept.{items_kept, layout_kept};
 
     ghost Value = { PageState };
 
-    ghost coded = { page_code (map.code (coded_list coded_ℕ) item.the_row.coded) };
+    ghost coded = { page_code (map.code (coded_list coded_ℕ) item.the_row.coded) kind.the_row.coded };
 
-    ghost view = { λ a. record { items = arc_value a.store; digest = digest_kept a.digested } };
+    ghost view = { λ a. record { items = items_kept a.kept; layout = layout_kept a.kept; sealed = a.sealed } };
 
-    ghost invariant = { λ a. IsPage (arc_value a.store) a.digested };
+    ghost invariant = { λ a. PageFits (map.entries (items_kept a.kept)) };
 }
 
 /// Whether each key stands in the page of this number.
@@ -65,17 +74,10 @@ fn all_of_page(entries: &[Entry<Key, Item>], number: usize) -> bool
     entries.iter().all(|entry| page_of(entry.key()) == number)
 }
 
-/// Lets go of the digest, and of the text beside it.
-fn forget(digested: &mut Option<Digested>)
-    ensures { digested.new ≡ None }
-{
-    *digested = None;
-}
-
 impl Page {
     /// A page without items. The only error is a failed allocation.
     pub fn new(alloc: Global) -> Result<Page, AllocError>
-        ensures { IfOk result (λ page. page ≡ record { items = map.empty; digest = None }) }
+        ensures { IfOk result (λ page. page ≡ record { items = map.empty; layout = Sorted; sealed = false }) }
     {
         Page::of_store(alloc, PlainStore::new(alloc))
     }
@@ -83,78 +85,153 @@ impl Page {
     /// A page of these entries. The only error is a failed allocation.
     pub fn from_entries(alloc: Global, entries: Entries) -> Result<Page, AllocError>
         requires { PageFits entries }
-        ensures { IfOk result (λ page. page ≡ record { items = map.from_sorted entries; digest = None }) }
+        ensures { IfOk result (λ page. page ≡ record { items = map.from_sorted entries; layout = Sorted; sealed = false }) }
     {
         Page::of_store(alloc, PlainStore::from_sorted(entries.into_vec())?)
     }
 
     fn of_store(alloc: Global, store: PlainStore) -> Result<Page, AllocError>
         requires { PageFits (map.entries store) }
-        ensures { IfOk result (λ page. page ≡ record { items = store; digest = None }) }
+        ensures { IfOk result (λ page. page ≡ record { items = store; layout = Sorted; sealed = false }) }
     {
         Ok(Page {
             alloc,
-            store: Arc::new(alloc, store)?,
-            digested: None,
+            kept: Kept::Sorted(SortedPage::of_store(alloc, store)?),
+            sealed: false,
             tree: None,
         })
     }
 
-    /// Its entries, in the order of their keys. A page's text can be written of them.
-    pub fn entries(&self) -> &[Entry<Key, Item>]
+    /// A page of the items of this tree.
+    pub(crate) fn of_tree(alloc: Global, tree: ItemTree) -> Page
+        requires { PageFits (map.entries tree) }
+        ensures { result ≡ record { items = tree; layout = laid.Tree; sealed = false } }
+    {
+        Page {
+            alloc,
+            kept: Kept::Tree(tree),
+            sealed: false,
+            tree: None,
+        }
+    }
+
+    /// How its items are kept.
+    pub fn layout(&self) -> Layout
+        ensures { result ≡ self.now.layout }
+    {
+        self.kept.layout()
+    }
+
+    /// How many items it has.
+    pub fn len(&self) -> u64
+        ensures len { result ≡ length (map.entries self.now.items) }
+        ensures few { result < 2 ^ 32 }
+    {
+        self.kept.len()
+    }
+
+    /// Its entries, which are sorted, in the order of their keys.
+    pub(crate) fn sorted_entries(&self) -> &[Entry<Key, Item>]
+        requires { self.now.layout ≡ Sorted }
         ensures entries { result.now ≡ map.entries self.now.items }
         ensures fit { PageFits result.now }
     {
-        self.store.as_slice()
+        self.kept.sorted_entries()
     }
 
-    /// Whether the page has keys of this number alone, as page `number` of a store has.
-    pub fn is_own(&self, number: usize) -> bool
-        ensures { IsTrue result ↔ IsOwn number self.now.items }
+    /// Its entries, shared, in the order of its layout. The only error is a failed allocation.
+    pub fn entries(&self, alloc: Global) -> Result<Vec<Entry<Key, Item>>, AllocError>
+        ensures { IfOk result (λ entries. entries.items ≡ entries_in self.now.layout self.now.items) }
     {
-        all_of_page(self.entries(), number)
+        self.kept.entries(alloc)
     }
 
-    /// The digest that is kept: none where it is to be recomputed.
-    pub fn digest(&self) -> Option<&[u8; 32]>
-        ensures kept { option_copied result ≡ self.now.digest }
-        ensures from_scratch { IfSome result (λ kept. kept.now ≡ items_digest self.now.items) }
+    /// Whether the other page has the same items, in whatever layout. The only error is a failed
+    /// allocation.
+    pub fn is_same(&self, alloc: Global, other: &Page) -> Result<bool, AllocError>
+        ensures { IfOk result (λ same. IsTrue same ↔ (self.now.items ≡ other.now.items)) }
     {
-        match &self.digested {
-            Some(digested) => Some(digested.digest()),
-            None => None,
+        let layout = self.layout();
+        if layout == other.layout() && self.digest() != other.digest() {
+            return Ok(false);
+        }
+        let mut laid = other.clone()?;
+        laid.seal(layout)?;
+        let entries = self.entries(alloc)?;
+        let others = laid.entries(alloc)?;
+        Ok(are_same(entries.as_slice(), others.as_slice()))
+    }
+
+    /// Whether the page has keys of this number alone, as page `number` of a store has. The only error is
+    /// a failed allocation.
+    pub fn is_own(&self, alloc: Global, number: usize) -> Result<bool, AllocError>
+        ensures { IfOk result (λ own. IsTrue own ↔ IsOwn number self.now.items) }
+    {
+        let entries = self.entries(alloc)?;
+        Ok(all_of_page(entries.as_slice(), number))
+    }
+
+    /// The digest: that which is kept, or else from all entries that were written. This takes no memory.
+    pub fn digest(&self) -> [u8; 32]
+        ensures { result ≡ digest_in self.now.layout self.now.items }
+    {
+        self.kept.digest()
+    }
+
+    /// What it costs to make the digest so that it is kept, in entries: nothing if it is.
+    pub fn weight(&self) -> usize {
+        if self.sealed {
+            return 0;
+        }
+        match self.kept.layout() {
+            Layout::Sorted => (self.kept.len() as usize).saturating_add(PAGE_WEIGHT),
+            Layout::Tree => PAGE_WEIGHT,
         }
     }
 
-    /// The text that is kept beside the digest. None where the digest is to be recomputed, or where
-    /// there was no memory for the text when it was made.
-    pub fn text(&self) -> Option<&Text>
-        ensures { IfSome result (λ text. text.now ≡ page_text (map.entries self.now.items)) }
-    {
-        match &self.digested {
-            Some(digested) => digested.text(),
-            None => None,
-        }
-    }
-
-    /// Writes the page's text: the pieces that are kept, shared, or else the entries one by one.
+    /// Writes the page's text.
     pub fn put_text<S: Sink>(&self, sink: &mut S) -> Result<(), S::Refusal>
-        ensures { OnOk result (Puts S.holds (page_text (map.entries self.now.items)) sink.old sink.new) }
+        ensures { OnOk result (Puts S.holds (text_in self.now.layout self.now.items) sink.old sink.new) }
     {
-        match self.text() {
-            Some(text) => share_text(text, sink),
-            None => put_page(self.entries(), sink),
-        }
+        self.kept.put_text(sink)
     }
 
-    /// Makes the digest new where none is kept, and keeps the text that it is of. Where there is no
-    /// memory for the text the digest is made without it; there is no error.
+    /// Makes the digest new if none is kept. What there is no memory to keep is made again when it is asked
+    /// for; there is no error.
     pub fn refresh(&mut self)
         ensures { self.new ≡ refreshed self.old }
     {
-        if self.digested.is_none() {
-            self.digested = Some(Digested::of_page(self.alloc, self.store.as_slice()));
+        if !self.sealed {
+            self.kept.refresh();
+            self.sealed = true;
         }
+    }
+
+    /// Brings the page into this layout. The only error is a failed allocation, and then the page is as it
+    /// was.
+    pub fn lay_out(&mut self, layout: Layout) -> Result<(), AllocError>
+        ensures items { self.new.items ≡ self.old.items }
+        ensures ok { OnOk result (self.new.layout ≡ layout) }
+        ensures same { self.old.layout ≡ layout → self.new ≡ self.old }
+        ensures unsealed { OnOk result (self.old.layout ≢ layout → self.new.sealed ≡ false) }
+        ensures err { OnErr result (self.new ≡ self.old) }
+    {
+        if self.kept.layout() != layout {
+            self.kept = self.kept.converted(self.alloc, layout)?;
+            self.sealed = false;
+        }
+        Ok(())
+    }
+
+    /// Brings the page into this layout, and makes its digest. The only error is a failed allocation, and
+    /// then the page is as it was.
+    pub fn seal(&mut self, layout: Layout) -> Result<(), AllocError>
+        ensures ok { OnOk result (self.new ≡ sealed_in layout self.old) }
+        ensures err { OnErr result (self.new ≡ self.old) }
+    {
+        self.lay_out(layout)?;
+        self.refresh();
+        Ok(())
     }
 
     /// The root over these digests of all pages. Where the page keeps a tree, just the nodes are made
@@ -188,37 +265,34 @@ impl Page {
         Ok(())
     }
 
-    /// Whether an item is due at the moment or before it. It looks at one entry of the page's index at
-    /// most.
-    pub(crate) fn has_due(&self, moment: u32, looks: &mut u64) -> bool
+    /// Whether an item is due at the moment or before it. It looks at one entry at most.
+    pub(crate) fn has_due(&self, moment: u32) -> bool
         ensures none { result ≡ false → alive self.now.items moment ≡ self.now.items }
         ensures some { result ≡ true → alive self.now.items moment ≢ self.now.items }
-        ensures count { looks.new ≤ looks.old + 1 }
     {
-        self.store.has_due(moment, looks)
+        self.kept.has_due(moment)
     }
 
     /// Drops every item that is due at the moment or before it, as `drop_due`, and answers how many
-    /// entries it looked at or copied: of the page's index one more than it dropped, at most, and where
-    /// something is due all entries of the page. Where nothing is due the page stays shared. The only
-    /// error is a failed allocation, and then nothing has changed.
+    /// entries it looked at or copied: one more than it dropped, at most, and all entries if they are
+    /// sorted and something is due. Where nothing is due the page stays shared. The only error is a
+    /// failed allocation, and then nothing has changed.
     pub fn drop_due_counted(&mut self, moment: u32) -> Result<u64, AllocError>
         ensures ok { OnOk result (self.new.items ≡ alive self.old.items moment) }
+        ensures layout { self.new.layout ≡ self.old.layout }
         ensures same { alive self.old.items moment ≡ self.old.items → self.new ≡ self.old }
         ensures err { OnErr result (self.new ≡ self.old) }
         ensures count { IfOk result (λ looks. looks + length (map.entries self.new.items)
             ≤ length (map.entries self.old.items) + 1 + beside_due moment (self.old.items ∷ [])) }
-        ensures least { IfOk result (λ looks. beside_due moment (self.old.items ∷ []) ≤ looks) }
+        ensures least { self.old.layout ≡ Sorted → IfOk result (λ looks. beside_due moment (self.old.items ∷ []) ≤ looks) }
         ensures dropped { IfOk result (λ looks. length (map.entries self.old.items) ≤ looks + length (map.entries self.new.items)) }
     {
-        let mut looks = 0;
-        if !self.has_due(moment, &mut looks) {
-            return Ok(looks);
+        if !self.has_due(moment) {
+            return Ok(1);
         }
-        let copied = self.entries().len() as u64;
-        Arc::make_mut(&mut self.store)?.drop_found(moment, &mut looks);
-        forget(&mut self.digested);
-        Ok(looks.saturating_add(copied))
+        let looks = self.kept.drop_due_counted(moment)?;
+        self.sealed = false;
+        Ok(looks)
     }
 
     /// Whether the page may have an item at this key: it has one there, or fewer entries than it has
@@ -227,37 +301,31 @@ impl Page {
         ensures limit { MOST_ENTRIES + 1 ≡ 2 ^ 32 }
         ensures room { IsTrue result ↔ HasRoom self.now.items key.now }
     {
-        self.entries().len() < MOST_ENTRIES || self.get(key).is_some()
+        self.len() < MOST_ENTRIES as u64 || self.get(key).is_some()
     }
 }
 
-/// Drops every item of these pages that is due at the moment or before it, and answers how many entries
-/// the pages have that it copies or walks: a page is copied only where it has such an item and is shared,
-/// and from its ninth such item on it is walked. The count saturates. The only error is a failed
-/// allocation, and then nothing has changed: the copies of all pages are made before the first of them is
-/// written.
-pub(crate) fn drop_from_all(
-    pages: &mut [Page],
-    moment: u32,
-    looks: &mut u64,
-) -> Result<u64, AllocError>
+/// Drops every item of these pages that is due at the moment or before it, and answers how many entries it
+/// looked at or copied. The count saturates. The only error is a failed allocation, and then nothing has
+/// changed: no page is written before all are made.
+pub(crate) fn drop_from_all(pages: &mut [Page], moment: u32) -> Result<u64, AllocError>
     ensures ok { OnOk result (items_of pages.new ≡ map_list (λ page. alive page moment) (items_of pages.old)) }
     ensures err { OnErr result (pages.new ≡ pages.old) }
-    ensures count { OnOk result (looks.new + item_count (items_of pages.new) ≤ looks.old + item_count (items_of pages.old) + length pages.old) }
-    ensures copied { IfOk result (λ copied. copied ≡ min (beside_due moment (items_of pages.old)) (2 ^ 64 - 1)) }
+    ensures count { IfOk result (λ looks. looks + item_count (items_of pages.new)
+        ≤ item_count (items_of pages.old) + length pages.old + beside_due moment (items_of pages.old)) }
+    ensures dropped { IfOk result (λ looks. min (item_count (items_of pages.old)) (2 ^ 64 - 1) ≤ looks + item_count (items_of pages.new)) }
 {
     let Some((first, rest)) = pages.split_first_mut() else {
         return Ok(0);
     };
-    if !first.has_due(moment, looks) {
-        return drop_from_all(rest, moment, looks);
+    if !first.has_due(moment) {
+        return Ok(drop_from_all(rest, moment)?.saturating_add(1));
     }
-    let copied = first.entries().len() as u64;
-    let store = Arc::make_mut(&mut first.store)?;
-    let beside = drop_from_all(rest, moment, looks)?;
-    store.drop_found(moment, looks);
-    forget(&mut first.digested);
-    Ok(beside.saturating_add(copied))
+    let mut left = first.clone()?;
+    let looks = left.drop_due_counted(moment)?;
+    let others = drop_from_all(rest, moment)?;
+    *first = left;
+    Ok(looks.saturating_add(others))
 }
 
 impl Clone for Page {
@@ -267,8 +335,8 @@ impl Clone for Page {
     fn clone(&self) -> Result<Page, AllocError> {
         Ok(Page {
             alloc: self.alloc,
-            store: Arc::try_clone(&self.store)?,
-            digested: self.digested.clone()?,
+            kept: self.kept.clone()?,
+            sealed: self.sealed,
             tree: self.tree.clone()?,
         })
     }
@@ -278,37 +346,39 @@ impl Store for Page {
     ghost contents = { λ page. page.items };
 
     fn get(&self, key: &Key) -> Option<&Item> {
-        self.store.get(key)
+        self.kept.get(key)
     }
 
     /// Refused where an allocation fails, or in the same way where the page has 2^32 - 1 entries and none at
     /// the key.
     fn put(&mut self, key: Key, item: Item) -> Result<(), AllocError>
-        ensures ok { OnOk result (self.new ≡ record { items = map.insert self.old.items key item; digest = None }) }
+        ensures ok { OnOk result (self.new ≡ record { items = map.insert self.old.items key item; layout = self.old.layout; sealed = false }) }
         ensures err { OnErr result (self.new ≡ self.old) }
     {
         if !self.has_room(&key) {
             return Err(AllocError);
         }
-        Arc::make_mut(&mut self.store)?.put(key, item)?;
-        forget(&mut self.digested);
+        self.kept.put(key, item)?;
+        self.sealed = false;
         Ok(())
     }
 
     fn remove(&mut self, key: &Key) -> Result<(), AllocError>
         ensures ok { OnOk result (self.new.items ≡ map.remove self.old.items key.now) }
+        ensures layout { self.new.layout ≡ self.old.layout }
         ensures same { map.get self.old.items key.now ≡ None → self.new ≡ self.old }
         ensures err { OnErr result (self.new ≡ self.old) }
     {
         if self.get(key).is_some() {
-            Arc::make_mut(&mut self.store)?.remove(key)?;
-            forget(&mut self.digested);
+            self.kept.remove(key)?;
+            self.sealed = false;
         }
         Ok(())
     }
 
     fn drop_due(&mut self, moment: u32) -> Result<(), AllocError>
         ensures ok { OnOk result (self.new.items ≡ alive self.old.items moment) }
+        ensures layout { self.new.layout ≡ self.old.layout }
         ensures same { alive self.old.items moment ≡ self.old.items → self.new ≡ self.old }
         ensures err { OnErr result (self.new ≡ self.old) }
     {

@@ -1,21 +1,20 @@
-ghost use Rattle.std.specs.Prelude.{◌≡◌, ◌≤◌, ◌<◌, ◌+◌, ◌-◌, ◌^◌, min, length, IfOk, OnOk, OnErr, map as map_list, replicate};
+ghost use Rattle.std.specs.Prelude.{◌≡◌, ◌≤◌, ◌+◌, ◌-◌, ◌^◌, min, length, IfOk, OnOk, OnErr, map as map_list, replicate};
 ghost use Rattle.std.specs.FinMap as map;
 ghost use Rattle.items.specs.Map.{alive};
-ghost use Rattle.wire.specs.Item.{PageFits};
-ghost use Rattle.pages.specs.Page.{page_entries, page_count, beside_due, refreshed};
+ghost use Rattle.pages.specs.Page.{page_count, beside_due, sealed_in};
 ghost use Rattle.pages.specs.Joined.{ArePages, joined, parts, items_of};
 
+use crate::layout::Layout;
 use crate::number::page_of;
 use crate::page::{Page, drop_from_all};
 use crate::snapshot::Snapshot;
-use base::Entry;
 use items::{Item, Store};
 use proto::Key;
 use std::alloc::{AllocError, Global};
 use std::marker::Model;
 use token::PAGES;
 
-/// A store of `PAGES` pages, each in the order of its keys.
+/// A store of `PAGES` pages.
 #[derive(Drop)]
 pub struct Pages {
     pages: Vec<Page>,
@@ -42,7 +41,7 @@ fn empty_pages(alloc: Global) -> Result<Vec<Page>, AllocError>
     ensures { IfOk result (λ pages. items_of pages.items ≡ replicate page_count map.empty) }
 {
     let mut empty = Page::new(alloc)?;
-    empty.refresh();
+    empty.seal(Layout::Sorted)?;
     let mut pages = Vec::with_capacity(alloc, PAGES)?;
     for made in 0..PAGES {
         pages.push(empty.clone()?)?;
@@ -50,13 +49,14 @@ fn empty_pages(alloc: Global) -> Result<Vec<Page>, AllocError>
     Ok(pages)
 }
 
-/// Makes each digest new that is not kept.
-fn refresh_all(pages: &mut Vec<Page>)
-    ensures { pages.new.items ≡ map_list refreshed pages.old.items }
+/// Brings each page into this layout, and makes its digest. The only error is a failed allocation.
+fn seal_all(pages: &mut Vec<Page>, layout: Layout) -> Result<(), AllocError>
+    ensures { OnOk result (pages.new.items ≡ map_list (sealed_in layout) pages.old.items) }
 {
     for page in pages.iter_mut() {
-        page.refresh();
+        page.seal(layout)?;
     }
+    Ok(())
 }
 
 impl Pages {
@@ -86,43 +86,42 @@ impl Pages {
         parts
     }
 
-    /// Keeps the pages as they are now. A digest is recomputed for each page that was written since
-    /// the pages were last sealed, and for no other, and then the nodes of the tree above those that
-    /// changed. Beside each such digest the page's text is kept where there is memory for it; there
-    /// is no error.
-    pub fn seal(self) -> Snapshot
-        ensures { result ≡ self }
+    /// How many items there are.
+    pub fn len(&self) -> u64
+        ensures { result ≡ length (map.entries self.now) }
     {
-        let Pages { mut pages } = self;
-        refresh_all(&mut pages);
-        Snapshot::of_sealed(pages)
+        let mut len = 0;
+        for number in 0..PAGES {
+            len += self.pages[number].len();
+        }
+        len
     }
 
-    /// The entries of a page, in the order of their keys. A page's text can be written of them.
-    pub fn page(&self, number: usize) -> &[Entry<Key, Item>]
-        requires { number < page_count }
-        ensures entries { result.now ≡ page_entries self.now number }
-        ensures fit { PageFits result.now }
+    /// Keeps the pages as they are now, in this layout. A page is brought into the layout if it is in the
+    /// other one. A digest is made for each page that was written since the pages were last sealed, and
+    /// for no other, and then the nodes of the tree above those that changed. The only error is a failed
+    /// allocation.
+    pub fn seal(self, layout: Layout) -> Result<Snapshot, AllocError>
+        ensures { IfOk result (λ snapshot. snapshot ≡ record { items = self; layout = layout }) }
     {
-        self.pages[number].entries()
+        let Pages { mut pages } = self;
+        seal_all(&mut pages, layout)?;
+        Ok(Snapshot::of_sealed(pages, layout))
     }
 
     /// Drops every item that is due at the moment or before it, as `drop_due`, and answers how many
-    /// entries it looked at or copied: of the pages' indexes one more for each page than it dropped, at
-    /// most, and all entries of the pages of which something is due. A page is copied only where something
-    /// of it is due and it is shared, and walked from its ninth such item on. The count saturates. The only
-    /// error is a failed allocation, and then nothing has changed.
+    /// entries it looked at or copied: one more for each page than it dropped, at most, and all entries of
+    /// the sorted pages of which something is due. The count saturates. The only error is a failed
+    /// allocation, and then nothing has changed.
     pub fn drop_due_counted(&mut self, moment: u32) -> Result<u64, AllocError>
         ensures ok { OnOk result (self.new ≡ alive self.old moment) }
         ensures err { OnErr result (self.new ≡ self.old) }
         ensures count { IfOk result (λ looks. looks + length (map.entries self.new)
             ≤ length (map.entries self.old) + page_count + beside_due moment (parts self.old)) }
-        ensures least { IfOk result (λ looks. min (beside_due moment (parts self.old)) (2 ^ 64 - 1) ≤ looks) }
         ensures dropped { IfOk result (λ looks. min (length (map.entries self.old)) (2 ^ 64 - 1) ≤ looks + length (map.entries self.new)) }
     {
-        let mut looks = 0;
-        let copied = drop_from_all(&mut self.pages, moment, &mut looks)?;
-        Ok(looks.saturating_add(copied))
+        let looks = drop_from_all(&mut self.pages, moment)?;
+        Ok(looks)
     }
 }
 

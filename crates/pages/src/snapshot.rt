@@ -1,73 +1,67 @@
-ghost use Rattle.std.specs.Prelude.{◌≡◌, ◌<◌, IfOk, IfSome, OnOk};
-ghost use Rattle.wire.specs.Item.{page_text, PageFits};
+ghost use Rattle.std.specs.Prelude.{◌≡◌, ◌<◌, ◌^◌, ◌↔◌, length, IfOk, OnOk, IsTrue};
+ghost use Rattle.wire.specs.Item.{PageFits};
 ghost use Rattle.wire.specs.Record.{Puts};
 ghost use Rattle.items.specs.Map.{alive};
-ghost use Rattle.token.specs.declared.form.Form.TheVariants.{Current};
-ghost use Rattle.pages.specs.Form.{root_by};
-ghost use Rattle.pages.specs.Page.{page_entries, page_digest, page_count, of_each};
-ghost use Rattle.pages.specs.Joined.{ArePages, AreSealed, joined, items_of, root_of_pages};
+ghost use Rattle.pages.specs.Form.{root_in};
+ghost use Rattle.pages.specs.Page.{page_items, page_entries, page_digest_in, page_count, of_each};
+ghost use Rattle.pages.specs.Layout.{text_in, entries_in};
+ghost use Rattle.pages.specs.Joined.{ArePages, AreSealed, joined, items_of};
 ghost use Rattle.pages.specs.Others.{AreSameBeside};
+ghost use Rattle.pages.specs.declared.layout.Layout.{Layout as LayoutOf};
+ghost use Rattle.pages.specs.declared.layout.Layout.TheVariants.{Sorted};
 
+use crate::layout::Layout;
 use crate::page::Page;
 use crate::page_set::PageSet;
 use crate::pages::Pages;
-use base::{Entry, Text};
+use base::Entry;
 use items::Item;
 use proto::Key;
-use std::alloc::AllocError;
+use std::alloc::{AllocError, Global};
 use std::marker::Model;
 use token::PAGES;
 use wire::Sink;
 
-/// Pages that are kept as they are, each beside its digest, and the root over the digests.
+/// Pages that are kept as they are, all in one layout, and the root over their digests.
 #[derive(Drop)]
 pub struct Snapshot {
     pages: Vec<Page>,
+    layout: Layout,
     root: [u8; 32],
 }
 
 impl Model for Snapshot {
     ghost use Rattle.std.specs.Coded.{coded_list, coded_ℕ};
     ghost use Rattle.std.specs.FinMap as map;
-    ghost use Rattle.items.specs.Map.{Items};
     ghost use Rattle.items.specs.contracts.item.Item as item;
+    ghost use Rattle.pages.specs.contracts.layout.Layout as kind;
+    ghost use Rattle.pages.specs.Page.{Laid, laid_code};
     ghost use Rattle.pages.specs.Joined.{IsSnapshot, joined, items_of};
 
-    ghost Value = { Items };
+    ghost Value = { Laid };
 
-    ghost coded = { map.code (coded_list coded_ℕ) item.the_row.coded };
+    ghost coded = { laid_code (map.code (coded_list coded_ℕ) item.the_row.coded) kind.the_row.coded };
 
-    ghost view = { λ a. joined (items_of a.pages.items) };
+    ghost view = { λ a. record { items = joined (items_of a.pages.items); layout = a.layout } };
 
-    ghost invariant = { λ a. IsSnapshot a.pages.items a.root };
-}
-
-fn digest_at(pages: &Vec<Page>, number: usize) -> &[u8; 32]
-    requires sealed { AreSealed pages.now.items }
-    requires within { number < page_count }
-    ensures { result.now ≡ page_digest (joined (items_of pages.now.items)) number }
-{
-    match pages[number].digest() {
-        Some(digest) => digest,
-        None => unreachable!(),
-    }
+    ghost invariant = { λ a. IsSnapshot a.layout a.pages.items a.root };
 }
 
 fn digests_of(pages: &Vec<Page>) -> [[u8; 32]; PAGES]
-    requires { AreSealed pages.now.items }
-    ensures { result ≡ of_each (page_digest (joined (items_of pages.now.items))) }
+    requires { ArePages (items_of pages.now.items) }
+    ensures { (layout : LayoutOf) → AreSealed layout pages.now.items → result ≡ of_each (page_digest_in layout (joined (items_of pages.now.items))) }
 {
     let mut digests = [[0u8; 32]; PAGES];
     for number in 0..PAGES {
-        digests[number] = *digest_at(pages, number);
+        digests[number] = pages[number].digest();
     }
     digests
 }
 
 /// The root over the digests of the pages. The tree that they keep, if any, is made theirs.
 fn root_over(pages: &mut Vec<Page>) -> [u8; 32]
-    requires { AreSealed pages.old.items }
-    ensures root { result ≡ root_of_pages pages.old.items }
+    requires { ArePages (items_of pages.old.items) }
+    ensures root { (layout : LayoutOf) → AreSealed layout pages.old.items → result ≡ root_in layout (joined (items_of pages.old.items)) }
     ensures same { pages.new.items ≡ pages.old.items }
 {
     let digests = digests_of(pages);
@@ -76,7 +70,7 @@ fn root_over(pages: &mut Vec<Page>) -> [u8; 32]
 
 /// Makes the tree over the digests of the pages, where they keep none.
 fn grow_tree(pages: &mut Vec<Page>) -> Result<(), AllocError>
-    requires { AreSealed pages.old.items }
+    requires { ArePages (items_of pages.old.items) }
     ensures { pages.new.items ≡ pages.old.items }
 {
     if !pages[0].keeps_tree() {
@@ -93,9 +87,8 @@ fn due_among(pages: &Vec<Page>, moment: u32) -> PageSet
     ensures { AreSameBeside result (joined (items_of pages.now.items)) (alive (joined (items_of pages.now.items)) moment) }
 {
     let mut due = PageSet::new();
-    let mut looks = 0;
     for number in 0..PAGES {
-        if pages[number].has_due(moment, &mut looks) {
+        if pages[number].has_due(moment) {
             due.add(number);
         }
     }
@@ -103,13 +96,17 @@ fn due_among(pages: &Vec<Page>, moment: u32) -> PageSet
 }
 
 impl Snapshot {
-    /// These pages, whose digests are all kept.
-    pub(crate) fn of_sealed(mut pages: Vec<Page>) -> Snapshot
-        requires { AreSealed pages.items }
-        ensures { result ≡ joined (items_of pages.items) }
+    /// These pages, which are all in this layout, and whose digests are all kept.
+    pub(crate) fn of_sealed(mut pages: Vec<Page>, layout: Layout) -> Snapshot
+        requires { AreSealed layout pages.items }
+        ensures { result ≡ record { items = joined (items_of pages.items); layout = layout } }
     {
         let root = root_over(&mut pages);
-        Snapshot { pages, root }
+        Snapshot {
+            pages,
+            layout,
+            root,
+        }
     }
 
     /// The same pages, shared: no item is copied, but the digests are, 16 KB for the tree over them.
@@ -121,63 +118,92 @@ impl Snapshot {
         grow_tree(&mut pages)?;
         Ok(Snapshot {
             pages,
+            layout: self.layout,
             root: self.root,
         })
     }
 
     /// The pages to be written, with the digests that are kept. This takes no memory.
     pub fn open(self) -> Pages
-        ensures { result ≡ self }
+        ensures { result ≡ self.items }
     {
         Pages::join(self.pages)
     }
 
+    /// How the items are kept.
+    pub fn layout(&self) -> Layout
+        ensures { result ≡ self.now.layout }
+    {
+        self.layout
+    }
+
     /// The pages in which something is due at the moment or before it: to drop what is due leaves all
-    /// others as they are. It looks at one entry of each page's index.
+    /// others as they are. It looks at one entry of each page.
     pub fn due_pages(&self, moment: u32) -> PageSet
-        ensures { AreSameBeside result self.now (alive self.now moment) }
+        ensures { AreSameBeside result self.now.items (alive self.now.items moment) }
     {
         due_among(&self.pages, moment)
     }
 
-    /// The entries of a page, in the order of their keys. A page's text can be written of them.
-    pub fn page(&self, number: usize) -> &[Entry<Key, Item>]
+    /// How many items a page has.
+    pub fn len(&self, number: usize) -> u64
         requires { number < page_count }
-        ensures entries { result.now ≡ page_entries self.now number }
+        ensures len { result ≡ length (page_entries self.now.items number) }
+        ensures few { result < 2 ^ 32 }
+    {
+        self.pages[number].len()
+    }
+
+    /// The entries of a page of sorted ones, in the order of their keys.
+    pub(crate) fn sorted_page(&self, number: usize) -> &[Entry<Key, Item>]
+        requires within { number < page_count }
+        requires sorted { self.now.layout ≡ Sorted }
+        ensures entries { result.now ≡ page_entries self.now.items number }
         ensures fit { PageFits result.now }
     {
-        self.pages[number].entries()
+        self.pages[number].sorted_entries()
     }
 
-    /// The digest of a page: SHA-256 of the page text of its entries. It was made when the pages
-    /// were sealed, and is lent.
-    pub fn digest(&self, number: usize) -> &[u8; 32]
+    /// The entries of a page, shared, in the order of the layout. The only error is a failed allocation.
+    pub fn entries(&self, alloc: Global, number: usize) -> Result<Vec<Entry<Key, Item>>, AllocError>
         requires { number < page_count }
-        ensures { result.now ≡ page_digest self.now number }
+        ensures { IfOk result (λ entries. entries.items ≡ entries_in self.now.layout (page_items self.now.items number)) }
     {
-        digest_at(&self.pages, number)
+        self.pages[number].entries(alloc)
     }
 
-    /// The text of a page that is kept beside its digest. None where there was no memory for it when
-    /// the pages were sealed.
-    pub fn text(&self, number: usize) -> Option<&Text>
+    /// Whether a page has the same items in both. The only error is a failed allocation.
+    pub fn is_same_page(
+        &self,
+        alloc: Global,
+        other: &Snapshot,
+        number: usize,
+    ) -> Result<bool, AllocError>
         requires { number < page_count }
-        ensures { IfSome result (λ text. text.now ≡ page_text (page_entries self.now number)) }
+        ensures { IfOk result (λ same. IsTrue same ↔ (page_items self.now.items number ≡ page_items other.now.items number)) }
     {
-        self.pages[number].text()
+        self.pages[number].is_same(alloc, &other.pages[number])
     }
 
-    /// Writes the text of a page: the pieces that are kept, shared, or else its entries one by one.
+    /// The digest of a page, by the layout. It was made when the pages were sealed.
+    pub fn digest(&self, number: usize) -> [u8; 32]
+        requires { number < page_count }
+        ensures { result ≡ page_digest_in self.now.layout self.now.items number }
+    {
+        self.pages[number].digest()
+    }
+
+    /// Writes the text of a page, by the layout.
     pub fn put_text<S: Sink>(&self, number: usize, sink: &mut S) -> Result<(), S::Refusal>
         requires { number < page_count }
-        ensures { OnOk result (Puts S.holds (page_text (page_entries self.now number)) sink.old sink.new) }
+        ensures { OnOk result (Puts S.holds (text_in self.now.layout (page_items self.now.items number)) sink.old sink.new) }
     {
         self.pages[number].put_text(sink)
     }
 
     /// The root of the tree over the digests of the pages. It was made when the pages were sealed.
     pub fn root(&self) -> [u8; 32]
-        ensures { result ≡ root_by Current self.now }
+        ensures { result ≡ root_in self.now.layout self.now.items }
     {
         self.root
     }

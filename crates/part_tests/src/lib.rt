@@ -6,6 +6,8 @@
 #![tactic(auto)]
 
 #[cfg(test)]
+mod changes;
+#[cfg(test)]
 mod of_base;
 #[cfg(test)]
 mod of_batches;
@@ -18,9 +20,13 @@ mod of_items;
 #[cfg(test)]
 mod of_keeper;
 #[cfg(test)]
+mod of_layouts;
+#[cfg(test)]
 mod of_link;
 #[cfg(test)]
 mod of_mixer;
+#[cfg(test)]
+mod of_page_texts;
 #[cfg(test)]
 mod of_pages;
 #[cfg(test)]
@@ -30,6 +36,10 @@ mod of_sessions;
 #[cfg(test)]
 mod of_token;
 #[cfg(test)]
+mod of_told;
+#[cfg(test)]
 mod of_view_change;
 #[cfg(test)]
 mod requests;
+#[cfg(test)]
+mod rows_of_97;

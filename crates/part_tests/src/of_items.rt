@@ -1,6 +1,6 @@
 use item_steps::{Stamp, Step, apply};
 use items::{PlainStore, Store};
-use pages::Pages;
+use pages::{Layout, Pages};
 use proto::{Block, Key, StoreVerb, Update, is_key_text};
 use std::alloc::{AllocError, Global};
 use std::test::Fail;
@@ -86,17 +86,19 @@ fn a_drop_looks_at_what_it_drops(rt: HostRuntime) -> Result<(), Fail> {
     Ok(())
 }
 
-/// Each item is on a page of its own, of which a drop counts all items where something is due.
+/// Each item is on a page of its own, of which a drop counts all items where something is due. Of each
+/// other page it counts one look.
 #[test]
 fn a_drop_looks_at_each_page(rt: HostRuntime) -> Result<(), Fail> {
     let mut pages = Pages::new(rt.alloc())?;
     set_four(rt.alloc(), &mut pages)?;
-    assert!(rt; pages.drop_due_counted(1009)? == 3);
-    assert!(rt; pages.drop_due_counted(1010)? == 4);
+    assert!(rt; pages.drop_due_counted(1009)? == 256);
+    assert!(rt; pages.drop_due_counted(1010)? == 257);
     touch_b(rt.alloc(), &mut pages)?;
-    assert!(rt; pages.drop_due_counted(1020)? == 3);
-    assert!(rt; pages.drop_due_counted(2011)? == 2);
-    assert!(rt; pages.page(99).len() == 1);
+    assert!(rt; pages.drop_due_counted(1020)? == 257);
+    assert!(rt; pages.drop_due_counted(2011)? == 257);
+    assert!(rt; pages.len() == 1);
+    assert!(rt; pages.seal(Layout::Sorted)?.len(99) == 1);
     Ok(())
 }
 

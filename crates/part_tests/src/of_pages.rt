@@ -1,7 +1,11 @@
+ghost use Rattle.std.specs.Prelude.{◌<◌};
+ghost use Rattle.pages.specs.Page.{page_count};
+
+use crate::changes::{Change, any_change, any_item, changed, key, new_state, nth_key};
 use base::{Entry, Text};
 use items::{Item, PlainStore, Store};
-use pages::{PAGES, Page, PageSet, Pages, Snapshot, page_of};
-use proto::{Block, Command, Key, Keys, Update, is_key_text};
+use pages::{Layout, PAGES, Page, PageSet, Pages, Snapshot, page_of};
+use proto::{Block, Command, Key, Keys, Update};
 use rand_core::SeedableRng;
 use rand_core::utils::NextWord;
 use rand_pcg::Lcg64Xsh32;
@@ -10,66 +14,6 @@ use std::alloc::{AllocError, Global};
 use std::test::Fail;
 use token::{HEIGHT, OLD_HEIGHT, OLD_PAGES};
 use wire::LEAST_SHARED_BYTES;
-
-/// The key of these bytes, or else `k`.
-fn key(alloc: Global, bytes: &[u8]) -> Result<Key, AllocError> {
-    if is_key_text(bytes) {
-        return Ok(Key::new(Vec::from_slice(alloc, bytes)?));
-    }
-    Ok(Key::new(vec![in alloc; b'k']?))
-}
-
-/// One of 192 keys of two bytes, which stand on all pages.
-fn any_key(alloc: Global, words: &mut Lcg64Xsh32) -> Result<Key, AllocError> {
-    let word = words.next_word();
-    let first = [b'a', b'b', b'c'];
-    key(
-        alloc,
-        &[first[(word % 3) as usize], b'0' + (word / 8 % 64) as u8],
-    )
-}
-
-fn any_item(alloc: Global, words: &mut Lcg64Xsh32) -> Result<Item, AllocError> {
-    let word = words.next_word();
-    let bytes = word.to_be_bytes();
-    Ok(Item {
-        block: Block::from_slice(alloc, &bytes[..(word % 5) as usize])?,
-        flags: words.next_word(),
-        due: if word % 3 == 0 {
-            Some(u64::from(words.next_word() % 4000))
-        } else {
-            None
-        },
-        unique: u64::from(words.next_word()),
-    })
-}
-
-/// What one random step does to a store.
-#[derive(Drop)]
-enum Change {
-    Put(Key, Item),
-    Remove(Key),
-    Drop(u32),
-}
-
-fn any_change(alloc: Global, words: &mut Lcg64Xsh32) -> Result<Change, AllocError> {
-    let word = words.next_word() % 20;
-    Ok(if word < 14 {
-        Change::Put(any_key(alloc, words)?, any_item(alloc, words)?)
-    } else if word < 19 {
-        Change::Remove(any_key(alloc, words)?)
-    } else {
-        Change::Drop(words.next_word() % 1000)
-    })
-}
-
-fn make<S: Store>(store: &mut S, change: &Change) -> Result<(), AllocError> {
-    match change {
-        Change::Put(key, item) => store.put(key.clone()?, item.clone()?),
-        Change::Remove(key) => store.remove(key),
-        Change::Drop(moment) => store.drop_due(*moment),
-    }
-}
 
 /// A number's last bytes, the highest first.
 fn put_number(hasher: &mut Sha256, number: u64, width: usize) {
@@ -121,7 +65,14 @@ fn old_root_of(entries: &[Entry<Key, Item>]) -> [u8; 32] {
 }
 
 fn old_root_agrees(kept: &Snapshot, plain: &PlainStore) -> bool {
-    kept.has_old_texts() && kept.old_root() == old_root_of(plain.as_slice())
+    kept.layout() == Layout::Sorted
+        && kept.has_old_texts()
+        && kept.old_root() == old_root_of(plain.as_slice())
+}
+
+/// Whether the pages are sorted, and the data of each item has so many bytes at most.
+fn has_data_within(kept: &Snapshot, most: usize) -> bool {
+    kept.layout() == Layout::Sorted && kept.has_data_within(most)
 }
 
 /// Whether each digest and the root are those of the plain store, from scratch.
@@ -129,24 +80,11 @@ fn agree(kept: &Snapshot, plain: &PlainStore) -> bool {
     let mut digests = [[0u8; 32]; PAGES];
     for number in 0..PAGES {
         digests[number] = digest_of(plain.as_slice(), number, PAGES - 1);
-        if *kept.digest(number) != digests[number] {
+        if kept.digest(number) != digests[number] {
             return false;
         }
     }
     kept.root() == token::root(&digests, HEIGHT)
-}
-
-/// The state after a change, beside the one before it, which is kept.
-fn changed(
-    kept: &Snapshot,
-    plain: &PlainStore,
-    change: &Change,
-) -> Result<(Snapshot, PlainStore), AllocError> {
-    let mut pages = kept.share()?.open();
-    make(&mut pages, change)?;
-    let mut after = plain.clone()?;
-    make(&mut after, change)?;
-    Ok((pages.seal(), after))
 }
 
 #[test]
@@ -194,33 +132,35 @@ fn put_five(alloc: Global, pages: &mut Pages) -> Result<(), AllocError> {
 fn with_five(alloc: Global, kept: &Snapshot) -> Result<Snapshot, AllocError> {
     let mut pages = kept.share()?.open();
     put_five(alloc, &mut pages)?;
-    Ok(pages.seal())
+    pages.seal(Layout::Sorted)
 }
 
 #[test]
 fn digests_of_pages(rt: HostRuntime) -> Result<(), Fail> {
-    let kept = Pages::new(rt.alloc())?.seal();
+    let kept = Pages::new(rt.alloc())?.seal(Layout::Sorted)?;
     let after = with_five(rt.alloc(), &kept)?;
-    assert!(rt; *after.digest(97) == ONE);
-    assert!(rt; *after.digest(98) == EMPTY);
-    assert!(rt; *kept.digest(97) == EMPTY);
-    assert!(rt; kept.page(97).is_empty() && after.page(97).len() == 1);
+    assert!(rt; after.digest(97) == ONE);
+    assert!(rt; after.digest(98) == EMPTY);
+    assert!(rt; kept.digest(97) == EMPTY);
+    assert!(rt; kept.len(97) == 0 && after.len(97) == 1);
     Ok(())
 }
 
-fn has_text(
-    alloc: Global,
-    kept: &Snapshot,
-    number: usize,
-    text: &[u8],
-) -> Result<bool, AllocError> {
-    if PAGES <= number {
-        return Ok(false);
-    }
-    match kept.text(number) {
-        Some(kept) => Ok(kept.joined(alloc)?.as_slice() == text),
-        None => Ok(false),
-    }
+/// The text of a page. Where it is kept its pieces are shared, so that the tail stays empty.
+fn text_of(alloc: Global, kept: &Snapshot, number: usize) -> Result<Text, AllocError>
+    requires { number < page_count }
+{
+    let mut text = Text::new(alloc);
+    kept.put_text(number, &mut text)?;
+    Ok(text)
+}
+
+/// Whether the page's text is kept, and is this one.
+fn has_text(alloc: Global, kept: &Snapshot, number: usize, text: &[u8]) -> Result<bool, AllocError>
+    requires { number < page_count }
+{
+    let kept = text_of(alloc, kept, number)?;
+    Ok(kept.parts().1.is_empty() && kept.joined(alloc)?.as_slice() == text)
 }
 
 /// The text of a page with one item.
@@ -249,7 +189,7 @@ fn puts_its_texts(alloc: Global, kept: &Snapshot) -> Result<bool, AllocError> {
 
 #[test]
 fn texts_of_pages(rt: HostRuntime) -> Result<(), Fail> {
-    let after = with_five(rt.alloc(), &Pages::new(rt.alloc())?.seal())?;
+    let after = with_five(rt.alloc(), &Pages::new(rt.alloc())?.seal(Layout::Sorted)?)?;
     let shared = after.share()?;
     assert!(rt; has_its_texts(rt.alloc(), &after)?);
     assert!(rt; has_its_texts(rt.alloc(), &shared)?);
@@ -272,32 +212,30 @@ fn with_data_of(alloc: Global, sizes: [usize; 5]) -> Result<Snapshot, AllocError
         };
         pages.put(key(alloc, names[i])?, item)?;
     }
-    Ok(pages.seal())
+    pages.seal(Layout::Sorted)
 }
 
 /// Whether a page's text is the same in one piece and in several, and its digest that of it.
 fn is_one_text(alloc: Global, kept: &Snapshot) -> Result<bool, AllocError> {
     let mut bytes = Vec::new(alloc);
     kept.put_text(LARGE, &mut bytes)?;
-    let mut text = Text::new(alloc);
-    kept.put_text(LARGE, &mut text)?;
-    let joined = text.joined(alloc)?;
+    let joined = text_of(alloc, kept, LARGE)?.joined(alloc)?;
+    let entries = kept.entries(alloc, LARGE)?;
     Ok(
         joined.as_slice() == bytes.as_slice()
-            && *kept.digest(LARGE) == Sha256::digest(bytes.as_slice())
-            && *kept.digest(LARGE) == digest_of(kept.page(LARGE), LARGE, PAGES - 1),
+            && kept.digest(LARGE) == Sha256::digest(bytes.as_slice())
+            && kept.digest(LARGE) == digest_of(entries.as_slice(), LARGE, PAGES - 1),
     )
 }
 
 /// The sizes of the pieces of the text that is kept, and none where its tail is open.
 fn sizes_of(alloc: Global, kept: &Snapshot) -> Result<Vec<usize>, AllocError> {
     let mut sizes = Vec::new(alloc);
-    if let Some(text) = kept.text(LARGE) {
-        let (pieces, tail) = text.parts();
-        if tail.is_empty() {
-            for piece in pieces {
-                sizes.push(piece.len())?;
-            }
+    let text = text_of(alloc, kept, LARGE)?;
+    let (pieces, tail) = text.parts();
+    if tail.is_empty() {
+        for piece in pieces {
+            sizes.push(piece.len())?;
         }
     }
     Ok(sizes)
@@ -329,7 +267,7 @@ fn with_a_due_item(alloc: Global) -> Result<Snapshot, AllocError> {
     };
     let mut pages = Pages::new(alloc)?;
     pages.put(key(alloc, b"a")?, item)?;
-    Ok(pages.seal())
+    pages.seal(Layout::Sorted)
 }
 
 fn one_key(alloc: Global, bytes: &[u8]) -> Result<Keys, AllocError> {
@@ -399,23 +337,9 @@ fn put_and_remove(alloc: Global, page: &mut Page) -> Result<bool, AllocError> {
 fn parted_pages_are_stores(rt: HostRuntime) -> Result<(), Fail> {
     let mut pages = Pages::new(rt.alloc())?.part();
     let there = put_and_remove(rt.alloc(), &mut pages[97])?;
-    assert!(rt; there && pages[97].digest().is_none() && pages[98].digest().is_some());
+    // A page without a digest weighs its entries and 64 more.
+    assert!(rt; there && pages[97].weight() == 65 && pages[98].weight() == 0);
     Ok(())
-}
-
-/// One of 1,000 keys, each of the page 236.
-fn nth_key(alloc: Global, n: u32) -> Result<Key, AllocError> {
-    let digits = [n / 100 % 10, n / 10 % 10, n % 10];
-    let last = 92 - digits[0] - digits[1] - digits[2];
-    key(
-        alloc,
-        &[
-            b'0' + digits[0] as u8,
-            b'0' + digits[1] as u8,
-            b'0' + digits[2] as u8,
-            last as u8,
-        ],
-    )
 }
 
 fn put_nth(alloc: Global, pages: &mut Pages, n: u32) -> Result<(), AllocError> {
@@ -440,10 +364,11 @@ fn a_page_of_1000_items(rt: HostRuntime) -> Result<(), Fail> {
     for n in 0..1000u32 {
         put_nth(rt.alloc(), &mut pages, n)?;
     }
-    assert_eq!(rt; pages.page(236).len(), 1000);
+    assert_eq!(rt; pages.len(), 1000);
     for n in 0..1000u32 {
         assert!(rt; has_nth(rt.alloc(), &pages, n)?, "item {n}");
     }
+    assert_eq!(rt; pages.seal(Layout::Sorted)?.len(236), 1000);
     Ok(())
 }
 
@@ -457,7 +382,7 @@ fn add_states(
     for step in 0..steps {
         let change = any_change(alloc, words)?;
         if let Some((kept, plain)) = states.last() {
-            let next = changed(kept, plain, &change)?;
+            let next = changed(kept, plain, &change, Layout::Sorted)?;
             states.push(next)?;
         }
     }
@@ -473,7 +398,7 @@ fn last_agrees(states: &[(Snapshot, PlainStore)]) -> bool {
 fn random_steps_with_undo(rt: HostRuntime) -> Result<(), Fail> {
     let alloc = rt.alloc();
     let mut words = Lcg64Xsh32::seed_from_u64(20);
-    let mut states = vec![in alloc; (Pages::new(alloc)?.seal(), PlainStore::new(alloc))]?;
+    let mut states = vec![in alloc; new_state(alloc, Layout::Sorted)?]?;
     for tens in 0..100u32 {
         add_states(alloc, &mut words, &mut states, 10)?;
         assert!(rt; last_agrees(states.as_slice()), "before undo {tens}");
@@ -506,18 +431,19 @@ fn with_key(
         due: None,
         unique: 64,
     };
-    changed(&state.0, &state.1, &Change::Put(key(alloc, bytes)?, item))
+    let change = Change::Put(key(alloc, bytes)?, item);
+    changed(&state.0, &state.1, &change, Layout::Sorted)
 }
 
 #[test]
 fn roots_of_old_pages(rt: HostRuntime) -> Result<(), Fail> {
-    let mut state = (Pages::new(rt.alloc())?.seal(), PlainStore::new(rt.alloc()));
-    assert!(rt; old_root_agrees(&state.0, &state.1) && state.0.has_data_within(0));
+    let mut state = new_state(rt.alloc(), Layout::Sorted)?;
+    assert!(rt; old_root_agrees(&state.0, &state.1) && has_data_within(&state.0, 0));
     for (bytes, number) in OF_OLD_PAGE_33.iter().zip(THEIR_PAGES.iter()) {
         assert!(rt; page_of_bytes(rt.alloc(), *bytes)? == *number);
         state = with_key(rt.alloc(), &state, *bytes)?;
         assert!(rt; old_root_agrees(&state.0, &state.1));
     }
-    assert!(rt; state.0.has_data_within(1) && !state.0.has_data_within(0));
+    assert!(rt; has_data_within(&state.0, 1) && !has_data_within(&state.0, 0));
     Ok(())
 }

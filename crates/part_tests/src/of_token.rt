@@ -1,8 +1,9 @@
+use proto::Fault;
 use sessions::Sessions;
 use sha2::{Digest, Sha256};
 use std::alloc::{AllocError, Global};
 use std::test::Fail;
-use token::{Digested, HEIGHT, OLD_HEIGHT, OLD_PAGES, PAGES, Token, page_digest, root};
+use token::{Digested, Form, HEIGHT, OLD_HEIGHT, OLD_PAGES, PAGES, Token, page_digest, root};
 use wire::{Record, Sink, read, write};
 
 #[test]
@@ -52,6 +53,27 @@ fn token_of_a_state(rt: HostRuntime) -> Result<(), Fail> {
     Ok(())
 }
 
+/// Whether this byte alone is the record of this form.
+fn is_form(alloc: Global, form: Form, mark: u8) -> Result<bool, Fault> {
+    let mut out = Vec::new(alloc);
+    write(alloc, &form, &mut out)?;
+    Ok(out.as_slice() == [mark].as_slice() && read::<Form>(alloc, &[mark])? == form)
+}
+
+/// Whether this byte is no form.
+fn is_no_form(alloc: Global, mark: u8) -> bool {
+    read::<Form>(alloc, &[mark]).is_err_and(|fault| fault == Fault::BadRecord)
+}
+
+#[test]
+fn marks_of_forms(rt: HostRuntime) -> Result<(), Fail> {
+    assert!(rt; is_form(rt.alloc(), Form::Old, 1).is_ok_and(|is| is));
+    assert!(rt; is_form(rt.alloc(), Form::Current, 2).is_ok_and(|is| is));
+    assert!(rt; is_form(rt.alloc(), Form::Tree, 3).is_ok_and(|is| is));
+    assert!(rt; is_no_form(rt.alloc(), 0) && is_no_form(rt.alloc(), 4));
+    Ok(())
+}
+
 /// Digests of as many pages as the old form has, each of its number in all bytes.
 fn numbered_old() -> [[u8; 32]; OLD_PAGES] {
     let mut pages = [[0u8; 32]; OLD_PAGES];
@@ -96,17 +118,42 @@ fn has_text(alloc: Global, digested: &Digested, bytes: &[u8]) -> Result<bool, Al
     }
 }
 
+/// Whether a state of this form has this digest of no sessions, and keeps their text.
+fn is_of_whole_text(
+    alloc: Global,
+    form: Form,
+    sessions: &Sessions,
+    expected: &[u8; 32],
+) -> Result<bool, AllocError> {
+    let digested = Digested::of_sessions(alloc, form, sessions);
+    let copy = digested.clone()?;
+    Ok(digested.digest() == expected && has_text(alloc, &copy, b"\x03\x00\x00\x00\x00")?)
+}
+
+/// Whether a state of the form of trees has this digest of the sessions, and keeps no text.
+fn is_of_told_text(alloc: Global, sessions: &Sessions, expected: &[u8; 32]) -> bool {
+    let digested = Digested::of_sessions(alloc, Form::Tree, sessions);
+    digested.digest() == expected && digested.text().is_none()
+}
+
+/// Of no sessions in a state of the form of trees: the row of `scripts/told_sessions`, over the byte 07 and
+/// four bytes 00.
+const TOLD: [u8; 32] = [
+    0xe1, 0x6a, 0xb6, 0x0a, 0xa1, 0xee, 0xb7, 0x07, 0x4c, 0xa5, 0x90, 0xe8, 0xa9, 0x5b, 0xc4, 0xce,
+    0x62, 0x64, 0xaa, 0x74, 0xf4, 0xf7, 0x93, 0x59, 0xe5, 0x80, 0xed, 0xe6, 0x0b, 0x89, 0x2b, 0xbe,
+];
+
 #[test]
 fn digest_of_no_sessions(rt: HostRuntime) -> Result<(), Fail> {
-    let digested = Digested::of_sessions(rt.alloc(), &Sessions::new(rt.alloc())?);
+    let sessions = Sessions::new(rt.alloc())?;
     // By another program, over the byte 03 and four bytes 00.
     let expected: [u8; 32] = [
         0xa6, 0x65, 0xe6, 0xb1, 0x15, 0xdd, 0x56, 0xfd, 0x3e, 0x0c, 0x89, 0xbe, 0x63, 0x1e, 0x6e,
         0xda, 0x8e, 0x96, 0x66, 0xb8, 0x22, 0xe0, 0xbd, 0x70, 0x26, 0xbf, 0x08, 0x22, 0xc4, 0xbb,
         0xc6, 0x8f,
     ];
-    assert!(rt; *digested.digest() == expected);
-    let copy = digested.clone()?;
-    assert!(rt; has_text(rt.alloc(), &copy, b"\x03\x00\x00\x00\x00")?);
+    assert!(rt; is_of_whole_text(rt.alloc(), Form::Current, &sessions, &expected)?);
+    assert!(rt; is_of_whole_text(rt.alloc(), Form::Old, &sessions, &expected)?);
+    assert!(rt; is_of_told_text(rt.alloc(), &sessions, &TOLD));
     Ok(())
 }

@@ -38,6 +38,12 @@ const TOKEN_OF_TODAY: [u8; 32] = [
     0x8a, 0x9a, 0xa2, 0xff, 0x34, 0xd7, 0xe9, 0x24, 0xa3, 0x27, 0x59, 0x8c, 0xf0, 0xcd, 0xd3, 0x9b,
 ];
 
+/// The token that it has where the pages are kept as trees: `scripts/state_tokens` prints it.
+const TOKEN_OF_TREES: [u8; 32] = [
+    0xdd, 0xa8, 0x90, 0x10, 0xad, 0x50, 0x54, 0x9b, 0x64, 0xd6, 0xd5, 0x53, 0x6b, 0xe1, 0x65, 0xfd,
+    0xd8, 0xea, 0xc0, 0xe8, 0xf5, 0xcf, 0x6c, 0x7f, 0x1b, 0x44, 0xae, 0xc6, 0x7e, 0x3f, 0x7e, 0xfd,
+];
+
 /// The head, without its form, of the state after batch 1 of one `set` of `a` by client 1, and its
 /// sessions: client 1 was answered `STORED`.
 fn add_front(bytes: &mut Vec<u8>, token: &[u8; 32]) -> Result<(), AllocError> {
@@ -63,13 +69,23 @@ fn add_old_set(bytes: &mut Vec<u8>) -> Result<(), AllocError> {
     bytes.extend_from_slice(&[0; 150])
 }
 
+/// So many pages without items, which begin with this mark.
+fn add_empty(bytes: &mut Vec<u8>, mark: u8, count: u32) -> Result<(), AllocError> {
+    for _ in 0..count {
+        bytes.extend_from_slice(&[mark, 0, 0, 0, 0])?;
+    }
+    Ok(())
+}
+
 /// That of today of this form and token: `a` stands on page 97.
 fn add_set(bytes: &mut Vec<u8>, form: u8, token: &[u8; 32]) -> Result<(), AllocError> {
+    let mark = if form == 3 { 6 } else { 0 };
     bytes.push(form)?;
     add_front(bytes, token)?;
-    bytes.extend_from_slice(&[0; 485])?;
-    bytes.extend_from_slice(&PAGE)?;
-    bytes.extend_from_slice(&[0; 790])
+    add_empty(bytes, mark, 97)?;
+    bytes.push(mark)?;
+    bytes.extend_from_slice(&PAGE[1..])?;
+    add_empty(bytes, mark, 158)
 }
 
 fn old_first(alloc: Global) -> Result<Vec<u8>, AllocError> {
@@ -223,5 +239,32 @@ fn a_record_of_the_old_form_that_is_cut_or_changed_is_refused(rt: HostRuntime) -
 #[test]
 fn a_record_of_todays_form_that_is_cut_or_changed_is_refused(rt: HostRuntime) -> Result<(), Fail> {
     assert!(rt; is_set_sealed(rt.alloc(), 2, &TOKEN_OF_TODAY)?);
+    Ok(())
+}
+
+#[test]
+fn a_record_of_trees_that_is_cut_or_changed_is_refused(rt: HostRuntime) -> Result<(), Fail> {
+    assert!(rt; is_set_sealed(rt.alloc(), 3, &TOKEN_OF_TREES)?);
+    Ok(())
+}
+
+/// Whether the record of today of this form and token is read as one of that form, and is written so again.
+fn is_set_again(alloc: Global, form: u8, token: &[u8; 32]) -> Result<bool, Fault> {
+    let mut bytes = Vec::new(alloc);
+    add_set(&mut bytes, form, token)?;
+    let (state, rest) = State::take(alloc, Version::Second, bytes.as_slice())?;
+    let again = record_of(alloc, &state)?;
+    Ok(rest.is_empty() && again.as_slice() == bytes.as_slice() && state.token() == Token(*token))
+}
+
+/// The record of a form has the token and the pages of that form alone.
+#[test]
+fn each_form_has_its_records(rt: HostRuntime) -> Result<(), Fail> {
+    assert!(rt; is_set_again(rt.alloc(), 1, &TOKEN)?);
+    assert!(rt; is_set_again(rt.alloc(), 2, &TOKEN_OF_TODAY)?);
+    assert!(rt; is_set_again(rt.alloc(), 3, &TOKEN_OF_TREES)?);
+    assert!(rt; is_set_again(rt.alloc(), 2, &TOKEN_OF_TREES) == Err(Fault::BadRecord));
+    assert!(rt; is_set_again(rt.alloc(), 3, &TOKEN_OF_TODAY) == Err(Fault::BadRecord));
+    assert!(rt; is_set_again(rt.alloc(), 4, &TOKEN_OF_TREES) == Err(Fault::BadRecord));
     Ok(())
 }

@@ -79,15 +79,17 @@ const STRAY: &[u8] = &[
 
 #[test]
 fn numbers_and_forms_of_parcels(rt: HostRuntime) -> Result<(), Fail> {
-    let rows: [(u8, [u8; 2], bool); 8] = [
+    let rows: [(u8, [u8; 2], bool); 10] = [
         (2, [0, 1], true),
         (2, [3, 255], true),
         (2, [0, 0], false),
         (2, [4, 0], false),
         (1, [0, 1], true),
         (1, [0, 0], false),
+        (3, [0, 1], true),
+        (3, [0, 0], false),
         (0, [0, 1], false),
-        (3, [0, 1], false),
+        (4, [0, 1], false),
     ];
     for (form, number, has_record) in rows {
         assert!(rt; is_so(rt.alloc(), (form, number, 1, &[PAGE]), has_record)?);
@@ -97,7 +99,7 @@ fn numbers_and_forms_of_parcels(rt: HostRuntime) -> Result<(), Fail> {
 
 #[test]
 fn pages_of_parcels(rt: HostRuntime) -> Result<(), Fail> {
-    for form in [1u8, 2] {
+    for form in [1u8, 2, 3] {
         assert!(rt; is_so(rt.alloc(), (form, [0, 3], 0, &[]), true)?);
         assert!(rt; is_so(rt.alloc(), (form, [0, 3], 2, &[PAGE, EMPTY]), true)?);
         assert!(rt; is_so(rt.alloc(), (form, [0, 3], 1, &[PAGE, EMPTY]), false)?);

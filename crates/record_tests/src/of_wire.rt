@@ -292,17 +292,18 @@ fn texts_to_be_digested(rt: HostRuntime) -> Result<(), Fail> {
     Ok(())
 }
 
-/// How a state's record begins: form 1 or 2, and fields of fixed lengths.
+/// How a state's record begins: form 1, 2 or 3, and fields of fixed lengths.
 #[test]
 fn heads(rt: HostRuntime) -> Result<(), Fail> {
     let rows = [
         ([1u8; 117].as_slice(), true),
         ([2u8; 117].as_slice(), true),
-        ([3u8; 117].as_slice(), false),
+        ([3u8; 117].as_slice(), true),
+        ([4u8; 117].as_slice(), false),
         ([0u8; 117].as_slice(), false),
     ];
     assert_eq!(rt; first_wrong::<Head>(rt.alloc(), rows.as_slice())?, None);
-    let rows = [([1u8; 85].as_slice(), true), ([3u8; 85].as_slice(), false)];
+    let rows = [([1u8; 85].as_slice(), true), ([4u8; 85].as_slice(), false)];
     assert_eq!(rt; first_wrong::<Origin>(rt.alloc(), rows.as_slice())?, None);
     Ok(())
 }
@@ -312,10 +313,17 @@ fn marks_and_tokens(rt: HostRuntime) -> Result<(), Fail> {
     let rows = [
         ([1u8].as_slice(), true),
         ([2u8].as_slice(), true),
-        ([3u8].as_slice(), false),
+        ([3u8].as_slice(), true),
+        ([4u8].as_slice(), false),
         ([0u8].as_slice(), false),
     ];
     assert_eq!(rt; first_wrong::<Form>(rt.alloc(), rows.as_slice())?, None);
+    let rows = [
+        ([1u8].as_slice(), true),
+        ([2u8].as_slice(), true),
+        ([3u8].as_slice(), false),
+        ([0u8].as_slice(), false),
+    ];
     assert_eq!(rt; first_wrong::<Version>(rt.alloc(), rows.as_slice())?, None);
     let rows = [([7u8; 32].as_slice(), true), ([7u8; 33].as_slice(), false)];
     assert_eq!(rt; first_wrong::<Token>(rt.alloc(), rows.as_slice())?, None);

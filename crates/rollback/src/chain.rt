@@ -1,7 +1,5 @@
-ghost use Rattle.std.specs.Prelude.{◌≡◌, ◌↔◌, ◌⊎◌, ◌<◌, ◌≤◌, [], length, flat_map, IsTrue, IsOk, IfOk, IfErr, OnOk, OnErr, option_map};
-ghost use Rattle.executor.specs.MemberRecord.{member_text};
-ghost use Rattle.wire.specs.Record.{Puts};
-ghost use Rattle.rollback.specs.Chain.{ChainView, chain_tip, is_over, pushed, commits_state, commits_first, given_by, after_decree, undone, chain_text};
+ghost use Rattle.std.specs.Prelude.{◌≡◌, ◌↔◌, ◌⊎◌, ◌<◌, ◌≤◌, [], length, IsTrue, IsOk, IfOk, IfErr, OnOk, OnErr, option_map};
+ghost use Rattle.rollback.specs.Chain.{ChainView, chain_tip, is_over, pushed, commits_state, commits_first, given_by, after_decree, undone};
 
 use decrees::Decree;
 use executor::{Answered, Base, Committed, Tentative};
@@ -9,7 +7,6 @@ use proto::Fault;
 use states::State;
 use std::alloc::{AllocError, Global};
 use std::marker::Model;
-use wire::{Record, Sink};
 
 /// How many members a chain has at most.
 pub const MOST_MEMBERS: usize = 4;
@@ -54,21 +51,11 @@ fn commit(tentative: Tentative, decree: &Decree) -> Committed
     }
 }
 
-/// Writes each member over the state before it.
-fn put_members<S: Sink>(members: &[Tentative], sink: &mut S) -> Result<(), S::Refusal>
-    ensures { OnOk result (Puts S.holds (flat_map member_text members.now) sink.old sink.new) }
-{
-    for member in members {
-        member.put(sink)?;
-    }
-    Ok(())
-}
-
 impl Chain {
     ghost use Rattle.rollback.specs.declared.chain.TheConstants.{MOST_MEMBERS};
 
     /// A chain without members, over the committed state, and the replies that came with that. Room for
-    /// the members is made at once, so no later call but `put` takes memory.
+    /// the members is made at once, so no later call but `saved` takes memory.
     pub fn new(alloc: Global, committed: Committed) -> Result<(Chain, Vec<Answered>), AllocError>
         ensures chain { IfOk result (λ made. made.0 ≡ record { have = committed.state; members = [] }) }
         ensures replies { IfOk result (λ made. made.1.items ≡ committed.replies) }
@@ -180,17 +167,6 @@ impl Chain {
         let (committed, replies) = commit(first, decree).take_replies();
         self.committed = committed;
         Some(replies)
-    }
-
-    /// Writes its record: the committed state, how many members it has, and each of them over the
-    /// state before it. A sink that takes shared pieces gets the texts that are kept; so a record in a
-    /// text of pieces copies little. The sink may refuse it, as where an allocation fails.
-    pub fn put<S: Sink>(&self, sink: &mut S) -> Result<(), S::Refusal>
-        ensures { OnOk result (Puts S.holds (chain_text self.now) sink.old sink.new) }
-    {
-        self.committed.put(sink)?;
-        (self.members.len() as u8).put(sink)?;
-        put_members(self.members.as_slice(), sink)
     }
 
     /// Undoes all members.

@@ -1,13 +1,25 @@
 -- The state that a batch makes of another.
-use Rattle.std.proofs.Common.{◌≡◌, sym, ap, ◌∙◌, subst}
+use Rattle.std.proofs.Common.{◌≡◌, Bool, true, false, length, refl, sym, ap, ◌∙◌, subst}
+use Rattle.std.specs.Prelude.{nat_le, if◌then◌else◌}
+use Rattle.std.specs.FinMap.{entries}
 use Rattle.items.specs.Map.{Items}
 use Rattle.sessions.specs.Fresh.{Replies}
 use Rattle.batches.specs.declared.batch.Batch.{Batch}
 use Rattle.wire.specs.Session.{SessionsFit}
 use Rattle.token.specs.declared.form.Form.{Form}
+use Rattle.token.specs.declared.form.Form.TheVariants.{Current, Tree}
 use Rattle.pages.specs.Form.{FitForm}
 use Rattle.states.specs.State.{StateView}
-use Rattle.states.specs.Followed.{state_after_in, IsSuccessor}
+use Rattle.states.specs.Followed.{state_after_in, form_over, IsSuccessor}
+use Rattle.states.specs.declared.form.TheConstants.{FEW_ITEMS}
+
+-- a form that is chosen by the number of items suits all items
+pub fit_over : (m n : Items) → FitForm (form_over m) n
+fit_over m n = by (nat_le (length (entries m)) FEW_ITEMS)
+  where
+    by : (b : Bool) → FitForm (if b then Current else Tree) n
+    by true = refl
+    by false = refl
 
 -- the state of a form that a batch makes of another
 pub follows_of : (form : Form) (old : StateView) (batch : Batch) (s : StateView) (sessions : Replies) (items : Items) → s ≡ state_after_in form old batch sessions items → SessionsFit s.sessions → FitForm form items → IsSuccessor old batch s

@@ -54,12 +54,12 @@ module _ (part : Items → List ℕ) where
   abbrev pub old_text : StateView → List ℕ
   old_text s = old_head_text (head_of_state s) ++ sessions_text s.sessions ++ part s.items
 
-  behind_form : (s : StateView) → s.form ≡ Old → body_text part s ≡ 1 ∷ old_text s
+  behind_form : (s : StateView) → s.form ≡ Old → body_text (λ layout. part) s ≡ 1 ∷ old_text s
   unfolding head_text form_text
   behind_form s e = ap (λ (f : Form). ((form_text f ++ told_text (origin_of s)) ++ token_bytes s.token) ++ sessions_text s.sessions ++ part s.items) e
 
   module _ (fits : StateView → Type 0) (old : (s : StateView) → fits s → s.form ≡ Old) (bytes : List ℕ) where
-    none_behind : (e : Fault) → Refused e (NoPrefix fits (body_text part) (1 ∷ bytes)) → Refused e (NoPrefix fits old_text bytes)
+    none_behind : (e : Fault) → Refused e (NoPrefix fits (body_text (λ layout. part)) (1 ∷ bytes)) → Refused e (NoPrefix fits old_text bytes)
     none_behind e = Refused-weaker e (λ none. record {
       none = λ v after f same. none.none v after f (ap (λ (t : List ℕ). 1 ∷ t) same ∙ ap (λ (t : List ℕ). t ++ after) (sym (behind_form v (old v f))));
     })
@@ -73,17 +73,17 @@ module _ (part : Items → List ℕ) where
     module _ (h : Head) (sessions : Replies) (rest : List ℕ) (is_old : h.origin.form ≡ Old) (got : bytes ≡ old_front_text (h, sessions) ++ rest) where
       pub no_old_items : ((s : StateView) → fits s → FitForm s.form s.items) → (e : Fault) → Refused e (NoPrefix {X = Items} (HasTexts Old) part rest) → Refused e (NoPrefix fits old_text bytes)
       no_old_items fit e none =
-          none_behind e (no_items part fits (1 ∷ bytes) (HasTexts Old) (λ s f. texts_of_old s.form s.items (old s f) (fit s f)) h sessions rest (front_behind bytes h sessions rest is_old got) e none)
+          none_behind e (no_items (λ layout. part) fits (1 ∷ bytes) (HasTexts Old) (λ s f. texts_of_old s.form s.items (old s f) (fit s f)) h sessions rest (front_behind bytes h sessions rest is_old got) e none)
 
       module _ (free : IsPrefixFree part) (items : Items) (after : List ℕ) (more : rest ≡ part items ++ after) where
         pub not_made_old : (e : Fault) → Refused e (fits (state_of h sessions items) → ⊥) → Refused e (NoPrefix fits old_text bytes)
-        not_made_old e wrong = none_behind e (not_made part fits (1 ∷ bytes) free h sessions items rest after (front_behind bytes h sessions rest is_old got) more e wrong)
+        not_made_old e wrong = none_behind e (not_made (λ layout. part) fits (1 ∷ bytes) (λ layout. free) h sessions items rest after (front_behind bytes h sessions rest is_old got) more e wrong)
 
         pub made_old : (s : StateView) → s ≡ state_of h sessions items → (s.form ≡ Old) × (bytes ≡ old_text s ++ after)
         made_old s e =
             let form : s.form ≡ Old = ap (λ (x : StateView). x.form) e ∙ is_old in (
               form,
-              tail_of 1 1 bytes (old_text s ++ after) (made part fits (1 ∷ bytes) free h sessions items rest after (front_behind bytes h sessions rest is_old got) more s e ∙ ap (λ (t : List ℕ). t ++ after) (behind_form s form)),
+              tail_of 1 1 bytes (old_text s ++ after) (made (λ layout. part) fits (1 ∷ bytes) (λ layout. free) h sessions items rest after (front_behind bytes h sessions rest is_old got) more s e ∙ ap (λ (t : List ℕ). t ++ after) (behind_form s form)),
             )
 
 -- states of one form that are encoded alike are the same

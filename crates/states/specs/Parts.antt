@@ -5,4 +5,4 @@ use Rattle.states.specs.Origin.{state_from}
 
 -- the state of these parts; its token is still to be computed
 abbrev pub parts_of : Parts → StateView
-parts_of p = state_from p.origin p.origin.previous p.sessions p.pages
+parts_of p = state_from p.origin p.origin.previous p.sessions p.pages.items

@@ -6,16 +6,16 @@ use Rattle.token.specs.declared.Token.{Token}
 use Rattle.token.specs.declared.form.Form.{Form}
 use Rattle.token.specs.declared.form.Form.TheVariants.{Current}
 use Rattle.token.specs.Digest.{digest}
-use Rattle.token.specs.Digested.{DigestedView, IsDigested}
+use Rattle.token.specs.Digested.{DigestedView, AreDigested, sessions_digest}
 use Rattle.wire.specs.declared.token.TokenText.{TokenText}
 use Rattle.wire.specs.Token.{token_text}
-use Rattle.wire.specs.Session.{sessions_text, SessionsFit}
+use Rattle.wire.specs.Session.{SessionsFit}
 use Rattle.sessions.specs.Fresh.{Replies}
 use Rattle.items.specs.Map.{Items}
 use Rattle.pages.specs.Form.{root_by, FitForm}
 
 pub record StateView : Type 0 where
-  -- over how many pages the root in its token is
+  -- how the digests in its token are computed
   pub form : Form
   -- how many batches led to it, and the token of the state before it
   pub number : ℕ
@@ -44,7 +44,7 @@ told_by s = record {
   moment = s.moment;
   batch = s.batch;
   root = root_by s.form s.items;
-  sessions = digest (sessions_text s.sessions);
+  sessions = sessions_digest s.form s.sessions;
 }
 
 -- the token of a state, recomputed
@@ -67,7 +67,7 @@ pub record IsState (s : StateView) : Type 0 where
 -- A state, and beside it the digest of its sessions.
 pub record IsStateBeside (digested : DigestedView) (s : StateView) : Type 0 where
   pub state : IsState s
-  pub sessions : IsDigested (sessions_text s.sessions) digested
+  pub sessions : AreDigested s.form s.sessions digested
 
 -- a state is identified by its parts
 abbrev pub state_code : Coded Form → Coded Token → Coded Replies → Coded Items → Coded StateView

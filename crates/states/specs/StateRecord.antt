@@ -1,8 +1,8 @@
 -- The record of a state, by itself and over the state before it.
-use Rattle.std.specs.Prelude.{ℕ, List, ◌≡◌, ◌<◌, ◌++◌, flat_map, Option, Some, None, Result, Ok, Err, if◌then◌else◌}
+use Rattle.std.specs.Prelude.{ℕ, Bool, true, false, List, [], ◌∷◌, ◌≡◌, ◌<◌, ◌++◌, flat_map, Option, Some, None, Result, Ok, Err, if◌then◌else◌}
 use Rattle.std.specs.List.{range_with_len}
 use Rattle.std.specs.Str.{bytes_eq}
-use Rattle.std.specs.FinMap.{entries as entries_of}
+use Rattle.std.specs.FinMap.{entries}
 use Rattle.base.specs.declared.fault.Fault.{Fault}
 use Rattle.items.specs.declared.item.Item.{Item}
 use Rattle.items.specs.Map.{Items}
@@ -13,8 +13,11 @@ use Rattle.wire.specs.Field.{option_text}
 use Rattle.wire.specs.Item.{page_text}
 use Rattle.wire.specs.Session.{sessions_text}
 use Rattle.token.specs.Token.{token_bytes}
-use Rattle.pages.specs.Page.{PageState, page_entries, page_count}
-use Rattle.pages.specs.Joined.{IsOwn}
+use Rattle.pages.specs.Page.{page_items, page_count}
+use Rattle.pages.specs.Layout.{text_in}
+use Rattle.pages.specs.Form.{layout_of}
+use Rattle.pages.specs.Others.{has_page}
+use Rattle.pages.specs.declared.layout.Layout.{Layout}
 use Rattle.states.specs.declared.head.Head.{Head}
 use Rattle.states.specs.State.{StateView, IsState, initial_state}
 use Rattle.states.specs.Origin.{origin_of, state_from, told_text, origin_text}
@@ -39,31 +42,38 @@ state_of h sessions items = state_from h.origin h.token sessions items
 abbrev pub each_page : (ℕ → List ℕ) → List ℕ
 each_page text = flat_map text (range_with_len 0 page_count)
 
-unfoldable pub pages_text : Items → List ℕ
-pages_text m = each_page (λ p. page_text (page_entries m p))
+unfoldable pub pages_text : Layout → Items → List ℕ
+pages_text layout m = each_page (λ p. text_in layout (page_items m p))
 
 unfoldable pub state_text : StateView → List ℕ
-state_text s = head_text (head_of_state s) ++ sessions_text s.sessions ++ pages_text s.items
+state_text s = head_text (head_of_state s) ++ sessions_text s.sessions ++ pages_text (layout_of s.form) s.items
 
--- a page where it is not the same as before; pages with one text are the same
+-- entries that are not the same as before; those with one text are the same
 abbrev pub changed_page : List (List ℕ × Item) → List (List ℕ × Item) → Option (List (List ℕ × Item))
 changed_page before after = if bytes_eq (page_text before) (page_text after) then None else Some after
 
--- 0 for the same page, or 1 and the page
-abbrev pub change_text : List (List ℕ × Item) → List (List ℕ × Item) → List ℕ
-change_text before after = option_text page_text (changed_page before after)
+-- the same of items
+abbrev pub changed_items : Items → Items → Option Items
+changed_items before after = if bytes_eq (page_text (entries before)) (page_text (entries after)) then None else Some after
 
-unfoldable pub changes_text : Items → Items → List ℕ
-changes_text before after = each_page (λ p. change_text (page_entries before p) (page_entries after p))
+-- 0 for the same page, or 1 and the page in this layout
+abbrev pub change_text : Layout → Items → Items → List ℕ
+change_text layout before after = option_text (text_in layout) (changed_items before after)
+
+unfoldable pub changes_text : Layout → Items → Items → List ℕ
+changes_text layout before after = each_page (λ p. change_text layout (page_items before p) (page_items after p))
+
+-- a page that is in the set is 1 and its text in this layout, and another one 0
+abbrev pub flagged_page : Layout → Bool → Items → List ℕ
+flagged_page layout true m = 1 ∷ text_in layout m
+flagged_page layout false m = 0 ∷ []
+
+unfoldable pub flagged_text : Layout → List Bool → Items → List ℕ
+flagged_text layout changed m = each_page (λ p. flagged_page layout (has_page changed p) (page_items m p))
 
 -- a state over the items of the state before it
 unfoldable pub after_text : Items → StateView → List ℕ
-after_text before s = head_text (head_of_state s) ++ sessions_text s.sessions ++ changes_text before s.items
-
--- a page of these entries, whose keys are all of its number
-abbrev pub MakesPage : ℕ → List (List ℕ × Item) → Result PageState Fault → Type 0
-MakesPage p entries (Ok page) = IsOwn p page.items × (entries_of page.items ≡ entries)
-MakesPage p entries (Err e) = Refused e ((m : Items) → IsOwn p m → entries_of m ≡ entries → ⊥)
+after_text before s = head_text (head_of_state s) ++ sessions_text s.sessions ++ changes_text (layout_of s.form) before s.items
 
 -- a state that no batch led to, and one that a batch led to
 abbrev pub IsFirstState : StateView → Type 0

@@ -20,10 +20,10 @@ mod state_record;
 mod version;
 mod within;
 
-pub use form::fits_form;
+pub use form::{FEW_ITEMS, fits_form, form_over, layout_of};
 pub use head::Head;
 pub use origin::Origin;
-pub use page_texts::own_page;
+pub use page_texts::take_page;
 pub use record_laws::states_are_told_apart;
 pub use state::{Parts, State};
 pub use version::Version;

@@ -8,8 +8,7 @@ ghost use Rattle.pages.specs.Form.{HasTexts};
 ghost use Rattle.pages.specs.Old.{old_entries};
 ghost use Rattle.states.specs.OldRecord.{old_pages_text, old_changes_text, AreOfOld, AreInPlace, AreOthers};
 
-use crate::changes::are_same;
-use pages::{Pages, Snapshot, page_of};
+use pages::{Layout, Pages, Snapshot, page_of};
 use proto::Fault;
 use std::alloc::{AllocError, Global};
 use token::OLD_PAGES;
@@ -71,41 +70,56 @@ pub fn take_old_pages<'b>(alloc: Global, bytes: &'b [u8]) -> Result<(Pages, &'b 
     Ok((pages, rest))
 }
 
-/// Whether an old page has the same entries in both.
-fn is_same_old(before: &Snapshot, after: &Snapshot, number: usize) -> bool
+/// Whether an old page has the same entries in both. The only error is a failed allocation.
+fn is_same_old(
+    alloc: Global,
+    before: &Snapshot,
+    after: &Snapshot,
+    number: usize,
+) -> Result<bool, AllocError>
     requires { number < OLD_PAGES }
-    ensures { IsTrue result ↔ (old_entries before.now number ≡ old_entries after.now number) }
+    ensures { IfOk result (λ same. IsTrue same ↔ (old_entries before.now.items number ≡ old_entries after.now.items number)) }
 {
     for part in 0..4usize {
-        let place = number + part * OLD_PAGES;
-        if !are_same(before.page(place), after.page(place)) {
-            return false;
+        if !before.is_same_page(alloc, after, number + part * OLD_PAGES)? {
+            return Ok(false);
         }
     }
-    true
+    Ok(true)
 }
 
-fn is_other(before: &Snapshot, after: &Snapshot, given: &Option<Entries>, number: usize) -> bool
+fn is_other(
+    alloc: Global,
+    before: &Snapshot,
+    after: &Snapshot,
+    given: &Option<Entries>,
+    number: usize,
+) -> Result<bool, AllocError>
     requires { number < OLD_PAGES }
-    ensures { IsTrue result ↔ IfSome given.now (λ es. old_entries before.now number ≢ old_entries after.now number) }
+    ensures { IfOk result (λ other. IsTrue other ↔ IfSome given.now (λ es. old_entries before.now.items number ≢ old_entries after.now.items number)) }
 {
     match given {
-        None => true,
-        Some(_) => !is_same_old(before, after, number),
+        None => Ok(true),
+        Some(_) => Ok(!is_same_old(alloc, before, after, number)?),
     }
 }
 
-/// Whether what is given of each old page is another than before.
-fn are_others(before: &Snapshot, after: &Snapshot, given: &[Option<Entries>]) -> bool
+/// Whether what is given of each old page is another than before. The only error is a failed allocation.
+fn are_others(
+    alloc: Global,
+    before: &Snapshot,
+    after: &Snapshot,
+    given: &[Option<Entries>],
+) -> Result<bool, AllocError>
     requires { length given.now ≡ OLD_PAGES }
-    ensures { IsTrue result ↔ AreOthers before.now after.now given.now }
+    ensures { IfOk result (λ others. IsTrue others ↔ AreOthers before.now.items after.now.items given.now) }
 {
     for number in 0..OLD_PAGES {
-        if !is_other(before, after, &given[number], number) {
-            return false;
+        if !is_other(alloc, before, after, &given[number], number)? {
+            return Ok(false);
         }
     }
-    true
+    Ok(true)
 }
 
 /// The items whose old pages' encoding over those before is a prefix of the bytes: of each old page
@@ -114,20 +128,21 @@ pub fn take_old_changes<'b>(
     alloc: Global,
     before: &Snapshot,
     bytes: &'b [u8],
-) -> Result<(Snapshot, &'b [u8]), Fault>
-    ensures { Takes (HasTexts Old) (old_changes_text before.now) bytes.now result }
+) -> Result<(Pages, &'b [u8]), Fault>
+    ensures { Takes (HasTexts Old) (old_changes_text before.now.items) bytes.now result }
 {
     let (given, rest) = take_values::<Option<Entries>>(alloc, OLD_PAGES, bytes)?;
     let given = given.as_slice();
     if !are_in_place(given) {
         return Err(Fault::BadRecord);
     }
-    let after = before.share()?.open().with_old_pages(alloc, given)?.seal();
-    if !are_others(before, &after, given) {
+    let pages = before.share()?.open().with_old_pages(alloc, given)?;
+    let after = pages.seal(Layout::Sorted)?;
+    if !are_others(alloc, before, &after, given)? {
         return Err(Fault::BadRecord);
     }
     if !after.has_old_texts() {
         return Err(Fault::BadRecord);
     }
-    Ok((after, rest))
+    Ok((after.open(), rest))
 }

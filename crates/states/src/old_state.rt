@@ -13,6 +13,7 @@ use crate::origin::Told;
 use crate::state::State;
 use crate::within::{has_blocks_within, has_replies_within};
 use batches::Batch;
+use pages::Layout;
 use proto::Fault;
 use sessions::Sessions;
 use std::alloc::{AllocError, Global};
@@ -61,7 +62,8 @@ fn take_old_later(alloc: Global, bytes: &[u8]) -> Result<(State, &[u8]), Fault>
 {
     let ((head, sessions), rest) = take_front(alloc, bytes)?;
     let (pages, rest) = take_old_pages(alloc, rest)?;
-    let state = head.later(alloc, sessions, pages.seal())?;
+    let sealed = pages.seal(Layout::Sorted)?;
+    let state = head.later(alloc, sessions, sealed)?;
     Ok((state, rest))
 }
 
@@ -94,7 +96,8 @@ impl State {
         }
         let ((head, sessions), rest) = take_front(alloc, bytes)?;
         let (pages, rest) = take_old_changes(alloc, before.pages(), rest)?;
-        let state = head.successor(alloc, before, batch, sessions, pages)?;
+        let sealed = pages.seal(Layout::Sorted)?;
+        let state = head.successor(alloc, before, batch, sessions, sealed)?;
         Ok((state, rest))
     }
 }

@@ -16,7 +16,7 @@ use wire::{Record, Sink};
 /// All of a state but its token, its sessions and its items.
 #[derive(Clone, Copy, PartialEq, Eq)]
 pub struct Origin {
-    /// Over how many pages the root in its token is.
+    /// How the digests in its token are computed.
     pub form: Form,
     /// How many batches led to it.
     pub number: u64,

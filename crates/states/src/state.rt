@@ -1,17 +1,17 @@
 ghost use Rattle.std.specs.Prelude.{◌≡◌, ◌<◌, ◌^◌, IfOk, OnOk};
 ghost use Rattle.wire.specs.Record.{Puts};
 ghost use Rattle.wire.specs.Session.{sessions_text, SessionsFit};
-ghost use Rattle.token.specs.Digested.{IsDigested};
+ghost use Rattle.token.specs.Digested.{AreDigested};
 ghost use Rattle.states.specs.State.{IsState, initial_state, with_token};
 ghost use Rattle.states.specs.Origin.{origin_of};
 ghost use Rattle.states.specs.Parts.{parts_of};
-ghost use Rattle.states.specs.Followed.{state_after, state_after_in};
-ghost use Rattle.pages.specs.Form.{FitForm};
+ghost use Rattle.states.specs.Followed.{state_after, state_after_in, form_after};
+ghost use Rattle.pages.specs.Form.{FitForm, layout_of};
 
 use crate::form::root_of_form;
 use crate::origin::Origin;
 use batches::Batch;
-use pages::{Pages, Snapshot};
+use pages::{Layout, Pages, Snapshot};
 use sessions::Sessions;
 use std::alloc::{AllocError, Global};
 use std::marker::Model;
@@ -44,6 +44,8 @@ impl Model for State {
     ghost use Rattle.sessions.specs.contracts.sessions.LastReply as kept;
     ghost use Rattle.token.specs.contracts.form.Form as of_form;
     ghost use Rattle.token.specs.contracts.Token as known;
+    ghost use Rattle.std.specs.Prelude.{◌≡◌};
+    ghost use Rattle.pages.specs.Form.{layout_of};
     ghost use Rattle.states.specs.Origin.{state_from};
     ghost use Rattle.states.specs.State.{StateView, IsStateBeside, state_code};
 
@@ -51,9 +53,9 @@ impl Model for State {
 
     ghost coded = { state_code of_form.the_row.coded known.the_row.coded (map.code coded_ℕ kept.the_row.coded) (map.code (coded_list coded_ℕ) item.the_row.coded) };
 
-    ghost view = { λ s. state_from s.origin s.token s.sessions s.pages };
+    ghost view = { λ s. state_from s.origin s.token s.sessions s.pages.items };
 
-    ghost invariant = { λ s. IsStateBeside s.digested (state_from s.origin s.token s.sessions s.pages) };
+    ghost invariant = { λ s. IsStateBeside s.digested (state_from s.origin s.token s.sessions s.pages.items) × (s.pages.layout ≡ layout_of s.origin.form) };
 }
 
 impl State {
@@ -62,7 +64,8 @@ impl State {
         ensures { IfOk result (λ state. state ≡ initial_state) }
     {
         let sessions = Sessions::new(alloc)?;
-        let digested = Digested::of_sessions(alloc, &sessions);
+        let digested = Digested::of_sessions(alloc, Form::Current, &sessions);
+        let pages = Pages::new(alloc)?.seal(Layout::Sorted)?;
         Ok(State {
             origin: Origin {
                 form: Form::Current,
@@ -75,7 +78,7 @@ impl State {
             token: Token([0; 32]),
             sessions,
             digested,
-            pages: Pages::new(alloc)?.seal(),
+            pages,
         })
     }
 
@@ -86,7 +89,7 @@ impl State {
         self.origin
     }
 
-    /// Over how many pages the root in its token is.
+    /// How the digests in its token are computed.
     pub fn form(&self) -> Form
         ensures { result ≡ self.now.form }
     {
@@ -153,7 +156,8 @@ impl State {
 
     /// Its items.
     pub fn pages(&self) -> &Snapshot
-        ensures { result.now ≡ self.now.items }
+        ensures items { result.now.items ≡ self.now.items }
+        ensures laid { result.now.layout ≡ layout_of self.now.form }
     {
         &self.pages
     }
@@ -183,10 +187,11 @@ impl State {
     /// The text of its sessions is kept where there is memory for it; there is no error.
     pub fn of_parts(alloc: Global, parts: Parts) -> State
         requires number { (0 < parts.origin.number) × (parts.origin.number < 2 ^ 58) }
-        requires form { FitForm parts.origin.form parts.pages }
+        requires form { FitForm parts.origin.form parts.pages.items }
+        requires laid { parts.pages.layout ≡ layout_of parts.origin.form }
         ensures { result ≡ with_token (parts_of parts) }
     {
-        let digested = Digested::of_sessions(alloc, &parts.sessions);
+        let digested = Digested::of_sessions(alloc, parts.origin.form, &parts.sessions);
         State::of_digested(parts, digested)
     }
 
@@ -194,8 +199,9 @@ impl State {
     /// no memory.
     pub fn of_digested(parts: Parts, digested: Digested) -> State
         requires number { (0 < parts.origin.number) × (parts.origin.number < 2 ^ 58) }
-        requires form { FitForm parts.origin.form parts.pages }
-        requires digested { IsDigested (sessions_text parts.sessions) digested }
+        requires form { FitForm parts.origin.form parts.pages.items }
+        requires laid { parts.pages.layout ≡ layout_of parts.origin.form }
+        requires digested { AreDigested parts.origin.form parts.sessions digested }
         ensures { result ≡ with_token (parts_of parts) }
     {
         let _entries = parts.sessions.entries();
@@ -222,23 +228,26 @@ impl State {
         }
     }
 
-    /// The state that a batch makes of this one, with its token. The digest is that of the sessions.
-    /// This takes no memory.
+    /// The state that a batch makes of this one, with its token. The digest is that of the sessions, and the
+    /// form that of the items that are there when the batch begins. This takes no memory.
     pub fn followed_by(
         &self,
+        form: Form,
         batch: &Batch,
         sessions: Sessions,
         digested: Digested,
         pages: Snapshot,
     ) -> State
-        requires { IsDigested (sessions_text sessions) digested }
-        ensures followed { result ≡ state_after self.now batch.now sessions pages }
+        requires form { form ≡ form_after self.now batch.now }
+        requires laid { pages.layout ≡ layout_of form }
+        requires digested { AreDigested form sessions digested }
+        ensures followed { result ≡ state_after self.now batch.now sessions pages.items }
         ensures fit { SessionsFit result.sessions }
     {
-        self.followed_in(Form::Current, batch, sessions, digested, pages)
+        self.followed_in(form, batch, sessions, digested, pages)
     }
 
-    /// The same, of a form: that of a state that was read.
+    /// The same, of whatever form: that of a state that was read.
     pub(crate) fn followed_in(
         &self,
         form: Form,
@@ -247,9 +256,10 @@ impl State {
         digested: Digested,
         pages: Snapshot,
     ) -> State
-        requires digested { IsDigested (sessions_text sessions) digested }
-        requires form { FitForm form pages }
-        ensures followed { result ≡ state_after_in form self.now batch.now sessions pages }
+        requires digested { AreDigested form sessions digested }
+        requires form { FitForm form pages.items }
+        requires laid { pages.layout ≡ layout_of form }
+        ensures followed { result ≡ state_after_in form self.now batch.now sessions pages.items }
         ensures fit { SessionsFit result.sessions }
     {
         let origin = Origin {

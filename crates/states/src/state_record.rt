@@ -1,14 +1,16 @@
 //! The record of a state, by itself and over the state before it.
 
-ghost use Rattle.std.specs.Prelude.{◌≡◌, ◌++◌, OnOk};
+ghost use Rattle.std.specs.Prelude.{◌≡◌, ◌++◌, IfOk, OnOk};
+ghost use Rattle.items.specs.Map.{Items};
 ghost use Rattle.wire.specs.Record.{Puts, Takes};
-ghost use Rattle.pages.specs.Others.{AreSameBeside};
+ghost use Rattle.pages.specs.Others.{AreSameBeside, AreChanged};
+ghost use Rattle.pages.specs.Form.{layout_of};
 ghost use Rattle.states.specs.State.{IsState};
 ghost use Rattle.states.specs.Followed.{IsSuccessor};
 ghost use Rattle.states.specs.StateRecord.{IsFirstState, IsLaterState, MakesLater, MakesSuccessor, state_text, after_text};
 
-use crate::changes::{put_changes, take_changes};
-use crate::form::fits_form;
+use crate::changes::{changed_pages, put_changes, take_changes};
+use crate::form::{fits_form, layout_of};
 use crate::head::Head;
 use crate::page_texts::{put_pages, take_pages};
 use crate::state::{Parts, State};
@@ -16,7 +18,7 @@ use batches::{Batch, GREATEST_NUMBER};
 use pages::{PageSet, Snapshot};
 use proto::Fault;
 use sessions::Sessions;
-use std::alloc::Global;
+use std::alloc::{AllocError, Global};
 use token::Digested;
 use wire::{Record, Sink};
 
@@ -29,7 +31,8 @@ impl Head {
         sessions: Sessions,
         pages: Snapshot,
     ) -> Result<State, Fault>
-        ensures { MakesLater self.now sessions pages result }
+        requires { pages.layout ≡ layout_of self.now.origin.form }
+        ensures { MakesLater self.now sessions pages.items result }
     {
         if self.origin.number == 0 {
             return Err(Fault::BadRecord);
@@ -63,12 +66,13 @@ impl Head {
         sessions: Sessions,
         pages: Snapshot,
     ) -> Result<State, Fault>
-        ensures { MakesSuccessor before.now batch.now self.now sessions pages result }
+        requires { pages.layout ≡ layout_of self.now.origin.form }
+        ensures { MakesSuccessor before.now batch.now self.now sessions pages.items result }
     {
         if !fits_form(self.origin.form, &pages) {
             return Err(Fault::BadRecord);
         }
-        let digested = Digested::of_sessions(alloc, &sessions);
+        let digested = Digested::of_sessions(alloc, self.origin.form, &sessions);
         let state = before.followed_in(self.origin.form, batch, sessions, digested, pages);
         if !state.head().is_same(self) {
             return Err(Fault::BadRecord);
@@ -95,8 +99,10 @@ fn take_later(alloc: Global, bytes: &[u8]) -> Result<(State, &[u8]), Fault>
     ensures { Takes IsLaterState state_text bytes.now result }
 {
     let ((head, sessions), rest) = <(Head, Sessions)>::take(alloc, bytes)?;
-    let (pages, rest) = take_pages(alloc, rest)?;
-    let state = head.later(alloc, sessions, pages.seal())?;
+    let layout = layout_of(head.origin.form);
+    let (pages, rest) = take_pages(alloc, layout, rest)?;
+    let sealed = pages.seal(layout)?;
+    let state = head.later(alloc, sessions, sealed)?;
     Ok((state, rest))
 }
 
@@ -124,22 +130,29 @@ impl State {
         }
     }
 
-    /// Writes its record over the state before it: a page that is the same in both is one byte. Pages
-    /// that are not in the set are the same in both, and no item of them is read. The texts that are
-    /// kept are shared as by `put`.
-    #[tactic(auto, unfolding(crate::specs::StateRecord::after_text))]
-    pub fn put_after<S: Sink>(
+    /// The pages in which the items of this state are not those of the one before. Pages that are not in
+    /// the set are the same in both, and no item of them is read. The only error is a failed allocation.
+    pub fn changed_after(
         &self,
+        alloc: Global,
         before: &State,
         may_differ: &PageSet,
-        sink: &mut S,
-    ) -> Result<(), S::Refusal>
+    ) -> Result<PageSet, AllocError>
         requires { AreSameBeside may_differ.now before.now.items self.now.items }
-        ensures { OnOk result (Puts S.holds (after_text before.now.items self.now) sink.old sink.new) }
+        ensures { IfOk result (λ changed. AreChanged changed before.now.items self.now.items) }
+    {
+        changed_pages(alloc, before.pages(), self.pages(), may_differ)
+    }
+
+    /// Writes its record over a state before it: a page that is the same in both is one byte. The set has
+    /// just those that are not the same. The texts that are kept are shared as by `put`.
+    #[tactic(auto, unfolding(crate::specs::StateRecord::after_text))]
+    pub fn put_after<S: Sink>(&self, changed: &PageSet, sink: &mut S) -> Result<(), S::Refusal>
+        ensures { (before : Items) → AreChanged changed.now before self.now.items → OnOk result (Puts S.holds (after_text before self.now) sink.old sink.new) }
     {
         self.head().put(sink)?;
         self.put_sessions(sink)?;
-        put_changes(before.pages(), self.pages(), may_differ, sink)
+        put_changes(self.pages(), changed, sink)
     }
 
     /// `take_after` of a record of today. Pages that are the same are shared.
@@ -152,8 +165,10 @@ impl State {
         ensures { Takes (IsSuccessor before.now batch.now) (after_text before.now.items) bytes.now result }
     {
         let ((head, sessions), rest) = <(Head, Sessions)>::take(alloc, bytes)?;
-        let (pages, rest) = take_changes(alloc, before.pages(), rest)?;
-        let state = head.successor(alloc, before, batch, sessions, pages.seal())?;
+        let layout = layout_of(head.origin.form);
+        let (pages, rest) = take_changes(alloc, layout, before.pages(), rest)?;
+        let sealed = pages.seal(layout)?;
+        let state = head.successor(alloc, before, batch, sessions, sealed)?;
         Ok((state, rest))
     }
 }

@@ -3,5 +3,7 @@ pub mod FormLaws
 pub mod Digest
 pub mod Merged
 pub mod Digested
+pub mod Told
+pub mod ListedDigests
 pub mod Token
 pub mod TokenLaws

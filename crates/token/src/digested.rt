@@ -4,9 +4,12 @@ ghost use Rattle.wire.specs.Item.{page_text, PageFits};
 ghost use Rattle.wire.specs.Session.{sessions_text, SessionsFit};
 ghost use Rattle.wire.specs.Record.{Puts};
 ghost use Rattle.token.specs.Digest.{digest as digest_of};
-ghost use Rattle.token.specs.Digested.{IsDigested};
+ghost use Rattle.token.specs.Digested.{IsDigested, AreDigested};
+ghost use Rattle.token.specs.Told.{told_sessions_text};
 
 use crate::digests::{page_digest, sessions_digest};
+use crate::form::Form;
+use crate::told::told_digest_of;
 use base::{Entry, Text};
 use items::Item;
 use proto::Key;
@@ -103,12 +106,23 @@ impl Digested {
         }
     }
 
-    /// The digest of the text of what is kept of all clients. The text is written once, and kept; the
-    /// data of large values is shared with their replies.
+    /// The digest of what is kept of all clients, in a state of this form. Where it is that of the text,
+    /// the text is written once, and kept; the data of large values is shared with their replies.
     /// Where there is no memory for it the digest is made without it; there is no error.
-    pub fn of_sessions(alloc: Global, sessions: &Sessions) -> Digested
-        ensures digested { IsDigested (sessions_text sessions.now) result }
+    pub fn of_sessions(alloc: Global, form: Form, sessions: &Sessions) -> Digested
+        ensures digested { AreDigested form sessions.now result }
         ensures fit { SessionsFit sessions.now }
+    {
+        let _entries = sessions.entries();
+        match form {
+            Form::Old | Form::Current => Digested::of_whole(alloc, sessions),
+            Form::Tree => Digested::of_told(sessions),
+        }
+    }
+
+    /// The digest of the text of what is kept of all clients.
+    fn of_whole(alloc: Global, sessions: &Sessions) -> Digested
+        ensures { IsDigested (sessions_text sessions.now) result }
     {
         let mut text = text_for(alloc, sessions.entries().len());
         match sessions.put(&mut text) {
@@ -117,6 +131,17 @@ impl Digested {
                 digest: sessions_digest(sessions),
                 text: None,
             },
+        }
+    }
+
+    /// The digest of the told text of what is kept of all clients.
+    fn of_told(sessions: &Sessions) -> Digested
+        ensures digest { result.0 ≡ digest_of (told_sessions_text sessions.now) }
+        ensures kept { result.1 ≡ None }
+    {
+        Digested {
+            digest: told_digest_of(sessions),
+            text: None,
         }
     }
 
@@ -141,7 +166,7 @@ impl Digested {
     /// Writes the text of the sessions that it is of: the pieces that are kept, shared, or else the
     /// sessions one by one.
     pub fn put_sessions<S: Sink>(&self, sessions: &Sessions, sink: &mut S) -> Result<(), S::Refusal>
-        requires { IsDigested (sessions_text sessions.now) self.now }
+        requires { IfSome self.now.1 (λ bytes. bytes ≡ sessions_text sessions.now) }
         ensures { OnOk result (Puts S.holds (sessions_text sessions.now) sink.old sink.new) }
     {
         match &self.text {

@@ -5,7 +5,7 @@ use wire::{Record, Sink};
 /// How many bytes the data of an item has at most in a state of the old form.
 pub const OLD_BLOCK_BYTES: usize = 65536;
 
-/// Over how many pages of its items the root in a state's token is computed.
+/// How the digests in a state's token are computed.
 ///
 /// The items of every state stand on `PAGES` pages. A state that was read from a record of version 1
 /// keeps the token that it had there: its root is over 64 pages, each of them four of today's.
@@ -13,8 +13,12 @@ pub const OLD_BLOCK_BYTES: usize = 65536;
 pub enum Form {
     /// 64 pages: a state of a record of version 1. It is 1 in a record.
     Old,
-    /// `PAGES` pages: the first state, and whatever a batch makes. It is 2 in a record.
+    /// Over the texts of `PAGES` pages: the first state, and what a batch makes of few items. It is 2 in a
+    /// record.
     Current,
+    /// Over the Merkle trees of `PAGES` pages, and with the digests of long replies: what a batch makes of
+    /// many items. It is 3 in a record.
+    Tree,
 }
 
 impl Record for Form {
@@ -31,6 +35,7 @@ impl Record for Form {
         match self {
             Form::Old => sink.put(&[1u8]),
             Form::Current => sink.put(&[2u8]),
+            Form::Tree => sink.put(&[3u8]),
         }
     }
 
@@ -39,6 +44,7 @@ impl Record for Form {
         match bytes {
             [1, rest @ ..] => Ok((Form::Old, rest)),
             [2, rest @ ..] => Ok((Form::Current, rest)),
+            [3, rest @ ..] => Ok((Form::Tree, rest)),
             _ => Err(Fault::BadRecord),
         }
     }

@@ -2,21 +2,30 @@
 //!
 //! It stands on `wire`, whose texts it digests, on `base` (entries, texts) and on `sha2`, which is
 //! SHA-256 by FIPS 180-4. The layers above use `Token::new` and the digests beside it: each is the
-//! word `digest` of the text of its arguments. They keep a digest beside its text as `Digested`, the
-//! one thing here that takes memory. No layer above computes with SHA-256.
+//! word `digest` of the text of its arguments. They keep a digest beside its text as `Digested`, and
+//! the digests of long replies beside the sessions as `ReplyDigests`: nothing else here takes memory.
+//! No layer above computes with SHA-256.
 #![tactic(auto)]
 
 mod digested;
 mod digests;
 mod form;
+mod laws;
+mod long_reply;
 mod merged;
 mod record;
+mod reply_digests;
+mod told;
 mod tree;
 
 pub use digested::Digested;
 pub use digests::{batch_digest, page_digest, sessions_digest};
 pub use form::{Form, OLD_BLOCK_BYTES};
+pub use laws::{told_texts_are_told_apart, told_texts_tell_sessions};
+pub use long_reply::MOST_SHORT_BYTES;
 pub use merged::merged_digest;
+pub use reply_digests::ReplyDigests;
+pub use told::{told_digest, told_digest_of};
 pub use tree::{HEIGHT, OLD_HEIGHT, OLD_PAGES, PAGES, inner_digest, root};
 use wire::{TokenText, digest};
 

@@ -2,7 +2,8 @@
 use Rattle.std.proofs.Common.{ℕ, ◌<◌, Bool, [], arith}
 use Rattle.std.specs.Prelude.{slice_index_or}
 use Rattle.std.specs.Str.{bytes_eq}
-use Rattle.pages.specs.Page.{page_count, page_items, page_digest}
+use Rattle.pages.specs.Page.{page_count, page_items, page_digest_in}
+use Rattle.pages.specs.Form.{layout_of}
 use Rattle.states.specs.State.{StateView, IsState}
 use Rattle.states.proofs.PageTextLemmas.{own_page_items}
 use Rattle.transfer.specs.declared.need.Need.{Need}
@@ -11,7 +12,7 @@ use Rattle.transfer.proofs.PickLemmas.{rising, few, each}
 
 pub answer_is_parcel : (s : StateView) (q : Need) → IsState s → 0 < s.number → IsParcel (answer_of s q)
 answer_is_parcel s q is later =
-    let same : ℕ → Bool = λ k. bytes_eq (page_digest s.items k) (slice_index_or q.digests k []) in
+    let same : ℕ → Bool = λ k. bytes_eq (page_digest_in (layout_of s.form) s.items k) (slice_index_or q.digests k []) in
     record {
       later = later;
       few = omega (arith, is.few);

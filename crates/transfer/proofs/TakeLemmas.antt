@@ -12,8 +12,8 @@ use Rattle.decrees.specs.Votes.{token_eq}
 use Rattle.decrees.proofs.TokenLemmas.{token_eq-true}
 use Rattle.items.specs.declared.item.Item.{Item}
 use Rattle.items.specs.Map.{Items}
-use Rattle.pages.specs.Page.{page_count, page_items, page_digest, of_each}
-use Rattle.pages.specs.Form.{fits_form}
+use Rattle.pages.specs.Page.{page_count, page_items, page_digest_in, of_each}
+use Rattle.pages.specs.Form.{fits_form, layout_of}
 use Rattle.pages.specs.Joined.{joined, parts}
 use Rattle.pages.proofs.JoinedLemmas.{no_items, same_number}
 use Rattle.pages.proofs.PartLemmas.{joined-parts}
@@ -73,20 +73,20 @@ takes_what_was_asked own p n token s e = elim (cases_Bool (asked own p n token))
   | inr wrong ↦ absurd (none_is_not s (sym (ap (λ b. if b then Some (parcel_state own p) else None) wrong) ∙ e))
 ]
 
-module _ (own s : StateView) (tells : DigestsTellPages s.items own.items) where
+module _ (own s : StateView) (tells : DigestsTellPages (layout_of s.form) (layout_of own.form) s.items own.items) where
   -- the digests of page k are the same
   abbrev same : ℕ → Bool
-  same k = bytes_eq (page_digest s.items k) (slice_index_or (need_of own).digests k [])
+  same k = bytes_eq (page_digest_in (layout_of s.form) s.items k) (slice_index_or (need_of own).digests k [])
 
-  told : (k : ℕ) → k < page_count → slice_index_or (need_of own).digests k [] ≡ page_digest own.items k
-  told k l = get_or-map-range_with_len (page_digest own.items) 0 page_count k k [] l (omega arith)
+  told : (k : ℕ) → k < page_count → slice_index_or (need_of own).digests k [] ≡ page_digest_in (layout_of own.form) own.items k
+  told k l = get_or-map-range_with_len (page_digest_in (layout_of own.form) own.items) 0 page_count k k [] l (omega arith)
 
   page_is : (k : ℕ) → k < page_count → page_from own.items (differing_pages s (need_of own)) k ≡ page_items s.items k
   page_is k l = ap (λ o. option_map_or (λ (m : Items). m) o (page_items own.items k)) (picked same (page_items s.items) k 0 page_count (omega arith) (omega (arith, l))) ∙ by (same k) refl
     where
       by : (b : Bool) → same k ≡ b → option_map_or (λ (m : Items). m) (cond b None (Some (page_items s.items k))) (page_items own.items k) ≡ page_items s.items k
       by true e =
-          let digests : page_digest s.items k ≡ page_digest own.items k = (bytes_eq-Decides (page_digest s.items k) (slice_index_or (need_of own).digests k [])).0 e ∙ told k l in
+          let digests : page_digest_in (layout_of s.form) s.items k ≡ page_digest_in (layout_of own.form) own.items k = (bytes_eq-Decides (page_digest_in (layout_of s.form) s.items k) (slice_index_or (need_of own).digests k [])).0 e ∙ told k l in
           ap (λ (es : List (List ℕ × Item)). from_sorted es) (sym (tells k l digests))
       by false e = refl
 
@@ -100,7 +100,7 @@ module _ (own s : StateView) (tells : DigestsTellPages s.items own.items) where
 
   state_is : IsState s → 0 < s.number → parcel_state own.items (answer_of s (need_of own)) ≡ s
   state_is is later =
-      let whole : parcel_state own.items (answer_of s (need_of own)) ≡ with_token s = ap (λ (m : Items). with_token (parts_of (record { origin = origin_of s; sessions = s.sessions; pages = m }))) items_are in
+      let whole : parcel_state own.items (answer_of s (need_of own)) ≡ with_token s = ap (λ (m : Items). with_token (parts_of (record { origin = origin_of s; sessions = s.sessions; pages = record { items = m; layout = layout_of s.form } }))) items_are in
       whole ∙ sym (is.token later)
 
 pub hands_over : HandsOver

@@ -17,8 +17,8 @@ use Rattle.wire.specs.Number.{num}
 use Rattle.wire.specs.Field.{list_text, ListFits}
 use Rattle.wire.specs.Item.{page_text}
 use Rattle.wire.specs.Session.{sessions_text, SessionsFit}
-use Rattle.pages.specs.Page.{page_items, page_digest, page_count, of_each}
-use Rattle.pages.specs.Form.{fits_form}
+use Rattle.pages.specs.Page.{page_items, page_digest_in, page_count, of_each}
+use Rattle.pages.specs.Form.{fits_form, layout_of}
 use Rattle.pages.specs.Joined.{IsOwn, joined}
 use Rattle.states.specs.State.{StateView, with_token}
 use Rattle.states.specs.Parts.{parts_of}
@@ -46,7 +46,7 @@ pub record IsParcel (p : ParcelView) : Type 0 where
 
 -- page p of the state, where it has another digest than the need tells of
 abbrev pub differing : StateView → Need → ℕ → List (ℕ × Items)
-differing s q p = if bytes_eq (page_digest s.items p) (slice_index_or q.digests p []) then [] else (p, page_items s.items p) ∷ []
+differing s q p = if bytes_eq (page_digest_in (layout_of s.form) s.items p) (slice_index_or q.digests p []) then [] else (p, page_items s.items p) ∷ []
 
 -- the pages of the state that have other digests than the need tells of
 abbrev pub differing_pages : StateView → Need → List (ℕ × Items)
@@ -66,7 +66,7 @@ joined_with own pages = joined (of_each (page_from own pages))
 
 -- the state that a parcel makes over the own pages, with its token from scratch
 abbrev pub parcel_state : Items → ParcelView → StateView
-parcel_state own p = with_token (parts_of (record { origin = p.origin; sessions = p.sessions; pages = joined_with own p.pages }))
+parcel_state own p = with_token (parts_of (record { origin = p.origin; sessions = p.sessions; pages = record { items = joined_with own p.pages; layout = layout_of p.origin.form } }))
 
 -- it is one that its form may have
 abbrev pub makes_state : Items → ParcelView → Bool

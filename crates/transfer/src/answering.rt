@@ -23,8 +23,8 @@ fn add_differing(
     requires is { page.now.items ≡ page_items state.now.items number }
     ensures { OnOk result (pages.new.items ≡ pages.old.items ++ differing state.now need.now number) }
 {
-    if *state.pages().digest(number) != need.digests.as_slice()[number] {
-        pages.push(NumberedPage::new(number, page.clone()?))?;
+    if state.pages().digest(number) != need.digests.as_slice()[number] {
+        pages.push(NumberedPage::new(number, page.clone()?)?)?;
     }
     Ok(())
 }
@@ -46,8 +46,8 @@ fn differing_from(
 }
 
 /// What the node that said this needs of the state: its fields and its sessions, and of its pages those
-/// that have other digests. No digest is computed, and pages and sessions are shared, not copied. The
-/// only error is a failed allocation.
+/// that have other digests. No digest is computed. Sessions are shared, and pages whose entries are
+/// sorted; other pages are laid out anew, with shared entries. The only error is a failed allocation.
 pub fn answer(alloc: Global, state: &State, need: &Need) -> Result<Parcel, AllocError>
     requires { 0 < state.now.number }
     ensures { IfOk result (λ parcel. parcel ≡ answer_of state.now need.now) }

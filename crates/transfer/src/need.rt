@@ -1,7 +1,7 @@
 //! What a node that is behind says of the state that it has.
 
 ghost use Rattle.std.specs.Prelude.{◌≡◌, IfOk};
-ghost use Rattle.pages.specs.Page.{page_digest, of_each};
+ghost use Rattle.pages.specs.Page.{page_digest_in, of_each};
 ghost use Rattle.transfer.specs.Need.{need_of, need_text, IsNeed};
 ghost use Rattle.transfer.specs.NeedProofs.{need_prefix_free};
 
@@ -23,11 +23,11 @@ pub struct Need {
 }
 
 fn digests_of(alloc: Global, pages: &Snapshot) -> Result<Vec<[u8; 32]>, AllocError>
-    ensures { IfOk result (λ digests. digests.items ≡ of_each (page_digest pages.now)) }
+    ensures { IfOk result (λ digests. digests.items ≡ of_each (page_digest_in pages.now.layout pages.now.items)) }
 {
     let mut digests = Vec::with_capacity(alloc, PAGES)?;
     for number in 0..PAGES {
-        digests.push(*pages.digest(number))?;
+        digests.push(pages.digest(number))?;
     }
     Ok(digests)
 }

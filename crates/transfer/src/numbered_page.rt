@@ -6,14 +6,15 @@ ghost use Rattle.pages.specs.Joined.{ArePages, IsOwn, items_of};
 ghost use Rattle.transfer.specs.Parcel.{PageOf, numbered_text};
 ghost use Rattle.transfer.specs.ParcelProofs.{numbered_prefix_free};
 
-use pages::{PAGES, Page};
+use pages::{Layout, Page};
 use proto::Fault;
-use states::own_page;
+use states::take_page;
 use std::alloc::{AllocError, Global};
 use std::marker::Model;
-use wire::{Entries, Record, Sink};
+use wire::{Record, Sink};
 
-/// A page with its number, of which alone its keys are. Clones share the page.
+/// A page with its number, of which alone its keys are. Its entries are sorted, so that its text does not
+/// depend on the form of the state that it was part of. Clones share the page.
 #[derive(Drop)]
 pub struct NumberedPage {
     number: u8,
@@ -34,20 +35,25 @@ impl Model for NumberedPage {
 
     ghost view = { λ n. (n.number, n.page.items) };
 
-    ghost invariant = { λ n. PageOf (n.number, n.page.items) };
+    ghost use Rattle.std.specs.Prelude.{◌≡◌};
+    ghost use Rattle.pages.specs.declared.layout.Layout.TheVariants.{Sorted};
+
+    ghost invariant = { λ n. PageOf (n.number, n.page.items) × (n.page.layout ≡ Sorted) };
 }
 
 impl NumberedPage {
-    /// The page with its number.
-    pub fn new(number: usize, page: Page) -> NumberedPage
+    /// The page with its number, laid out in the order of keys. The only error is a failed allocation.
+    pub fn new(number: usize, page: Page) -> Result<NumberedPage, AllocError>
         requires within { number < page_count }
         requires own { IsOwn number page.items }
-        ensures { result ≡ (number, page.items) }
+        ensures { IfOk result (λ numbered. numbered ≡ (number, page.items)) }
     {
-        NumberedPage {
+        let mut page = page;
+        page.lay_out(Layout::Sorted)?;
+        Ok(NumberedPage {
             number: number as u8,
             page,
-        }
+        })
     }
 
     /// Its number.
@@ -90,12 +96,10 @@ impl Record for NumberedPage {
     }
 
     fn take<'b>(alloc: Global, bytes: &'b [u8]) -> Result<(NumberedPage, &'b [u8]), Fault> {
-        let ((number, entries), rest) = <(u8, Entries)>::take(alloc, bytes)?;
-        if PAGES <= usize::from(number) {
-            return Err(Fault::BadRecord);
-        }
-        let page = own_page(alloc, usize::from(number), entries)?;
-        Ok((NumberedPage { number, page }, rest))
+        let (number, page_bytes) = u8::take(alloc, bytes)?;
+        let number = usize::from(number);
+        let (page, rest) = take_page(alloc, Layout::Sorted, number, page_bytes)?;
+        Ok((NumberedPage::new(number, page)?, rest))
     }
 
     ghost prefix_free = { numbered_prefix_free };

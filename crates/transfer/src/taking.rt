@@ -2,6 +2,7 @@
 
 ghost use Rattle.std.specs.Prelude.{◌≡◌, [], Some, None, IfOk, IfErr};
 ghost use Rattle.wire.specs.Record.{Refused};
+ghost use Rattle.pages.specs.Form.{layout_of};
 ghost use Rattle.pages.specs.Page.{of_each};
 ghost use Rattle.pages.specs.Joined.{ArePages, items_of, joined};
 ghost use Rattle.transfer.specs.Parcel.{page_from, joined_with, take_of};
@@ -9,9 +10,9 @@ ghost use Rattle.transfer.specs.Parcel.{page_from, joined_with, take_of};
 use crate::numbered_page::NumberedPage;
 use crate::parcel::Parcel;
 use executor::Committed;
-use pages::{Page, Pages, Snapshot};
+use pages::{Layout, Page, Pages, Snapshot};
 use proto::Fault;
-use states::{Parts, fits_form};
+use states::{Parts, fits_form, layout_of};
 use std::alloc::{AllocError, Global};
 use token::Token;
 
@@ -31,17 +32,21 @@ fn put_all(own: Vec<Page>, came: Vec<NumberedPage>) -> Vec<Page>
 }
 
 /// The own pages, shared, with those that came in their places. A digest is computed just for a page
-/// that came without one.
-fn joined_pages(own: &Snapshot, came: Vec<NumberedPage>) -> Result<Snapshot, AllocError>
-    ensures { IfOk result (λ pages. pages ≡ joined_with own.now came.items) }
+/// that came without one, or that another form keeps in another way.
+fn joined_pages(
+    own: &Snapshot,
+    came: Vec<NumberedPage>,
+    layout: Layout,
+) -> Result<Snapshot, AllocError>
+    ensures { IfOk result (λ pages. pages ≡ record { items = joined_with own.now.items came.items; layout = layout }) }
 {
     let shared = own.share()?.open().part();
-    Ok(Pages::join(put_all(shared, came)).seal())
+    Pages::join(put_all(shared, came)).seal(layout)
 }
 
 /// The parts of the state that a parcel makes over the own pages.
 fn parts_over(own: &Snapshot, parcel: Parcel) -> Result<Parts, AllocError>
-    ensures { IfOk result (λ parts. parts ≡ record { origin = parcel.origin; sessions = parcel.sessions; pages = joined_with own.now parcel.pages }) }
+    ensures { IfOk result (λ parts. parts ≡ record { origin = parcel.origin; sessions = parcel.sessions; pages = record { items = joined_with own.now.items parcel.pages; layout = layout_of parcel.origin.form } }) }
 {
     let Parcel {
         origin,
@@ -51,7 +56,7 @@ fn parts_over(own: &Snapshot, parcel: Parcel) -> Result<Parts, AllocError>
     Ok(Parts {
         origin,
         sessions,
-        pages: joined_pages(own, pages)?,
+        pages: joined_pages(own, pages, layout_of(origin.form))?,
     })
 }
 
@@ -68,8 +73,8 @@ pub fn take(
     n: u64,
     token: &Token,
 ) -> Result<Committed, Fault>
-    ensures taken { IfOk result (λ committed. (take_of own.now parcel n token.now ≡ Some committed.state) × (committed.replies ≡ [])) }
-    ensures refused { IfErr result (λ fault. Refused fault (take_of own.now parcel n token.now ≡ None)) }
+    ensures taken { IfOk result (λ committed. (take_of own.now.items parcel n token.now ≡ Some committed.state) × (committed.replies ≡ [])) }
+    ensures refused { IfErr result (λ fault. Refused fault (take_of own.now.items parcel n token.now ≡ None)) }
 {
     if parcel.number() != n {
         return Err(Fault::BadRecord);

@@ -1,6 +1,7 @@
 //! States that are handed over, and parcels that are refused.
 
 use crate::rows::*;
+use pages::Layout;
 use proto::Fault;
 use states::State;
 use std::alloc::{AllocError, Global};
@@ -188,5 +189,34 @@ fn a_parcel_of_another_token_is_refused(rt: HostRuntime) -> Result<(), Fail> {
 fn pages_that_are_there_already_are_no_harm(rt: HostRuntime) -> Result<(), Fail> {
     let rows = &[(b'a', b'1'), (b'b', b'2')];
     assert!(rt; holds_of(rt.alloc(), Row::MoreThanNeeded, rows, rows)?);
+    Ok(())
+}
+
+/// Whether a state whose pages have the one layout takes what one with the other layout answers.
+fn is_taken_across(
+    alloc: Global,
+    layouts: (Layout, Layout),
+    own: &[(u8, u8)],
+    more: &[(u8, u8)],
+) -> Result<bool, Fault> {
+    let own = second_in(alloc, layouts.0, own)?;
+    let more = third_in(alloc, layouts.1, more)?;
+    Ok(is_handed_over(alloc, &own, &more)? && is_part_refused(alloc, &own, &more)?)
+}
+
+/// In each direction, and between two states in trees. The pages with items differ by their digests, and
+/// come along.
+#[test]
+fn states_are_handed_over_between_forms(rt: HostRuntime) -> Result<(), Fail> {
+    let own = &[(b'a', b'1'), (b'b', b'2'), (b'c', b'3')];
+    let more = &[(b'a', b'1'), (b'b', b'5'), (b'd', b'4')];
+    for layouts in [
+        (Layout::Sorted, Layout::Tree),
+        (Layout::Tree, Layout::Sorted),
+        (Layout::Tree, Layout::Tree),
+    ] {
+        assert!(rt; is_taken_across(rt.alloc(), layouts, own, more)?);
+        assert!(rt; is_taken_across(rt.alloc(), layouts, &[], more)?);
+    }
     Ok(())
 }

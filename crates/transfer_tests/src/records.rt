@@ -14,7 +14,7 @@ fn add_need(bytes: &mut Vec<u8>, own: &State) -> Result<(), AllocError> {
     bytes.extend_from_slice(&own.number().to_be_bytes())?;
     bytes.extend_from_slice(&(PAGES as u32).to_be_bytes())?;
     for number in 0..PAGES {
-        bytes.extend_from_slice(own.pages().digest(number))?;
+        bytes.extend_from_slice(&own.pages().digest(number))?;
     }
     Ok(())
 }

@@ -1,10 +1,11 @@
 //! States to be handed over.
 
-ghost use Rattle.std.specs.Prelude.{◌≡◌};
-ghost use Rattle.pages.specs.Form.{FitForm};
+ghost use Rattle.std.specs.Prelude.{◌≡◌, IfOk};
+ghost use Rattle.items.specs.Map.{Items};
+ghost use Rattle.pages.specs.Form.{FitForm, layout_of};
 
 use items::{Item, Store};
-use pages::{Pages, Snapshot};
+use pages::{Layout, Pages, Snapshot};
 use proto::{Block, Fault, Key, is_key_text};
 use sessions::Sessions;
 use states::{Origin, Parts, State};
@@ -32,26 +33,40 @@ fn put(alloc: Global, pages: &mut Pages, at: u8, data: u8) -> Result<(), AllocEr
     pages.put(key(alloc, at)?, item)
 }
 
-/// Pages with an item of each of these pairs of a key and its data.
-fn snapshot(alloc: Global, rows: &[(u8, u8)]) -> Result<Snapshot, AllocError> {
+/// Pages with an item of each of these pairs of a key and its data, in this layout.
+fn snapshot(alloc: Global, layout: Layout, rows: &[(u8, u8)]) -> Result<Snapshot, AllocError>
+    ensures { IfOk result (λ pages. pages.layout ≡ layout) }
+{
     let mut pages = Pages::new(alloc)?;
     for row in rows {
         put(alloc, &mut pages, row.0, row.1)?;
     }
-    Ok(pages.seal())
+    pages.seal(layout)
 }
 
 /// Client 1 was answered `STORED` to its request 1.
 pub const ONE_SESSION: &[u8] = &[3, 0, 0, 0, 1, 0, 1, 0, 0, 0, 0, 0, 0, 0, 1, 0];
 
+/// The form of today of states whose pages have this layout.
+fn form_of(layout: Layout) -> Form
+    ensures laid { layout_of result ≡ layout }
+    ensures fit { (m : Items) → FitForm result m }
+{
+    match layout {
+        Layout::Sorted => Form::Current,
+        Layout::Tree => Form::Tree,
+    }
+}
+
 /// What a state of this number is made of.
 fn parts(number: u64, sessions: Sessions, pages: Snapshot) -> Parts
     ensures number { result.origin.number ≡ number }
-    ensures form { FitForm result.origin.form result.pages }
+    ensures form { FitForm result.origin.form result.pages.items }
+    ensures laid { result.pages.layout ≡ layout_of result.origin.form }
 {
     Parts {
         origin: Origin {
-            form: Form::Current,
+            form: form_of(pages.layout()),
             number,
             previous: Token([7; 32]),
             epoch: 4,
@@ -63,18 +78,26 @@ fn parts(number: u64, sessions: Sessions, pages: Snapshot) -> Parts
     }
 }
 
-/// The state of number 2, without sessions.
-pub fn second(alloc: Global, rows: &[(u8, u8)]) -> Result<State, Fault> {
-    let pages = snapshot(alloc, rows)?;
+/// The state of number 2 whose pages have this layout, without sessions.
+pub fn second_in(alloc: Global, layout: Layout, rows: &[(u8, u8)]) -> Result<State, Fault> {
+    let pages = snapshot(alloc, layout, rows)?;
     let sessions = Sessions::new(alloc)?;
     Ok(State::of_parts(alloc, parts(2, sessions, pages)))
 }
 
-/// The state of number 3: client 1 was answered `STORED` to its request 1.
-pub fn third(alloc: Global, rows: &[(u8, u8)]) -> Result<State, Fault> {
-    let pages = snapshot(alloc, rows)?;
+pub fn second(alloc: Global, rows: &[(u8, u8)]) -> Result<State, Fault> {
+    second_in(alloc, Layout::Sorted, rows)
+}
+
+/// The state of number 3 whose pages have this layout: client 1 was answered `STORED` to its request 1.
+pub fn third_in(alloc: Global, layout: Layout, rows: &[(u8, u8)]) -> Result<State, Fault> {
+    let pages = snapshot(alloc, layout, rows)?;
     let sessions = read::<Sessions>(alloc, ONE_SESSION)?;
     Ok(State::of_parts(alloc, parts(3, sessions, pages)))
+}
+
+pub fn third(alloc: Global, rows: &[(u8, u8)]) -> Result<State, Fault> {
+    third_in(alloc, Layout::Sorted, rows)
 }
 
 /// What the state that has more answers to the need.

@@ -39,7 +39,7 @@ fn read_back(alloc: Global, u: u8, id: u8, text: &Text) -> Result<State, Fault>
 }
 
 /// What the keeper's record gives, if it has one.
-fn stored<K: Keeper>(alloc: Global, u: u8, id: u8, keeper: &K) -> Option<Result<State, Fault>>
+fn stored<K: Keeper<Text>>(alloc: Global, u: u8, id: u8, keeper: &K) -> Option<Result<State, Fault>>
     ensures { Stored u id (K.saved keeper.now) result }
 {
     match keeper.load() {
@@ -49,7 +49,13 @@ fn stored<K: Keeper>(alloc: Global, u: u8, id: u8, keeper: &K) -> Option<Result<
 }
 
 /// Saves the record of this state. Where a failure could not be counted it is Stopped at once.
-fn save<K: Keeper>(alloc: Global, u: u8, id: u8, state: &State, keeper: &mut K) -> Result<(), Fault>
+fn save<K: Keeper<Text>>(
+    alloc: Global,
+    u: u8,
+    id: u8,
+    state: &State,
+    keeper: &mut K,
+) -> Result<(), Fault>
     ensures saved { OnOk result (K.saved keeper.new ≡ Some (record_text u id state.now)) }
     ensures none_failed { OnOk result (K.failed keeper.new ≡ K.failed keeper.old) }
     ensures same_word { OnOk result (K.told keeper.new ≡ K.told keeper.old) }
@@ -68,7 +74,7 @@ fn save<K: Keeper>(alloc: Global, u: u8, id: u8, state: &State, keeper: &mut K) 
 
 /// A verifier. It is ended by `end`, which gives its keeper back.
 #[derive(Drop)]
-pub struct Verifier<K: Keeper> {
+pub struct Verifier<K: Keeper<Text>> {
     id: u8,
     u: u8,
     state: State,
@@ -76,7 +82,7 @@ pub struct Verifier<K: Keeper> {
     keeper: K,
 }
 
-impl<K: Keeper> Model for Verifier<K> {
+impl<K: Keeper<Text>> Model for Verifier<K> {
     ghost use Rattle.std.specs.Prelude.{◌<◌, ◌≤◌, ◌*◌, not};
     ghost use Rattle.verifier.specs.Verifier.{VerifierView};
 
@@ -87,7 +93,7 @@ impl<K: Keeper> Model for Verifier<K> {
     ghost invariant = { λ v. v.u < 4 };
 }
 
-impl<K: Keeper> Verifier<K> {
+impl<K: Keeper<Text>> Verifier<K> {
     ghost use Rattle.std.specs.Prelude.{◌≡◌, ◌*◌, ◌-◌, ◌^◌, ◌<◌, ◌≤◌, ◌⊎◌, Some, None, IfOk, IfErr, IsOk, IsSome, OnErr, OnOk, Err, IsErr, IsTrue, not, length, true, false, []};
     ghost use Rattle.std.specs.Borrow.{sem};
     ghost use Rattle.verifier.specs.Step.{fits_line};

@@ -9,6 +9,7 @@ pub mod Command
 pub mod Session
 pub mod Batch
 pub mod Token
+pub mod Distinct
 pub mod FrontLaws
 pub mod NumberLaws
 pub mod FieldLaws

@@ -2,8 +2,8 @@
 
 ghost use Rattle.std.specs.Prelude.{◌≡◌, ◌≤◌, length, map};
 ghost use Rattle.std.specs.Thread.{IsSync};
-ghost use Rattle.wire.specs.Session.{sessions_text, SessionsFit};
-ghost use Rattle.token.specs.Digested.{IsDigested};
+ghost use Rattle.wire.specs.Session.{SessionsFit};
+ghost use Rattle.token.specs.Digested.{AreDigested};
 ghost use Rattle.pages.specs.Page.{refreshed};
 ghost use Rattle.workers.specs.InOrder.{AreRefreshed};
 
@@ -13,10 +13,7 @@ use sessions::Sessions;
 use std::alloc::Global;
 use std::thread;
 use std::thread::Threads;
-use token::Digested;
-
-/// What a page to be digested weighs beside its entries, of which each weighs 1.
-const PAGE_WEIGHT: usize = 64;
+use token::{Digested, Form};
 
 /// To start a thread for less than this weight costs more than it spares.
 const LEAST_WEIGHT: usize = 256;
@@ -24,18 +21,11 @@ const LEAST_WEIGHT: usize = 256;
 /// To start a thread for the sessions of fewer clients than these costs more than it spares.
 const LEAST_CLIENTS: usize = 1024;
 
-/// What it costs to make the page's digest new: nothing where it is kept.
-fn weight(page: &Page) -> usize {
-    match page.digest() {
-        Some(_) => 0,
-        None => page.entries().len().saturating_add(PAGE_WEIGHT),
-    }
-}
-
+/// What it costs to make the digests new that are not kept, in entries.
 fn weight_of_all(pages: &[Page]) -> usize {
     pages
         .iter()
-        .fold(0usize, |sum, page| sum.saturating_add(weight(page)))
+        .fold(0usize, |sum, page| sum.saturating_add(page.weight()))
 }
 
 /// How many of the pages, from the front, weigh at least so much: all where they weigh less.
@@ -44,7 +34,7 @@ fn place_of_weight(pages: &[Page], least: usize) -> usize
 {
     let mut sum = 0usize;
     for (index, page) in pages.iter().enumerate() {
-        sum = sum.saturating_add(weight(page));
+        sum = sum.saturating_add(page.weight());
         if least <= sum {
             return index + 1;
         }
@@ -105,30 +95,31 @@ fn beside_sessions(sessions: &Sessions, threads: usize) -> Option<usize> {
     Some(threads - 1)
 }
 
-/// Recomputes the digest of each page that was written, and the digest of the sessions, by at most so
+/// Recomputes the digest of each page that was written, and the digest of the sessions in a state of this form, by at most so
 /// many threads at once as `workers` has on digests; each digest keeps its text where there is memory for it. The thread that
 /// calls is one of them; the others have ended when the call returns.
 pub fn digest_all<R: Threads + Sync>(
     rt: &R,
     alloc: Global,
     pages: &mut [Page],
+    form: Form,
     sessions: &Sessions,
     workers: Workers,
 ) -> Digested
     ensures pages { pages.new ≡ map refreshed pages.old }
-    ensures digested { IsDigested (sessions_text sessions.now) result }
+    ensures digested { AreDigested form sessions.now result }
     ensures fit { SessionsFit sessions.now }
 {
     let threads = workers.on_digests();
     let Some(others) = beside_sessions(sessions, threads) else {
         refresh_parted(rt, pages, threads);
-        return Digested::of_sessions(alloc, sessions);
+        return Digested::of_sessions(alloc, form, sessions);
     };
     let (digested, _) = thread::join_mut(
         rt,
         &mut || -> Digested
-            ensures { IsDigested (sessions_text sessions.entry.now) result × SessionsFit sessions.entry.now }
-        { Digested::of_sessions(alloc, sessions) },
+            ensures { AreDigested form sessions.entry.now result × SessionsFit sessions.entry.now }
+        { Digested::of_sessions(alloc, form, sessions) },
         &mut ||
             requires { IsSync R.row }
             ensures { pages.exit.now ≡ map refreshed pages.entry.now }

@@ -15,7 +15,7 @@ use Rattle.events.specs.declared.event.Event.TheVariants.{Restart}
 use Rattle.events.specs.declared.event.Replica.{Replica}
 use Rattle.events.specs.declared.event.Replica.TheVariants.{Executor, Verifier}
 use Rattle.events.specs.Config.{ConfigView}
-use Rattle.worlds.specs.declared.slot.Slot.{Slot}
+use Rattle.worlds.specs.Slot.{Slot}
 use Rattle.worlds.specs.declared.slot.Slot.TheVariants.{Up, Down}
 use Rattle.worlds.specs.declared.status.VerifierReport.{VerifierReport}
 use Rattle.worlds.specs.declared.status.Status.TheVariants as status

@@ -5,7 +5,7 @@ use Rattle.exec_lines.specs.declared.shown.NextWork.TheVariants as next_work
 use Rattle.exec_node.specs.Executor.{ExecutorView}
 use Rattle.events.specs.declared.event.Event.{Event}
 use Rattle.events.specs.declared.event.Event.TheVariants.{Step, Finish}
-use Rattle.worlds.specs.declared.slot.Slot.{Slot}
+use Rattle.worlds.specs.Slot.{Slot}
 use Rattle.worlds.specs.Status.{WaitsFor}
 
 abbrev pub work_event : ℕ → NextWork → Event

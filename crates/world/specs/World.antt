@@ -12,7 +12,7 @@ use Rattle.verifier.specs.State.{new_state}
 use Rattle.verifier.specs.Record.{record_text}
 use Rattle.verifier.specs.Verifier.{VerifierView}
 use Rattle.events.specs.Config.{ConfigView}
-use Rattle.worlds.specs.declared.slot.Slot.{Slot}
+use Rattle.worlds.specs.Slot.{Slot}
 use Rattle.worlds.specs.declared.slot.Slot.TheVariants.{Up}
 use Rattle.worlds.specs.Slots.{ClientSlot}
 use Rattle.worlds.specs.World.{WorldView, new_clients}

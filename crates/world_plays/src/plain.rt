@@ -1,10 +1,11 @@
 //! One server, which runs each committed batch whole and in its order.
 
 use crate::talks::Talk;
+use base::Entry;
 use batches::Batch;
 use item_steps::{Stamp, apply, reply_of, steps_of};
 use items::{Item, PlainStore, Store};
-use proto::{Command, Reply};
+use proto::{Command, Key, Reply};
 use sessions::Request;
 use states::State;
 use std::alloc::{AllocError, Global};
@@ -114,18 +115,30 @@ impl PlainServer {
         Ok(true)
     }
 
-    /// Whether the state has just its items.
-    fn has_items(&self, state: &State) -> bool {
+    /// How many of these entries it has too.
+    fn count_of(&self, entries: &[Entry<Key, Item>]) -> usize {
         let mut count = 0usize;
-        for number in 0..PAGES {
-            for entry in state.pages().page(number) {
-                match self.items.get(entry.key()) {
-                    Some(item) if is_same(item, entry.value()) => count = count.saturating_add(1),
-                    _ => return false,
-                }
+        for entry in entries {
+            match self.items.get(entry.key()) {
+                Some(item) if is_same(item, entry.value()) => count = count.saturating_add(1),
+                _ => {}
             }
         }
-        count == self.items.as_slice().len()
+        count
+    }
+
+    /// Whether the state has just its items.
+    fn has_items(&self, alloc: Global, state: &State) -> Result<bool, AllocError> {
+        let mut count = 0usize;
+        for number in 0..PAGES {
+            let entries = state.pages().entries(alloc, number)?;
+            let shared = self.count_of(entries.as_slice());
+            if shared != entries.len() {
+                return Ok(false);
+            }
+            count = count.saturating_add(shared);
+        }
+        Ok(count == self.items.as_slice().len())
     }
 
     /// Whether the state keeps just its last replies.
@@ -145,7 +158,7 @@ impl PlainServer {
         Ok(
             state.number() == self.number
                 && state.moment() == self.moment
-                && self.has_items(state)
+                && self.has_items(alloc, state)?
                 && self.has_replies(alloc, state)?,
         )
     }

@@ -12,7 +12,7 @@ use Rattle.exec_node.specs.Executor.{ExecutorView}
 use Rattle.verifier.specs.Verifier.{VerifierView}
 use Rattle.agreement.specs.Machine as machine
 use Rattle.agreement.specs.Machine.{Machine, sent_by, run, Send}
-use Rattle.worlds.specs.declared.slot.Slot.{Slot}
+use Rattle.worlds.specs.Slot.{Slot}
 use Rattle.worlds.specs.Slots.{ClientSlot}
 use Rattle.worlds.specs.World.{WorldView, as_sent, with_verifier}
 use Rattle.worlds.specs.Ballots.{ballots}

@@ -28,7 +28,7 @@ use Rattle.agreement.proofs.Verifiers.{handled_is_done}
 use Rattle.events.specs.declared.event.Event.{Event}
 use Rattle.events.specs.declared.event.Event.TheVariants.{Feed, Again, Hangup, Deliver, Cut, Step, Finish, Suspect, Crash, Restart, Lost, FailSave}
 use Rattle.events.specs.declared.event.Replica.TheVariants as replica
-use Rattle.worlds.specs.declared.slot.Slot.{Slot}
+use Rattle.worlds.specs.Slot.{Slot}
 use Rattle.worlds.specs.declared.slot.Slot.TheVariants.{Up, Down, Gone}
 use Rattle.events.specs.Config.{ConfigView}
 use Rattle.worlds.specs.Slots.{verifier_kept, verifier_told, executor_kept, executor_told, crashed_slot, lost_slot, told_slot, VerifierSettles, ExecutorSettles, ClientSlot, ClientSettlesWhere}

@@ -15,7 +15,7 @@ use Rattle.agreement.specs.ChosenList.{chosen}
 use Rattle.agreement.specs.Laws.{recorded}
 use Rattle.agreement.proofs.Proved.{at_most_one, all_backed, all_kept, list_is_chosen, list_grows}
 use Rattle.events.specs.declared.event.Event.{Event}
-use Rattle.worlds.specs.declared.slot.Slot.{Slot}
+use Rattle.worlds.specs.Slot.{Slot}
 use Rattle.worlds.specs.declared.slot.Slot.TheVariants.{Up, Down, Gone}
 use Rattle.events.specs.Config.{ConfigView}
 use Rattle.worlds.specs.World.{WorldView, ReachedWorlds, EndsWith}

@@ -15,7 +15,7 @@ use Rattle.agreement.specs.Machine.{Machine, Done, StopsAfter, Restart, saved_af
 use Rattle.agreement.specs.Verifiers.{IsIn, IsKept}
 use Rattle.agreement.proofs.Machine.{Good}
 use Rattle.agreement.proofs.Verifiers.{opened_is_done}
-use Rattle.worlds.specs.declared.slot.Slot.{Slot}
+use Rattle.worlds.specs.Slot.{Slot}
 use Rattle.worlds.specs.declared.slot.Slot.TheVariants.{Up, Down, Gone}
 use Rattle.worlds.specs.Slots.{first_if_none, VerifierReopens, ExecutorReopens}
 use Rattle.worlds.specs.World.{WorldView, with_verifier, VerifierAtOpened, ExecutorAtOpened}

@@ -10,7 +10,7 @@ use Rattle.agreement.specs.Letters.{Chosen, Backed}
 use Rattle.agreement.specs.ChosenList.{chosen}
 use Rattle.agreement.specs.Laws.{Holds}
 use Rattle.events.specs.declared.event.Event.{Event}
-use Rattle.worlds.specs.declared.slot.Slot.{Slot}
+use Rattle.worlds.specs.Slot.{Slot}
 use Rattle.worlds.specs.declared.slot.Slot.TheVariants.{Up, Down, Gone}
 use Rattle.events.specs.Config.{ConfigView}
 use Rattle.worlds.specs.World.{WorldView, ReachedWorlds, EndsWith}

@@ -1,3 +1,4 @@
+pub mod Slot
 pub mod Slots
 pub mod World
 pub mod Ballots

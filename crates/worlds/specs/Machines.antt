@@ -5,7 +5,7 @@ use Rattle.verifier.specs.Verifier.{VerifierView}
 use Rattle.agreement.specs.Machine as machine
 use Rattle.agreement.specs.Machine.{Machine, reached}
 use Rattle.agreement.specs.Verifiers.{IsIn, IsKept}
-use Rattle.worlds.specs.declared.slot.Slot.{Slot}
+use Rattle.worlds.specs.Slot.{Slot}
 use Rattle.worlds.specs.declared.slot.Slot.TheVariants.{Up, Down, Gone}
 use Rattle.worlds.specs.World.{WorldView}
 use Rattle.worlds.specs.Ballots.{ballots}

@@ -5,7 +5,7 @@ use Rattle.std.proofs.Common.{inl, inr}
 use Rattle.keeper.specs.Kept.{Kept}
 use Rattle.exec_node.specs.Executor.{ExecutorView}
 use Rattle.verifier.specs.Verifier.{VerifierView}
-use Rattle.worlds.specs.declared.slot.Slot.{Slot}
+use Rattle.worlds.specs.Slot.{Slot}
 use Rattle.worlds.specs.declared.slot.Slot.TheVariants.{Up, Down, Gone}
 
 abbrev pub verifier_up : VerifierView → Bool

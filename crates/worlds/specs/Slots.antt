@@ -20,7 +20,7 @@ use Rattle.client.specs.Client.{ClientView}
 use Rattle.client.specs.Talk.{Given}
 use Rattle.client.specs.Step.{IsClientStep, fits_talk}
 use Rattle.client.specs.Laws.{is_hangup}
-use Rattle.worlds.specs.declared.slot.Slot.{Slot}
+use Rattle.worlds.specs.Slot.{Slot}
 use Rattle.worlds.specs.declared.slot.Slot.TheVariants.{Up, Down, Gone}
 
 -- what the keeper of a replica has when it stops between two steps

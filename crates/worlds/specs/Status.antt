@@ -5,7 +5,7 @@ use Rattle.exec_lines.specs.declared.shown.NextWork.{NextWork}
 use Rattle.exec_lines.specs.Shown.{report_of, ComesNext}
 use Rattle.exec_node.specs.Executor.{ExecutorView}
 use Rattle.verifier.specs.Verifier.{VerifierView}
-use Rattle.worlds.specs.declared.slot.Slot.{Slot}
+use Rattle.worlds.specs.Slot.{Slot}
 use Rattle.worlds.specs.declared.slot.Slot.TheVariants as slot
 use Rattle.worlds.specs.declared.status.Status.{Status}
 use Rattle.worlds.specs.declared.status.Status.TheVariants as status

@@ -21,7 +21,7 @@ use Rattle.events.specs.declared.event.Event.{Event}
 use Rattle.events.specs.declared.event.Event.TheVariants.{Feed, Again, Hangup, Deliver, Cut, Step, Finish, Suspect, Crash, Restart, Lost, FailSave}
 use Rattle.events.specs.declared.event.Replica.{Replica}
 use Rattle.events.specs.declared.event.Replica.TheVariants.{Executor, Verifier}
-use Rattle.worlds.specs.declared.slot.Slot.{Slot}
+use Rattle.worlds.specs.Slot.{Slot}
 use Rattle.worlds.specs.declared.slot.Slot.TheVariants.{Down}
 use Rattle.events.specs.Config.{ConfigView}
 use Rattle.worlds.specs.Slots.{verifier_kept, executor_kept, verifier_told, executor_told, crashed_slot, lost_slot, told_slot, VerifierSettles, ExecutorSettles, VerifierReopens, ExecutorReopens, ClientSlot, ClientSettles}

@@ -5,24 +5,29 @@ ghost use Rattle.worlds.specs.Slots.{executor_kept, ExecutorReopens};
 ghost use Rattle.worlds.specs.Places.{IsUpAt, executor_up};
 ghost use Rattle.worlds.specs.Steps.{ExecutorDoes, ExecutorStops};
 
-use crate::kept_node::KeptNode;
+use crate::kept_node::{KeptNode, KeptSlot};
 use crate::places::{crash, end, lose, put, taken};
 use crate::slot::Slot;
 use decrees::Letter;
-use exec_lines::{Body, Input};
+use exec_lines::{Body, ExecutorRecord, Input};
 use exec_node::{ExecNode, unfit_input_changes_nothing};
 use keeper::MemKeeper;
 use proto::Fault;
 use std::alloc::Global;
 use std::marker::Model;
 
-impl KeptNode for ExecNode<MemKeeper> {
+/// An executor over a keeper in memory.
+pub type KeptExecutor = ExecNode<MemKeeper<ExecutorRecord>>;
+
+impl KeptNode for ExecNode<MemKeeper<ExecutorRecord>> {
+    type Record = ExecutorRecord;
+
     ghost kept = { executor_kept };
 
     ghost up = { executor_up };
 
     #[tactic(auto, using(crate::proofs::StepLemmas::kept_is))]
-    fn into_keeper(self) -> MemKeeper {
+    fn into_keeper(self) -> MemKeeper<ExecutorRecord> {
         self.end()
     }
 }
@@ -30,13 +35,13 @@ impl KeptNode for ExecNode<MemKeeper> {
 /// The place of an executor: one that is there was never stopped. It cannot be dropped, since an executor
 /// cannot: `end` ends it.
 pub struct ExecutorPlace {
-    pub(crate) slot: Slot<ExecNode<MemKeeper>>,
+    pub(crate) slot: KeptSlot<KeptExecutor>,
 }
 
 impl Model for ExecutorPlace {
     ghost use Rattle.exec_lines.specs.contracts.state.State as state;
     ghost use Rattle.exec_node.specs.Executor.{ExecutorView, executor_view_code};
-    ghost use Rattle.worlds.specs.declared.slot.Slot as of_world;
+    ghost use Rattle.worlds.specs.Slot as of_world;
     ghost use Rattle.worlds.specs.Places.{IsUpAt, executor_up, slot_code};
 
     ghost Value = { of_world.Slot ExecutorView };
@@ -51,7 +56,7 @@ impl Model for ExecutorPlace {
 /// Does the step of the input, and gives its letters. None: it stopped. Where a tentative state is refused
 /// nothing changes, and nothing is sent.
 #[tactic(auto, using(crate::proofs::StepLemmas::ok_is_untold, crate::proofs::StepLemmas::fault_fits, crate::proofs::StepLemmas::refused_does))]
-fn stepped(node: &mut ExecNode<MemKeeper>, alloc: Global, input: Input) -> Option<Vec<Letter<Body>>>
+fn stepped(node: &mut KeptExecutor, alloc: Global, input: Input) -> Option<Vec<Letter<Body>>>
     requires { IsTrue node.old.up }
     ensures does { IfSome result (λ letters. ExecutorDoes node.old input node.new letters.items) }
     ensures up { OnSome result (IsTrue node.new.up) }
@@ -72,11 +77,11 @@ fn stepped(node: &mut ExecNode<MemKeeper>, alloc: Global, input: Input) -> Optio
 /// What is there after it was opened, and what that sends.
 #[tactic(auto, using(crate::proofs::StepLemmas::executor_opens, crate::proofs::StepLemmas::executor_refused, crate::proofs::StepLemmas::executor_opened_up))]
 fn reopened(
-    slot: Slot<ExecNode<MemKeeper>>,
+    slot: KeptSlot<KeptExecutor>,
     alloc: Global,
     u: u8,
     id: u8,
-) -> (Slot<ExecNode<MemKeeper>>, Vec<Letter<Body>>)
+) -> (KeptSlot<KeptExecutor>, Vec<Letter<Body>>)
     requires few { u < 4 }
     requires member { id ≤ 2 * u }
     requires up { IsUpAt executor_up slot }

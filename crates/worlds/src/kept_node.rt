@@ -3,10 +3,14 @@
 ghost use Rattle.std.specs.Prelude.{◌≡◌, Bool};
 ghost use Rattle.keeper.specs.Kept.{Kept};
 
-use keeper::MemKeeper;
+use crate::slot::Slot;
+use keeper::{MemKeeper, ToText};
 
 /// A replica that gives its keeper back when it is ended.
 pub trait KeptNode {
+    /// What its keeper keeps.
+    type Record: ToText;
+
     /// What its keeper has.
     ghost kept: { Self → Kept };
 
@@ -14,6 +18,9 @@ pub trait KeptNode {
     ghost up: { Self → Bool };
 
     /// Ends it.
-    fn into_keeper(self) -> MemKeeper
+    fn into_keeper(self) -> MemKeeper<Self::Record>
         ensures { result ≡ kept self };
 }
+
+/// The place of a replica over a keeper in memory.
+pub type KeptSlot<N> = Slot<N, MemKeeper<<N as KeptNode>::Record>>;

@@ -4,13 +4,13 @@ ghost use Rattle.std.specs.Prelude.{◌≡◌};
 ghost use Rattle.worlds.specs.Slots.{crashed_slot, lost_slot};
 ghost use Rattle.worlds.specs.Places.{IsUpAt};
 
-use crate::kept_node::KeptNode;
+use crate::kept_node::{KeptNode, KeptSlot};
 use crate::slot::Slot;
-use keeper::MemKeeper;
+use keeper::{MemKeeper, ToText};
 use std::mem;
 
 /// Ends what is there.
-pub fn end<N: KeptNode>(slot: Slot<N>) {
+pub fn end<N: KeptNode>(slot: KeptSlot<N>) {
     match slot {
         Slot::Up(node) => drop(node.into_keeper()),
         Slot::Down(keeper) => drop(keeper),
@@ -19,20 +19,20 @@ pub fn end<N: KeptNode>(slot: Slot<N>) {
 }
 
 /// What is there. The place is left empty, which is down with nothing kept.
-pub fn taken<N>(place: &mut Slot<N>) -> Slot<N>
+pub fn taken<N, R: ToText>(place: &mut Slot<N, MemKeeper<R>>) -> Slot<N, MemKeeper<R>>
     ensures { result ≡ place.old }
 {
     mem::replace(place, Slot::Down(MemKeeper::new()))
 }
 
 /// Puts this there, and ends what was there.
-pub fn put<N: KeptNode>(place: &mut Slot<N>, slot: Slot<N>)
+pub fn put<N: KeptNode>(place: &mut KeptSlot<N>, slot: KeptSlot<N>)
     ensures { place.new ≡ slot }
 {
     end(mem::replace(place, slot));
 }
 
-fn crashed<N: KeptNode>(slot: Slot<N>) -> Slot<N>
+fn crashed<N: KeptNode>(slot: KeptSlot<N>) -> KeptSlot<N>
     ensures crashed { result ≡ crashed_slot N.kept slot }
     ensures up { IsUpAt N.up result }
 {
@@ -43,7 +43,7 @@ fn crashed<N: KeptNode>(slot: Slot<N>) -> Slot<N>
     }
 }
 
-fn lost<N: KeptNode>(slot: Slot<N>) -> Slot<N>
+fn lost<N: KeptNode>(slot: KeptSlot<N>) -> KeptSlot<N>
     ensures lost { result ≡ lost_slot N.kept slot }
     ensures up { IsUpAt N.up result }
 {
@@ -55,7 +55,7 @@ fn lost<N: KeptNode>(slot: Slot<N>) -> Slot<N>
 }
 
 /// A replica that is up stops; its keeper stays.
-pub fn crash<N: KeptNode>(place: &mut Slot<N>)
+pub fn crash<N: KeptNode>(place: &mut KeptSlot<N>)
     ensures crashed { place.new ≡ crashed_slot N.kept place.old }
     ensures up { IsUpAt N.up place.new }
 {
@@ -64,7 +64,7 @@ pub fn crash<N: KeptNode>(place: &mut Slot<N>)
 }
 
 /// The replica is lost for good, up or down.
-pub fn lose<N: KeptNode>(place: &mut Slot<N>)
+pub fn lose<N: KeptNode>(place: &mut KeptSlot<N>)
     ensures lost { place.new ≡ lost_slot N.kept place.old }
     ensures up { IsUpAt N.up place.new }
 {

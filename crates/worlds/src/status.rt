@@ -7,12 +7,10 @@ ghost use Rattle.verifier.specs.Verifier.{VerifierView};
 ghost use Rattle.worlds.specs.Status.{status_of, executor_report, verifier_report, node_at, WaitsFor, is_open};
 
 use crate::client_place::ClientPlace;
-use crate::executor_place::ExecutorPlace;
+use crate::executor_place::{ExecutorPlace, KeptExecutor};
 use crate::slot::Slot;
 use crate::verifier_place::VerifierPlace;
 use exec_lines::{NextWork, Report};
-use exec_node::ExecNode;
-use keeper::MemKeeper;
 
 /// Whether a replica is there, and how far it is.
 #[derive(Clone, Copy)]
@@ -33,7 +31,7 @@ pub struct VerifierReport {
 
 impl ExecutorPlace {
     /// The executor, if it is up.
-    pub fn node(&self) -> Option<&ExecNode<MemKeeper>>
+    pub fn node(&self) -> Option<&KeptExecutor>
         ensures { option_map (λ node. node.now) result ≡ node_at self.now }
     {
         match &self.slot {

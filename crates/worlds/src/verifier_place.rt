@@ -6,22 +6,28 @@ ghost use Rattle.worlds.specs.Slots.{verifier_kept, VerifierReopens};
 ghost use Rattle.worlds.specs.Places.{IsUpAt, verifier_up};
 ghost use Rattle.worlds.specs.Steps.{VerifierDoes, VerifierStops};
 
-use crate::kept_node::KeptNode;
+use crate::kept_node::{KeptNode, KeptSlot};
 use crate::places::{crash, lose, taken};
 use crate::slot::Slot;
+use base::Text;
 use decrees::{Ballot, Letter};
 use keeper::MemKeeper;
 use std::alloc::Global;
 use std::marker::Model;
 use verifier::{Input, Verifier};
 
-impl KeptNode for Verifier<MemKeeper> {
+/// A verifier over a keeper in memory.
+pub type KeptVerifier = Verifier<MemKeeper<Text>>;
+
+impl KeptNode for Verifier<MemKeeper<Text>> {
+    type Record = Text;
+
     ghost kept = { verifier_kept };
 
     ghost up = { verifier_up };
 
     #[tactic(auto, using(crate::proofs::StepLemmas::kept_is))]
-    fn into_keeper(self) -> MemKeeper {
+    fn into_keeper(self) -> MemKeeper<Text> {
         self.end()
     }
 }
@@ -29,12 +35,12 @@ impl KeptNode for Verifier<MemKeeper> {
 /// The place of a verifier: one that is there was never stopped.
 #[derive(Drop)]
 pub struct VerifierPlace {
-    pub(crate) slot: Slot<Verifier<MemKeeper>>,
+    pub(crate) slot: KeptSlot<KeptVerifier>,
 }
 
 impl Model for VerifierPlace {
     ghost use Rattle.verifier.specs.Verifier.{VerifierView};
-    ghost use Rattle.worlds.specs.declared.slot.Slot as of_world;
+    ghost use Rattle.worlds.specs.Slot as of_world;
     ghost use Rattle.worlds.specs.Places.{IsUpAt, verifier_up};
 
     ghost Value = { of_world.Slot VerifierView };
@@ -46,11 +52,7 @@ impl Model for VerifierPlace {
 
 /// Does the step of the input, and gives its letters. None: it stopped.
 #[tactic(auto, using(crate::proofs::StepLemmas::ok_is_untold, crate::proofs::StepLemmas::error_fits))]
-fn stepped(
-    node: &mut Verifier<MemKeeper>,
-    alloc: Global,
-    input: Input,
-) -> Option<Vec<Letter<Ballot>>>
+fn stepped(node: &mut KeptVerifier, alloc: Global, input: Input) -> Option<Vec<Letter<Ballot>>>
     requires { IsTrue node.old.up }
     ensures does { IfSome result (λ letters. VerifierDoes node.old input node.new letters.items) }
     ensures up { OnSome result (IsTrue node.new.up) }
@@ -65,11 +67,11 @@ fn stepped(
 /// What is there after it was opened, and what that sends.
 #[tactic(auto, using(crate::proofs::StepLemmas::verifier_opens, crate::proofs::StepLemmas::verifier_refused, crate::proofs::StepLemmas::verifier_opened_up))]
 fn reopened(
-    slot: Slot<Verifier<MemKeeper>>,
+    slot: KeptSlot<KeptVerifier>,
     alloc: Global,
     u: u8,
     id: u8,
-) -> (Slot<Verifier<MemKeeper>>, Vec<Letter<Ballot>>)
+) -> (KeptSlot<KeptVerifier>, Vec<Letter<Ballot>>)
     requires few { u < 4 }
     requires member { id ≤ 2 * u }
     requires up { IsUpAt verifier_up slot }

@@ -147,7 +147,7 @@ fn a_member_over_another_state_is_refused(rt: HostRuntime) -> Result<(), Fail> {
 
 fn record_of(alloc: Global, chain: &Chain) -> Result<Vec<u8>, AllocError> {
     let mut record = Vec::new(alloc);
-    chain.put(&mut record)?;
+    chain.saved(alloc)?.put(alloc, &mut record)?;
     Ok(record)
 }
 

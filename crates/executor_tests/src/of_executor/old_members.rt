@@ -85,10 +85,10 @@ fn chain_bytes(alloc: Global, version: Version) -> Result<Vec<u8>, AllocError> {
 /// Whether the chain that the bytes are in this version has this record today.
 fn is_renewed(alloc: Global, version: Version, bytes: &[u8], now: &[u8]) -> Result<bool, Fault> {
     let (chain, rest) = Chain::take(alloc, version, bytes)?;
-    let mut again = Vec::new(alloc);
-    let written = chain.put(&mut again);
+    let saved = chain.saved(alloc);
     drop(chain.end());
-    written?;
+    let mut again = Vec::new(alloc);
+    saved?.put(alloc, &mut again)?;
     Ok(rest.is_empty() && again.as_slice() == now)
 }
 

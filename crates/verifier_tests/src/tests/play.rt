@@ -14,14 +14,14 @@ use verifier::{Input, Verifier};
 /// A verifier that was opened, or the keeper of one that was not.
 #[derive(Drop)]
 enum Player {
-    Open(Verifier<MemKeeper>),
-    Closed(MemKeeper),
+    Open(Verifier<MemKeeper<Text>>),
+    Closed(MemKeeper<Text>),
 }
 
 /// What an input is answered with.
 type Answered = Result<Vec<Letter<Ballot>>, Fault>;
 
-fn opened(alloc: Global, id: u8, u: u8, keeper: MemKeeper) -> (Player, Answered)
+fn opened(alloc: Global, id: u8, u: u8, keeper: MemKeeper<Text>) -> (Player, Answered)
     requires few { u < 4 }
     requires member { id ≤ 2 * u }
 {
@@ -32,7 +32,7 @@ fn opened(alloc: Global, id: u8, u: u8, keeper: MemKeeper) -> (Player, Answered)
 }
 
 impl Player {
-    fn into_keeper(self) -> MemKeeper {
+    fn into_keeper(self) -> MemKeeper<Text> {
         match self {
             Player::Open(verifier) => verifier.end(),
             Player::Closed(keeper) => keeper,
@@ -57,7 +57,7 @@ impl Player {
         }
     }
 
-    fn keeper(&mut self) -> &mut MemKeeper {
+    fn keeper(&mut self) -> &mut MemKeeper<Text> {
         match self {
             Player::Open(verifier) => verifier.keeper(),
             Player::Closed(keeper) => keeper,

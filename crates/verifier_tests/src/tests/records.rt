@@ -9,7 +9,7 @@ use std::test::Fail;
 use verifier::{Input, Verifier};
 
 /// A keeper that has these bytes as its record.
-pub fn keeper_of(alloc: Global, bytes: &[u8]) -> Result<MemKeeper, Fault> {
+pub fn keeper_of(alloc: Global, bytes: &[u8]) -> Result<MemKeeper<Text>, Fault> {
     let mut text = Text::new(alloc);
     text.put(bytes)?;
     let mut keeper = MemKeeper::new();
@@ -20,7 +20,7 @@ pub fn keeper_of(alloc: Global, bytes: &[u8]) -> Result<MemKeeper, Fault> {
 }
 
 /// The record that is kept; where there is none, nothing.
-pub fn record(alloc: Global, keeper: &MemKeeper) -> Result<Vec<u8>, Fault> {
+pub fn record(alloc: Global, keeper: &MemKeeper<Text>) -> Result<Vec<u8>, Fault> {
     match keeper.load() {
         None => Ok(Vec::new(alloc)),
         Some(text) => Ok(text.joined(alloc)?),
@@ -28,7 +28,7 @@ pub fn record(alloc: Global, keeper: &MemKeeper) -> Result<Vec<u8>, Fault> {
 }
 
 /// A step that saves the record, of which nothing but the view changes.
-fn save(alloc: Global, verifier: &mut Verifier<MemKeeper>) -> Result<(), Fault> {
+fn save(alloc: Global, verifier: &mut Verifier<MemKeeper<Text>>) -> Result<(), Fault> {
     let change = Letter {
         from: Node::Verifier(2),
         to: Node::Verifier(1),
@@ -39,7 +39,7 @@ fn save(alloc: Global, verifier: &mut Verifier<MemKeeper>) -> Result<(), Fault> 
 }
 
 /// Whether the record that the verifier saves is this one, but for the view.
-fn saves(alloc: Global, verifier: Verifier<MemKeeper>, bytes: &[u8]) -> Result<bool, Fault> {
+fn saves(alloc: Global, verifier: Verifier<MemKeeper<Text>>, bytes: &[u8]) -> Result<bool, Fault> {
     let mut verifier = verifier;
     save(alloc, &mut verifier)?;
     let saved = record(alloc, &verifier.end())?;

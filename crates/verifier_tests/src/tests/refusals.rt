@@ -3,6 +3,7 @@
 //! row that was refused some, and `NotOpen` one in which something else does not hold.
 
 use super::records::{keeper_of, record};
+use base::Text;
 use decrees::{Ballot, Decree, Letter, Node};
 use keeper::MemKeeper;
 use proto::Fault;
@@ -107,7 +108,7 @@ fn holds(is_so: bool) -> Result<(), Fault> {
 /// Whether it is stopped with the record of these bytes, and stays so.
 fn is_stopped(
     alloc: Global,
-    verifier: &mut Verifier<MemKeeper>,
+    verifier: &mut Verifier<MemKeeper<Text>>,
     bytes: &[u8],
 ) -> Result<bool, Fault> {
     let again = verifier.handle(alloc, Input::Suspect);
@@ -119,7 +120,7 @@ fn is_stopped(
 /// `NoMemory`, and then it is stopped with its old record.
 fn does(
     alloc: Global,
-    verifier: &mut Verifier<MemKeeper>,
+    verifier: &mut Verifier<MemKeeper<Text>>,
     input: Input,
     letters: usize,
     saves: bool,
@@ -137,7 +138,7 @@ fn does(
     }
 }
 
-fn each_line(alloc: Global, verifier: &mut Verifier<MemKeeper>) -> Result<(), Fault> {
+fn each_line(alloc: Global, verifier: &mut Verifier<MemKeeper<Text>>) -> Result<(), Fault> {
     for (from, body, letters, saves) in LINES {
         let to = Node::Verifier(0);
         let letter = Input::Letter(Letter { from, to, body });
@@ -147,7 +148,11 @@ fn each_line(alloc: Global, verifier: &mut Verifier<MemKeeper>) -> Result<(), Fa
 }
 
 /// The verifier of the keeper; where it is refused, its keeper has the record that it had.
-fn opened(alloc: Global, keeper: MemKeeper, letters: usize) -> Result<Verifier<MemKeeper>, Fault> {
+fn opened(
+    alloc: Global,
+    keeper: MemKeeper<Text>,
+    letters: usize,
+) -> Result<Verifier<MemKeeper<Text>>, Fault> {
     let before = record(alloc, &keeper)?;
     match Verifier::open(alloc, 1, 0, keeper) {
         Ok((verifier, sent)) => {
@@ -162,7 +167,7 @@ fn opened(alloc: Global, keeper: MemKeeper, letters: usize) -> Result<Verifier<M
 }
 
 /// It is opened again with the record that it has, and asks the others for decrees.
-fn restarted(alloc: Global, verifier: Verifier<MemKeeper>) -> Result<(), Fault> {
+fn restarted(alloc: Global, verifier: Verifier<MemKeeper<Text>>) -> Result<(), Fault> {
     let bytes = record(alloc, &verifier.end())?;
     opened(alloc, keeper_of(alloc, &bytes)?, 2)?;
     Ok(())

@@ -7,5 +7,5 @@ use Rattle.exec_node.proofs.record.read_back.Goals as goal
 
 pub returns-clause-err : goal.returns-clause-err
 returns-clause-err c =
-    let same : c.deref.result.now ≡ c.args.text.now = c.deref.ensures.value ∙ c.in_ok-bytes.ensures in
+    let same : c.deref.result.now ≡ c.args.found.now = c.deref.ensures.value ∙ c.in_ok-bytes.ensures ∙ c.in_ok-text.ensures in
     subst (λ (bytes : List ℕ). IfErr c.restore.result (λ fault. Refused fault ((s : ExecutorState) → IsReadRecord c.args.u c.args.id bytes s → ⊥))) same c.restore.ensures.err

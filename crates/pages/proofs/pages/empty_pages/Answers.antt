@@ -9,6 +9,6 @@ use Rattle.pages.proofs.pages.empty_pages.Goals as goal
 pub loop-made-preserved : goal.loop-made-preserved
 loop-made-preserved c =
     let items_is = λ (page : PageState). page.items in
-    let copy = ap items_is (c.in_ok-clone.ensures.cases ∙ c.refresh.ensures) ∙ ap items_is c.in_ok-empty.ensures in
+    let copy = ap items_is (c.in_ok-clone.ensures.cases ∙ c.in_ok-seal.ensures.ok) ∙ ap items_is c.in_ok-empty.ensures in
     ap items_of c.in_ok-push.ensures.items ∙ map_push items_is c.loop-made.pages.items c.in_ok-clone.field-0
     ∙ (λ j. c.loop-made.invariant j ++ copy j ∷ []) ∙ replicate_more c.loop-made.made no_items

@@ -1,15 +1,19 @@
-use Rattle.std.proofs.Common.{arith, refl}
-use Rattle.pages.specs.Page.{page_entries}
-use Rattle.states.specs.StateRecord.{change_text, changes_text}
+use Rattle.std.proofs.Common.{arith, ap}
+use Rattle.pages.specs.Page.{page_items}
+use Rattle.pages.specs.Others.{has_page}
+use Rattle.states.specs.StateRecord.{flagged_page, flagged_text}
 use Rattle.states.proofs.PageTextLemmas.{put_next, put_all}
 use Rattle.states.proofs.changes.put_changes.Goals as goal
 
 pub loop-number-preserved : goal.loop-number-preserved
 loop-number-preserved g c =
-    put_next g.S.Sink.holds (λ p. change_text (page_entries c.args.before.now p) (page_entries c.args.after.now p)) c.loop-number.number c.args.sink.now c.loop-number.sink c.put_change.new.sink (change_text (page_entries c.args.before.now c.loop-number.number) (page_entries c.args.after.now c.loop-number.number))
-    c.loop-number.invariant refl c.in_ok-put_change.ensures
+    let after = c.args.after.now in
+    let n = c.loop-number.number in
+    put_next g.S.Sink.holds (λ p. flagged_page after.layout (has_page c.args.changed.now p) (page_items after.items p)) n c.args.sink.now c.loop-number.sink c.put_change.new.sink (flagged_page after.layout c.has.result (page_items after.items n))
+    c.loop-number.invariant (ap (λ b. flagged_page after.layout b (page_items after.items n)) c.has.ensures) c.in_ok-put_change.ensures
 
 pub returns : goal.returns
-unfolding changes_text
+unfolding flagged_text
 returns g c =
-    put_all g.S.Sink.holds (λ p. change_text (page_entries c.args.before.now p) (page_entries c.args.after.now p)) c.loop-number.number c.args.sink.now c.loop-number.sink c.loop-number.invariant (omega (arith, c.loop-number-test.false))
+    let after = c.args.after.now in
+    put_all g.S.Sink.holds (λ p. flagged_page after.layout (has_page c.args.changed.now p) (page_items after.items p)) c.loop-number.number c.args.sink.now c.loop-number.sink c.loop-number.invariant (omega (arith, c.loop-number-test.false))

@@ -14,7 +14,7 @@ answer_all-requires c =
     let w : Progress = record { items = c.self.inside.pages; running = c.self.inside.running.items; group = c.self.inside.group } in
     let done = subst (λ (v : WorkView). IsTrue (is_group_done v.progress)) (sym c.self.view_is) c.requires.done in
     let last = subst (λ (v : WorkView). IsLast v.progress.running (Some v.progress.group)) (sym c.self.view_is) c.requires.last in
-    let all = all_answered c.self.inside.base.state c.self.inside.batch c.self.inside.ordered w c.self.invariant.worked done last in
+    let all = all_answered c.self.inside.base.state c.self.inside.batch c.self.inside.ordered w c.self.invariant.0.worked done last in
     subst (λ (rs : List BatchRequest). All (λ r. (request : Request) → slice_get c.as_slice-requests.result.now r.place ≡ Some request → length r.answers ≡ length (steps request.command)) rs) (sym c.deref.ensures.value)
     (subst (λ (qs : List Request). All (λ r. (request : Request) → slice_get qs r.place ≡ Some request → length r.answers ≡ length (steps request.command)) c.self.inside.running.items) (sym c.as_slice-requests.ensures.items) all)
 
@@ -22,7 +22,7 @@ answer_all-requires c =
 same : (c : In_ok-replies) → replies_to c.as_slice-requests.result.now c.deref.result.now ≡ replies_of c.self.inside.base.state c.self.inside.batch c.self.inside.running.items
 same c =
     (λ i. replies_to (c.as_slice-requests.ensures.items i) (c.deref.ensures.value i))
-    ∙ same_replies c.self.inside.base.state c.self.inside.batch c.self.inside.ordered _ c.self.invariant.worked
+    ∙ same_replies c.self.inside.base.state c.self.inside.batch c.self.inside.ordered _ c.self.invariant.0.worked
 
 pub returns-clause-sessions : goal.returns-clause-sessions
 returns-clause-sessions c =

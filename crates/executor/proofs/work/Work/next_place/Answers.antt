@@ -17,7 +17,7 @@ pub returns-clause-lowest : goal.returns-clause-lowest
 returns-clause-lowest c =
     let first = subst (λ (rs : List BatchRequest). IfSome c.next_place.result (λ place. IsFirstLeft rs c.self.inside.group place)) c.deref.ensures.value c.next_place.ensures.first in
     subst (λ (v : WorkView). IfSome c.next_place.result (λ place. (lower : ℕ) → lower < place → HasNoStep v.progress lower)) c.self.view_is
-    (lowest_is_next c.self.inside.base.state c.self.inside.batch c.self.inside.ordered (record { items = c.self.inside.pages; running = c.self.inside.running.items; group = c.self.inside.group }) c.self.invariant.worked c.next_place.result first)
+    (lowest_is_next c.self.inside.base.state c.self.inside.batch c.self.inside.ordered (record { items = c.self.inside.pages; running = c.self.inside.running.items; group = c.self.inside.group }) c.self.invariant.0.worked c.next_place.result first)
 
 pub returns-clause-none : goal.returns-clause-none
 returns-clause-none c =

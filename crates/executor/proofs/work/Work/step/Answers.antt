@@ -43,7 +43,7 @@ returns-clause-does c =
     let at : m.place ≡ c.args.place = sym m.made.its ∙ (ap (λ (x : BatchRequest). x.place) one ∙ eqb-true r.place c.args.place parts.0) in
     let made : WorkStep (first_place old.base old.batch) old.progress c.args.place c.step_at.new.self.progress =
     subst (λ p. WorkStep (first_place old.base old.batch) old.progress p c.step_at.new.self.progress) at m.made in
-    let worked : Worked old.base old.batch old.ordered old.progress = subst (λ (v : WorkView). Worked v.base v.batch v.ordered v.progress) c.self.view_is c.self.invariant.worked in
+    let worked : Worked old.base old.batch old.ordered old.progress = subst (λ (v : WorkView). Worked v.base v.batch v.ordered v.progress) c.self.view_is c.self.invariant.0.worked in
     step_made old c.args.place c.step_at.new.self.progress worked made ∙ ap (λ (v : WorkView). Some v) (sym c.step_at.ensures.others)
 
 pub returns-in_err-step_at-clause-no_step : goal.returns-in_err-step_at-clause-no_step

@@ -16,7 +16,7 @@ place_of-at-requires c =
     let w : Progress = record { items = c.self.inside.pages; running = c.self.inside.running.items; group = c.self.inside.group } in
     let ready = subst (λ (v : WorkView). IsReadyAt v.progress c.args.i) (sym c.self.view_is) c.requires.ready in
     let is : c.index.result.now ≡ ready.request = c.index.ensures ∙ get_or_from_slice_get c.self.inside.running.items c.args.i ready.request c.index.result.now ready.there in
-    let within = place_within c.self.inside.base.state c.self.inside.batch c.self.inside.ordered w c.self.invariant.worked c.args.i ready.request ready.there in
+    let within = place_within c.self.inside.base.state c.self.inside.batch c.self.inside.ordered w c.self.invariant.0.worked c.args.i ready.request ready.there in
     omega (arith, c.place.ensures, ap (λ (r : BatchRequest). r.place) is, within, c.self.inside.batch.few)
 
 pub index_mut-requires : goal.index_mut-requires
@@ -50,7 +50,7 @@ pub invariant_of-self-2 : goal.invariant_of-self-2
 invariant_of-self-2 c =
     let w : Progress = record { items = c.self.inside.pages; running = c.self.inside.running.items; group = c.self.inside.group } in
     let m = made c in
-    record { worked = stepped w _ m.place c.self.invariant.worked m.made; next = c.self.invariant.next; few = c.self.invariant.few }
+    (record { worked = stepped w _ m.place c.self.invariant.0.worked m.made; next = c.self.invariant.0.next; few = c.self.invariant.0.few }, c.self.invariant.1)
 
 pub returns-clause-made : goal.returns-clause-made
 returns-clause-made c = subst (λ (v : WorkView). WorkStepAt (first_place v.base v.batch) v.progress c.args.i (record { items = c.step.new.pages; running = set c.self.inside.running.items c.args.i c.step.new.self; group = c.self.inside.group })) c.self.view_is (made c)

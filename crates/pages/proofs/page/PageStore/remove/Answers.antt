@@ -1,14 +1,12 @@
-use Rattle.std.proofs.Common.{◌≡◌, sym, ◌∙◌, rules}
-use Rattle.std.specs.Arc.{arc_value}
-use Rattle.std.specs.FinMap.{get, remove}
-use Rattle.pages.proofs.PageLemmas.{page-written, fits-remove, remove-absent, found-is, none-found}
+use Rattle.std.proofs.Common.{◌≡◌, sym, subst, ◌∙◌}
+use Rattle.std.specs.FinMap.{entries, get}
+use Rattle.items.specs.Map.{Items}
+use Rattle.wire.specs.Item.{PageFits}
+use Rattle.pages.proofs.PageLemmas.{fits-remove, remove-absent, found-is, none-found}
 use Rattle.pages.proofs.page.PageStore.remove.Goals as goal
 
 pub invariant_of-self-then-is_some : goal.invariant_of-self-then-is_some
-invariant_of-self-then-is_some c =
-    let old = arc_value c.self.inside.store in
-    let is : arc_value (c.make_mut.follows.lender c.remove.new.self) ≡ remove (arc_value c.self.inside.store) c.args.key.now = search rules in
-    page-written _ (remove old c.args.key.now) _ is c.forget.ensures (fits-remove old c.args.key.now c.self.invariant.fits)
+invariant_of-self-then-is_some c = subst (λ (m : Items). PageFits (entries m)) (sym c.in_ok-remove.ensures.ok) (fits-remove _ c.args.key.now c.self.invariant)
 
 pub returns-else-is_some-clause-ok : goal.returns-else-is_some-clause-ok
 returns-else-is_some-clause-ok c =

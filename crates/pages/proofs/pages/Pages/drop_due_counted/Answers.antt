@@ -10,21 +10,21 @@ use Rattle.pages.proofs.StateLemmas.{length-states}
 use Rattle.pages.proofs.CountLemmas.{count-joined}
 use Rattle.pages.proofs.DueLemmas.{dropped-beside}
 use Rattle.pages.proofs.PartLemmas.{parts-joined}
-use Rattle.pages.proofs.pages.Pages.drop_due_counted.Goals.{After-saturating_add}
+use Rattle.pages.proofs.pages.Pages.drop_due_counted.Goals.{In_ok-looks}
 use Rattle.pages.proofs.pages.Pages.drop_due_counted.Goals as goal
 
-abbrev after : After-saturating_add → List PageState
+abbrev after : In_ok-looks → List PageState
 after c = take c.self.inside.pages.len (c.drop_from_all.new.pages ++ drop (length c.drop_from_all.new.pages) c.self.inside.pages.items)
 
-front : (c : After-saturating_add) → after c ≡ c.drop_from_all.new.pages
+front : (c : In_ok-looks) → after c ≡ c.drop_from_all.new.pages
 front c =
     let long : c.self.inside.pages.len ≡ length c.drop_from_all.new.pages = omega (arith, c.self.inside.pages.ok.0, c.drop_from_all.auto.pages, ap length c.deref_mut.ensures.value) in
     ap (λ (n : ℕ). take n (c.drop_from_all.new.pages ++ drop (length c.drop_from_all.new.pages) c.self.inside.pages.items)) long
     ∙ take-append_seam c.drop_from_all.new.pages (drop (length c.drop_from_all.new.pages) c.self.inside.pages.items)
 
 -- what is due is dropped from each page
-dropped : (c : After-saturating_add) → items_of (after c) ≡ map (λ page. alive page c.args.moment) (items_of c.self.inside.pages.items)
-dropped c = ap items_of (front c) ∙ c.in_ok-copied.ensures.ok ∙ ap (λ (pages : List PageState). map (λ page. alive page c.args.moment) (items_of pages)) c.deref_mut.ensures.value
+dropped : (c : In_ok-looks) → items_of (after c) ≡ map (λ page. alive page c.args.moment) (items_of c.self.inside.pages.items)
+dropped c = ap items_of (front c) ∙ c.in_ok-looks.ensures.ok ∙ ap (λ (pages : List PageState). map (λ page. alive page c.args.moment) (items_of pages)) c.deref_mut.ensures.value
 
 pub invariant_of-self-2 : goal.invariant_of-self-2
 invariant_of-self-2 c = subst ArePages (sym (dropped c)) (joined-alive (items_of c.self.inside.pages.items) c.args.moment c.self.invariant).0
@@ -34,7 +34,7 @@ returns-clause-ok c =
     ap joined (dropped c) ∙ (joined-alive (items_of c.self.inside.pages.items) c.args.moment c.self.invariant).1 ∙ ap (λ (m : Items). alive m c.args.moment) c.self.view_is
 
 -- how many items there were and are, and how many stand beside what was due
-module _ (c : After-saturating_add) where
+module _ (c : In_ok-looks) where
   old : item_count (items_of c.deref_mut.result.now) ≡ length (entries c.args.self.now)
   old =
       ap (λ (pages : List PageState). item_count (items_of pages)) c.deref_mut.ensures.value ∙ count-joined (items_of c.self.inside.pages.items) c.self.invariant
@@ -56,20 +56,10 @@ returns-clause-count c =
     let was = old c in
     let is = new c in
     let all = beside c in
-    omega (arith, c.in_ok-copied.ensures.count, c.in_ok-copied.ensures.copied, c.saturating_add.ensures, was, is, many, all)
-
-pub returns-clause-least : goal.returns-clause-least
-returns-clause-least c =
-    let all = beside c in
-    omega (arith, c.in_ok-copied.ensures.copied, c.saturating_add.ensures, all)
+    omega (arith, c.in_ok-looks.ensures.count, was, is, many, all)
 
 pub returns-clause-dropped : goal.returns-clause-dropped
 returns-clause-dropped c =
     let was = old c in
     let is = new c in
-    let gone = dropped-beside c.args.moment (items_of c.deref_mut.result.now) in
-    let left = ap item_count c.in_ok-copied.ensures.ok in
-    omega (arith, c.in_ok-copied.ensures.copied, c.saturating_add.ensures, was, is, gone, left)
-
-pub returns-in_err-copied-clause-least : goal.returns-in_err-copied-clause-least
-returns-in_err-copied-clause-least c = IfOk-from_err c.from_residual.result _ c.from_residual.ensures.0
+    omega (arith, c.in_ok-looks.ensures.dropped, was, is)

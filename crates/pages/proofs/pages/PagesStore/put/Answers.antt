@@ -14,7 +14,7 @@ both c =
     edit-page c.put.result pages c.page_of.result (page_number c.args.key) c.index_mut-page.result.now c.put.new.self
     (λ (m : Items). insert m c.args.key c.args.item) (insert (joined (items_of pages)) c.args.key c.args.item)
     c.self.invariant c.page_of.ensures.number c.page_of.ensures.small c.index_mut-page.ensures.value
-    (ok-items c.put.result c.put.new.self _ _ c.put.ensures.ok) c.put.ensures.err (joined-insert (items_of pages) c.self.invariant c.args.key c.args.item)
+    (ok-items c.put.result c.put.new.self _ _ _ c.put.ensures.ok) c.put.ensures.err (joined-insert (items_of pages) c.self.invariant c.args.key c.args.item)
 
 pub invariant_of-self : goal.invariant_of-self
 invariant_of-self c = (both c).0

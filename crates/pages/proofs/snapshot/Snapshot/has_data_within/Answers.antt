@@ -11,13 +11,13 @@ pub returns-then-not-are_within : goal.returns-then-not-are_within
 returns-then-not-are_within c = (
   λ no. absurd (false≢true no),
   λ within.
-      let all = all-in_part (λ e. nat_le (length e.1.block) c.args.most) (λ e. page_number e.0 == c.loop-number.number) (entries c.args.self.now) (test-from_within c.args.most (entries c.args.self.now) within) in
-      absurd (false≢true (sym c.if-not-are_within.true ∙ c.are_within.ensures ∙ ap (list_all (λ e. nat_le (length e.1.block) c.args.most)) c.page.ensures.entries ∙ all)),
+      let all = all-in_part (λ e. nat_le (length e.1.block) c.args.most) (λ e. page_number e.0 == c.loop-number.number) (entries c.args.self.now.items) (test-from_within c.args.most (entries c.args.self.now.items) within) in
+      absurd (false≢true (sym c.if-not-are_within.true ∙ c.are_within.ensures ∙ ap (list_all (λ e. nat_le (length e.1.block) c.args.most)) c.sorted_page.ensures.entries ∙ all)),
 )
 
 pub returns : goal.returns
 returns c = (
-  λ yes. within-from_test c.args.most (entries c.args.self.now) (all-from_pages (λ e. nat_le (length e.1.block) c.args.most) (entries c.args.self.now)
+  λ yes. within-from_test c.args.most (entries c.args.self.now.items) (all-from_pages (λ e. nat_le (length e.1.block) c.args.most) (entries c.args.self.now.items)
       (λ p l. c.loop-number.invariant p (omega (arith, l, c.loop-number-test.false)))),
   λ within. refl,
 )

@@ -5,4 +5,4 @@ use Rattle.pages.proofs.snapshot.Snapshot.old_root.Given as goal
 
 -- the digests so far stand in their places
 abbrev pub invariant-loop-number : goal.invariant-loop-number
-invariant-loop-number l = (length l.digests ≡ OLD_PAGES) × ((k : ℕ) → k < l.number → get_or l.digests k [] ≡ digest_among OLD_PAGES l.self k)
+invariant-loop-number l = (length l.digests ≡ OLD_PAGES) × ((k : ℕ) → k < l.number → get_or l.digests k [] ≡ digest_among OLD_PAGES l.self.items k)

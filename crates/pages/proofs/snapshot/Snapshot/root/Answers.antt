@@ -1,8 +1,7 @@
 use Rattle.std.proofs.Common.{ap, ◌∙◌}
-use Rattle.items.specs.Map.{Items}
-use Rattle.token.specs.declared.form.Form.TheVariants.{Current}
-use Rattle.pages.specs.Form.{root_by}
+use Rattle.pages.specs.Page.{Laid}
+use Rattle.pages.specs.Form.{root_in}
 use Rattle.pages.proofs.snapshot.Snapshot.root.Goals as goal
 
 pub returns : goal.returns
-returns c = c.self.invariant.rooted ∙ ap (λ (m : Items). root_by Current m) c.self.view_is
+returns c = c.self.invariant.rooted ∙ ap (λ (s : Laid). root_in s.layout s.items) c.self.view_is

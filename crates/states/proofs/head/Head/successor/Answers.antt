@@ -14,7 +14,7 @@ returns c =
     let head = sym (c.is_same.ensures.0 c.if-not-is_same.false) ∙ c.head.ensures in
     let sessions = ap (λ s. s.sessions) c.followed_in-state.ensures.followed in
     let items = ap (λ s. s.items) c.followed_in-state.ensures.followed in (
-      follows_of c.args.self.now.origin.form c.args.before.now c.args.batch.now c.followed_in-state.result c.args.sessions c.args.pages c.followed_in-state.ensures.followed c.followed_in-state.ensures.fit
+      follows_of c.args.self.now.origin.form c.args.before.now c.args.batch.now c.followed_in-state.result c.args.sessions c.args.pages.items c.followed_in-state.ensures.followed c.followed_in-state.ensures.fit
           (sym c.fits_form.ensures ∙ c.if-not-fits_form.false),
       λ i. state_of (sym head i) (sessions i) (items i),
     )

@@ -21,14 +21,16 @@ invariant_of-result c =
       batch = c.args.parts.origin.batch;
       root = c.root_of_form.ensures i;
       sessions = sessions i;
-    }))) in
-    record {
-      state = record {
-        sessions_fit = record { count = omega (arith, count, c.entries-entries.ensures.few); each = subst (λ (entries : List (ℕ × LastReply)). All SessionFits entries) c.entries-entries.ensures.entries c.entries-entries.ensures.fit };
-        form_fit = c.requires.form;
-        few = c.requires.number.1;
-        first = λ none. absurd (omega (arith, c.requires.number.0, none));
-        token = λ later i. record (parts_of c.args.parts) { token = record { 0 = token i } };
-      };
-      sessions = c.requires.digested;
-    }
+    }))) in (
+      record {
+        state = record {
+          sessions_fit = record { count = omega (arith, count, c.entries-entries.ensures.few); each = subst (λ (entries : List (ℕ × LastReply)). All SessionFits entries) c.entries-entries.ensures.entries c.entries-entries.ensures.fit };
+          form_fit = c.requires.form;
+          few = c.requires.number.1;
+          first = λ none. absurd (omega (arith, c.requires.number.0, none));
+          token = λ later i. record (parts_of c.args.parts) { token = record { 0 = token i } };
+        };
+        sessions = c.requires.digested;
+      },
+      c.requires.laid,
+    )

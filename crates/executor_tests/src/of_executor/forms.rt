@@ -1,0 +1,256 @@
+//! States of both forms of today: from 1,024 items to 1,025 and back. Tokens are those that `scripts/state_tokens` prints.
+
+use super::{Base, Committed, committed};
+use pages::PAGES;
+use proto::Fault;
+use states::State;
+use std::alloc::{AllocError, Global};
+use std::test::Fail;
+use token::{Form, Token};
+
+pub const MOMENT: u32 = 1000;
+
+/// How many batches of 64 sets make 1,024 items.
+const FULL: u32 = 16;
+
+/// What a client asks.
+#[derive(Clone, Copy)]
+pub enum Asked {
+    /// To set the key of this number, which is due after so many seconds: 0 for never.
+    Set(u32, u8),
+    Delete(u32),
+    /// To get so many keys, from number 1 on.
+    Get(u32),
+}
+
+/// The head of a batch of epoch 1, with so many requests.
+fn add_head(bytes: &mut Vec<u8>, n: u64, moment: u32, count: u32) -> Result<(), AllocError> {
+    bytes.extend_from_slice(&[4, 0, 0, 0, 0, 0, 0, 0, 1])?;
+    bytes.extend_from_slice(&n.to_be_bytes())?;
+    bytes.extend_from_slice(&moment.to_be_bytes())?;
+    bytes.extend_from_slice(&count.to_be_bytes())
+}
+
+/// `k` and four digits.
+pub fn add_key(bytes: &mut Vec<u8>, number: u32) -> Result<(), AllocError> {
+    bytes.extend_from_slice(&[5, b'k'])?;
+    for place in [1000u32, 100, 10, 1] {
+        bytes.push(b'0' + (number / place % 10) as u8)?;
+    }
+    Ok(())
+}
+
+fn add_set(bytes: &mut Vec<u8>, number: u32, exptime: u8) -> Result<(), AllocError> {
+    bytes.push(2)?;
+    add_key(bytes, number)?;
+    bytes.extend_from_slice(&[0, 0, 0, 0, 0, 0, 0, exptime, 0, 0, 0, 1, b'5'])
+}
+
+fn add_get(bytes: &mut Vec<u8>, count: u32) -> Result<(), AllocError> {
+    bytes.push(0)?;
+    bytes.extend_from_slice(&count.to_be_bytes())?;
+    for number in 0..count {
+        add_key(bytes, number.saturating_add(1))?;
+    }
+    Ok(())
+}
+
+/// A request of a client, of this number.
+fn add_request(bytes: &mut Vec<u8>, client: u8, n: u64, asked: Asked) -> Result<(), AllocError> {
+    bytes.extend_from_slice(&[0, client])?;
+    bytes.extend_from_slice(&n.to_be_bytes())?;
+    match asked {
+        Asked::Set(number, exptime) => add_set(bytes, number, exptime),
+        Asked::Delete(number) => {
+            bytes.push(8)?;
+            add_key(bytes, number)
+        }
+        Asked::Get(count) => add_get(bytes, count),
+    }
+}
+
+/// Batch `n`, from 1 to 16: 64 clients set 64 keys.
+fn full_batch(alloc: Global, n: u32) -> Result<Vec<u8>, AllocError> {
+    let mut bytes = Vec::new(alloc);
+    add_head(&mut bytes, u64::from(n), MOMENT, 64)?;
+    let before = 64u32.wrapping_mul(n).wrapping_sub(64);
+    for place in 0..64u8 {
+        let number = before.wrapping_add(u32::from(place));
+        add_request(&mut bytes, place + 1, u64::from(n), Asked::Set(number, 0))?;
+    }
+    Ok(bytes)
+}
+
+/// Batch `n`: the request of this number of client 1.
+fn one(
+    alloc: Global,
+    n: u64,
+    number: u64,
+    moment: u32,
+    asked: Asked,
+) -> Result<Vec<u8>, AllocError> {
+    let mut bytes = Vec::new(alloc);
+    add_head(&mut bytes, n, moment, 1)?;
+    add_request(&mut bytes, 1, number, asked)?;
+    Ok(bytes)
+}
+
+/// The base that batch `n` of 64 sets makes.
+fn after_full(alloc: Global, base: &Base, n: u32) -> Result<Base, Fault> {
+    let bytes = full_batch(alloc, n)?;
+    let committed = committed(alloc, base, bytes.as_slice(), false)?;
+    Ok(committed.as_base().share()?)
+}
+
+/// The base with 1,024 items.
+fn filled(alloc: Global) -> Result<Base, Fault> {
+    let mut base = Base::first(alloc)?;
+    for n in 1..=FULL {
+        base = after_full(alloc, &base, n)?;
+    }
+    Ok(base)
+}
+
+/// What a batch of the request of this number of client 1 makes.
+pub fn after_one(
+    alloc: Global,
+    base: &Base,
+    number: u64,
+    moment: u32,
+    asked: Asked,
+) -> Result<Committed, Fault> {
+    let bytes = one(alloc, base.number().wrapping_add(1), number, moment, asked)?;
+    committed(alloc, base, bytes.as_slice(), false)
+}
+
+fn count_items(state: &State) -> u64 {
+    let mut count = 0u64;
+    for number in 0..PAGES {
+        count = count.saturating_add(state.pages().len(number));
+    }
+    count
+}
+
+/// What one request makes of the state before.
+#[derive(Clone, Copy)]
+pub struct Row {
+    pub moment: u32,
+    pub asked: Asked,
+    pub form: Form,
+    pub items: u64,
+    pub token: [u8; 32],
+}
+
+impl Row {
+    pub fn is_of(&self, state: &State) -> bool {
+        state.form() == self.form
+            && count_items(state) == self.items
+            && state.token() == Token(self.token)
+    }
+}
+
+/// A state of more than 1,024 items is followed by one of form 3, whatever the batch makes of them. What
+/// is due when the batch begins does not count.
+const ROWS: [Row; 6] = [
+    Row {
+        moment: MOMENT,
+        asked: Asked::Set(1024, 0),
+        form: Form::Current,
+        items: 1025,
+        token: [
+            0x04, 0x9f, 0x91, 0xb5, 0x66, 0x59, 0x21, 0xf2, 0x9b, 0x77, 0x68, 0x58, 0x7c, 0x10,
+            0xb5, 0xd3, 0xff, 0x70, 0x19, 0xc3, 0xd6, 0xbc, 0xd0, 0x81, 0x44, 0xe9, 0x14, 0x35,
+            0x97, 0x2a, 0x88, 0xbd,
+        ],
+    },
+    Row {
+        moment: MOMENT,
+        asked: Asked::Delete(0),
+        form: Form::Tree,
+        items: 1024,
+        token: [
+            0x11, 0x8e, 0x11, 0xd6, 0x2e, 0xaf, 0xcf, 0x95, 0x91, 0xb7, 0xd5, 0x10, 0xbe, 0xd3,
+            0xe7, 0xc1, 0x0e, 0xf8, 0xb1, 0xc7, 0x31, 0x48, 0xcd, 0x4f, 0xcf, 0x64, 0xef, 0x54,
+            0x67, 0xda, 0x02, 0x17,
+        ],
+    },
+    Row {
+        moment: MOMENT,
+        asked: Asked::Set(1025, 10),
+        form: Form::Current,
+        items: 1025,
+        token: [
+            0xe8, 0x99, 0x35, 0x3a, 0x67, 0x4f, 0xa7, 0x50, 0xec, 0xc4, 0x9c, 0xdb, 0xc3, 0x8f,
+            0x38, 0xce, 0x54, 0xd2, 0xe0, 0xa5, 0xde, 0xdf, 0x61, 0x05, 0xd7, 0x0c, 0xb5, 0x32,
+            0xc3, 0x6d, 0xc4, 0x3b,
+        ],
+    },
+    Row {
+        moment: MOMENT + 10,
+        asked: Asked::Get(1),
+        form: Form::Current,
+        items: 1024,
+        token: [
+            0xf7, 0xb7, 0xc7, 0x95, 0xf5, 0xe2, 0x93, 0x09, 0xcf, 0x5a, 0x3b, 0xe8, 0x11, 0x6b,
+            0xd1, 0x81, 0x33, 0x0d, 0x09, 0xea, 0x01, 0xae, 0x47, 0xd2, 0xf2, 0xc7, 0x9a, 0x93,
+            0xaa, 0x6a, 0xf3, 0x05,
+        ],
+    },
+    Row {
+        moment: MOMENT + 10,
+        asked: Asked::Set(1026, 0),
+        form: Form::Current,
+        items: 1025,
+        token: [
+            0x2a, 0x2d, 0xaf, 0xcc, 0xc7, 0xb9, 0x76, 0x57, 0x19, 0xea, 0x32, 0xbe, 0xd0, 0x20,
+            0x28, 0x3d, 0x82, 0x6e, 0xb5, 0xb8, 0xa9, 0x00, 0x00, 0x72, 0x70, 0x64, 0x54, 0x07,
+            0x5e, 0x50, 0x7e, 0xbd,
+        ],
+    },
+    Row {
+        moment: MOMENT + 10,
+        asked: Asked::Get(4),
+        form: Form::Tree,
+        items: 1025,
+        token: [
+            0x5c, 0x8e, 0xce, 0x1f, 0xbb, 0xc5, 0x63, 0x68, 0xb8, 0xc5, 0x18, 0x9f, 0x15, 0x04,
+            0xc8, 0x1b, 0x42, 0x91, 0x55, 0x4e, 0xea, 0xa5, 0x74, 0xcc, 0x90, 0x78, 0x02, 0x7b,
+            0x11, 0x02, 0xbf, 0xa1,
+        ],
+    },
+];
+
+/// The token after 16 batches.
+const FILLED: [u8; 32] = [
+    0x11, 0x30, 0x06, 0x93, 0xb0, 0xfe, 0xe3, 0x98, 0x56, 0x9e, 0x62, 0x2c, 0x2b, 0xa5, 0xfd, 0x74,
+    0x35, 0xe7, 0x26, 0xf1, 0x27, 0x08, 0x54, 0xec, 0x32, 0x46, 0x8a, 0xd2, 0x0d, 0xa1, 0xaa, 0xe4,
+];
+
+/// The place of the first row that does not hold: nothing if there is none.
+fn first_wrong(alloc: Global, filled: Base) -> Result<Option<u64>, Fault> {
+    let mut base = filled;
+    let mut place = 0u64;
+    for row in &ROWS {
+        place = place.wrapping_add(1);
+        let next = after_one(
+            alloc,
+            &base,
+            u64::from(FULL).wrapping_add(place),
+            row.moment,
+            row.asked,
+        )?;
+        if !row.is_of(next.state()) {
+            return Ok(Some(place));
+        }
+        base = next.as_base().share()?;
+    }
+    Ok(None)
+}
+
+#[test]
+fn the_form_is_that_of_the_items_when_the_batch_begins(rt: HostRuntime) -> Result<(), Fail> {
+    let base = filled(rt.alloc())?;
+    assert!(rt; base.token() == Token(FILLED));
+    assert!(rt; first_wrong(rt.alloc(), base)?.is_none());
+    Ok(())
+}

@@ -1,0 +1,14 @@
+use Rattle.std.proofs.Common.{sym, ap, ◌∙◌, [], ◌∷◌, ◌++◌, arith}
+use Rattle.std.proofs.Math.Numerals.{add-one}
+use Rattle.world.specs.World.{first_executor, all_up}
+use Rattle.world.proofs.opening.first_executors.Goals as goal
+
+pub loop-id-preserved : goal.loop-id-preserved
+loop-id-preserved c = record {
+  made =
+      c.push_reserved.ensures.items
+      ∙ (λ i. c.loop-id.invariant.made i ++ c.in-Ok.ensures i ∷ [])
+      ∙ ap (all_up (first_executor c.args.u)) (sym (add-one c.loop-id.id));
+  count = omega (arith, c.push_reserved.ensures.len, c.loop-id.invariant.count);
+  room = omega (arith, c.push_reserved.ensures.capacity, c.loop-id.invariant.room);
+}
