@@ -9,8 +9,9 @@ ghost use Rattle.executor.specs.Work.{replied, replied_at, replies_to};
 use crate::answered::Answered;
 use crate::batch_request::BatchRequest;
 use item_steps::reply_of;
-use sessions::{Request, Sessions};
+use sessions::Request;
 use std::alloc::{AllocError, Global};
+use token::HashedSessions;
 
 /// The reply to a request all of whose steps were made.
 fn answer(alloc: Global, request: &Request, running: &BatchRequest) -> Result<Answered, AllocError>
@@ -30,7 +31,7 @@ fn add_answer(
     alloc: Global,
     requests: &[Request],
     running: &BatchRequest,
-    sessions: &mut Sessions,
+    sessions: &mut HashedSessions,
     replies: &mut Vec<Answered>,
 ) -> Result<(), AllocError>
     requires { (request : Request) → slice_get requests.now running.now.place ≡ Some request
@@ -55,7 +56,7 @@ pub fn answer_all(
     alloc: Global,
     requests: &[Request],
     running: &[BatchRequest],
-    sessions: &mut Sessions,
+    sessions: &mut HashedSessions,
 ) -> Result<Vec<Answered>, AllocError>
     requires { All (λ r. (request : Request) → slice_get requests.now r.place ≡ Some request
         → length r.answers ≡ length (steps request.command)) running.now }

@@ -9,11 +9,10 @@ use item_steps::{Stamp, Task};
 use pages::Pages;
 use proto::Fault;
 use round::{Gate, Ran};
-use sessions::Sessions;
 use std::alloc::{AllocError, Global};
 use std::sync::Wait;
 use std::thread::Threads;
-use token::{Digested, Form};
+use token::{Digested, Form, HashedSessions};
 use workers::{Workers, digest_all, run};
 
 /// Runs the group on the pages, by at most `workers` threads at once. Place 0 is at `base`.
@@ -46,7 +45,7 @@ pub fn digest<R: Threads + Sync>(
     alloc: Global,
     pages: Pages,
     form: Form,
-    sessions: &Sessions,
+    sessions: &HashedSessions,
     workers: Workers,
 ) -> (Pages, Digested)
     ensures pages { result.0 ≡ pages }

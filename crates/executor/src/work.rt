@@ -28,13 +28,12 @@ use item_steps::Stamp;
 use items::Store;
 use pages::Pages;
 use round::Gate;
-use sessions::Sessions;
 use states::{form_over, layout_of};
 use std::alloc::{AllocError, Global};
 use std::marker::Model;
 use std::sync::Wait;
 use std::thread::Threads;
-use token::{Digested, Form};
+use token::{Digested, Form, HashedSessions};
 use workers::Workers;
 
 /// A batch that is being executed over its base: its requests run group by group, and the steps of
@@ -132,7 +131,7 @@ impl Work {
           progress = started base.now.state batch ordered group;
         }) }
     {
-        let mut pages = base.state.pages().share()?.open();
+        let mut pages = base.state.pages().open()?;
         pages.drop_due(batch.moment.max(base.state.moment()))?;
         let form = form_over(pages.len());
         Ok(Work {
@@ -254,14 +253,15 @@ impl Work {
     }
 
     /// The sessions after the batch, which keep the replies, and the replies.
-    fn answers(&self, alloc: Global) -> Result<(Sessions, Vec<Answered>), AllocError>
+    fn answers(&self, alloc: Global) -> Result<(HashedSessions, Vec<Answered>), AllocError>
         requires done { IsTrue (group_done self.now.progress) }
         requires last { IsLast self.now.progress.running (Some self.now.progress.group) }
         ensures sessions { IfOk result (λ made. made.0
             ≡ kept_after self.now.base.sessions (replies_of self.now.base self.now.batch self.now.progress.running)) }
         ensures replies { IfOk result (λ made. made.1.items ≡ replies_of self.now.base self.now.batch self.now.progress.running) }
     {
-        let mut sessions = self.base.state.sessions().clone()?;
+        let mut sessions = self.base.state.hashed_sessions().clone()?;
+        sessions.prepare(alloc, self.form);
         let requests = self.batch.requests.as_slice();
         let replies = answer_all(alloc, requests, &self.running, &mut sessions)?;
         Ok((sessions, replies))
@@ -271,7 +271,7 @@ impl Work {
     /// allocation.
     fn end(
         self,
-        sessions: Sessions,
+        sessions: HashedSessions,
         digested: Digested,
         replies: Vec<Answered>,
     ) -> Result<Tentative, AllocError>
@@ -394,7 +394,7 @@ impl Work {
         self,
         rt: &R,
         alloc: Global,
-        sessions: &Sessions,
+        sessions: &HashedSessions,
         workers: Workers,
     ) -> (Work, Digested)
         ensures same { result.0 ≡ self }

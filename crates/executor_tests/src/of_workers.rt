@@ -16,7 +16,7 @@ use std::mem;
 use std::sync::{Mutex, Wait};
 use std::test::*;
 use std::thread::Threads;
-use token::{Form, sessions_digest, told_digest_of};
+use token::{Form, HashedSessions, sessions_digest, told_digest_of};
 use workers::{Workers, digest_all, run};
 
 fn is_same_item(a: &Item, b: &Item) -> bool {
@@ -425,7 +425,7 @@ fn make_the_same<R: Threads + Sync>(
     pages: &mut [Page],
     alone: &mut [Page],
     form: Form,
-    sessions: &Sessions,
+    sessions: &HashedSessions,
     workers: Workers,
 ) -> bool {
     for page in alone.iter_mut() {
@@ -436,14 +436,14 @@ fn make_the_same<R: Threads + Sync>(
         .iter()
         .zip(&*alone)
         .all(|(a, b)| a.digest() == b.digest());
-    pages.len() == 256 && same && *digested.digest() == digest_in(form, sessions)
+    pages.len() == 256 && same && *digested.digest() == digest_in(form, sessions.sessions())
 }
 
 fn make_the_same_of<R: Threads + Sync>(
     rt: &R,
     alloc: Global,
     form: Form,
-    sessions: &Sessions,
+    sessions: &HashedSessions,
     workers: Workers,
 ) -> Result<bool, AllocError> {
     let mut pages = written_pages(alloc)?;
@@ -466,7 +466,7 @@ fn workers_make_the_same<R: Threads + Sync>(
     end: u16,
     workers: Workers,
 ) -> Result<bool, AllocError> {
-    let sessions = sessions_below(alloc, end)?;
+    let sessions = HashedSessions::new(sessions_below(alloc, end)?);
     Ok(
         make_the_same_of(rt, alloc, Form::Current, &sessions, workers)?
             && make_the_same_of(rt, alloc, Form::Tree, &sessions, workers)?,

@@ -40,6 +40,18 @@ pub fn numbered_key(alloc: Global, number: u32) -> Result<Key, AllocError> {
     key(alloc, bytes.as_slice())
 }
 
+/// The key of a number below 1,000,000: `m000000`, `m000001` and so on.
+fn long_key(alloc: Global, number: u32) -> Result<Key, AllocError> {
+    let high = [
+        digit(number / 100_000),
+        digit(number / 10_000),
+        digit(number / 1_000),
+    ];
+    let low = [digit(number / 100), digit(number / 10), digit(number)];
+    let bytes = [b'm', high[0], high[1], high[2], low[0], low[1], low[2]];
+    key(alloc, bytes.as_slice())
+}
+
 /// The item of a number. Every third is due at the moment of its number.
 fn numbered_item(alloc: Global, number: u32) -> Result<Item, AllocError> {
     let due = if number % 3 == 0 {
@@ -57,6 +69,16 @@ pub fn put_numbered(
     number: u32,
 ) -> Result<(), AllocError> {
     let key = numbered_key(alloc, number)?;
+    page.put(alloc, key, numbered_item(alloc, number)?)
+}
+
+/// Puts the item of a number below 1,000,000 under its long key.
+pub fn put_long_numbered(
+    alloc: Global,
+    page: &mut MerkleMap<Key, Item>,
+    number: u32,
+) -> Result<(), AllocError> {
+    let key = long_key(alloc, number)?;
     page.put(alloc, key, numbered_item(alloc, number)?)
 }
 

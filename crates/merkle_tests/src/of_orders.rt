@@ -1,6 +1,6 @@
 //! Pages that are written in several orders.
 
-use crate::entries::{put_numbered, remove_numbered};
+use crate::entries::{put_long_numbered, put_numbered, remove_numbered};
 use base::Entry;
 use items::Item;
 use merkle::MerkleMap;
@@ -18,6 +18,12 @@ pub const OF_ALL: [u8; 32] = [
 pub const OF_ALIVE: [u8; 32] = [
     0x14, 0x97, 0x9e, 0x3c, 0x85, 0x7f, 0x63, 0xdf, 0x3c, 0xb6, 0x54, 0xad, 0xba, 0x17, 0x94, 0x48,
     0xc9, 0xd6, 0x2a, 0xf7, 0xf7, 0x78, 0x83, 0x33, 0xdd, 0x2a, 0x89, 0x35, 0x66, 0xec, 0x36, 0xc6,
+];
+
+/// Of a million entries, `m000000` to `m999999`.
+pub const OF_A_MILLION: [u8; 32] = [
+    0x69, 0x04, 0xf9, 0x92, 0x90, 0xde, 0x05, 0x54, 0xe9, 0x09, 0x96, 0x3a, 0x65, 0xed, 0xad, 0xa8,
+    0x44, 0x6c, 0x79, 0x3b, 0x3b, 0x5b, 0xc4, 0x27, 0xa7, 0x7c, 0xe3, 0x5f, 0x2e, 0x8d, 0xd1, 0x21,
 ];
 
 /// Puts the entries 0 to 299, in steps of so many.
@@ -64,6 +70,17 @@ fn clone_keeps_all(page: &mut MerkleMap<Key, Item>) -> Result<bool, AllocError> 
     Ok(dropped == 17 && page.seal() == OF_ALIVE && before.digest() == OF_ALL)
 }
 
+/// Whether a million entries have their digest, after puts in steps of so many.
+fn has_a_million(alloc: Global, step: u32) -> Result<bool, AllocError> {
+    let mut page = MerkleMap::new();
+    let mut number = 0u32;
+    for _ in 0..1_000_000u32 {
+        put_long_numbered(alloc, &mut page, number)?;
+        number = number.wrapping_add(step) % 1_000_000;
+    }
+    Ok(page.seal() == OF_A_MILLION && page.len() == 1_000_000)
+}
+
 /// How many entries a walk shows.
 fn count_shown(alloc: Global, page: &MerkleMap<Key, Item>) -> Result<usize, AllocError> {
     let mut entries: Vec<Entry<Key, Item>> = Vec::new(alloc);
@@ -92,5 +109,12 @@ fn what_is_gone_leaves_no_trace(rt: HostRuntime) -> Result<(), Fail> {
     assert!(rt; has_all_after_more(rt.alloc(), &mut page)?);
     assert!(rt; count_shown(rt.alloc(), &page)? == 300);
     assert!(rt; clone_keeps_all(&mut page)?);
+    Ok(())
+}
+
+#[test]
+fn a_million_entries_have_one_digest(rt: HostRuntime) -> Result<(), Fail> {
+    assert!(rt; has_a_million(rt.alloc(), 1)?);
+    assert!(rt; has_a_million(rt.alloc(), 600_011)?);
     Ok(())
 }

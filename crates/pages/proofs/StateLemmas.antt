@@ -5,7 +5,7 @@ use Rattle.std.proofs.Math.Nat.{eq-or-lt_of_le}
 use Rattle.std.proofs.lemmas.List.{get_or-set_same, get_or-set_other, map-set, set-get_or, get_or-map, length-map, take_more, map_push}
 use Rattle.base.proofs.ListLemmas.{next-same, next-changed}
 use Rattle.items.specs.Map.{Items}
-use Rattle.pages.specs.Page.{PageState, Laid, page_count, page_entries, page_items, page_digest_in, sealed_in}
+use Rattle.pages.specs.Page.{PageState, page_count, page_entries, page_items, page_digest_in, sealed_in}
 use Rattle.pages.specs.Layout.{digest_in}
 use Rattle.pages.specs.declared.layout.Layout.{Layout}
 use Rattle.pages.specs.Joined.{ArePages, AreSealed, joined, items_of}
@@ -52,12 +52,6 @@ laid-at layout pages i page sealed l read =
 pub digest-at : (layout : Layout) (pages : List PageState) (i : ℕ) (page : PageState) → AreSealed layout pages → i < page_count → page ≡ get_or pages i page
     → digest_in page.layout page.items ≡ page_digest_in layout (joined (items_of pages)) i
 digest-at layout pages i page sealed l read = λ j. digest_in (laid-at layout pages i page sealed l read j) (part-at pages i page sealed.are l read j)
-
--- what is made of its layout and its items, where these pages are seen together
-pub seen-at : {X : Type 0} (f : Layout → Items → X) (layout : Layout) (pages : List PageState) (i : ℕ) (page : PageState) (seen : Laid) → AreSealed layout pages
-    → record { items = joined (items_of pages); layout = layout } ≡ seen → i < page_count → page ≡ get_or pages i page → f page.layout page.items ≡ f seen.layout (page_items seen.items i)
-seen-at f layout pages i page seen sealed is l read =
-    (λ j. f (laid-at layout pages i page sealed l read j) (part-at pages i page sealed.are l read j)) ∙ ap (λ (s : Laid). f s.layout (page_items s.items i)) is
 
 -- after an edit of each page before i, and now of page i
 pub next-edited : (f : Items → Items) (all : List Items) (pages : List PageState) (i : ℕ) (page new : PageState)

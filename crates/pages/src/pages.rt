@@ -106,7 +106,7 @@ impl Pages {
     {
         let Pages { mut pages } = self;
         seal_all(&mut pages, layout)?;
-        Ok(Snapshot::of_sealed(pages, layout))
+        Snapshot::of_sealed(pages, layout)
     }
 
     /// Drops every item that is due at the moment or before it, as `drop_due`, and answers how many

@@ -5,7 +5,7 @@ ghost use Rattle.items.specs.Map.{alive};
 ghost use Rattle.pages.specs.Form.{root_in};
 ghost use Rattle.pages.specs.Page.{page_items, page_entries, page_digest_in, page_count, of_each};
 ghost use Rattle.pages.specs.Layout.{text_in, entries_in};
-ghost use Rattle.pages.specs.Joined.{ArePages, AreSealed, joined, items_of};
+ghost use Rattle.pages.specs.Joined.{ArePages, AreSealed, IsSnapshot, joined, items_of};
 ghost use Rattle.pages.specs.Others.{AreSameBeside};
 ghost use Rattle.pages.specs.declared.layout.Layout.{Layout as LayoutOf};
 ghost use Rattle.pages.specs.declared.layout.Layout.TheVariants.{Sorted};
@@ -19,13 +19,14 @@ use items::Item;
 use proto::Key;
 use std::alloc::{AllocError, Global};
 use std::marker::Model;
+use std::sync::Arc;
 use token::PAGES;
 use wire::Sink;
 
 /// Pages that are kept as they are, all in one layout, and the root over their digests.
 #[derive(Drop)]
 pub struct Snapshot {
-    pages: Vec<Page>,
+    pages: Arc<Vec<Page>, Global>,
     layout: Layout,
     root: [u8; 32],
 }
@@ -42,9 +43,9 @@ impl Model for Snapshot {
 
     ghost coded = { laid_code (map.code (coded_list coded_ℕ) item.the_row.coded) kind.the_row.coded };
 
-    ghost view = { λ a. record { items = joined (items_of a.pages.items); layout = a.layout } };
+    ghost view = { λ a. record { items = joined (items_of a.pages.value.items); layout = a.layout } };
 
-    ghost invariant = { λ a. IsSnapshot a.layout a.pages.items a.root };
+    ghost invariant = { λ a. IsSnapshot a.layout a.pages.value.items a.root };
 }
 
 fn digests_of(pages: &Vec<Page>) -> [[u8; 32]; PAGES]
@@ -96,38 +97,55 @@ fn due_among(pages: &Vec<Page>, moment: u32) -> PageSet
 }
 
 impl Snapshot {
-    /// These pages, which are all in this layout, and whose digests are all kept.
-    pub(crate) fn of_sealed(mut pages: Vec<Page>, layout: Layout) -> Snapshot
-        requires { AreSealed layout pages.items }
-        ensures { result ≡ record { items = joined (items_of pages.items); layout = layout } }
+    fn rooted(pages: Vec<Page>, layout: Layout, root: [u8; 32]) -> Result<Snapshot, AllocError>
+        requires { IsSnapshot layout pages.items root }
+        ensures { IfOk result (λ snapshot. snapshot ≡ record { items = joined (items_of pages.items); layout = layout }) }
     {
-        let root = root_over(&mut pages);
-        Snapshot {
-            pages,
+        let alloc = *pages.allocator();
+        Ok(Snapshot {
+            pages: Arc::new(alloc, pages)?,
             layout,
             root,
-        }
+        })
     }
 
-    /// The same pages, shared: no item is copied, but the digests are, 16 KB for the tree over them.
-    /// The only error is a failed allocation.
+    /// These pages, which are all in this layout, and whose digests are all kept. The only error is a
+    /// failed allocation.
+    pub(crate) fn of_sealed(mut pages: Vec<Page>, layout: Layout) -> Result<Snapshot, AllocError>
+        requires { AreSealed layout pages.items }
+        ensures { IfOk result (λ snapshot. snapshot ≡ record { items = joined (items_of pages.items); layout = layout }) }
+    {
+        let root = root_over(&mut pages);
+        Snapshot::rooted(pages, layout, root)
+    }
+
+    /// The same pages, shared: nothing is copied. The only error is a failed allocation.
     pub fn share(&self) -> Result<Snapshot, AllocError>
         ensures { IfOk result (λ snapshot. snapshot ≡ self.now) }
     {
-        let mut pages = self.pages.clone()?;
-        grow_tree(&mut pages)?;
         Ok(Snapshot {
-            pages,
+            pages: self.pages.clone()?,
             layout: self.layout,
             root: self.root,
         })
     }
 
-    /// The pages to be written, with the digests that are kept. This takes no memory.
-    pub fn open(self) -> Pages
-        ensures { result ≡ self.items }
+    /// The pages to be written, with the digests that are kept. No item is copied, but the digests are,
+    /// 16 KB for the tree over them. The only error is a failed allocation.
+    pub fn open(&self) -> Result<Pages, AllocError>
+        ensures { IfOk result (λ pages. pages ≡ self.now.items) }
     {
-        Pages::join(self.pages)
+        let mut pages = (*self.pages).clone()?;
+        grow_tree(&mut pages)?;
+        Ok(Pages::join(pages))
+    }
+
+    fn page(&self, number: usize) -> &Page
+        requires { number < page_count }
+        ensures items { result.now.items ≡ page_items self.now.items number }
+        ensures layout { result.now.layout ≡ self.now.layout }
+    {
+        &self.pages[number]
     }
 
     /// How the items are kept.
@@ -151,7 +169,7 @@ impl Snapshot {
         ensures len { result ≡ length (page_entries self.now.items number) }
         ensures few { result < 2 ^ 32 }
     {
-        self.pages[number].len()
+        self.page(number).len()
     }
 
     /// The entries of a page of sorted ones, in the order of their keys.
@@ -161,7 +179,7 @@ impl Snapshot {
         ensures entries { result.now ≡ page_entries self.now.items number }
         ensures fit { PageFits result.now }
     {
-        self.pages[number].sorted_entries()
+        self.page(number).sorted_entries()
     }
 
     /// The entries of a page, shared, in the order of the layout. The only error is a failed allocation.
@@ -169,7 +187,7 @@ impl Snapshot {
         requires { number < page_count }
         ensures { IfOk result (λ entries. entries.items ≡ entries_in self.now.layout (page_items self.now.items number)) }
     {
-        self.pages[number].entries(alloc)
+        self.page(number).entries(alloc)
     }
 
     /// Whether a page has the same items in both. The only error is a failed allocation.
@@ -182,7 +200,7 @@ impl Snapshot {
         requires { number < page_count }
         ensures { IfOk result (λ same. IsTrue same ↔ (page_items self.now.items number ≡ page_items other.now.items number)) }
     {
-        self.pages[number].is_same(alloc, &other.pages[number])
+        self.page(number).is_same(alloc, other.page(number))
     }
 
     /// The digest of a page, by the layout. It was made when the pages were sealed.
@@ -190,7 +208,7 @@ impl Snapshot {
         requires { number < page_count }
         ensures { result ≡ page_digest_in self.now.layout self.now.items number }
     {
-        self.pages[number].digest()
+        self.page(number).digest()
     }
 
     /// Writes the text of a page, by the layout.
@@ -198,7 +216,7 @@ impl Snapshot {
         requires { number < page_count }
         ensures { OnOk result (Puts S.holds (text_in self.now.layout (page_items self.now.items number)) sink.old sink.new) }
     {
-        self.pages[number].put_text(sink)
+        self.page(number).put_text(sink)
     }
 
     /// The root of the tree over the digests of the pages. It was made when the pages were sealed.

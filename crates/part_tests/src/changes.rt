@@ -74,7 +74,7 @@ pub fn changed(
     change: &Change,
     layout: Layout,
 ) -> Result<(Snapshot, PlainStore), AllocError> {
-    let mut pages = kept.share()?.open();
+    let mut pages = kept.open()?;
     make(&mut pages, change)?;
     let mut after = plain.clone()?;
     make(&mut after, change)?;

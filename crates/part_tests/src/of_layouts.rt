@@ -86,7 +86,7 @@ fn roots_over_trees(rt: HostRuntime) -> Result<(), Fail> {
 
 /// The pages as trees, with the item of this place more.
 fn with_row(alloc: Global, kept: &Snapshot, place: usize) -> Result<Snapshot, AllocError> {
-    let mut pages = kept.share()?.open();
+    let mut pages = kept.open()?;
     put_row(alloc, &mut pages, place)?;
     pages.seal(Layout::Tree)
 }
@@ -125,7 +125,7 @@ fn afresh(alloc: Global, layout: Layout, step: u32) -> Result<Snapshot, AllocErr
 
 /// The same pages in this layout.
 fn laid(kept: &Snapshot, layout: Layout) -> Result<Snapshot, AllocError> {
-    kept.share()?.open().seal(layout)
+    kept.open()?.seal(layout)
 }
 
 fn text_of(alloc: Global, kept: &Snapshot, number: usize) -> Result<Vec<u8>, AllocError>
@@ -205,7 +205,7 @@ fn sorted_pages_become_trees_and_sorted_again(rt: HostRuntime) -> Result<(), Fai
 
 /// The pages in this layout, where page 97 has one item more.
 fn with_first(alloc: Global, kept: &Snapshot, layout: Layout) -> Result<Snapshot, AllocError> {
-    let mut pages = kept.share()?.open();
+    let mut pages = kept.open()?;
     put_row(alloc, &mut pages, 0)?;
     pages.seal(layout)
 }
@@ -274,7 +274,7 @@ fn agree_after_change(
     let change = any_change(alloc, words)?;
     let next = changed(&state.0, &state.1, &change, layout)?;
     *state = next;
-    Ok(has_items(&state.0.share()?.open(), &state.1))
+    Ok(has_items(&state.0.open()?, &state.1))
 }
 
 /// The same of 25 changes; and whether then each digest and the root are as from scratch.

@@ -130,7 +130,7 @@ fn put_five(alloc: Global, pages: &mut Pages) -> Result<(), AllocError> {
 
 /// The pages with one item more.
 fn with_five(alloc: Global, kept: &Snapshot) -> Result<Snapshot, AllocError> {
-    let mut pages = kept.share()?.open();
+    let mut pages = kept.open()?;
     put_five(alloc, &mut pages)?;
     pages.seal(Layout::Sorted)
 }

@@ -3,7 +3,9 @@ use sessions::Sessions;
 use sha2::{Digest, Sha256};
 use std::alloc::{AllocError, Global};
 use std::test::Fail;
-use token::{Digested, Form, HEIGHT, OLD_HEIGHT, OLD_PAGES, PAGES, Token, page_digest, root};
+use token::{
+    Digested, Form, HEIGHT, HashedSessions, OLD_HEIGHT, OLD_PAGES, PAGES, Token, page_digest, root,
+};
 use wire::{Record, Sink, read, write};
 
 #[test]
@@ -122,7 +124,7 @@ fn has_text(alloc: Global, digested: &Digested, bytes: &[u8]) -> Result<bool, Al
 fn is_of_whole_text(
     alloc: Global,
     form: Form,
-    sessions: &Sessions,
+    sessions: &HashedSessions,
     expected: &[u8; 32],
 ) -> Result<bool, AllocError> {
     let digested = Digested::of_sessions(alloc, form, sessions);
@@ -131,7 +133,7 @@ fn is_of_whole_text(
 }
 
 /// Whether a state of the form of trees has this digest of the sessions, and keeps no text.
-fn is_of_told_text(alloc: Global, sessions: &Sessions, expected: &[u8; 32]) -> bool {
+fn is_of_told_text(alloc: Global, sessions: &HashedSessions, expected: &[u8; 32]) -> bool {
     let digested = Digested::of_sessions(alloc, Form::Tree, sessions);
     digested.digest() == expected && digested.text().is_none()
 }
@@ -145,7 +147,7 @@ const TOLD: [u8; 32] = [
 
 #[test]
 fn digest_of_no_sessions(rt: HostRuntime) -> Result<(), Fail> {
-    let sessions = Sessions::new(rt.alloc())?;
+    let sessions = HashedSessions::new(Sessions::new(rt.alloc())?);
     // By another program, over the byte 03 and four bytes 00.
     let expected: [u8; 32] = [
         0xa6, 0x65, 0xe6, 0xb1, 0x15, 0xdd, 0x56, 0xfd, 0x3e, 0x0c, 0x89, 0xbe, 0x63, 0x1e, 0x6e,

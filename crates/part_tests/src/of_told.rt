@@ -9,7 +9,7 @@ use proto::{Block, Found, Key, Reply, Values};
 use sessions::{LastReply, Request, Sessions};
 use std::alloc::{AllocError, Global};
 use std::test::Fail;
-use token::{Digested, Form, ReplyDigests, told_digest, told_digest_of};
+use token::{Digested, Form, HashedSessions, ReplyDigests, told_digest, told_digest_of};
 
 // What scripts/told_sessions prints, row by row.
 
@@ -111,9 +111,14 @@ fn is_told(sessions: &Sessions, digests: &ReplyDigests, expected: &[u8; 32]) -> 
 }
 
 /// Whether the digest of the sessions in a state of the form of trees is this one, with no text beside it.
-fn is_told_of_trees(alloc: Global, sessions: &Sessions, expected: &[u8; 32]) -> bool {
-    let digested = Digested::of_sessions(alloc, Form::Tree, sessions);
-    digested.digest() == expected && digested.text().is_none()
+fn is_told_of_trees(
+    alloc: Global,
+    sessions: &Sessions,
+    expected: &[u8; 32],
+) -> Result<bool, AllocError> {
+    let sessions = HashedSessions::new(sessions.clone()?);
+    let digested = Digested::of_sessions(alloc, Form::Tree, &sessions);
+    Ok(digested.digest() == expected && digested.text().is_none())
 }
 
 /// The same with digests that are made of the sessions, and in a state of the form of trees.
@@ -123,7 +128,7 @@ fn is_told_anew(
     expected: &[u8; 32],
 ) -> Result<bool, AllocError> {
     let digests = ReplyDigests::of(alloc, sessions)?;
-    Ok(is_told(sessions, &digests, expected) && is_told_of_trees(alloc, sessions, expected))
+    Ok(is_told(sessions, &digests, expected) && is_told_of_trees(alloc, sessions, expected)?)
 }
 
 #[test]
@@ -264,5 +269,42 @@ fn a_short_reply_in_place_of_a_long_one(rt: HostRuntime) -> Result<(), Fail> {
     assert!(rt; is_then_told(alloc, &mut sessions, &mut digests, 3, short, &SHORT_AT_9)?);
     assert!(rt; digests.get(9).is_none());
     assert!(rt; is_told(&before, &copy, &LONG_AT_9));
+    Ok(())
+}
+
+/// Keeps the reply of client 9 that has this number, and tells whether the digest is then this, with the
+/// digests that are kept and from scratch.
+fn is_hashed(
+    alloc: Global,
+    sessions: &mut HashedSessions,
+    number: u64,
+    reply: Reply,
+    expected: &[u8; 32],
+) -> Result<bool, AllocError>
+    requires { 1 ≤ number }
+{
+    let request = ask(alloc, 9, number)?;
+    sessions.keep(&request, reply)?;
+    Ok(sessions.told_digest() == *expected && told_digest_of(sessions.sessions()) == *expected)
+}
+
+/// Sessions of client 5 alone, with digests.
+fn hashed(alloc: Global) -> Result<HashedSessions, AllocError> {
+    let mut sessions = HashedSessions::new(Sessions::new(alloc)?);
+    sessions.prepare(alloc, Form::Tree);
+    let request = ask(alloc, 5, 1)?;
+    sessions.keep(&request, of_size(alloc, 49)?)?;
+    Ok(sessions)
+}
+
+#[test]
+fn sessions_keep_the_digests_of_their_replies(rt: HostRuntime) -> Result<(), Fail> {
+    let alloc = rt.alloc();
+    let mut sessions = hashed(alloc)?;
+    assert!(rt; is_hashed(alloc, &mut sessions, 1, of_size(alloc, 5000)?, &LONG_AT_9)?);
+    assert!(rt; is_hashed(alloc, &mut sessions, 2, of_size(alloc, 5001)?, &LONGER_AT_9)?);
+    sessions.prepare(alloc, Form::Current);
+    sessions.prepare(alloc, Form::Tree);
+    assert!(rt; is_hashed(alloc, &mut sessions, 3, Reply::Stored, &SHORT_AT_9)?);
     Ok(())
 }

@@ -136,7 +136,7 @@ pub fn take_old_changes<'b>(
     if !are_in_place(given) {
         return Err(Fault::BadRecord);
     }
-    let pages = before.share()?.open().with_old_pages(alloc, given)?;
+    let pages = before.open()?.with_old_pages(alloc, given)?;
     let after = pages.seal(Layout::Sorted)?;
     if !are_others(alloc, before, &after, given)? {
         return Err(Fault::BadRecord);
@@ -144,5 +144,5 @@ pub fn take_old_changes<'b>(
     if !after.has_old_texts() {
         return Err(Fault::BadRecord);
     }
-    Ok((after.open(), rest))
+    Ok((after.open()?, rest))
 }

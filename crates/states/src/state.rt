@@ -15,7 +15,7 @@ use pages::{Layout, Pages, Snapshot};
 use sessions::Sessions;
 use std::alloc::{AllocError, Global};
 use std::marker::Model;
-use token::{Digested, Form, Token, batch_digest};
+use token::{Digested, Form, HashedSessions, Token, batch_digest};
 use wire::Sink;
 
 /// A state of the server: its items and sessions, and the token by which it is known. Beside the
@@ -24,7 +24,7 @@ use wire::Sink;
 pub struct State {
     origin: Origin,
     token: Token,
-    sessions: Sessions,
+    sessions: HashedSessions,
     digested: Digested,
     pages: Snapshot,
 }
@@ -33,7 +33,7 @@ pub struct State {
 #[derive(Drop)]
 pub struct Parts {
     pub origin: Origin,
-    pub sessions: Sessions,
+    pub sessions: HashedSessions,
     pub pages: Snapshot,
 }
 
@@ -63,7 +63,7 @@ impl State {
     pub fn first(alloc: Global) -> Result<State, AllocError>
         ensures { IfOk result (λ state. state ≡ initial_state) }
     {
-        let sessions = Sessions::new(alloc)?;
+        let sessions = HashedSessions::new(Sessions::new(alloc)?);
         let digested = Digested::of_sessions(alloc, Form::Current, &sessions);
         let pages = Pages::new(alloc)?.seal(Layout::Sorted)?;
         Ok(State {
@@ -144,6 +144,13 @@ impl State {
         ensures sessions { result.now ≡ self.now.sessions }
         ensures fit { SessionsFit self.now.sessions }
     {
+        self.sessions.sessions()
+    }
+
+    /// The same, with the digests of long replies that are beside them.
+    pub fn hashed_sessions(&self) -> &HashedSessions
+        ensures { result.now ≡ self.now.sessions }
+    {
         &self.sessions
     }
 
@@ -151,7 +158,7 @@ impl State {
     pub(crate) fn put_sessions<S: Sink>(&self, sink: &mut S) -> Result<(), S::Refusal>
         ensures { OnOk result (Puts S.holds (sessions_text self.now.sessions) sink.old sink.new) }
     {
-        self.digested.put_sessions(&self.sessions, sink)
+        self.digested.put_sessions(self.sessions.sessions(), sink)
     }
 
     /// Its items.
@@ -204,7 +211,7 @@ impl State {
         requires digested { AreDigested parts.origin.form parts.sessions digested }
         ensures { result ≡ with_token (parts_of parts) }
     {
-        let _entries = parts.sessions.entries();
+        let _entries = parts.sessions.sessions().entries();
         let token = Token::new(
             &parts.origin.previous,
             parts.origin.number,
@@ -234,7 +241,7 @@ impl State {
         &self,
         form: Form,
         batch: &Batch,
-        sessions: Sessions,
+        sessions: HashedSessions,
         digested: Digested,
         pages: Snapshot,
     ) -> State
@@ -252,7 +259,7 @@ impl State {
         &self,
         form: Form,
         batch: &Batch,
-        sessions: Sessions,
+        sessions: HashedSessions,
         digested: Digested,
         pages: Snapshot,
     ) -> State

@@ -19,7 +19,7 @@ use pages::{PageSet, Snapshot};
 use proto::Fault;
 use sessions::Sessions;
 use std::alloc::{AllocError, Global};
-use token::Digested;
+use token::{Digested, HashedSessions};
 use wire::{Record, Sink};
 
 impl Head {
@@ -45,7 +45,7 @@ impl Head {
         }
         let parts = Parts {
             origin: self.origin,
-            sessions,
+            sessions: HashedSessions::new(sessions),
             pages,
         };
         let state = State::of_parts(alloc, parts);
@@ -72,6 +72,7 @@ impl Head {
         if !fits_form(self.origin.form, &pages) {
             return Err(Fault::BadRecord);
         }
+        let sessions = HashedSessions::new(sessions);
         let digested = Digested::of_sessions(alloc, self.origin.form, &sessions);
         let state = before.followed_in(self.origin.form, batch, sessions, digested, pages);
         if !state.head().is_same(self) {

@@ -9,7 +9,7 @@ ghost use Rattle.token.specs.Told.{told_sessions_text};
 
 use crate::digests::{page_digest, sessions_digest};
 use crate::form::Form;
-use crate::told::told_digest_of;
+use crate::hashed_sessions::HashedSessions;
 use base::{Entry, Text};
 use items::Item;
 use proto::Key;
@@ -109,13 +109,13 @@ impl Digested {
     /// The digest of what is kept of all clients, in a state of this form. Where it is that of the text,
     /// the text is written once, and kept; the data of large values is shared with their replies.
     /// Where there is no memory for it the digest is made without it; there is no error.
-    pub fn of_sessions(alloc: Global, form: Form, sessions: &Sessions) -> Digested
+    pub fn of_sessions(alloc: Global, form: Form, sessions: &HashedSessions) -> Digested
         ensures digested { AreDigested form sessions.now result }
         ensures fit { SessionsFit sessions.now }
     {
-        let _entries = sessions.entries();
+        let _entries = sessions.sessions().entries();
         match form {
-            Form::Old | Form::Current => Digested::of_whole(alloc, sessions),
+            Form::Old | Form::Current => Digested::of_whole(alloc, sessions.sessions()),
             Form::Tree => Digested::of_told(sessions),
         }
     }
@@ -135,12 +135,12 @@ impl Digested {
     }
 
     /// The digest of the told text of what is kept of all clients.
-    fn of_told(sessions: &Sessions) -> Digested
+    fn of_told(sessions: &HashedSessions) -> Digested
         ensures digest { result.0 ≡ digest_of (told_sessions_text sessions.now) }
         ensures kept { result.1 ≡ None }
     {
         Digested {
-            digest: told_digest_of(sessions),
+            digest: sessions.told_digest(),
             text: None,
         }
     }

@@ -10,6 +10,7 @@
 mod digested;
 mod digests;
 mod form;
+mod hashed_sessions;
 mod laws;
 mod long_reply;
 mod merged;
@@ -21,6 +22,7 @@ mod tree;
 pub use digested::Digested;
 pub use digests::{batch_digest, page_digest, sessions_digest};
 pub use form::{Form, OLD_BLOCK_BYTES};
+pub use hashed_sessions::HashedSessions;
 pub use laws::{told_texts_are_told_apart, told_texts_tell_sessions};
 pub use long_reply::MOST_SHORT_BYTES;
 pub use merged::merged_digest;

@@ -14,7 +14,7 @@ use pages::{Layout, Page, Pages, Snapshot};
 use proto::Fault;
 use states::{Parts, fits_form, layout_of};
 use std::alloc::{AllocError, Global};
-use token::Token;
+use token::{HashedSessions, Token};
 
 /// Puts each page that came in the place of the own one of its number.
 fn put_all(own: Vec<Page>, came: Vec<NumberedPage>) -> Vec<Page>
@@ -40,7 +40,7 @@ fn joined_pages(
 ) -> Result<Snapshot, AllocError>
     ensures { IfOk result (λ pages. pages ≡ record { items = joined_with own.now.items came.items; layout = layout }) }
 {
-    let shared = own.share()?.open().part();
+    let shared = own.open()?.part();
     Pages::join(put_all(shared, came)).seal(layout)
 }
 
@@ -55,7 +55,7 @@ fn parts_over(own: &Snapshot, parcel: Parcel) -> Result<Parts, AllocError>
     } = parcel;
     Ok(Parts {
         origin,
-        sessions,
+        sessions: HashedSessions::new(sessions),
         pages: joined_pages(own, pages, layout_of(origin.form))?,
     })
 }

@@ -10,7 +10,7 @@ use proto::{Block, Fault, Key, is_key_text};
 use sessions::Sessions;
 use states::{Origin, Parts, State};
 use std::alloc::{AllocError, Global};
-use token::{Form, Token};
+use token::{Form, HashedSessions, Token};
 use transfer::{Need, Parcel, answer, take};
 use wire::read;
 
@@ -73,7 +73,7 @@ fn parts(number: u64, sessions: Sessions, pages: Snapshot) -> Parts
             batch: [9; 32],
             moment: 1000,
         },
-        sessions,
+        sessions: HashedSessions::new(sessions),
         pages,
     }
 }

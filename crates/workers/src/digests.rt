@@ -9,11 +9,10 @@ ghost use Rattle.workers.specs.InOrder.{AreRefreshed};
 
 use crate::workers::Workers;
 use pages::Page;
-use sessions::Sessions;
 use std::alloc::Global;
 use std::thread;
 use std::thread::Threads;
-use token::{Digested, Form};
+use token::{Digested, Form, HashedSessions};
 
 /// To start a thread for less than this weight costs more than it spares.
 const LEAST_WEIGHT: usize = 256;
@@ -88,8 +87,8 @@ fn refresh_parted<R: Threads + Sync>(rt: &R, pages: &mut [Page], threads: usize)
 
 /// How many threads the pages have where the digest of the sessions is worth a thread of its own;
 /// `None` where it is not, or where there is but one thread.
-fn beside_sessions(sessions: &Sessions, threads: usize) -> Option<usize> {
-    if threads < 2 || sessions.entries().len() < LEAST_CLIENTS {
+fn beside_sessions(sessions: &HashedSessions, threads: usize) -> Option<usize> {
+    if threads < 2 || sessions.sessions().entries().len() < LEAST_CLIENTS {
         return None;
     }
     Some(threads - 1)
@@ -103,7 +102,7 @@ pub fn digest_all<R: Threads + Sync>(
     alloc: Global,
     pages: &mut [Page],
     form: Form,
-    sessions: &Sessions,
+    sessions: &HashedSessions,
     workers: Workers,
 ) -> Digested
     ensures pages { pages.new ≡ map refreshed pages.old }

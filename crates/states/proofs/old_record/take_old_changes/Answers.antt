@@ -26,7 +26,7 @@ with_old_pages-requires c =
 
 pub returns-then-not-branch : goal.returns-then-not-branch
 returns-then-not-branch c =
-    let shared = c.open.ensures ∙ ap (λ (s : Laid). s.items) c.in_ok-share.ensures in
+    let shared = c.in_ok-open.ensures in
     let after = c.in_ok-after.after.items in
     let is : (p : ℕ) → p < OLD_PAGES → old_entries c.in_ok-after.after.items p ≡ given_or c.args.before.now.items p (given_at c.in_ok-given.given p) =
     λ p l. ap (λ (s : Laid). old_entries s.items p) c.in_ok-after.ensures ∙ c.in_ok-pages.ensures p l ∙ (λ i. given_or (shared i) p (given_at (c.as_slice-given.ensures i) p)) in
@@ -35,7 +35,7 @@ returns-then-not-branch c =
 
 pub returns-then-not-has_old_texts : goal.returns-then-not-has_old_texts
 returns-then-not-has_old_texts c =
-    let shared = c.open.ensures ∙ ap (λ (s : Laid). s.items) c.in_ok-share.ensures in
+    let shared = c.in_ok-open.ensures in
     let after = c.in_ok-after.after.items in
     let is : (p : ℕ) → p < OLD_PAGES → old_entries c.in_ok-after.after.items p ≡ given_or c.args.before.now.items p (given_at c.in_ok-given.given p) =
     λ p l. ap (λ (s : Laid). old_entries s.items p) c.in_ok-after.ensures ∙ c.in_ok-pages.ensures p l ∙ (λ i. given_or (shared i) p (given_at (c.as_slice-given.ensures i) p)) in
@@ -44,11 +44,11 @@ returns-then-not-has_old_texts c =
 
 pub returns : goal.returns
 returns c =
-    let shared = c.open.ensures ∙ ap (λ (s : Laid). s.items) c.in_ok-share.ensures in
+    let shared = c.in_ok-open.ensures in
     let after = c.in_ok-after.after.items in
     let is : (p : ℕ) → p < OLD_PAGES → old_entries c.in_ok-after.after.items p ≡ given_or c.args.before.now.items p (given_at c.in_ok-given.given p) =
     λ p l. ap (λ (s : Laid). old_entries s.items p) c.in_ok-after.ensures ∙ c.in_ok-pages.ensures p l ∙ (λ i. given_or (shared i) p (given_at (c.as_slice-given.ensures i) p)) in
-    rw c.open-2.ensures (
+    rw c.in_ok-open-2.ensures (
       c.has_old_texts.ensures.0 c.if-not-has_old_texts.false,
       read_changes c.args.before.now.items c.in_ok-given.given c.args.bytes.now c.in_ok-given.rest.now c.in_ok-given.ensures.0 c.in_ok-given.ensures.1 after is
           (subst (AreOthers c.args.before.now.items after) c.as_slice-given.ensures (c.in_ok-are_others.ensures.0 c.if-not-branch.false)),

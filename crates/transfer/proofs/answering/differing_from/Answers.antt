@@ -1,7 +1,7 @@
 use Rattle.std.proofs.Common.{◌≡◌, ◌++◌, sym, ap, ◌∙◌, arith}
 use Rattle.std.specs.Prelude.{flat_map}
 use Rattle.std.specs.List.{range_with_len}
-use Rattle.pages.specs.Page.{Laid, page_count}
+use Rattle.pages.specs.Page.{page_count}
 use Rattle.pages.specs.Joined.{items_of, parts}
 use Rattle.states.proofs.PageTextLemmas.{shared_page}
 use Rattle.transfer.specs.Parcel.{differing}
@@ -10,7 +10,7 @@ use Rattle.transfer.proofs.answering.differing_from.Goals as goal
 
 pub add_differing-requires-clause-is : goal.add_differing-requires-clause-is
 add_differing-requires-clause-is c =
-    let parted : items_of c.part-shared.result.items ≡ parts c.args.state.now.items = c.part-shared.ensures ∙ ap parts (c.open.ensures ∙ (ap (λ (s : Laid). s.items) c.in_ok-share.ensures ∙ c.pages.ensures.items)) in
+    let parted : items_of c.part-shared.result.items ≡ parts c.args.state.now.items = c.part-shared.ensures ∙ ap parts (c.in_ok-open.ensures ∙ c.pages.ensures.items) in
     shared_page c.part-shared.result.items c.args.state.now.items c.loop-number.number c.index.result.now parted (omega (arith, c.loop-number-test.true)) c.index.ensures
 
 pub loop-number-preserved : goal.loop-number-preserved

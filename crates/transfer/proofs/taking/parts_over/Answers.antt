@@ -16,5 +16,5 @@ returns c =
     let parcel = c.parcel.inside in
     let items = joined_with c.args.own.now.items parcel.pages.items in
     let laid : c.in_ok-joined_pages.field-0 ≡ record { items = items; layout = layout_of parcel.origin.form } = c.in_ok-joined_pages.ensures ∙ ap (λ (l : Layout). record { items = items; layout = l }) c.layout_of.ensures in
-    ap (parts_with parcel.origin parcel.sessions) laid
+    (λ i. parts_with parcel.origin (c.new.ensures i) (laid i))
     ∙ ap (λ (p : ParcelView). parts_with p.origin p.sessions (record { items = joined_with c.args.own.now.items p.pages; layout = layout_of p.origin.form })) c.parcel.view_is

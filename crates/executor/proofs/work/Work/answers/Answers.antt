@@ -26,7 +26,7 @@ same c =
 
 pub returns-clause-sessions : goal.returns-clause-sessions
 returns-clause-sessions c =
-    let before : c.in_ok-sessions.sessions ≡ c.self.inside.base.state.sessions = c.in_ok-sessions.ensures.cases ∙ c.sessions.ensures.sessions in
+    let before = c.prepare.ensures ∙ (c.in_ok-sessions.ensures.cases ∙ c.hashed_sessions.ensures) in
     c.in_ok-replies.ensures.kept ∙ (λ i. kept_after (before i) (same c i)) ∙ ap (λ (v : WorkView). kept_after v.base.sessions (replies_of v.base v.batch v.progress.running)) c.self.view_is
 
 pub returns-clause-replies : goal.returns-clause-replies

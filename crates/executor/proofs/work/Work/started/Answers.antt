@@ -1,7 +1,6 @@
 use Rattle.std.proofs.Common.{◌≡◌, ◌+◌, max, length, rules, sym, ap, ◌∙◌, subst}
 use Rattle.std.specs.FinMap.{entries}
 use Rattle.items.specs.Map.{Items, alive}
-use Rattle.pages.specs.Page.{Laid}
 use Rattle.states.specs.State.{StateView}
 use Rattle.states.specs.Followed.{moment_of, form_over, form_after}
 use Rattle.executor.specs.BatchRequest.{HaveFewSteps}
@@ -11,8 +10,8 @@ use Rattle.executor.proofs.work.Work.started.Goals as goal
 
 pub invariant_of-result : goal.invariant_of-result
 invariant_of-result c =
-    let base_is : c.in_ok-share-2.field-0.state ≡ c.args.base.now.state = ap (λ b. b.state) c.in_ok-share-2.ensures in
-    let items : c.open-pages.result ≡ c.args.base.now.state.items = c.open-pages.ensures ∙ (ap (λ (s : Laid). s.items) c.in_ok-share.ensures ∙ c.pages.ensures.items) in
+    let base_is : c.in_ok-share.field-0.state ≡ c.args.base.now.state = ap (λ b. b.state) c.in_ok-share.ensures in
+    let items : c.in_ok-pages.pages ≡ c.args.base.now.state.items = c.in_ok-pages.ensures ∙ c.pages.ensures.items in
     let greater : c.max.result ≡ max c.args.batch.moment c.moment.result = search rules in
     let moment : c.max.result ≡ moment_of c.args.base.now.state c.args.batch = greater ∙ ap (λ m. max c.args.batch.moment m) c.moment.ensures in
     let now : c.drop_due.new.self ≡ alive c.args.base.now.state.items (moment_of c.args.base.now.state c.args.batch) = c.in_ok-drop_due.ensures.ok ∙ (λ i. alive (items i) (moment i)) in

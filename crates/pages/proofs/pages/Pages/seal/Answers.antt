@@ -1,6 +1,6 @@
-use Rattle.std.proofs.Common.{ap, ◌∙◌}
+use Rattle.std.proofs.Common.{◌≡◌, ap, ◌∙◌, subst}
+use Rattle.std.specs.Prelude.{IfOk}
 use Rattle.items.specs.Map.{Items}
-use Rattle.pages.specs.Page.{Laid}
 use Rattle.pages.specs.Joined.{joined}
 use Rattle.pages.proofs.StateLemmas.{all-sealed, still-items}
 use Rattle.pages.proofs.pages.Pages.seal.Goals as goal
@@ -10,6 +10,6 @@ of_sealed-requires c = all-sealed c.args.layout c.self.inside.pages.items _ c.se
 
 pub returns : goal.returns
 returns c =
-    let as_laid : Items → Laid = λ m. record { items = m; layout = c.args.layout } in
+    subst (λ (m : Items). IfOk c.of_sealed.result (λ snapshot. snapshot ≡ record { items = m; layout = c.args.layout }))
+    (ap joined (still-items c.args.layout c.self.inside.pages.items _ c.in_ok-seal_all.ensures) ∙ c.self.view_is)
     c.of_sealed.ensures
-    ∙ ap as_laid (ap joined (still-items c.args.layout c.self.inside.pages.items _ c.in_ok-seal_all.ensures) ∙ c.self.view_is)

@@ -1,5 +1,6 @@
 use Rattle.std.proofs.Common.{◌≡◌, ℕ, List, length, sym, ap, ◌∙◌, arith, subst}
 use Rattle.std.specs.Prelude.{All}
+use Rattle.std.specs.FinMap.{entries}
 use Rattle.sessions.specs.declared.sessions.LastReply.{LastReply}
 use Rattle.sessions.specs.Limits.{SessionFits}
 use Rattle.wire.specs.Token.{token_text}
@@ -10,7 +11,8 @@ use Rattle.states.proofs.state.State.of_digested.Goals as goal
 
 pub invariant_of-result : goal.invariant_of-result
 invariant_of-result c =
-    let count = ap length (sym c.entries-entries.ensures.entries) in
+    let all = c.entries-entries.ensures.entries ∙ ap entries c.sessions.ensures in
+    let count = ap length (sym all) in
     let sessions = c.digest.ensures ∙ c.requires.digested.digest in
     let token : c.new-token.result.0 ≡ token_of (parts_of c.args.parts) =
     c.new-token.ensures ∙ (λ i. digest (token_text (record {
@@ -24,7 +26,7 @@ invariant_of-result c =
     }))) in (
       record {
         state = record {
-          sessions_fit = record { count = omega (arith, count, c.entries-entries.ensures.few); each = subst (λ (entries : List (ℕ × LastReply)). All SessionFits entries) c.entries-entries.ensures.entries c.entries-entries.ensures.fit };
+          sessions_fit = record { count = omega (arith, count, c.entries-entries.ensures.few); each = subst (λ (kept : List (ℕ × LastReply)). All SessionFits kept) all c.entries-entries.ensures.fit };
           form_fit = c.requires.form;
           few = c.requires.number.1;
           first = λ none. absurd (omega (arith, c.requires.number.0, none));
