@@ -2,12 +2,12 @@
 use Rattle.std.proofs.Common.{◌≡◌, ℕ, ◌++◌, Some, inr, sym, subst, ⊎_elim, arith}
 use Rattle.decrees.specs.declared.decree.Decree.{Decree}
 use Rattle.decrees.specs.declared.ballot.Ballot.{Ballot}
-use Rattle.decrees.specs.declared.ballot.Ballot.TheVariants.{Accept, Accepted, Decided, Promise}
+use Rattle.decrees.specs.declared.ballot.Ballot.TheVariants.{Accept, Accepted, Decided, Promise, Stands}
 use Rattle.decrees.specs.declared.node.Node.TheVariants.{Verifier}
 use Rattle.verifier.specs.State.{VerifierState, next_place}
 use Rattle.agreement.specs.Letters.{Letters, Sent}
 use Rattle.agreement.proofs.Letters.{Sent-left, AtLeast, LettersOk}
-use Rattle.agreement.proofs.Stand.{Stand, Chosen-more, Grounds-more}
+use Rattle.agreement.proofs.Stand.{Stand, Chosen-more, StandsAt-more, Grounds-more}
 use Rattle.agreement.proofs.Says.{Says, old_or_said, Safe-more, Backed-more}
 
 module _ {u : ℕ} {ls : Letters} (new : Letters) {v : ℕ} {s : VerifierState} (d : Decree) (has : s.accepted ≡ Some (s.view, d)) (says : Says v (Accepted s.view (next_place s) d) new) (ok : LettersOk u ls) (st : Stand u ls v s) where
@@ -41,6 +41,7 @@ module _ {u : ℕ} {ls : Letters} (new : Letters) {v : ℕ} {s : VerifierState} 
     safe = λ x w p b h. Safe-more new (ok.safe x w p b (old x (Accept w p b) (λ e. cc) h));
     backed = λ x w p b h. Backed-more new (ok.backed x w p b (old x (Accept w p b) (λ e. cc) h));
     decided = λ x p b h. Chosen-more new (ok.decided x p b (old x (Decided p b) (λ e. cc) h));
+    stood = λ x p z h. StandsAt-more new (ok.stood x p z (old x (Stands p z) (λ e. cc) h));
   }
 
   pub Stand-accepted : Stand u (ls ++ new) v s

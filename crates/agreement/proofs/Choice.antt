@@ -1,5 +1,5 @@
 -- What a leader may propose is safe and backed.
-use Rattle.std.proofs.Common.{◌≡◌, ℕ, zero, suc, ◌+◌, ◌%◌, ◌<◌, ◌≤◌, ◌⊎◌, Bool, true, false, not, ◌&&◌, List, length, Option, Some, None, IsTrue, is_some, inl, inr, refl, sym, ◌∙◌, ap, subst, ⊎_elim, arith, nat_le, if◌then◌else◌, option_and_then}
+use Rattle.std.proofs.Common.{◌≡◌, ℕ, zero, suc, ◌+◌, ◌%◌, ◌<◌, ◌≤◌, ◌⊎◌, Bool, true, false, not, ◌&&◌, List, Option, Some, None, IsTrue, is_some, inl, inr, refl, sym, ◌∙◌, ap, subst, ⊎_elim, arith, nat_le, if◌then◌else◌, option_and_then}
 use Rattle.std.specs.Prelude.{◌==◌}
 use Rattle.std.specs.List.{list_all}
 use Rattle.std.specs.Option.{option_map_or}
@@ -12,14 +12,15 @@ use Rattle.decrees.specs.declared.node.Node.TheVariants.{Verifier}
 use Rattle.decrees.specs.declared.votes.Verdict.{Verdict}
 use Rattle.decrees.specs.declared.votes.Verdict.TheVariants as verdict_variant
 use Rattle.decrees.specs.Count.{member_count, is_quorum}
-use Rattle.decrees.specs.Standing.{standing}
 use Rattle.decrees.specs.Votes.{verdict}
 use Rattle.view_change.specs.declared.promises.Promise.{Promise}
 use Rattle.view_change.specs.declared.promises.Choice.TheVariants as choice_variant
 use Rattle.view_change.specs.Promises.{promise_of, has_promised, accepted_at, higher, best_below, is_enough, choice}
-use Rattle.verifier.specs.State.{VerifierState, next_place}
+use Rattle.verifier.specs.State.{known, stands, VerifierState, next_place}
 use Rattle.verifier.specs.Lines.{by_verdict, by_choice, proposal}
-use Rattle.agreement.specs.Letters.{Letters, Sent, Backed}
+use Rattle.agreement.specs.Letters.{Letters, Sent, Backed, HasTokens}
+use Rattle.decrees.specs.declared.standing.Standing.{Standing}
+use Rattle.agreement.proofs.Logs.{log_stands}
 use Rattle.agreement.proofs.Letters.{NoHigher, Repeats, Promises, Safe, LettersOk}
 use Rattle.agreement.proofs.Each.{Each, Each-both, Each-from_all, found_first}
 use Rattle.agreement.proofs.Stand.{Heard, Stand}
@@ -74,11 +75,11 @@ best-from known ps (suc n) b e = ⊎_elim
 
 -- the accepted decree of the highest view among the promises
 abbrev best_of : ℕ → VerifierState → Option (ℕ × Decree)
-best_of u s = best_below (length s.log) s.promises (member_count u)
+best_of u s = best_below (known s) s.promises (member_count u)
 
 -- what may be proposed where nothing was accepted
 abbrev fresh_of : ℕ → VerifierState → Option Decree
-fresh_of u s = by_verdict ((standing s.log).n + 1) s.doubt (verdict u (standing s.log) s.votes)
+fresh_of u s = by_verdict ((stands s).n + 1) s.doubt (verdict u (stands s) s.votes)
 
 -- where a decree to propose comes from
 abbrev pub Source : ℕ → VerifierState → Decree → Option (ℕ × Decree) → Type 0
@@ -90,20 +91,20 @@ pub record MayPropose (u : ℕ) (s : VerifierState) (d : Decree) : Type 0 where
   pub leads : s.leads ≡ true
   pub fresh : s.proposed ≡ false
   pub enough : IsTrue (is_quorum u (has_promised s.promises))
-  pub level : Each (λ p. p.known ≤ length s.log) s.promises
+  pub level : Each (λ p. p.known ≤ (known s)) s.promises
   pub source : Source u s d (best_of u s)
 
 pub MayPropose-from : (u : ℕ) (s : VerifierState) (d : Decree) → proposal u s ≡ Some d → MayPropose u s d
-MayPropose-from u s d = cond_both (s.leads && not s.proposed) (by_choice (choice u (length s.log) s.promises) (fresh_of u s)) None (λ o. o ≡ Some d → MayPropose u s d)
-    (λ free. cond_both (is_enough u (length s.log) s.promises) (option_map_or (λ b. choice_variant.Must b.1) (best_of u s) choice_variant.Free) choice_variant.Wait (λ c. by_choice c (fresh_of u s) ≡ Some d → MayPropose u s d)
+MayPropose-from u s d = cond_both (s.leads && not s.proposed) (by_choice (choice u (known s) s.promises) (fresh_of u s)) None (λ o. o ≡ Some d → MayPropose u s d)
+    (λ free. cond_both (is_enough u (known s) s.promises) (option_map_or (λ b. choice_variant.Must b.1) (best_of u s) choice_variant.Free) choice_variant.Wait (λ c. by_choice c (fresh_of u s) ≡ Some d → MayPropose u s d)
     (λ enough is.
     let a = and_parts s.leads (not s.proposed) free in
-    let b = and_parts (is_quorum u (has_promised s.promises)) (list_all (λ p. nat_le p.known (length s.log)) s.promises) enough in
+    let b = and_parts (is_quorum u (has_promised s.promises)) (list_all (λ p. nat_le p.known (known s)) s.promises) enough in
     record {
       leads = a.0;
       fresh = not-true s.proposed a.1;
       enough = b.0;
-      level = Each-from_all (λ p. nat_le p.known (length s.log)) (λ p. p.known ≤ length s.log) (λ p h. leb-true p.known (length s.log) h) s.promises b.1;
+      level = Each-from_all (λ p. nat_le p.known (known s)) (λ p. p.known ≤ (known s)) (λ p h. leb-true p.known (known s) h) s.promises b.1;
       source = sourced (best_of u s) is;
     })
     (λ _ is. absurd (cc)))
@@ -121,14 +122,14 @@ module _ {u : ℕ} {ls : Letters} {v : ℕ} {s : VerifierState} {d : Decree} (ok
   -- a decree of the best promise was proposed in its view, for the next place
   was_proposed : (b : ℕ × Decree) → best_of u s ≡ Some b → (b.0 ≤ s.view) × ((l : ℕ) × Sent ls (Verifier l) (Accept b.0 (next_place s) b.1))
   was_proposed b is =
-      let f = best-from (length s.log) s.promises (member_count u) b is in
+      let f = best-from (known s) s.promises (member_count u) b is in
       let p = f.1 in
       let h = found_first (λ (q : Promise). q.from == f.0) (Heard ls s.view) s.promises p f.2 (st.grounds.heard may.leads) in
       ⊎_elim
       (λ (z : (s.view ≡ 0) × (p.accepted ≡ None)). let none = z.1 in let some = f.4 in absurd (cc))
       (λ (sent : Sent ls (Verifier p.from) (ballot.Promise s.view p.known p.accepted)).
-      let same : Sent ls (Verifier p.from) (ballot.Promise s.view (length s.log) (Some b)) = subst (λ (y : ℕ × Option (ℕ × Decree)). Sent ls (Verifier p.from) (ballot.Promise s.view y.0 y.1)) (λ i. (f.3 i, f.4 i)) sent in
-      ok.promised p.from s.view (length s.log) b.0 b.1 same)
+      let same : Sent ls (Verifier p.from) (ballot.Promise s.view (known s) (Some b)) = subst (λ (y : ℕ × Option (ℕ × Decree)). Sent ls (Verifier p.from) (ballot.Promise s.view y.0 y.1)) (λ i. (f.3 i, f.4 i)) sent in
+      ok.promised p.from s.view (known s) b.0 b.1 same)
       h.1
 
   module _ (up : s.view ≡ 0 → ⊥) where
@@ -136,13 +137,13 @@ module _ {u : ℕ} {ls : Letters} {v : ℕ} {s : VerifierState} {d : Decree} (ok
     asked_one x below e =
         let one = has-one (promise_of s.promises x) e in
         let p = one.0 in
-        let h = found_first (λ (q : Promise). q.from == x) (λ q. Heard ls s.view q × (q.known ≤ length s.log)) s.promises p one.1 (Each-both (Heard ls s.view) (λ q. q.known ≤ length s.log) s.promises (st.grounds.heard may.leads) may.level) in
+        let h = found_first (λ (q : Promise). q.from == x) (λ q. Heard ls s.view q × (q.known ≤ (known s))) s.promises p one.1 (Each-both (Heard ls s.view) (λ q. q.known ≤ (known s)) s.promises (st.grounds.heard may.leads) may.level) in
         let sent : Sent ls (Verifier p.from) (ballot.Promise s.view p.known p.accepted) = ⊎_elim (λ z. absurd (up z.0)) (λ y. y) h.1.0 in (
           p.known,
           p.accepted,
           subst (λ y. Sent ls (Verifier y) (ballot.Promise s.view p.known p.accepted)) (eqb-true p.from x h.0) sent,
           omega (arith, h.1.1),
-          λ same. best-bounds (length s.log) s.promises (member_count u) x p below one.1 (omega (arith, same)),
+          λ same. best-bounds (known s) s.promises (member_count u) x p below one.1 (omega (arith, same)),
         )
 
     repeats : (o : Option (ℕ × Decree)) → best_of u s ≡ o → Source u s d o → Repeats ls s.view (next_place s) d o
@@ -153,7 +154,7 @@ module _ {u : ℕ} {ls : Letters} {v : ℕ} {s : VerifierState} {d : Decree} (ok
         let apart : (b.0 ≡ s.view → ⊥) = λ same.
         let mine : l ≡ v = sym (ok.leader l b.0 (next_place s) b.1 was.1.1) ∙ (ap (λ y. y % member_count u) same ∙ st.grounds.leads may.leads) in
         ⊎_elim
-        (λ (q : next_place s ≤ length s.log). omega arith)
+        (λ (q : next_place s ≤ (known s)). omega arith)
         (λ (q : (next_place s ≡ next_place s) × (s.proposed ≡ true)). absurd (false≢true (sym may.fresh ∙ q.1)))
         ((st.owns.proposed b.0 (next_place s) b.1 (subst (λ y. Sent ls (Verifier y) (Accept b.0 (next_place s) b.1)) mine was.1.1)).1 may.leads same) in
         (omega (arith, was.0, apart), source, was.1)
@@ -168,15 +169,17 @@ proposal_is_safe {u} {ls} {v} {s} {d} ok st may = ⊎_elim inl
     (cases_eq s.view 0)
 
 -- a Commit by the votes is of the next number and has its tokens
-by_votes : {u : ℕ} {ls : Letters} {v : ℕ} (s : VerifierState) (d : Decree) → Stand u ls v s → (x : Verdict) → verdict u (standing s.log) s.votes ≡ x → by_verdict ((standing s.log).n + 1) s.doubt x ≡ Some d → Backed u ls (next_place s) d
+by_votes : {u : ℕ} {ls : Letters} {v : ℕ} (s : VerifierState) (d : Decree) → Stand u ls v s → (x : Verdict) → verdict u (stands s) s.votes ≡ x → by_verdict ((stands s).n + 1) s.doubt x ≡ Some d → Backed u ls (next_place s) d
 by_votes {u} {ls} {v} s d st (verdict_variant.Commit t) is e =
-    let same : decree.Commit ((standing s.log).n + 1) t ≡ d = cc in
-    subst (Backed u ls (next_place s)) same (record { before = s.log; all = refl; chosen = st.grounds.log_chosen; rests = verdict_has_tokens (standing s.log) s.votes t st.grounds.voted is })
+    let same : decree.Commit ((stands s).n + 1) t ≡ d = cc in
+    let all = log_stands st.grounds.log in
+    subst (Backed u ls (next_place s)) same (record { before = all.before; all = let k = all.all in omega (arith, k); chosen = all.chosen; rests = subst (λ (z : Standing). HasTokens u ls z ((stands s).n + 1) t) (sym all.stands) (verdict_has_tokens (stands s) s.votes t st.grounds.voted is) })
 by_votes {u} {ls} {v} s d st verdict_variant.Hopeless is e =
     let same : decree.Rollback ≡ d = cc in
-    subst (Backed u ls (next_place s)) same (record { before = s.log; all = refl; chosen = st.grounds.log_chosen; rests = tt })
+    let all = log_stands st.grounds.log in
+    subst (Backed u ls (next_place s)) same (record { before = all.before; all = let k = all.all in omega (arith, k); chosen = all.chosen; rests = tt })
 by_votes {u} {ls} {v} s d st verdict_variant.Wait is e = cond_both s.doubt (Some decree.Rollback) None (λ o. o ≡ Some d → Backed u ls (next_place s) d)
-    (λ _ h. let same : decree.Rollback ≡ d = cc in subst (Backed u ls (next_place s)) same (record { before = s.log; all = refl; chosen = st.grounds.log_chosen; rests = tt }))
+    (λ _ h. let same : decree.Rollback ≡ d = cc in let all = log_stands st.grounds.log in subst (Backed u ls (next_place s)) same (record { before = all.before; all = let k = all.all in omega (arith, k); chosen = all.chosen; rests = tt }))
     (λ _ h. absurd (cc))
     e
 
@@ -184,7 +187,7 @@ pub proposal_is_backed : {u : ℕ} {ls : Letters} {v : ℕ} {s : VerifierState} 
 proposal_is_backed {u} {ls} {v} {s} {d} ok st may = by (best_of u s) refl may.source
   where
     by : (o : Option (ℕ × Decree)) → best_of u s ≡ o → Source u s d o → Backed u ls (next_place s) d
-    by None is source = by_votes s d st (verdict u (standing s.log) s.votes) refl source
+    by None is source = by_votes s d st (verdict u (stands s) s.votes) refl source
     by (Some b) is source =
         let was = was_proposed ok st may b is in
         subst (Backed u ls (next_place s)) (sym source) (ok.backed was.1.0 b.0 (next_place s) b.1 was.1.1)

@@ -8,7 +8,7 @@ use Rattle.std.proofs.lemmas.Bool.{and_parts, and_from, or_cases, or_left, or_ri
 use Rattle.decrees.specs.declared.decree.Decree.{Decree}
 use Rattle.decrees.specs.declared.decree.Decree.TheVariants.{Commit, Rollback}
 use Rattle.decrees.specs.declared.ballot.Ballot.{Ballot}
-use Rattle.decrees.specs.declared.ballot.Ballot.TheVariants.{Token, Accept, Accepted, Decided, Ask, Change, Promise}
+use Rattle.decrees.specs.declared.ballot.Ballot.TheVariants.{Token, Accept, Accepted, Decided, Ask, Change, Promise, Stands}
 use Rattle.decrees.specs.declared.node.Node.{Node}
 use Rattle.decrees.specs.declared.node.Node.TheVariants.{Client, Executor, Verifier}
 use Rattle.decrees.specs.Count.{count_below, member_count}
@@ -38,6 +38,7 @@ says_accepted-is w p d (Decided q b) h = absurd (false≢true h)
 says_accepted-is w p d (Ask q) h = absurd (false≢true h)
 says_accepted-is w p d (Change x) h = absurd (false≢true h)
 says_accepted-is w p d (Promise x k a) h = absurd (false≢true h)
+says_accepted-is w p d (Stands x k) h = absurd (false≢true h)
 
 says_accepted-own : (w p : ℕ) (d : Decree) → says_accepted w p d (Accepted w p d) ≡ true
 says_accepted-own w p d = and_from (w == w) ((p == p) && decree_eq d d) (eq-eqb w w refl) (and_from (p == p) (decree_eq d d) (eq-eqb p p refl) (decree_eq-same d))
@@ -91,6 +92,7 @@ chosen_by-says u ls p (Decided q b) d = λ h. absurd (cc)
 chosen_by-says u ls p (Ask q) d = λ h. absurd (cc)
 chosen_by-says u ls p (Change x) d = λ h. absurd (cc)
 chosen_by-says u ls p (Promise x k a) d = λ h. absurd (cc)
+chosen_by-says u ls p (Stands x k) d = λ h. absurd (cc)
 
 chosen_by-own : (u : ℕ) (ls : Letters) (w p : ℕ) (d : Decree) → is_chosen_in u ls w p d ≡ true → chosen_by u ls p (Accepted w p d) ≡ Some d
 chosen_by-own u ls w p d e = ap (λ (b : Bool). if b then Some d else None) (and_from (p == p) (is_chosen_in u ls w p d) (eq-eqb p p refl) e)

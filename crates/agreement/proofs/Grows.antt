@@ -11,7 +11,7 @@ use Rattle.verifier.specs.State.{VerifierState, OutcomeView}
 use Rattle.verifier.specs.Lines.{restarted}
 use Rattle.verifier.specs.Step.{step}
 use Rattle.agreement.specs.Letters.{Letters}
-use Rattle.agreement.specs.Machine.{Slot, New, Up, Stopped, Machine, Luck, Done, StopsBefore, StopsAfter, Event, Deliver, Suspect, Crash, Restart, Send, settled, given, reached_node, delivered, crashed, opened_new, opened, sent_by, happens, run}
+use Rattle.agreement.specs.Machine.{Slot, New, Up, Stopped, Machine, Luck, Done, StopsBefore, StopsAfter, Event, Deliver, Suspect, Trim, Crash, Restart, Send, settled, given, reached_node, delivered, crashed, opened_new, opened, sent_by, happens, run}
 
 -- these letters begin with those
 abbrev pub Begins : Letters → Letters → Type 0
@@ -65,6 +65,7 @@ sent_by_grows m l (Verifier v) = same m.letters
 happens_grows : (u : ℕ) (m : Machine) (e : Event) → Begins m.letters (happens u m e).letters
 happens_grows u m (Deliver k luck) = delivered_grows u m luck (slice_get m.letters k)
 happens_grows u m (Suspect v luck) = given_grows u m v input.Suspect luck (slice_get m.verifiers v)
+happens_grows u m (Trim v place luck) = given_grows u m v (input.Trim place) luck (slice_get m.verifiers v)
 happens_grows u m (Crash v) = crashed_grows m v (slice_get m.verifiers v)
 happens_grows u m (Restart v luck) = opened_grows u m v luck (slice_get m.verifiers v)
 happens_grows u m (Send l) = sent_by_grows m l l.from

@@ -4,11 +4,12 @@ use Rattle.std.specs.Bool.{⊤}
 use Rattle.std.proofs.lemmas.Bool.{cases_order}
 use Rattle.decrees.specs.declared.decree.Decree.{Decree}
 use Rattle.decrees.specs.declared.ballot.Ballot.{Ballot}
-use Rattle.decrees.specs.declared.ballot.Ballot.TheVariants.{Accept, Accepted, Decided, Promise}
+use Rattle.decrees.specs.declared.ballot.Ballot.TheVariants.{Accept, Accepted, Decided, Promise, Stands}
 use Rattle.decrees.specs.declared.node.Node.{Node}
 use Rattle.decrees.specs.declared.node.Node.TheVariants.{Verifier}
+use Rattle.decrees.specs.declared.standing.Standing.{Standing}
 use Rattle.decrees.specs.Count.{member_count}
-use Rattle.agreement.specs.Letters.{Letters, Sent, here, there, Quorum, ChosenIn, Chosen, Backed}
+use Rattle.agreement.specs.Letters.{Letters, Sent, here, there, Quorum, ChosenIn, Chosen, Backed, StandsAt}
 use Rattle.agreement.proofs.Count.{Quorum-shared, Quorum-someone}
 
 pub Sent-left : (xs ys : Letters) {n : Node} {b : Ballot} → Sent xs n b → Sent (xs ++ ys) n b
@@ -60,6 +61,7 @@ pub record LettersOk (u : ℕ) (ls : Letters) : Type 0 where
   pub safe : (v w p : ℕ) (d : Decree) → Sent ls (Verifier v) (Accept w p d) → (w ≡ 0) ⊎ Safe u ls w p d
   pub backed : (v w p : ℕ) (d : Decree) → Sent ls (Verifier v) (Accept w p d) → Backed u ls p d
   pub decided : (v p : ℕ) (d : Decree) → Sent ls (Verifier v) (Decided p d) → Chosen u ls p d
+  pub stood : (v p : ℕ) (s : Standing) → Sent ls (Verifier v) (Stands p s) → StandsAt u ls p s
 
 -- one proposal for a place in a view, whoever sent it
 one_of_all : {u : ℕ} {ls : Letters} (ok : LettersOk u ls) (v l w p : ℕ) (d b : Decree) → Sent ls (Verifier v) (Accept w p d) → Sent ls (Verifier l) (Accept w p b) → d ≡ b

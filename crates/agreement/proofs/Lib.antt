@@ -2,6 +2,7 @@ pub mod Count
 pub mod Places
 pub mod Each
 pub mod Letters
+pub mod Logs
 pub mod Stand
 pub mod Says
 pub mod Promised
@@ -16,7 +17,9 @@ pub mod Machine
 pub mod Grows
 pub mod ChosenList
 pub mod Proved
+pub mod Whole
 pub mod ReadBack
+pub mod Untrimmed
 pub mod Verifiers
 pub mod SomePlay
 mod Rows

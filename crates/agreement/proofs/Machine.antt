@@ -16,7 +16,7 @@ use Rattle.verifier.specs.State.{VerifierState, OutcomeView, first_promises, new
 use Rattle.verifier.specs.Lines.{restarted}
 use Rattle.verifier.specs.Step.{step}
 use Rattle.agreement.specs.Letters.{Letters, Sent, here, there}
-use Rattle.agreement.specs.Machine.{Slot, New, Up, Stopped, Machine, Luck, Done, StopsBefore, StopsAfter, Event, Deliver, Suspect, Crash, Restart, Send, with_slot, saved_after, settled, given, reached_node, delivered, crashed, opened_new, opened, sent_by, happens, run, first_machine, reached}
+use Rattle.agreement.specs.Machine.{Slot, New, Up, Stopped, Machine, Luck, Done, StopsBefore, StopsAfter, Event, Deliver, Suspect, Trim, Crash, Restart, Send, with_slot, saved_after, settled, given, reached_node, delivered, crashed, opened_new, opened, sent_by, happens, run, first_machine, reached}
 use Rattle.agreement.proofs.Places.{at_within}
 use Rattle.agreement.proofs.Each.{Each, Each-push}
 use Rattle.agreement.proofs.Letters.{LettersOk}
@@ -52,7 +52,7 @@ SlotOk-plain u ls new v x (Stopped saved) plain st = (Stand-plain new plain st.0
 SlotOk-stopped : (u : ℕ) (ls : Letters) (v : ℕ) (saved s : VerifierState) → saved ≡ down s → Stand u ls v (down s) → SlotOk u ls v (Stopped saved)
 SlotOk-stopped u ls v saved s is st = (subst (Stand u ls v) (sym is) st, is ∙ ap down (sym is))
 
-get_set : (xs : List Slot) (v : ℕ) (n : Slot) (i : ℕ) (s : Slot) → slice_get (slice_set xs v n) i ≡ Some s → ((i ≡ v) × (s ≡ n)) ⊎ ((i ≢ v) × (slice_get xs i ≡ Some s))
+pub get_set : (xs : List Slot) (v : ℕ) (n : Slot) (i : ℕ) (s : Slot) → slice_get (slice_set xs v n) i ≡ Some s → ((i ≡ v) × (s ≡ n)) ⊎ ((i ≢ v) × (slice_get xs i ≡ Some s))
 get_set [] v n i s e = absurd (cc)
 get_set (x ∷ xs) zero n zero s e = inl (refl, cc)
 get_set (x ∷ xs) zero n (suc i) s e = inr ((λ h. omega arith), e)
@@ -98,7 +98,7 @@ given_ok {u} {m} v x luck (Some (Up s saved)) good may e =
     let st = good.stands v (Up s saved) e in
     settled_ok v s saved (step u v s x) luck good st.0 st.1 (step_keeps_record u v s x) (step_ok x good.letters st.0 may)
 
-was_sent : (ls : Letters) (k : ℕ) (l : Letter Ballot) → slice_get ls k ≡ Some l → Sent ls l.from l.body
+pub was_sent : (ls : Letters) (k : ℕ) (l : Letter Ballot) → slice_get ls k ≡ Some l → Sent ls l.from l.body
 was_sent [] k l e = absurd (cc)
 was_sent (x ∷ xs) zero l e = let same : x ≡ l = cc in here (ap (λ (y : Letter Ballot). y.from) same) (ap (λ (y : Letter Ballot). y.body) same)
 was_sent (x ∷ xs) (suc k) l e = there (was_sent xs k l e)
@@ -153,6 +153,7 @@ sent_by_ok l (Verifier v) e good = good
 pub happens_ok : {u : ℕ} {m : Machine} (e : Event) → Good u m → Good u (happens u m e)
 happens_ok {u} {m} (Deliver k luck) good = delivered_ok k luck (slice_get m.letters k) good refl
 happens_ok {u} {m} (Suspect v luck) good = given_ok v input.Suspect luck (slice_get m.verifiers v) good tt refl
+happens_ok {u} {m} (Trim v place luck) good = given_ok v (input.Trim place) luck (slice_get m.verifiers v) good tt refl
 happens_ok {u} {m} (Crash v) good = crashed_ok v (slice_get m.verifiers v) good refl
 happens_ok {u} {m} (Restart v luck) good = opened_ok v luck (slice_get m.verifiers v) good refl
 happens_ok {u} {m} (Send l) good = sent_by_ok l l.from refl good
@@ -171,7 +172,7 @@ first_heard ls (suc n) = cond_both (has_promised (first_promises n) n) (first_pr
 first_stand : (u v : ℕ) → Stand u [] v (new_state u v)
 first_stand u v = record {
   grounds = record {
-    log_chosen = λ p d e. let within = at_within [] p d e in absurd (omega (arith, within.0, within.1));
+    log = record { before = []; placed = refl; stood = refl; all = λ p d e. let within = at_within [] p d e in absurd (omega (arith, within.0, within.1)) };
     accepted_sent = λ w d e. absurd (cc);
     leads = λ e. let same = eqb-true v 0 e in omega (arith, same);
     heard = λ e. cond_both (v == 0) (first_promises (member_count u)) [] (Each (Heard [] 0)) (λ _. first_heard [] (member_count u)) (λ _. tt);
@@ -202,6 +203,7 @@ first_good u = record {
     safe = λ v w p d h. elim h [ ];
     backed = λ v w p d h. elim h [ ];
     decided = λ v p d h. elim h [ ];
+    stood = λ v p s h. elim h [ ];
   };
   stands = λ v s e. subst (SlotOk u [] v) (sym (all_new (member_count u) v s e)) (first_stand u v);
 }

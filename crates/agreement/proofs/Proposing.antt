@@ -1,14 +1,14 @@
 -- A leader that has not proposed in its view proposes what is safe and backed.
-use Rattle.std.proofs.Common.{◌≡◌, ℕ, ◌%◌, ◌≤◌, ◌⊎◌, true, false, ◌++◌, length, Some, inl, inr, refl, sym, ◌∙◌, subst, ⊎_elim, arith}
+use Rattle.std.proofs.Common.{◌≡◌, ℕ, ◌%◌, ◌≤◌, ◌⊎◌, true, false, ◌++◌, Some, inl, inr, refl, sym, ◌∙◌, subst, ⊎_elim, arith}
 use Rattle.decrees.specs.declared.decree.Decree.{Decree}
 use Rattle.decrees.specs.declared.ballot.Ballot.{Ballot}
-use Rattle.decrees.specs.declared.ballot.Ballot.TheVariants.{Accept, Accepted, Decided, Promise}
+use Rattle.decrees.specs.declared.ballot.Ballot.TheVariants.{Accept, Accepted, Decided, Promise, Stands}
 use Rattle.decrees.specs.declared.node.Node.TheVariants.{Verifier}
 use Rattle.decrees.specs.Count.{member_count}
-use Rattle.verifier.specs.State.{VerifierState, next_place}
+use Rattle.verifier.specs.State.{known, VerifierState, next_place}
 use Rattle.agreement.specs.Letters.{Letters, Sent, Backed}
 use Rattle.agreement.proofs.Letters.{Sent-left, Safe, LettersOk}
-use Rattle.agreement.proofs.Stand.{Stand, Chosen-more, Grounds-more}
+use Rattle.agreement.proofs.Stand.{Stand, Chosen-more, StandsAt-more, Grounds-more}
 use Rattle.agreement.proofs.Says.{Says, old_or_said, Safe-more, Backed-more}
 
 module _ {u : ℕ} {ls : Letters} (new : Letters) {v : ℕ} {s : VerifierState} (d : Decree) (leads : s.leads ≡ true) (fresh : s.proposed ≡ false) (safe : (s.view ≡ 0) ⊎ Safe u ls s.view (next_place s) d) (backed : Backed u ls (next_place s) d) (says : Says v (Accept s.view (next_place s) d) new) (ok : LettersOk u ls) (st : Stand u ls v s) where
@@ -18,7 +18,7 @@ module _ {u : ℕ} {ls : Letters} (new : Letters) {v : ℕ} {s : VerifierState} 
   -- nothing was proposed for this place in this view before
   none_before : (w p : ℕ) (b : Decree) → w ≡ s.view → p ≡ next_place s → Sent ls (Verifier v) (Accept w p b) → ⊥
   none_before w p b at next h = ⊎_elim
-      (λ (q : p ≤ length s.log). omega (arith, next))
+      (λ (q : p ≤ (known s)). omega (arith, next))
       (λ (q : (p ≡ next_place s) × (s.proposed ≡ true)). let yes = q.1 in cc)
       ((st.owns.proposed w p b h).1 leads at)
 
@@ -64,11 +64,12 @@ module _ {u : ℕ} {ls : Letters} (new : Letters) {v : ℕ} {s : VerifierState} 
         subst (λ (z : ℕ × Decree). Backed u (ls ++ new) z.0 z.1) (λ i. (place i, decree i)) (Backed-more new backed))
         (old_or_said ls says h);
     decided = λ x p b h. Chosen-more new (ok.decided x p b (old x (Decided p b) (λ e. cc) h));
+    stood = λ x p z h. StandsAt-more new (ok.stood x p z (old x (Stands p z) (λ e. cc) h));
   }
 
   pub Stand-accept : Stand u (ls ++ new) v (record s { proposed = true; doubt = false })
   Stand-accept = record {
-    grounds = let g = Grounds-more new st.grounds in record { log_chosen = g.log_chosen; accepted_sent = g.accepted_sent; leads = g.leads; heard = g.heard; tallied = g.tallied; voted = g.voted };
+    grounds = let g = Grounds-more new st.grounds in record { log = g.log; accepted_sent = g.accepted_sent; leads = g.leads; heard = g.heard; tallied = g.tallied; voted = g.voted };
     owns = record {
       kept = λ w p b h. st.owns.kept w p b (old v (Accepted w p b) (λ e. cc) h);
       promised = λ w k a h. st.owns.promised w k a (old v (Promise w k a) (λ e. cc) h);

@@ -5,11 +5,18 @@ use Rattle.decrees.specs.declared.decree.Decree.{Decree}
 use Rattle.decrees.specs.declared.standing.Standing.{Standing}
 use Rattle.decrees.specs.Standing.{first_standing, standing_after, may_follow, is_log_from, is_log}
 use Rattle.verifier.specs.State.{VerifierState, down}
+use Rattle.decrees.specs.declared.start.Start.{Start}
+use Rattle.decrees.specs.Start.{stands_from, could_stand}
+use Rattle.decrees.proofs.CouldStand.{logs_stand}
 use Rattle.agreement.specs.Letters.{Letters}
+use Rattle.agreement.specs.ChosenList.{chosen}
 use Rattle.agreement.specs.Machine.{Slot, New, Up, Stopped, Event, reached, letters_of}
 use Rattle.agreement.specs.Laws.{recorded, record_of, RecordsAreReadBack}
 use Rattle.agreement.proofs.Machine.{SlotOk, reached_ok}
-use Rattle.agreement.proofs.Proved.{list_is_backed, logs_are_chosen}
+use Rattle.agreement.proofs.Places.{front_decrees}
+use Rattle.agreement.proofs.Letters.{LettersOk}
+use Rattle.agreement.proofs.Logs.{LogOk}
+use Rattle.agreement.proofs.Proved.{record_stands, chosen_listed, list_is_log}
 
 -- a beginning of a log is a log
 log_front : (s : Standing) (ds more : List Decree) → is_log_from s (ds ++ more) ≡ true → is_log_from s ds ≡ true
@@ -30,9 +37,32 @@ record_fresh u events v saved has = by (slice_get (reached u events).verifiers v
     by None at e = absurd (cc)
     by (Some slot) at e = slot_fresh u (letters_of u events) v slot saved ((reached_ok u events).stands v slot at) e
 
+-- the rest of a log is a log
+log_back : (s : Standing) (ds more : List Decree) → is_log_from s (ds ++ more) ≡ true → is_log_from (stands_from s ds) more ≡ true
+log_back s [] more h = h
+log_back s (d ∷ ds) more h = log_back (standing_after s d) ds more (and_parts (may_follow s d) (is_log_from (standing_after s d) (ds ++ more)) h).1
+
+-- what has its grounds in chosen decrees is a log, and begins at what could stand there
+pub record BeginsWell (start : Start) (log : List Decree) : Type 0 where
+  pub begins : could_stand start.place start.standing ≡ true
+  pub is_log : is_log_from start.standing log ≡ true
+
+pub begins_well : {u : ℕ} {ls : Letters} {start : Start} {log : List Decree} → LettersOk u ls → LogOk u ls start log → BeginsWell start log
+begins_well {u} {ls} {start} {log} ok l =
+    let f = front_decrees (l.before ++ log) (chosen u ls) (λ p d at. chosen_listed ok p d (l.all p d at)) in
+    let whole : is_log ((l.before ++ log) ++ f.0) ≡ true = subst (λ (ds : List Decree). is_log ds ≡ true) f.1 (list_is_log ok) in
+    let front : is_log (l.before ++ log) ≡ true = log_front first_standing (l.before ++ log) f.0 whole in
+    let before : is_log l.before ≡ true = log_front first_standing l.before log front in
+    record {
+      begins = subst (λ (z : ℕ × Standing). could_stand z.0 z.1 ≡ true) (λ i. (l.placed i, l.stood i)) (logs_stand l.before before);
+      is_log = subst (λ (s : Standing). is_log_from s log ≡ true) l.stood (log_back first_standing l.before log front);
+    }
+
+pub record_begins : (u : ℕ) (events : List Event) (v : ℕ) (saved : VerifierState) → record_of (reached u events).verifiers v ≡ Some saved → BeginsWell saved.start saved.log
+record_begins u events v saved has = begins_well (reached_ok u events).letters (record_stands u events v saved has).grounds.log
+
 pub records_are_read_back : RecordsAreReadBack
 records_are_read_back u events v saved has =
     let fresh = record_fresh u events v saved has in
-    let front = logs_are_chosen u events v saved has in
-    let log : is_log saved.log ≡ true = log_front first_standing saved.log front.0 (subst (λ (ds : List Decree). is_log ds ≡ true) front.1 (list_is_backed u events).log) in
-    record { fresh = fresh; read = λ few. record { fresh = fresh; spelled = refl; is_log = log; few = few } }
+    let well = record_begins u events v saved has in
+    record { fresh = fresh; read = λ few counted. record { fresh = fresh; spelled = refl; begins = well.begins; is_log = well.is_log; few = few; counted = counted } }

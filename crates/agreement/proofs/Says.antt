@@ -6,14 +6,14 @@ use Rattle.std.proofs.lemmas.Bool.{cond_both}
 use Rattle.decrees.specs.declared.decree.Decree.{Decree}
 use Rattle.decrees.specs.declared.decree.Decree.TheVariants.{Commit, Rollback}
 use Rattle.decrees.specs.declared.ballot.Ballot.{Ballot}
-use Rattle.decrees.specs.declared.ballot.Ballot.TheVariants.{Token, Accept, Accepted, Decided, Ask, Change, Promise}
+use Rattle.decrees.specs.declared.ballot.Ballot.TheVariants.{Token, Accept, Accepted, Decided, Ask, Change, Promise, Stands}
 use Rattle.decrees.specs.declared.node.Node.{Node}
 use Rattle.decrees.specs.declared.node.Node.TheVariants.{Executor, Verifier}
 use Rattle.verifier.specs.State.{VerifierState, letter, to_verifiers_below, to_others_below, to_executors_below}
-use Rattle.agreement.specs.Letters.{Letters, Sent, here, there, Chosen, RestsOn, Backed}
+use Rattle.agreement.specs.Letters.{Letters, Sent, here, there, Chosen, RestsOn, Backed, StandsAt}
 use Rattle.agreement.proofs.Count.{Quorum-weaker}
 use Rattle.agreement.proofs.Letters.{Sent-left, Sent-split, Repeats, Promises, Safe, LettersOk}
-use Rattle.agreement.proofs.Stand.{Stand, Chosen-more, Grounds-more}
+use Rattle.agreement.proofs.Stand.{Stand, Chosen-more, StandsAt-more, Grounds-more}
 
 -- those of these letters that a verifier sent are of this one and have this body
 abbrev pub Says : ℕ → Ballot → Letters → Type 0
@@ -78,6 +78,7 @@ Plain u ls (Decided p d) = Chosen u ls p d
 Plain u ls (Ask p) = ⊤
 Plain u ls (Change w) = ⊤
 Plain u ls (Promise w k a) = ⊥
+Plain u ls (Stands p s) = StandsAt u ls p s
 
 -- those of these letters that a verifier sent are of this one and plain
 abbrev pub PlainOf : ℕ → Letters → ℕ → Letters → Type 0
@@ -107,6 +108,7 @@ module _ {u : ℕ} {ls : Letters} (new : Letters) {v : ℕ} (plain : PlainOf u l
     safe = λ x w p d h. Safe-more new (ok.safe x w p d (plain_old x (Accept w p d) (λ y. y) h));
     backed = λ x w p d h. Backed-more new (ok.backed x w p d (plain_old x (Accept w p d) (λ y. y) h));
     decided = λ x p d h. Chosen-more new (⊎_elim (λ l. ok.decided x p d l) (λ r. (plain x (Decided p d) r).1) (Sent-split ls new h));
+    stood = λ x p z h. StandsAt-more new (⊎_elim (λ l. ok.stood x p z l) (λ r. (plain x (Stands p z) r).1) (Sent-split ls new h));
   }
 
   pub Stand-plain : {x : ℕ} {s : VerifierState} → Stand u ls x s → Stand u (ls ++ new) x s

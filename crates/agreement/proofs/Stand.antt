@@ -1,24 +1,27 @@
 -- What holds of one verifier and all letters, and how its own changes keep it.
-use Rattle.std.proofs.Common.{◌≡◌, ◌≢◌, ℕ, ◌+◌, ◌%◌, ◌≤◌, ◌⊎◌, true, [], ◌∷◌, ◌++◌, length, Option, Some, None, inl, inr, sym, ◌∙◌, ap, subst, ⊎_elim, arith}
-use Rattle.std.specs.Prelude.{◌==◌}
-use Rattle.std.proofs.lemmas.Bool.{and_parts, eqb-true, false≢true}
+use Rattle.std.proofs.Common.{◌≡◌, ◌≢◌, ℕ, ◌+◌, ◌%◌, ◌≤◌, ◌⊎◌, true, ◌++◌, length, Option, Some, None, inl, inr, sym, ◌∙◌, ap, subst, ⊎_elim, arith, ◌<◌, List, nat_le}
+use Rattle.std.specs.Prelude.{◌==◌, nat_lt}
+use Rattle.std.proofs.lemmas.Bool.{and_parts, eqb-true, false≢true, ltb-true, leb-true}
 use Rattle.decrees.specs.declared.decree.Decree.{Decree}
 use Rattle.decrees.specs.declared.ballot.Ballot.{Ballot}
 use Rattle.decrees.specs.declared.ballot.Ballot.TheVariants as ballot
 use Rattle.decrees.specs.declared.ballot.Ballot.TheVariants.{Accept, Accepted}
 use Rattle.decrees.specs.declared.node.Node.TheVariants.{Executor, Verifier}
 use Rattle.decrees.specs.Count.{member_count}
-use Rattle.decrees.specs.Standing.{standing}
+use Rattle.decrees.specs.declared.standing.Standing.{Standing}
+use Rattle.decrees.specs.Standing.{standing_after}
+use Rattle.decrees.specs.declared.start.Start.{Start}
+use Rattle.agreement.proofs.Logs.{LogOk, LogOk-learn, LogOk-trim, LogOk-from, length_trim}
 use Rattle.decrees.specs.Votes.{Vote, is_open}
 use Rattle.view_change.specs.declared.promises.Promise.{Promise}
 use Rattle.verifier.specs.declared.tally.Tallied.{Tallied}
-use Rattle.verifier.specs.State.{VerifierState, next_place, down, in_view}
-use Rattle.verifier.specs.Lines.{learn}
-use Rattle.agreement.specs.Letters.{Letters, Sent, Chosen, AllChosen}
+use Rattle.verifier.specs.State.{stands, known, VerifierState, next_place, down, in_view}
+use Rattle.verifier.specs.Lines.{learn, may_trim, forgets, trimmed, gone_to}
+use Rattle.agreement.specs.Letters.{Letters, Sent, Chosen, StandsAt}
 use Rattle.agreement.proofs.Count.{Quorum-weaker}
-use Rattle.agreement.proofs.Places.{at_push, length_push}
+use Rattle.agreement.proofs.Places.{length_push}
 use Rattle.agreement.proofs.Each.{Each, Each-weaker, Each-filter}
-use Rattle.agreement.proofs.Letters.{Sent-left, Sent-split, Covers}
+use Rattle.agreement.proofs.Letters.{Sent-left, Sent-split, AtLeast, Covers}
 
 -- a promise that the leader keeps was sent (those of view 0 are none, and say nothing)
 abbrev pub Heard : Letters → ℕ → Promise → Type 0
@@ -32,7 +35,7 @@ Cast ls x = Sent ls (Executor x.0.executor) (ballot.Token x.0.epoch x.0.n (recor
 
 -- what a verifier keeps has its grounds in letters
 pub record Grounds (u : ℕ) (ls : Letters) (v : ℕ) (s : VerifierState) : Type 0 where
-  pub log_chosen : AllChosen u ls s.log
+  pub log : LogOk u ls s.start s.log
   pub accepted_sent : (w : ℕ) (d : Decree) → s.accepted ≡ Some (w, d) → (w ≤ s.view) × ((l : ℕ) × Sent ls (Verifier l) (Accept w (next_place s) d))
   pub leads : s.leads ≡ true → s.view % member_count u ≡ v
   pub heard : s.leads ≡ true → Each (Heard ls s.view) s.promises
@@ -41,9 +44,9 @@ pub record Grounds (u : ℕ) (ls : Letters) (v : ℕ) (s : VerifierState) : Type
 
 -- a verifier stands by the letters that it sent
 pub record Owns (ls : Letters) (v : ℕ) (s : VerifierState) : Type 0 where
-  pub kept : (w p : ℕ) (d : Decree) → Sent ls (Verifier v) (Accepted w p d) → (w ≤ s.view) × Covers (length s.log) s.accepted w p
+  pub kept : (w p : ℕ) (d : Decree) → Sent ls (Verifier v) (Accepted w p d) → (w ≤ s.view) × Covers (known s) s.accepted w p
   pub promised : (w k : ℕ) (a : Option (ℕ × Decree)) → Sent ls (Verifier v) (ballot.Promise w k a) → w ≤ s.view
-  pub proposed : (w p : ℕ) (d : Decree) → Sent ls (Verifier v) (Accept w p d) → (w ≤ s.view) × (s.leads ≡ true → w ≡ s.view → (p ≤ length s.log) ⊎ ((p ≡ next_place s) × (s.proposed ≡ true)))
+  pub proposed : (w p : ℕ) (d : Decree) → Sent ls (Verifier v) (Accept w p d) → (w ≤ s.view) × (s.leads ≡ true → w ≡ s.view → (p ≤ (known s)) ⊎ ((p ≡ next_place s) × (s.proposed ≡ true)))
 
 pub record Stand (u : ℕ) (ls : Letters) (v : ℕ) (s : VerifierState) : Type 0 where
   pub grounds : Grounds u ls v s
@@ -53,9 +56,15 @@ pub record Stand (u : ℕ) (ls : Letters) (v : ℕ) (s : VerifierState) : Type 0
 pub Chosen-more : {u : ℕ} {ls : Letters} (new : Letters) {p : ℕ} {d : Decree} → Chosen u ls p d → Chosen u (ls ++ new) p d
 Chosen-more {u} {ls} new {p} {d} h = (h.0, Quorum-weaker (λ v s. Sent-left ls new s) h.1)
 
+pub LogOk-more : {u : ℕ} {ls : Letters} (new : Letters) {start : Start} {log : List Decree} → LogOk u ls start log → LogOk u (ls ++ new) start log
+LogOk-more new l = record { before = l.before; placed = l.placed; stood = l.stood; all = λ p d e. Chosen-more new (l.all p d e) }
+
+pub StandsAt-more : {u : ℕ} {ls : Letters} (new : Letters) {place : ℕ} {s : Standing} → StandsAt u ls place s → StandsAt u (ls ++ new) place s
+StandsAt-more new h = record { before = h.before; all = h.all; chosen = λ p d e. Chosen-more new (h.chosen p d e); stands = h.stands }
+
 pub Grounds-more : {u : ℕ} {ls : Letters} (new : Letters) {v : ℕ} {s : VerifierState} → Grounds u ls v s → Grounds u (ls ++ new) v s
 Grounds-more {u} {ls} new {v} {s} g = record {
-  log_chosen = λ p d e. Chosen-more new (g.log_chosen p d e);
+  log = LogOk-more new g.log;
   accepted_sent = λ w d e. let h = g.accepted_sent w d e in (h.0, (h.1.0, Sent-left ls new h.1.1));
   leads = g.leads;
   heard = λ l. Each-weaker (Heard ls s.view) (Heard (ls ++ new) s.view) (λ p. ⊎_elim inl (λ h. inr (Sent-left ls new h))) s.promises (g.heard l);
@@ -85,7 +94,7 @@ Stand-of_other {u} {ls} new v x {s} only apart st = record {
 pub Stand-down : {u : ℕ} {ls : Letters} {v : ℕ} {s : VerifierState} → Stand u ls v s → Stand u ls v (down s)
 Stand-down {u} {ls} {v} {s} st = record {
   grounds = record {
-    log_chosen = st.grounds.log_chosen;
+    log = st.grounds.log;
     accepted_sent = st.grounds.accepted_sent;
     leads = λ e. absurd (false≢true e);
     heard = λ e. absurd (false≢true e);
@@ -103,7 +112,7 @@ Stand-down {u} {ls} {v} {s} st = record {
 pub Stand-in_view : {u : ℕ} {ls : Letters} {v : ℕ} {s : VerifierState} (w : ℕ) → s.view ≤ w → Stand u ls v s → Stand u ls v (in_view s w)
 Stand-in_view {u} {ls} {v} {s} w le st = record {
   grounds = record {
-    log_chosen = st.grounds.log_chosen;
+    log = st.grounds.log;
     accepted_sent = λ x d e. let h = st.grounds.accepted_sent x d e in (omega (arith, h.0), h.1);
     leads = λ e. let p = and_parts s.leads (w == s.view) e in subst (λ y. y % member_count u ≡ v) (sym (eqb-true w s.view p.1)) (st.grounds.leads p.0);
     heard = λ e. let p = and_parts s.leads (w == s.view) e in subst (λ y. Each (Heard ls y) s.promises) (sym (eqb-true w s.view p.1)) (st.grounds.heard p.0);
@@ -125,7 +134,7 @@ covers_more k x p w a d le (inr h) = inr (h.0, le)
 pub Stand-accepting : {u : ℕ} {ls : Letters} {v : ℕ} {s : VerifierState} (l : ℕ) (d : Decree) → Sent ls (Verifier l) (Accept s.view (next_place s) d) → Stand u ls v s → Stand u ls v (record s { accepted = Some (s.view, d) })
 Stand-accepting {u} {ls} {v} {s} l d sent st = record {
   grounds = record {
-    log_chosen = st.grounds.log_chosen;
+    log = st.grounds.log;
     accepted_sent = λ x b e.
         let pair : ◌≡◌ {A = ℕ × Decree} (s.view, d) (x, b) = cc in
         let view : x ≡ s.view = ap (λ (y : ℕ × Decree). y.0) (sym pair) in
@@ -136,7 +145,7 @@ Stand-accepting {u} {ls} {v} {s} l d sent st = record {
     voted = st.grounds.voted;
   };
   owns = record {
-    kept = λ x p b h. let k = st.owns.kept x p b h in (k.0, covers_more (length s.log) x p s.view s.accepted d k.0 k.1);
+    kept = λ x p b h. let k = st.owns.kept x p b h in (k.0, covers_more (known s) x p s.view s.accepted d k.0 k.1);
     promised = st.owns.promised;
     proposed = st.owns.proposed;
   };
@@ -150,24 +159,75 @@ covers_known k x p m a e (inr h) = inl (omega (arith, e, h.0))
 pub Stand-learn : {u : ℕ} {ls : Letters} {v : ℕ} {s : VerifierState} (d : Decree) → Chosen u ls (next_place s) d → Stand u ls v s → Stand u ls v (learn s d)
 Stand-learn {u} {ls} {v} {s} d chosen st = record {
   grounds = record {
-    log_chosen = λ p b e. ⊎_elim
-        (λ old. st.grounds.log_chosen p b old)
-        (λ (q : (p ≡ length s.log + 1) × (b ≡ d)). subst (λ (y : ℕ × Decree). Chosen u ls y.0 y.1) (λ j. (sym q.0 j, sym q.1 j)) chosen)
-        (at_push s.log d b p e);
+    log = LogOk-learn st.grounds.log d chosen;
     accepted_sent = λ w b e. absurd (cc);
     leads = st.grounds.leads;
     heard = st.grounds.heard;
     tallied = tt;
-    voted = Each-filter (Cast ls) (λ x. is_open (standing (s.log ++ d ∷ [])) x.0) s.votes st.grounds.voted;
+    voted = Each-filter (Cast ls) (λ x. is_open (standing_after (stands s) d) x.0) s.votes st.grounds.voted;
   };
   owns = record {
-    kept = λ w p b h. let k = st.owns.kept w p b h in (k.0, covers_known (length s.log) w p (length (s.log ++ d ∷ [])) s.accepted (length_push s.log d) k.1);
+    kept = λ w p b h. let k = st.owns.kept w p b h in (k.0, covers_known (known s) w p (known (learn s d)) s.accepted (let more = length_push s.log d in omega (arith, more)) k.1);
     promised = st.owns.promised;
     proposed = λ w p b h. let m = st.owns.proposed w p b h in (
       m.0,
       λ e same. inl (⊎_elim
-          (λ (q : p ≤ length s.log). let more = length_push s.log d in omega (arith, q, more))
+          (λ (q : p ≤ (known s)). let more = length_push s.log d in omega (arith, q, more))
           (λ (q : (p ≡ next_place s) × (s.proposed ≡ true)). let more = length_push s.log d in omega (arith, q.0, more))
+          (m.1 e same)),
+    );
+  };
+}
+
+-- some decrees are forgotten: as many are known
+pub Stand-trim : {u : ℕ} {ls : Letters} {v : ℕ} {s : VerifierState} (place : ℕ) → may_trim s place ≡ true → Stand u ls v s → Stand u ls v (trimmed s place)
+Stand-trim {u} {ls} {v} {s} place may st = record {
+  grounds = record {
+    log = subst (λ p. LogOk u ls (record { place = p; standing = (trimmed s place).start.standing }) (trimmed s place).log) at (LogOk-trim st.grounds.log (forgets s place) within);
+    accepted_sent = λ w d e. let h = st.grounds.accepted_sent w d e in (h.0, (h.1.0, subst (λ p. Sent ls (Verifier h.1.0) (Accept w (p + 1) d)) (sym same) h.1.1));
+    leads = st.grounds.leads;
+    heard = st.grounds.heard;
+    tallied = subst (λ p. Each (Told ls (p + 1)) s.tally) (sym same) st.grounds.tallied;
+    voted = st.grounds.voted;
+  };
+  owns = record {
+    kept = λ w p d h. let k = st.owns.kept w p d h in (k.0, subst (λ n. Covers n s.accepted w p) (sym same) k.1);
+    promised = st.owns.promised;
+    proposed = λ w p d h. let m = st.owns.proposed w p d h in (m.0, λ e at_view. subst (λ n. (p ≤ n) ⊎ ((p ≡ n + 1) × (s.proposed ≡ true))) (sym same) (m.1 e at_view));
+  };
+}
+  where
+    parts : (s.start.place < place) × (place ≤ known s)
+    parts = let p = and_parts (nat_lt s.start.place place) (nat_le place (known s)) may in (ltb-true s.start.place place p.0, leb-true place (known s) p.1)
+
+    within : forgets s place ≤ length s.log
+    within = omega (arith, parts.0, parts.1)
+
+    at : s.start.place + forgets s place ≡ place
+    at = omega (arith, parts.0)
+
+    same : known (trimmed s place) ≡ known s
+    same = let e = length_trim st.grounds.log (forgets s place) within in omega (arith, e, at)
+
+-- it goes to a start above what it knows
+pub Stand-gone : {u : ℕ} {ls : Letters} {v : ℕ} {s : VerifierState} (place : ℕ) (standing : Standing) → known s < place → StandsAt u ls place standing → Stand u ls v s → Stand u ls v (gone_to s (record { place = place; standing = standing }))
+Stand-gone {u} {ls} {v} {s} place standing above told st = record {
+  grounds = record {
+    log = LogOk-from place standing told;
+    accepted_sent = λ w b e. absurd (cc);
+    leads = st.grounds.leads;
+    heard = st.grounds.heard;
+    tallied = tt;
+    voted = Each-filter (Cast ls) (λ x. is_open standing x.0) s.votes st.grounds.voted;
+  };
+  owns = record {
+    kept = λ w p b h. let k = st.owns.kept w p b h in (k.0, ⊎_elim (λ (l : p ≤ known s). inl (omega (arith, l, above))) (λ (l : (p ≡ known s + 1) × AtLeast w s.accepted). inl (omega (arith, l.0, above))) k.1);
+    promised = st.owns.promised;
+    proposed = λ w p b h. let m = st.owns.proposed w p b h in (
+      m.0,
+      λ e same. inl (⊎_elim
+          (λ (q : p ≤ known s). omega (arith, q, above))
+          (λ (q : (p ≡ next_place s) × (s.proposed ≡ true)). omega (arith, q.0, above))
           (m.1 e same)),
     );
   };

@@ -1,28 +1,31 @@
 -- Each line of a verifier keeps what holds, also where the verifier stops in it.
-use Rattle.std.proofs.Common.{◌≡◌, ℕ, suc, ◌+◌, ◌-◌, ◌*◌, ◌%◌, ◌≤◌, Bool, true, false, not, ◌&&◌, ◌||◌, List, [], ◌∷◌, ◌++◌, length, take, drop, Option, Some, None, slice_get, inr, refl, sym, subst, ⊎_elim, arith, append_assoc, is_some}
-use Rattle.std.specs.Prelude.{◌==◌, nat_lt}
-use Rattle.std.proofs.lemmas.Bool.{and_parts, eqb-true, eqb-false, ltb-false, cond_both, false≢true}
+use Rattle.std.proofs.Common.{◌≡◌, ℕ, suc, ◌+◌, ◌-◌, ◌*◌, ◌%◌, ◌≤◌, Bool, true, false, not, ◌&&◌, ◌||◌, List, [], ◌∷◌, ◌++◌, take, drop, Option, Some, None, slice_get, inr, refl, sym, subst, ⊎_elim, arith, append_assoc, is_some}
+use Rattle.std.specs.Prelude.{◌==◌, nat_lt, nat_le}
+use Rattle.std.proofs.lemmas.Bool.{and_parts, eqb-true, ltb-true, ltb-false, leb-false, cond_both, false≢true}
 use Rattle.token.specs.declared.Token as token
 use Rattle.decrees.specs.declared.decree.Decree.{Decree}
 use Rattle.decrees.specs.declared.decree.Decree.TheVariants.{Commit, Rollback}
 use Rattle.decrees.specs.declared.ballot.Ballot.{Ballot}
-use Rattle.decrees.specs.declared.ballot.Ballot.TheVariants.{Token, Accept, Accepted, Decided, Ask, Change, Promise}
+use Rattle.decrees.specs.declared.ballot.Ballot.TheVariants.{Token, Accept, Accepted, Decided, Ask, Change, Promise, Stands}
 use Rattle.decrees.specs.declared.node.Node.{Node}
 use Rattle.decrees.specs.declared.node.Node.TheVariants.{Executor, Verifier}
 use Rattle.decrees.specs.Count.{member_count}
-use Rattle.decrees.specs.Standing.{standing, may_follow, decree_at}
+use Rattle.decrees.specs.declared.standing.Standing.{Standing}
+use Rattle.decrees.specs.Standing.{may_follow}
+use Rattle.decrees.specs.Start.{could_stand}
 use Rattle.decrees.specs.Votes.{token_eq, is_open, vote_of, votes_with}
 use Rattle.view_change.specs.Promises.{has_promised, promises_with}
 use Rattle.verifier.specs.declared.tally.Tallied.{Tallied}
 use Rattle.verifier.specs.Tally.{decree_eq, is_tallied, tally_with, has_accepted, is_accepted}
-use Rattle.verifier.specs.State.{VerifierState, OutcomeView, next_place, letter, to_verifiers, to_others, to_executors, decided_from, stays, says, in_view, down, next_led}
-use Rattle.verifier.specs.Lines.{proposal, proposing, try_to_propose, vote_key, on_token, suspected, on_change, asked_if_behind, is_awaited, on_promise, told, on_accept, is_fitting, with_tally, on_accepted, on_decided, on_ask, restarted}
+use Rattle.verifier.specs.State.{decree_of, known, stands, VerifierState, OutcomeView, next_place, letter, to_verifiers, to_others, to_executors, decided_from, stays, says, in_view, down, next_led}
+use Rattle.verifier.specs.Lines.{proposal, proposing, try_to_propose, vote_key, on_token, suspected, on_change, asked_if_behind, is_awaited, on_promise, told, start_told, told_of, told_from, on_accept, is_fitting, with_tally, on_accepted, on_decided, on_ask, may_trim, on_trim, is_ahead, on_stands, restarted}
 use Rattle.verifier.proofs.ViewLemmas.{led_from-above}
 use Rattle.agreement.specs.Letters.{Letters, Sent, Chosen}
-use Rattle.agreement.proofs.Places.{at_part}
+use Rattle.agreement.proofs.Places.{get_take, get_drop}
+use Rattle.agreement.proofs.Logs.{log_get, log_at, log_stands}
 use Rattle.agreement.proofs.Each.{Each, Each-push, found_any}
 use Rattle.agreement.proofs.Letters.{Sent-split, LettersOk}
-use Rattle.agreement.proofs.Stand.{Heard, Told, Cast, Stand, OnlyFrom, Stand-down, Stand-in_view, Stand-accepting, Stand-learn}
+use Rattle.agreement.proofs.Stand.{Heard, Told, Cast, Stand, OnlyFrom, Stand-down, Stand-in_view, Stand-accepting, Stand-learn, Stand-trim, Stand-gone}
 use Rattle.agreement.proofs.Says.{Says, Says-one, Says-both, Says-verifiers, Says-others, Says-executors, Plain, PlainOf, PlainOf-none, PlainOf-said, PlainOf-both, LettersOk-plain, Stand-plain}
 use Rattle.agreement.proofs.Promised.{LettersOk-promise, Stand-promise}
 use Rattle.agreement.proofs.Accepting.{LettersOk-accepted, Stand-accepted}
@@ -68,18 +71,27 @@ try_ok {u} {ls} {v} {s} saves first ok st p = by (proposal u s) refl
         }
 
 -- what a verifier knows is chosen, so it may tell it
-told_ok : {u : ℕ} {ls : Letters} {v : ℕ} {s : VerifierState} (to : Node) (place : ℕ) (o : Option Decree) → decree_at s.log place ≡ o → LettersOk u ls → Stand u ls v s → StepOk u ls v (record { state = s; saves = false; letters = told v to place o })
-told_ok {u} {ls} {v} {s} to place None e ok st = stays_ok ok st
-told_ok {u} {ls} {v} {s} to place (Some d) e ok st = says_ok to (Decided place d) ok st (st.grounds.log_chosen place d e)
+told_ok : {u : ℕ} {ls : Letters} {v : ℕ} {s : VerifierState} (to : Node) (place : ℕ) (o : Option Decree) → decree_of s place ≡ o → LettersOk u ls → Stand u ls v s → PlainOf u ls v (told v to place o)
+told_ok {u} {ls} {v} {s} to place None e ok st = PlainOf-none u ls v
+told_ok {u} {ls} {v} {s} to place (Some d) e ok st = PlainOf-said u ls (Says-one v to (Decided place d)) (log_at st.grounds.log place d e)
+
+start_told_ok : {u : ℕ} {ls : Letters} {v : ℕ} {s : VerifierState} (to : Node) → Stand u ls v s → PlainOf u ls v (start_told v to s)
+start_told_ok {u} {ls} {v} {s} to st = PlainOf-said u ls (Says-one v to (Stands (known s) (stands s))) (log_stands st.grounds.log)
+
+told_of_ok : {u : ℕ} {ls : Letters} {v : ℕ} {s : VerifierState} (to : Node) (place : ℕ) → LettersOk u ls → Stand u ls v s → StepOk u ls v (record { state = s; saves = false; letters = told_of v s to place })
+told_of_ok {u} {ls} {v} {s} to place ok st = plain_step false (told_of v s to place) ok st
+    (cond_both (nat_le place s.start.place) (start_told v to s) (told v to place (decree_of s place)) (PlainOf u ls v)
+    (λ _. start_told_ok to st)
+    (λ _. told_ok to place (decree_of s place) refl ok st))
 
 pub on_accept_ok : {u : ℕ} {ls : Letters} {v : ℕ} {s : VerifierState} (from view place : ℕ) (d : Decree) → LettersOk u ls → Stand u ls v s → Sent ls (Verifier from) (Accept view place d) → StepOk u ls v (on_accept u v s from view place d)
 on_accept_ok {u} {ls} {v} {s} from view place d ok st sent =
     cond_both ((place == 0) || nat_lt view s.view) (stays s) _ (StepOk u ls v) (λ _. stays_ok ok st)
     (λ old. cond_both (nat_lt (next_place s) place) (says v s (Verifier from) (Ask (next_place s))) _ (StepOk u ls v)
     (λ _. says_ok (Verifier from) (Ask (next_place s)) ok st tt)
-    (λ high. cond_both (nat_lt place (next_place s)) (record { state = s; saves = false; letters = told v (Verifier from) place (decree_at s.log place) }) _ (StepOk u ls v)
-    (λ _. told_ok (Verifier from) place (decree_at s.log place) refl ok st)
-    (λ low. cond_both (may_follow (standing s.log) d) _ (stays s) (StepOk u ls v)
+    (λ high. cond_both (nat_lt place (next_place s)) (record { state = s; saves = false; letters = told_of v s (Verifier from) place }) _ (StepOk u ls v)
+    (λ _. told_of_ok (Verifier from) place ok st)
+    (λ low. cond_both (may_follow (stands s) d) _ (stays s) (StepOk u ls v)
     (λ _. accepts (not_below view s.view (or_none (place == 0) (nat_lt view s.view) old).1) (only_next place (next_place s) high low))
     (λ _. stays_ok ok st))))
   where
@@ -112,8 +124,8 @@ on_change_ok {u} {ls} {v} {s} from view ok st =
     (λ _. stays_ok ok st)
     (λ e.
     let st1 = Stand-in_view view (ltb-false view s.view e) st in
-    let new = letter v (Verifier from) (Promise view (length s.log) s.accepted) ∷ [] in
-    let said = Says-one v (Verifier from) (Promise view (length s.log) s.accepted) in
+    let new = letter v (Verifier from) (Promise view (known s) s.accepted) ∷ [] in
+    let said = Says-one v (Verifier from) (Promise view (known s) s.accepted) in
     record {
       only = λ x b h. (said x b h).0;
       saved = Stand-down st1;
@@ -124,7 +136,7 @@ on_change_ok {u} {ls} {v} {s} from view ok st =
 Stand-with_promise : {u : ℕ} {ls : Letters} {v : ℕ} {s : VerifierState} (from k : ℕ) (a : Option (ℕ × Decree)) → Sent ls (Verifier from) (Promise s.view k a) → Stand u ls v s → Stand u ls v (record s { promises = promises_with s.promises (record { from = from; known = k; accepted = a }) })
 Stand-with_promise {u} {ls} {v} {s} from k a sent st = record {
   grounds = record {
-    log_chosen = st.grounds.log_chosen;
+    log = st.grounds.log;
     accepted_sent = st.grounds.accepted_sent;
     leads = st.grounds.leads;
     heard = λ e. cond_both (has_promised s.promises from) s.promises (s.promises ++ record { from = from; known = k; accepted = a } ∷ []) (Each (Heard ls s.view))
@@ -137,8 +149,8 @@ Stand-with_promise {u} {ls} {v} {s} from k a sent st = record {
 }
 
 asked_if_behind_ok : (u : ℕ) (ls : Letters) (v : ℕ) (s : VerifierState) (from count : ℕ) → PlainOf u ls v (asked_if_behind v s from count)
-asked_if_behind_ok u ls v s from count = cond_both (nat_lt (length s.log) count) _ [] (PlainOf u ls v)
-    (λ _. PlainOf-said u ls (Says-one v (Verifier from) (Ask (length s.log + 1))) tt)
+asked_if_behind_ok u ls v s from count = cond_both (nat_lt (known s) count) _ [] (PlainOf u ls v)
+    (λ _. PlainOf-said u ls (Says-one v (Verifier from) (Ask ((known s) + 1))) tt)
     (λ _. PlainOf-none u ls v)
 
 pub on_promise_ok : {u : ℕ} {ls : Letters} {v : ℕ} {s : VerifierState} (from view count : ℕ) (a : Option (ℕ × Decree)) → LettersOk u ls → Stand u ls v s → Sent ls (Verifier from) (Promise view count a) → StepOk u ls v (on_promise u v s from view count a)
@@ -167,7 +179,7 @@ Each-tally {ls} place tally t sent h = cond_both (is_tallied tally t.view t.from
 Stand-with_tally : {u : ℕ} {ls : Letters} {v : ℕ} {s : VerifierState} (from view : ℕ) (d : Decree) → Sent ls (Verifier from) (Accepted view (next_place s) d) → Stand u ls v s → Stand u ls v (with_tally s from view d)
 Stand-with_tally {u} {ls} {v} {s} from view d sent st = record {
   grounds = record {
-    log_chosen = st.grounds.log_chosen;
+    log = st.grounds.log;
     accepted_sent = st.grounds.accepted_sent;
     leads = st.grounds.leads;
     heard = st.grounds.heard;
@@ -197,7 +209,7 @@ pub on_accepted_ok : {u : ℕ} {ls : Letters} {v : ℕ} {s : VerifierState} (fro
 on_accepted_ok {u} {ls} {v} {s} from view place d ok st sent =
     cond_both (is_fitting s place d) _ (stays s) (StepOk u ls v)
     (λ fits.
-    let same = eqb-true place (next_place s) (and_parts (place == next_place s) (may_follow (standing s.log) d) fits).0 in
+    let same = eqb-true place (next_place s) (and_parts (place == next_place s) (may_follow (stands s) d) fits).0 in
     let st1 = Stand-with_tally from view d (subst (λ y. Sent ls (Verifier from) (Accepted view y d)) same sent) st in
     cond_both (is_accepted u (with_tally s from view d).tally view d) _ (stays (with_tally s from view d)) (StepOk u ls v)
     (λ enough.
@@ -211,7 +223,7 @@ pub on_decided_ok : {u : ℕ} {ls : Letters} {v : ℕ} {s : VerifierState} (from
 on_decided_ok {u} {ls} {v} {s} from place d ok st sent =
     cond_both (is_fitting s place d) _ _ (StepOk u ls v)
     (λ fits.
-    let same = eqb-true place (next_place s) (and_parts (place == next_place s) (may_follow (standing s.log) d) fits).0 in
+    let same = eqb-true place (next_place s) (and_parts (place == next_place s) (may_follow (stands s) d) fits).0 in
     try_ok true [] ok (Stand-learn d (subst (λ y. Chosen u ls y d) same (ok.decided from place d sent)) st) (PlainOf-none u ls v))
     (λ _. cond_both (nat_lt (next_place s) place) _ (stays s) (StepOk u ls v)
     (λ _. says_ok (Verifier from) (Ask (next_place s)) ok st tt)
@@ -226,19 +238,40 @@ decided_from_ok {u} {ls} v to place (d ∷ ds) all =
     (PlainOf-said u ls (Says-one v to (Decided place d)) (subst (λ y. Chosen u ls y d) here_at (all 0 d refl)))
     (decided_from_ok v to (place + 1) ds (λ i b e. let at : place + suc i ≡ (place + 1) + i = omega arith in subst (λ y. Chosen u ls y b) at (all (suc i) b e)))
 
+decided_after_ok : {u : ℕ} {ls : Letters} {v : ℕ} {s : VerifierState} (to : Node) (skip count place : ℕ) → place ≡ s.start.place + (skip + 1) → Stand u ls v s → PlainOf u ls v (decided_from v to place (take count (drop skip s.log)))
+decided_after_ok {u} {ls} {v} {s} to skip count place at st = decided_from_ok v to place (take count (drop skip s.log))
+    (λ i d e.
+    let there : slice_get s.log (skip + i) ≡ Some d = get_drop skip s.log i (skip + i) d refl (get_take count (drop skip s.log) i d e) in
+    let same : s.start.place + ((skip + i) + 1) ≡ place + i = omega (arith, at) in
+    subst (λ p. Chosen u ls p d) same (log_get st.grounds.log (skip + i) d there))
+
+told_from_ok : {u : ℕ} {ls : Letters} {v : ℕ} {s : VerifierState} (to : Node) (place : ℕ) → Stand u ls v s → PlainOf u ls v (told_from v s to place)
+told_from_ok {u} {ls} {v} {s} to place st = cond_both (nat_le place s.start.place) _ _ (PlainOf u ls v)
+    (λ _. start_told_ok to st)
+    (λ e. let above = leb-false place s.start.place e in decided_after_ok to (place - (s.start.place + 1)) 16 place (omega (arith, above)) st)
+
 pub on_ask_ok : {u : ℕ} {ls : Letters} {v : ℕ} {s : VerifierState} (to : Node) (place : ℕ) → LettersOk u ls → Stand u ls v s → StepOk u ls v (on_ask v s to place)
 on_ask_ok {u} {ls} {v} {s} to place ok st =
     cond_both (place == 0) (stays s) _ (StepOk u ls v)
     (λ _. stays_ok ok st)
-    (λ e.
-    let apart = eqb-false place 0 e in
-    plain_step false (decided_from v to place (take 16 (drop (place - 1) s.log))) ok st
-    (decided_from_ok v to place (take 16 (drop (place - 1) s.log)) (λ i d at. st.grounds.log_chosen (place + i) d (at_part s.log place 16 i d (omega (arith, apart)) at))))
+    (λ _. plain_step false (told_from v s to place) ok st (told_from_ok to place st))
+
+pub on_trim_ok : {u : ℕ} {ls : Letters} {v : ℕ} {s : VerifierState} (place : ℕ) → LettersOk u ls → Stand u ls v s → StepOk u ls v (on_trim s place)
+on_trim_ok {u} {ls} {v} {s} place ok st = cond_both (may_trim s place) _ (stays s) (StepOk u ls v)
+    (λ may. plain_step true [] ok (Stand-trim place may st) (PlainOf-none u ls v))
+    (λ _. stays_ok ok st)
+
+pub on_stands_ok : {u : ℕ} {ls : Letters} {v : ℕ} {s : VerifierState} (from place : ℕ) (standing : Standing) → LettersOk u ls → Stand u ls v s → Sent ls (Verifier from) (Stands place standing) → StepOk u ls v (on_stands u v s place standing)
+on_stands_ok {u} {ls} {v} {s} from place standing ok st sent = cond_both (is_ahead s place standing) _ (stays s) (StepOk u ls v)
+    (λ ahead.
+    let above = ltb-true (known s) place (and_parts (nat_lt (known s) place) (could_stand place standing) ahead).0 in
+    try_ok true [] ok (Stand-gone place standing above (ok.stood from place standing sent) st) (PlainOf-none u ls v))
+    (λ _. stays_ok ok st)
 
 Stand-with_vote : {u : ℕ} {ls : Letters} {v : ℕ} {s : VerifierState} (executor epoch n : ℕ) (previous t : token.Token) → Sent ls (Executor executor) (Token epoch n previous t) → Stand u ls v s → Stand u ls v (record s { votes = votes_with s.votes (vote_key executor epoch n previous) t })
 Stand-with_vote {u} {ls} {v} {s} executor epoch n previous t sent st = record {
   grounds = record {
-    log_chosen = st.grounds.log_chosen;
+    log = st.grounds.log;
     accepted_sent = st.grounds.accepted_sent;
     leads = st.grounds.leads;
     heard = st.grounds.heard;
@@ -252,7 +285,7 @@ Stand-with_vote {u} {ls} {v} {s} executor epoch n previous t sent st = record {
 
 pub on_token_ok : {u : ℕ} {ls : Letters} {v : ℕ} {s : VerifierState} (executor epoch n : ℕ) (previous t : token.Token) → LettersOk u ls → Stand u ls v s → Sent ls (Executor executor) (Token epoch n previous t) → StepOk u ls v (on_token u v s executor epoch n previous t)
 on_token_ok {u} {ls} {v} {s} executor epoch n previous t ok st sent =
-    cond_both (is_open (standing s.log) (vote_key executor epoch n previous)) _ (stays s) (StepOk u ls v)
+    cond_both (is_open (stands s) (vote_key executor epoch n previous)) _ (stays s) (StepOk u ls v)
     (λ _. try_ok false [] ok (Stand-with_vote executor epoch n previous t sent st) (PlainOf-none u ls v))
     (λ _. stays_ok ok st)
 
@@ -262,7 +295,7 @@ suspected_ok {u} {ls} {v} {s} ok st =
     let up : s.view + 1 ≤ w = led_from-above u v (s.view + 1) (2 * u) in
     let st1 : Stand u ls v (suspected u v s).state = record {
       grounds = record {
-        log_chosen = st.grounds.log_chosen;
+        log = st.grounds.log;
         accepted_sent = λ x d e. let h = st.grounds.accepted_sent x d e in (omega (arith, up, h.0), h.1);
         leads = λ e. eqb-true (w % member_count u) v e;
         heard = λ e. tt;

@@ -1,16 +1,17 @@
 -- What the code's verifier promises are the machine's lines.
 use Rattle.std.proofs.Common.{◌≡◌, ℕ, zero, suc, Bool, true, false, List, [], ◌∷◌, Some, slice_get, slice_set, refl, sym, ◌∙◌, ap, subst, option_and_then, if◌then◌else◌}
+use Rattle.decrees.specs.Start.{could_stand}
 use Rattle.verifier.specs.declared.input.Input.{Input}
 use Rattle.verifier.specs.State.{VerifierState, new_state, down}
 use Rattle.verifier.specs.Lines.{restarted}
 use Rattle.verifier.specs.Step.{step}
 use Rattle.verifier.specs.Record.{record_text, IsRecord}
 use Rattle.verifier.specs.Verifier.{VerifierView, Opens, outcome, handled}
-use Rattle.verifier.proofs.RowLemmas.{row_of, row-IsRecord}
+use Rattle.verifier.proofs.RecordsApart.{text_apart}
 use Rattle.agreement.specs.Machine.{Slot, New, Up, Stopped, StopsBefore, saved_after, opened}
 use Rattle.agreement.specs.Laws.{recorded}
 use Rattle.agreement.specs.Verifiers.{IsIn, HandledIsDone, RefusedIsStopped, OpenedIsDone, ReopenedIsDone, RefusedOpenIsStopped}
-use Rattle.agreement.proofs.ReadBack.{record_fresh}
+use Rattle.agreement.proofs.ReadBack.{record_fresh, record_begins}
 
 abbrev view_of : ℕ → ℕ → VerifierState → VerifierState → ℕ → Bool → VerifierView
 view_of u id s saved failures told = record { id = id; u = u; state = s; up = true; saved = Some (record_text u id saved); failures = failures; told = told }
@@ -40,17 +41,15 @@ refused_is_stopped u id s saved verifier after e same stopped kept = (
 )
 
 -- a record is of one state that is just up
-state_of_record : (u id : ℕ) (s t : VerifierState) → IsRecord u id (record_text u id (down s)) t → t ≡ down s
-state_of_record u id s t r =
-    let rows : row_of u id (down s) ≡ row_of u id t = row-IsRecord u id (record_text u id (down s)) t (row_of u id (down s)) refl r in
-    r.fresh ∙ sym (λ i. record { view = (rows i).0.0.1; log = (rows i).1; accepted = (rows i).0.1; leads = false; proposed = false; doubt = false; promises = []; tally = []; votes = [] })
+state_of_record : (u id : ℕ) (s t : VerifierState) → could_stand s.start.place s.start.standing ≡ true → IsRecord u id (record_text u id (down s)) t → t ≡ down s
+state_of_record u id s t begins r = text_apart u id t (down s) r.begins begins r.fresh refl (sym r.spelled)
 
 pub opened_is_done : OpenedIsDone
 opened_is_done = record {
   new = λ u id failures told verifier letters o.
       (o.0 ∙ (λ i. view_of u id (new_state u id) (down (new_state u id)) (ap (λ (z : VerifierView). z.failures) (sym o.0) i) (ap (λ (z : VerifierView). z.told) (sym o.0) i)), o.1);
-  again = λ u id failures told s verifier letters o.
-      let state = state_of_record u id s verifier.state o.1 in (
+  again = λ u id failures told s verifier letters begins o.
+      let state = state_of_record u id s verifier.state begins o.1 in (
         o.0 ∙ (λ i. view_of u id (state i) (down s) (ap (λ (z : VerifierView). z.failures) (sym o.0) i) (ap (λ (z : VerifierView). z.told) (sym o.0) i)),
         o.2 ∙ ap (λ (z : VerifierState). (restarted u id z).letters) state,
       );
@@ -59,8 +58,9 @@ opened_is_done = record {
 pub reopened_is_done : ReopenedIsDone
 reopened_is_done u events id saved old verifier letters at stopped o =
     let fresh = record_fresh u events id saved (ap (option_and_then recorded) at) in
+    let begins = (record_begins u events id saved (ap (option_and_then recorded) at)).begins in
     let read : Opens u id (Some (record_text u id (down saved))) old.failures old.told verifier letters = subst (λ kept. Opens u id kept old.failures old.told verifier letters) stopped.3 o in
-    subst (λ (z : VerifierState). IsIn u id (Up (restarted u id z).state (saved_after z (restarted u id z))) verifier × (letters ≡ (restarted u id z).letters)) (sym fresh) (opened_is_done.again u id old.failures old.told saved verifier letters read)
+    subst (λ (z : VerifierState). IsIn u id (Up (restarted u id z).state (saved_after z (restarted u id z))) verifier × (letters ≡ (restarted u id z).letters)) (sym fresh) (opened_is_done.again u id old.failures old.told saved verifier letters begins read)
 
 -- what stands at a place is put there again
 set_same : (xs : List Slot) (v : ℕ) (s : Slot) → slice_get xs v ≡ Some s → slice_set xs v s ≡ xs

@@ -4,7 +4,7 @@ use Rattle.std.specs.List.{list_any}
 use Rattle.std.specs.Option.{option_or}
 use Rattle.decrees.specs.declared.decree.Decree.{Decree}
 use Rattle.decrees.specs.declared.ballot.Ballot.{Ballot}
-use Rattle.decrees.specs.declared.ballot.Ballot.TheVariants.{Token, Accept, Accepted, Decided, Ask, Change, Promise}
+use Rattle.decrees.specs.declared.ballot.Ballot.TheVariants.{Token, Accept, Accepted, Decided, Ask, Change, Promise, Stands}
 use Rattle.decrees.specs.declared.node.Node.{Node}
 use Rattle.decrees.specs.declared.node.Node.TheVariants.{Client, Executor, Verifier}
 use Rattle.decrees.specs.Count.{is_quorum}
@@ -24,6 +24,7 @@ says_accepted view place d (Decided p b) = false
 says_accepted view place d (Ask p) = false
 says_accepted view place d (Change x) = false
 says_accepted view place d (Promise x k a) = false
+says_accepted view place d (Stands p s) = false
 
 -- the verifier has accepted the decree for the place in the view
 abbrev pub has_sent_accepted : Letters → ℕ → ℕ → Decree → ℕ → Bool
@@ -42,6 +43,7 @@ chosen_by u ls place (Decided p b) = None
 chosen_by u ls place (Ask p) = None
 chosen_by u ls place (Change x) = None
 chosen_by u ls place (Promise x k a) = None
+chosen_by u ls place (Stands p s) = None
 
 -- of all letters these may name the decree
 abbrev pub chosen_among : ℕ → Letters → ℕ → Letters → Option Decree
@@ -60,6 +62,7 @@ place_of (Decided p b) = 0
 place_of (Ask p) = 0
 place_of (Change x) = 0
 place_of (Promise x k a) = 0
+place_of (Stands p s) = 0
 
 -- the greatest place for which a decree was accepted
 abbrev pub last_place : Letters → ℕ

@@ -1,16 +1,18 @@
 -- What holds of every reached machine, whatever its events.
-use Rattle.std.specs.Prelude.{◌≡◌, ℕ, ◌-◌, ◌^◌, ◌<◌, ◌≤◌, ◌⊎◌, ◌↔◌, Bool, IsTrue, not, List, ◌++◌, length, take, Option, None, Some, slice_get, option_and_then}
+use Rattle.std.specs.Prelude.{◌≡◌, ℕ, ◌+◌, ◌-◌, ◌^◌, ◌<◌, ◌≤◌, ◌⊎◌, ◌↔◌, Bool, IsTrue, not, List, ◌++◌, length, take, Option, None, Some, slice_get, option_and_then, true, false}
+use Rattle.std.specs.List.{list_any}
 use Rattle.token.specs.declared.Token as token
 use Rattle.decrees.specs.declared.decree.Decree.{Decree}
 use Rattle.decrees.specs.declared.decree.Decree.TheVariants.{Commit}
-use Rattle.decrees.specs.declared.ballot.Ballot.TheVariants.{Decided}
+use Rattle.decrees.specs.declared.ballot.Ballot.TheVariants.{Decided, Stands}
 use Rattle.decrees.specs.declared.node.Node.TheVariants.{Verifier}
 use Rattle.decrees.specs.Count.{count_below, member_count}
-use Rattle.decrees.specs.Standing.{decree_at, is_log}
-use Rattle.verifier.specs.State.{VerifierState, next_place, down}
+use Rattle.decrees.specs.declared.standing.Standing.{Standing}
+use Rattle.decrees.specs.Standing.{standing, decree_at, is_log}
+use Rattle.verifier.specs.State.{VerifierState, known, decree_of, next_place, down}
 use Rattle.verifier.specs.Record.{record_text, IsRecord}
 use Rattle.agreement.specs.Letters.{Sent, Chosen, Backed, RestsOn}
-use Rattle.agreement.specs.Machine.{Slot, New, Up, Stopped, Event, reached, letters_of}
+use Rattle.agreement.specs.Machine.{Slot, New, Up, Stopped, Event, Deliver, Suspect, Trim, Crash, Restart, Send, reached, letters_of}
 use Rattle.agreement.specs.ChosenList.{chosen}
 
 -- two decrees that are chosen at one place are the same
@@ -36,7 +38,34 @@ record_of slots v = option_and_then recorded (slice_get slots v)
 
 -- the decree stands at its place in the log, or is the accepted one of the place after it
 abbrev pub Holds : VerifierState → ℕ → Decree → Type 0
-Holds s place d = (decree_at s.log place ≡ Some d) ⊎ ((place ≡ next_place s) × ((view : ℕ) × (s.accepted ≡ Some (view, d))))
+Holds s place d = (decree_of s place ≡ Some d) ⊎ ((place ≡ next_place s) × ((view : ℕ) × (s.accepted ≡ Some (view, d))))
+
+-- the place was forgotten, and what stands at the start is what the chosen decrees up to there stand for
+pub record StartsAbove (chosen : List Decree) (s : VerifierState) (place : ℕ) : Type 0 where
+  pub forgotten : place ≤ s.start.place
+  pub within : s.start.place ≤ length chosen
+  pub stands : s.start.standing ≡ standing (take s.start.place chosen)
+
+-- no verifier is told to forget
+abbrev pub trims : Event → Bool
+trims (Deliver k luck) = false
+trims (Suspect v luck) = false
+trims (Trim v place luck) = true
+trims (Crash v) = false
+trims (Restart v luck) = false
+trims (Send l) = false
+
+abbrev pub trims_none : List Event → Bool
+trims_none events = not (list_any trims events)
+
+-- a verifier that is not lost, with a record that holds the decree or begins above it
+pub record KeptByRecord (u : ℕ) (verifiers : List Slot) (chosen : List Decree) (lost : ℕ → Bool) (place : ℕ) (d : Decree) : Type 0 where
+  pub verifier : ℕ
+  pub saved : VerifierState
+  pub is_member : verifier < member_count u
+  pub not_lost : IsTrue (not (lost verifier))
+  pub has_record : record_of verifiers verifier ≡ Some saved
+  pub keeps : Holds saved place d ⊎ StartsAbove chosen saved place
 
 -- a verifier that is not lost, with a record that holds the decree
 pub record HeldByRecord (u : ℕ) (verifiers : List Slot) (lost : ℕ → Bool) (place : ℕ) (d : Decree) : Type 0 where
@@ -47,9 +76,21 @@ pub record HeldByRecord (u : ℕ) (verifiers : List Slot) (lost : ℕ → Bool) 
   pub has_record : record_of verifiers verifier ≡ Some saved
   pub holds : Holds saved place d
 
--- where at most u verifiers are lost, another keeps each chosen decree
+-- where at most u verifiers are lost, another keeps each chosen decree, or what stands after it
 abbrev pub AllKept : Type 0
-AllKept = (u : ℕ) (events : List Event) (lost : ℕ → Bool) (place : ℕ) (d : Decree) → count_below lost (member_count u) ≤ u → Chosen u (letters_of u events) place d → HeldByRecord u (reached u events).verifiers lost place d
+AllKept = (u : ℕ) (events : List Event) (lost : ℕ → Bool) (place : ℕ) (d : Decree) → count_below lost (member_count u) ≤ u → Chosen u (letters_of u events) place d → KeptByRecord u (reached u events).verifiers (chosen u (letters_of u events)) lost place d
+
+-- and the decree itself, where none is told to forget
+abbrev pub AllHeld : Type 0
+AllHeld = (u : ℕ) (events : List Event) (lost : ℕ → Bool) (place : ℕ) (d : Decree) → IsTrue (trims_none events) → count_below lost (member_count u) ≤ u → Chosen u (letters_of u events) place d → HeldByRecord u (reached u events).verifiers lost place d
+
+-- what a verifier tells to stand is what the chosen decrees up to there stand for
+pub record IsStandingAt (chosen : List Decree) (place : ℕ) (s : Standing) : Type 0 where
+  pub within : place ≤ length chosen
+  pub stands : s ≡ standing (take place chosen)
+
+abbrev pub ToldStands : Type 0
+ToldStands = (u : ℕ) (events : List Event) (v place : ℕ) (s : Standing) → Sent (letters_of u events) (Verifier v) (Stands place s) → IsStandingAt (chosen u (letters_of u events)) place s
 
 -- what a verifier tells to be decided is chosen
 abbrev pub ToldIsChosen : Type 0
@@ -67,9 +108,16 @@ pub record IsBackedList (u : ℕ) (events : List Event) : Type 0 where
 abbrev pub ListIsBacked : Type 0
 ListIsBacked = (u : ℕ) (events : List Event) → IsBackedList u events
 
--- the log of each record is a beginning of the list
+-- what a record has is of the list: what stands at its start, and the decrees after that
+pub record IsOfList (chosen : List Decree) (s : VerifierState) : Type 0 where
+  pub before : List Decree
+  pub more : List Decree
+  pub placed : length before ≡ s.start.place
+  pub stands : standing before ≡ s.start.standing
+  pub all : chosen ≡ (before ++ s.log) ++ more
+
 abbrev pub LogsAreChosen : Type 0
-LogsAreChosen = (u : ℕ) (events : List Event) (v : ℕ) (saved : VerifierState) → record_of (reached u events).verifiers v ≡ Some saved → (more : List Decree) × (chosen u (letters_of u events) ≡ saved.log ++ more)
+LogsAreChosen = (u : ℕ) (events : List Event) (v : ℕ) (saved : VerifierState) → record_of (reached u events).verifiers v ≡ Some saved → IsOfList (chosen u (letters_of u events)) saved
 
 -- more events only add to its end
 abbrev pub ListGrows : Type 0
@@ -78,7 +126,7 @@ ListGrows = (u : ℕ) (events more : List Event) → (new : List Decree) × (cho
 -- what a record has is all that a crash leaves, and its bytes are read as just that
 pub record IsReadBack (u v : ℕ) (saved : VerifierState) : Type 0 where
   pub fresh : saved ≡ down saved
-  pub read : length saved.log < 2 ^ 32 → IsRecord u v (record_text u v saved) saved
+  pub read : length saved.log < 2 ^ 32 → known saved + 1 < 2 ^ 64 → IsRecord u v (record_text u v saved) saved
 
 abbrev pub RecordsAreReadBack : Type 0
 RecordsAreReadBack = (u : ℕ) (events : List Event) (v : ℕ) (saved : VerifierState) → record_of (reached u events).verifiers v ≡ Some saved → IsReadBack u v saved

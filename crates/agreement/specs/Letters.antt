@@ -38,6 +38,13 @@ Chosen u ls place d = (view : ℕ) × ChosenIn u ls view place d
 abbrev pub AllChosen : ℕ → Letters → List Decree → Type 0
 AllChosen u ls ds = (place : ℕ) (d : Decree) → decree_at ds place ≡ Some d → Chosen u ls place d
 
+-- decrees are chosen at all places up to this one, and this is what they stand for
+pub record StandsAt (u : ℕ) (ls : Letters) (place : ℕ) (s : Standing) : Type 0 where
+  pub before : List Decree
+  pub all : length before ≡ place
+  pub chosen : AllChosen u ls before
+  pub stands : standing before ≡ s
+
 -- the number is the next one, and more than u executors have sent the token for it, in the standing epoch and over the standing token
 pub record HasTokens (u : ℕ) (ls : Letters) (s : Standing) (n : ℕ) (t : token.Token) : Type 0 where
   pub next : n ≡ s.n + 1

@@ -33,6 +33,8 @@ pub data Event : Type 0 where
   Deliver : (k : ℕ) → Luck → Event
   -- the verifier suspects the leader
   Suspect : (v : ℕ) → Luck → Event
+  -- the verifier is told that it may forget the decrees up to this place
+  Trim : (v place : ℕ) → Luck → Event
   -- the verifier stops between two steps
   Crash : (v : ℕ) → Event
   -- a verifier that is not up is opened
@@ -97,6 +99,7 @@ sent_by m l (Verifier v) = m
 abbrev pub happens : ℕ → Machine → Event → Machine
 happens u m (Deliver k luck) = delivered u m luck (slice_get m.letters k)
 happens u m (Suspect v luck) = given u m v input.Suspect luck (slice_get m.verifiers v)
+happens u m (Trim v place luck) = given u m v (input.Trim place) luck (slice_get m.verifiers v)
 happens u m (Crash v) = crashed m v (slice_get m.verifiers v)
 happens u m (Restart v luck) = opened u m v luck (slice_get m.verifiers v)
 happens u m (Send l) = sent_by m l l.from

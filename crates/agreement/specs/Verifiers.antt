@@ -1,5 +1,6 @@
 -- The verifiers of the machine are those of the code: what `verifier` promises of its calls are the machine's lines.
 use Rattle.std.specs.Prelude.{◌≡◌, ℕ, Bool, true, not, IsTrue, List, [], Option, Some, None, slice_get}
+use Rattle.decrees.specs.Start.{could_stand}
 use Rattle.verifier.specs.declared.input.Input.{Input}
 use Rattle.verifier.specs.State.{VerifierState, new_state, down}
 use Rattle.verifier.specs.Lines.{restarted}
@@ -25,11 +26,11 @@ abbrev pub RefusedIsStopped : Type 0
 RefusedIsStopped = (u id : ℕ) (s saved : VerifierState) (verifier after : VerifierView) → IsIn u id (Up s saved) verifier
     → (after.id ≡ verifier.id) × (after.u ≡ verifier.u) → IsTrue (not after.up) → after.saved ≡ verifier.saved → IsIn u id (Stopped saved) after
 
--- an Ok of `open` is a Restart that is done: of a new verifier, and of one that has a record
+-- an Ok of `open` is a Restart that is done: of a new verifier, and of one that has a record, which begins at what could stand there
 pub record OpenedIsDone : Type 0 where
   pub new : (u id failures : ℕ) (told : Bool) (verifier : VerifierView) (letters : Letters) → Opens u id None failures told verifier letters
       → IsIn u id (Up (new_state u id) (down (new_state u id))) verifier × (letters ≡ [])
-  pub again : (u id failures : ℕ) (told : Bool) (s : VerifierState) (verifier : VerifierView) (letters : Letters) → Opens u id (Some (record_text u id (down s))) failures told verifier letters
+  pub again : (u id failures : ℕ) (told : Bool) (s : VerifierState) (verifier : VerifierView) (letters : Letters) → IsTrue (could_stand s.start.place s.start.standing) → Opens u id (Some (record_text u id (down s))) failures told verifier letters
       → IsIn u id (Up (restarted u id (down s)).state (saved_after (down s) (restarted u id (down s)))) verifier × (letters ≡ (restarted u id (down s)).letters)
 
 -- a verifier that has stopped is opened with what its slot has: an Ok of `open` over its record is a Restart of it that is done

@@ -1,7 +1,7 @@
 //! Laws of every reached machine. The functions do nothing: what each says is its contract.
 
 ghost use Rattle.agreement.specs.Verifiers.{HandledIsDone, RefusedIsStopped, OpenedIsDone, ReopenedIsDone, RefusedOpenIsStopped};
-ghost use Rattle.agreement.specs.Laws.{AtMostOne, SomethingIsChosen, AllBacked, AllKept, ToldIsChosen, ListIsChosen, ListIsBacked, LogsAreChosen, ListGrows, RecordsAreReadBack};
+ghost use Rattle.agreement.specs.Laws.{AtMostOne, SomethingIsChosen, AllBacked, AllKept, AllHeld, ToldIsChosen, ToldStands, ListIsChosen, ListIsBacked, LogsAreChosen, ListGrows, RecordsAreReadBack};
 
 /// At each place at most one decree is chosen.
 pub fn at_most_one_is_chosen()
@@ -22,14 +22,24 @@ pub fn chosen_is_backed()
 {}
 
 /// Where at most `u` verifiers are lost, the record of another holds each chosen decree, in its log
-/// or as what it has accepted.
+/// or as what it has accepted, or it begins above the decree with what stands there.
 pub fn chosen_is_kept()
     ensures { AllKept }
+{}
+
+/// Where no verifier is told to forget decrees, that record holds the decree itself.
+pub fn chosen_is_held()
+    ensures { AllHeld }
 {}
 
 /// What a verifier tells to be decided is chosen.
 pub fn told_is_chosen()
     ensures { ToldIsChosen }
+{}
+
+/// What a verifier tells to stand is what the chosen decrees up to that place stand for.
+pub fn told_stands_is_chosen()
+    ensures { ToldStands }
 {}
 
 /// The list of decrees that is computed from the letters has, at each place, the decree that is
@@ -44,7 +54,8 @@ pub fn list_is_backed()
     ensures { ListIsBacked }
 {}
 
-/// What a verifier knows, by its record, is a beginning of that list.
+/// What a verifier knows, by its record, is of that list: what stands at its start, and the decrees
+/// after it.
 pub fn logs_begin_the_list()
     ensures { LogsAreChosen }
 {}
@@ -55,7 +66,7 @@ pub fn list_only_grows()
 {}
 
 /// A record of the machine has just what a crash leaves. Its bytes are read as that, where it has
-/// fewer than 2^32 decrees.
+/// fewer than 2^32 decrees, and the place after them has a number.
 pub fn records_are_read_back()
     ensures { RecordsAreReadBack }
 {}
@@ -71,7 +82,8 @@ pub fn refused_is_stopped()
     ensures { RefusedIsStopped }
 {}
 
-/// An Ok of `Verifier::open` is a Restart that is done: of a new verifier, or from its record.
+/// An Ok of `Verifier::open` is a Restart that is done: of a new verifier, or from its record, where
+/// this begins at what could stand there.
 pub fn opened_is_done()
     ensures { OpenedIsDone }
 {}

@@ -30,11 +30,12 @@ use Rattle.one_run.specs.Chosen.{IsMade}
 use Rattle.one_run.proofs.Elements.{in_head, in_none, first_or_other}
 use Rattle.one_run.proofs.Tokens.{tells}
 use Rattle.rollback.specs.Chain.{tip}
-use Rattle.custody.specs.Durable.{Durable, first_durable, obeyed, executed_of, IsMember, In, Keeps}
-use Rattle.custody.specs.Machine.{ExecutorMachine, said_of, HaveNoToken, Next, Hear, Choose, Complete, Say, Obey, Take, first_executor_machine, Reached}
+use Rattle.custody.specs.Durable.{Durable, first_durable, obeyed, stood, reached_in, executed_of, IsMember, In, Keeps}
+use Rattle.custody.specs.Machine.{ExecutorMachine, said_of, HaveNoToken, Next, Hear, Choose, Complete, Say, Obey, Stand, Take, first_executor_machine, Reached}
 use Rattle.custody.specs.Laws.{ChosenIsMade, CommittedIsChosen, LastCommitIsKept}
 use Rattle.custody.proofs.Log.{take_front, take_whole, some_at, get_push, stands_next, Numbered, rises_to, one_commit, last_commit}
 use Rattle.custody.proofs.Kept.{In-left, Path, start, step, Path-rises, member_previous, Chain-push, Chain-in, Fate, kept, passed, rolled, broken, ExecOk, ExecOk-met, ExecOk-log, stands_chosen, undone_rollback, undone_commit}
+use Rattle.custody.proofs.Stood.{stands_ok, found, under_path}
 
 -- a token that was said is of a state that a round made of one that was known
 pub record TokenMade (met : StateView → Type 0) (rounds : Executed → Type 0) (epoch n : ℕ) (previous t : token.Token) : Type 0 where
@@ -223,7 +224,7 @@ taken {log} {ls} {met} {rounds} {e} x s ok behind number of_token at = record {
     fates : (epoch n : ℕ) (t : token.Token) → Fate log met x epoch n t → Fate log met (record x { have = s; chain = [] }) epoch n t
     fates epoch n t (kept y (inl h) k a b d) = passed (omega (arith, b, ap (λ (z : StateView). z.number) h, number, behind))
     fates epoch n t (kept y (inr h) k a b d) = ⊎_elim (λ (none : x.chain ≡ []). absurd (none_in (subst (In h.0) none h.1))) (λ (level : x.have.number ≡ x.standing.n). absurd (omega (arith, level, behind))) ok.level
-    fates epoch n t (passed h) = passed (omega (arith, h, number, behind))
+    fates epoch n t (passed h) = passed h
     fates epoch n t (rolled k h a b) = rolled k h a b
     fates epoch n t (broken f y other i p a b z g q) = broken f y other i p a b z g q
 
@@ -262,6 +263,15 @@ next_ok {u} {m} now good (Obey e x d at got) = record {
   told = good.told;
   execs = one_changed (λ i y. ExecOk m.decrees m.letters (Contains m.met) (Contains m.rounds) i y) m.executors e (obeyed x d) good.execs (obeys x d (good.execs e x at) (numbered good) got);
 }
+next_ok {u} {m} now good (Stand e x place at later within) =
+    let y : Durable = stood x place (standing (take place m.decrees)) in
+    record {
+      count = length-set m.executors e y ∙ good.count;
+      rests = good.rests;
+      said = good.said;
+      told = good.told;
+      execs = one_changed (λ i z. ExecOk m.decrees m.letters (Contains m.met) (Contains m.rounds) i z) m.executors e y good.execs (stands_ok (good.execs e x at) (numbered good) place later within);
+    }
 next_ok {u} {m} now good (Take e x s at behind number of_token is_told) =
     let met_later : (y : StateView) → Contains m.met y → Contains (m.met ++ s ∷ []) y = λ y c. Contains-append_left m.met (s ∷ []) y c in
     let up : (i : ℕ) (y : Durable) → slice_get m.executors i ≡ Some y → ExecOk m.decrees m.letters (Contains (m.met ++ s ∷ [])) (Contains m.rounds) i y =
@@ -353,6 +363,22 @@ walk {u} {m} good apart f s j (step {t = t} p at prev number) e above =
     (λ (l : (i : ℕ) × (slice_get m.decrees i ≡ Some (Commit (standing (take j m.decrees)).n (standing (take j m.decrees)).token))).
     walk good apart f t l.0 p (subst (λ (y : ℕ × token.Token). slice_get m.decrees l.0 ≡ Some (Commit y.0 y.1)) (λ i. (n_is i, of_token i)) l.1) above)
     (last_commit m.decrees j (omega (arith, slice_get_within m.decrees j (Commit s.number s.token) e)))
+
+-- each member that is committed with the state that stands has its Commit among the decrees: so its replies are of the run
+pub committed_under : (u : ℕ) (before : List ExecutorMachine) (m : ExecutorMachine) (e : ℕ) (x : Durable) (place : ℕ) (c : StateView × List TentativeView) (t : TentativeView) → Reached u before m → ToldApart (Contains m.met) → slice_get m.executors e ≡ Some x → place ≤ length m.decrees
+    → reached_in (standing (take place m.decrees)) x.have x.chain ≡ Some c → In t x.chain → t.after.number ≤ c.0.number → (i : ℕ) × (slice_get m.decrees i ≡ Some (Commit t.after.number t.after.token))
+committed_under u before m e x place c t r apart at within is i low =
+    let good = reached_ok u before m r in
+    let ok = good.execs e x at in
+    let now = standing (take place m.decrees) in
+    let f = found (Contains m.met) (Contains m.rounds) x.standing.epoch now x.have x.chain c ok.chain is in
+    let path = under_path (Contains m.met) (Contains m.rounds) x.standing.epoch now x.have x.chain c t ok.chain is i low in
+    let above = (Chain-in (Contains m.met) (Contains m.rounds) x.standing.epoch x.have x.chain ok.chain i).above in
+    ⊎_elim
+    (λ (z : now.n ≡ 0). absurd (omega (arith, z, f.is_standing.0, low, above)))
+    (λ (l : (j : ℕ) × (slice_get m.decrees j ≡ Some (Commit now.n now.token))).
+    walk good apart t.after c.0 l.0 path (subst (λ (y : ℕ × token.Token). slice_get m.decrees l.0 ≡ Some (Commit y.0 y.1)) (λ k. (sym f.is_standing.0 k, sym f.is_standing.1 k)) l.1) (omega (arith, above)))
+    (last_commit m.decrees place within)
 
 -- what is kept of the last Commit
 record Still (m : ExecutorMachine) (x : Durable) (n : ℕ) (t : token.Token) : Type 0 where

@@ -105,7 +105,7 @@ module _ (met : StateView → Type 0) (rounds : Executed → Type 0) where
 -- what became of the state of a token that was said
 pub data Fate (log : List Decree) (met : StateView → Type 0) (x : Durable) (epoch n : ℕ) (t : token.Token) : Type 0 where
   kept : (s : StateView) → Keeps x s → met s → s.token ≡ t → s.number ≡ n → s.epoch ≡ epoch → Fate log met x epoch n t
-  passed : n < x.have.number → Fate log met x epoch n t
+  passed : n < x.standing.n → Fate log met x epoch n t
   rolled : (k : ℕ) → k ≤ length log → (standing (take k log)).n < n → epoch < (standing (take k log)).epoch → Fate log met x epoch n t
   broken : (f s : StateView) (other : token.Token) (i : ℕ) → Path met f s → s.token ≡ t → s.number ≡ n → 0 < f.number → slice_get log i ≡ Some (Commit f.number other) → (f.token ≡ other → ⊥) → Fate log met x epoch n t
 
@@ -236,7 +236,7 @@ module _ {log : List Decree} {ls : Letters} {met : StateView → Type 0} {rounds
           let level : x.have.number ≡ x.standing.n = ⊎_elim (λ (none : x.chain ≡ []). let both : ◌≡◌ {A = List TentativeView} (f ∷ rest) [] = sym is ∙ none in absurd (cc)) (λ l. l) ok.level in
           let of_first : f.after.number ≡ n = omega (arith, member_number chain.0, next, level) in
           broken f.after s t x.known path a b (omega (arith, of_first, next)) (subst (λ y. slice_get log x.known ≡ Some (Commit y t)) (sym of_first) at) (λ z. differs f rest refl of_first z)
-      fates ms is differs epoch number said (passed h) = passed h
+      fates ms is differs epoch number said (passed h) = passed (omega (arith, h, next))
       fates ms is differs epoch number said (rolled k h a b) = rolled k h a b
       fates ms is differs epoch number said (broken f s other i p a b z g q) = broken f s other i p a b z g q
 
@@ -260,7 +260,7 @@ module _ {log : List Decree} {ls : Letters} {met : StateView → Type 0} {rounds
           there : In h.0 (m ∷ ms) → Fate log met (after x (Commit n t) m.after ms) epoch number said
           there (first e) = kept s (inl (ap (λ (y : TentativeView). y.after) e ∙ h.2)) at a b d
           there (later i) = kept s (inr (h.0, i, h.2)) at a b d
-      moves m ms is of_first epoch number said (passed h) = passed (omega (arith, of_first, next, ok.below))
+      moves m ms is of_first epoch number said (passed h) = passed (omega (arith, h, next))
       moves m ms is of_first epoch number said (rolled k h a b) = rolled k h a b
       moves m ms is of_first epoch number said (broken f s other i p a b z g q) = broken f s other i p a b z g q
 

@@ -14,7 +14,7 @@ all_three : (a b c : Bool) → (a && (b && c)) ≡ ((a && b) && c)
 all_three true b c = refl
 all_three false b c = refl
 
-by_one : (s : Standing) (log : List Decree) (d : Decree) → is_log_from s (log ++ d ∷ []) ≡ (is_log_from s log && may_follow (fold standing_after s log) d)
+pub by_one : (s : Standing) (log : List Decree) (d : Decree) → is_log_from s (log ++ d ∷ []) ≡ (is_log_from s log && may_follow (fold standing_after s log) d)
 by_one s [] d = both_true (may_follow s d)
 by_one s (x ∷ xs) d =
     ap (λ b. may_follow s x && b) (by_one (standing_after s x) xs d)

@@ -1,6 +1,7 @@
 mod VoteLemmas
-mod LogLemmas
+pub mod LogLemmas
 mod RecordLemmas
+pub mod CouldStand
 pub mod VerdictLemmas
 pub mod GrowthLemmas
 pub mod TokenLemmas

@@ -1,5 +1,5 @@
 -- What a list of decrees stands for.
-use Rattle.std.specs.Prelude.{◌≡◌, ℕ, ◌+◌, ◌-◌, ◌^◌, ◌<◌, ◌≤◌, ◌==◌, ◌&&◌, Bool, true, List, [], ◌∷◌, length, slice_get, fold, replicate, Option, None, if◌then◌else◌}
+use Rattle.std.specs.Prelude.{ℕ, ◌+◌, ◌-◌, ◌==◌, ◌&&◌, Bool, true, List, [], ◌∷◌, slice_get, fold, replicate, Option, None, if◌then◌else◌}
 use Rattle.decrees.specs.declared.decree.Decree.{Decree}
 use Rattle.decrees.specs.declared.decree.Decree.TheVariants.{Commit, Rollback}
 use Rattle.decrees.specs.declared.standing.Standing.{Standing}
@@ -32,11 +32,3 @@ is_log log = is_log_from first_standing log
 -- the decree of a place, from 1
 abbrev pub decree_at : List Decree → ℕ → Option Decree
 decree_at log place = if place == 0 then None else slice_get log (place - 1)
-
--- what a log keeps beside its decrees is what they stand for, and its numbers count them
-pub record IsStandingOf (log : List Decree) (kept : Standing) : Type 0 where
-  pub is_standing : kept ≡ standing log
-  pub begun : 1 ≤ kept.epoch
-  pub counted : kept.n + kept.epoch ≡ length log + 1
-  pub from_next : kept.start ≤ kept.n + 1
-  pub few : length log < 2 ^ 32

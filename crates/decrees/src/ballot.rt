@@ -1,4 +1,5 @@
 use crate::decree::Decree;
+use crate::standing::Standing;
 use token::Token;
 
 /// What executors and verifiers say to come to a decree. A view is a turn of one verifier to lead,
@@ -44,5 +45,11 @@ pub enum Ballot {
         view: u64,
         known: u64,
         accepted: Option<(u64, Decree)>,
+    },
+    /// After the decrees up to this place this stands. It is the answer to who asks for decrees
+    /// that the sender has forgotten.
+    Stands {
+        place: u64,
+        standing: Standing,
     },
 }

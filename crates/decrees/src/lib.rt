@@ -15,6 +15,7 @@ mod log_text;
 mod node;
 mod record;
 mod standing;
+mod start;
 mod votes;
 
 pub use ballot::Ballot;
@@ -23,4 +24,5 @@ pub use laws::{a_log_grows_by_one, commit_is_backed};
 pub use log::Log;
 pub use node::{Letter, Node};
 pub use standing::Standing;
+pub use start::Start;
 pub use votes::{Verdict, VoteKey, Votes};

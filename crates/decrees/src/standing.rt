@@ -1,5 +1,6 @@
-ghost use Rattle.std.specs.Prelude.{◌≡◌, ◌<◌, ◌^◌, ◌-◌};
+ghost use Rattle.std.specs.Prelude.{◌≡◌, ◌<◌, ◌^◌, ◌-◌, ◌+◌, ◌==◌, ◌&&◌, nat_le};
 ghost use Rattle.decrees.specs.Standing.{first_standing, standing_after as after, may_follow as next};
+ghost use Rattle.decrees.specs.Start.{could_stand as could, has_no_token, began_first};
 
 use crate::decree::Decree;
 use token::Token;
@@ -57,5 +58,43 @@ impl Standing {
                 start: self.n + 1,
             },
         }
+    }
+
+    /// Whether its numbers count as many decrees: each is a Commit or a Rollback.
+    fn counts(&self, place: u64) -> bool
+        ensures { result ≡ (((self.now.n + self.now.epoch) == (place + 1)) && nat_le 1 self.now.epoch) }
+    {
+        1 <= self.epoch && self.n <= place && self.epoch - 1 == place - self.n
+    }
+
+    /// Whether the epoch begins with a number from 1 to the next one.
+    fn begins_at_a_number(&self) -> bool
+        ensures { result ≡ (nat_le 1 self.now.start && nat_le self.now.start (self.now.n + 1)) }
+    {
+        1 <= self.start && self.start - 1 <= self.n
+    }
+
+    /// Number 0 has the token of zero bytes.
+    fn has_its_token(&self) -> bool
+        ensures { result ≡ has_no_token self.now }
+    {
+        self.n != 0 || self.token == Token([0; 32])
+    }
+
+    /// Epoch 1 begins with number 1.
+    fn began_first(&self) -> bool
+        ensures { result ≡ began_first self.now }
+    {
+        self.epoch != 1 || self.start == 1
+    }
+
+    /// Whether this could stand after so many decrees.
+    pub fn could_stand(&self, place: u64) -> bool
+        ensures { result ≡ could place self.now }
+    {
+        self.counts(place)
+            && self.begins_at_a_number()
+            && self.has_its_token()
+            && self.began_first()
     }
 }

@@ -26,6 +26,8 @@ pub enum Event {
     Finish { executor: u8 },
     /// The verifier suspects that the leader is lost.
     Suspect { verifier: u8 },
+    /// The verifier may forget the decrees up to this place.
+    Trim { verifier: u8, place: u64 },
     /// The replica stops; its keeper keeps the record.
     Crash(Replica),
     /// The replica, which is down, is opened with its keeper.

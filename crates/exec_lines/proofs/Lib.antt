@@ -1,3 +1,4 @@
 pub mod BegunLemmas
 pub mod CutLemmas
 pub mod LineLemmas
+pub mod StandingLemmas

@@ -6,7 +6,9 @@ use Rattle.decrees.specs.declared.decree.Decree.{Decree}
 use Rattle.decrees.specs.declared.ballot.Ballot.TheVariants.{Ask}
 use Rattle.decrees.specs.declared.node.Letter.{Letter}
 use Rattle.decrees.specs.declared.node.Node.TheVariants.{Client, Executor, Verifier}
+use Rattle.decrees.specs.declared.standing.Standing.{Standing}
 use Rattle.decrees.specs.Standing.{standing_after, may_follow}
+use Rattle.decrees.specs.Start.{could_stand}
 use Rattle.sessions.specs.declared.request.Request.{Request}
 use Rattle.sessions.specs.declared.sessions.LastReply.{LastReply}
 use Rattle.sessions.specs.Fresh.{is_next}
@@ -21,7 +23,7 @@ use Rattle.executor.specs.declared.work.Ended.TheVariants.{On, Done}
 use Rattle.executor.specs.Work.{TentativeView, WorkView, is_group_done}
 use Rattle.executor.specs.GroupRun.{is_untouched}
 use Rattle.executor.specs.StepOf.{step_of}
-use Rattle.rollback.specs.Chain.{chain_tip, is_over, pushed, undone, commits_first, without_first, first_replies}
+use Rattle.rollback.specs.Chain.{ChainView, chain_tip, is_over, pushed, undone, commits_first, without_first, first_replies, chain_from, replies_to}
 use Rattle.transfer.specs.declared.need.Need.{Need}
 use Rattle.transfer.specs.Need.{need_of}
 use Rattle.transfer.specs.Parcel.{ParcelView, answer_of, take_of}
@@ -172,6 +174,30 @@ on_decree u id s from place d =
     if is_due s place d then obey u id s d
     else if nat_lt (s.known + 1) place then one_letter id s (Verifier from) (body.Ballot (Ask (s.known + 1)))
     else unchanged s
+
+-- this could stand there, and the executor has not obeyed as much
+abbrev pub is_told : ExecutorState → ℕ → Standing → Bool
+is_told s place st = nat_lt s.known place && could_stand place st
+
+-- the epoch goes on
+abbrev pub goes_on : ExecutorState → Standing → Bool
+goes_on s st = st.epoch == s.standing.epoch
+
+-- it is committed up to the state that stands; what is over that stays where the epoch goes on, members and work alike
+abbrev pub stood_over : ExecutorState → ℕ → Standing → ChainView → ExecutorState
+stood_over s place st c = record s { known = place; standing = st; chain = if goes_on s st then c else undone c; work = if goes_on s st then s.work else None }
+
+-- it has not the state that stands
+abbrev pub stood_without : ExecutorState → ℕ → Standing → ExecutorState
+stood_without s place st = record s { known = place; standing = st; chain = undone s.chain; work = None }
+
+abbrev pub stood : ℕ → ℕ → ExecutorState → ℕ → Standing → Option ChainView → ExecutorOutcome
+stood u id s place st None = record { state = stood_without s place st; saves = true; letters = needs u id (stood_without s place st) }
+stood u id s place st (Some c) = record { state = stood_over s place st c; saves = true; letters = to_clients id (replies_to st s.chain.have s.chain.members) }
+
+-- A verifier tells what stands after more decrees.
+abbrev pub on_stands : ℕ → ℕ → ExecutorState → ℕ → Standing → ExecutorOutcome
+on_stands u id s place st = if is_told s place st then stood u id s place st (chain_from st s.chain.have s.chain.members) else unchanged s
 
 -- Another executor is behind.
 abbrev pub has_more : ExecutorState → Need → Bool

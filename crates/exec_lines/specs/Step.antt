@@ -1,7 +1,7 @@
 -- The whole step: which line an input fits, and what it does.
 use Rattle.std.specs.Prelude.{◌≡◌, ℕ, ◌-◌, ◌^◌, ◌⊎◌, Bool, true, false, Option, None, Some, is_some, not}
 use Rattle.decrees.specs.declared.ballot.Ballot.{Ballot}
-use Rattle.decrees.specs.declared.ballot.Ballot.TheVariants.{Token, Accept, Accepted, Decided, Ask, Change, Promise}
+use Rattle.decrees.specs.declared.ballot.Ballot.TheVariants.{Token, Accept, Accepted, Decided, Ask, Change, Promise, Stands}
 use Rattle.decrees.specs.declared.node.Node.{Node}
 use Rattle.decrees.specs.declared.node.Node.TheVariants.{Client, Executor, Verifier}
 use Rattle.executor.specs.Work.{WorkView, is_group_done}
@@ -10,7 +10,7 @@ use Rattle.exec_lines.specs.declared.body.Body.TheVariants as body
 use Rattle.exec_lines.specs.declared.input.Input.{Input}
 use Rattle.exec_lines.specs.declared.input.Input.TheVariants as input
 use Rattle.exec_lines.specs.State.{ExecutorState, ExecutorOutcome, unchanged, is_behind}
-use Rattle.exec_lines.specs.Lines.{on_want, on_cut, on_order, on_step, on_finish, on_adopt, on_decree, on_need, on_parcel, may_cut, may_obey_order, work_after, may_adopt, is_heeded, has_more}
+use Rattle.exec_lines.specs.Lines.{on_want, on_cut, on_order, on_step, on_finish, on_adopt, on_decree, on_need, on_parcel, may_cut, may_obey_order, work_after, may_adopt, is_heeded, has_more, on_stands, is_told}
 
 -- with what a client sends
 abbrev pub from_client : ℕ → ExecutorState → Body → ExecutorOutcome
@@ -39,6 +39,7 @@ on_ballot u id s v (Decided place d) = on_decree u id s v place d
 on_ballot u id s v (Ask place) = unchanged s
 on_ballot u id s v (Change view) = unchanged s
 on_ballot u id s v (Promise view count accepted) = unchanged s
+on_ballot u id s v (Stands place standing) = on_stands u id s place standing
 
 -- with what a verifier sends
 abbrev pub from_verifier : ℕ → ℕ → ExecutorState → ℕ → Body → ExecutorOutcome
@@ -87,6 +88,7 @@ fits_ballot s (Decided place d) = is_heeded s place d
 fits_ballot s (Ask place) = false
 fits_ballot s (Change view) = false
 fits_ballot s (Promise view count accepted) = false
+fits_ballot s (Stands place standing) = is_told s place standing
 
 abbrev pub fits_from_verifier : ExecutorState → Body → Bool
 fits_from_verifier s (body.Want r) = false

@@ -17,6 +17,7 @@ mod outcome;
 mod record;
 mod running;
 mod shown;
+mod standing;
 mod state;
 mod step;
 mod working;

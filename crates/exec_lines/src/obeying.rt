@@ -1,19 +1,19 @@
 //! Decrees, and what an executor does by them.
 
-ghost use Rattle.std.specs.Prelude.{◌≡◌, ◌<◌, ◌-◌, ◌^◌, ◌⊎◌, ◌++◌, true, not, IfOk, IfErr, OnOk, IsOk, IsTrue};
+ghost use Rattle.std.specs.Prelude.{◌≡◌, ◌<◌, ◌≤◌, ◌-◌, ◌^◌, ◌⊎◌, ◌++◌, true, not, IfOk, IfErr, OnOk, IsOk, IsTrue};
 ghost use Rattle.rollback.specs.Chain.{commits_first};
 ghost use Rattle.decrees.specs.Standing.{may_follow};
 ghost use Rattle.transfer.specs.Need.{need_of};
 ghost use Rattle.exec_lines.specs.declared.body.Body.TheVariants as body;
 ghost use Rattle.exec_lines.specs.State.{to_other_executors};
-ghost use Rattle.exec_lines.specs.Lines.{rolled_back, obey as obey_line, commit_first as commit_line, roll_back as roll_back_line, needs as needs_of, is_due as due, is_heeded, on_decree as decree_line, resumed as resumed_line};
+ghost use Rattle.exec_lines.specs.Lines.{rolled_back, stood_without, obey as obey_line, commit_first as commit_line, roll_back as roll_back_line, needs as needs_of, is_due as due, is_heeded, on_decree as decree_line, resumed as resumed_line};
 ghost use Rattle.exec_lines.specs.Step.{IsCounted};
 
 use crate::body::Body;
 use crate::letters::{need_to_others, one, tell_all, to_clients, to_verifiers};
 use crate::outcome::Outcome;
 use crate::state::State;
-use decrees::{Ballot, Decree, Letter, Node};
+use decrees::{Ballot, Decree, Letter, Node, Standing};
 use proto::Fault;
 use std::alloc::{AllocError, Global};
 use transfer::Need;
@@ -58,7 +58,7 @@ impl State {
     }
 
     /// What it asks of the others, where it is behind, after these letters.
-    fn needs(
+    pub(crate) fn needs(
         &self,
         alloc: Global,
         u: u8,
@@ -74,6 +74,17 @@ impl State {
         self.all_needs(alloc, u, id, letters)
     }
 
+    /// Undoes the chain and drops the work: after so many decrees this stands.
+    pub(crate) fn begin_again(&mut self, known: u64, standing: Standing)
+        requires { 1 ≤ standing.epoch }
+        ensures { self.new ≡ stood_without self.old known standing }
+    {
+        self.chain.undo_all();
+        self.work = None;
+        self.known = known;
+        self.standing = standing;
+    }
+
     /// Undoes the chain and drops the work, by this decree.
     fn turn_back(&mut self, decree: &Decree)
         requires known { self.old.known < 2 ^ 64 - 1 }
@@ -81,10 +92,8 @@ impl State {
         requires epoch { self.old.standing.epoch < 2 ^ 64 - 1 }
         ensures { self.new ≡ rolled_back self.old decree.now }
     {
-        self.chain.undo_all();
-        self.work = None;
-        self.known += 1;
-        self.standing = self.standing.after(decree);
+        let standing = self.standing.after(decree);
+        self.begin_again(self.known + 1, standing);
     }
 
     /// So it does, and asks for what it then lacks.

@@ -103,6 +103,9 @@ impl State {
     {
         match ballot {
             Ballot::Decided { place, decree } => self.on_decree(alloc, u, id, from, place, decree),
+            Ballot::Stands { place, standing } => {
+                Ok(self.on_stands(alloc, u, id, place, standing)?)
+            }
             _ => Ok(Outcome::nothing(alloc)),
         }
     }

@@ -34,4 +34,8 @@ mod senders;
 #[cfg(test)]
 mod threads;
 #[cfg(test)]
+mod told;
+#[cfg(test)]
+mod told_kept;
+#[cfg(test)]
 mod working;

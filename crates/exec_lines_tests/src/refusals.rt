@@ -6,6 +6,7 @@
 use crate::adopting::made;
 use crate::given::{batch, commit, decided, from_executor, order, want};
 use crate::seen::{LEADER, OTHER, U, are_letters, holds, told_in};
+use crate::told_kept::stand;
 use decrees::{Decree, Letter};
 use exec_lines::{Body, ExecutorRecord, Input};
 use exec_node::ExecNode;
@@ -159,7 +160,8 @@ fn play(alloc: Global, leader: &mut Executor, other: &mut Executor) -> Result<()
     let token = serve(alloc, leader)?;
     let need = fall_behind(alloc, other, token)?;
     hand_over(alloc, leader, other, need)?;
-    roll_back(alloc, leader)
+    roll_back(alloc, leader)?;
+    stand(alloc, other, token)
 }
 
 /// It goes on from its record.

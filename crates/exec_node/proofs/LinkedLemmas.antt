@@ -1,12 +1,13 @@
 -- Members stay over just the states before them, and work over just the tip.
-use Rattle.std.proofs.Common.{◌≡◌, ℕ, ◌+◌, Bool, true, List, [], ◌∷◌, ◌++◌, Option, Some, None, refl, sym, subst}
-use Rattle.std.specs.Prelude.{nat_lt, ◌==◌, not, IsTrue, IfSome, option_map}
+use Rattle.std.proofs.Common.{◌≡◌, ℕ, ◌+◌, Bool, true, false, List, [], ◌∷◌, ◌++◌, Option, Some, None, refl, sym, subst}
+use Rattle.std.specs.Prelude.{nat_lt, ◌==◌, not, IsTrue, IfSome, option_map, if◌then◌else◌}
 use Rattle.std.specs.FinMap.{get}
 use Rattle.std.proofs.lemmas.Bool.{cond_both}
 use Rattle.items.specs.Map.{Items}
 use Rattle.decrees.specs.declared.decree.Decree.{Decree}
 use Rattle.decrees.specs.declared.ballot.Ballot.{Ballot}
 use Rattle.decrees.specs.declared.ballot.Ballot.TheVariants as ballot
+use Rattle.decrees.specs.declared.standing.Standing.{Standing}
 use Rattle.decrees.specs.declared.node.Letter.{Letter}
 use Rattle.decrees.specs.declared.node.Node.{Node}
 use Rattle.decrees.specs.declared.node.Node.TheVariants.{Client, Executor, Verifier}
@@ -22,13 +23,14 @@ use Rattle.executor.specs.Kept.{IsTentative, IsTentativeOver}
 use Rattle.executor.specs.StepOf.{step_in}
 use Rattle.executor.specs.Work.{TentativeView, WorkView, is_group_done, least_of, all_begun}
 use Rattle.transfer.specs.Parcel.{take_of}
-use Rattle.rollback.specs.Chain.{tip, chain_tip, AreOver, IsRecorded, commits_first, without_first}
+use Rattle.rollback.specs.Chain.{ChainView, tip, chain_tip, AreOver, IsRecorded, commits_first, without_first, undone, chain_from}
+use Rattle.rollback.proofs.StandingLemmas.{IsEndOf, end_is}
 use Rattle.exec_lines.specs.declared.body.Body.{Body}
 use Rattle.exec_lines.specs.declared.body.Body.TheVariants as body
 use Rattle.exec_lines.specs.declared.input.Input.TheVariants as input
 use Rattle.exec_lines.specs.Begun.{begin_of, begun_at, finish_of, moved_on}
 use Rattle.exec_lines.specs.State.{ExecutorState, ExecutorOutcome, IsExecutor, WorksOverTip, is_behind, runs_in_order}
-use Rattle.exec_lines.specs.Lines.{wanted, went_on, ordered, after_cut, cut_batch, may_cut, may_obey_order, stepped, work_after, finished, on_decree, is_due, has_more, came}
+use Rattle.exec_lines.specs.Lines.{wanted, went_on, ordered, after_cut, cut_batch, may_cut, may_obey_order, stepped, work_after, finished, on_decree, is_due, has_more, came, is_told, goes_on, stood, on_stands}
 use Rattle.exec_lines.specs.Step.{from_client, from_executor, from_verifier, on_ballot, on_letter}
 use Rattle.exec_node.specs.Laws.{AreTentative, AreStates, IsLinkedExecutor, LinkedStays}
 
@@ -122,6 +124,26 @@ of_decree u id s v place d l =
     (λ _ are. record { chain = record { state = l.chain.state; few = are.few; over = tt }; over = tt }))
     (λ _. cond_both (nat_lt (s.known + 1) place) _ _ Stays (λ _ _. l) (λ _ _. l))
 
+-- the end of the chain with the work, where the epoch goes on, and else the state that stands alone
+abbrev told_state : ExecutorState → ℕ → Standing → ChainView → Bool → ExecutorState
+told_state s place st c on = record s { known = place; standing = st; chain = if on then c else undone c; work = if on then s.work else None }
+
+over_end : (s : ExecutorState) (place : ℕ) (st : Standing) (c : ChainView) (on : Bool) → IsLinkedExecutor s → IsEndOf st s.chain.have s.chain.members c → AreStates (told_state s place st c on).chain → IsLinkedExecutor (told_state s place st c on)
+over_end s place st c true l is are = record {
+  chain = record { state = are.have; few = are.few; over = is.over l.chain.over };
+  over = subst (λ (x : StateView). IfSome s.work (λ w. w.base ≡ x)) is.same l.over;
+}
+over_end s place st c false l is are = record { chain = record { state = are.have; few = are.few; over = tt }; over = tt }
+
+of_stood : (u id : ℕ) (s : ExecutorState) (place : ℕ) (st : Standing) (c : Option ChainView) → IsLinkedExecutor s → IfSome c (IsEndOf st s.chain.have s.chain.members) → Stays (stood u id s place st c)
+of_stood u id s place st None l is = λ are. record { chain = record { state = l.chain.state; few = are.few; over = tt }; over = tt }
+of_stood u id s place st (Some c) l is = over_end s place st c (goes_on s st) l is
+
+of_stands : (u id : ℕ) (s : ExecutorState) (place : ℕ) (st : Standing) → IsLinkedExecutor s → Stays (on_stands u id s place st)
+of_stands u id s place st l =
+    cond_both (is_told s place st) _ _ Stays
+    (λ _. of_stood u id s place st (chain_from st s.chain.have s.chain.members) l (end_is st s.chain.have s.chain.members)) (λ _ _. l)
+
 step_over : (w : WorkView) (base : StateView) (made : Option (Items × List BatchRequest)) → w.base ≡ base
     → IfSome (option_map (λ (x : Items × List BatchRequest). record w { progress = record { items = x.0; running = x.1; group = w.progress.group } }) made) (λ z. z.base ≡ base)
 step_over w base None over = tt
@@ -165,6 +187,7 @@ of_ballot u id s v (ballot.Decided place d) l = of_decree u id s v place d l
 of_ballot u id s v (ballot.Ask place) l = λ _. l
 of_ballot u id s v (ballot.Change view) l = λ _. l
 of_ballot u id s v (ballot.Promise view count accepted) l = λ _. l
+of_ballot u id s v (ballot.Stands place standing) l = of_stands u id s place standing l
 
 of_verifier : (u id : ℕ) (s : ExecutorState) (v : ℕ) (b : Body) → IsLinkedExecutor s → Stays (from_verifier u id s v b)
 of_verifier u id s v (body.Want r) l = λ _. l

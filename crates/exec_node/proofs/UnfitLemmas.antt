@@ -13,7 +13,7 @@ use Rattle.exec_lines.specs.declared.body.Body.TheVariants as body
 use Rattle.exec_lines.specs.declared.input.Input.{Input}
 use Rattle.exec_lines.specs.declared.input.Input.TheVariants.{Letter, Cut, Step, Finish, Adopt}
 use Rattle.exec_lines.specs.State.{ExecutorState, ExecutorOutcome, is_behind, unchanged}
-use Rattle.exec_lines.specs.Lines.{on_decree, is_due, is_heeded, stepped, finished, work_after, may_obey_order, may_cut, may_adopt, has_more}
+use Rattle.exec_lines.specs.Lines.{on_decree, is_due, is_heeded, stepped, finished, work_after, may_obey_order, may_cut, may_adopt, has_more, is_told}
 use Rattle.exec_lines.specs.Step.{from_client, from_executor, from_verifier, on_ballot, on_letter, fits_from_client, fits_from_executor, fits_from_verifier, fits_ballot, fits_from, is_at_end, executor_step, fits_a_line}
 use Rattle.exec_node.specs.Laws.{UnfitInputStays}
 
@@ -46,6 +46,7 @@ of_ballot u id s v (ballot.Decided place d) unfit = of_decree u id s v place d u
 of_ballot u id s v (ballot.Ask place) unfit = refl
 of_ballot u id s v (ballot.Change view) unfit = refl
 of_ballot u id s v (ballot.Promise view count accepted) unfit = refl
+of_ballot u id s v (ballot.Stands place standing) unfit = cond-false (is_told s place standing) _ _ unfit
 
 of_verifier : (u id : ℕ) (s : ExecutorState) (v : ℕ) (b : Body) → fits_from_verifier s b ≡ false → from_verifier u id s v b ≡ unchanged s
 of_verifier u id s v (body.Want r) unfit = refl

@@ -6,6 +6,7 @@ use Rattle.std.proofs.lemmas.Bool.{cond_both}
 use Rattle.decrees.specs.declared.decree.Decree.{Decree}
 use Rattle.decrees.specs.declared.ballot.Ballot.{Ballot}
 use Rattle.decrees.specs.declared.ballot.Ballot.TheVariants as ballot
+use Rattle.decrees.specs.declared.standing.Standing.{Standing}
 use Rattle.decrees.specs.declared.node.Letter.{Letter}
 use Rattle.decrees.specs.declared.node.Node.{Node}
 use Rattle.decrees.specs.declared.node.Node.TheVariants.{Client, Executor, Verifier}
@@ -17,13 +18,13 @@ use Rattle.executor.specs.declared.work.Ended.{Ended}
 use Rattle.executor.specs.declared.work.Ended.TheVariants.{On, Done}
 use Rattle.executor.specs.Work.{WorkView, is_group_done}
 use Rattle.transfer.specs.Parcel.{take_of}
-use Rattle.rollback.specs.Chain.{chain_tip, commits_first}
+use Rattle.rollback.specs.Chain.{ChainView, chain_tip, commits_first, chain_from}
 use Rattle.exec_lines.specs.declared.body.Body.{Body}
 use Rattle.exec_lines.specs.declared.body.Body.TheVariants as body
 use Rattle.exec_lines.specs.declared.input.Input.TheVariants as input
 use Rattle.exec_lines.specs.Begun.{begin_of, finish_of}
 use Rattle.exec_lines.specs.State.{ExecutorState, ExecutorOutcome, is_behind, runs_in_order, after_crash}
-use Rattle.exec_lines.specs.Lines.{wanted, went_on, ordered, after_cut, cut_batch, may_cut, may_obey_order, stepped, work_after, finished, may_adopt, on_decree, is_due, has_more, came}
+use Rattle.exec_lines.specs.Lines.{wanted, went_on, ordered, after_cut, cut_batch, may_cut, may_obey_order, stepped, work_after, finished, may_adopt, on_decree, is_due, has_more, came, is_told, stood, on_stands}
 use Rattle.exec_lines.specs.Step.{from_client, from_executor, from_verifier, on_ballot, on_letter}
 use Rattle.exec_node.specs.Laws.{UnsavedExecutorStays}
 
@@ -68,6 +69,14 @@ of_decree u id s v place d =
     (λ _. cond_both (commits_first d s.chain.members) _ _ (Kept s) (λ _ e. absurd (cc e)) (λ _ e. absurd (cc e)))
     (λ _. cond_both (nat_lt (s.known + 1) place) _ _ (Kept s) (λ _ _. refl) (λ _ _. refl))
 
+of_stood : (u id : ℕ) (s : ExecutorState) (place : ℕ) (st : Standing) (c : Option ChainView) → Kept s (stood u id s place st c)
+of_stood u id s place st None = λ e. absurd (cc e)
+of_stood u id s place st (Some c) = λ e. absurd (cc e)
+
+of_stands : (u id : ℕ) (s : ExecutorState) (place : ℕ) (st : Standing) → Kept s (on_stands u id s place st)
+of_stands u id s place st =
+    cond_both (is_told s place st) _ _ (Kept s) (λ _. of_stood u id s place st (chain_from st s.chain.have s.chain.members)) (λ _ _. refl)
+
 of_client : (id : ℕ) (s : ExecutorState) (b : Body) → Kept s (from_client id s b)
 of_client id s (body.Want r) = of_want id s r (get s.chain.have.sessions r.client)
 of_client id s (body.Order b) = λ _. refl
@@ -92,6 +101,7 @@ of_ballot u id s v (ballot.Decided place d) = of_decree u id s v place d
 of_ballot u id s v (ballot.Ask place) = λ _. refl
 of_ballot u id s v (ballot.Change view) = λ _. refl
 of_ballot u id s v (ballot.Promise view count accepted) = λ _. refl
+of_ballot u id s v (ballot.Stands place standing) = of_stands u id s place standing
 
 of_verifier : (u id : ℕ) (s : ExecutorState) (v : ℕ) (b : Body) → Kept s (from_verifier u id s v b)
 of_verifier u id s v (body.Want r) = λ _. refl

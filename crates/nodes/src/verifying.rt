@@ -9,6 +9,7 @@ use exec_lines::Body;
 use keeper::MemKeeper;
 use link::Link;
 use proto::Fault;
+use serving::due_trim;
 use std::alloc::Global;
 use std::collections::VecDeque;
 use std::sync::Wait;
@@ -84,6 +85,19 @@ fn hand_in<R: Wait>(
     Ok(())
 }
 
+/// Has the verifier forget old decrees, if its log is long.
+fn trim<R: Wait>(
+    rt: &R,
+    alloc: Global,
+    node: &mut Verifier<MemKeeper<Text>>,
+    bench: &mut Bench,
+) -> Result<(), Fault> {
+    match due_trim(node.start(), node.known()) {
+        Some(place) => hand_in(rt, alloc, node, bench, Input::Trim { place }),
+        None => Ok(()),
+    }
+}
+
 /// Does the verifier's work until the server ends.
 fn attend<R: Wait>(
     rt: &R,
@@ -100,6 +114,7 @@ fn attend<R: Wait>(
         let done = hand_in(rt, alloc, node, bench, input);
         bench.posts.end(1);
         done?;
+        trim(rt, alloc, node, bench)?;
     }
     Ok(())
 }

@@ -1,21 +1,19 @@
 -- Each event of a world keeps true that what is kept and sent was asked.
-use Rattle.std.proofs.Common.{◌≡◌, ◌≢◌, ℕ, zero, suc, Bool, true, false, List, [], ◌∷◌, ◌++◌, map, Option, Some, None, refl, sym, ◌∙◌, ap, subst, ⊎_elim, arith, slice_get, slice_set}
-use Rattle.std.specs.Prelude.{Contains, ◌==◌, if◌then◌else◌}
+use Rattle.std.proofs.Common.{◌≡◌, ◌≢◌, ℕ, zero, suc, List, [], ◌∷◌, ◌++◌, map, Option, Some, None, refl, sym, ◌∙◌, ap, subst, ⊎_elim, arith, slice_get, slice_set}
+use Rattle.std.specs.Prelude.{◌==◌}
 use Rattle.std.proofs.lemmas.Bool.{cond_both, eqb-true, eqb-false}
 use Rattle.std.proofs.lemmas.List.{append-nil}
 use Rattle.std.proofs.lemmas.List.Elements.{Contains-push}
 use Rattle.proto.specs.declared.reply.Reply as replies
-use Rattle.sessions.specs.declared.request.Request.{Request}
 use Rattle.decrees.specs.declared.ballot.Ballot.{Ballot}
 use Rattle.decrees.specs.declared.node.Letter.{Letter}
 use Rattle.decrees.specs.declared.node.Node.{Node}
 use Rattle.decrees.specs.declared.node.Node.TheVariants as node
-use Rattle.executor.specs.Work.{TentativeView, WorkView}
+use Rattle.executor.specs.Work.{WorkView}
 use Rattle.exec_lines.specs.declared.body.Body.{Body}
 use Rattle.exec_lines.specs.declared.body.Body.TheVariants as body
 use Rattle.exec_lines.specs.declared.input.Input as of_executor
 use Rattle.exec_lines.specs.declared.input.Input.TheVariants as executor_input
-use Rattle.exec_lines.specs.State.{ExecutorState}
 use Rattle.exec_node.specs.Executor.{ExecutorView}
 use Rattle.verifier.specs.declared.input.Input as of_verifier
 use Rattle.verifier.specs.declared.input.Input.TheVariants as verifier_input
@@ -24,14 +22,13 @@ use Rattle.client.specs.declared.input.Input as of_client
 use Rattle.client.specs.declared.input.Input.TheVariants as client_input
 use Rattle.client.specs.Laws.{piece_of}
 use Rattle.events.specs.declared.event.Event.{Event}
-use Rattle.events.specs.declared.event.Event.TheVariants.{Feed, Again, Hangup, Deliver, Cut, Step, Finish, Suspect, Crash, Restart, Lost, FailSave}
+use Rattle.events.specs.declared.event.Event.TheVariants.{Feed, Again, Hangup, Deliver, Cut, Step, Finish, Suspect, Trim, Crash, Restart, Lost, FailSave}
 use Rattle.events.specs.declared.event.Replica.{Replica}
 use Rattle.events.specs.declared.event.Replica.TheVariants as replica
-use Rattle.custody.specs.Durable.{Durable}
 use Rattle.worlds.specs.Slot.{Slot}
 use Rattle.worlds.specs.declared.slot.Slot.TheVariants.{Up, Down, Gone}
 use Rattle.worlds.specs.Slots.{executor_kept, executor_told, verifier_kept, verifier_told, crashed_slot, lost_slot, told_slot, ExecutorReopens, ClientSlot}
-use Rattle.worlds.specs.World.{WorldView, as_sent, with_client, with_executor, with_verifier, ClientAtGiven, ClientGiven, ExecutorAtGiven, VerifierAtGiven, ExecutorAtOpened, VerifierAtOpened, changed_at, ClientReached, VerifierReached, NodeReached, letter_at, IsDelivered, WorldNext}
+use Rattle.worlds.specs.World.{WorldView, as_sent, with_executor, with_verifier, ClientAtGiven, ClientGiven, ExecutorAtGiven, VerifierAtGiven, ExecutorAtOpened, VerifierAtOpened, changed_at, ClientReached, VerifierReached, NodeReached, letter_at, IsDelivered, WorldNext}
 use Rattle.worlds.proofs.PlaceLemmas.{get_set}
 use Rattle.one_server.proofs.Inputs.{MayCome}
 use Rattle.one_server.proofs.Plays.{Held}
@@ -39,9 +36,9 @@ use Rattle.one_server.specs.Fed.{fed_by, fed_to}
 use Rattle.one_server.specs.Asked.{IsAskedRequest, WasSent}
 use Rattle.one_server.proofs.Each.{each_of_both, each_at, contains_at, each_implies}
 use Rattle.one_server.proofs.Grown.{IsLater, later_by, request_later, batch_later, fed_next}
-use Rattle.one_server.proofs.AskedLines.{IsAskedWork, IsAskedMember, IsAskedState, IsAskedBody, IsAskedLetter, AreAskedLetters, BringsAsked}
+use Rattle.one_server.proofs.AskedLines.{IsAskedWork, IsAskedMember, IsAskedBody, IsAskedLetter, AreAskedLetters, BringsAsked}
 use Rattle.one_server.proofs.ClientLines.{IsClientOf, client_stays, HandsSent, client_settles}
-use Rattle.one_server.proofs.Slots.{AnyState, AnyRound, IsAskedSlot, may_hear, settles_asked, reopens_asked, crashed_asked, lost_asked, told_asked}
+use Rattle.one_server.proofs.Slots.{AnyState, AnyRound, IsAskedSlot, may_be_heard, settles_asked, reopens_asked, crashed_asked, lost_asked, told_asked}
 
 -- What was sent and what executors keep was asked, and clients were given what they were sent.
 pub record IsAskedWorld (events : List Event) (u : ℕ) (w : WorldView) : Type 0 where
@@ -220,7 +217,7 @@ module _ (events : List Event) {u : ℕ} {w : WorldView} (held : Held u AnyState
   node_reached : (k : ℕ) (l : Letter Body) (to : Node) (now : WorldView) → slice_get w.letters k ≡ Some l → l.to ≡ to → NodeReached w l to now → IsAskedWorld events u now
   node_reached k l (node.Client c) now at to h = client_reached c l.body now (λ number reply e. (l, contains_at w.letters k l at, to, e)) h
   node_reached k l (node.Executor id) now at to h =
-      executor_given id (executor_input.Letter l) (may_hear held k l l.from at refl) (each_at (IsAskedLetter events) w.letters k l ok.letters at) (slice_get w.executors id) now refl h
+      executor_given id (executor_input.Letter l) (may_be_heard held k l at) (each_at (IsAskedLetter events) w.letters k l ok.letters at) (slice_get w.executors id) now refl h
   node_reached k l (node.Verifier id) now at to h = verifier_reached l id l.body now h
 
   delivery : (k : ℕ) (o : Option (Letter Body)) (now : WorldView) → slice_get w.letters k ≡ o → IsDelivered w o now → IsAskedWorld events u now
@@ -262,6 +259,7 @@ module _ (events : List Event) {u : ℕ} {w : WorldView} (held : Held u AnyState
   event_asked (Step id place) now h = executor_given (events ++ Step id place ∷ []) held (quiet (Step id place) (λ client. refl)) id (executor_input.Step place) tt tt (slice_get w.executors id) now refl h
   event_asked (Finish id) now h = executor_given (events ++ Finish id ∷ []) held (quiet (Finish id) (λ client. refl)) id executor_input.Finish tt tt (slice_get w.executors id) now refl h
   event_asked (Suspect id) now h = verifier_given (events ++ Suspect id ∷ []) held (quiet (Suspect id) (λ client. refl)) id verifier_input.Suspect (slice_get w.verifiers id) now h
+  event_asked (Trim id place) now h = verifier_given (events ++ Trim id place ∷ []) held (quiet (Trim id place) (λ client. refl)) id (verifier_input.Trim place) (slice_get w.verifiers id) now h
   event_asked (Crash (replica.Executor id)) now h =
       executor_changes (events ++ Crash (replica.Executor id) ∷ []) held (quiet (Crash (replica.Executor id)) (λ client. refl)) id (crashed_slot executor_kept) (crashed_asked held (events ++ Crash (replica.Executor id) ∷ []) id) (slice_get w.executors id) now refl h
   event_asked (Crash (replica.Verifier id)) now h = verifiers_differ (events ++ Crash (replica.Verifier id) ∷ []) held (quiet (Crash (replica.Verifier id)) (λ client. refl)) (changed_at w.verifiers id (crashed_slot verifier_kept) (slice_get w.verifiers id)) now h

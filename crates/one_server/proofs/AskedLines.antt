@@ -1,5 +1,5 @@
 -- What an executor keeps and sends was asked, line by line.
-use Rattle.std.proofs.Common.{◌≡◌, ℕ, zero, suc, ◌+◌, Bool, true, false, List, [], ◌∷◌, ◌++◌, length, filter, Option, Some, None, refl, sym, ap, subst}
+use Rattle.std.proofs.Common.{◌≡◌, ℕ, zero, suc, ◌+◌, Bool, true, false, List, [], ◌∷◌, ◌++◌, filter, Option, Some, None, refl, sym, subst}
 use Rattle.std.specs.Prelude.{Contains, ◌≤◌, not, ◌==◌, ◌&&◌, nat_lt, if◌then◌else◌, flat_map, option_map}
 use Rattle.std.specs.FinMap.{get}
 use Rattle.std.specs.List.{AllByRecursion, list_any}
@@ -10,14 +10,15 @@ use Rattle.sessions.specs.declared.sessions.LastReply.{LastReply}
 use Rattle.sessions.specs.Fresh.{is_next}
 use Rattle.batches.specs.declared.batch.Batch.{Batch}
 use Rattle.batches.specs.declared.batch.TheConstants.{MOST_REQUESTS, GREATEST_NUMBER}
-use Rattle.batches.specs.Waiting.{added, is_later}
-use Rattle.batches.specs.Cut.{is_past, taken, left}
+use Rattle.batches.specs.Waiting.{is_later}
+use Rattle.batches.specs.Cut.{is_past, left}
 use Rattle.decrees.specs.declared.decree.Decree.{Decree}
 use Rattle.decrees.specs.declared.ballot.Ballot.{Ballot}
 use Rattle.decrees.specs.declared.ballot.Ballot.TheVariants as ballot
 use Rattle.decrees.specs.declared.node.Letter.{Letter}
 use Rattle.decrees.specs.declared.node.Node.{Node}
 use Rattle.decrees.specs.declared.node.Node.TheVariants.{Client, Executor, Verifier}
+use Rattle.decrees.specs.declared.standing.Standing.{Standing}
 use Rattle.decrees.specs.Count.{member_count}
 use Rattle.states.specs.State.{StateView}
 use Rattle.executor.specs.declared.answered.Answered.{Answered}
@@ -27,7 +28,7 @@ use Rattle.executor.specs.BatchRequest.{BatchRequest}
 use Rattle.executor.specs.Round.{first_place}
 use Rattle.executor.specs.StepOf.{step_in, step_of}
 use Rattle.executor.specs.Work.{WorkView, TentativeView, is_group_done, least_of, all_begun}
-use Rattle.rollback.specs.Chain.{chain_tip, commits_first, without_first, first_replies}
+use Rattle.rollback.specs.Chain.{ChainView, chain_tip, undone, commits_first, without_first, first_replies, is_standing, chain_from, replies_to}
 use Rattle.transfer.specs.declared.need.Need.{Need}
 use Rattle.transfer.specs.Need.{need_of}
 use Rattle.transfer.specs.Parcel.{ParcelView, answer_of, take_of}
@@ -36,8 +37,8 @@ use Rattle.exec_lines.specs.declared.body.Body.TheVariants as body
 use Rattle.exec_lines.specs.declared.input.Input.{Input}
 use Rattle.exec_lines.specs.declared.input.Input.TheVariants as input
 use Rattle.exec_lines.specs.Begun.{begun_at, begin_of, moved_on, finish_of}
-use Rattle.exec_lines.specs.State.{ExecutorState, ExecutorOutcome, is_behind, next_batch_number, runs_in_order, executor_letter, to_first_verifiers, to_all_verifiers, to_first_executors, to_other_executors, token_told, to_client, to_clients, unchanged, one_letter}
-use Rattle.exec_lines.specs.Lines.{waits, wanted, completed, went_on, begin, batch_of, has_number, requests_taken, cut_where, cut_batch, after_cut, ordered, may_cut, on_cut, may_obey_order, on_order, stepped, work_after, on_step, finished, on_finish, needs, rolled_back, roll_back, commit_first, obey, is_due, on_decree, has_more, on_need, came, on_parcel, resumed}
+use Rattle.exec_lines.specs.State.{ExecutorState, ExecutorOutcome, is_behind, next_batch_number, runs_in_order, executor_letter, to_first_verifiers, to_all_verifiers, to_first_executors, to_other_executors, token_told, to_clients, unchanged, one_letter}
+use Rattle.exec_lines.specs.Lines.{waits, wanted, went_on, begin, batch_of, has_number, requests_taken, cut_where, cut_batch, after_cut, ordered, may_cut, on_cut, may_obey_order, on_order, stepped, work_after, on_step, finished, on_finish, needs, rolled_back, roll_back, commit_first, obey, is_due, on_decree, is_told, goes_on, stood_without, stood, on_stands, has_more, on_need, came, on_parcel, resumed}
 use Rattle.exec_lines.specs.Step.{from_client, from_executor, on_ballot, from_verifier, on_letter, executor_step}
 use Rattle.events.specs.declared.event.Event.{Event}
 use Rattle.one_server.specs.Fed.{IsMoment}
@@ -271,6 +272,30 @@ module _ (events : List Event) where
         (λ _. obey_asked d)
         (λ _. cond_both (nat_lt (s.known + 1) place) (one_letter id s (Verifier v) (body.Ballot (ballot.Ask (s.known + 1)))) (unchanged s) (IsAskedOutcome events) (λ _. said (Verifier v) (body.Ballot (ballot.Ask (s.known + 1))) tt) (λ _. quiet))
 
+    -- the members over what stands are among those that were
+    over_asked : (st : Standing) (have : StateView) (ts : List TentativeView) (c : ChainView) → chain_from st have ts ≡ Some c → AreAskedMembers events ts → AreAskedMembers events c.members
+    over_asked st have [] c = cond_both (is_standing st have) (Some (record { have = have; members = [] })) None (λ (o : Option ChainView). o ≡ Some c → Unit {0} → AreAskedMembers events c.members)
+        (λ _ e h. let same : ◌≡◌ {A = ChainView} (record { have = have; members = [] }) c = cc e in subst (λ (y : ChainView). AreAskedMembers events y.members) same tt)
+        (λ _ e h. absurd (cc e))
+    over_asked st have (t ∷ ts) c = cond_both (is_standing st have) (Some (record { have = have; members = t ∷ ts })) (chain_from st t.after ts) (λ (o : Option ChainView). o ≡ Some c → AreAskedMembers events (t ∷ ts) → AreAskedMembers events c.members)
+        (λ _ e h. let same : ◌≡◌ {A = ChainView} (record { have = have; members = t ∷ ts }) c = cc e in subst (λ (y : ChainView). AreAskedMembers events y.members) same h)
+        (λ _ e h. over_asked st t.after ts c e h.1)
+
+    stood_asked : (place : ℕ) (st : Standing) (o : Option ChainView) → chain_from st s.chain.have s.chain.members ≡ o → IsAskedOutcome events (stood u id s place st o)
+    stood_asked place st None is = record { state = record { waiting = ok.waiting; working = tt; members = tt }; letters = needs_heard u id (stood_without s place st) }
+    stood_asked place st (Some c) is = record {
+      state = record {
+        waiting = ok.waiting;
+        working = cond_both (goes_on s st) s.work None (IsAskedWork events) (λ _. ok.working) (λ _. tt);
+        members = cond_both (goes_on s st) c (undone c) (λ (y : ChainView). AreAskedMembers events y.members) (λ _. over_asked st s.chain.have s.chain.members c is ok.members) (λ _. tt);
+      };
+      letters = clients_hear id (replies_to st s.chain.have s.chain.members);
+    }
+
+    stands_asked : (place : ℕ) (st : Standing) → IsAskedOutcome events (on_stands u id s place st)
+    stands_asked place st = cond_both (is_told s place st) (stood u id s place st (chain_from st s.chain.have s.chain.members)) (unchanged s) (IsAskedOutcome events)
+        (λ _. stood_asked place st (chain_from st s.chain.have s.chain.members) refl) (λ _. quiet)
+
     need_asked : (e : ℕ) (q : Need) → IsAskedOutcome events (on_need id s e q)
     need_asked e q = cond_both (has_more s q) (one_letter id s (Executor e) (body.Parcel (answer_of s.chain.have q))) (unchanged s) (IsAskedOutcome events) (λ _. said (Executor e) (body.Parcel (answer_of s.chain.have q)) tt) (λ _. quiet)
 
@@ -307,6 +332,7 @@ module _ (events : List Event) where
     on_ballot_asked v (ballot.Ask place) = quiet
     on_ballot_asked v (ballot.Change view) = quiet
     on_ballot_asked v (ballot.Promise view count accepted) = quiet
+    on_ballot_asked v (ballot.Stands place st) = stands_asked place st
 
     from_verifier_asked : (v : ℕ) (b : Body) → IsAskedOutcome events (from_verifier u id s v b)
     from_verifier_asked v (body.Ballot b) = on_ballot_asked v b

@@ -1,33 +1,20 @@
 -- In each world that is reached, what is kept and sent was asked.
-use Rattle.std.proofs.Common.{◌≡◌, ℕ, zero, suc, true, length, List, [], ◌∷◌, ◌++◌, Some, refl, sym, ◌∙◌, ap, subst, ⊎_elim, arith, append_assoc, slice_get, replicate}
+use Rattle.std.proofs.Common.{◌≡◌, ℕ, zero, suc, true, length, List, [], ◌∷◌, ◌++◌, Some, refl, sym, ◌∙◌, ap, subst, ⊎_elim, append_assoc, slice_get}
 use Rattle.std.specs.Prelude.{Contains}
-use Rattle.std.proofs.lemmas.List.{length-replicate, append-nil}
-use Rattle.keeper.specs.Kept.{Kept}
+use Rattle.std.proofs.lemmas.List.{append-nil}
 use Rattle.decrees.specs.Count.{member_count}
-use Rattle.states.specs.State.{StateView}
-use Rattle.exec_node.specs.Executor.{ExecutorView}
-use Rattle.verifier.specs.Verifier.{VerifierView}
 use Rattle.client.specs.Talk.{new_talk}
 use Rattle.client.specs.declared.input.Input.TheVariants.{Reply}
 use Rattle.client.specs.Laws.{none}
-use Rattle.agreement.specs.Machine as machine
 use Rattle.one_run.specs.Run.{Executed}
 use Rattle.one_run.proofs.Elements.{in_none, first_or_other}
-use Rattle.custody.specs.Durable.{first_durable}
 use Rattle.one_server.proofs.Each.{each_among}
-use Rattle.custody.specs.Machine.{first_executor_machine}
 use Rattle.custody.proofs.Log.{get_push, length_push}
 use Rattle.events.specs.declared.event.Event.{Event}
-use Rattle.events.specs.declared.event.Event.TheVariants.{Restart}
-use Rattle.events.specs.declared.event.Replica.{Replica}
 use Rattle.events.specs.declared.event.Replica.TheVariants as replica
 use Rattle.events.specs.Config.{ConfigView}
-use Rattle.worlds.specs.Slot.{Slot}
-use Rattle.worlds.specs.declared.slot.Slot.TheVariants.{Down}
 use Rattle.worlds.specs.Slots.{ClientSlot}
 use Rattle.worlds.specs.World.{WorldView, WorldNext, WorldRuns, last_world, new_clients, nothing_kept, unopened_world, restarts_below, opening_events, IsFirstWorld, ReachedWorlds, EndsWith}
-use Rattle.worlds.specs.Machines.{IsSameVerifier}
-use Rattle.one_server.specs.Machines.{IsSameExecutor}
 use Rattle.one_server.specs.Saved.{IsSavedIn, IsExecutedIn, IsExecuted}
 use Rattle.one_server.proofs.Plays.{Held, event_held, AreRestarts, restarts_both, restarts_are, executors_new, unopened_held, now_held}
 use Rattle.one_server.specs.Asked.{IsAskedBatch}

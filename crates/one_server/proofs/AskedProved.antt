@@ -1,5 +1,5 @@
 -- The laws of what is asked and given in worlds that are reached.
-use Rattle.std.proofs.Common.{◌≡◌, ℕ, zero, suc, List, [], ◌∷◌, ◌++◌, length, take, refl}
+use Rattle.std.proofs.Common.{◌≡◌, suc, List, [], ◌∷◌, ◌++◌, length, take, refl}
 use Rattle.events.specs.declared.event.Event.{Event}
 use Rattle.worlds.specs.World.{WorldView, WorldRuns, last_world}
 use Rattle.one_server.specs.AskedLaws.{ExecutedIsAsked, GivenIsReplied, AskedStaysAsked, BeginningIsReached}

@@ -1,6 +1,6 @@
 -- What a client's part keeps, sends and gives, next to what was fed to it and what it was sent.
 use Rattle.std.proofs.Common.{◌≡◌, ℕ, zero, suc, ◌-◌, Bool, true, false, List, [], ◌∷◌, ◌++◌, Option, Some, None, inl, inr, refl, sym, ◌∙◌, ap, subst, ⊎_elim, slice_get}
-use Rattle.std.specs.Prelude.{Contains, ◌==◌}
+use Rattle.std.specs.Prelude.{◌==◌}
 use Rattle.std.specs.List.{AllByRecursion}
 use Rattle.std.proofs.lemmas.Bool.{cond_both}
 use Rattle.std.proofs.lemmas.Grind.{flat_map-append}
@@ -22,7 +22,7 @@ use Rattle.client.specs.declared.input.Input.TheVariants as input
 use Rattle.client.specs.declared.talk.Talk.{Talk}
 use Rattle.client.specs.Talk.{Given, next_request, client_letter, wants_below, unmoved, go, go_where, go_on}
 use Rattle.client.specs.Step.{IsFedWhere, answered_to, asked_again, IsClientStep}
-use Rattle.client.specs.Taken.{asked, TextsBy, Front}
+use Rattle.client.specs.Taken.{asked, Front}
 use Rattle.client.specs.Laws.{Talks, more, piece_of, bytes_fed, WasHandedIn}
 use Rattle.client.proofs.TakenLemmas.{texts_imply}
 use Rattle.client.proofs.LawLemmas.{given_in_order, outstanding_is_last}

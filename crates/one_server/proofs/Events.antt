@@ -5,6 +5,7 @@ use Rattle.std.proofs.lemmas.Bool.{cond_both, true≢false}
 use Rattle.std.proofs.lemmas.List.{append-nil}
 use Rattle.keeper.specs.Kept.{Kept}
 use Rattle.decrees.specs.declared.decree.Decree.{Decree}
+use Rattle.decrees.specs.declared.standing.Standing.{Standing}
 use Rattle.decrees.specs.declared.ballot.Ballot.{Ballot}
 use Rattle.decrees.specs.declared.ballot.Ballot.TheVariants as ballot
 use Rattle.decrees.specs.declared.node.Letter.{Letter}
@@ -28,13 +29,14 @@ use Rattle.agreement.specs.Letters.{Letters, Sent, here, there}
 use Rattle.agreement.specs.Machine as machine
 use Rattle.agreement.specs.Machine.{reached, letters_of}
 use Rattle.agreement.specs.ChosenList.{chosen}
+use Rattle.agreement.specs.Laws.{IsStandingAt}
 use Rattle.agreement.proofs.Places.{at_index}
-use Rattle.agreement.proofs.Proved.{told_is_chosen, list_is_chosen}
+use Rattle.agreement.proofs.Proved.{told_is_chosen, told_stands, list_is_chosen}
 use Rattle.custody.specs.Durable.{Durable, first_durable}
 use Rattle.custody.specs.Machine.{ExecutorMachine, HaveNoToken, Reached}
 use Rattle.custody.proofs.Custody.{reached_ok}
 use Rattle.events.specs.declared.event.Event.{Event}
-use Rattle.events.specs.declared.event.Event.TheVariants.{Feed, Again, Hangup, Deliver, Cut, Step, Finish, Suspect, Crash, Restart, Lost, FailSave}
+use Rattle.events.specs.declared.event.Event.TheVariants.{Feed, Again, Hangup, Deliver, Cut, Step, Finish, Suspect, Trim, Crash, Restart, Lost, FailSave}
 use Rattle.events.specs.declared.event.Replica.{Replica}
 use Rattle.events.specs.declared.event.Replica.TheVariants as replica
 use Rattle.worlds.specs.Slot.{Slot}
@@ -298,20 +300,32 @@ module _ {u : ℕ} {w : WorldView} {m : ExecutorMachine} (before : List Executor
   verifier_reached l id (body.Parcel p) now h = stays before is_reached is false h
 
   module _ (events : List machine.Event) (verifiers_are : IsOfMachine u w (reached u events)) where
+    decrees_are : chosen u (letters_of u events) ≡ m.decrees
+    decrees_are = ap (chosen u) (sym verifiers_are.letters ∙ is.letters) ∙ sym is.decrees
+
     -- what a verifier tells to be decided is chosen
     told_is_listed : (v place : ℕ) (d : Decree) → Sent (letters_of u events) (node.Verifier v) (ballot.Decided place d) → slice_get m.decrees (place - 1) ≡ Some d
     told_is_listed v place d sent =
         let listed = (list_is_chosen u events place d).1 (told_is_chosen u events v place d sent) in
-        let same : chosen u (letters_of u events) ≡ m.decrees = ap (chosen u) (sym verifiers_are.letters ∙ is.letters) ∙ sym is.decrees in
-        subst (λ (ds : List Decree). slice_get ds (place - 1) ≡ Some d) same (at_index (chosen u (letters_of u events)) place d listed).1
+        subst (λ (ds : List Decree). slice_get ds (place - 1) ≡ Some d) decrees_are (at_index (chosen u (letters_of u events)) place d listed).1
 
-    may_hear : (k : ℕ) (l : Letter Body) (from : Node) → slice_get w.letters k ≡ Some l → l.from ≡ from → MayHear m from l.body
+    -- and what it tells to stand stands there
+    told_is_standing : (v place : ℕ) (st : Standing) → Sent (letters_of u events) (node.Verifier v) (ballot.Stands place st) → IsStandingAt m.decrees place st
+    told_is_standing v place st sent = subst (λ (ds : List Decree). IsStandingAt ds place st) decrees_are (told_stands u events v place st sent)
+
+    -- a ballot that a letter of this world brings was sent to the machine
+    sent_there : (k v : ℕ) (l : Letter Body) (b : Ballot) → slice_get w.letters k ≡ Some l → l.from ≡ node.Verifier v → l.body ≡ body.Ballot b → Sent (letters_of u events) (node.Verifier v) b
+    sent_there k v l b at from says =
+        let among = place_among w.letters k l b at says in
+        subst (λ (z : Letters × Node). Sent z.0 z.1 b) (λ i. (verifiers_are.letters i, from i)) (sent_at (ballots w.letters) among.0 _ among.1)
+
+    pub may_hear : (k : ℕ) (l : Letter Body) (from : Node) → slice_get w.letters k ≡ Some l → l.from ≡ from → MayHear m from l.body
     may_hear k l (node.Client c) at e = tt
     may_hear k l (node.Executor id) at e = tt
-    may_hear k l (node.Verifier v) at e = λ place d says.
-        let among = place_among w.letters k l (ballot.Decided place d) at says in
-        let sent = sent_at (ballots w.letters) among.0 _ among.1 in
-        told_is_listed v place d (subst (λ (z : Letters × Node). Sent z.0 z.1 (ballot.Decided place d)) (λ i. (verifiers_are.letters i, e i)) sent)
+    may_hear k l (node.Verifier v) at e = record {
+      decided = λ place d says. told_is_listed v place d (sent_there k v l (ballot.Decided place d) at e says);
+      stands = λ place st says. told_is_standing v place st (sent_there k v l (ballot.Stands place st) at e says);
+    }
 
     node_reached : (k : ℕ) (l : Letter Body) (to : Node) (now : WorldView) → slice_get w.letters k ≡ Some l → NodeReached w l to now → Follows false u m now
     node_reached k l (node.Client c) now at h = client_reached c l.body now h
@@ -341,6 +355,7 @@ module _ {u : ℕ} {w : WorldView} {m : ExecutorMachine} (before : List Executor
     event_follows (Step id place) now h = executor_given id (executor_input.Step place) tt (slice_get w.executors id) now refl h
     event_follows (Finish id) now h = executor_given id executor_input.Finish tt (slice_get w.executors id) now refl h
     event_follows (Suspect id) now h = verifier_given id verifier_input.Suspect (slice_get w.verifiers id) now h
+    event_follows (Trim id place) now h = verifier_given id (verifier_input.Trim place) (slice_get w.verifiers id) now h
     event_follows (Crash (replica.Executor id)) now h = executor_changes id (crashed_slot executor_kept) (crashed_is id) (slice_get w.executors id) now refl h
     event_follows (Crash (replica.Verifier id)) now h = verifiers_differ (changed_at w.verifiers id (crashed_slot verifier_kept) (slice_get w.verifiers id)) now h
     event_follows (Restart r) now h = less_calm (opened_follows r now h)

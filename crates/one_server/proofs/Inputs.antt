@@ -1,8 +1,8 @@
 -- Each input of an executor, whole, is some steps of the machine.
-use Rattle.std.proofs.Common.{◌≡◌, ℕ, ◌+◌, ◌-◌, ◌≤◌, Bool, true, false, List, [], ◌∷◌, ◌++◌, Option, Some, None, refl, sym, ◌∙◌, ap, subst, arith, slice_get}
-use Rattle.std.specs.Prelude.{not, IsTrue, ◌==◌, nat_lt, if◌then◌else◌}
+use Rattle.std.proofs.Common.{◌≡◌, ℕ, ◌+◌, ◌-◌, ◌≤◌, Bool, true, false, List, [], ◌∷◌, ◌++◌, take, Option, Some, None, refl, sym, ◌∙◌, ap, subst, arith, slice_get}
+use Rattle.std.specs.Prelude.{not, IsTrue, ◌==◌, nat_lt, option_map, if◌then◌else◌}
 use Rattle.std.specs.FinMap.{get}
-use Rattle.std.proofs.lemmas.Bool.{cond_both, eqb-true, ltb-true, ltb-false, not-true, and_parts}
+use Rattle.std.proofs.lemmas.Bool.{cond_both, eqb-true, ltb-true, ltb-false, not-true, and_parts, true≢false}
 use Rattle.sessions.specs.declared.request.Request.{Request}
 use Rattle.sessions.specs.declared.sessions.LastReply.{LastReply}
 use Rattle.batches.specs.declared.batch.Batch.{Batch}
@@ -14,12 +14,14 @@ use Rattle.decrees.specs.declared.node.Letter.{Letter}
 use Rattle.decrees.specs.declared.node.Node.{Node}
 use Rattle.decrees.specs.declared.node.Node.TheVariants.{Client, Executor, Verifier}
 use Rattle.decrees.specs.Count.{member_count}
-use Rattle.decrees.specs.Standing.{may_follow}
+use Rattle.decrees.specs.declared.standing.Standing.{Standing}
+use Rattle.decrees.specs.Standing.{standing, may_follow}
+use Rattle.decrees.specs.Start.{could_stand}
 use Rattle.states.specs.State.{StateView}
 use Rattle.executor.specs.declared.work.Ended.{Ended}
 use Rattle.executor.specs.declared.work.Ended.TheVariants.{On, Done}
 use Rattle.executor.specs.Work.{WorkView, is_group_done, least_of}
-use Rattle.rollback.specs.Chain.{tip, chain_tip, commits_first}
+use Rattle.rollback.specs.Chain.{ChainView, tip, chain_tip, commits_first, chain_from}
 use Rattle.transfer.specs.declared.need.Need.{Need}
 use Rattle.transfer.specs.Parcel.{ParcelView, answer_of, take_of}
 use Rattle.exec_lines.specs.declared.body.Body.{Body}
@@ -28,9 +30,11 @@ use Rattle.exec_lines.specs.declared.input.Input.{Input}
 use Rattle.exec_lines.specs.declared.input.Input.TheVariants as input
 use Rattle.exec_lines.specs.Begun.{begin_of, finish_of, moved_on}
 use Rattle.exec_lines.specs.State.{ExecutorState, ExecutorOutcome, is_behind, is_primary, may_begin, next_batch_number, runs_in_order, to_other_executors, token_told, unchanged, one_letter}
-use Rattle.exec_lines.specs.Lines.{waits, wanted, on_want, completed, went_on, begin, batch_of, has_number, requests_taken, cut_where, cut_batch, after_cut, ordered, may_cut, on_cut, may_obey_order, on_order, stepped, work_after, on_step, finished, on_finish, roll_back, commit_first, obey, is_due, on_decree, has_more, on_need, came, on_parcel}
+use Rattle.exec_lines.specs.Lines.{waits, wanted, on_want, completed, went_on, begin, batch_of, has_number, requests_taken, cut_where, cut_batch, after_cut, ordered, may_cut, on_cut, may_obey_order, on_order, stepped, work_after, on_step, finished, on_finish, roll_back, commit_first, obey, is_due, on_decree, is_told, stood, on_stands, has_more, on_need, came, on_parcel}
 use Rattle.exec_lines.specs.Step.{from_client, from_executor, on_ballot, from_verifier, on_letter, executor_step}
 use Rattle.agreement.specs.Letters.{Letters}
+use Rattle.agreement.specs.Laws.{IsStandingAt}
+use Rattle.custody.specs.Durable as durable
 use Rattle.custody.specs.Durable.{Durable}
 use Rattle.custody.specs.Machine.{ExecutorMachine, said_of, HaveNoToken}
 use Rattle.worlds.specs.Ballots.{ballots}
@@ -38,9 +42,10 @@ use Rattle.worlds.proofs.BallotLemmas.{ballots-append}
 use Rattle.one_server.specs.Saved.{saved_of}
 use Rattle.one_server.specs.Machines.{IsWorkOver, HasWork}
 use Rattle.one_server.proofs.Steps.{said_below}
-use Rattle.one_server.proofs.Moves.{no_ballots, none_told, no_token, Moves, heard_moves, made_moves, made_alone, obeyed_moves}
+use Rattle.one_server.proofs.Moves.{no_ballots, none_told, no_token, Moves, heard_moves, made_moves, made_alone, obeyed_moves, stood_moves}
 use Rattle.one_server.proofs.Works.{Comes, begun_comes, moved_comes, stepped_comes}
 use Rattle.one_server.proofs.Lines.{told_is, obey_none, obey_is, parcel_moves}
+use Rattle.one_server.proofs.Stood.{parts, reached_is, stood_is, stood_none, stood_saves}
 
 -- What a step owes: it is some steps of the machine, with its ballots, or without them where it stops with the new record. What is not saved
 -- is as it was, and its work is over the tip.
@@ -50,9 +55,10 @@ pub record IsStepOf (u id : ℕ) (m : ExecutorMachine) (s : ExecutorState) (o : 
   pub unsaved : o.saves ≡ false → saved_of o.state ≡ saved_of s
   pub works : HasWork (saved_of o.state) o.state.work
 
--- a decree that is told is chosen at its place
-abbrev pub MayTell : ExecutorMachine → Body → Type 0
-MayTell m b = (place : ℕ) (d : Decree) → b ≡ body.Ballot (ballot.Decided place d) → slice_get m.decrees (place - 1) ≡ Some d
+-- a decree that is told is chosen at its place, and what is told to stand stands there
+pub record MayTell (m : ExecutorMachine) (b : Body) : Type 0 where
+  pub decided : (place : ℕ) (d : Decree) → b ≡ body.Ballot (ballot.Decided place d) → slice_get m.decrees (place - 1) ≡ Some d
+  pub stands : (place : ℕ) (st : Standing) → b ≡ body.Ballot (ballot.Stands place st) → IsStandingAt m.decrees place st
 
 abbrev pub MayHear : ExecutorMachine → Node → Body → Type 0
 MayHear m (Client c) b = Unit {0}
@@ -201,6 +207,25 @@ module _ (u id : ℕ) (m : ExecutorMachine) (s : ExecutorState) (at : slice_get 
       (λ _. quiet (one_letter id s (Verifier v) (body.Ballot (ballot.Ask (s.known + 1)))) refl (no_token _ (s.known + 1) refl) works)
       (λ _. silent))
 
+  -- what is told to stand, where the state that stands is found, or is not
+  stood_of : (place : ℕ) (st : Standing) → nat_lt s.known place ≡ true → IsStandingAt m.decrees place st → (o : Option ChainView) → chain_from st s.chain.have s.chain.members ≡ o → IsStepOf u id m s (stood u id s place st o)
+  stood_of place st beyond told o is =
+      let after = stood_is u id s place st o is works in
+      let saved : saved_of (stood u id s place st o).state ≡ durable.stood (saved_of s) place (standing (take place m.decrees)) =
+      after.0 ∙ (ap (durable.stood_on (saved_of s) place st) (sym (reached_is st s.chain.have s.chain.members ∙ ap (option_map parts) is)) ∙ ap (durable.stood (saved_of s) place) told.stands) in
+      let moves = stood_moves u id m (saved_of s) at place [] (ltb-true s.known place beyond) told.within none_told in
+      record {
+        done = subst (λ (z : Durable × Letters). Moves false u id m z.0 z.1) (λ i. (sym saved i, sym (stood_none u id s place st o) i)) moves;
+        alone = subst (λ (z : Durable). Moves false u id m z []) (sym saved) moves;
+        unsaved = λ e. absurd (true≢false (sym (stood_saves u id s place st o) ∙ e));
+        works = after.1;
+      }
+
+  stands_is : (place : ℕ) (st : Standing) → IsStandingAt m.decrees place st → IsStepOf u id m s (on_stands u id s place st)
+  stands_is place st told = cond_both (is_told s place st) (stood u id s place st (chain_from st s.chain.have s.chain.members)) (unchanged s) (IsStepOf u id m s)
+      (λ counts. stood_of place st (and_parts (nat_lt s.known place) (could_stand place st) counts).0 told (chain_from st s.chain.have s.chain.members) refl)
+      (λ _. silent)
+
   need_is : (e : ℕ) (q : Need) → IsStepOf u id m s (on_need id s e q)
   need_is e q = cond_both (has_more s q) (one_letter id s (Executor e) (body.Parcel (answer_of s.chain.have q))) (unchanged s) (IsStepOf u id m s)
       (λ _. quiet (one_letter id s (Executor e) (body.Parcel (answer_of s.chain.have q))) refl none_told works)
@@ -241,13 +266,14 @@ module _ (u id : ℕ) (m : ExecutorMachine) (s : ExecutorState) (at : slice_get 
   executor_is e (body.Ballot b) = silent
 
   ballot_is : (v : ℕ) (b : Ballot) → MayTell m (body.Ballot b) → IsStepOf u id m s (on_ballot u id s v b)
-  ballot_is v (ballot.Decided place d) may = decree_is v place d (may place d refl)
+  ballot_is v (ballot.Decided place d) may = decree_is v place d (may.decided place d refl)
   ballot_is v (ballot.Token epoch n previous token) may = silent
   ballot_is v (ballot.Accept view place d) may = silent
   ballot_is v (ballot.Accepted view place d) may = silent
   ballot_is v (ballot.Ask place) may = silent
   ballot_is v (ballot.Change view) may = silent
   ballot_is v (ballot.Promise view count accepted) may = silent
+  ballot_is v (ballot.Stands place st) may = stands_is place st (may.stands place st refl)
 
   verifier_is : (v : ℕ) (b : Body) → MayTell m b → IsStepOf u id m s (from_verifier u id s v b)
   verifier_is v (body.Ballot b) may = ballot_is v b may

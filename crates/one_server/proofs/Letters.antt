@@ -1,5 +1,5 @@
 -- Each reply that was ever sent to a client is kept by a committed state.
-use Rattle.std.proofs.Common.{◌≡◌, inl, inr, ℕ, zero, suc, List, [], ◌∷◌, ◌++◌, Some, refl, sym, subst, ⊎_elim, slice_get}
+use Rattle.std.proofs.Common.{◌≡◌, inl, inr, ℕ, List, [], ◌∷◌, ◌++◌, Some, refl, sym, ◌∙◌, subst, ⊎_elim, slice_get}
 use Rattle.std.specs.Prelude.{Contains}
 use Rattle.std.proofs.lemmas.List.Elements.{Contains-append_left}
 use Rattle.proto.specs.declared.reply.Reply as replies
@@ -10,27 +10,29 @@ use Rattle.decrees.specs.declared.node.Node.{Node}
 use Rattle.decrees.specs.Count.{member_count}
 use Rattle.states.specs.State.{StateView}
 use Rattle.exec_lines.specs.declared.body.Body.{Body}
+use Rattle.exec_lines.specs.declared.input.Input.{Input}
 use Rattle.exec_node.specs.Executor.{ExecutorView, executor_outcome, executor_handled}
+use Rattle.agreement.specs.ChosenList.{chosen}
+use Rattle.one_run.specs.Met.{ToldApart}
 use Rattle.one_run.specs.Chosen.{IsCommitted}
 use Rattle.one_run.proofs.Elements.{in_none, first_or_other}
 use Rattle.custody.specs.Durable.{Durable}
 use Rattle.custody.proofs.Custody.{reached_ok}
 use Rattle.events.specs.declared.event.Event.{Event}
-use Rattle.events.specs.declared.event.Event.TheVariants.{Restart}
-use Rattle.events.specs.declared.event.Replica.{Replica}
 use Rattle.events.specs.declared.event.Replica.TheVariants as replica
 use Rattle.events.specs.Config.{ConfigView}
 use Rattle.worlds.specs.declared.slot.Slot.TheVariants.{Up}
 use Rattle.worlds.specs.World.{WorldView, WorldNext, WorldRuns, last_world, unopened_world, restarts_below, opening_events, IsFirstWorld}
 use Rattle.worlds.specs.Laws.{chosen_list}
-use Rattle.one_server.specs.Saved.{saved_of, AreLinked}
+use Rattle.one_server.specs.Saved.{saved_of, AreLinked, IsMet, IsExecuted}
 use Rattle.one_server.specs.HeldLaws.{IsChosenState}
 use Rattle.one_server.proofs.Records.{chain_is_linked}
-use Rattle.one_server.proofs.Plays.{are_of_executor_machines, AreRestarts, restarts_both, restarts_are}
+use Rattle.one_server.proofs.Plays.{Held, last_held, are_of_executor_machines, AreRestarts, restarts_both, restarts_are}
 use Rattle.one_server.proofs.Proved.{committed_is_chosen_in_worlds}
 use Rattle.one_server.specs.Asked.{WasSent}
-use Rattle.one_server.proofs.Replies.{SaidTo, AllReplies, replies_more, all-append, KeepsReply, KeepsBeforeOrAfter, step_replies}
-use Rattle.one_server.proofs.Sending.{StepsReply, opening_sends, event_sends}
+use Rattle.one_server.proofs.Replies.{SaidTo, AllReplies, replies_more, all-append, KeepsReply, KeepsOnTheWay, KeepsBeforeOrAfter, step_replies}
+use Rattle.one_server.proofs.Sending.{IsBrought, StepsReply, opening_sends, event_sends}
+use Rattle.one_server.proofs.OnTheWay.{way_is_chosen}
 use Rattle.one_server.proofs.Past.{Past, next_past, among_push, met_among}
 
 -- A state that was met, or is the first, and of which a Commit is chosen, or that has number 0, keeps this reply for the client.
@@ -55,7 +57,7 @@ module _ {c : ConfigView} {events : List Event} {seen : List WorldView} {w : Wor
 
 -- ---- the next world
 
-module _ {c : ConfigView} {events : List Event} {seen : List WorldView} {w : WorldView} (past : Past c events seen w) (e : Event) (x : WorldView) (next : WorldNext w e x) (grown : (new : List Decree) × (chosen_list x ≡ chosen_list w ++ new)) where
+module _ {c : ConfigView} {events : List Event} {seen : List WorldView} {w : WorldView} (past : Past c events seen w) (apart : ToldApart (IsMet seen)) (e : Event) (x : WorldView) (next : WorldNext w e x) (grown : (new : List Decree) × (chosen_list x ≡ chosen_list w ++ new)) where
   committed_later : (s : StateView) → IsCommitted (chosen_list w) s → IsCommitted (chosen_list x) s
   committed_later s (inl first) = inl first
   committed_later s (inr at) = inr (subst (λ (ds : List Decree). Contains ds (Commit s.number s.token)) (sym grown.1) (Contains-append_left (chosen_list w) grown.0 (Commit s.number s.token) at))
@@ -69,17 +71,38 @@ module _ {c : ConfigView} {events : List Event} {seen : List WorldView} {w : Wor
   reply_later : (client number : ℕ) (reply : replies.Reply) → IsCommittedReply seen w client number reply → IsCommittedReply (seen ++ x ∷ []) x client number reply
   reply_later client number reply h = record { state = h.state; chosen = chosen_later h.state h.chosen; keeps = h.keeps }
 
+  held : Held c.u (IsMet seen) (IsExecuted seen) w
+  held = last_held c events seen w past.reached past.ends
+
+  decrees_are : held.now.decrees ≡ chosen_list w
+  decrees_are = held.same.decrees ∙ (λ i. chosen (sym held.same.same_u i) (sym held.same.letters i))
+
+  -- a reply that is committed on the way is kept by a state that is chosen
+  way_replies : (id : ℕ) (i : Input) (v : ExecutorView) → IsBrought w i → slice_get w.executors id ≡ Some (Up v) → (client number : ℕ) (reply : replies.Reply) → KeepsOnTheWay v.state (executor_outcome v i).state client number reply
+      → IsCommittedReply seen w client number reply
+  way_replies id i v brought placed client number reply k =
+      let is = way_is_chosen held apart id v placed i brought client number reply k in
+      record {
+        state = k.under.0.after;
+        chosen = record {
+          known = inr is.0;
+          committed = inr (subst (λ (ds : List Decree). Contains ds (Commit k.under.0.after.number k.under.0.after.token)) decrees_are is.1);
+        };
+        keeps = k.under.2;
+      }
+
   steps_reply : StepsReply (IsCommittedReply (seen ++ x ∷ []) x) w x
-  steps_reply id i v placed now =
+  steps_reply id i v brought placed now =
       replies_more (KeepsBeforeOrAfter v.state (executor_outcome v i).state) (IsCommittedReply (seen ++ x ∷ []) x) by (executor_outcome v i).letters (step_replies v.u v.id v.state (up_is_linked past id v placed) i)
     where
       by : (client number : ℕ) (reply : replies.Reply) → KeepsBeforeOrAfter v.state (executor_outcome v i).state client number reply → IsCommittedReply (seen ++ x ∷ []) x client number reply
       by client number reply (inl k) = record { state = v.state.chain.have; chosen = chosen_later v.state.chain.have (up_is_chosen past id v placed); keeps = k }
-      by client number reply (inr k) = record {
+      by client number reply (inr (inl k)) = record {
         state = (executor_outcome v i).state.chain.have;
         chosen = up_is_chosen (next_past c events seen w e x past next) id (executor_handled v i) now;
         keeps = k;
       }
+      by client number reply (inr (inr k)) = reply_later client number reply (way_replies id i v brought placed client number reply k)
 
   pub replies_next : AllReplies (IsCommittedReply seen w) w.letters → AllReplies (IsCommittedReply (seen ++ x ∷ []) x) x.letters
   replies_next old =

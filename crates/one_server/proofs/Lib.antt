@@ -2,6 +2,7 @@ pub mod Steps
 pub mod Moves
 pub mod Works
 pub mod Lines
+pub mod Stood
 pub mod Inputs
 pub mod Resumed
 pub mod Records
@@ -10,6 +11,7 @@ pub mod Follows
 pub mod Events
 pub mod Kept
 pub mod Plays
+pub mod Outcomes
 pub mod Told
 pub mod Proved
 pub mod Each
@@ -22,6 +24,7 @@ pub mod AskedPlays
 pub mod AskedProved
 pub mod Replies
 pub mod Sending
+pub mod OnTheWay
 pub mod Past
 pub mod Letters
 pub mod Runs

@@ -1,5 +1,5 @@
 -- What becomes of the machine where one executor saves and says something.
-use Rattle.std.proofs.Common.{◌≡◌, ℕ, zero, suc, ◌<◌, ◌⊎◌, Bool, false, List, [], ◌∷◌, ◌++◌, Some, inl, inr, refl, sym, ◌∙◌, ap, ⊎_elim, slice_get, slice_set}
+use Rattle.std.proofs.Common.{◌≡◌, ℕ, zero, suc, ◌<◌, ◌≤◌, ◌⊎◌, Bool, false, List, [], ◌∷◌, ◌++◌, length, take, Some, inl, inr, refl, sym, ◌∙◌, ap, ⊎_elim, slice_get, slice_set}
 use Rattle.std.specs.Prelude.{Contains, ◌==◌, if◌then◌else◌}
 use Rattle.std.proofs.lemmas.Bool.{cond_both}
 use Rattle.std.proofs.lemmas.List.{append-nil}
@@ -11,6 +11,7 @@ use Rattle.decrees.specs.declared.node.Letter.{Letter}
 use Rattle.decrees.specs.declared.node.Node.{Node}
 use Rattle.decrees.specs.declared.node.Node.TheVariants.{Executor, Verifier}
 use Rattle.decrees.specs.Count.{member_count}
+use Rattle.decrees.specs.Standing.{standing}
 use Rattle.states.specs.State.{StateView}
 use Rattle.executor.specs.declared.answered.Answered.{Answered}
 use Rattle.executor.specs.Work.{TentativeView}
@@ -22,8 +23,8 @@ use Rattle.agreement.specs.Letters.{Letters, here, there}
 use Rattle.one_run.specs.Run.{Executed}
 use Rattle.one_run.specs.Met.{IsTold}
 use Rattle.one_run.proofs.Elements.{in_none, first_or_other}
-use Rattle.custody.specs.Durable.{Durable, obeyed, executed_of, IsMember, In, first, later, Keeps}
-use Rattle.custody.specs.Machine.{ExecutorMachine, said_of, HaveNoToken, Hear, Complete, Obey, Take}
+use Rattle.custody.specs.Durable.{Durable, obeyed, stood, executed_of, IsMember, In, first, later, Keeps}
+use Rattle.custody.specs.Machine.{ExecutorMachine, said_of, HaveNoToken, Hear, Complete, Obey, Stand, Take}
 use Rattle.worlds.specs.Ballots.{ballot_of, ballots}
 use Rattle.worlds.proofs.BallotLemmas.{ballots-append}
 use Rattle.worlds.proofs.PlaceLemmas.{set_get}
@@ -133,6 +134,18 @@ module _ (u e : ℕ) (m : ExecutorMachine) (x : Durable) (at : slice_get m.execu
   obeyed_moves d sent got others = record {
     now = record m { executors = slice_set m.executors e (obeyed x d); letters = m.letters ++ sent };
     steps = more (more none (Obey e x d at got)) (Hear sent others);
+    executors = refl;
+    letters = refl;
+    decrees = refl;
+    met_from = λ s c. inl c;
+    rounds_from = λ r c. inl c;
+  }
+
+  -- it is told what stands after more decrees, and these letters have no token
+  pub stood_moves : (place : ℕ) (sent : Letters) → x.known < place → place ≤ length m.decrees → HaveNoToken sent → Moves false u e m (stood x place (standing (take place m.decrees))) sent
+  stood_moves place sent beyond within others = record {
+    now = record m { executors = slice_set m.executors e (stood x place (standing (take place m.decrees))); letters = m.letters ++ sent };
+    steps = more (more none (Stand e x place at beyond within)) (Hear sent others);
     executors = refl;
     letters = refl;
     decrees = refl;

@@ -69,7 +69,8 @@ module _ {u : ℕ} (met : StateView → Type 0) (rounds : Executed → Type 0) w
   -- an event after which all that is kept is among what is met
   pub event_held : (w : WorldView) (held : Held u met rounds w) (e : Event) (x : WorldView) → WorldNext w e x → ((s : StateView) → IsKeptIn x s → met s) → ((r : Executed) → IsExecutedIn x r → rounds r) → Held u met rounds x
   event_held w held e x h new_met new_rounds =
-      next_held false held x (next_follows held.verifiers_are (reached_ok u held.events) e x h) (event_follows held.before held.is_reached held.same held.events held.verifiers_are e x h)
+      let agrees = next_follows held.verifiers_are (reached_ok u held.events) e x h in
+      next_held false held x (agrees.0, agrees.2) (event_follows held.before held.is_reached held.same held.events held.verifiers_are e x h)
       (λ s k. new_met s k.1) (λ r k. new_rounds r k.1)
 
   runs_held : (w : WorldView) (es : List Event) (ws : List WorldView) → Held u met rounds w → ((x : WorldView) → Contains ws x → (s : StateView) → IsKeptIn x s → met s)
@@ -107,8 +108,9 @@ opened_held w [] [] held r h = held
 opened_held w [] (x ∷ ws) held r h = absurd h
 opened_held w (e ∷ es) [] held r h = absurd h
 opened_held {u} w (e ∷ es) (x ∷ ws) held r h =
+    let agrees = next_follows held.verifiers_are (reached_ok u held.events) e x h.0 in
     opened_held x es ws
-    (next_held NoState NoRound true held x (next_follows held.verifiers_are (reached_ok u held.events) e x h.0)
+    (next_held NoState NoRound true held x (agrees.0, agrees.2)
     (opened_follows held.before held.is_reached held.same held.events held.verifiers_are r.0 x (subst (λ (y : Event). WorldNext w y x) r.1 h.0))
     (λ s k. absurd (true≢false k.0)) (λ b k. absurd (true≢false k.0)))
     r.2 h.1
@@ -170,7 +172,7 @@ now_held u met rounds w held = record {
 pub start_held : (c : ConfigView) (met : StateView → Type 0) (rounds : Executed → Type 0) (first : WorldView) → IsFirstWorld c first → Held c.u met rounds first
 start_held c met rounds first h = now_held c.u met rounds first (first_held c first h)
 
-last_held : (c : ConfigView) (events : List Event) (worlds : List WorldView) (w : WorldView) → ReachedWorlds c events worlds → EndsWith worlds w → Held c.u (IsMet worlds) (IsExecuted worlds) w
+pub last_held : (c : ConfigView) (events : List Event) (worlds : List WorldView) (w : WorldView) → ReachedWorlds c events worlds → EndsWith worlds w → Held c.u (IsMet worlds) (IsExecuted worlds) w
 last_held c events [] w r ends = absurd r
 last_held c events (first ∷ later) w r ends =
     let worlds : List WorldView = first ∷ later in

@@ -1,15 +1,16 @@
--- What an executor replies to clients is what its committed state keeps, before the step or after it.
+-- What an executor replies to clients is what its committed state keeps, before the step or after it, or a state that it commits on the way.
 use Rattle.std.proofs.Common.{◌≡◌, ◌⊎◌, inl, inr, ℕ, zero, suc, ◌+◌, Bool, true, false, List, [], ◌∷◌, ◌++◌, Option, Some, None, map, refl, sym, ap, ◌∙◌}
 use Rattle.std.specs.Prelude.{◌==◌, if◌then◌else◌, nat_lt, flat_map}
 use Rattle.std.specs.FinMap.{get}
 use Rattle.std.specs.List.{AllByRecursion}
 use Rattle.std.proofs.lemmas.Bool.{cond_both, eqb-true}
 use Rattle.decrees.specs.declared.ballot.Ballot.{Ballot}
-use Rattle.decrees.specs.declared.ballot.Ballot.TheVariants.{Token, Accept, Accepted, Decided, Ask, Change, Promise}
+use Rattle.decrees.specs.declared.ballot.Ballot.TheVariants.{Token, Accept, Accepted, Decided, Ask, Change, Promise, Stands}
 use Rattle.decrees.specs.declared.decree.Decree.{Decree}
 use Rattle.decrees.specs.declared.node.Letter.{Letter}
 use Rattle.decrees.specs.declared.node.Node.{Node}
 use Rattle.decrees.specs.declared.node.Node.TheVariants.{Client, Executor, Verifier}
+use Rattle.decrees.specs.declared.standing.Standing.{Standing}
 use Rattle.decrees.specs.Count.{member_count}
 use Rattle.proto.specs.declared.reply.Reply as replies
 use Rattle.sessions.specs.declared.request.Request.{Request}
@@ -23,7 +24,7 @@ use Rattle.executor.specs.declared.work.Ended.TheVariants.{On, Done}
 use Rattle.executor.specs.Fresh.{Runner}
 use Rattle.executor.specs.Kept.{reply_kept, kept_for, AreKept}
 use Rattle.executor.specs.Work.{TentativeView, WorkView, is_group_done}
-use Rattle.rollback.specs.Chain.{chain_tip, commits_first, first_replies, without_first}
+use Rattle.rollback.specs.Chain.{ChainView, chain_tip, commits_first, first_replies, without_first, is_standing, chain_from, replies_to}
 use Rattle.transfer.specs.declared.need.Need.{Need}
 use Rattle.transfer.specs.Need.{need_of}
 use Rattle.transfer.specs.Parcel.{ParcelView, answer_of, take_of}
@@ -33,9 +34,10 @@ use Rattle.exec_lines.specs.declared.input.Input.{Input}
 use Rattle.exec_lines.specs.declared.input.Input.TheVariants as input
 use Rattle.exec_lines.specs.Begun.{begin_of, finish_of}
 use Rattle.exec_lines.specs.State.{ExecutorState, ExecutorOutcome, is_behind, runs_in_order, executor_letter, to_first_verifiers, to_all_verifiers, to_first_executors, to_other_executors, token_told, to_clients, unchanged, one_letter}
-use Rattle.exec_lines.specs.Lines.{waits, wanted, completed, went_on, begin, after_cut, cut_batch, ordered, may_cut, on_cut, may_obey_order, on_order, stepped, work_after, finished, may_adopt, on_adopt, needs, rolled_back, roll_back, commit_first, obey, is_due, on_decree, has_more, on_need, came, on_parcel, resumed}
+use Rattle.exec_lines.specs.Lines.{waits, wanted, completed, went_on, begin, after_cut, cut_batch, ordered, may_cut, on_cut, may_obey_order, on_order, stepped, work_after, finished, may_adopt, on_adopt, needs, rolled_back, roll_back, commit_first, obey, is_due, on_decree, is_told, stood_over, stood_without, stood, on_stands, has_more, on_need, came, on_parcel, resumed}
 use Rattle.exec_lines.specs.Step.{from_client, from_executor, on_ballot, from_verifier, on_letter, executor_step}
 use Rattle.one_server.specs.Saved.{AreLinked}
+use Rattle.one_server.proofs.Stood.{IsUnder}
 
 -- ---- replies among letters
 
@@ -141,11 +143,35 @@ first_kept : (id : ℕ) (have : StateView) (ms : List TentativeView) → AreLink
 first_kept id have [] linked = tt
 first_kept id have (t ∷ ts) linked = kept_all t.after id _ t.replies linked.1
 
+-- and those of the members up to what stands, each by the state after that member
+abbrev pub KeepsUnder : Standing → StateView → List TentativeView → ℕ → ℕ → replies.Reply → Type 0
+KeepsUnder st have ms c number reply = (m : TentativeView) × IsUnder st have ms m × KeepsReply m.after c number reply
+
+replies_both : (P : ℕ → ℕ → replies.Reply → Type 0) (id : ℕ) (xs ys : List Answered) → AllReplies P (to_clients id xs) → AllReplies P (to_clients id ys) → AllReplies P (to_clients id (xs ++ ys))
+replies_both P id [] ys h k = k
+replies_both P id (x ∷ xs) ys h k = (h.0, replies_both P id xs ys h.1 k)
+
+under_kept : (id : ℕ) (st : Standing) (have : StateView) (ms : List TentativeView) → AreLinked have ms → AllReplies (KeepsUnder st have ms) (to_clients id (replies_to st have ms))
+under_kept id st have [] linked = tt
+under_kept id st have (t ∷ ts) linked = cond_both (is_standing st have) [] (t.replies ++ replies_to st t.after ts) (λ (answers : List Answered). AllReplies (KeepsUnder st have (t ∷ ts)) (to_clients id answers))
+    (λ _. tt)
+    (λ below.
+    let P = KeepsUnder st have (t ∷ ts) in
+    replies_both P id t.replies (replies_to st t.after ts)
+    (replies_more (KeepsReply t.after) P (λ c number reply k. (t, (below, inl refl), k)) (to_clients id t.replies) (kept_all t.after id _ t.replies linked.1))
+    (replies_more (KeepsUnder st t.after ts) P (λ c number reply k. (k.0, (below, inr k.1), k.2)) (to_clients id (replies_to st t.after ts)) (under_kept id st t.after ts linked.2)))
+
 -- ---- line by line
 
--- a reply is one that the committed state keeps, before or after
+-- what stands now was found in the chain, and the reply is kept by the state after a member up to that
+pub record KeepsOnTheWay (s now : ExecutorState) (c number : ℕ) (reply : replies.Reply) : Type 0 where
+  pub chain : ChainView
+  pub is_found : chain_from now.standing s.chain.have s.chain.members ≡ Some chain
+  pub under : KeepsUnder now.standing s.chain.have s.chain.members c number reply
+
+-- a reply is one that the committed state keeps, before or after, or one that is committed on the way
 abbrev pub KeepsBeforeOrAfter : ExecutorState → ExecutorState → ℕ → ℕ → replies.Reply → Type 0
-KeepsBeforeOrAfter s now c number reply = KeepsReply s.chain.have c number reply ⊎ KeepsReply now.chain.have c number reply
+KeepsBeforeOrAfter s now c number reply = KeepsReply s.chain.have c number reply ⊎ KeepsReply now.chain.have c number reply ⊎ KeepsOnTheWay s now c number reply
 
 abbrev RepliesKept : ExecutorState → ExecutorOutcome → Type 0
 RepliesKept s o = AllReplies (KeepsBeforeOrAfter s o.state) o.letters
@@ -189,13 +215,23 @@ module _ (u id : ℕ) (s : ExecutorState) (linked : AreLinked s.chain.have s.cha
 
   obey_kept : (d : Decree) → RepliesKept s (obey u id s d)
   obey_kept d = cond_both (commits_first d s.chain.members) (commit_first id s d) (roll_back u id s d) (RepliesKept s)
-      (λ _. replies_more (KeepsReply (without_first s.chain.have s.chain.members).have) (KeepsBeforeOrAfter s (commit_first id s d).state) (λ c number reply k. inr k) (to_clients id (first_replies s.chain.members)) (first_kept id s.chain.have s.chain.members linked))
+      (λ _. replies_more (KeepsReply (without_first s.chain.have s.chain.members).have) (KeepsBeforeOrAfter s (commit_first id s d).state) (λ c number reply k. inr (inl k)) (to_clients id (first_replies s.chain.members)) (first_kept id s.chain.have s.chain.members linked))
       (λ _. asks_others (KeepsBeforeOrAfter s (rolled_back s d)) u id (rolled_back s d))
 
   decree_kept : (v place : ℕ) (d : Decree) → RepliesKept s (on_decree u id s v place d)
   decree_kept v place d = cond_both (is_due s place d) (obey u id s d) (if nat_lt (s.known + 1) place then one_letter id s (Verifier v) (body.Ballot (Ask (s.known + 1))) else unchanged s) (RepliesKept s)
       (λ _. obey_kept d)
       (λ _. cond_both (nat_lt (s.known + 1) place) (one_letter id s (Verifier v) (body.Ballot (Ask (s.known + 1)))) (unchanged s) (RepliesKept s) (λ _. (tt, tt)) (λ _. tt))
+
+  stood_kept : (place : ℕ) (st : Standing) (o : Option ChainView) → chain_from st s.chain.have s.chain.members ≡ o → RepliesKept s (stood u id s place st o)
+  stood_kept place st None is = asks_others (KeepsBeforeOrAfter s (stood_without s place st)) u id (stood_without s place st)
+  stood_kept place st (Some c) is =
+      replies_more (KeepsUnder st s.chain.have s.chain.members) (KeepsBeforeOrAfter s (stood_over s place st c)) (λ client number reply k. inr (inr (record { chain = c; is_found = is; under = k })))
+      (to_clients id (replies_to st s.chain.have s.chain.members)) (under_kept id st s.chain.have s.chain.members linked)
+
+  stands_kept : (place : ℕ) (st : Standing) → RepliesKept s (on_stands u id s place st)
+  stands_kept place st = cond_both (is_told s place st) (stood u id s place st (chain_from st s.chain.have s.chain.members)) (unchanged s) (RepliesKept s)
+      (λ _. stood_kept place st (chain_from st s.chain.have s.chain.members) refl) (λ _. tt)
 
   need_kept : (e : ℕ) (q : Need) → RepliesKept s (on_need id s e q)
   need_kept e q = cond_both (has_more s q) (one_letter id s (Executor e) (body.Parcel (answer_of s.chain.have q))) (unchanged s) (RepliesKept s) (λ _. (tt, tt)) (λ _. tt)
@@ -231,6 +267,7 @@ module _ (u id : ℕ) (s : ExecutorState) (linked : AreLinked s.chain.have s.cha
   on_ballot_kept v (Ask place) = tt
   on_ballot_kept v (Change view) = tt
   on_ballot_kept v (Promise view count accepted) = tt
+  on_ballot_kept v (Stands place st) = stands_kept place st
 
   from_verifier_kept : (v : ℕ) (b : Body) → RepliesKept s (from_verifier u id s v b)
   from_verifier_kept v (body.Want r) = tt

@@ -33,6 +33,7 @@ use Rattle.one_server.specs.Run.{IsRun, RunsGrow}
 use Rattle.one_server.specs.Laws.{WorldsAreOfOneServer}
 use Rattle.one_server.proofs.Replies.{AllReplies}
 use Rattle.one_server.proofs.Past.{Past, first_past, next_past, Among, among_push, met_among, executed_among}
+use Rattle.one_server.proofs.OnTheWay.{apart_among}
 use Rattle.one_server.proofs.Letters.{IsCommittedReply, replies_first, replies_next, sent_reply}
 
 -- more states met
@@ -125,7 +126,7 @@ module _ (c : ConfigView) (all : List WorldView) (apart : ToldApart (IsMet all))
       let now = next_past c events seen w e x past runs.0 in
       let among_now = left_among seen x xs among left in
       let later = run_next past among e x runs.0 among_now lists.0 run built in
-      let replied_now = replies_next past e x runs.0 lists.0 replied in
+      let replied_now = replies_next past (apart_among (IsMet seen) (IsMet all) (met_among seen all among) apart) e x runs.0 lists.0 replied in
       (later.0, later.1, is_run now among_now later.0 later.2 replied_now, runs_grow now among_now es xs (λ y at. left y (in_tail x y xs at)) runs.1 lists.1 replied_now later.0 later.2)
 
 pub are_of_one_server : ExecutedIsAsked → GivenIsReplied → WorldsAreOfOneServer

@@ -29,7 +29,7 @@ use Rattle.client.specs.declared.talk.Talk.{Talk}
 use Rattle.client.specs.Talk.{Given, next_request, client_letter, wants_below, unmoved, go, go_where, go_on}
 use Rattle.client.specs.Step.{IsFedWhere, answered_to, asked_again, IsClientStep}
 use Rattle.events.specs.declared.event.Event.{Event}
-use Rattle.events.specs.declared.event.Event.TheVariants.{Feed, Again, Hangup, Deliver, Cut, Step, Finish, Suspect, Crash, Restart, Lost, FailSave}
+use Rattle.events.specs.declared.event.Event.TheVariants.{Feed, Again, Hangup, Deliver, Cut, Step, Finish, Suspect, Trim, Crash, Restart, Lost, FailSave}
 use Rattle.events.specs.declared.event.Replica.{Replica}
 use Rattle.events.specs.declared.event.Replica.TheVariants as replica
 use Rattle.worlds.specs.Slot.{Slot}
@@ -96,9 +96,17 @@ module _ (P : ℕ → ℕ → replies.Reply → Type 0) where
 abbrev pub Sends : (ℕ → ℕ → replies.Reply → Type 0) → WorldView → WorldView → Type 0
 Sends P w x = (new : List (Letter Body)) × (x.letters ≡ w.letters ++ new) × AllReplies P new
 
+-- an input that an event brings; a letter is one of this world
+abbrev pub IsBrought : WorldView → of_executor.Input → Type 0
+IsBrought w (executor_input.Letter l) = (k : ℕ) × (slice_get w.letters k ≡ Some l)
+IsBrought w (executor_input.Cut moment) = Unit {0}
+IsBrought w (executor_input.Step place) = Unit {0}
+IsBrought w executor_input.Finish = Unit {0}
+IsBrought w (executor_input.Adopt t) = ⊥
+
 -- it holds of the replies of each executor that does a step between these worlds
 abbrev pub StepsReply : (ℕ → ℕ → replies.Reply → Type 0) → WorldView → WorldView → Type 0
-StepsReply P w x = (id : ℕ) (i : of_executor.Input) (e : ExecutorView) → slice_get w.executors id ≡ Some (Up e) → slice_get x.executors id ≡ Some (Up (executor_handled e i)) → AllReplies P (executor_outcome e i).letters
+StepsReply P w x = (id : ℕ) (i : of_executor.Input) (e : ExecutorView) → IsBrought w i → slice_get w.executors id ≡ Some (Up e) → slice_get x.executors id ≡ Some (Up (executor_handled e i)) → AllReplies P (executor_outcome e i).letters
 
 module _ (P : ℕ → ℕ → replies.Reply → Type 0) (w x : WorldView) where
   same_letters : x.letters ≡ w.letters → Sends P w x
@@ -143,17 +151,17 @@ module _ (P : ℕ → ℕ → replies.Reply → Type 0) (w x : WorldView) where
   opening_sends (replica.Verifier id) h = verifier_opened id (slice_get w.verifiers id) h
 
   module _ (replied : StepsReply P w x) where
-    settled : (id : ℕ) (input : of_executor.Input) (old now : Slot ExecutorView) (new : List (Letter Body)) → slice_get w.executors id ≡ Some old → x ≡ with_executor w id now new → ExecutorSettles old input now new → AllReplies P new
-    settled id input (Up e) now new placed is (inl h) =
+    settled : (id : ℕ) (input : of_executor.Input) → IsBrought w input → (old now : Slot ExecutorView) (new : List (Letter Body)) → slice_get w.executors id ≡ Some old → x ≡ with_executor w id now new → ExecutorSettles old input now new → AllReplies P new
+    settled id input brought (Up e) now new placed is (inl h) =
         let there : slice_get x.executors id ≡ Some now = ap (λ (y : WorldView). slice_get y.executors id) is ∙ set_get w.executors id now (Up e) placed in
-        subst (AllReplies P) (sym h.2) (replied id input e placed (there ∙ ap (λ (s : Slot ExecutorView). Some s) h.1))
-    settled id input (Up e) now new placed is (inr h) = subst (AllReplies P) (sym h.1.2) tt
-    settled id input (Down kept) now new placed is h = subst (AllReplies P) (sym h.1) tt
-    settled id input (Gone kept) now new placed is h = subst (AllReplies P) (sym h.1) tt
+        subst (AllReplies P) (sym h.2) (replied id input e brought placed (there ∙ ap (λ (s : Slot ExecutorView). Some s) h.1))
+    settled id input brought (Up e) now new placed is (inr h) = subst (AllReplies P) (sym h.1.2) tt
+    settled id input brought (Down kept) now new placed is h = subst (AllReplies P) (sym h.1) tt
+    settled id input brought (Gone kept) now new placed is h = subst (AllReplies P) (sym h.1) tt
 
-    executor_given : (id : ℕ) (input : of_executor.Input) (o : Option (Slot ExecutorView)) → slice_get w.executors id ≡ o → ExecutorAtGiven w id input o x → Sends P w x
-    executor_given id input None placed h = stays h
-    executor_given id input (Some old) placed h = (h.1, ap (λ (y : WorldView). y.letters) h.3, settled id input old h.0 h.1 placed h.3 h.2)
+    executor_given : (id : ℕ) (input : of_executor.Input) → IsBrought w input → (o : Option (Slot ExecutorView)) → slice_get w.executors id ≡ o → ExecutorAtGiven w id input o x → Sends P w x
+    executor_given id input brought None placed h = stays h
+    executor_given id input brought (Some old) placed h = (h.1, ap (λ (y : WorldView). y.letters) h.3, settled id input brought old h.0 h.1 placed h.3 h.2)
 
     client_reached : (c : ℕ) (b : Body) → ClientReached w c b x → Sends P w x
     client_reached c (body.Reply number reply) h = client_given c (client_input.Reply number reply) h
@@ -171,24 +179,29 @@ module _ (P : ℕ → ℕ → replies.Reply → Type 0) (w x : WorldView) where
     verifier_reached l id (body.Need q) h = stays h
     verifier_reached l id (body.Parcel p) h = stays h
 
-    node_reached : (l : Letter Body) (to : Node) → NodeReached w l to x → Sends P w x
-    node_reached l (node.Client c) h = client_reached c l.body h
-    node_reached l (node.Executor id) h = executor_given id (executor_input.Letter l) (slice_get w.executors id) refl h
-    node_reached l (node.Verifier id) h = verifier_reached l id l.body h
+    node_reached : (k : ℕ) (l : Letter Body) (to : Node) → slice_get w.letters k ≡ Some l → NodeReached w l to x → Sends P w x
+    node_reached k l (node.Client c) at h = client_reached c l.body h
+    node_reached k l (node.Executor id) at h = executor_given id (executor_input.Letter l) (k, at) (slice_get w.executors id) refl h
+    node_reached k l (node.Verifier id) at h = verifier_reached l id l.body h
 
-    delivered : (o : Option (Letter Body)) → IsDelivered w o x → Sends P w x
-    delivered None h = stays h
-    delivered (Some l) h = node_reached l l.to h
+    delivery : (k : ℕ) (o : Option (Letter Body)) → slice_get w.letters k ≡ o → IsDelivered w o x → Sends P w x
+    delivery k None at h = stays h
+    delivery k (Some l) at h = node_reached k l l.to at h
+
+    delivered : (k : ℕ) → IsDelivered w (letter_at w.letters k) x → Sends P w x
+    delivered zero h = stays h
+    delivered (suc k) h = delivery k (slice_get w.letters k) refl h
 
     pub event_sends : (e : Event) → WorldNext w e x → Sends P w x
     event_sends (Feed c bytes) h = client_given c (client_input.Feed bytes) h
     event_sends (Again c) h = client_given c client_input.Again h
     event_sends (Hangup c) h = client_given c client_input.Hangup h
-    event_sends (Deliver k) h = delivered (letter_at w.letters k) h
-    event_sends (Cut id moment) h = executor_given id (executor_input.Cut moment) (slice_get w.executors id) refl h
-    event_sends (Step id place) h = executor_given id (executor_input.Step place) (slice_get w.executors id) refl h
-    event_sends (Finish id) h = executor_given id executor_input.Finish (slice_get w.executors id) refl h
+    event_sends (Deliver k) h = delivered k h
+    event_sends (Cut id moment) h = executor_given id (executor_input.Cut moment) tt (slice_get w.executors id) refl h
+    event_sends (Step id place) h = executor_given id (executor_input.Step place) tt (slice_get w.executors id) refl h
+    event_sends (Finish id) h = executor_given id executor_input.Finish tt (slice_get w.executors id) refl h
     event_sends (Suspect id) h = verifier_given id verifier_input.Suspect (slice_get w.verifiers id) h
+    event_sends (Trim id place) h = verifier_given id (verifier_input.Trim place) (slice_get w.verifiers id) h
     event_sends (Crash (replica.Executor id)) h = same_letters (ap (λ (y : WorldView). y.letters) h)
     event_sends (Crash (replica.Verifier id)) h = same_letters (ap (λ (y : WorldView). y.letters) h)
     event_sends (Restart r) h = opening_sends r h

@@ -1,48 +1,30 @@
 -- What an executor keeps was asked: by its state while it is up, and else by whatever its record spells.
-use Rattle.std.proofs.Common.{◌≡◌, ◌⊎◌, ℕ, zero, suc, ◌-◌, List, [], ◌∷◌, Option, Some, None, inl, inr, refl, sym, ◌∙◌, ap, subst, ⊎_elim, slice_get}
+use Rattle.std.proofs.Common.{◌≡◌, ◌⊎◌, ℕ, List, Option, Some, None, inl, inr, refl, sym, ◌∙◌, ap, subst, ⊎_elim, slice_get}
 use Rattle.std.specs.Prelude.{Contains}
 use Rattle.std.proofs.lemmas.Bool.{cond_both}
 use Rattle.keeper.specs.Kept.{Kept}
-use Rattle.decrees.specs.declared.decree.Decree.{Decree}
-use Rattle.decrees.specs.declared.ballot.Ballot.{Ballot}
-use Rattle.decrees.specs.declared.ballot.Ballot.TheVariants as ballot
 use Rattle.decrees.specs.declared.node.Letter.{Letter}
-use Rattle.decrees.specs.declared.node.Node.{Node}
-use Rattle.decrees.specs.declared.node.Node.TheVariants as node
 use Rattle.states.specs.State.{StateView}
 use Rattle.exec_lines.specs.declared.body.Body.{Body}
 use Rattle.exec_lines.specs.declared.input.Input.{Input}
-use Rattle.exec_lines.specs.State.{ExecutorState, ExecutorOutcome, new_executor}
-use Rattle.exec_lines.specs.Step.{executor_step}
+use Rattle.exec_lines.specs.State.{new_executor}
 use Rattle.exec_lines.specs.Record.{executor_text}
-use Rattle.exec_node.specs.Executor.{ExecutorView, executor_outcome, executor_handled, executor_record_after, OpensExecutor}
-use Rattle.agreement.specs.Letters.{Letters, Sent, here, there}
-use Rattle.agreement.specs.Machine as machine
-use Rattle.agreement.specs.Machine.{reached, letters_of}
-use Rattle.agreement.specs.ChosenList.{chosen}
-use Rattle.agreement.proofs.Places.{at_index}
-use Rattle.agreement.proofs.Proved.{told_is_chosen, list_is_chosen}
+use Rattle.exec_node.specs.Executor.{ExecutorView, executor_outcome, executor_record_after, OpensExecutor}
 use Rattle.one_run.specs.Run.{Executed}
 use Rattle.custody.specs.Durable.{Durable, first_durable}
-use Rattle.custody.specs.Machine.{ExecutorMachine, Reached}
 use Rattle.custody.proofs.Custody.{reached_ok}
 use Rattle.events.specs.declared.event.Event.{Event}
 use Rattle.worlds.specs.Slot.{Slot}
 use Rattle.worlds.specs.declared.slot.Slot.TheVariants.{Up, Down, Gone}
-use Rattle.worlds.specs.Slots.{executor_kept, executor_told, crashed_slot, lost_slot, told_slot, first_if_none, StopsIn, ExecutorSettles, ExecutorReopens}
+use Rattle.worlds.specs.Slots.{executor_kept, executor_told, crashed_slot, lost_slot, told_slot, first_if_none, ExecutorSettles, ExecutorReopens}
 use Rattle.worlds.specs.World.{WorldView}
-use Rattle.worlds.specs.Ballots.{ballots}
-use Rattle.worlds.specs.Machines.{IsOfMachine}
-use Rattle.worlds.proofs.BallotLemmas.{place_among}
-use Rattle.worlds.proofs.PlaceLemmas.{set_get}
 use Rattle.one_server.specs.Saved.{saved_of, up_again, AreLinked, IsSpelled, IsSavedIn}
-use Rattle.one_server.specs.Machines.{IsUp, IsRecordOf, IsSameExecutor}
-use Rattle.one_server.proofs.Steps.{steps_reached}
-use Rattle.one_server.proofs.Inputs.{MayHear, MayCome, IsStepOf, input_is}
+use Rattle.one_server.specs.Machines.{IsRecordOf}
+use Rattle.one_server.proofs.Inputs.{MayHear, MayCome}
 use Rattle.one_server.proofs.Records.{chain_is_linked, one_is_spelled, one_is_read}
-use Rattle.one_server.proofs.Kept.{saved_is}
 use Rattle.one_server.proofs.Plays.{Held}
-use Rattle.one_server.proofs.Events.{sent_at}
+use Rattle.one_server.proofs.Events.{may_hear}
+use Rattle.one_server.proofs.Outcomes.{mine_is, outcome_is, outcome_linked}
 use Rattle.one_server.proofs.AskedLines.{AreAskedMembers, AreAskedLetters, IsAskedState, IsAskedOutcome, BringsAsked, resumed_heard, step_keeps_asked}
 
 -- any state, and any round
@@ -70,19 +52,8 @@ saved_is_asked events u id (Gone kept) x is saved = is x saved
 module _ {u : ℕ} {w : WorldView} (held : Held u AnyState AnyRound w) where
   -- ---- what the letters of the world tell
 
-  told_is_listed : (v place : ℕ) (d : Decree) → Sent (letters_of u held.events) (node.Verifier v) (ballot.Decided place d) → slice_get held.now.decrees (place - 1) ≡ Some d
-  told_is_listed v place d sent =
-      let listed = (list_is_chosen u held.events place d).1 (told_is_chosen u held.events v place d sent) in
-      let same : chosen u (letters_of u held.events) ≡ held.now.decrees = ap (chosen u) (sym held.verifiers_are.letters ∙ held.same.letters) ∙ sym held.same.decrees in
-      subst (λ (ds : List Decree). slice_get ds (place - 1) ≡ Some d) same (at_index (chosen u (letters_of u held.events)) place d listed).1
-
-  pub may_hear : (k : ℕ) (l : Letter Body) (from : Node) → slice_get w.letters k ≡ Some l → l.from ≡ from → MayHear held.now from l.body
-  may_hear k l (node.Client c) at e = tt
-  may_hear k l (node.Executor id) at e = tt
-  may_hear k l (node.Verifier v) at e = λ place d says.
-      let among = place_among w.letters k l (ballot.Decided place d) at says in
-      let sent = sent_at (ballots w.letters) among.0 _ among.1 in
-      told_is_listed v place d (subst (λ (z : Letters × Node). Sent z.0 z.1 (ballot.Decided place d)) (λ i. (held.verifiers_are.letters i, e i)) sent)
+  pub may_be_heard : (k : ℕ) (l : Letter Body) → slice_get w.letters k ≡ Some l → MayHear held.now l.from l.body
+  may_be_heard k l at = may_hear held.before held.is_reached held.same held.events held.verifiers_are k l l.from at refl
 
   -- ---- records
 
@@ -109,35 +80,15 @@ module _ {u : ℕ} {w : WorldView} (held : Held u AnyState AnyRound w) where
     -- ---- an input
 
     module _ (x : Input) (may : MayCome held.now x) (brings : BringsAsked events x) (e : ExecutorView) (placed : slice_get w.executors id ≡ Some (Up e)) (is : IsAskedState events e.state) where
-      mine_is : (d : Durable) × (slice_get held.now.executors id ≡ Some d) × IsUp u id d e
-      mine_is = held.same.executors id (Up e) placed
-
-      outcome_is : executor_outcome e x ≡ executor_step u id e.state x
-      outcome_is = λ i. executor_step (mine_is.2.same_u i) (mine_is.2.same_id i) e.state x
-
       outcome_asked : IsAskedOutcome events (executor_outcome e x)
-      outcome_asked = subst (IsAskedOutcome events) (sym outcome_is) (step_keeps_asked events u id e.state is x brings)
-
-      -- each member of what it saves is over the state before it
-      outcome_linked : AreLinked (executor_outcome e x).state.chain.have (executor_outcome e x).state.chain.members
-      outcome_linked =
-          let saved : saved_of e.state ≡ mine_is.0 = mine_is.2.saved in
-          let at : slice_get held.now.executors id ≡ Some (saved_of e.state) = mine_is.1 ∙ ap (λ (y : Durable). Some y) (sym saved) in
-          let up : IsUp u id (saved_of e.state) e = subst (λ (y : Durable). IsUp u id y e) (sym saved) mine_is.2 in
-          let ok = (reached_ok u held.before held.now held.is_reached).execs id (saved_of e.state) at in
-          let step : IsStepOf u id held.now e.state (executor_outcome e x) = subst (IsStepOf u id held.now e.state) (sym outcome_is) (input_is u id held.now e.state at ok.below up.works x may) in
-          let later = steps_reached u held.before held.now step.alone.now held.is_reached step.alone.steps in
-          let there : slice_get step.alone.now.executors id ≡ Some (saved_of (executor_outcome e x).state) =
-          ap (λ (xs : List Durable). slice_get xs id) step.alone.executors ∙ set_get held.now.executors id (saved_of (executor_outcome e x).state) (saved_of e.state) at in
-          let good = (reached_ok u later.0 step.alone.now later.1).execs id (saved_of (executor_outcome e x).state) there in
-          chain_is_linked (Contains step.alone.now.met) (Contains step.alone.now.rounds) (executor_outcome e x).state.standing.epoch (executor_outcome e x).state.chain.have (executor_outcome e x).state.chain.members good.chain
+      outcome_asked = subst (IsAskedOutcome events) (sym (outcome_is held id e placed x may)) (step_keeps_asked events u id e.state is x brings)
 
       after_is_asked : IsAskedRecord events u id (executor_record_after e (executor_outcome e x))
       after_is_asked = cond_both (executor_outcome e x).saves (Some (executor_text e.u e.id (executor_outcome e x).state)) e.saved (IsAskedRecord events u id)
           (λ _. λ y spelled.
           let text : ◌≡◌ {A = Option (List ℕ)} (Some (executor_text e.u e.id (executor_outcome e x).state)) (Some (executor_text u id (up_again (saved_of (executor_outcome e x).state)))) =
-          (λ i. Some (executor_text (mine_is.2.same_u i) (mine_is.2.same_id i) (executor_outcome e x).state)) in
-          subst (λ (z : Durable). AreAskedMembers events z.chain) (sym (one_is_spelled u id (Some (executor_text e.u e.id (executor_outcome e x).state)) y (saved_of (executor_outcome e x).state) spelled (record { text = text; linked = outcome_linked })))
+          (λ i. Some (executor_text ((mine_is held id e placed).2.same_u i) ((mine_is held id e placed).2.same_id i) (executor_outcome e x).state)) in
+          subst (λ (z : Durable). AreAskedMembers events z.chain) (sym (one_is_spelled u id (Some (executor_text e.u e.id (executor_outcome e x).state)) y (saved_of (executor_outcome e x).state) spelled (record { text = text; linked = outcome_linked held id e placed x may })))
           outcome_asked.state.members)
           (λ _. up_record_asked e placed is)
 

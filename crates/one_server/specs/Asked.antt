@@ -1,5 +1,5 @@
 -- What clients asked, and what they were answered.
-use Rattle.std.specs.Prelude.{◌≡◌, ℕ, ◌-◌, ◌≤◌, List, Option, Some, Contains, slice_get}
+use Rattle.std.specs.Prelude.{◌≡◌, ℕ, ◌-◌, ◌≤◌, List, Some, Contains, slice_get}
 use Rattle.proto.specs.declared.command.Command.{Command}
 use Rattle.proto.specs.declared.reply.Reply as replies
 use Rattle.proto.specs.declared.turn.Turn.{Turn}

@@ -1,7 +1,7 @@
 -- What events bring from outside: the bytes of each client, and the moments of cuts.
 use Rattle.std.specs.Prelude.{ℕ, ◌==◌, List, [], flat_map, Contains, if◌then◌else◌}
 use Rattle.events.specs.declared.event.Event.{Event}
-use Rattle.events.specs.declared.event.Event.TheVariants.{Feed, Again, Hangup, Deliver, Cut, Step, Finish, Suspect, Crash, Restart, Lost, FailSave}
+use Rattle.events.specs.declared.event.Event.TheVariants.{Feed, Again, Hangup, Deliver, Cut, Step, Finish, Suspect, Trim, Crash, Restart, Lost, FailSave}
 
 -- the bytes that one event feeds to the client of this number
 abbrev pub fed_by : ℕ → Event → List ℕ
@@ -13,6 +13,7 @@ fed_by client (Cut executor moment) = []
 fed_by client (Step executor place) = []
 fed_by client (Finish executor) = []
 fed_by client (Suspect verifier) = []
+fed_by client (Trim verifier place) = []
 fed_by client (Crash replica) = []
 fed_by client (Restart replica) = []
 fed_by client (Lost replica) = []

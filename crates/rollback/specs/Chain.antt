@@ -5,6 +5,7 @@ use Rattle.std.specs.Int.{w8}
 use Rattle.wire.specs.Number.{num}
 use Rattle.decrees.specs.declared.decree.Decree.{Decree}
 use Rattle.decrees.specs.declared.decree.Decree.TheVariants.{Commit, Rollback}
+use Rattle.decrees.specs.declared.standing.Standing.{Standing}
 use Rattle.decrees.specs.Votes.{token_eq}
 use Rattle.states.specs.declared.version.Version.{Version}
 use Rattle.states.specs.declared.version.Version.TheVariants.{Second}
@@ -74,6 +75,20 @@ after_decree d c = if commits_first d c.members then without_first c.have c.memb
 
 abbrev pub undone : ChainView → ChainView
 undone c = record c { members = [] }
+
+-- the state has the number and the token that stand
+abbrev pub is_standing : Standing → StateView → Bool
+is_standing st s = (s.number == st.n) && token_eq s.token st.token
+
+-- the chain over the state that stands, where that is the committed one or a member's
+abbrev pub chain_from : Standing → StateView → List TentativeView → Option ChainView
+chain_from st have [] = if is_standing st have then Some (record { have = have; members = [] }) else None
+chain_from st have (t ∷ ts) = if is_standing st have then Some (record { have = have; members = t ∷ ts }) else chain_from st t.after ts
+
+-- the replies of the members up to it, in order
+abbrev pub replies_to : Standing → StateView → List TentativeView → List Answered
+replies_to st have [] = []
+replies_to st have (t ∷ ts) = if is_standing st have then [] else t.replies ++ replies_to st t.after ts
 
 -- a chain is identified by its states
 abbrev pub chain_code : Coded StateView → Coded TentativeView → Coded ChainView

@@ -1,5 +1,5 @@
 ghost use Rattle.std.specs.Prelude.{◌≡◌, ◌↔◌, ◌⊎◌, ◌<◌, ◌≤◌, [], length, IsTrue, IsOk, IfOk, IfErr, OnOk, OnErr, option_map};
-ghost use Rattle.rollback.specs.Chain.{ChainView, chain_tip, is_over, pushed, commits_state, commits_first, given_by, after_decree, undone};
+ghost use Rattle.rollback.specs.Chain.{ChainView, chain_tip, is_over, pushed, commits_state, commits_first, first_replies, without_first, given_by, after_decree, undone};
 
 use decrees::Decree;
 use executor::{Answered, Base, Committed, Tentative};
@@ -154,6 +154,18 @@ impl Chain {
         }
     }
 
+    /// Commits the first member by the decree of its number and token, and gives its replies.
+    pub(crate) fn commit_member(&mut self, decree: &Decree) -> Vec<Answered>
+        requires { IsTrue (commits_first decree.now self.old.members) }
+        ensures replies { result.items ≡ first_replies self.old.members }
+        ensures chain { self.new ≡ without_first self.old.have self.old.members }
+    {
+        let first = self.members.remove(0);
+        let (committed, replies) = commit(first, decree).take_replies();
+        self.committed = committed;
+        replies
+    }
+
     /// Commits the first member by the decree of its number and token, and gives its replies. By any
     /// other decree nothing changes.
     pub fn commit_first(&mut self, decree: &Decree) -> Option<Vec<Answered>>
@@ -163,10 +175,7 @@ impl Chain {
         if !self.commits_first(decree) {
             return None;
         }
-        let first = self.members.remove(0);
-        let (committed, replies) = commit(first, decree).take_replies();
-        self.committed = committed;
-        Some(replies)
+        Some(self.commit_member(decree))
     }
 
     /// Undoes all members.

@@ -3,7 +3,7 @@
 //!
 //! It stands on `executor`, and on `decrees`. The layer above uses `Chain`: each member is over the
 //! one before it, they are at most four, and what is committed is the first one, by the decree of its
-//! number and token. `tip` lends the state after the members, for the batch after it. For a keeper there
+//! number and token, or all up to the one that stands (`commit_to`). `tip` lends the state after the members, for the batch after it. For a keeper there
 //! is `saved`, a value that can be dropped, and is written only when it is asked for its text; `take` reads
 //! that text.
 #![tactic(auto)]
@@ -11,6 +11,7 @@
 mod chain;
 mod chain_record;
 mod saved_chain;
+mod standing;
 mod witness;
 
 pub use chain::{Chain, MOST_MEMBERS};

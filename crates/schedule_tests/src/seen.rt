@@ -33,6 +33,7 @@ pub fn add_event(words: &mut String, event: &Event) -> Result<(), AllocError> {
         Event::Step { executor, place } => write!(words, " Step {executor} of {place}"),
         Event::Finish { executor } => write!(words, " Finish {executor}"),
         Event::Suspect { verifier } => write!(words, " Suspect {verifier}"),
+        Event::Trim { verifier, place } => write!(words, " Trim {verifier} to {place}"),
         Event::Crash(replica) => {
             words.push_str(" Crash")?;
             add_replica(words, *replica)

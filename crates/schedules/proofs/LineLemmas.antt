@@ -6,7 +6,7 @@ use Rattle.std.proofs.lemmas.Slice.Eq.{bytes_eq-Decides}
 use Rattle.proto.specs.Line.{◌>>=◌}
 use Rattle.proto.specs.Number.{number_below}
 use Rattle.events.specs.declared.event.Event.{Event}
-use Rattle.events.specs.declared.event.Event.TheVariants.{Feed, Again, Hangup, Deliver, Cut, Step, Finish, Suspect, Crash, Restart, Lost, FailSave}
+use Rattle.events.specs.declared.event.Event.TheVariants.{Feed, Again, Hangup, Deliver, Cut, Step, Finish, Suspect, Trim, Crash, Restart, Lost, FailSave}
 use Rattle.events.specs.declared.event.Replica.{Replica}
 use Rattle.events.specs.declared.event.Replica.TheVariants.{Executor, Verifier}
 use Rattle.schedules.specs.declared.keyword.Keyword.{Keyword}
@@ -64,6 +64,7 @@ event_read (Step id place) text (rest, e, (front, back, e', named, written)) =
     rw (e, e', pair) refl
 event_read (Finish id) text (rest, e, named) = rw (e, named) refl
 event_read (Suspect id) text (rest, e, named) = rw (e, named) refl
+event_read (Trim id place) text none = absurd none
 event_read (Crash r) text (rest, e, named) = rw (e, replica_read r rest named) refl
 event_read (Restart r) text (rest, e, named) = rw (e, replica_read r rest named) refl
 event_read (Lost r) text (rest, e, named) = rw (e, replica_read r rest named) refl

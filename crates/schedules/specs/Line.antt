@@ -3,7 +3,7 @@ use Rattle.std.specs.Prelude.{◌≡◌, ◌⊎◌, ℕ, ◌+◌, ◌^◌, min, 
 use Rattle.std.specs.Option.{option_map}
 use Rattle.proto.specs.Number.{number_below}
 use Rattle.events.specs.declared.event.Event.{Event}
-use Rattle.events.specs.declared.event.Event.TheVariants.{Feed, Again, Hangup, Deliver, Cut, Step, Finish, Suspect, Crash, Restart, Lost, FailSave}
+use Rattle.events.specs.declared.event.Event.TheVariants.{Feed, Again, Hangup, Deliver, Cut, Step, Finish, Suspect, Trim, Crash, Restart, Lost, FailSave}
 use Rattle.events.specs.declared.event.Replica.{Replica}
 use Rattle.events.specs.declared.event.Replica.TheVariants.{Executor, Verifier}
 use Rattle.schedules.specs.declared.number.TheConstants.{MOST_EVENTS, MOST_PLACES}
@@ -52,6 +52,8 @@ IsEventText (Cut id moment) = Begins (codes "cut") (Joins (NumbersReplica id) (W
 IsEventText (Step id place) = Begins (codes "step") (Joins (NumbersReplica id) (Writes MOST_PLACES place))
 IsEventText (Finish id) = Begins (codes "finish") (NumbersReplica id)
 IsEventText (Suspect id) = Begins (codes "suspect") (NumbersReplica id)
+-- no line says it
+IsEventText (Trim id place) = λ line. ⊥
 IsEventText (Crash replica) = Begins (codes "crash") (NamesReplica replica)
 IsEventText (Restart replica) = Begins (codes "restart") (NamesReplica replica)
 IsEventText (Lost replica) = Begins (codes "lose") (NamesReplica replica)

@@ -1,9 +1,9 @@
 -- What a verifier does with each input, line by line.
-use Rattle.std.specs.Prelude.{ℕ, ◌+◌, ◌-◌, ◌==◌, ◌&&◌, ◌||◌, Bool, true, false, not, List, [], ◌∷◌, ◌++◌, length, take, drop, Option, None, Some, nat_lt, nat_le, if◌then◌else◌}
+use Rattle.std.specs.Prelude.{ℕ, ◌+◌, ◌-◌, ◌==◌, ◌&&◌, ◌||◌, Bool, true, false, not, List, [], ◌∷◌, ◌++◌, take, drop, Option, None, Some, nat_lt, nat_le, if◌then◌else◌}
 use Rattle.token.specs.declared.Token.{Token}
 use Rattle.decrees.specs.declared.decree.Decree.{Decree}
 use Rattle.decrees.specs.declared.decree.Decree.TheVariants as decree
-use Rattle.decrees.specs.declared.ballot.Ballot.TheVariants.{Accept, Accepted, Decided, Ask, Change, Promise}
+use Rattle.decrees.specs.declared.ballot.Ballot.TheVariants.{Accept, Accepted, Decided, Ask, Change, Promise, Stands}
 use Rattle.decrees.specs.declared.ballot.Ballot.{Ballot}
 use Rattle.decrees.specs.declared.node.Letter.{Letter}
 use Rattle.decrees.specs.declared.node.Node.{Node}
@@ -11,17 +11,20 @@ use Rattle.decrees.specs.declared.node.Node.TheVariants.{Verifier}
 use Rattle.decrees.specs.declared.votes.Verdict.{Verdict}
 use Rattle.decrees.specs.declared.votes.Verdict.TheVariants as verdict_variant
 use Rattle.decrees.specs.declared.votes.VoteKey.{VoteKey}
-use Rattle.decrees.specs.Standing.{standing, may_follow, decree_at}
+use Rattle.decrees.specs.declared.standing.Standing.{Standing}
+use Rattle.decrees.specs.Standing.{standing_after, may_follow}
 use Rattle.decrees.specs.Votes.{is_open, open_votes, votes_with, verdict}
 use Rattle.view_change.specs.declared.promises.Choice.{Choice}
 use Rattle.view_change.specs.declared.promises.Choice.TheVariants as choice_variant
 use Rattle.view_change.specs.Promises.{has_promised, promises_with, choice}
 use Rattle.verifier.specs.Tally.{tally_with, is_accepted}
-use Rattle.verifier.specs.State.{VerifierState, OutcomeView, next_place, letter, to_verifiers, to_others, to_executors, decided_from, stays, says, in_view, down, is_led_by, next_led}
+use Rattle.verifier.specs.State.{VerifierState, OutcomeView, known, stands, decree_of, next_place, letter, to_verifiers, to_others, to_executors, decided_from, stays, says, in_view, down, is_led_by, next_led}
+use Rattle.decrees.specs.declared.start.Start.{Start}
+use Rattle.decrees.specs.Start.{stands_from, could_stand}
 
 -- one decree more is known
 abbrev pub learn : VerifierState → Decree → VerifierState
-learn s d = record s { log = s.log ++ d ∷ []; accepted = None; proposed = false; tally = []; votes = open_votes (standing (s.log ++ d ∷ [])) s.votes }
+learn s d = record s { log = s.log ++ d ∷ []; accepted = None; proposed = false; tally = []; votes = open_votes (standing_after (stands s) d) s.votes }
 
 -- what the verdict leaves to a leader that is free to propose
 abbrev pub by_verdict : ℕ → Bool → Verdict → Option Decree
@@ -38,7 +41,7 @@ by_choice choice_variant.Free fresh = fresh
 abbrev pub proposal : ℕ → VerifierState → Option Decree
 proposal u s =
     if s.leads && not s.proposed
-    then by_choice (choice u (length s.log) s.promises) (by_verdict ((standing s.log).n + 1) s.doubt (verdict u (standing s.log) s.votes))
+    then by_choice (choice u (known s) s.promises) (by_verdict ((stands s).n + 1) s.doubt (verdict u (stands s) s.votes))
     else None
 
 abbrev pub proposing : ℕ → ℕ → VerifierState → Bool → List (Letter Ballot) → Option Decree → OutcomeView
@@ -47,7 +50,7 @@ proposing u id s saves first (Some d) =
     record {
       state = record s { proposed = true; doubt = false };
       saves = saves;
-      letters = first ++ to_verifiers u id (Accept s.view (length s.log + 1) d);
+      letters = first ++ to_verifiers u id (Accept s.view (next_place s) d);
     }
 
 -- a step that leaves this state and these letters, and then tries to propose
@@ -59,7 +62,7 @@ vote_key executor epoch n previous = record { epoch = epoch; n = n; executor = e
 
 abbrev pub on_token : ℕ → ℕ → VerifierState → ℕ → ℕ → ℕ → Token → Token → OutcomeView
 on_token u id s executor epoch n previous token =
-    if is_open (standing s.log) (vote_key executor epoch n previous)
+    if is_open (stands s) (vote_key executor epoch n previous)
     then try_to_propose u id (record s { votes = votes_with s.votes (vote_key executor epoch n previous) token }) false []
     else stays s
 
@@ -75,11 +78,11 @@ suspected u id s =
 abbrev pub on_change : ℕ → VerifierState → ℕ → ℕ → OutcomeView
 on_change id s from view =
     if nat_lt view s.view then stays s
-    else record { state = in_view s view; saves = nat_lt s.view view; letters = letter id (Verifier from) (Promise view (length s.log) s.accepted) ∷ [] }
+    else record { state = in_view s view; saves = nat_lt s.view view; letters = letter id (Verifier from) (Promise view (known s) s.accepted) ∷ [] }
 
 -- asks for what it does not know, where the sender knows more
 abbrev pub asked_if_behind : ℕ → VerifierState → ℕ → ℕ → List (Letter Ballot)
-asked_if_behind id s from count = if nat_lt (length s.log) count then letter id (Verifier from) (Ask (length s.log + 1)) ∷ [] else []
+asked_if_behind id s from count = if nat_lt (known s) count then letter id (Verifier from) (Ask (next_place s)) ∷ [] else []
 
 -- the promise is to this lead, and the first of its sender
 abbrev pub is_awaited : VerifierState → ℕ → ℕ → Bool
@@ -96,21 +99,29 @@ abbrev pub told : ℕ → Node → ℕ → Option Decree → List (Letter Ballot
 told id to place None = []
 told id to place (Some d) = letter id to (Decided place d) ∷ []
 
+-- what stands after all that it knows
+abbrev pub start_told : ℕ → Node → VerifierState → List (Letter Ballot)
+start_told id to s = letter id to (Stands (known s) (stands s)) ∷ []
+
+-- what is known of an earlier place
+abbrev pub told_of : ℕ → VerifierState → Node → ℕ → List (Letter Ballot)
+told_of id s to place = if nat_le place s.start.place then start_told id to s else told id to place (decree_of s place)
+
 -- the proposal is of no lower view, and of no place whose Commit would have another number
 abbrev pub is_acceptable : VerifierState → ℕ → ℕ → Decree → Bool
-is_acceptable s view place d = nat_lt 0 place && (nat_le s.view view && (not (place == next_place s) || may_follow (standing s.log) d))
+is_acceptable s view place d = nat_lt 0 place && (nat_le s.view view && (not (place == next_place s) || may_follow (stands s) d))
 
 abbrev pub on_accept : ℕ → ℕ → VerifierState → ℕ → ℕ → ℕ → Decree → OutcomeView
 on_accept u id s from view place d =
     if (place == 0) || nat_lt view s.view then stays s
     else if nat_lt (next_place s) place then says id s (Verifier from) (Ask (next_place s))
-    else if nat_lt place (next_place s) then record { state = s; saves = false; letters = told id (Verifier from) place (decree_at s.log place) }
-    else if may_follow (standing s.log) d then record { state = record (in_view s view) { accepted = Some (view, d) }; saves = true; letters = to_verifiers u id (Accepted view place d) }
+    else if nat_lt place (next_place s) then record { state = s; saves = false; letters = told_of id s (Verifier from) place }
+    else if may_follow (stands s) d then record { state = record (in_view s view) { accepted = Some (view, d) }; saves = true; letters = to_verifiers u id (Accepted view place d) }
     else stays s
 
 -- the decree is of the next place and may come next
 abbrev pub is_fitting : VerifierState → ℕ → Decree → Bool
-is_fitting s place d = (place == next_place s) && may_follow (standing s.log) d
+is_fitting s place d = (place == next_place s) && may_follow (stands s) d
 
 abbrev pub with_tally : VerifierState → ℕ → ℕ → Decree → VerifierState
 with_tally s from view d = record s { tally = tally_with s.tally (record { from = from; view = view; decree = d }) }
@@ -133,11 +144,45 @@ on_decided u id s from place d =
     else if nat_lt (next_place s) place then says id s (Verifier from) (Ask (next_place s))
     else stays s
 
--- at most 16 decrees are told at once
+-- at most 16 letters are sent at once: decrees from the place on, or from the start on behind what stands there
+abbrev pub told_from : ℕ → VerifierState → Node → ℕ → List (Letter Ballot)
+told_from id s to place =
+    if nat_le place s.start.place
+    then start_told id to s
+    else decided_from id to place (take 16 (drop (place - (s.start.place + 1)) s.log))
+
 abbrev pub on_ask : ℕ → VerifierState → Node → ℕ → OutcomeView
 on_ask id s from place =
     if place == 0 then stays s
-    else record { state = s; saves = false; letters = decided_from id from place (take 16 (drop (place - 1) s.log)) }
+    else record { state = s; saves = false; letters = told_from id s from place }
+
+-- it knows the decrees up to this place, and has not forgotten all of them
+abbrev pub may_trim : VerifierState → ℕ → Bool
+may_trim s place = nat_lt s.start.place place && nat_le place (known s)
+
+-- how many decrees are forgotten
+abbrev pub forgets : VerifierState → ℕ → ℕ
+forgets s place = place - s.start.place
+
+abbrev pub trimmed : VerifierState → ℕ → VerifierState
+trimmed s place = record s { start = record { place = place; standing = stands_from s.start.standing (take (forgets s place) s.log) }; log = drop (forgets s place) s.log }
+
+abbrev pub on_trim : VerifierState → ℕ → OutcomeView
+on_trim s place = if may_trim s place then record { state = trimmed s place; saves = true; letters = [] } else stays s
+
+-- this could stand there, and the verifier does not know as much
+abbrev pub is_ahead : VerifierState → ℕ → Standing → Bool
+is_ahead s place standing = nat_lt (known s) place && could_stand place standing
+
+-- the log begins here from now on, with no decree
+abbrev pub gone_to : VerifierState → Start → VerifierState
+gone_to s start = record s { start = start; log = []; accepted = None; proposed = false; tally = []; votes = open_votes start.standing s.votes }
+
+abbrev pub on_stands : ℕ → ℕ → VerifierState → ℕ → Standing → OutcomeView
+on_stands u id s place standing =
+    if is_ahead s place standing
+    then try_to_propose u id (gone_to s (record { place = place; standing = standing })) true []
+    else stays s
 
 -- what a verifier does that goes on from its record
 abbrev pub restarted : ℕ → ℕ → VerifierState → OutcomeView

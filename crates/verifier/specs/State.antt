@@ -3,6 +3,7 @@ use Rattle.std.specs.Prelude.{ℕ, zero, suc, ◌+◌, ◌*◌, ◌==◌, ◌&&�
 use Rattle.decrees.specs.declared.decree.Decree.{Decree}
 use Rattle.decrees.specs.declared.ballot.Ballot.{Ballot}
 use Rattle.decrees.specs.declared.ballot.Ballot.TheVariants.{Decided}
+use Rattle.decrees.specs.declared.standing.Standing.{Standing}
 use Rattle.decrees.specs.declared.node.Letter.{Letter}
 use Rattle.decrees.specs.declared.node.Node.{Node}
 use Rattle.decrees.specs.declared.node.Node.TheVariants.{Executor, Verifier}
@@ -11,10 +12,15 @@ use Rattle.decrees.specs.Votes.{Vote}
 use Rattle.view_change.specs.declared.promises.Promise.{Promise}
 use Rattle.view_change.specs.Promises.{promises_with}
 use Rattle.verifier.specs.declared.tally.Tallied.{Tallied}
+use Rattle.decrees.specs.declared.start.Start.{Start}
+use Rattle.decrees.specs.Start.{first_start, stands_from, decree_after}
 
--- The first three are saved, so they stand for the record too. The rest is lost at a crash.
+-- The first four are saved, so they stand for the record too. The rest is lost at a crash.
 pub record VerifierState : Type 0 where
   pub view : ℕ
+  -- the decrees up to its place are forgotten, and what they stand for is kept
+  pub start : Start
+  -- the decrees after that
   pub log : List Decree
   -- what it has accepted, and in which view, for the place after its log
   pub accepted : Option (ℕ × Decree)
@@ -34,11 +40,19 @@ pub record OutcomeView : Type 0 where
 
 -- how many decrees it knows
 abbrev pub known : VerifierState → ℕ
-known s = length s.log
+known s = s.start.place + length s.log
+
+-- what they stand for
+abbrev pub stands : VerifierState → Standing
+stands s = stands_from s.start.standing s.log
+
+-- the decree of a place, if it is known and not forgotten
+abbrev pub decree_of : VerifierState → ℕ → Option Decree
+decree_of s place = decree_after s.start.place s.log place
 
 -- the place after them
 abbrev pub next_place : VerifierState → ℕ
-next_place s = length s.log + 1
+next_place s = known s + 1
 
 abbrev pub letter : ℕ → Node → Ballot → Letter Ballot
 letter id to body = record { from = Verifier id; to = to; body = body }
@@ -85,7 +99,7 @@ in_view s view = record s { view = view; leads = s.leads && (view == s.view) }
 
 -- what a crash leaves
 abbrev pub down : VerifierState → VerifierState
-down s = record { view = s.view; log = s.log; accepted = s.accepted; leads = false; proposed = false; doubt = false; promises = []; tally = []; votes = [] }
+down s = record { view = s.view; start = s.start; log = s.log; accepted = s.accepted; leads = false; proposed = false; doubt = false; promises = []; tally = []; votes = [] }
 
 -- promises of all, that know nothing and have accepted nothing
 abbrev pub first_promises : ℕ → List Promise
@@ -94,7 +108,7 @@ first_promises (suc v) = promises_with (first_promises v) (record { from = v; kn
 
 -- a new verifier; the first one leads view 0
 abbrev pub new_state : ℕ → ℕ → VerifierState
-new_state u id = record { view = 0; log = []; accepted = None; leads = id == 0; proposed = false; doubt = false; promises = if id == 0 then first_promises (member_count u) else []; tally = []; votes = [] }
+new_state u id = record { view = 0; start = first_start; log = []; accepted = None; leads = id == 0; proposed = false; doubt = false; promises = if id == 0 then first_promises (member_count u) else []; tally = []; votes = [] }
 
 -- the verifier leads the view
 abbrev pub is_led_by : ℕ → ℕ → ℕ → Bool

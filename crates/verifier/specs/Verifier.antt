@@ -5,7 +5,7 @@ use Rattle.wire.specs.Record.{Refused}
 use Rattle.decrees.specs.declared.ballot.Ballot.{Ballot}
 use Rattle.decrees.specs.declared.node.Letter.{Letter}
 use Rattle.verifier.specs.declared.input.Input.{Input}
-use Rattle.verifier.specs.State.{VerifierState, OutcomeView, new_state}
+use Rattle.verifier.specs.State.{VerifierState, OutcomeView, next_place, new_state}
 use Rattle.verifier.specs.Lines.{restarted}
 use Rattle.verifier.specs.Step.{step}
 use Rattle.verifier.specs.Record.{record_text, IsRecord}
@@ -34,9 +34,9 @@ record_after v o = if o.saves then Some (record_text v.u v.id o.state) else v.sa
 abbrev pub handled : VerifierView → Input → VerifierView
 handled v input = record v { state = (outcome v input).state; saved = record_after v (outcome v input) }
 
--- the step would take a counter above its limit, or needs a save that could not be counted if it failed
+-- the step would take a counter above its limit, its view or the place after what it knows, or needs a save that could not be counted if it failed
 abbrev pub IsAtLimit : VerifierView → Input → Type 0
-IsAtLimit v input = (2 ^ 64 ≤ (outcome v input).state.view) ⊎ (IsTrue (outcome v input).saves × (v.failures ≡ 2 ^ 64 - 1))
+IsAtLimit v input = (2 ^ 64 ≤ (outcome v input).state.view) ⊎ (2 ^ 64 ≤ next_place (outcome v input).state) ⊎ (IsTrue (outcome v input).saves × (v.failures ≡ 2 ^ 64 - 1))
 
 -- a verifier that was opened: new, or with the state of its record
 abbrev pub Opens : ℕ → ℕ → Option (List ℕ) → ℕ → Bool → VerifierView → List (Letter Ballot) → Type 0

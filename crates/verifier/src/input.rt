@@ -7,4 +7,6 @@ pub enum Input {
     Letter(Letter<Ballot>),
     /// The leader is suspected to be lost: it comes to lead a view of its own.
     Suspect,
+    /// The decrees up to this place may be forgotten.
+    Trim { place: u64 },
 }

@@ -1,17 +1,20 @@
 //! What every step keeps, and what a record gives back. None of these functions does anything: what
 //! each says is its contract.
 
-ghost use Rattle.verifier.specs.Laws.{UnfitStays, LearnsInOrder, StaysALog, ViewNeverFalls, UnsavedStays, SavedIsRecord, OneState};
+ghost use Rattle.verifier.specs.Laws.{UnfitStays, LearnsInOrder, StaysALog, BeginsAsItCould, ViewNeverFalls, UnsavedStays, SavedIsRecord, OneState};
 
 /// An input that fits no line changes nothing, saves nothing and is answered by no letter.
 pub fn unfit_input_changes_nothing()
     ensures { UnfitStays }
 {}
 
-/// A step forgets no decree, and learns one at most, which could come next.
+/// A step leaves the log as it was, learns one decree that could come next, forgets a beginning and
+/// keeps what it stood for, or goes to a start above what was known. Each decree could come next where
+/// it stands, and the log begins at what could stand there.
 pub fn decrees_are_learned_in_order()
     ensures order { LearnsInOrder }
     ensures log { StaysALog }
+    ensures begins { BeginsAsItCould }
 {}
 
 /// No step leads to a lower view.

@@ -12,6 +12,7 @@ mod lines;
 mod outcome;
 mod proposing;
 mod record;
+mod restore;
 mod state;
 mod step;
 mod tally;

@@ -1,17 +1,18 @@
 //! What a verifier does with each letter: a function for each line, with the definition of that line
 //! as its contract.
 
-ghost use Rattle.std.specs.Prelude.{◌≡◌, ◌<◌, IfOk, IfErr, IsTrue, IsOk, false, not};
-ghost use Rattle.decrees.specs.Standing.{standing, decree_at};
+ghost use Rattle.std.specs.Prelude.{◌≡◌, ◌<◌, ◌≤◌, ◌^◌, ◌⊎◌, ◌+◌, ◌-◌, ◌++◌, take, drop, IfOk, IfErr, IsTrue, IsOk, true, false, not, nat_le};
 ghost use Rattle.decrees.specs.Votes.{is_open};
-ghost use Rattle.verifier.specs.State.{says};
-ghost use Rattle.verifier.specs.Lines.{on_token, on_change, on_promise, on_accept, on_accepted, on_decided, on_ask, restarted, asked_if_behind, told, is_fitting, is_awaited, is_acceptable, is_news};
+ghost use Rattle.verifier.specs.State.{stands, known, next_place, says, decided_from, to_others as all_others, to_executors as all_executors};
+ghost use Rattle.decrees.specs.declared.ballot.Ballot.TheVariants.{Stands, Decided};
+ghost use Rattle.decrees.specs.Standing.{may_follow};
+ghost use Rattle.verifier.specs.Lines.{learn, try_to_propose, on_token, on_change, on_promise, on_accept, on_accepted, on_decided, on_ask, on_trim, on_stands, restarted, asked_if_behind, told_of, may_trim, is_ahead, is_fitting, is_awaited, is_acceptable, is_news};
 
 use crate::letters::{decided, one, to_others, to_others_and_executors, to_verifiers};
 use crate::outcome::{Outcome, nothing};
 use crate::state::State;
 use crate::tally::Tallied;
-use decrees::{Ballot, Decree, Letter, Node, VoteKey};
+use decrees::{Ballot, Decree, Letter, Node, Start, VoteKey};
 use proto::Fault;
 use std::alloc::{AllocError, Global};
 use token::Token;
@@ -32,7 +33,7 @@ impl State {
     /// Whether the vote is of the standing epoch or a later one, for a number above the standing
     /// one.
     fn is_open(&self, key: &VoteKey) -> bool
-        ensures { result ≡ is_open (standing self.now.log) key.now }
+        ensures { result ≡ is_open (stands self.now) key.now }
     {
         let standing = self.log.standing();
         standing.epoch <= key.epoch && standing.n < key.n
@@ -49,7 +50,7 @@ impl State {
     ) -> Result<Outcome, AllocError>
         requires { u < 4 }
         ensures done { IfOk result (λ outcome. record { state = self.new; saves = outcome.saves; letters = outcome.letters.items } ≡ on_token u id self.old key.executor key.epoch key.n (record { 0 = key.previous }) token) }
-        ensures fits_none { IsTrue (not (is_open (standing self.old.log) key)) → IsOk result }
+        ensures fits_none { IsTrue (not (is_open (stands self.old) key)) → IsOk result }
     {
         if !self.is_open(&key) {
             return Ok(nothing(alloc));
@@ -120,10 +121,30 @@ impl State {
         self.try_to_propose(alloc, u, id, false, letters)
     }
 
+    /// Whether the log begins at this place or later.
+    fn is_forgotten(&self, place: u64) -> bool
+        ensures { result ≡ nat_le place self.now.start.place }
+    {
+        place <= self.log.start().place
+    }
+
+    /// A letter of what stands after all that it knows.
+    fn start_told(&self, alloc: Global, id: u8, to: Node) -> Result<Outcome, AllocError>
+        ensures { IfOk result (λ outcome. record { state = self.now; saves = outcome.saves; letters = outcome.letters.items } ≡ says id self.now to (Stands (known self.now) (stands self.now))) }
+    {
+        let place = self.log.known();
+        let standing = self.log.standing();
+        self.says(alloc, id, to, Ballot::Stands { place, standing })
+    }
+
+    /// What is known of an earlier place.
     fn told(&self, alloc: Global, id: u8, to: Node, place: u64) -> Result<Outcome, AllocError>
         ensures saves { IfOk result (λ outcome. outcome.saves ≡ false) }
-        ensures letters { IfOk result (λ outcome. outcome.letters.items ≡ told id to place (decree_at self.now.log place)) }
+        ensures letters { IfOk result (λ outcome. outcome.letters.items ≡ told_of id self.now to place) }
     {
+        if self.is_forgotten(place) {
+            return self.start_told(alloc, id, to);
+        }
         match self.log.decree(place) {
             Some(decree) => self.says(alloc, id, to, Ballot::Decided { place, decree }),
             None => Ok(nothing(alloc)),
@@ -182,7 +203,28 @@ impl State {
         place == self.next_place() && self.log.may_follow(decree)
     }
 
-    /// A verifier has accepted a decree.
+    /// So many have accepted the decree that it is learned, and all are told. Stopped: the place after it
+    /// would have no number.
+    fn decide(
+        &mut self,
+        alloc: Global,
+        u: u8,
+        id: u8,
+        place: u64,
+        decree: Decree,
+    ) -> Result<Outcome, Fault>
+        requires few { u < 4 }
+        requires next { IsTrue (may_follow (stands self.old) decree) }
+        ensures done { IfOk result (λ outcome. record { state = self.new; saves = outcome.saves; letters = outcome.letters.items } ≡ try_to_propose u id (learn self.old decree) true (all_others u id (Decided place decree) ++ all_executors u id (Decided place decree))) }
+        ensures err { IfErr result (λ fault. (fault ≡ Fault.NoMemory) ⊎ ((fault ≡ Fault.Stopped) × (2 ^ 64 ≤ next_place (learn self.old decree)))) }
+    {
+        self.learn(decree)?;
+        let letters = to_others_and_executors(alloc, u, id, Ballot::Decided { place, decree })?;
+        Ok(self.try_to_propose(alloc, u, id, true, letters)?)
+    }
+
+    /// A verifier has accepted a decree. Stopped: it is learned, and the place after it would have no
+    /// number.
     pub fn on_accepted(
         &mut self,
         alloc: Global,
@@ -194,7 +236,7 @@ impl State {
         requires { u < 4 }
         ensures done { IfOk result (λ outcome. record { state = self.new; saves = outcome.saves; letters = outcome.letters.items } ≡ on_accepted u id self.old accepted.from accepted.view place accepted.decree) }
         ensures fits_none { IsTrue (not (is_fitting self.old place accepted.decree)) → IsOk result }
-        ensures err { IfErr result (λ fault. fault ≡ Fault.NoMemory) }
+        ensures err { IfErr result (λ fault. (fault ≡ Fault.NoMemory) ⊎ ((fault ≡ Fault.Stopped) × (2 ^ 64 ≤ next_place (on_accepted u id self.old accepted.from accepted.view place accepted.decree).state))) }
     {
         let decree = accepted.decree;
         if !self.is_fitting(place, &decree) {
@@ -204,12 +246,10 @@ impl State {
         if !self.tally.is_accepted(u, accepted.view, &decree) {
             return Ok(nothing(alloc));
         }
-        self.learn(decree)?;
-        let letters = to_others_and_executors(alloc, u, id, Ballot::Decided { place, decree })?;
-        Ok(self.try_to_propose(alloc, u, id, true, letters)?)
+        self.decide(alloc, u, id, place, decree)
     }
 
-    /// A decree is decided.
+    /// A decree is decided. Stopped: it is learned, and the place after it would have no number.
     pub fn on_decided(
         &mut self,
         alloc: Global,
@@ -222,7 +262,7 @@ impl State {
         requires { u < 4 }
         ensures done { IfOk result (λ outcome. record { state = self.new; saves = outcome.saves; letters = outcome.letters.items } ≡ on_decided u id self.old from place decree) }
         ensures fits_none { IsTrue (not (is_news self.old place decree)) → IsOk result }
-        ensures err { IfErr result (λ fault. fault ≡ Fault.NoMemory) }
+        ensures err { IfErr result (λ fault. (fault ≡ Fault.NoMemory) ⊎ ((fault ≡ Fault.Stopped) × (2 ^ 64 ≤ next_place (on_decided u id self.old from place decree).state))) }
     {
         let next = self.next_place();
         if self.is_fitting(place, &decree) {
@@ -233,6 +273,27 @@ impl State {
             return Ok(self.says(alloc, id, Node::Verifier(from), Ballot::Ask { place: next })?);
         }
         Ok(nothing(alloc))
+    }
+
+    /// The decrees that it has from a place on, at most 16. None of them is forgotten.
+    fn told_decided(
+        &self,
+        alloc: Global,
+        id: u8,
+        to: Node,
+        place: u64,
+    ) -> Result<Vec<Letter<Ballot>>, AllocError>
+        requires { self.now.start.place < place }
+        ensures { IfOk result (λ letters. letters.items ≡ decided_from id to place (take 16 (drop (place - (self.now.start.place + 1)) self.now.log))) }
+    {
+        let known = self.log.known();
+        if known < place {
+            return Ok(Vec::new(alloc));
+        }
+        let decrees = self.log.as_slice();
+        let first = (place - (self.log.start().place + 1)) as usize;
+        let end = (first + 16).min(decrees.len());
+        decided(alloc, id, to, place, &decrees[first..end])
     }
 
     /// A node asks for what is decided from a place on.
@@ -246,17 +307,62 @@ impl State {
         ensures done { IfOk result (λ outcome. record { state = self.now; saves = outcome.saves; letters = outcome.letters.items } ≡ on_ask id self.now from place) }
         ensures fits_none { place ≡ 0 → IsOk result }
     {
-        let known = self.log.known();
-        if place == 0 || known < place {
+        if place == 0 {
             return Ok(nothing(alloc));
         }
-        let first = (place - 1) as usize;
-        let end = (first + 16).min(known as usize);
-        let letters = decided(alloc, id, from, place, &self.log.as_slice()[first..end])?;
+        if self.is_forgotten(place) {
+            return self.start_told(alloc, id, from);
+        }
+        let letters = self.told_decided(alloc, id, from, place)?;
         Ok(Outcome {
             saves: false,
             letters,
         })
+    }
+
+    /// The decrees up to a place may be forgotten.
+    pub fn on_trim(&mut self, alloc: Global, place: u64) -> Result<Outcome, AllocError>
+        ensures done { IfOk result (λ outcome. record { state = self.new; saves = outcome.saves; letters = outcome.letters.items } ≡ on_trim self.old place) }
+        ensures fits_none { IsTrue (not (may_trim self.old place)) → IsOk result }
+    {
+        if self.is_forgotten(place) || self.known() < place {
+            return Ok(nothing(alloc));
+        }
+        self.log.trim(place)?;
+        Ok(Outcome {
+            saves: true,
+            letters: Vec::new(alloc),
+        })
+    }
+
+    /// A verifier tells what stands at a place. Stopped: the log would begin there, and the place after
+    /// it would have no number.
+    pub fn on_stands(
+        &mut self,
+        alloc: Global,
+        u: u8,
+        id: u8,
+        start: Start,
+    ) -> Result<Outcome, Fault>
+        requires { u < 4 }
+        ensures done { IfOk result (λ outcome. record { state = self.new; saves = outcome.saves; letters = outcome.letters.items } ≡ on_stands u id self.old start.place start.standing) }
+        ensures fits_none { IsTrue (not (is_ahead self.old start.place start.standing)) → IsOk result }
+        ensures err { IfErr result (λ fault. (fault ≡ Fault.NoMemory) ⊎ ((fault ≡ Fault.Stopped) × (2 ^ 64 ≤ next_place (on_stands u id self.old start.place start.standing).state))) }
+    {
+        if !self.is_ahead(&start) {
+            return Ok(nothing(alloc));
+        }
+        if start.place == u64::MAX {
+            return Err(Fault::Stopped);
+        }
+        self.go_to(start);
+        Ok(self.try_to_propose(alloc, u, id, true, Vec::new(alloc))?)
+    }
+
+    fn is_ahead(&self, start: &Start) -> bool
+        ensures { result ≡ is_ahead self.now start.now.place start.now.standing }
+    {
+        self.known() < start.place && start.could_stand()
     }
 
     /// It goes on from its record.

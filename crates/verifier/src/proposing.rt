@@ -1,9 +1,8 @@
 //! Leading: which view is its own, and what it proposes there.
 
 ghost use Rattle.std.specs.Prelude.{◌≡◌, ◌+◌, ◌^◌, ◌<◌, ◌≤◌, ◌⊎◌, IfOk, IfErr, IfSome, IfNone};
-ghost use Rattle.decrees.specs.Standing.{standing};
 ghost use Rattle.decrees.specs.Votes.{verdict};
-ghost use Rattle.verifier.specs.State.{is_led_by, next_led};
+ghost use Rattle.verifier.specs.State.{stands, is_led_by, next_led};
 ghost use Rattle.verifier.specs.Lines.{by_verdict, proposal, try_to_propose, suspected};
 
 use crate::letters::to_verifiers;
@@ -33,7 +32,7 @@ impl State {
     /// What the verdict leaves to a leader that is free to propose.
     fn by_verdict(&self, u: u8) -> Option<Decree>
         requires { u < 4 }
-        ensures { result ≡ by_verdict ((standing self.now.log).n + 1) self.now.doubt (verdict u (standing self.now.log) self.now.votes) }
+        ensures { result ≡ by_verdict ((stands self.now).n + 1) self.now.doubt (verdict u (stands self.now) self.now.votes) }
     {
         let standing = self.log.standing();
         match self.votes.verdict(u, &standing) {

@@ -1,23 +1,26 @@
 //! What a verifier keeps, and its record.
 
-ghost use Rattle.std.specs.Prelude.{◌≡◌, ◌+◌, ◌^◌, ◌<◌, IfOk, IfErr, OnOk, IsTrue, length};
-ghost use Rattle.decrees.specs.Standing.{standing, may_follow};
+ghost use Rattle.std.specs.Prelude.{◌≡◌, ◌+◌, ◌++◌, ◌^◌, ◌<◌, ◌≤◌, ◌⊎◌, IfOk, IfErr, OnOk, IsTrue, None, false, [], length};
+ghost use Rattle.decrees.specs.Standing.{may_follow};
+ghost use Rattle.decrees.specs.Start.{could_stand};
 ghost use Rattle.decrees.specs.Count.{member_count};
-ghost use Rattle.verifier.specs.State.{VerifierState, in_view, next_place, new_state, first_promises, down};
-ghost use Rattle.verifier.specs.Record.{record_text};
-ghost use Rattle.verifier.specs.Lines.{learn};
+ghost use Rattle.decrees.specs.Votes.{open_votes};
+ghost use Rattle.verifier.specs.State.{in_view, known, stands, next_place, new_state, first_promises, down};
+ghost use Rattle.verifier.specs.Record.{head_text, fields_text, record_text};
+ghost use Rattle.verifier.specs.Lines.{learn, gone_to};
 
-use crate::record::MARKS;
+use crate::record::{KIND, TRIMMED, WHOLE};
 use crate::tally::Tally;
 use base::Text;
-use decrees::{Decree, Log, Votes};
+use decrees::{Decree, Log, Start, Votes};
 use proto::Fault;
 use std::alloc::{AllocError, Global};
 use std::marker::Model;
 use view_change::{Promise, Promises};
 use wire::{Record, put_count};
 
-/// What a verifier keeps. The first three are saved, the rest is lost at a crash.
+/// What a verifier keeps. The first three are saved (the log with its start), the rest is lost at a
+/// crash.
 #[derive(Drop)]
 pub struct State {
     pub(crate) view: u64,
@@ -37,7 +40,7 @@ impl Model for State {
 
     ghost Value = { VerifierState };
 
-    ghost view = { λ m. record { view = m.view; log = m.log; accepted = m.accepted; leads = m.leads; proposed = m.proposed; doubt = m.doubt; promises = m.promises; tally = m.tally; votes = m.votes } };
+    ghost view = { λ m. record { view = m.view; start = m.log.start; log = m.log.decrees; accepted = m.accepted; leads = m.leads; proposed = m.proposed; doubt = m.doubt; promises = m.promises; tally = m.tally; votes = m.votes } };
 }
 
 impl State {
@@ -64,7 +67,8 @@ impl State {
         ensures fresh { result ≡ down result }
         ensures view { result.view ≡ view }
         ensures accepted { result.accepted ≡ accepted }
-        ensures log { result.log ≡ log }
+        ensures start { result.start ≡ log.start }
+        ensures log { result.log ≡ log.decrees }
     {
         State {
             view,
@@ -79,16 +83,36 @@ impl State {
         }
     }
 
+    /// Writes the verifier's number and how many may fail, its view and what it has accepted.
+    fn put_head(&self, u: u8, id: u8, whole: &mut Text) -> Result<(), AllocError>
+        ensures { OnOk result (whole.new ≡ whole.old ++ head_text u id self.now) }
+    {
+        id.put(whole)?;
+        u.put(whole)?;
+        self.view.put(whole)?;
+        self.accepted.put(whole)
+    }
+
+    /// Writes all of its record that stands before the decrees.
+    fn put_fields(&self, u: u8, id: u8, whole: &mut Text) -> Result<(), AllocError>
+        ensures { OnOk result (whole.new ≡ whole.old ++ fields_text u id self.now) }
+    {
+        let start = self.log.start();
+        if start.place == 0 {
+            whole.put(&[WHOLE, KIND])?;
+            return self.put_head(u, id, whole);
+        }
+        whole.put(&[TRIMMED, KIND])?;
+        self.put_head(u, id, whole)?;
+        start.put(whole)
+    }
+
     /// The record. It shares the text of the decrees but for the tail, which is copied.
     pub fn record(&self, alloc: Global, u: u8, id: u8) -> Result<Text, AllocError>
         ensures { IfOk result (λ text. text ≡ record_text u id self.now) }
     {
         let mut whole = Text::new(alloc);
-        whole.put(&MARKS)?;
-        id.put(&mut whole)?;
-        u.put(&mut whole)?;
-        self.view.put(&mut whole)?;
-        self.accepted.put(&mut whole)?;
+        self.put_fields(u, id, &mut whole)?;
         put_count(self.log.as_slice().len(), &mut whole)?;
         self.log.append_text(&mut whole)?;
         Ok(whole)
@@ -101,18 +125,32 @@ impl State {
         self.view
     }
 
-    /// How many decrees it knows.
+    /// How many decrees it knows, those that it has forgotten too.
     pub fn known(&self) -> u64
-        ensures known { result ≡ length self.now.log }
-        ensures few { result < 2 ^ 32 }
+        ensures known { result ≡ known self.now }
+        ensures few { known self.now + 1 < 2 ^ 64 }
     {
         self.log.known()
     }
 
+    /// The place up to which it has forgotten decrees.
+    pub fn start(&self) -> u64
+        ensures { result ≡ self.now.start.place }
+    {
+        self.log.start().place
+    }
+
+    /// How many decrees it has.
+    pub(crate) fn count(&self) -> usize
+        ensures count { result ≡ length self.now.log }
+        ensures few { length self.now.log < 2 ^ 32 }
+    {
+        self.log.as_slice().len()
+    }
+
     /// The place after the decrees that it knows.
     pub(crate) fn next_place(&self) -> u64
-        ensures value { result ≡ next_place self.now }
-        ensures few { result < 2 ^ 33 }
+        ensures { result ≡ next_place self.now }
     {
         self.log.known() + 1
     }
@@ -125,18 +163,36 @@ impl State {
         self.view = view;
     }
 
-    /// One decree more is known, and what was heard of its place is forgotten.
-    pub(crate) fn learn(&mut self, decree: Decree) -> Result<(), Fault>
-        requires { IsTrue (may_follow (standing self.old.log) decree) }
-        ensures ok { OnOk result (self.new ≡ learn self.old decree) }
-        ensures err { IfErr result (λ fault. fault ≡ Fault.NoMemory) }
+    /// What was heard of the place after what it knew is forgotten.
+    fn forget_heard(&mut self)
+        ensures { self.new ≡ record self.old { accepted = None; proposed = false; tally = []; votes = open_votes (stands self.old) self.old.votes } }
     {
-        self.log.learn(decree)?;
         self.accepted = None;
         self.proposed = false;
         self.tally.clear();
         self.votes.drop_old(&self.log.standing());
+    }
+
+    /// One decree more is known, and what was heard of its place is forgotten. Stopped: the place after
+    /// it would have no number.
+    pub(crate) fn learn(&mut self, decree: Decree) -> Result<(), Fault>
+        requires { IsTrue (may_follow (stands self.old) decree) }
+        ensures ok { OnOk result (self.new ≡ learn self.old decree) }
+        ensures err { IfErr result (λ fault. (fault ≡ Fault.NoMemory) ⊎ ((fault ≡ Fault.Stopped) × (2 ^ 64 ≤ next_place (learn self.old decree)))) }
+    {
+        self.log.learn(decree)?;
+        self.forget_heard();
         Ok(())
+    }
+
+    /// The log begins here from now on, and what was heard of an earlier place is forgotten.
+    pub(crate) fn go_to(&mut self, start: Start)
+        requires begins { IsTrue (could_stand start.place start.standing) }
+        requires placed { start.place + 1 < 2 ^ 64 }
+        ensures { self.new ≡ gone_to self.old start }
+    {
+        self.log.begin_at(start);
+        self.forget_heard();
     }
 }
 

@@ -1,27 +1,30 @@
 //! Which line an input fits.
 
 ghost use Rattle.std.specs.Prelude.{◌≡◌, ◌^◌, ◌<◌, ◌≤◌, ◌⊎◌, IfOk, IfErr, IsOk, IsTrue, not};
+ghost use Rattle.verifier.specs.State.{next_place};
 ghost use Rattle.verifier.specs.Step.{of_executor, of_verifier, step, fits_line, fits_executor, fits_verifier};
 
 use crate::input::Input;
 use crate::outcome::{Outcome, nothing};
 use crate::state::State;
 use crate::tally::Tallied;
-use decrees::{Ballot, Node, VoteKey};
+use decrees::{Ballot, Node, Start, VoteKey};
 use proto::Fault;
 use std::alloc::Global;
 use view_change::Promise;
 
 impl State {
-    /// Does what the input asks for. Stopped: its view would rise above the greatest number.
+    /// Does what the input asks for. Stopped: its view, or the place after what it knows, would rise
+    /// above the greatest number.
     pub fn step(&mut self, alloc: Global, u: u8, id: u8, input: Input) -> Result<Outcome, Fault>
         requires { u < 4 }
         ensures done { IfOk result (λ outcome. record { state = self.new; saves = outcome.saves; letters = outcome.letters.items } ≡ step u id self.old input) }
         ensures fits_none { IsTrue (not (fits_line self.old input)) → IsOk result }
-        ensures err { IfErr result (λ fault. (fault ≡ Fault.NoMemory) ⊎ ((fault ≡ Fault.Stopped) × (2 ^ 64 ≤ (step u id self.old input).state.view))) }
+        ensures err { IfErr result (λ fault. (fault ≡ Fault.NoMemory) ⊎ ((fault ≡ Fault.Stopped) × ((2 ^ 64 ≤ (step u id self.old input).state.view) ⊎ (2 ^ 64 ≤ next_place (step u id self.old input).state)))) }
     {
         match input {
             Input::Suspect => self.suspected(alloc, u, id),
+            Input::Trim { place } => Ok(self.on_trim(alloc, place)?),
             Input::Letter(letter) => match letter.from {
                 Node::Client(_) => Ok(nothing(alloc)),
                 Node::Executor(from) => self.of_executor(alloc, u, id, from, letter.body),
@@ -75,7 +78,7 @@ impl State {
         requires { u < 4 }
         ensures done { IfOk result (λ outcome. record { state = self.new; saves = outcome.saves; letters = outcome.letters.items } ≡ of_verifier u id self.old from body) }
         ensures fits_none { IsTrue (not (fits_verifier self.old from body)) → IsOk result }
-        ensures err { IfErr result (λ fault. fault ≡ Fault.NoMemory) }
+        ensures err { IfErr result (λ fault. (fault ≡ Fault.NoMemory) ⊎ ((fault ≡ Fault.Stopped) × (2 ^ 64 ≤ next_place (of_verifier u id self.old from body).state))) }
     {
         match body {
             Ballot::Token { .. } => Ok(nothing(alloc)),
@@ -105,6 +108,9 @@ impl State {
                     accepted,
                 };
                 Ok(self.on_promise(alloc, u, id, view, promise)?)
+            }
+            Ballot::Stands { place, standing } => {
+                self.on_stands(alloc, u, id, Start { place, standing })
             }
         }
     }

@@ -1,33 +1,20 @@
-ghost use Rattle.std.specs.Prelude.{◌≡◌, ◌*◌, ◌-◌, ◌^◌, ◌<◌, ◌≤◌, ◌⊎◌, Some, None, IfOk, IfErr, IsOk, OnErr, OnOk, Err, IsErr, IsTrue, not, length, true, false, []};
+ghost use Rattle.std.specs.Prelude.{◌≡◌, ◌*◌, ◌+◌, ◌-◌, ◌^◌, ◌<◌, ◌≤◌, ◌⊎◌, Some, None, IfOk, IfErr, IsOk, OnErr, OnOk, Err, IsErr, IsTrue, not, length, true, false, []};
 ghost use Rattle.verifier.specs.Step.{fits_line};
 ghost use Rattle.verifier.specs.Record.{record_text, IsRecord};
-ghost use Rattle.verifier.specs.State.{VerifierState};
+ghost use Rattle.verifier.specs.State.{VerifierState, known};
 ghost use Rattle.verifier.specs.Lines.{restarted};
 ghost use Rattle.verifier.specs.Verifier.{VerifierView, Opens, IsUnreadable, Stored, handled, outcome, IsAtLimit};
 ghost use Rattle.wire.specs.Record.{Refused};
 
 use crate::input::Input;
-use crate::record::read_row;
+use crate::restore::restore;
 use crate::state::State;
 use base::Text;
-use decrees::{Ballot, Letter, Log};
+use decrees::{Ballot, Letter};
 use keeper::{Keeper, save_record};
 use proto::Fault;
 use std::alloc::Global;
 use std::marker::Model;
-
-/// The state of the verifier whose record these bytes are.
-fn restore(alloc: Global, u: u8, id: u8, bytes: &[u8]) -> Result<State, Fault>
-    ensures ok { IfOk result (IsRecord u id bytes.now) }
-    ensures err { IfErr result (λ fault. Refused fault ((s : VerifierState) → IsRecord u id bytes.now s → ⊥)) }
-{
-    let (((numbers, view), accepted), decrees) = read_row(alloc, bytes)?;
-    if numbers.0 != id || numbers.1 != u {
-        return Err(Fault::BadRecord);
-    }
-    let log = Log::restored(decrees.into_vec())?;
-    Ok(State::restored(alloc, view, accepted, log))
-}
 
 /// The state of the verifier whose record this text is.
 fn read_back(alloc: Global, u: u8, id: u8, text: &Text) -> Result<State, Fault>
@@ -94,9 +81,10 @@ impl<K: Keeper<Text>> Model for Verifier<K> {
 }
 
 impl<K: Keeper<Text>> Verifier<K> {
-    ghost use Rattle.std.specs.Prelude.{◌≡◌, ◌*◌, ◌-◌, ◌^◌, ◌<◌, ◌≤◌, ◌⊎◌, Some, None, IfOk, IfErr, IsOk, IsSome, OnErr, OnOk, Err, IsErr, IsTrue, not, length, true, false, []};
+    ghost use Rattle.std.specs.Prelude.{◌≡◌, ◌*◌, ◌+◌, ◌-◌, ◌^◌, ◌<◌, ◌≤◌, ◌⊎◌, Some, None, IfOk, IfErr, IsOk, IsSome, OnErr, OnOk, Err, IsErr, IsTrue, not, length, true, false, []};
     ghost use Rattle.std.specs.Borrow.{sem};
     ghost use Rattle.verifier.specs.Step.{fits_line};
+    ghost use Rattle.verifier.specs.State.{known};
     ghost use Rattle.verifier.specs.Lines.{restarted};
     ghost use Rattle.verifier.specs.Verifier.{VerifierView, Opens, IsUnreadable, handled, outcome, IsAtLimit};
     ghost use Rattle.verifier.specs.Lent.{LendsKeeper};
@@ -204,6 +192,7 @@ impl<K: Keeper<Text>> Verifier<K> {
         ensures done { IfOk result (λ letters. self.new ≡ handled self.old input) }
         ensures letters { IfOk result (λ letters. letters.items ≡ (outcome self.old input).letters) }
         ensures few { OnOk result (length self.new.state.log < 2 ^ 32) }
+        ensures numbered { OnOk result (known self.new.state + 1 < 2 ^ 64) }
         ensures fits_none { IsTrue (not (fits_line self.old.state input)) → IsOk result }
         ensures as_told { IsTrue self.old.told → IsTrue (outcome self.old input).saves → IsErr result }
         ensures same { OnErr result ((self.new.id ≡ self.old.id) × (self.new.u ≡ self.old.u)) }
@@ -217,7 +206,8 @@ impl<K: Keeper<Text>> Verifier<K> {
         ensures only { IfErr result (λ fault. (fault ≡ Fault.NoMemory) ⊎ (fault ≡ Fault.Stopped)) }
     {
         let outcome = self.state.step(alloc, self.u, self.id, input)?;
-        prove!(self.state.known() <= u64::from(u32::MAX));
+        prove!(self.state.known() < u64::MAX);
+        prove!(self.state.count() <= u32::MAX as usize);
         if outcome.saves {
             save(alloc, self.u, self.id, &self.state, &mut self.keeper)?;
         }
@@ -236,6 +226,7 @@ impl<K: Keeper<Text>> Verifier<K> {
         ensures done { IfOk result (λ letters. self.new ≡ handled self.old input) }
         ensures letters { IfOk result (λ letters. letters.items ≡ (outcome self.old input).letters) }
         ensures few { OnOk result (length self.new.state.log < 2 ^ 32) }
+        ensures numbered { OnOk result (known self.new.state + 1 < 2 ^ 64) }
         ensures fits_none { IsTrue self.old.up → IsTrue (not (fits_line self.old.state input)) → IsOk result }
 
         // After an error.
@@ -277,11 +268,18 @@ impl<K: Keeper<Text>> Verifier<K> {
         self.state.view()
     }
 
-    /// How many decrees it knows.
+    /// How many decrees it knows, those that it has forgotten too.
     pub fn known(&self) -> u64
-        ensures { result ≡ length self.now.state.log }
+        ensures { result ≡ known self.now.state }
     {
         self.state.known()
+    }
+
+    /// The place up to which it has forgotten decrees; 0 where it has forgotten none.
+    pub fn start(&self) -> u64
+        ensures { result ≡ self.now.state.start.place }
+    {
+        self.state.start()
     }
 
     /// Lends the keeper.

@@ -10,7 +10,6 @@ use Rattle.exec_lines.specs.declared.body.Body.{Body}
 use Rattle.exec_lines.specs.declared.shown.Report.{Report}
 use Rattle.exec_node.specs.Executor.{ExecutorView}
 use Rattle.verifier.specs.Verifier.{VerifierView}
-use Rattle.events.specs.declared.event.Event.{Event}
 use Rattle.events.specs.declared.event.Event.TheVariants.{Restart}
 use Rattle.events.specs.declared.event.Replica.{Replica}
 use Rattle.events.specs.declared.event.Replica.TheVariants.{Executor, Verifier}
@@ -21,7 +20,7 @@ use Rattle.worlds.specs.declared.status.VerifierReport.{VerifierReport}
 use Rattle.worlds.specs.declared.status.Status.TheVariants as status
 use Rattle.worlds.specs.Status.{status_of, executor_report, verifier_report}
 use Rattle.worlds.specs.Slots.{ExecutorReopens, VerifierReopens}
-use Rattle.worlds.specs.World.{WorldView, WorldNext, ExecutorAtOpened, VerifierAtOpened, new_clients, nothing_kept, unopened_world, restarts_below, IsFirstWorld}
+use Rattle.worlds.specs.World.{WorldView, WorldNext, ExecutorAtOpened, VerifierAtOpened, nothing_kept, unopened_world, restarts_below, IsFirstWorld}
 use Rattle.worlds.specs.Laws.{IsReached}
 use Rattle.world.specs.World.{first_executor, first_verifier, all_up, first_world}
 use Rattle.world.proofs.RunLemmas.{LeadsTo, leads_nowhere, leads_on, leads_append}

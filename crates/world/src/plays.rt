@@ -1,14 +1,15 @@
 //! A play of events, from the first world on.
 
-ghost use Rattle.std.specs.Prelude.{◌≡◌, IfOk};
-ghost use Rattle.worlds.specs.Laws.{IsReached, OneIsChosen, ChosenIsBacked, ChosenIsKept};
+ghost use Rattle.std.specs.Prelude.{◌≡◌, IfOk, IsTrue};
+ghost use Rattle.worlds.specs.Laws.{IsReached, OneIsChosen, ChosenIsBacked, ChosenStands, ChosenIsKept, trims_none};
 ghost use Rattle.one_server.specs.Laws.{ShowsOneServer, KeepsItsRun};
 
 use crate::world::World;
 use one_server::{executors_keep_the_run, worlds_are_of_one_server};
 use std::alloc::{AllocError, Global};
 use worlds::{
-    Config, Event, chosen_is_backed_in_worlds, chosen_is_kept_in_worlds, one_is_chosen_in_worlds,
+    Config, Event, chosen_is_backed_in_worlds, chosen_is_kept_in_worlds, chosen_stands_in_worlds,
+    one_is_chosen_in_worlds,
 };
 
 /// The world to which the events lead from the first one.
@@ -27,7 +28,8 @@ fn played(alloc: Global, config: &Config, events: &[Event]) -> Result<World, All
 /// lost or sent again, and whichever nodes stop, are opened again or are lost for good.
 ///
 /// At each place at most one decree is chosen, by the letters of this world; a chosen one is backed; and
-/// where at most `u` verifiers are lost for good, the record of another one holds each.
+/// where at most `u` verifiers are lost for good, the record of another one holds each, or begins above it
+/// with what the chosen decrees up to there stand for; where no event trims a verifier, it holds each.
 ///
 /// Where digests tell the states apart that executors had on the way, all that clients were given and all
 /// that executors have committed is of one run of a single server, in this world and in each one on the
@@ -40,12 +42,14 @@ pub fn play(alloc: Global, config: &Config, events: &[Event]) -> Result<World, A
     ensures reached { IfOk result (λ world. IsReached config.now events.now world) }
     ensures agree { IfOk result (λ world. OneIsChosen world) }
     ensures backed { IfOk result (λ world. ChosenIsBacked world) }
-    ensures kept { IfOk result (λ world. ChosenIsKept world) }
+    ensures kept { IfOk result (λ world. ChosenStands world) }
+    ensures kept_whole { IsTrue (trims_none events.now) → IfOk result (λ world. ChosenIsKept world) }
     ensures one_server { IfOk result (λ world. ShowsOneServer config.now events.now world) }
     ensures executors_keep { IfOk result (λ world. KeepsItsRun config.now events.now world) }
 {
     one_is_chosen_in_worlds();
     chosen_is_backed_in_worlds();
+    chosen_stands_in_worlds();
     chosen_is_kept_in_worlds();
     worlds_are_of_one_server();
     executors_keep_the_run();

@@ -31,6 +31,10 @@ impl World {
             Event::Suspect { verifier } => {
                 self.give_verifier(alloc, *verifier, VerifierInput::Suspect)?
             }
+            Event::Trim { verifier, place } => {
+                let place = *place;
+                self.give_verifier(alloc, *verifier, VerifierInput::Trim { place })?
+            }
             Event::Crash(replica) => self.crash(*replica),
             Event::Restart(replica) => self.restart(alloc, *replica)?,
             Event::Lost(replica) => self.lose(*replica),

@@ -179,6 +179,14 @@ fn event_of(
     })
 }
 
+/// Some verifier is told that it may forget the decrees up to some place, known or not.
+fn trim(stage: &Stage, words: &mut Words) -> Event {
+    Event::Trim {
+        verifier: any_member(stage, words),
+        place: u64::from(words.below(32)),
+    }
+}
+
 /// The next event, of an act at random.
 pub fn step_at_random(
     alloc: Global,
@@ -187,6 +195,10 @@ pub fn step_at_random(
     kind: Kind,
     world: World,
 ) -> Result<World, AllocError> {
+    if stage.trims && words.below(16) == 0 {
+        let event = trim(stage, words);
+        return stage.happen(alloc, world, &event);
+    }
     let act = next_act(kind, words);
     match event_of(alloc, stage, words, &world, act) {
         Ok(Some(event)) => stage.happen(alloc, world, &event),

@@ -27,6 +27,8 @@ pub struct Counts {
     /// The highest views that were led to, added up.
     pub views: u64,
     pub parcels: u64,
+    /// How often a node was told what stands, in place of decrees that were forgotten.
+    pub stands: u64,
     /// The first play that shows what no server would.
     pub failed: Option<Failed>,
 }
@@ -40,12 +42,14 @@ struct Told {
     rollbacks: u64,
     view: u64,
     parcels: u64,
+    stands: u64,
 }
 
 impl Told {
     fn hear(&mut self, body: &Body) {
         match body {
             Body::Parcel(_) => self.parcels = self.parcels.saturating_add(1),
+            Body::Ballot(Ballot::Stands { .. }) => self.stands = self.stands.saturating_add(1),
             Body::Ballot(Ballot::Change { view }) => self.view = self.view.max(*view),
             Body::Ballot(Ballot::Decided { place, decree }) => {
                 if *place == self.decrees.saturating_add(1) {
@@ -72,6 +76,7 @@ impl Counts {
             rollbacks: 0,
             views: 0,
             parcels: 0,
+            stands: 0,
             failed: None,
         }
     }
@@ -84,6 +89,7 @@ impl Counts {
             rollbacks: 0,
             view: 0,
             parcels: 0,
+            stands: 0,
         };
         for letter in world.letters() {
             told.hear(&letter.body);
@@ -96,5 +102,6 @@ impl Counts {
         self.rollbacks = self.rollbacks.saturating_add(told.rollbacks);
         self.views = self.views.saturating_add(told.view);
         self.parcels = self.parcels.saturating_add(told.parcels);
+        self.stands = self.stands.saturating_add(told.stands);
     }
 }

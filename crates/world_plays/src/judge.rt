@@ -10,9 +10,10 @@ use std::alloc::{AllocError, Global};
 use token::Token;
 use world::World;
 
-/// A batch with the token of the state that it led to.
+/// A batch with the tokens of the states that it was executed over and that it led to.
 #[derive(Drop)]
 struct Executed {
+    before: Token,
     token: Token,
     batch: Batch,
 }
@@ -57,26 +58,61 @@ impl Judge {
             let token = member.token();
             let is_ahead = member.number() > self.server.number();
             if is_ahead && !self.ahead.iter().any(|executed| executed.token == token) {
+                let before = member.before().token();
                 let batch = member.batch().clone()?;
-                self.ahead.push(Executed { token, batch })?;
+                self.ahead.push(Executed {
+                    before,
+                    token,
+                    batch,
+                })?;
             }
         }
         Ok(())
     }
 
-    /// Runs the batch that led to a committed state. False: it is not there, or leads to another state.
-    fn run(&mut self, alloc: Global, state: &State) -> Result<bool, AllocError> {
-        let token = state.token();
-        let Some(executed) = self.ahead.iter().find(|executed| executed.token == token) else {
-            return Ok(false);
-        };
-        if executed.batch.n != self.server.number().wrapping_add(1) {
-            return Ok(false);
+    /// The places of the batches that lead from the server's state to this one, the last batch first. None:
+    /// one of them is not there.
+    fn way_to(&self, alloc: Global, state: &State) -> Result<Option<Vec<usize>>, AllocError> {
+        let mut way = Vec::new(alloc);
+        let mut token = state.token();
+        for _ in self.server.number()..state.number() {
+            let is_last = |executed: &Executed| executed.token == token;
+            let Some(at) = self.ahead.iter().position(is_last) else {
+                return Ok(None);
+            };
+            let Some(executed) = self.ahead.get(at) else {
+                return Ok(None);
+            };
+            token = executed.before;
+            way.push(at)?;
         }
-        Ok(self.server.run(alloc, &executed.batch)? && self.server.is_in(alloc, state)?)
+        Ok(Some(way))
     }
 
-    /// The server comes to a committed state, if that is the next one.
+    /// Runs these batches, the last one first. False: one is not the next of the server, or does not run.
+    fn run_all(&mut self, alloc: Global, way: &[usize]) -> Result<bool, AllocError> {
+        for at in way.iter().rev() {
+            let Some(executed) = self.ahead.get(*at) else {
+                return Ok(false);
+            };
+            let is_next = executed.batch.n == self.server.number().wrapping_add(1);
+            if !is_next || !self.server.run(alloc, &executed.batch)? {
+                return Ok(false);
+            }
+        }
+        Ok(true)
+    }
+
+    /// Runs the batches that led to a committed state: one, or more where an executor was told what stands.
+    /// False: they are not there, or lead to another state.
+    fn run(&mut self, alloc: Global, state: &State) -> Result<bool, AllocError> {
+        let Some(way) = self.way_to(alloc, state)? else {
+            return Ok(false);
+        };
+        Ok(self.run_all(alloc, &way)? && self.server.is_in(alloc, state)?)
+    }
+
+    /// The server comes to a committed state, if that is a later one.
     fn follow(&mut self, alloc: Global, state: &State) -> Result<bool, AllocError> {
         if state.number() <= self.server.number() {
             return Ok(true);

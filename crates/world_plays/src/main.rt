@@ -7,6 +7,7 @@
 //!   partitions, batches that nobody decides, long chains, executors that diverge, storms of restarts,
 //!   losses up to `u`. All clients add one to a counter, so each is given rising numbers, and none is given
 //!   twice.
+//! - `trimmed FIRST PLAYS EVENTS`: the same, and among the events verifiers are told to forget decrees.
 //! - `random FIRST SEEDS EVENTS`: for each seed, and where 0 to 3 replicas of each kind may fail, eight
 //!   clients ask twenty commands each, and then come so many events of a line `random` of a schedule.
 //! - `restarts FILE`: the row in this file, with a crash and a restart after each of its events, of each
@@ -51,7 +52,11 @@ fn print(rt: &HostRuntime, counts: &Counts) -> io::Result<()> {
     println!(rt;
         "{} changes of view, {} parcels",
         counts.views, counts.parcels
-    )
+    )?;
+    if counts.stands > 0 {
+        println!(rt; "{} told what stands", counts.stands)?;
+    }
+    Ok(())
 }
 
 fn print_failed(rt: &HostRuntime, failed: Failed) -> io::Result<()> {
@@ -79,7 +84,8 @@ fn play_file(rt: &HostRuntime, name: &str) -> Result<Counts, Fault> {
 
 fn play_line(rt: &HostRuntime, line: &str) -> Result<Counts, Fault> {
     match task_of(line) {
-        Some(Task::Kinds(seeds)) => play_all(rt.alloc(), seeds.first, seeds.count, seeds.events),
+        Some(Task::Kinds(seeds)) => play_all(rt.alloc(), seeds, false),
+        Some(Task::Trimmed(seeds)) => play_all(rt.alloc(), seeds, true),
         Some(Task::Random(seeds)) => play_random(
             rt.alloc(),
             seeds.first,

@@ -5,6 +5,7 @@ use crate::checks::replies;
 use crate::counts::{Counts, Failed};
 use crate::ending::ended;
 use crate::stage::{Kind, MOST, Stage, kind_of};
+use crate::task::Seeds;
 use crate::words::Words;
 use events::{Config, Event};
 use proto::Fault;
@@ -70,11 +71,18 @@ fn any_config(words: &mut Words) -> Result<Config, Fault> {
 }
 
 /// The play of a seed. False: it shows what no server would.
-fn play(alloc: Global, seed: u32, events: u32, counts: &mut Counts) -> Result<bool, Fault> {
+fn play(
+    alloc: Global,
+    seed: u32,
+    events: u32,
+    trims: bool,
+    counts: &mut Counts,
+) -> Result<bool, Fault> {
     let mut words = Words::new(seed);
     let config = any_config(&mut words)?;
     let kind = kind_of(words.below(8));
     let mut stage = Stage::new(alloc, &config)?;
+    stage.trims = trims;
     let mut seen = vec![in alloc; false; MOST]?;
     let mut world = begun(alloc, &mut stage, &config)?;
     world = acted(alloc, &mut stage, &mut words, kind, events, world)?;
@@ -84,12 +92,12 @@ fn play(alloc: Global, seed: u32, events: u32, counts: &mut Counts) -> Result<bo
     Ok(is_one)
 }
 
-/// The plays of so many seeds, from the first one on, until one shows what no server would.
-pub fn play_all(alloc: Global, first: u32, plays: u32, events: u32) -> Result<Counts, Fault> {
+/// The plays of these seeds, with or without trims, until one shows what no server would.
+pub fn play_all(alloc: Global, seeds: Seeds, trims: bool) -> Result<Counts, Fault> {
     let mut counts = Counts::new();
-    for i in 0..plays {
-        let seed = first.wrapping_add(i);
-        if !play(alloc, seed, events, &mut counts)? {
+    for i in 0..seeds.count {
+        let seed = seeds.first.wrapping_add(i);
+        if !play(alloc, seed, seeds.events, trims, &mut counts)? {
             counts.failed = Some(Failed::Kind { seed });
             return Ok(counts);
         }

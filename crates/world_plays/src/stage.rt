@@ -59,6 +59,8 @@ pub struct Stage {
     /// How many executors and verifiers were lost for good.
     pub lost_executors: u8,
     pub lost_verifiers: u8,
+    /// Whether verifiers are told to forget decrees.
+    pub trims: bool,
 }
 
 impl Stage {
@@ -74,6 +76,7 @@ impl Stage {
             deaf: None,
             lost_executors: 0,
             lost_verifiers: 0,
+            trims: false,
         })
     }
 

@@ -5,6 +5,8 @@
 pub enum Task<'a> {
     /// Of kinds, from the seed `first` on.
     Kinds(Seeds),
+    /// The same, with trims of verifiers' logs among the events.
+    Trimmed(Seeds),
     /// Of random events, from the seed `first` on.
     Random(Seeds),
     /// Of the row that stands in the file of this name.
@@ -35,6 +37,7 @@ pub fn task_of(line: &str) -> Option<Task<'_>> {
     let (word, rest) = line.split_once(' ')?;
     match word {
         "kinds" => Some(Task::Kinds(seeds_of(rest)?)),
+        "trimmed" => Some(Task::Trimmed(seeds_of(rest)?)),
         "random" => Some(Task::Random(seeds_of(rest)?)),
         "restarts" => Some(Task::Restarts(rest)),
         _ => None,

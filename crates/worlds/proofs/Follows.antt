@@ -1,5 +1,6 @@
 -- How a world and its machine change together.
-use Rattle.std.proofs.Common.{◌≡◌, ◌≢◌, ℕ, List, [], ◌∷◌, ◌++◌, map, Some, refl, sym, ap, ◌∙◌, subst, ⊎_elim, append_assoc, slice_get, slice_set}
+use Rattle.std.proofs.Common.{◌≡◌, ◌≢◌, ℕ, Bool, true, List, [], ◌∷◌, ◌++◌, map, Some, refl, sym, ap, ◌∙◌, subst, ⊎_elim, append_assoc, slice_get, slice_set}
+use Rattle.std.specs.Prelude.{◌||◌, IsTrue}
 use Rattle.std.specs.List.{AllByRecursion}
 use Rattle.std.proofs.Math.ListN.{length-set}
 use Rattle.std.proofs.lemmas.List.{append-nil}
@@ -12,6 +13,7 @@ use Rattle.exec_node.specs.Executor.{ExecutorView}
 use Rattle.verifier.specs.Verifier.{VerifierView}
 use Rattle.agreement.specs.Machine as machine
 use Rattle.agreement.specs.Machine.{Machine, sent_by, run, Send}
+use Rattle.agreement.specs.Laws.{trims_none}
 use Rattle.worlds.specs.Slot.{Slot}
 use Rattle.worlds.specs.Slots.{ClientSlot}
 use Rattle.worlds.specs.World.{WorldView, as_sent, with_verifier}
@@ -21,9 +23,9 @@ use Rattle.worlds.proofs.PlaceLemmas.{get_set, set_get, set_other}
 use Rattle.worlds.proofs.OwnLetters.{AllFrom}
 use Rattle.worlds.proofs.BallotLemmas.{ballots-append, ballots-sent, ballots-from}
 
--- some events of the machine lead to one that is of this world
-abbrev pub Follows : ℕ → Machine → WorldView → Type 0
-Follows u m now = (more : List machine.Event) × IsOfMachine u now (run u more m)
+-- some events of the machine lead to one that is of this world, and trim only where they may
+abbrev pub Follows : Bool → ℕ → Machine → WorldView → Type 0
+Follows may_trim u m now = (more : List machine.Event) × IsTrue (trims_none more || may_trim) × IsOfMachine u now (run u more m)
 
 -- the node is no verifier
 abbrev pub IsOutside : Node → Type 0
@@ -44,15 +46,20 @@ sends u n out (b ∷ bs) m h =
     ∙ (sends u n out bs (record { verifiers = m.verifiers; letters = m.letters ++ b ∷ [] }) h.1
     ∙ (λ i. record { verifiers = m.verifiers; letters = append_assoc m.letters (b ∷ []) bs i }))
 
-module _ {u : ℕ} {w : WorldView} {m : Machine} (is : IsOfMachine u w m) where
-  pub stays : {now : WorldView} → now ≡ w → Follows u m now
-  stays e = ([], subst (λ (x : WorldView). IsOfMachine u x m) (sym e) is)
+sends_trim_none : (bs : List (Letter Ballot)) → trims_none (map Send bs) ≡ true
+sends_trim_none [] = refl
+sends_trim_none (b ∷ bs) = sends_trim_none bs
+
+module _ {may_trim : Bool} {u : ℕ} {w : WorldView} {m : Machine} (is : IsOfMachine u w m) where
+  pub stays : {now : WorldView} → now ≡ w → Follows may_trim u m now
+  stays e = ([], refl, subst (λ (x : WorldView). IsOfMachine u x m) (sym e) is)
 
   -- clients and executors are others now, and one of them sent these letters
   pub outside_sent : (clients : List ClientSlot) (executors : List (Slot ExecutorView)) (n : Node) (new : List (Letter Body)) → IsOutside n → AllFrom n new
-      → Follows u m (record w { clients = clients; executors = executors; letters = w.letters ++ new })
+      → Follows may_trim u m (record w { clients = clients; executors = executors; letters = w.letters ++ new })
   outside_sent clients executors n new out own = (
     map Send (ballots new),
+    ap (λ (none : Bool). none || may_trim) (sends_trim_none (ballots new)),
     subst (IsOfMachine u (record w { clients = clients; executors = executors; letters = w.letters ++ new })) (sym (sends u n out (ballots new) m (ballots-from n new own)))
         (record {
           same_u = is.same_u;
@@ -62,6 +69,7 @@ module _ {u : ℕ} {w : WorldView} {m : Machine} (is : IsOfMachine u w m) where
         }),
   )
 
+module _ {u : ℕ} {w : WorldView} {m : Machine} (is : IsOfMachine u w m) where
   -- one verifier is another, in the world and in the machine, with these letters
   pub both_put : (id : ℕ) (old mine : machine.Slot) (slot : Slot VerifierView) (letters : List (Letter Body)) (sent : List (Letter Ballot)) → slice_get m.verifiers id ≡ Some old → IsSameVerifier u id mine slot → ballots letters ≡ sent
       → IsOfMachine u (record w { verifiers = slice_set w.verifiers id slot; letters = letters }) (record { verifiers = slice_set m.verifiers id mine; letters = sent })

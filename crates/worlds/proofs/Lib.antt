@@ -4,6 +4,7 @@ pub mod BallotLemmas
 pub mod Follows
 pub mod Restarts
 pub mod Projected
+pub mod Untrimmed
 pub mod Proved
 mod StepLemmas
 mod ClientLemmas

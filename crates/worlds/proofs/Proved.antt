@@ -1,9 +1,10 @@
 -- The laws of reached worlds, from those of reached machines.
-use Rattle.std.proofs.Common.{◌≡◌, ℕ, Bool, true, false, List, [], ◌∷◌, ◌++◌, Some, refl, sym, ap, ◌∙◌, subst, slice_get, option_and_then, arith}
+use Rattle.std.proofs.Common.{◌≡◌, ◌⊎◌, ℕ, ◌<◌, Bool, true, false, List, [], ◌∷◌, ◌++◌, Some, refl, sym, ap, ◌∙◌, subst, slice_get, option_and_then, arith}
 use Rattle.std.specs.Prelude.{not, IsTrue, ◌↔◌}
 use Rattle.decrees.specs.declared.decree.Decree.{Decree}
 use Rattle.decrees.specs.declared.ballot.Ballot.{Ballot}
 use Rattle.decrees.specs.declared.node.Letter.{Letter}
+use Rattle.decrees.specs.Count.{member_count}
 use Rattle.decrees.specs.Standing.{decree_at}
 use Rattle.verifier.specs.State.{VerifierState}
 use Rattle.verifier.specs.Record.{record_text}
@@ -12,17 +13,19 @@ use Rattle.agreement.specs.Letters.{Chosen, Backed}
 use Rattle.agreement.specs.Machine as machine
 use Rattle.agreement.specs.Machine.{reached, letters_of}
 use Rattle.agreement.specs.ChosenList.{chosen}
-use Rattle.agreement.specs.Laws.{recorded}
+use Rattle.agreement.specs.Laws.{recorded, record_of, Holds, StartsAbove}
 use Rattle.agreement.proofs.Proved.{at_most_one, all_backed, all_kept, list_is_chosen, list_grows}
+use Rattle.agreement.proofs.Untrimmed.{all_held}
 use Rattle.events.specs.declared.event.Event.{Event}
 use Rattle.worlds.specs.Slot.{Slot}
 use Rattle.worlds.specs.declared.slot.Slot.TheVariants.{Up, Down, Gone}
 use Rattle.events.specs.Config.{ConfigView}
 use Rattle.worlds.specs.World.{WorldView, ReachedWorlds, EndsWith}
 use Rattle.worlds.specs.Machines.{IsSameVerifier, IsOfMachine, HaveMachines}
-use Rattle.worlds.specs.Laws.{IsReached, OneIsChosenInWorlds, ChosenIsBackedInWorlds, verifier_record, is_gone, ChosenIsKeptInWorlds, chosen_list, ListIsChosenInWorlds, ListsGrow, ListGrowsInWorlds}
+use Rattle.worlds.specs.Laws.{IsReached, OneIsChosenInWorlds, ChosenIsBackedInWorlds, verifier_record, is_gone, ChosenStandsInWorlds, ChosenIsKeptInWorlds, chosen_list, ListIsChosenInWorlds, ListsGrow, ListGrowsInWorlds}
 use Rattle.worlds.proofs.PlaceLemmas.{get_within}
 use Rattle.worlds.proofs.Projected.{are_of_machines, last_has_machine}
+use Rattle.worlds.proofs.Untrimmed.{whole_machine}
 
 -- the world is of a reached machine
 abbrev HasMachine : WorldView → Type 0
@@ -67,19 +70,46 @@ is_false : (b : Bool) → IsTrue (not b) → b ≡ false
 is_false true h = absurd (cc h)
 is_false false h = refl
 
-pub chosen_is_kept : ChosenIsKeptInWorlds
-chosen_is_kept c events w r few place d chosen =
+-- the slot of a verifier whose record the machine has
+record SlotOf (w : WorldView) (id : ℕ) (saved : VerifierState) : Type 0 where
+  slot : Slot VerifierView
+  there : slice_get w.verifiers id ≡ Some slot
+  record_is : verifier_record slot ≡ Some (record_text w.u id saved)
+
+slot_of : (w : WorldView) (m : machine.Machine) (id : ℕ) (saved : VerifierState) → IsOfMachine w.u w m → id < member_count w.u → record_of m.verifiers id ≡ Some saved → SlotOf w id saved
+slot_of w m id saved is within has =
+    let at = get_within w.verifiers id (let count = is.count in omega (arith, within, count)) in
+    let mine = is.verifiers id at.0 at.1 in
+    let recorded_is : recorded mine.0 ≡ Some saved = sym (ap (option_and_then recorded) {x = slice_get m.verifiers id} {y = Some mine.0} mine.1) ∙ has in
+    record { slot = at.0; there = at.1; record_is = same_record w.u id saved mine.0 at.0 mine.2 recorded_is }
+
+pub chosen_stands : ChosenStandsInWorlds
+chosen_stands c events w r few place d is_chosen =
     let m = machine_of c events w r in
-    let kept = all_kept w.u m.0 (λ id. is_gone (slice_get w.verifiers id)) place d few (subst (λ (ls : List (Letter Ballot)). Chosen w.u ls place d) m.1.letters chosen) in
-    let at = get_within w.verifiers kept.verifier (let within = kept.is_member in let count = m.1.count in omega (arith, within, count)) in
-    let mine = m.1.verifiers kept.verifier at.0 at.1 in
+    let kept = all_kept w.u m.0 (λ id. is_gone (slice_get w.verifiers id)) place d few (subst (λ (ls : List (Letter Ballot)). Chosen w.u ls place d) m.1.letters is_chosen) in
+    let at = slot_of w (reached w.u m.0) kept.verifier kept.saved m.1 kept.is_member kept.has_record in
     record {
       verifier = kept.verifier;
-      slot = at.0;
-      there = at.1;
-      not_lost = ap is_gone (sym at.1) ∙ is_false (is_gone (slice_get w.verifiers kept.verifier)) kept.not_lost;
+      slot = at.slot;
+      there = at.there;
+      not_lost = ap is_gone (sym at.there) ∙ is_false (is_gone (slice_get w.verifiers kept.verifier)) kept.not_lost;
       saved = kept.saved;
-      record_is = same_record w.u kept.verifier kept.saved mine.0 at.0 mine.2 (sym (ap (option_and_then recorded) mine.1) ∙ kept.has_record);
+      record_is = at.record_is;
+      keeps = subst (λ (ls : List (Letter Ballot)). Holds kept.saved place d ⊎ StartsAbove (chosen w.u ls) kept.saved place) (sym m.1.letters) kept.keeps;
+    }
+
+pub chosen_is_kept : ChosenIsKeptInWorlds
+chosen_is_kept c events w none r few place d is_chosen =
+    let m = whole_machine c events w none r in
+    let kept = all_held w.u m.0 (λ id. is_gone (slice_get w.verifiers id)) place d m.1 few (subst (λ (ls : List (Letter Ballot)). Chosen w.u ls place d) m.2.letters is_chosen) in
+    let at = slot_of w (reached w.u m.0) kept.verifier kept.saved m.2 kept.is_member kept.has_record in
+    record {
+      verifier = kept.verifier;
+      slot = at.slot;
+      there = at.there;
+      not_lost = ap is_gone (sym at.there) ∙ is_false (is_gone (slice_get w.verifiers kept.verifier)) kept.not_lost;
+      saved = kept.saved;
+      record_is = at.record_is;
       holds = kept.holds;
     }
 

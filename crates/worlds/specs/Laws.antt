@@ -1,5 +1,6 @@
 -- What holds of every world that is reached.
-use Rattle.std.specs.Prelude.{◌≡◌, ℕ, ◌≤◌, ◌↔◌, Bool, true, false, List, [], ◌∷◌, ◌++◌, Option, None, Some, slice_get}
+use Rattle.std.specs.Prelude.{◌≡◌, ℕ, ◌≤◌, ◌⊎◌, ◌↔◌, Bool, true, false, not, IsTrue, List, [], ◌∷◌, ◌++◌, Option, None, Some, slice_get}
+use Rattle.std.specs.List.{list_any}
 use Rattle.decrees.specs.declared.decree.Decree.{Decree}
 use Rattle.decrees.specs.Count.{count_below, member_count}
 use Rattle.decrees.specs.Standing.{decree_at}
@@ -8,8 +9,9 @@ use Rattle.verifier.specs.Record.{record_text}
 use Rattle.verifier.specs.Verifier.{VerifierView}
 use Rattle.agreement.specs.Letters.{Chosen, Backed}
 use Rattle.agreement.specs.ChosenList.{chosen}
-use Rattle.agreement.specs.Laws.{Holds}
+use Rattle.agreement.specs.Laws.{Holds, StartsAbove}
 use Rattle.events.specs.declared.event.Event.{Event}
+use Rattle.events.specs.declared.event.Event.TheVariants.{Feed, Again, Hangup, Deliver, Cut, Step, Finish, Suspect, Trim, Crash, Restart, Lost, FailSave}
 use Rattle.worlds.specs.Slot.{Slot}
 use Rattle.worlds.specs.declared.slot.Slot.TheVariants.{Up, Down, Gone}
 use Rattle.events.specs.Config.{ConfigView}
@@ -65,6 +67,24 @@ pub record VerifierKeeps (w : WorldView) (place : ℕ) (d : Decree) : Type 0 whe
   pub record_is : verifier_record slot ≡ Some (record_text w.u verifier saved)
   pub holds : Holds saved place d
 
+-- the chosen decrees, from place 1 on
+abbrev pub chosen_list : WorldView → List Decree
+chosen_list w = chosen w.u (ballots w.letters)
+
+-- a verifier that is not lost has a record that holds the decree, or begins above it with what the chosen decrees stand for
+pub record VerifierStands (w : WorldView) (place : ℕ) (d : Decree) : Type 0 where
+  pub verifier : ℕ
+  pub slot : Slot VerifierView
+  pub there : slice_get w.verifiers verifier ≡ Some slot
+  pub not_lost : is_gone (Some slot) ≡ false
+  pub saved : VerifierState
+  pub record_is : verifier_record slot ≡ Some (record_text w.u verifier saved)
+  pub keeps : Holds saved place d ⊎ StartsAbove (chosen_list w) saved place
+
+-- where at most u verifiers are lost, another one keeps each chosen decree, or what stands after it
+abbrev pub ChosenStands : WorldView → Type 0
+ChosenStands w = lost_verifiers w ≤ w.u → (place : ℕ) (d : Decree) → ChosenInWorld w place d → VerifierStands w place d
+
 -- where at most u verifiers are lost, another one keeps each chosen decree
 abbrev pub ChosenIsKept : WorldView → Type 0
 ChosenIsKept w = lost_verifiers w ≤ w.u → (place : ℕ) (d : Decree) → ChosenInWorld w place d → VerifierKeeps w place d
@@ -75,12 +95,31 @@ OneIsChosenInWorlds = (c : ConfigView) (events : List Event) (w : WorldView) →
 abbrev pub ChosenIsBackedInWorlds : Type 0
 ChosenIsBackedInWorlds = (c : ConfigView) (events : List Event) (w : WorldView) → IsReached c events w → ChosenIsBacked w
 
-abbrev pub ChosenIsKeptInWorlds : Type 0
-ChosenIsKeptInWorlds = (c : ConfigView) (events : List Event) (w : WorldView) → IsReached c events w → ChosenIsKept w
+abbrev pub ChosenStandsInWorlds : Type 0
+ChosenStandsInWorlds = (c : ConfigView) (events : List Event) (w : WorldView) → IsReached c events w → ChosenStands w
 
--- the chosen decrees, from place 1 on
-abbrev pub chosen_list : WorldView → List Decree
-chosen_list w = chosen w.u (ballots w.letters)
+-- the event tells a verifier that it may forget decrees
+abbrev pub is_trim : Event → Bool
+is_trim (Feed client bytes) = false
+is_trim (Again client) = false
+is_trim (Hangup client) = false
+is_trim (Deliver letter) = false
+is_trim (Cut executor moment) = false
+is_trim (Step executor place) = false
+is_trim (Finish executor) = false
+is_trim (Suspect verifier) = false
+is_trim (Trim verifier place) = true
+is_trim (Crash replica) = false
+is_trim (Restart replica) = false
+is_trim (Lost replica) = false
+is_trim (FailSave replica) = false
+
+-- no verifier is told to forget decrees
+abbrev pub trims_none : List Event → Bool
+trims_none events = not (list_any is_trim events)
+
+abbrev pub ChosenIsKeptInWorlds : Type 0
+ChosenIsKeptInWorlds = (c : ConfigView) (events : List Event) (w : WorldView) → IsTrue (trims_none events) → IsReached c events w → ChosenIsKept w
 
 abbrev pub ListIsChosenInWorlds : Type 0
 ListIsChosenInWorlds = (c : ConfigView) (events : List Event) (w : WorldView) (place : ℕ) (d : Decree) → IsReached c events w → (decree_at (chosen_list w) place ≡ Some d) ↔ ChosenInWorld w place d

@@ -1,9 +1,10 @@
 -- What is seen of a place from outside.
-use Rattle.std.specs.Prelude.{◌≡◌, ◌&&◌, Bool, not, Option, None, Some, length}
+use Rattle.std.specs.Prelude.{◌≡◌, ◌&&◌, Bool, not, Option, None, Some}
 use Rattle.exec_lines.specs.declared.shown.Report.{Report}
 use Rattle.exec_lines.specs.declared.shown.NextWork.{NextWork}
 use Rattle.exec_lines.specs.Shown.{report_of, ComesNext}
 use Rattle.exec_node.specs.Executor.{ExecutorView}
+use Rattle.verifier.specs.State.{known}
 use Rattle.verifier.specs.Verifier.{VerifierView}
 use Rattle.worlds.specs.Slot.{Slot}
 use Rattle.worlds.specs.declared.slot.Slot.TheVariants as slot
@@ -27,7 +28,7 @@ abbrev pub executor_report : ExecutorView → Report
 executor_report e = report_of e.state
 
 abbrev pub verifier_report : VerifierView → VerifierReport
-verifier_report v = record { decrees = length v.state.log; view = v.state.view }
+verifier_report v = record { decrees = known v.state; view = v.state.view }
 
 -- what comes next of the work of an executor, if it is up and has work
 abbrev pub WaitsFor : Slot ExecutorView → Option NextWork → Type 0

@@ -18,7 +18,7 @@ use Rattle.client.specs.declared.input.Input as of_client
 use Rattle.client.specs.declared.input.Input.TheVariants as client_input
 use Rattle.client.specs.Talk.{new_talk}
 use Rattle.events.specs.declared.event.Event.{Event}
-use Rattle.events.specs.declared.event.Event.TheVariants.{Feed, Again, Hangup, Deliver, Cut, Step, Finish, Suspect, Crash, Restart, Lost, FailSave}
+use Rattle.events.specs.declared.event.Event.TheVariants.{Feed, Again, Hangup, Deliver, Cut, Step, Finish, Suspect, Trim, Crash, Restart, Lost, FailSave}
 use Rattle.events.specs.declared.event.Replica.{Replica}
 use Rattle.events.specs.declared.event.Replica.TheVariants.{Executor, Verifier}
 use Rattle.worlds.specs.Slot.{Slot}
@@ -140,6 +140,7 @@ WorldNext w (Cut id moment) now = ExecutorGiven w id (executor_input.Cut moment)
 WorldNext w (Step id place) now = ExecutorGiven w id (executor_input.Step place) now
 WorldNext w (Finish id) now = ExecutorGiven w id executor_input.Finish now
 WorldNext w (Suspect id) now = VerifierGiven w id verifier_input.Suspect now
+WorldNext w (Trim id place) now = VerifierGiven w id (verifier_input.Trim place) now
 WorldNext w (Crash (Executor id)) now = now ≡ executor_changed w id (crashed_slot executor_kept)
 WorldNext w (Crash (Verifier id)) now = now ≡ verifier_changed w id (crashed_slot verifier_kept)
 WorldNext w (Restart (Executor id)) now = ExecutorAtOpened w id (slice_get w.executors id) now

@@ -1,7 +1,7 @@
 //! What holds of every world that is reached. The functions do nothing: what each says is its
 //! contract.
 
-ghost use Rattle.worlds.specs.Laws.{WorldsAreOfMachines, OneIsChosenInWorlds, ChosenIsBackedInWorlds, ChosenIsKeptInWorlds, ListIsChosenInWorlds, ListGrowsInWorlds};
+ghost use Rattle.worlds.specs.Laws.{WorldsAreOfMachines, OneIsChosenInWorlds, ChosenIsBackedInWorlds, ChosenStandsInWorlds, ChosenIsKeptInWorlds, ListIsChosenInWorlds, ListGrowsInWorlds};
 
 /// The verifiers and the ballots of each reached world are those of a reached machine of `agreement`,
 /// and the machine of the next world comes of it by more events. So each of its laws holds of worlds.
@@ -21,8 +21,14 @@ pub fn chosen_is_backed_in_worlds()
     ensures { ChosenIsBackedInWorlds }
 {}
 
-/// Where at most `u` verifiers are lost for good, the record of another one holds each chosen decree,
-/// in its log or as what it has accepted.
+/// Where at most `u` verifiers are lost for good, the record of another one holds each chosen decree, in
+/// its log or as what it has accepted, or begins above it with what the chosen decrees up to there stand for.
+pub fn chosen_stands_in_worlds()
+    ensures { ChosenStandsInWorlds }
+{}
+
+/// Where no verifier was told to forget decrees, and at most `u` verifiers are lost for good, the record
+/// of another one holds each chosen decree, in its log or as what it has accepted.
 pub fn chosen_is_kept_in_worlds()
     ensures { ChosenIsKeptInWorlds }
 {}

@@ -24,7 +24,7 @@ pub use events::{Config, Event, MOST_CLIENTS, Replica};
 pub use executor_place::ExecutorPlace;
 pub use laws::{
     chosen_is_backed_in_worlds, chosen_is_kept_in_worlds, chosen_list_only_grows_in_worlds,
-    one_is_chosen_in_worlds, worlds_are_of_machines,
+    chosen_stands_in_worlds, one_is_chosen_in_worlds, worlds_are_of_machines,
 };
 pub use slot::Slot;
 pub use status::{Status, VerifierReport};

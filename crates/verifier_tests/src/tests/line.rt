@@ -1,6 +1,6 @@
 //! The words of a line.
 
-use decrees::{Ballot, Decree, Node};
+use decrees::{Ballot, Decree, Node, Standing};
 use std::alloc::{AllocError, Global};
 use token::Token;
 
@@ -122,6 +122,18 @@ fn promise(words: &[&str]) -> Option<Ballot> {
     })
 }
 
+/// `stands place 1 number 1 token 7 epoch 1 first 1`.
+fn stands(words: &[&str]) -> Option<Ballot> {
+    let place = number(words, 1, "place")?;
+    let standing = Standing {
+        n: number(words, 3, "number")?,
+        token: token(words, 5, "token")?,
+        epoch: number(words, 7, "epoch")?,
+        start: number(words, 9, "first")?,
+    };
+    Some(Ballot::Stands { place, standing })
+}
+
 /// What a letter says.
 pub fn ballot(words: &[&str]) -> Option<Ballot> {
     match *words.first()? {
@@ -130,6 +142,7 @@ pub fn ballot(words: &[&str]) -> Option<Ballot> {
         "accepted" => accepted_said(words),
         "decided" => decided(words),
         "promise" => promise(words),
+        "stands" => stands(words),
         "change" => Some(Ballot::Change {
             view: number(words, 1, "view")?,
         }),

@@ -167,6 +167,10 @@ impl Play {
         match *words.first()? {
             "opens" => self.open(id),
             "suspects" => self.give(id, Input::Suspect),
+            "trims" => {
+                let place = number(words, 1, "to")?;
+                self.give(id, Input::Trim { place })
+            }
             "fails" => {
                 self.player(id)?.keeper().fail_next();
                 Some(())

@@ -4,7 +4,7 @@
 
 use super::records::{keeper_of, record};
 use base::Text;
-use decrees::{Ballot, Decree, Letter, Node};
+use decrees::{Ballot, Decree, Letter, Node, Standing};
 use keeper::MemKeeper;
 use proto::Fault;
 use std::alloc::Global;
@@ -101,6 +101,39 @@ const LINES: [Line; 13] = [
     ),
 ];
 
+/// What it is given when it has forgotten the first decree.
+const LATER: [Line; 5] = [
+    (Node::Executor(2), Ballot::Ask { place: 1 }, 1, false),
+    (Node::Verifier(1), Ballot::Ask { place: 2 }, 1, false),
+    (
+        Node::Verifier(1),
+        Ballot::Accept {
+            view: 2,
+            place: 1,
+            decree: DECREE,
+        },
+        1,
+        false,
+    ),
+    (
+        Node::Verifier(1),
+        Ballot::Stands {
+            place: 5,
+            standing: STANDING,
+        },
+        0,
+        true,
+    ),
+    (Node::Verifier(2), Ballot::Ask { place: 5 }, 1, false),
+];
+
+const STANDING: Standing = Standing {
+    n: 3,
+    token: Token([9; 32]),
+    epoch: 3,
+    start: 2,
+};
+
 fn holds(is_so: bool) -> Result<(), Fault> {
     if is_so { Ok(()) } else { Err(Fault::NotOpen) }
 }
@@ -138,12 +171,25 @@ fn does(
     }
 }
 
-fn each_line(alloc: Global, verifier: &mut Verifier<MemKeeper<Text>>) -> Result<(), Fault> {
-    for (from, body, letters, saves) in LINES {
+fn all_of(
+    alloc: Global,
+    verifier: &mut Verifier<MemKeeper<Text>>,
+    lines: &[Line],
+) -> Result<(), Fault> {
+    for line in lines {
+        let (from, body, letters, saves) = *line;
         let to = Node::Verifier(0);
         let letter = Input::Letter(Letter { from, to, body });
         does(alloc, verifier, letter, letters, saves)?;
     }
+    Ok(())
+}
+
+/// Each line; then it forgets its first decree, and is told what stands at a later place.
+fn each_line(alloc: Global, verifier: &mut Verifier<MemKeeper<Text>>) -> Result<(), Fault> {
+    all_of(alloc, verifier, &LINES)?;
+    does(alloc, verifier, Input::Trim { place: 1 }, 0, true)?;
+    all_of(alloc, verifier, &LATER)?;
     does(alloc, verifier, Input::Suspect, 3, true)
 }
 

@@ -1,5 +1,6 @@
 use Rattle.verifier.proofs.StepLemmas.{unsaved_stays}
-use Rattle.verifier.proofs.RecordLemmas.{saved_is_record, one_state}
+use Rattle.verifier.proofs.RecordLemmas.{saved_is_record}
+use Rattle.verifier.proofs.RecordsApart.{one_state}
 use Rattle.verifier.proofs.laws.records_outlive_a_crash.Goals as goal
 
 pub returns-clause-unsaved : goal.returns-clause-unsaved

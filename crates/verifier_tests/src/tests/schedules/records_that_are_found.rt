@@ -14,7 +14,7 @@ v1 opens
   v1 > v0 v2: ask place 2
 v1 is up in view 1 knows 1
 
-# Another version, and another kind of record.
+# The fields of version 1 behind the mark of version 2, and another kind of record.
 v1 finds 02 56 01 01 00x8 00 00x4
 v1 opens
   bad record

@@ -1,7 +1,7 @@
 use Rattle.std.proofs.Common.{Result, Ok, Err}
 use Rattle.std.specs.Prelude.{IfOk}
 use Rattle.worlds.specs.World.{WorldView}
-use Rattle.worlds.specs.Laws.{IsReached, OneIsChosen, ChosenIsBacked, ChosenIsKept}
+use Rattle.worlds.specs.Laws.{IsReached, OneIsChosen, ChosenIsBacked, ChosenStands, ChosenIsKept}
 use Rattle.one_server.specs.Laws.{ShowsOneServer, KeepsItsRun}
 use Rattle.world.proofs.plays.play.Goals as goal
 
@@ -21,8 +21,13 @@ returns-clause-backed c =
 
 pub returns-clause-kept : goal.returns-clause-kept
 returns-clause-kept c =
+    weaker (λ (w : WorldView). IsReached c.args.config.now c.args.events.now w) (λ (w : WorldView). ChosenStands w) c.played.result
+    (λ w reached. c.chosen_stands_in_worlds.ensures c.args.config.now c.args.events.now w reached) c.played.ensures
+
+pub returns-clause-kept_whole : goal.returns-clause-kept_whole
+returns-clause-kept_whole c none =
     weaker (λ (w : WorldView). IsReached c.args.config.now c.args.events.now w) (λ (w : WorldView). ChosenIsKept w) c.played.result
-    (λ w reached. c.chosen_is_kept_in_worlds.ensures c.args.config.now c.args.events.now w reached) c.played.ensures
+    (λ w reached. c.chosen_is_kept_in_worlds.ensures c.args.config.now c.args.events.now w none reached) c.played.ensures
 
 of_each : {T E : Type 0} (P : T → Type 0) (r : Result T E) → ((x : T) → P x) → IfOk r P
 of_each {T} {E} P (Ok x) each = each x

@@ -1,7 +1,5 @@
-use Rattle.std.proofs.Common.{◌≡◌, arith, ap, subst}
+use Rattle.std.proofs.Common.{arith}
 use Rattle.std.proofs.lemmas.Result.{err_from_is_err_and}
-use Rattle.states.specs.State.{StateView}
-use Rattle.wire.specs.Record.{Takes}
 use Rattle.rollback.proofs.RecordLemmas.{no_state, no_count, too_many, chain_taken}
 use Rattle.rollback.proofs.chain.Chain.take.Goals as goal
 

@@ -1,0 +1,24 @@
+//! When a verifier forgets old decrees.
+
+ghost use Rattle.std.specs.Prelude.{◌≡◌, ◌↔◌, ◌≤◌, ◌+◌, IsSome, IfSome};
+ghost use Rattle.serving.specs.declared.trimming.TheConstants.{MOST_DECREES, LEFT_DECREES};
+
+/// Behind so many decrees a verifier's log is trimmed. They are some 700 KB in memory and record, and a
+/// trim costs a tenth of a millisecond, so at 4,096 decrees a trim neither counts.
+pub const MOST_DECREES: u64 = 8192;
+
+/// So many decrees stay. A node that missed fewer is told them one by one; to another one a verifier tells
+/// what stands, and an executor then fetches the state.
+pub const LEFT_DECREES: u64 = 4096;
+
+/// The place up to which a verifier forgets decrees, that knows `known` of them and has forgotten those up to
+/// the place `start`: there is one if it has `MOST_DECREES` or more, and `LEFT_DECREES` stay behind it.
+pub fn due_trim(start: u64, known: u64) -> Option<u64>
+    ensures due { IsSome result ↔ (start + MOST_DECREES ≤ known) }
+    ensures left { IfSome result (λ place. place + LEFT_DECREES ≡ known) }
+{
+    if known.saturating_sub(start) < MOST_DECREES {
+        return None;
+    }
+    Some(known - LEFT_DECREES)
+}
