@@ -3,12 +3,12 @@
 ghost use Rattle.std.specs.Prelude.{◌≡◌, ◌↔◌, ◌≤◌, ◌+◌, IsSome, IfSome};
 ghost use Rattle.serving.specs.declared.trimming.TheConstants.{MOST_DECREES, LEFT_DECREES};
 
-/// Behind so many decrees a verifier's log is trimmed. They are some 700 KB in memory and record, and a
-/// trim costs a tenth of a millisecond, so at 4,096 decrees a trim neither counts.
+/// A verifier's log is trimmed when it has so many decrees. They take some 700 KB in memory and in the
+/// record.
 pub const MOST_DECREES: u64 = 8192;
 
-/// So many decrees stay. A node that missed fewer is told them one by one; to another one a verifier tells
-/// what stands, and an executor then fetches the state.
+/// So many decrees stay. A node that missed fewer is told each of them. Any other node is told what stands,
+/// and an executor then fetches the state.
 pub const LEFT_DECREES: u64 = 4096;
 
 /// The place up to which a verifier forgets decrees, that knows `known` of them and has forgotten those up to

@@ -144,7 +144,7 @@ on_decided u id s from place d =
     else if nat_lt (next_place s) place then says id s (Verifier from) (Ask (next_place s))
     else stays s
 
--- at most 16 letters are sent at once: decrees from the place on, or from the start on behind what stands there
+-- one letter of what stands, if the place is forgotten; else the decrees from the place on, at most 16
 abbrev pub told_from : ℕ → VerifierState → Node → ℕ → List (Letter Ballot)
 told_from id s to place =
     if nat_le place s.start.place
