@@ -1,5 +1,5 @@
 /* Loaded before the C library: refuses the growth of memory with the number in REFUSE, counted from
-   1, and says so on standard error. */
+   1, and each REFUSE_EVERY-th one after it if that is set; says so on standard error. */
 #define _GNU_SOURCE
 #include <dlfcn.h>
 #include <stdlib.h>
@@ -8,13 +8,16 @@
 static long calls;
 
 static int refused(void) {
-    static long wanted;
+    static long wanted, every;
     if (wanted == 0) {
-        const char *text = getenv("REFUSE");
+        const char *text = getenv("REFUSE_EVERY");
+        every = text ? atol(text) : 0;
+        text = getenv("REFUSE");
         wanted = text ? atol(text) : -1;
     }
     /* Several threads may grow at once. */
-    if (__atomic_add_fetch(&calls, 1, __ATOMIC_SEQ_CST) != wanted)
+    long call = __atomic_add_fetch(&calls, 1, __ATOMIC_SEQ_CST);
+    if (call != wanted && !(every > 0 && call > wanted && (call - wanted) % every == 0))
         return 0;
     return write(2, "refused\n", 8) == 8;
 }

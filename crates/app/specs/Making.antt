@@ -10,7 +10,7 @@ use Rattle.makers.specs.Table.{next_event, after_event}
 use Rattle.schedules.specs.declared.line.ScheduleLine.{ScheduleLine}
 use Rattle.schedules.specs.declared.line.ScheduleLine.TheVariants.{Happens, Settle, Random}
 use Rattle.worlds.specs.World.{WorldView, WorldNext}
-use Rattle.world.specs.World.{first_world}
+use Rattle.worlds.specs.First.{first_world}
 use Rattle.world.specs.Work.{IsNextWork}
 use Rattle.app.specs.Past.{PastView, first_past, past_after, IsNextLetter}
 

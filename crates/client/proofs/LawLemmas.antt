@@ -18,7 +18,8 @@ use Rattle.client.specs.declared.input.Input.TheVariants.{Feed, Reply, Again, Ha
 use Rattle.client.specs.declared.talk.Talk.{Talk}
 use Rattle.client.specs.Talk.{Given, new_talk, unmoved}
 use Rattle.client.specs.Step.{IsClientStep, IsFed, IsFedWhere, on_reply, answered_to, is_asked, on_again, asked_again, on_hangup, fits_talk}
-use Rattle.client.specs.Taken.{asked, TextsBy, pending, Front, IsIdle, Live, TalkOk}
+use Rattle.memcached_spec.specs.Asked.{asked, TextsBy, Front}
+use Rattle.client.specs.Taken.{pending, IsIdle, Live, TalkOk}
 use Rattle.client.specs.Laws.{Talks, none, more, piece_of, bytes_fed, is_hangup, has_hung_up, WasHandedIn, GivenInOrder, NoTurnIsLost, OutstandingIsLast, ClosedIsIdle, UnfitTalkStays}
 use Rattle.client.proofs.TakenLemmas.{talk_implies, new_ok, fed_ok, replied_ok, again_ok, hung_up_ok, going_on}
 

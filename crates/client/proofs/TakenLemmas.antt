@@ -16,7 +16,8 @@ use Rattle.client.specs.declared.talk.Talk.{Talk}
 use Rattle.client.specs.RequestProofs.{client_number}
 use Rattle.client.specs.Talk.{Given, new_talk, next_request, unmoved, only_given, go, go_where, go_on}
 use Rattle.client.specs.Step.{IsRead, IsReadOn, IsFed, IsFedWhere, fed, on_reply, answered_to, on_again, asked_again, on_hangup}
-use Rattle.client.specs.Taken.{asked, TextsBy, pending, Front, IsIdle, Live, TalkOk}
+use Rattle.memcached_spec.specs.Asked.{asked, TextsBy, Front}
+use Rattle.client.specs.Taken.{pending, IsIdle, Live, TalkOk}
 
 asks-push : (turns : List Turn) (t : Turn) → length (asked (turns ++ t ∷ [])) ≡ length (asked turns) + length (asked (t ∷ []))
 asks-push [] t = omega arith

@@ -11,7 +11,8 @@ use Rattle.client.specs.declared.talk.Talk.{Talk}
 use Rattle.client.specs.RequestProofs.{client_number}
 use Rattle.client.specs.Talk.{Given, new_talk, unmoved}
 use Rattle.client.specs.Step.{IsClientStep, fits_talk}
-use Rattle.client.specs.Taken.{asked, TextsBy, pending, Front, IsIdle}
+use Rattle.memcached_spec.specs.Asked.{asked, TextsBy, Front}
+use Rattle.client.specs.Taken.{pending, IsIdle}
 
 -- Inputs handed in one after the other: what is kept after them, and all bytes that were given.
 pub data Talks (u c : ℕ) : List Input → Talk → List ℕ → Type 0 where

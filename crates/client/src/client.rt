@@ -2,6 +2,7 @@
 
 ghost use Rattle.std.specs.Prelude.{◌≡◌, ◌<◌, ◌≤◌, true};
 
+use crate::asked::Asked;
 use crate::input::Input;
 use crate::talk::Talk;
 use decrees::Letter;
@@ -32,6 +33,7 @@ impl Model for Client {
 
 impl Client {
     ghost use Rattle.std.specs.Prelude.{◌≡◌, ◌↔◌, ◌⊎◌, IfOk, IfErr, IsOk, Err, IsTrue, is_some, not, true};
+    ghost use Rattle.std.specs.Option.{option_map};
     ghost use Rattle.client.specs.declared.input.Input.TheVariants.{Hangup};
     ghost use Rattle.client.specs.Talk.{new_talk};
     ghost use Rattle.client.specs.Step.{IsClientStep, IsOutOfNumbers, fits_talk};
@@ -101,5 +103,12 @@ impl Client {
         ensures { result ≡ is_some self.now.talk.outstanding }
     {
         self.talk.outstanding.is_some()
+    }
+
+    /// The request that was asked and not answered yet, if there is one.
+    pub fn asked(&self) -> Option<&Asked>
+        ensures { option_map (λ asked. asked.now) result ≡ self.now.talk.outstanding }
+    {
+        self.talk.outstanding.as_ref()
     }
 }

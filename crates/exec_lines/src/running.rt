@@ -1,7 +1,8 @@
 //! Work that is run whole, on threads.
 
-ghost use Rattle.std.specs.Prelude.{◌≡◌, ◌<◌, None, Some, IfOk, IsOk, IsTrue, MatchOption, length, true};
+ghost use Rattle.std.specs.Prelude.{◌≡◌, ◌<◌, None, Some, IfOk, IfSome, IsOk, IsTrue, MatchOption, length, true};
 ghost use Rattle.executor.specs.GroupRun.{IsUntouched};
+ghost use Rattle.executor.specs.Work.{IsWork};
 ghost use Rattle.rollback.specs.declared.chain.TheConstants.{MOST_MEMBERS};
 ghost use Rattle.exec_lines.specs.State.{is_tip};
 ghost use Rattle.exec_lines.specs.Job.{job_of, RunsJob};
@@ -39,6 +40,15 @@ impl State {
                 ordered: work.is_ordered(),
             }),
             _ => None,
+        }
+    }
+
+    /// What is always true of its work, if there is any. The call does nothing.
+    pub fn works(&self)
+        ensures { IfSome self.now.work IsWork }
+    {
+        if let Some(work) = &self.work {
+            work.always();
         }
     }
 

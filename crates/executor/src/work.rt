@@ -6,7 +6,7 @@ ghost use Rattle.item_steps.specs.Schedule.{stamped};
 ghost use Rattle.states.specs.Followed.{moment_of, form_after};
 ghost use Rattle.token.specs.Digested.{AreDigested};
 ghost use Rattle.executor.specs.Round.{first_place, kept_after, Round};
-ghost use Rattle.executor.specs.Work.{WorkStep, HasStep, HasNoStep, tentative_of, is_group_done as group_done, IsFirst, IsNextGroup, IsLast, is_ready, all_begun, replies_of, started};
+ghost use Rattle.executor.specs.Work.{IsWork, WorkStep, HasStep, HasNoStep, tentative_of, is_group_done as group_done, IsFirst, IsNextGroup, IsLast, is_ready, all_begun, replies_of, started};
 ghost use Rattle.executor.specs.Ends.{Begins, Goes, DoneIsRound};
 ghost use Rattle.executor.specs.GroupRun.{IsUntouched, StartsAfresh, is_untouched};
 ghost use Rattle.executor.specs.BatchRequest.{HaveFewSteps};
@@ -191,6 +191,13 @@ impl Work {
         ensures { result ≡ self.now.ordered }
     {
         self.ordered
+    }
+
+    /// What is always true of work. The call does nothing.
+    pub fn always(&self)
+        ensures { IsWork self.now }
+    {
+        let _ = &self.group;
     }
 
     /// Whether no step was made.

@@ -32,8 +32,8 @@ use Rattle.worlds.specs.World.{WorldView, as_sent, with_executor, with_verifier,
 use Rattle.worlds.proofs.PlaceLemmas.{get_set}
 use Rattle.one_server.proofs.Inputs.{MayCome}
 use Rattle.one_server.proofs.Plays.{Held}
-use Rattle.one_server.specs.Fed.{fed_by, fed_to}
-use Rattle.one_server.specs.Asked.{IsAskedRequest, WasSent}
+use Rattle.memcached_spec.specs.Fed.{fed_by, fed_to}
+use Rattle.worlds.specs.Asked.{IsAskedRequest, WasSent}
 use Rattle.one_server.proofs.Each.{each_of_both, each_at, contains_at, each_implies}
 use Rattle.one_server.proofs.Grown.{IsLater, later_by, request_later, batch_later, fed_next}
 use Rattle.one_server.proofs.AskedLines.{IsAskedWork, IsAskedMember, IsAskedBody, IsAskedLetter, AreAskedLetters, BringsAsked}

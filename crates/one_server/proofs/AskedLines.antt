@@ -41,8 +41,8 @@ use Rattle.exec_lines.specs.State.{ExecutorState, ExecutorOutcome, is_behind, ne
 use Rattle.exec_lines.specs.Lines.{waits, wanted, went_on, begin, batch_of, has_number, requests_taken, cut_where, cut_batch, after_cut, ordered, may_cut, on_cut, may_obey_order, on_order, stepped, work_after, on_step, finished, on_finish, needs, rolled_back, roll_back, commit_first, obey, is_due, on_decree, is_told, goes_on, stood_without, stood, on_stands, has_more, on_need, came, on_parcel, resumed}
 use Rattle.exec_lines.specs.Step.{from_client, from_executor, on_ballot, from_verifier, on_letter, executor_step}
 use Rattle.events.specs.declared.event.Event.{Event}
-use Rattle.one_server.specs.Fed.{IsMoment}
-use Rattle.one_server.specs.Asked.{IsAskedRequest, IsAskedBatch}
+use Rattle.memcached_spec.specs.Fed.{IsMoment}
+use Rattle.worlds.specs.Asked.{IsAskedRequest, IsAskedBatch}
 use Rattle.one_server.proofs.Each.{each_of_both, each_taken, each_filtered, each_in}
 
 abbrev pub AreAskedRequests : List Event → List Request → Type 0

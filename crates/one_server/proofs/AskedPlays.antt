@@ -17,7 +17,7 @@ use Rattle.worlds.specs.Slots.{ClientSlot}
 use Rattle.worlds.specs.World.{WorldView, WorldNext, WorldRuns, last_world, new_clients, nothing_kept, unopened_world, restarts_below, opening_events, IsFirstWorld, ReachedWorlds, EndsWith}
 use Rattle.one_server.specs.Saved.{IsSavedIn, IsExecutedIn, IsExecuted}
 use Rattle.one_server.proofs.Plays.{Held, event_held, AreRestarts, restarts_both, restarts_are, executors_new, unopened_held, now_held}
-use Rattle.one_server.specs.Asked.{IsAskedBatch}
+use Rattle.worlds.specs.Asked.{IsAskedBatch}
 use Rattle.one_server.proofs.Grown.{later_by, batch_later}
 use Rattle.one_server.proofs.AskedLines.{IsAskedMember, AreAskedMembers}
 use Rattle.one_server.proofs.ClientLines.{IsClientOf}

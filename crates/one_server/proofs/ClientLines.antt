@@ -22,14 +22,15 @@ use Rattle.client.specs.declared.input.Input.TheVariants as input
 use Rattle.client.specs.declared.talk.Talk.{Talk}
 use Rattle.client.specs.Talk.{Given, next_request, client_letter, wants_below, unmoved, go, go_where, go_on}
 use Rattle.client.specs.Step.{IsFedWhere, answered_to, asked_again, IsClientStep}
-use Rattle.client.specs.Taken.{asked, Front}
+use Rattle.memcached_spec.specs.Asked.{asked, Front}
 use Rattle.client.specs.Laws.{Talks, more, piece_of, bytes_fed, WasHandedIn}
 use Rattle.client.proofs.TakenLemmas.{texts_imply}
 use Rattle.client.proofs.LawLemmas.{given_in_order, outstanding_is_last}
 use Rattle.events.specs.declared.event.Event.{Event}
 use Rattle.worlds.specs.Slots.{ClientSlot, ClientSettlesWhere, ClientSettles}
-use Rattle.one_server.specs.Fed.{fed_to}
-use Rattle.one_server.specs.Asked.{IsAsked, IsAskedRequest, WasSent, IsReplied}
+use Rattle.memcached_spec.specs.Fed.{fed_to}
+use Rattle.memcached_spec.specs.Asked.{IsAsked}
+use Rattle.worlds.specs.Asked.{IsAskedRequest, WasSent, IsReplied}
 use Rattle.one_server.proofs.Each.{each_of_both, each_implies}
 use Rattle.one_server.proofs.Grown.{front_longer}
 use Rattle.one_server.proofs.AskedLines.{IsAskedBody, IsAskedLetter, AreAskedLetters}

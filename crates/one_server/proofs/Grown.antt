@@ -9,11 +9,12 @@ use Rattle.proto.specs.declared.turn.Turn.TheVariants.{Ask, Say, Close}
 use Rattle.proto.proofs.SpellsLemmas.{spells_some, spells_longer}
 use Rattle.sessions.specs.declared.request.Request.{Request}
 use Rattle.batches.specs.declared.batch.Batch.{Batch}
-use Rattle.client.specs.Taken.{asked, Front}
+use Rattle.memcached_spec.specs.Asked.{asked, Front}
 use Rattle.events.specs.declared.event.Event.{Event}
 use Rattle.events.specs.declared.event.Event.TheVariants.{Cut}
-use Rattle.one_server.specs.Fed.{fed_by, fed_to, IsMoment}
-use Rattle.one_server.specs.Asked.{IsAsked, IsAskedRequest, IsAskedBatch}
+use Rattle.memcached_spec.specs.Fed.{fed_by, fed_to, IsMoment}
+use Rattle.memcached_spec.specs.Asked.{IsAsked}
+use Rattle.worlds.specs.Asked.{IsAskedRequest, IsAskedBatch}
 
 -- ---- more bytes
 

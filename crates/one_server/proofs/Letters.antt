@@ -29,7 +29,7 @@ use Rattle.one_server.specs.HeldLaws.{IsChosenState}
 use Rattle.one_server.proofs.Records.{chain_is_linked}
 use Rattle.one_server.proofs.Plays.{Held, last_held, are_of_executor_machines, AreRestarts, restarts_both, restarts_are}
 use Rattle.one_server.proofs.Proved.{committed_is_chosen_in_worlds}
-use Rattle.one_server.specs.Asked.{WasSent}
+use Rattle.worlds.specs.Asked.{WasSent}
 use Rattle.one_server.proofs.Replies.{SaidTo, AllReplies, replies_more, all-append, KeepsReply, KeepsOnTheWay, KeepsBeforeOrAfter, step_replies}
 use Rattle.one_server.proofs.Sending.{IsBrought, StepsReply, opening_sends, event_sends}
 use Rattle.one_server.proofs.OnTheWay.{way_is_chosen}

@@ -26,7 +26,7 @@ use Rattle.one_server.specs.HeldLaws.{IsChosenState}
 use Rattle.one_server.proofs.Proved.{each_has_one_in_worlds, chosen_is_made_in_worlds, committed_is_chosen_in_worlds}
 use Rattle.one_server.proofs.Told.{met_are_told_apart}
 use Rattle.one_run.proofs.Elements.{in_head, in_tail, in_none, first_or_other}
-use Rattle.one_server.specs.Asked.{WasSent}
+use Rattle.worlds.specs.Asked.{WasSent}
 use Rattle.one_server.specs.AskedLaws.{ExecutedIsAsked, GivenIsReplied}
 use Rattle.one_server.specs.Served.{WasAnswered}
 use Rattle.one_server.specs.Run.{IsRun, RunsGrow}
@@ -95,6 +95,7 @@ module _ (c : ConfigView) (all : List WorldView) (apart : ToldApart (IsMet all))
         asked = λ r q at inside. let ok = executed_asked c events seen r past.reached (built.known_rounds r at) in ok.requests q inside;
         once = λ i j a b g k client number. answered_once run i j a b built.follows g k client number;
         moments = λ r at. let ok = executed_asked c events seen r past.reached (built.known_rounds r at) in ok.moment;
+        replied = λ client number reply sent. was_answered client number reply (sent_reply (IsCommittedReply seen w) w.letters client number reply replied sent);
         served = λ i slot at.
             let is = given_replied c events seen w i slot past.reached past.ends at in
             record {

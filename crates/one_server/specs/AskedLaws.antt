@@ -7,7 +7,7 @@ use Rattle.events.specs.Config.{ConfigView}
 use Rattle.worlds.specs.Slots.{ClientSlot}
 use Rattle.worlds.specs.World.{WorldView, ReachedWorlds, EndsWith}
 use Rattle.one_server.specs.Saved.{IsExecuted}
-use Rattle.one_server.specs.Asked.{IsAskedBatch, IsReplied}
+use Rattle.worlds.specs.Asked.{IsAskedBatch, IsReplied}
 
 -- each round that was executed is of requests that were asked
 abbrev pub ExecutedIsAsked : Type 0

@@ -1,8 +1,6 @@
 pub mod Saved
 pub mod Machines
 pub mod HeldLaws
-pub mod Fed
-pub mod Asked
 pub mod AskedLaws
 pub mod Served
 pub mod Run

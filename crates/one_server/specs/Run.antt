@@ -1,6 +1,7 @@
 -- The one run of a world, and how runs grow along a play.
 use Rattle.std.specs.Prelude.{◌≡◌, ℕ, suc, ◌<◌, ◌≤◌, false, List, [], ◌∷◌, ◌++◌, length, Some, Contains, slice_get}
 use Rattle.decrees.specs.Count.{member_count}
+use Rattle.proto.specs.declared.reply.Reply as replies
 use Rattle.sessions.specs.declared.request.Request.{Request}
 use Rattle.states.specs.State.{StateView, initial_state}
 use Rattle.executor.specs.declared.answered.Answered.{Answered}
@@ -17,9 +18,9 @@ use Rattle.worlds.specs.World.{WorldView}
 use Rattle.worlds.specs.Laws.{is_gone, chosen_list}
 use Rattle.one_server.specs.Saved.{IsSpelled, Has, HasOne, IsMet}
 use Rattle.one_server.specs.HeldLaws.{executor_record, lost_executors}
-use Rattle.one_server.specs.Fed.{fed_to, IsMoment}
-use Rattle.one_server.specs.Asked.{IsAskedRequest}
-use Rattle.one_server.specs.Served.{IsServed}
+use Rattle.memcached_spec.specs.Fed.{fed_to, IsMoment}
+use Rattle.worlds.specs.Asked.{IsAskedRequest, WasSent}
+use Rattle.one_server.specs.Served.{IsServed, WasAnswered}
 
 -- The run is what one server does that is fed as by these events, and this world shows nothing else.
 pub record IsRun (met : StateView → Type 0) (events : List Event) (w : WorldView) (run : List Executed) : Type 0 where
@@ -38,6 +39,8 @@ pub record IsRun (met : StateView → Type 0) (events : List Event) (w : WorldVi
   pub once : (i j : ℕ) (a b : Answered) → GivenIn run i a → GivenIn run j b → a.client ≡ b.client → a.number ≡ b.number → (i ≡ j) × (a ≡ b)
   -- a round is of the moment of some Cut
   pub moments : (r : Executed) → Contains run r → IsMoment events r.batch.moment
+  -- each reply that was ever sent is the run's
+  pub replied : (client number : ℕ) (reply : replies.Reply) → WasSent w.letters client number reply → WasAnswered run client number reply
   -- what a client was given are the texts of the first turns that its bytes spell; clients are numbered from 1
   pub served : (i : ℕ) (slot : ClientSlot) → slice_get w.clients i ≡ Some slot → IsServed run (suc i) (fed_to (suc i) events) slot.given
 

@@ -3,7 +3,7 @@ use Rattle.std.specs.Prelude.{◌≡◌, ℕ, List}
 use Rattle.proto.specs.declared.reply.Reply as replies
 use Rattle.proto.specs.declared.turn.Turn.{Turn}
 use Rattle.executor.specs.declared.answered.Answered.{Answered}
-use Rattle.client.specs.Taken.{TextsBy, Front}
+use Rattle.memcached_spec.specs.Asked.{TextsBy, Front}
 use Rattle.one_run.specs.Run.{Executed}
 use Rattle.one_run.specs.Replied.{GivenIn}
 

@@ -1,23 +1,24 @@
 -- What bytes spell is one list of turns, and more bytes only add to it.
-use Rattle.std.proofs.Common.{◌≡◌, ℕ, zero, suc, ◌+◌, ◌-◌, ◌<◌, ◌≤◌, Bool, true, false, List, [], ◌∷◌, ◌++◌, length, take, drop, min, Some, None, Option, refl, sym, ap, ◌∙◌, arith, if◌then◌else◌, unwrap_or, inl, inr, subst}
-use Rattle.std.specs.Prelude.{nat_lt, slice_range}
+use Rattle.std.proofs.Common.{◌≡◌, ℕ, zero, suc, ◌+◌, ◌-◌, ◌<◌, ◌≤◌, Bool, true, false, List, [], ◌∷◌, ◌++◌, length, take, drop, min, Some, None, Option, refl, sym, ap, ◌∙◌, arith, if◌then◌else◌, unwrap_or, inl, inr, subst, ◌⊎◌, ⊎_elim}
+use Rattle.std.specs.Prelude.{nat_lt, slice_range, bytes_eq, Contains}
 use Rattle.std.specs.List.{list_any, before_first, after_first, position_or_len}
-use Rattle.std.proofs.lemmas.List.{append_assoc, append-nil, drop_all, length-append, length-drop, take-append-le, drop-append-le, drop-drop}
+use Rattle.std.proofs.lemmas.List.{append_assoc, append-nil, drop_all, length-append, length-drop, length-take-le, take-append-drop, take-append-le, take_all, drop-append-le, drop-drop}
 use Rattle.std.proofs.lemmas.Bool.Decides.{nat_tests}
 use Rattle.std.proofs.lemmas.Bool.{cases_lt}
 use Rattle.proto.specs.Line.{meaning}
 use Rattle.proto.specs.declared.block.TheConstants.{MOST_BLOCK_BYTES}
-use Rattle.proto.specs.Grammar.{next_turn, first_line, is_newline, turn_of_line, block_turn, Spells}
+use Rattle.proto.specs.declared.command.Command.{Command}
+use Rattle.proto.specs.Grammar.{next_turn, first_line, is_newline, turn_of_line, block_turn, filled, Spells}
 use Rattle.proto.specs.declared.line.TheConstants.{MOST_LINE_BYTES}
 use Rattle.proto.specs.Reader.{kept_of, blanked, Reading, ReadsTurns}
 use Rattle.proto.specs.Stage.{HasNoNewline}
 use Rattle.proto.specs.declared.turn.Turn.{Turn}
 use Rattle.proto.specs.declared.turn.Turn.TheVariants.{Ask, Say, Close}
-use Rattle.proto.specs.declared.turn.Notice.TheVariants.{LineTooLong}
+use Rattle.proto.specs.declared.turn.Notice.TheVariants.{LineTooLong, TooLarge, BadChunk}
 use Rattle.proto.specs.declared.line.Header.{Header}
 use Rattle.proto.specs.declared.line.Line.{Line}
 use Rattle.proto.specs.declared.line.Line.TheVariants.{Whole, Opens}
-use Rattle.proto.proofs.GrammarLemmas.{next_line, kept_line, next_long, drop_past}
+use Rattle.proto.proofs.GrammarLemmas.{next_line, kept_line, kept_plain, next_long, next_none, drop_past}
 use Rattle.proto.proofs.BlockLemmas.{zeros, drop_zeros, length_zeros}
 use Rattle.proto.proofs.NewlineLemmas.{is_ten}
 
@@ -305,3 +306,128 @@ spells_longer bytes more ts us r s p q =
     spells_ahead bytes more (Close n ∷ ts) r p = ([], r ++ more, (next_extends bytes more r (Close n) p.0, append-nil ts ∙ p.1))
     spells_ahead bytes more (Say n ∷ ts) r p = let s = spells_ahead p.0 more ts r p.2 in (s.0, s.1, (p.0 ++ more, next_extends bytes more p.0 (Say n) p.1, s.2))
     spells_ahead bytes more (Ask c k ∷ ts) r p = let s = spells_ahead p.0 more ts r p.2 in (s.0, s.1, (p.0 ++ more, next_extends bytes more p.0 (Ask c k) p.1, s.2))
+
+-- ---- a turn at the front has bytes of its own, which spell just it
+
+record LineAlone (line : Line) (rest a : List ℕ) (turn : Turn) : Type 0 where
+  own : List ℕ
+  is : rest ≡ own ++ a
+  alone : turn_of_line line own ≡ Some (turn, [])
+
+line_alone : (line : Line) (rest a : List ℕ) (turn : Turn) → turn_of_line line rest ≡ Some (turn, a) → LineAlone line rest a turn
+line_alone (Whole t) rest a turn e =
+    let both = same_turn_and_rest t turn rest a e in
+    record { own = []; is = both.1; alone = ap (λ (x : Turn). turn_and_rest x []) both.0 }
+line_alone (Opens h) rest a turn e = by (nat_lt (length rest) (h.size + 2)) refl e
+  where
+    by : (b : Bool) → nat_lt (length rest) (h.size + 2) ≡ b
+        → (if b then None else turn_and_rest (block_turn h (take h.size rest) (slice_range rest h.size (h.size + 2))) (drop (h.size + 2) rest)) ≡ Some (turn, a)
+        → LineAlone (Opens h) rest a turn
+    by true short is = absurd (let f : None ≡ Some (turn, a) = is in cc)
+    by false long is =
+        let own = take (h.size + 2) rest in
+        let back = drop (h.size + 2) rest in
+        let there : h.size + 2 ≤ length rest = grind (arith, nat_tests) in
+        let len : length (take (h.size + 2) rest) ≡ h.size + 2 = length-take-le (h.size + 2) rest there in
+        let enough : nat_lt (length (take (h.size + 2) rest)) (h.size + 2) ≡ false = rw len (grind (arith, nat_tests)) in
+        let none : drop (h.size + 2) (take (h.size + 2) rest) ≡ [] = drop_all (h.size + 2) (take (h.size + 2) rest) (rw len (omega arith)) in
+        let mine : turn_of_line (Opens h) own ≡ Some (block_turn h (take h.size own) (slice_range own h.size (h.size + 2)), []) = rw (enough, none) refl in
+        let whole : own ++ back ≡ rest = take-append-drop (h.size + 2) rest in
+        let same = same_turn_and_rest (block_turn h (take h.size own) (slice_range own h.size (h.size + 2))) turn back a
+        (sym (turn_extends (Opens h) own back [] (block_turn h (take h.size own) (slice_range own h.size (h.size + 2))) mine) ∙ ap (turn_of_line (Opens h)) whole ∙ e) in
+        record { own = own; is = sym whole ∙ ap (λ (xs : List ℕ). own ++ xs) same.1; alone = mine ∙ ap (λ (x : Turn). turn_and_rest x []) same.0 }
+
+pub record Alone (bytes a : List ℕ) (turn : Turn) : Type 0 where
+  pub own : List ℕ
+  pub is : bytes ≡ own ++ a
+  pub alone : next_turn own ≡ Some (turn, [])
+
+pub next_alone : (bytes a : List ℕ) (turn : Turn) → next_turn bytes ≡ Some (turn, a) → Alone bytes a turn
+next_alone bytes a turn e = by_first_line bytes _
+    (λ text after s.
+    let here = sym (ap next_turn s.is ∙ next_line text after s.one_line s.short) ∙ e in
+    let l = line_alone (meaning text) after a turn here in
+    record {
+      own = text ++ 10 ∷ l.own;
+      is = s.is ∙ ap (λ (xs : List ℕ). text ++ 10 ∷ xs) l.is ∙ sym (append_assoc text (10 ∷ l.own) a);
+      alone = next_line text l.own s.one_line s.short ∙ l.alone;
+    })
+    (λ none. elim (cases_lt (length bytes) MOST_LINE_BYTES) [
+      | inl short ↦ absurd (let f : None ≡ Some (turn, a) = sym (next_short bytes none short) ∙ e in cc)
+      | inr long ↦
+          let both = same_turn_and_rest (Close LineTooLong) turn (drop MOST_LINE_BYTES bytes) a (sym (next_long bytes none long) ∙ e) in
+          let front = take MOST_LINE_BYTES bytes in
+          let len : length (take MOST_LINE_BYTES bytes) ≡ MOST_LINE_BYTES = length-take-le MOST_LINE_BYTES bytes long in
+          let again : take MOST_LINE_BYTES (take MOST_LINE_BYTES bytes) ≡ take MOST_LINE_BYTES bytes = take_whole front MOST_LINE_BYTES (rw len (omega arith)) in
+          let nothing : drop MOST_LINE_BYTES (take MOST_LINE_BYTES bytes) ≡ [] = drop_all MOST_LINE_BYTES front (rw len (omega arith)) in
+          record {
+            own = front;
+            is = sym (take-append-drop MOST_LINE_BYTES bytes) ∙ ap (λ (xs : List ℕ). front ++ xs) both.1;
+            alone = next_long front (ap (list_any is_newline) again ∙ none) (rw len (omega arith)) ∙ ap (λ (xs : List ℕ). turn_and_rest (Close LineTooLong) xs) nothing ∙ ap (λ (x : Turn). turn_and_rest x []) both.0;
+          }
+    ])
+  where
+    take_whole : (xs : List ℕ) (n : ℕ) → length xs ≤ n → take n xs ≡ xs
+    take_whole xs n l = take_all n xs l
+
+-- a turn alone is read to its end, and nothing is kept
+pub alone_reads : (bytes : List ℕ) (command : Command) (quiet : Bool) → next_turn bytes ≡ Some (Ask command quiet, []) → ReadsTurns bytes (Ask command quiet ∷ []) (record { kept = []; closed = false; held = 0 })
+alone_reads bytes command quiet e = ([], e, (next_none [] refl (omega arith), sym (kept_plain [] refl), refl))
+
+-- the bytes of a command alone are no more than a line and a block
+line_small : (line : Line) (own : List ℕ) (command : Command) (quiet : Bool) → turn_of_line line own ≡ Some (Ask command quiet, []) → length own ≤ MOST_BLOCK_BYTES + 2
+line_small (Whole t) own command quiet e =
+    let both = same_turn_and_rest t (Ask command quiet) own [] e in rw both.1 (omega arith)
+line_small (Opens h) own command quiet e = by (nat_lt (length own) (h.size + 2)) refl e
+  where
+    sized : (b : Bool) → (big : Bool) → nat_lt MOST_BLOCK_BYTES h.size ≡ big
+        → (if b then (if big then Say TooLarge else Ask (filled h (take h.size own)) h.quiet) else Close BadChunk) ≡ Ask command quiet → h.size ≤ MOST_BLOCK_BYTES
+    sized true true is t = absurd (cc t)
+    sized true false is t = grind (arith, nat_tests)
+    sized false big is t = absurd (cc t)
+
+    by : (b : Bool) → nat_lt (length own) (h.size + 2) ≡ b
+        → (if b then None else turn_and_rest (block_turn h (take h.size own) (slice_range own h.size (h.size + 2))) (drop (h.size + 2) own)) ≡ Some (Ask command quiet, [])
+        → length own ≤ MOST_BLOCK_BYTES + 2
+    by true short is = absurd (let f : None ≡ Some (Ask command quiet, []) = is in cc)
+    by false long is =
+        let both = same_turn_and_rest (block_turn h (take h.size own) (slice_range own h.size (h.size + 2))) (Ask command quiet) (drop (h.size + 2) own) [] is in
+        let small : h.size ≤ MOST_BLOCK_BYTES = sized (bytes_eq (slice_range own h.size (h.size + 2)) (13 ∷ 10 ∷ [])) (nat_lt MOST_BLOCK_BYTES h.size) refl both.0 in
+        let none : length (drop (h.size + 2) own) ≡ 0 = ap length both.1 in
+        let left : length own - (h.size + 2) ≡ 0 = sym (length-drop (h.size + 2) own) ∙ none in
+        omega (arith, small, left)
+
+pub alone_small : (bytes : List ℕ) (command : Command) (quiet : Bool) → next_turn bytes ≡ Some (Ask command quiet, []) → length bytes ≤ MOST_LINE_BYTES + MOST_BLOCK_BYTES + 2
+alone_small bytes command quiet e = by_first_line bytes _
+    (λ text after s.
+    let here = sym (ap next_turn s.is ∙ next_line text after s.one_line s.short) ∙ e in
+    let small = line_small (meaning text) after command quiet here in
+    let short = s.short in
+    rw (s.is, length-append text (10 ∷ after)) (omega (arith, small, short)))
+    (λ none. elim (cases_lt (length bytes) MOST_LINE_BYTES) [
+      | inl short ↦ absurd (let f : None ≡ Some (Ask command quiet, []) = sym (next_short bytes none short) ∙ e in cc)
+      | inr long ↦
+          let both = same_turn_and_rest (Close LineTooLong) (Ask command quiet) (drop MOST_LINE_BYTES bytes) [] (sym (next_long bytes none long) ∙ e) in
+          absurd (let f : Close LineTooLong ≡ Ask command quiet = both.0 in cc)
+    ])
+
+in_front : (x y : Turn) (xs : List Turn) → Contains (x ∷ xs) y → (x ≡ y) ⊎ Contains xs y
+in_front x y xs (zero, lt, e) = inl e
+in_front x y xs (suc k, lt, e) = inr (k, omega (arith, lt), e)
+
+-- each command that bytes spell has bytes of its own
+pub spelled_alone : (bytes : List ℕ) (turns : List Turn) (rest : List ℕ) (command : Command) (quiet : Bool) → Spells bytes turns rest → Contains turns (Ask command quiet) → (own : List ℕ) × (next_turn own ≡ Some (Ask command quiet, []))
+spelled_alone bytes [] rest command quiet s (k, lt, e) = absurd (omega (arith, lt))
+spelled_alone bytes (Close notice ∷ turns) rest command quiet s c = ⊎_elim
+    (λ (same : Close notice ≡ Ask command quiet). absurd (cc same))
+    (λ later. absurd (let none = subst (λ (ts : List Turn). Contains ts (Ask command quiet)) s.1 later in omega (arith, none.1)))
+    (in_front (Close notice) (Ask command quiet) turns c)
+spelled_alone bytes (Say notice ∷ turns) rest command quiet s c = ⊎_elim
+    (λ (same : Say notice ≡ Ask command quiet). absurd (cc same))
+    (λ later. spelled_alone s.0 turns rest command quiet s.2 later)
+    (in_front (Say notice) (Ask command quiet) turns c)
+spelled_alone bytes (Ask d k ∷ turns) rest command quiet s c = ⊎_elim
+    (λ (same : Ask d k ≡ Ask command quiet).
+    let a = next_alone bytes s.0 (Ask command quiet) (s.1 ∙ ap (λ (t : Turn). turn_and_rest t s.0) same) in (a.own, a.alone))
+    (λ later. spelled_alone s.0 turns rest command quiet s.2 later)
+    (in_front (Ask d k) (Ask command quiet) turns c)

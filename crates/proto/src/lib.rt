@@ -24,7 +24,9 @@ pub use base::Fault;
 pub use block::{Block, MOST_BLOCK_BYTES};
 pub use command::{Command, StoreVerb, Update};
 pub use key::{Key, Keys, MOST_KEY_BYTES, MOST_KEYS, is_key_text};
-pub use laws::{longer_bytes_spell_more, one_list_is_spelled, pieces_add_up};
+pub use laws::{
+    a_turn_has_its_own_bytes, longer_bytes_spell_more, one_list_is_spelled, pieces_add_up,
+};
 pub use line::{Header, Kind, Line, MOST_LINE_BYTES, Name};
 pub use number::number_in;
 pub use reader::Reader;

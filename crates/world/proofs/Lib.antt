@@ -1,4 +1,3 @@
-mod RunLemmas
-mod FirstLemmas
 mod FedLemmas
 mod WorkLemmas
+mod HistoryLemmas

@@ -3,12 +3,14 @@
 //! It stands on `worlds`, whose places it has, whose relation `WorldNext` each of its steps is, and whose laws
 //! hold of each world that is reached. The layer above uses `play`: the world that it
 //! gives is reached by just these events, so at a place at most one decree is chosen, a chosen one is
-//! backed, and where at most `u` verifiers are lost for good, another one's record holds each.
+//! backed, and where at most `u` verifiers are lost for good, another one's record holds each. `history` plays
+//! the same events and gives what clients were given after each of them, which is linearizable.
 #![tactic(auto)]
 
 mod changing;
 mod coming;
 mod giving;
+mod histories;
 mod opening;
 mod plays;
 mod sending;
@@ -17,4 +19,5 @@ mod waiting;
 mod world;
 
 pub use crate::world::World;
+pub use histories::history;
 pub use plays::play;

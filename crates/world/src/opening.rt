@@ -3,7 +3,7 @@
 ghost use Rattle.std.specs.Prelude.{◌≡◌, ◌<◌, ◌≤◌, ◌*◌, ◌+◌, IfOk};
 ghost use Rattle.worlds.specs.declared.slot.Slot.TheVariants.{Up};
 ghost use Rattle.worlds.specs.World.{new_clients};
-ghost use Rattle.world.specs.World.{first_executor, first_verifier, all_up};
+ghost use Rattle.worlds.specs.First.{first_executor, first_verifier, all_up};
 
 use crate::world::{World, end_executors};
 use std::alloc::{AllocError, Global};
@@ -86,12 +86,12 @@ fn first_executors(alloc: Global, u: u8, count: u8) -> Result<Vec<ExecutorPlace>
 
 impl World {
     ghost use Rattle.std.specs.Prelude.{◌≡◌, IfOk};
-    ghost use Rattle.world.specs.World.{first_world};
+    ghost use Rattle.worlds.specs.First.{first_world};
 
     /// The first world: each replica is up with its first record, and nothing was sent yet. The only
     /// error is that there is no memory for the world's lists or for one of its nodes; then all nodes
     /// are ended.
-    #[tactic(auto, using(crate::proofs::FirstLemmas::length_all_up))]
+    #[tactic(auto, using(worlds::proofs::FirstLemmas::length_all_up))]
     pub fn open(alloc: Global, config: &Config) -> Result<World, AllocError>
         ensures { IfOk result (λ world. world ≡ first_world config.now) }
     {

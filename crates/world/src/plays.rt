@@ -3,8 +3,10 @@
 ghost use Rattle.std.specs.Prelude.{◌≡◌, IfOk, IsTrue};
 ghost use Rattle.worlds.specs.Laws.{IsReached, OneIsChosen, ChosenIsBacked, ChosenStands, ChosenIsKept, trims_none};
 ghost use Rattle.one_server.specs.Laws.{ShowsOneServer, KeepsItsRun};
+ghost use Rattle.linear_laws.specs.Laws.{ShowsLinearizable};
 
 use crate::world::World;
+use linear_laws::reached_are_linearizable;
 use one_server::{executors_keep_the_run, worlds_are_of_one_server};
 use std::alloc::{AllocError, Global};
 use worlds::{
@@ -13,7 +15,7 @@ use worlds::{
 };
 
 /// The world to which the events lead from the first one.
-#[tactic(auto, using(crate::proofs::FirstLemmas::reached_first, crate::proofs::RunLemmas::reached_next))]
+#[tactic(auto, using(worlds::proofs::FirstLemmas::reached_first, worlds::proofs::LeadLemmas::reached_next))]
 fn played(alloc: Global, config: &Config, events: &[Event]) -> Result<World, AllocError>
     ensures { IfOk result (λ world. IsReached config.now events.now world) }
 {
@@ -34,7 +36,8 @@ fn played(alloc: Global, config: &Config, events: &[Event]) -> Result<World, All
 /// Where digests tell the states apart that executors had on the way, all that clients were given and all
 /// that executors have committed is of one run of a single server, in this world and in each one on the
 /// way to it, and more events only extend that run; and where at most `u` executors are lost for good, the
-/// record of another one has the state that the run ends with.
+/// record of another one has the state that the run ends with. Then what clients asked and were given on the
+/// way is linearizable, as of one memcached server (`memcached_spec`).
 ///
 /// A node that finds no memory stops. The only error is that the world finds none for its lists, for the copy
 /// of a letter, or for a node that is opened for the first time.
@@ -45,6 +48,7 @@ pub fn play(alloc: Global, config: &Config, events: &[Event]) -> Result<World, A
     ensures kept { IfOk result (λ world. ChosenStands world) }
     ensures kept_whole { IsTrue (trims_none events.now) → IfOk result (λ world. ChosenIsKept world) }
     ensures one_server { IfOk result (λ world. ShowsOneServer config.now events.now world) }
+    ensures linearizable { IfOk result (λ world. ShowsLinearizable config.now events.now world) }
     ensures executors_keep { IfOk result (λ world. KeepsItsRun config.now events.now world) }
 {
     one_is_chosen_in_worlds();
@@ -53,5 +57,6 @@ pub fn play(alloc: Global, config: &Config, events: &[Event]) -> Result<World, A
     chosen_is_kept_in_worlds();
     worlds_are_of_one_server();
     executors_keep_the_run();
+    reached_are_linearizable();
     played(alloc, config, events)
 }

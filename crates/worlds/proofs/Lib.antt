@@ -6,5 +6,8 @@ pub mod Restarts
 pub mod Projected
 pub mod Untrimmed
 pub mod Proved
+pub mod LeadLemmas
+pub mod FirstLemmas
 mod StepLemmas
 mod ClientLemmas
+mod RunLemmas

@@ -7,3 +7,6 @@ pub mod Laws
 pub mod Places
 pub mod Steps
 pub mod Status
+pub mod First
+pub mod Runs
+pub mod Asked

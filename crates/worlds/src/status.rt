@@ -9,7 +9,7 @@ ghost use Rattle.worlds.specs.Status.{status_of, executor_report, verifier_repor
 use crate::client_place::ClientPlace;
 use crate::executor_place::{ExecutorPlace, KeptExecutor};
 use crate::slot::Slot;
-use crate::verifier_place::VerifierPlace;
+use crate::verifier_place::{KeptVerifier, VerifierPlace};
 use exec_lines::{NextWork, Report};
 
 /// Whether a replica is there, and how far it is.
@@ -63,6 +63,16 @@ impl ExecutorPlace {
 }
 
 impl VerifierPlace {
+    /// The verifier, if it is up.
+    pub fn node(&self) -> Option<&KeptVerifier>
+        ensures { option_map (λ node. node.now) result ≡ node_at self.now }
+    {
+        match &self.slot {
+            Slot::Up(node) => Some(node),
+            _ => None,
+        }
+    }
+
     /// Whether the verifier is there, and how far it is.
     pub fn status(&self) -> Status<VerifierReport>
         ensures { result ≡ status_of verifier_report self.now }

@@ -1,6 +1,6 @@
 use Rattle.std.proofs.Common.{sym, ap, ◌∙◌, [], ◌∷◌, ◌++◌, arith}
 use Rattle.std.proofs.Math.Numerals.{add-one}
-use Rattle.world.specs.World.{first_executor, all_up}
+use Rattle.worlds.specs.First.{first_executor, all_up}
 use Rattle.world.proofs.opening.first_executors.Goals as goal
 
 pub loop-id-preserved : goal.loop-id-preserved

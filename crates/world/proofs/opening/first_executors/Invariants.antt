@@ -1,5 +1,5 @@
 use Rattle.std.proofs.Common.{◌≡◌, ◌≤◌, vec_len, vec_capacity}
-use Rattle.world.specs.World.{first_executor, all_up}
+use Rattle.worlds.specs.First.{first_executor, all_up}
 use Rattle.world.proofs.opening.first_executors.Given as goal
 
 abbrev pub invariant-loop-id : goal.invariant-loop-id

@@ -1,5 +1,5 @@
 use Rattle.std.proofs.Common.{◌≡◌}
-use Rattle.world.specs.World.{first_verifier, all_up}
+use Rattle.worlds.specs.First.{first_verifier, all_up}
 use Rattle.world.proofs.opening.first_verifiers.Given as goal
 
 abbrev pub invariant-loop-id : goal.invariant-loop-id

@@ -3,6 +3,7 @@ use Rattle.std.specs.Prelude.{IfOk}
 use Rattle.worlds.specs.World.{WorldView}
 use Rattle.worlds.specs.Laws.{IsReached, OneIsChosen, ChosenIsBacked, ChosenStands, ChosenIsKept}
 use Rattle.one_server.specs.Laws.{ShowsOneServer, KeepsItsRun}
+use Rattle.linear_laws.specs.Laws.{ShowsLinearizable}
 use Rattle.world.proofs.plays.play.Goals as goal
 
 weaker : {T E : Type 0} (P Q : T → Type 0) (r : Result T E) → ((x : T) → P x → Q x) → IfOk r P → IfOk r Q
@@ -42,3 +43,8 @@ pub returns-clause-executors_keep : goal.returns-clause-executors_keep
 returns-clause-executors_keep c =
     of_each (λ (w : WorldView). KeepsItsRun c.args.config.now c.args.events.now w) c.played.result
     (λ w through distinct. c.executors_keep_the_run.ensures c.args.config.now c.args.events.now through.worlds w through.reached through.ends distinct)
+
+pub returns-clause-linearizable : goal.returns-clause-linearizable
+returns-clause-linearizable c =
+    of_each (λ (w : WorldView). ShowsLinearizable c.args.config.now c.args.events.now w) c.played.result
+    (λ w through distinct. c.reached_are_linearizable.ensures c.args.config.now c.args.events.now through.worlds through.reached distinct)

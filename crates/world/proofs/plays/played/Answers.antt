@@ -1,5 +1,5 @@
 use Rattle.std.proofs.Common.{arith}
-use Rattle.world.proofs.RunLemmas.{reached_next}
+use Rattle.worlds.proofs.LeadLemmas.{reached_next}
 use Rattle.world.proofs.plays.played.Goals as goal
 
 pub loop-event-preserved : goal.loop-event-preserved

@@ -1,0 +1,201 @@
+-- Each call keeps what always holds of connections.
+use Rattle.std.proofs.Common.{◌≡◌, ◌⊎◌, inl, inr, ⊎_elim, ℕ, ◌+◌, ◌<◌, ◌≤◌, false, List, [], ◌∷◌, ◌++◌, length, Option, Some, None, refl, sym, ap, ◌∙◌, subst, arith, slice_set}
+use Rattle.std.specs.Prelude.{◌≢◌}
+use Rattle.std.proofs.lemmas.List.{append-nil}
+use Rattle.std.proofs.lemmas.List.Elements.{Contains-push, Contains-append_left}
+use Rattle.proto.specs.declared.command.Command.{Command}
+use Rattle.proto.specs.declared.reply.Reply as replies
+use Rattle.client.specs.Talk.{Given}
+use Rattle.client.specs.Step.{IsFed}
+use Rattle.client.specs.Taken.{TalkOk}
+use Rattle.client.proofs.TakenLemmas.{talk_implies, new_ok, fed_ok, replied_ok}
+use Rattle.connections.specs.declared.connections.CommandNumber.{CommandNumber}
+use Rattle.connections.specs.Connection.{ConnectionView, new_connection, after, answered}
+use Rattle.connections.specs.Places.{place_in, IsGrown}
+use Rattle.connections.specs.Connections.{ConnectionsView, no_connections, bytes_of, WasReplied, IsAnswered, IsHere, IsConnections}
+use Rattle.connections.proofs.PlaceLemmas.{there, set_place, other_place, place_there, same_or_not}
+use Rattle.connections.proofs.TextLemmas.{bytes_own, bytes_other, answered_longer, answered_implies}
+use Rattle.connections.proofs.StepLemmas.{MayAsk, asks_may, fed_asks, answered_asks}
+use Rattle.connections.proofs.MoveLemmas.{moved_keeps, counted_on}
+
+-- ---- nobody came
+
+pub none_keep : IsConnections no_connections
+none_keep = record {
+  here = λ key c at. let e : ◌≡◌ {A = Option ConnectionView} None (Some c) = at in absurd (cc e);
+  one_place = λ i j c d at_i at_j same. let e : ◌≡◌ {A = Option ConnectionView} None (Some c) = at_i in absurd (cc e);
+  answered = λ n. let t = new_ok (WasReplied [] n) 1 in record { taken = t.taken; texts = t.texts; first = t.front };
+  fresh = λ n above. (refl, refl);
+  asked = λ e in_it. let lt = in_it.1 in absurd (omega (arith, lt));
+  below = λ e in_it. let lt = in_it.1 in absurd (omega (arith, lt));
+  once = λ i j a b at_i at_j same turn. let e : ◌≡◌ {A = Option (CommandNumber × Command)} None (Some a) = at_i in absurd (cc e);
+}
+
+-- ---- only places are added
+
+pub grown_keeps : (v : ConnectionsView) (table : List (Option ConnectionView)) → IsConnections v → IsGrown v.table table → IsConnections (record v { table = table })
+grown_keeps v table ok grown = record {
+  here = λ key c at. let h = ok.here key c (sym (grown key) ∙ at) in record { below = h.below; talks = h.talks; counted = h.counted };
+  one_place = λ i j c d at_i at_j same. ok.one_place i j c d (sym (grown i) ∙ at_i) (sym (grown j) ∙ at_j) same;
+  answered = ok.answered;
+  fresh = ok.fresh;
+  asked = ok.asked;
+  below = ok.below;
+  once = ok.once;
+}
+
+-- ---- a connection comes
+
+module _ (v : ConnectionsView) (ok : IsConnections v) (table : List (Option ConnectionView)) (grown : IsGrown v.table table) (key number : ℕ) (fits : key < length table) (above : v.next ≤ number) where
+  abbrev pub came : ConnectionsView
+  came = record v { table = slice_set table key (Some (new_connection number)); next = number + 1 }
+
+  new_at : place_in came.table key ≡ Some (new_connection number)
+  new_at = let t = there table key fits in set_place table key (Some (new_connection number)) t.0 t.1
+
+  new_here : IsHere came (new_connection number)
+  new_here = record {
+    below = omega arith;
+    talks = let f = ok.fresh number above in
+        subst (λ (z : List ℕ × List ℕ). TalkOk (WasReplied v.replied number) 1 z.0 false (new_connection number).talk z.1) (λ i. (sym f.0 i, sym f.1 i)) (new_ok (WasReplied v.replied number) 1);
+    counted = λ e in_it is. let b = ok.below e in_it in absurd (omega (arith, b, is, above));
+  }
+
+  -- who is there is the new one, or was there
+  who : (k : ℕ) (c : ConnectionView) → place_in came.table k ≡ Some c → ((k ≡ key) × (new_connection number ≡ c)) ⊎ ((k ≢ key) × (place_in v.table k ≡ Some c))
+  who k c at = ⊎_elim
+      (λ (same : k ≡ key). inl (same, let e : ◌≡◌ {A = Option ConnectionView} (Some (new_connection number)) (Some c) = sym new_at ∙ subst (λ (x : ℕ). place_in came.table x ≡ Some c) same at in cc e))
+      (λ (differs : k ≢ key). inr (differs, sym (other_place table key (Some (new_connection number)) k differs ∙ grown k) ∙ at))
+      (same_or_not k key)
+
+  pub came_keeps : IsConnections came
+  came_keeps = record {
+    here = λ k c at. ⊎_elim
+        (λ (new : (k ≡ key) × (new_connection number ≡ c)). subst (IsHere came) new.1 new_here)
+        (λ (old : (k ≢ key) × (place_in v.table k ≡ Some c)). let h = ok.here k c old.1 in let b = h.below in record { below = omega (arith, b, above); talks = h.talks; counted = h.counted })
+        (who k c at);
+    one_place = λ i j c d at_i at_j same. ⊎_elim
+        (λ (new : (i ≡ key) × (new_connection number ≡ c)). ⊎_elim
+        (λ (newer : (j ≡ key) × (new_connection number ≡ d)). new.0 ∙ sym newer.0)
+        (λ (old : (j ≢ key) × (place_in v.table j ≡ Some d)). let b = (ok.here j d old.1).below in let n : number ≡ c.number = ap (λ (x : ConnectionView). x.number) new.1 in absurd (omega (arith, b, above, n, same)))
+        (who j d at_j))
+        (λ (old : (i ≢ key) × (place_in v.table i ≡ Some c)). ⊎_elim
+        (λ (new : (j ≡ key) × (new_connection number ≡ d)). let b = (ok.here i c old.1).below in let n : number ≡ d.number = ap (λ (x : ConnectionView). x.number) new.1 in absurd (omega (arith, b, above, n, same)))
+        (λ (older : (j ≢ key) × (place_in v.table j ≡ Some d)). ok.one_place i j c d old.1 older.1 same)
+        (who j d at_j))
+        (who i c at_i);
+    answered = ok.answered;
+    fresh = λ n le. ok.fresh n (omega (arith, le, above));
+    asked = ok.asked;
+    below = λ e in_it. let b = ok.below e in_it in omega (arith, b, above);
+    once = ok.once;
+  }
+
+-- ---- a connection is here, and a call changes it
+
+module _ (v : ConnectionsView) (ok : IsConnections v) (key : ℕ) (c : ConnectionView) (at : place_in v.table key ≡ Some c) where
+  set_is : (p : Option ConnectionView) → place_in (slice_set v.table key p) key ≡ p
+  set_is p = set_place v.table key p (Some c) (place_there v.table key c at)
+
+  -- it leaves, and what came of it and what it was given are so
+  gone : (heard given : List (ℕ × List ℕ)) (replied : List (CommandNumber × replies.Reply)) → ((h : ℕ) → h ≢ c.number → bytes_of h heard ≡ bytes_of h v.heard) → ((h : ℕ) → h ≢ c.number → bytes_of h given ≡ bytes_of h v.given)
+      → ((more : List ℕ) × (bytes_of c.number heard ≡ bytes_of c.number v.heard ++ more)) → ((h q : ℕ) (r : replies.Reply) → WasReplied v.replied h q r → WasReplied replied h q r)
+      → IsAnswered (WasReplied replied c.number) (bytes_of c.number heard) (bytes_of c.number given)
+      → IsConnections (record { table = slice_set v.table key None; next = v.next; heard = heard; given = given; taken = v.taken; replied = replied })
+  gone heard given replied hs gs longer rs is =
+      let now : ConnectionsView = record { table = slice_set v.table key None; next = v.next; heard = heard; given = given; taken = v.taken; replied = replied } in
+      moved_keeps v now key c.number ok (record {
+        was = c;
+        was_at = at;
+        was_number = refl;
+        others = λ k differs. other_place v.table key None k differs;
+        own = λ d e. let clash : ◌≡◌ {A = Option ConnectionView} None (Some d) = sym (set_is None) ∙ e in absurd (cc clash);
+        next = refl;
+        taken = refl;
+        heard = hs;
+        given = gs;
+        longer = longer;
+        replied = rs;
+        answered = is;
+      })
+
+  -- it leaves
+  pub left_keeps : IsConnections (record v { table = slice_set v.table key None })
+  left_keeps = gone v.heard v.given v.replied (λ h differs. refl) (λ h differs. refl) ([], sym (append-nil (bytes_of c.number v.heard))) (λ h q r w. w) (ok.answered c.number)
+
+  -- it read a piece, and failed
+  pub failed_keeps : (piece : List ℕ) → IsConnections (record v { table = slice_set v.table key None; heard = v.heard ++ (c.number, piece) ∷ [] })
+  failed_keeps piece = gone (v.heard ++ (c.number, piece) ∷ []) v.given v.replied (λ h differs. bytes_other h c.number v.heard piece differs) (λ h differs. refl) (piece, bytes_own c.number v.heard piece) (λ h q r w. w)
+      (subst (λ (bytes : List ℕ). IsAnswered (WasReplied v.replied c.number) bytes (bytes_of c.number v.given)) (sym (bytes_own c.number v.heard piece))
+      (answered_longer (WasReplied v.replied c.number) (WasReplied v.replied c.number) (bytes_of c.number v.heard) piece (bytes_of c.number v.given) (λ q r w. w) (ok.answered c.number)))
+
+  -- it leaves, and is given nothing; replies may have come
+  pub told_keeps : (replied : List (CommandNumber × replies.Reply)) → ((h q : ℕ) (r : replies.Reply) → WasReplied v.replied h q r → WasReplied replied h q r)
+      → IsConnections (record v { table = slice_set v.table key None; given = v.given ++ (c.number, []) ∷ []; replied = replied })
+  told_keeps replied rs = gone v.heard (v.given ++ (c.number, []) ∷ []) replied (λ h differs. refl) (λ h differs. bytes_other h c.number v.given [] differs) ([], sym (append-nil (bytes_of c.number v.heard))) rs
+      (subst (λ (bytes : List ℕ). IsAnswered (WasReplied replied c.number) (bytes_of c.number v.heard) bytes) (sym (bytes_own c.number v.given [] ∙ append-nil (bytes_of c.number v.given)))
+      (answered_implies (WasReplied v.replied c.number) (WasReplied replied c.number) (bytes_of c.number v.heard) (bytes_of c.number v.given) (rs c.number) (ok.answered c.number)))
+
+  -- it read a piece
+  pub fed_keeps : (piece : List ℕ) (g : Given) (p : Option ConnectionView) → IsFed 0 1 c.talk piece g → ((d : ConnectionView) → p ≡ Some d → d ≡ after c g)
+      → IsConnections (record v { table = slice_set v.table key p; heard = v.heard ++ (c.number, piece) ∷ []; given = v.given ++ (c.number, g.bytes) ∷ [] })
+  fed_keeps piece g p fed only =
+      let now : ConnectionsView = record v { table = slice_set v.table key p; heard = v.heard ++ (c.number, piece) ∷ []; given = v.given ++ (c.number, g.bytes) ∷ [] } in
+      let P = WasReplied v.replied c.number in
+      let h = ok.here key c at in
+      let talks : TalkOk P 1 (bytes_of c.number now.heard) false g.talk (bytes_of c.number now.given) =
+      subst (λ (z : List ℕ × List ℕ). TalkOk P 1 z.0 false g.talk z.1) (λ i. (sym (bytes_own c.number v.heard piece) i, sym (bytes_own c.number v.given g.bytes) i))
+      (fed_ok P 0 1 (bytes_of c.number v.heard) piece false c.talk (bytes_of c.number v.given) g h.talks fed) in
+      let here : IsHere now (after c g) = record { below = h.below; talks = talks; counted = λ e in_it is. counted_on e.0.turn c g (asks_may c.talk g (fed_asks c.talk piece g fed)) (h.counted e in_it is) } in
+      moved_keeps v now key c.number ok (record {
+        was = c;
+        was_at = at;
+        was_number = refl;
+        others = λ k differs. other_place v.table key p k differs;
+        own = λ d e. let is = only d (sym (set_is p) ∙ e) in (ap (λ (x : ConnectionView). x.number) is, subst (IsHere now) (sym is) here);
+        next = refl;
+        taken = refl;
+        heard = λ h differs. bytes_other h c.number v.heard piece differs;
+        given = λ h differs. bytes_other h c.number v.given g.bytes differs;
+        longer = (piece, bytes_own c.number v.heard piece);
+        replied = λ h q r w. w;
+        answered = record { taken = talks.taken; texts = talks.texts; first = talks.front };
+      })
+
+  talk_after : (P : ℕ → replies.Reply → Type 0) (all given : List ℕ) (turn : ℕ) (reply : replies.Reply) (o : Option Command) → P turn reply → TalkOk P 1 all false c.talk given → TalkOk P 1 all false (answered c turn reply o).talk (given ++ (answered c turn reply o).bytes)
+  talk_after P all given turn reply None p t = replied_ok P 0 1 all false c.talk given turn reply p t
+  talk_after P all given turn reply (Some command) p t = subst (TalkOk P 1 all false c.talk) (sym (append-nil given)) t
+
+  -- it took a reply
+  pub replied_keeps : (turn : ℕ) (reply : replies.Reply) (g : Given) (p : Option ConnectionView) → g ≡ answered c turn reply c.command → ((d : ConnectionView) → p ≡ Some d → d ≡ after c g)
+      → IsConnections (record v { table = slice_set v.table key p; given = v.given ++ (c.number, g.bytes) ∷ []; replied = v.replied ++ (record { connection = c.number; turn = turn }, reply) ∷ [] })
+  replied_keeps turn reply g p step only =
+      let entry : CommandNumber × replies.Reply = (record { connection = c.number; turn = turn }, reply) in
+      let now : ConnectionsView = record v { table = slice_set v.table key p; given = v.given ++ (c.number, g.bytes) ∷ []; replied = v.replied ++ entry ∷ [] } in
+      let Q = WasReplied now.replied c.number in
+      let on = λ (h q : ℕ) (r : replies.Reply) (w : WasReplied v.replied h q r). Contains-append_left v.replied (entry ∷ []) (record { connection = h; turn = q }, r) w in
+      let h = ok.here key c at in
+      let all = bytes_of c.number v.heard in
+      let before = talk_implies (WasReplied v.replied c.number) Q 1 all false c.talk (bytes_of c.number v.given) (on c.number) h.talks in
+      let talked : TalkOk Q 1 all false g.talk (bytes_of c.number v.given ++ g.bytes) = subst (λ (x : Given). TalkOk Q 1 all false x.talk (bytes_of c.number v.given ++ x.bytes)) (sym step)
+      (talk_after Q all (bytes_of c.number v.given) turn reply c.command (Contains-push v.replied entry) before) in
+      let talks : TalkOk Q 1 all false g.talk (bytes_of c.number now.given) = subst (TalkOk Q 1 all false g.talk) (sym (bytes_own c.number v.given g.bytes)) talked in
+      let here : IsHere now (after c g) = record {
+        below = h.below;
+        talks = talks;
+        counted = λ e in_it is. counted_on e.0.turn c g (subst (MayAsk c.talk) (sym step) (answered_asks c turn reply c.command)) (h.counted e in_it is);
+      } in
+      moved_keeps v now key c.number ok (record {
+        was = c;
+        was_at = at;
+        was_number = refl;
+        others = λ k differs. other_place v.table key p k differs;
+        own = λ d e. let is = only d (sym (set_is p) ∙ e) in (ap (λ (x : ConnectionView). x.number) is, subst (IsHere now) (sym is) here);
+        next = refl;
+        taken = refl;
+        heard = λ h differs. refl;
+        given = λ h differs. bytes_other h c.number v.given g.bytes differs;
+        longer = ([], sym (append-nil all));
+        replied = on;
+        answered = record { taken = talks.taken; texts = talks.texts; first = talks.front };
+      })

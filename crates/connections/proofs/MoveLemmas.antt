@@ -1,0 +1,105 @@
+-- What always holds of connections still does after one of them moved.
+use Rattle.std.proofs.Common.{◌≡◌, inl, inr, ⊎_elim, ℕ, ◌+◌, ◌<◌, ◌≤◌, false, List, ◌++◌, Option, Some, refl, sym, ap, ◌∙◌, subst, arith, slice_get}
+use Rattle.std.specs.Prelude.{◌≢◌, Contains}
+use Rattle.proto.specs.declared.command.Command.{Command}
+use Rattle.proto.specs.declared.reply.Reply as replies
+use Rattle.memcached_spec.specs.Asked.{IsAsked}
+use Rattle.client.specs.Talk.{Given}
+use Rattle.client.specs.Taken.{TalkOk}
+use Rattle.client.proofs.TakenLemmas.{talk_implies}
+use Rattle.connections.specs.declared.connections.CommandNumber.{CommandNumber}
+use Rattle.connections.specs.Connection.{ConnectionView, wanted, or_else}
+use Rattle.connections.specs.Places.{place_in}
+use Rattle.connections.specs.Connections.{ConnectionsView, bytes_of, WasReplied, IsAnswered, untaken, IsHere, IsConnections}
+use Rattle.connections.proofs.PlaceLemmas.{same_or_not}
+use Rattle.connections.proofs.TextLemmas.{asked_longer, answered_implies}
+use Rattle.connections.proofs.StepLemmas.{MayAsk}
+
+-- What became of the connection of this number, which was at this key.
+pub record Moved (v now : ConnectionsView) (key number : ℕ) : Type 0 where
+  pub was : ConnectionView
+  pub was_at : place_in v.table key ≡ Some was
+  pub was_number : was.number ≡ number
+  pub others : (k : ℕ) → k ≢ key → place_in now.table k ≡ place_in v.table k
+  pub own : (c : ConnectionView) → place_in now.table key ≡ Some c → (c.number ≡ number) × IsHere now c
+  pub next : now.next ≡ v.next
+  pub taken : now.taken ≡ v.taken
+  pub heard : (h : ℕ) → h ≢ number → bytes_of h now.heard ≡ bytes_of h v.heard
+  pub given : (h : ℕ) → h ≢ number → bytes_of h now.given ≡ bytes_of h v.given
+  pub longer : (more : List ℕ) × (bytes_of number now.heard ≡ bytes_of number v.heard ++ more)
+  pub replied : (h q : ℕ) (r : replies.Reply) → WasReplied v.replied h q r → WasReplied now.replied h q r
+  pub answered : IsAnswered (WasReplied now.replied number) (bytes_of number now.heard) (bytes_of number now.given)
+
+-- a connection that did not move, as its bytes and its replies did not
+pub stays_here : (v now : ConnectionsView) (c : ConnectionView) → now.next ≡ v.next → now.taken ≡ v.taken → bytes_of c.number now.heard ≡ bytes_of c.number v.heard → bytes_of c.number now.given ≡ bytes_of c.number v.given
+    → ((q : ℕ) (r : replies.Reply) → WasReplied v.replied c.number q r → WasReplied now.replied c.number q r) → IsHere v c → IsHere now c
+stays_here v now c next taken heard given replied h = record {
+  below = subst (λ (n : ℕ). c.number < n) (sym next) h.below;
+  talks = subst (λ (z : List ℕ × List ℕ). TalkOk (WasReplied now.replied c.number) 1 z.0 false c.talk z.1) (λ i. (sym heard i, sym given i))
+      (talk_implies (WasReplied v.replied c.number) (WasReplied now.replied c.number) 1 (bytes_of c.number v.heard) false c.talk (bytes_of c.number v.given) replied h.talks);
+  counted = λ e in_it is. h.counted e (subst (λ (es : List (CommandNumber × Command)). Contains es e) taken in_it) is;
+}
+
+pub answered_same : (v now : ConnectionsView) (n : ℕ) → bytes_of n now.heard ≡ bytes_of n v.heard → bytes_of n now.given ≡ bytes_of n v.given
+    → ((q : ℕ) (r : replies.Reply) → WasReplied v.replied n q r → WasReplied now.replied n q r) → IsAnswered (WasReplied v.replied n) (bytes_of n v.heard) (bytes_of n v.given) → IsAnswered (WasReplied now.replied n) (bytes_of n now.heard) (bytes_of n now.given)
+answered_same v now n heard given replied is =
+    subst (λ (z : List ℕ × List ℕ). IsAnswered (WasReplied now.replied n) z.0 z.1) (λ i. (sym heard i, sym given i))
+    (answered_implies (WasReplied v.replied n) (WasReplied now.replied n) (bytes_of n v.heard) (bytes_of n v.given) replied is)
+
+module _ (v now : ConnectionsView) (key number : ℕ) (ok : IsConnections v) (m : Moved v now key number) where
+  -- who is there now was there, or another one of that number
+  back : (k : ℕ) (c : ConnectionView) → place_in now.table k ≡ Some c → (d : ConnectionView) × (place_in v.table k ≡ Some d) × (d.number ≡ c.number)
+  back k c at = ⊎_elim
+      (λ (same : k ≡ key). (m.was, subst (λ (x : ℕ). place_in v.table x ≡ Some m.was) (sym same) m.was_at, m.was_number ∙ sym (m.own c (subst (λ (x : ℕ). place_in now.table x ≡ Some c) same at)).0))
+      (λ (differs : k ≢ key). (c, sym (m.others k differs) ∙ at, refl))
+      (same_or_not k key)
+
+  here_now : (k : ℕ) (c : ConnectionView) → place_in now.table k ≡ Some c → IsHere now c
+  here_now k c at = ⊎_elim
+      (λ (same : k ≡ key). (m.own c (subst (λ (x : ℕ). place_in now.table x ≡ Some c) same at)).1)
+      (λ (differs : k ≢ key).
+      let before : place_in v.table k ≡ Some c = sym (m.others k differs) ∙ at in
+      let other : c.number ≢ number = λ same. differs (ok.one_place k key c m.was before m.was_at (same ∙ sym m.was_number)) in
+      stays_here v now c m.next m.taken (m.heard c.number other) (m.given c.number other) (m.replied c.number) (ok.here k c before))
+      (same_or_not k key)
+
+  asked_now : (e : CommandNumber × Command) → Contains v.taken e → IsAsked (bytes_of e.0.connection now.heard) e.0.turn e.1
+  asked_now e in_it = ⊎_elim
+      (λ (same : e.0.connection ≡ number).
+      let P : ℕ × List ℕ → Type 0 = λ z. IsAsked z.1 e.0.turn e.1 in
+      let long = asked_longer (bytes_of e.0.connection v.heard) m.longer.0 e.0.turn e.1 (ok.asked e in_it) in
+      let eq : bytes_of e.0.connection v.heard ++ m.longer.0 ≡ bytes_of e.0.connection now.heard = ap (λ (n : ℕ). bytes_of n v.heard ++ m.longer.0) same ∙ (sym m.longer.1 ∙ ap (λ (n : ℕ). bytes_of n now.heard) (sym same)) in
+      subst (λ (bytes : List ℕ). IsAsked bytes e.0.turn e.1) eq long)
+      (λ (differs : e.0.connection ≢ number). subst (λ (bytes : List ℕ). IsAsked bytes e.0.turn e.1) (sym (m.heard e.0.connection differs)) (ok.asked e in_it))
+      (same_or_not e.0.connection number)
+
+  pub moved_keeps : IsConnections now
+  moved_keeps = record {
+    here = here_now;
+    one_place = λ i j c d at_i at_j same.
+        let b = back i c at_i in let e = back j d at_j in
+        ok.one_place i j b.0 e.0 b.1 e.1 (b.2 ∙ (same ∙ sym e.2));
+    answered = λ n. ⊎_elim
+        (λ (same : n ≡ number). subst (λ (x : ℕ). IsAnswered (WasReplied now.replied x) (bytes_of x now.heard) (bytes_of x now.given)) (sym same) m.answered)
+        (λ (differs : n ≢ number). answered_same v now n (m.heard n differs) (m.given n differs) (m.replied n) (ok.answered n))
+        (same_or_not n number);
+    fresh = λ n above.
+        let below = (ok.here key m.was m.was_at).below in
+        let is = m.was_number in
+        let next = m.next in
+        let other : n ≢ number = λ same. absurd (omega (arith, below, is, next, above, same)) in
+        let f = ok.fresh n (omega (arith, next, above)) in
+        (m.heard n other ∙ f.0, m.given n other ∙ f.1);
+    asked = λ e in_it. asked_now e (subst (λ (es : List (CommandNumber × Command)). Contains es e) m.taken in_it);
+    below = λ e in_it. subst (λ (n : ℕ). e.0.connection < n) (sym m.next) (ok.below e (subst (λ (es : List (CommandNumber × Command)). Contains es e) m.taken in_it));
+    once = λ i j a b at_i at_j.
+        ok.once i j a b (subst (λ (es : List (CommandNumber × Command)). slice_get es i ≡ Some a) m.taken at_i) (subst (λ (es : List (CommandNumber × Command)). slice_get es j ≡ Some b) m.taken at_j);
+  }
+
+-- ---- the commands that were taken come before the one that was not
+
+pub counted_on : (turn : ℕ) (c : ConnectionView) (g : Given) → MayAsk c.talk g → turn + untaken c.command ≤ c.talk.last → turn + untaken (or_else (wanted g.letters) c.command) ≤ g.talk.last
+counted_on turn c g (inl h) le = subst (λ (z : Option Command × ℕ). turn + untaken (or_else z.0 c.command) ≤ z.1) (λ i. (sym h.0 i, sym h.1 i)) le
+counted_on turn c g (inr h) le =
+    let less : turn + 1 ≤ c.talk.last + 1 = omega (arith, le) in
+    subst (λ (z : Option Command × ℕ). turn + untaken (or_else z.0 c.command) ≤ z.1) (λ i. (sym h.1 i, sym h.3 i)) less

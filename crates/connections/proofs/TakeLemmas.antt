@@ -1,0 +1,166 @@
+-- A command that is taken is the outstanding one, and the next of its connection.
+use Rattle.std.proofs.Common.{◌≡◌, ◌⊎◌, inl, inr, ⊎_elim, ℕ, zero, suc, ◌+◌, ◌-◌, ◌<◌, Bool, List, [], ◌∷◌, ◌++◌, length, Option, Some, None, refl, sym, ap, ◌∙◌, subst, arith, slice_get, slice_set}
+use Rattle.std.specs.Prelude.{◌≢◌, Contains}
+use Rattle.std.proofs.lemmas.List.Elements.{Contains-append_right, Contains-append_cases}
+use Rattle.proto.specs.declared.command.Command.{Command}
+use Rattle.proto.specs.declared.turn.Turn.{Turn}
+use Rattle.proto.specs.declared.turn.Turn.TheVariants.{Ask, Say, Close}
+use Rattle.proto.proofs.SpellsLemmas.{reads_spells, spelled_alone}
+use Rattle.memcached_spec.specs.Asked.{asked, IsAsked}
+use Rattle.client.specs.Taken.{Live, pending}
+use Rattle.connections.specs.declared.connection.Ready.{Ready}
+use Rattle.connections.specs.declared.connections.CommandNumber.{CommandNumber}
+use Rattle.connections.specs.Connection.{ConnectionView, IsTaken}
+use Rattle.connections.specs.Places.{place_in}
+use Rattle.connections.specs.Connections.{ConnectionsView, bytes_of, untaken, AreBefore, HasText, IsHere, IsConnections}
+use Rattle.connections.proofs.PlaceLemmas.{set_place, other_place, place_there, same_or_not}
+
+-- the command behind some turns
+asked_behind : (taken turns : List Turn) (command : Command) (quiet : Bool) → slice_get (asked (taken ++ Ask command quiet ∷ turns)) (length (asked taken)) ≡ Some command
+asked_behind [] turns command quiet = refl
+asked_behind (Ask other q ∷ taken) turns command quiet = asked_behind taken turns command quiet
+asked_behind (Say n ∷ taken) turns command quiet = asked_behind taken turns command quiet
+asked_behind (Close n ∷ taken) turns command quiet = asked_behind taken turns command quiet
+
+module _ {X : Type 0} where
+  -- an element of a list that got one more
+  pub get_pushed : (xs : List X) (e : X) (i : ℕ) (a : X) → slice_get (xs ++ e ∷ []) i ≡ Some a → (slice_get xs i ≡ Some a) ⊎ ((i ≡ length xs) × (e ≡ a))
+  get_pushed [] e zero a at = inr (refl, cc at)
+  get_pushed [] e (suc i) a at = absurd (cc at)
+  get_pushed (x ∷ xs) e zero a at = inl at
+  get_pushed (x ∷ xs) e (suc i) a at = ⊎_elim (λ (old : slice_get xs i ≡ Some a). inl old) (λ (new : (i ≡ length xs) × (e ≡ a)). inr (ap suc new.0, new.1)) (get_pushed xs e i a at)
+
+  pub contains_at : (xs : List X) (i : ℕ) (a : X) → slice_get xs i ≡ Some a → Contains xs a
+  contains_at [] i a at = absurd (cc at)
+  contains_at (x ∷ xs) zero a at = (0, omega arith, cc at)
+  contains_at (x ∷ xs) (suc i) a at = let c = contains_at xs i a at in let lt = c.1 in (suc c.0, omega (arith, lt), c.2)
+
+  pub one_of : (x a : X) → Contains (x ∷ []) a → x ≡ a
+  one_of x a (zero, lt, e) = e
+  one_of x a (suc k, lt, e) = absurd (omega (arith, lt))
+
+module _ (v : ConnectionsView) (ok : IsConnections v) (key : ℕ) (c : ConnectionView) (at : place_in v.table key ≡ Some c) (ready : Ready) (next : ConnectionView) (t : IsTaken c ready next) where
+  h : IsHere v c
+  h = ok.here key c at
+
+  live : Live 1 (bytes_of c.number v.heard) c.talk h.talks.taken
+  live = h.talks.live refl
+
+  pend : pending c.talk.outstanding ≡ Ask t.asked.request.command t.asked.quiet ∷ []
+  pend = ap pending t.outstanding
+
+  split : live.turns ≡ h.talks.taken ++ Ask ready.command ready.quiet ∷ c.talk.waiting
+  split = live.split ∙ (ap (λ (ts : List Turn). h.talks.taken ++ (ts ++ c.talk.waiting)) pend ∙ (λ i. h.talks.taken ++ Ask (t.command i) (t.quiet i) ∷ c.talk.waiting))
+
+  turn_is : ready.turn ≡ c.talk.last
+  turn_is = sym t.turn ∙ (live.own t.asked t.outstanding).1
+
+  last_is : c.talk.last ≡ length (asked h.talks.taken) + 1
+  last_is = live.number ∙ ap (λ (ts : List Turn). length (asked h.talks.taken) + length ts) pend
+
+  pub is_asked : IsAsked (bytes_of c.number v.heard) ready.turn ready.command
+  is_asked =
+      let s = reads_spells (bytes_of c.number v.heard) live.turns c.talk.reader live.reads in
+      let place : ready.turn - 1 ≡ length (asked h.talks.taken) = let a = turn_is in let b = last_is in omega (arith, a, b) in
+      record {
+        turns = live.turns;
+        rest = s.0;
+        spells = s.1;
+        from_one = let a = turn_is in let b = last_is in omega (arith, a, b);
+        is = (λ i. slice_get (asked (split i)) (place i)) ∙ asked_behind h.talks.taken c.talk.waiting ready.command ready.quiet;
+      }
+
+  pub has_text : HasText ready.command ready.quiet
+  has_text =
+      let s = reads_spells (bytes_of c.number v.heard) live.turns c.talk.reader live.reads in
+      let there : Contains live.turns (Ask ready.command ready.quiet) = subst (λ (ts : List Turn). Contains ts (Ask ready.command ready.quiet)) (sym split)
+      (Contains-append_right h.talks.taken (Ask ready.command ready.quiet ∷ c.talk.waiting) (Ask ready.command ready.quiet) (0, omega arith, refl)) in
+      spelled_alone (bytes_of c.number v.heard) live.turns s.0 ready.command ready.quiet s.1 there
+
+  pub before : AreBefore v.taken c.number ready.turn
+  before e in_it is =
+      let n = h.counted e in_it is in
+      let one : untaken c.command ≡ 1 = ap untaken t.untaken in
+      let turn = turn_is in
+      omega (arith, n, one, turn)
+
+  abbrev pub entry : CommandNumber × Command
+  entry = (record { connection = c.number; turn = ready.turn }, ready.command)
+
+  abbrev pub now : ConnectionsView
+  now = record v { table = slice_set v.table key (Some next); taken = v.taken ++ entry ∷ [] }
+
+  same_talk : next ≡ record { number = c.number; talk = c.talk; command = None }
+  same_talk = t.now_is
+
+  old_or_new : (e : CommandNumber × Command) → Contains now.taken e → Contains v.taken e ⊎ (entry ≡ e)
+  old_or_new e in_it = ⊎_elim (λ (old : Contains v.taken e). inl old) (λ (new : Contains (entry ∷ []) e). inr (one_of entry e new)) (Contains-append_cases v.taken (entry ∷ []) e in_it)
+
+  here_next : IsHere now next
+  here_next = subst (IsHere now) (sym same_talk) (record {
+    below = h.below;
+    talks = h.talks;
+    counted = λ e in_it is. ⊎_elim
+        (λ (old : Contains v.taken e). let n = h.counted e old is in omega (arith, n))
+        (λ (new : entry ≡ e). let n : ready.turn ≡ e.0.turn = ap (λ (x : CommandNumber × Command). x.0.turn) new in let turn = turn_is in omega (arith, n, turn))
+        (old_or_new e in_it);
+  })
+
+  who : (k : ℕ) (d : ConnectionView) → place_in now.table k ≡ Some d → ((k ≡ key) × (next ≡ d)) ⊎ ((k ≢ key) × (place_in v.table k ≡ Some d))
+  who k d e = ⊎_elim
+      (λ (same : k ≡ key). inl (same, let s : ◌≡◌ {A = Option ConnectionView} (Some next) (Some d) = sym (set_place v.table key (Some next) (Some c) (place_there v.table key c at)) ∙ subst (λ (x : ℕ). place_in now.table x ≡ Some d) same e in cc s))
+      (λ (differs : k ≢ key). inr (differs, sym (other_place v.table key (Some next) k differs) ∙ e))
+      (same_or_not k key)
+
+  back : (k : ℕ) (d : ConnectionView) → place_in now.table k ≡ Some d → (f : ConnectionView) × (place_in v.table k ≡ Some f) × (f.number ≡ d.number)
+  back k d e = ⊎_elim
+      (λ (new : (k ≡ key) × (next ≡ d)). (c, subst (λ (x : ℕ). place_in v.table x ≡ Some c) (sym new.0) at, sym (ap (λ (x : ConnectionView). x.number) same_talk) ∙ ap (λ (x : ConnectionView). x.number) new.1))
+      (λ (old : (k ≢ key) × (place_in v.table k ≡ Some d)). (d, old.1, refl))
+      (who k d e)
+
+  here_other : (k : ℕ) (d : ConnectionView) → k ≢ key → place_in v.table k ≡ Some d → IsHere now d
+  here_other k d differs e =
+      let o = ok.here k d e in
+      record {
+        below = o.below;
+        talks = o.talks;
+        counted = λ x in_it is. ⊎_elim
+            (λ (old : Contains v.taken x). o.counted x old is)
+            (λ (new : entry ≡ x). absurd (differs (ok.one_place k key d c e at (sym is ∙ sym (ap (λ (y : CommandNumber × Command). y.0.connection) new)))))
+            (old_or_new x in_it);
+      }
+
+  once_now : (i j : ℕ) (a b : CommandNumber × Command) → slice_get now.taken i ≡ Some a → slice_get now.taken j ≡ Some b → a.0.connection ≡ b.0.connection → a.0.turn ≡ b.0.turn → i ≡ j
+  once_now i j a b at_i at_j same turn = ⊎_elim
+      (λ (old : slice_get v.taken i ≡ Some a). ⊎_elim
+      (λ (older : slice_get v.taken j ≡ Some b). ok.once i j a b old older same turn)
+      (λ (new : (j ≡ length v.taken) × (entry ≡ b)).
+      let n : c.number ≡ b.0.connection = ap (λ (y : CommandNumber × Command). y.0.connection) new.1 in
+      let m : ready.turn ≡ b.0.turn = ap (λ (y : CommandNumber × Command). y.0.turn) new.1 in
+      let lt = before a (contains_at v.taken i a old) (same ∙ sym n) in absurd (omega (arith, lt, m, turn)))
+      (get_pushed v.taken entry j b at_j))
+      (λ (new : (i ≡ length v.taken) × (entry ≡ a)). ⊎_elim
+      (λ (old : slice_get v.taken j ≡ Some b).
+      let n : c.number ≡ a.0.connection = ap (λ (y : CommandNumber × Command). y.0.connection) new.1 in
+      let m : ready.turn ≡ a.0.turn = ap (λ (y : CommandNumber × Command). y.0.turn) new.1 in
+      let lt = before b (contains_at v.taken j b old) (sym same ∙ sym n) in absurd (omega (arith, lt, m, turn)))
+      (λ (newer : (j ≡ length v.taken) × (entry ≡ b)). new.0 ∙ sym newer.0)
+      (get_pushed v.taken entry j b at_j))
+      (get_pushed v.taken entry i a at_i)
+
+  pub taken_keeps : IsConnections now
+  taken_keeps = record {
+    here = λ k d e. ⊎_elim (λ (new : (k ≡ key) × (next ≡ d)). subst (IsHere now) new.1 here_next) (λ (old : (k ≢ key) × (place_in v.table k ≡ Some d)). here_other k d old.0 old.1) (who k d e);
+    one_place = λ i j d e at_i at_j same. let f = back i d at_i in let g = back j e at_j in ok.one_place i j f.0 g.0 f.1 g.1 (f.2 ∙ (same ∙ sym g.2));
+    answered = ok.answered;
+    fresh = ok.fresh;
+    asked = λ e in_it. ⊎_elim
+        (λ (old : Contains v.taken e). ok.asked e old)
+        (λ (new : entry ≡ e). subst (λ (x : CommandNumber × Command). IsAsked (bytes_of x.0.connection v.heard) x.0.turn x.1) new is_asked)
+        (old_or_new e in_it);
+    below = λ e in_it. ⊎_elim
+        (λ (old : Contains v.taken e). ok.below e old)
+        (λ (new : entry ≡ e). subst (λ (x : CommandNumber × Command). x.0.connection < v.next) new h.below)
+        (old_or_new e in_it);
+    once = once_now;
+  }

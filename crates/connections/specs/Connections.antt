@@ -1,0 +1,87 @@
+-- All connections, what came of them and what they were given.
+use Rattle.std.specs.Prelude.{◌≡◌, ℕ, ◌+◌, ◌≤◌, ◌<◌, ◌==◌, Bool, false, List, [], flat_map, Option, Some, None, Contains, slice_get, if◌then◌else◌}
+use Rattle.proto.specs.declared.command.Command.{Command}
+use Rattle.proto.specs.declared.reply.Reply as replies
+use Rattle.proto.specs.declared.turn.Turn.{Turn}
+use Rattle.proto.specs.declared.turn.Turn.TheVariants.{Ask}
+use Rattle.proto.specs.Grammar.{IsTurnText}
+use Rattle.memcached_spec.specs.Asked.{TextsBy, Front, IsAsked}
+use Rattle.client.specs.Taken.{TalkOk}
+use Rattle.connections.specs.declared.connections.CommandNumber.{CommandNumber}
+use Rattle.connections.specs.Connection.{ConnectionView}
+use Rattle.connections.specs.Places.{place_in}
+
+pub record ConnectionsView : Type 0 where
+  -- by the event loop's keys
+  pub table : List (Option ConnectionView)
+  -- the least number that the next connection may have
+  pub next : ℕ
+  -- what came of each connection, in order, by its number
+  pub heard : List (ℕ × List ℕ)
+  -- what each connection was given
+  pub given : List (ℕ × List ℕ)
+  -- the commands that were taken
+  pub taken : List (CommandNumber × Command)
+  -- the replies that came back
+  pub replied : List (CommandNumber × replies.Reply)
+
+abbrev pub bytes_in : ℕ → ℕ × List ℕ → List ℕ
+bytes_in number e = if e.0 == number then e.1 else []
+
+-- the bytes of the connection of this number, in order
+abbrev pub bytes_of : ℕ → List (ℕ × List ℕ) → List ℕ
+bytes_of number log = flat_map (bytes_in number) log
+
+-- this reply came back for command `turn` of connection `number`
+abbrev pub WasReplied : List (CommandNumber × replies.Reply) → ℕ → ℕ → replies.Reply → Type 0
+WasReplied replied number turn reply = Contains replied (record { connection = number; turn = turn }, reply)
+
+-- What was given are the texts of the first turns that the bytes spell, in order: for each command a reply of which P holds at its number.
+pub record IsAnswered (P : ℕ → replies.Reply → Type 0) (heard given : List ℕ) : Type 0 where
+  pub taken : List Turn
+  pub texts : TextsBy P 1 taken given
+  pub first : Front heard taken
+
+-- bytes spell this command, and nothing else
+abbrev pub HasText : Command → Bool → Type 0
+HasText command quiet = (bytes : List ℕ) × IsTurnText bytes (Ask command quiet)
+
+-- the commands of this connection that were taken come before this one
+abbrev pub AreBefore : List (CommandNumber × Command) → ℕ → ℕ → Type 0
+AreBefore taken number turn = (e : CommandNumber × Command) → Contains taken e → e.0.connection ≡ number → e.0.turn < turn
+
+-- no connection came
+abbrev pub no_connections : ConnectionsView
+no_connections = record { table = []; next = 0; heard = []; given = []; taken = []; replied = [] }
+
+pub record HasSameLogs (v now : ConnectionsView) : Type 0 where
+  pub heard : now.heard ≡ v.heard
+  pub given : now.given ≡ v.given
+  pub taken : now.taken ≡ v.taken
+  pub replied : now.replied ≡ v.replied
+
+-- ---- what always holds
+
+-- one for a command that was not taken yet
+abbrev pub untaken : Option Command → ℕ
+untaken None = 0
+untaken (Some command) = 1
+
+-- a connection that is here
+pub record IsHere (v : ConnectionsView) (c : ConnectionView) : Type 0 where
+  pub below : c.number < v.next
+  pub talks : TalkOk (WasReplied v.replied c.number) 1 (bytes_of c.number v.heard) false c.talk (bytes_of c.number v.given)
+  -- the commands that were taken come before the one that was not
+  pub counted : (e : CommandNumber × Command) → Contains v.taken e → e.0.connection ≡ c.number → e.0.turn + untaken c.command ≤ c.talk.last
+
+pub record IsConnections (v : ConnectionsView) : Type 0 where
+  pub here : (key : ℕ) (c : ConnectionView) → place_in v.table key ≡ Some c → IsHere v c
+  pub one_place : (i j : ℕ) (c d : ConnectionView) → place_in v.table i ≡ Some c → place_in v.table j ≡ Some d → c.number ≡ d.number → i ≡ j
+  -- each connection, here or gone, was answered in order
+  pub answered : (number : ℕ) → IsAnswered (WasReplied v.replied number) (bytes_of number v.heard) (bytes_of number v.given)
+  pub fresh : (number : ℕ) → v.next ≤ number → (bytes_of number v.heard ≡ []) × (bytes_of number v.given ≡ [])
+  -- a command that was taken is the one of its number that the bytes of its connection ask
+  pub asked : (e : CommandNumber × Command) → Contains v.taken e → IsAsked (bytes_of e.0.connection v.heard) e.0.turn e.1
+  pub below : (e : CommandNumber × Command) → Contains v.taken e → e.0.connection < v.next
+  -- each command is taken once
+  pub once : (i j : ℕ) (a b : CommandNumber × Command) → slice_get v.taken i ≡ Some a → slice_get v.taken j ≡ Some b → a.0.connection ≡ b.0.connection → a.0.turn ≡ b.0.turn → i ≡ j

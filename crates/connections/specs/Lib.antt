@@ -1,0 +1,4 @@
+pub mod Connection
+pub mod Places
+pub mod Logs
+pub mod Connections

@@ -1,0 +1,128 @@
+-- A place for a connection, and a table of places.
+use Rattle.std.specs.Prelude.{◌≡◌, ◌⊎◌, ℕ, ◌==◌, ◌&&◌, Bool, true, false, List, [], Option, Some, None, Result, Ok, Err, is_some, not, if◌then◌else◌, slice_get, slice_set}
+use Rattle.base.specs.declared.fault.Fault.{Fault}
+use Rattle.base.specs.declared.fault.Fault.TheVariants as fault
+use Rattle.proto.specs.declared.reply.Reply as replies
+use Rattle.connections.specs.declared.connection.Ready.{Ready}
+use Rattle.connections.specs.declared.places.Place.{Place}
+use Rattle.connections.specs.declared.said.Said.{Said}
+use Rattle.connections.specs.Connection.{ConnectionView, IsFedTo, IsAnsweredBy, IsTaken}
+
+-- the connection of this number is there
+abbrev pub is_number : ℕ → Option ConnectionView → Bool
+is_number number None = false
+is_number number (Some c) = c.number == number
+
+-- and has a command that was not taken
+abbrev pub is_untaken : ℕ → Option ConnectionView → Bool
+is_untaken number None = false
+is_untaken number (Some c) = (c.number == number) && is_some c.command
+
+pub record IsSaid (at : Place) (c : ConnectionView) (said : Said) : Type 0 where
+  pub key : said.key ≡ at.key
+  pub number : said.number ≡ at.number
+  pub closes : said.closes ≡ c.talk.closed
+  pub waits : said.waits ≡ is_some c.talk.outstanding
+
+-- the connection failed, and leaves
+pub record IsLast (at : Place) (said : Said) : Type 0 where
+  pub key : said.key ≡ at.key
+  pub number : said.number ≡ at.number
+  pub nothing : said.bytes.items ≡ []
+  pub closes : said.closes ≡ true
+
+abbrev pub stays : Result Said Fault → Bool
+stays (Ok said) = not said.closes
+stays (Err f) = false
+
+-- ---- a piece comes
+
+abbrev pub FeedsHere : Place → List ℕ → ConnectionView → Option ConnectionView → Result Said Fault → Type 0
+FeedsHere at piece c new (Ok said) = (now : ConnectionView) × IsFedTo c piece now said.bytes.items × (now.number ≡ c.number) × (new ≡ (if not said.closes then Some now else None)) × IsSaid at now said
+FeedsHere at piece c new (Err f) = (new ≡ None) × ((f ≡ fault.NoMemory) ⊎ (f ≡ fault.Stopped))
+
+abbrev pub FeedsPlace : Place → List ℕ → Option ConnectionView → Option ConnectionView → Result Said Fault → Type 0
+FeedsPlace at piece None new result = (new ≡ None) × (result ≡ Err fault.Unfit)
+FeedsPlace at piece (Some c) new result = FeedsHere at piece c new result
+
+-- ---- a reply comes
+
+-- it takes the reply; or it fails
+abbrev pub AnswersOne : Place → ℕ → replies.Reply → ConnectionView → ConnectionView → Said → Type 0
+AnswersOne at turn reply c now said = (IsAnsweredBy c turn reply now said.bytes.items × IsSaid at now said) ⊎ IsLast at said
+
+abbrev pub AnswersHere : Place → ℕ → replies.Reply → ConnectionView → Option ConnectionView → Option Said → Type 0
+AnswersHere at turn reply c new None = ⊥
+AnswersHere at turn reply c new (Some said) = (now : ConnectionView) × AnswersOne at turn reply c now said × (now.number ≡ c.number) × (new ≡ (if not said.closes then Some now else None))
+
+abbrev pub AnswersPlace : Place → ℕ → replies.Reply → Option ConnectionView → Option ConnectionView → Option Said → Type 0
+AnswersPlace at turn reply None new result = (new ≡ None) × (result ≡ None)
+AnswersPlace at turn reply (Some c) new result = AnswersHere at turn reply c new result
+
+-- ---- a command is taken
+
+abbrev pub TakesHere : ConnectionView → Option ConnectionView → Option Ready → Type 0
+TakesHere c new None = new ≡ Some c
+TakesHere c new (Some ready) = (now : ConnectionView) × IsTaken c ready now × (new ≡ Some now)
+
+abbrev pub TakesWhere : Bool → ConnectionView → Option ConnectionView → Option Ready → Type 0
+TakesWhere true c new result = TakesHere c new result
+TakesWhere false c new result = (new ≡ Some c) × (result ≡ None)
+
+abbrev pub TakesPlace : ℕ → Option ConnectionView → Option ConnectionView → Option Ready → Type 0
+TakesPlace number None new result = (new ≡ None) × (result ≡ None)
+TakesPlace number (Some c) new result = TakesWhere (c.number == number) c new result
+
+-- ---- it leaves
+
+abbrev pub left_place : ℕ → Option ConnectionView → Option ConnectionView
+left_place number place = if is_number number place then None else place
+
+-- ---- a table of places, by key
+
+abbrev pub place_of : Option (Option ConnectionView) → Option ConnectionView
+place_of None = None
+place_of (Some place) = place
+
+-- the connection at this key
+abbrev pub place_in : List (Option ConnectionView) → ℕ → Option ConnectionView
+place_in table key = place_of (slice_get table key)
+
+abbrev pub is_here : ℕ → List (Option ConnectionView) → ℕ → Bool
+is_here number table key = is_number number (place_in table key)
+
+abbrev pub is_untaken_in : ℕ → List (Option ConnectionView) → ℕ → Bool
+is_untaken_in number table key = is_untaken number (place_in table key)
+
+abbrev pub FeedsIn : Place → List ℕ → List (Option ConnectionView) → List (Option ConnectionView) → Result Said Fault → Option (Option ConnectionView) → Type 0
+FeedsIn at piece old new result None = (new ≡ old) × (result ≡ Err fault.Unfit)
+FeedsIn at piece old new result (Some place) = (now : Option ConnectionView) × FeedsPlace at piece place now result × (new ≡ slice_set old at.key now)
+
+abbrev pub FeedsAt : Place → List ℕ → List (Option ConnectionView) → List (Option ConnectionView) → Result Said Fault → Type 0
+FeedsAt at piece old new result = FeedsIn at piece old new result (slice_get old at.key)
+
+abbrev pub AnswersIn : Place → ℕ → replies.Reply → List (Option ConnectionView) → List (Option ConnectionView) → Option Said → Option (Option ConnectionView) → Type 0
+AnswersIn at turn reply old new result None = (new ≡ old) × (result ≡ None)
+AnswersIn at turn reply old new result (Some place) = (now : Option ConnectionView) × AnswersPlace at turn reply place now result × (new ≡ slice_set old at.key now)
+
+abbrev pub AnswersAt : Place → ℕ → replies.Reply → List (Option ConnectionView) → List (Option ConnectionView) → Option Said → Type 0
+AnswersAt at turn reply old new result = AnswersIn at turn reply old new result (slice_get old at.key)
+
+abbrev pub TakesIn : Place → List (Option ConnectionView) → List (Option ConnectionView) → Option Ready → Option (Option ConnectionView) → Type 0
+TakesIn at old new result None = (new ≡ old) × (result ≡ None)
+TakesIn at old new result (Some place) = (now : Option ConnectionView) × TakesPlace at.number place now result × (new ≡ slice_set old at.key now)
+
+abbrev pub TakesAt : Place → List (Option ConnectionView) → List (Option ConnectionView) → Option Ready → Type 0
+TakesAt at old new result = TakesIn at old new result (slice_get old at.key)
+
+abbrev pub left_in : Place → List (Option ConnectionView) → Option (Option ConnectionView) → List (Option ConnectionView)
+left_in at old None = old
+left_in at old (Some place) = slice_set old at.key (left_place at.number place)
+
+-- the connection leaves, if it is here
+abbrev pub left_at : Place → List (Option ConnectionView) → List (Option ConnectionView)
+left_at at old = left_in at old (slice_get old at.key)
+
+-- no connection came or went
+abbrev pub IsGrown : List (Option ConnectionView) → List (Option ConnectionView) → Type 0
+IsGrown old new = (key : ℕ) → place_in new key ≡ place_in old key

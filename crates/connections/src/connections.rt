@@ -1,0 +1,198 @@
+//! All connections.
+
+ghost use Rattle.std.specs.Prelude.{◌≡◌};
+
+use crate::connection::{Connection, Ready};
+use crate::places::Place;
+use crate::said::Said;
+use crate::table;
+use http_server::Log;
+use proto::{Command, Fault, Reply};
+use std::alloc::Global;
+use std::marker::Model;
+
+/// The number of a connection, and that of one of its commands, from 1.
+#[derive(Clone, Copy)]
+pub struct CommandNumber {
+    pub connection: u64,
+    pub turn: u64,
+}
+
+/// The connections that are here, by the event loop's keys, with the history of all that ever came.
+#[derive(Drop)]
+pub struct Connections {
+    table: Vec<Option<Connection>>,
+    /// The least number that the next connection may have.
+    next: u64,
+    /// What came of each connection.
+    heard: Log<u64, Vec<u8>>,
+    /// What each connection was given.
+    given: Log<u64, Vec<u8>>,
+    /// The commands that were taken.
+    taken: Log<CommandNumber, Command>,
+    /// The replies that came back.
+    replied: Log<CommandNumber, Reply>,
+}
+
+impl Model for Connections {
+    ghost use Rattle.connections.specs.Connections.{ConnectionsView, IsConnections};
+    ghost use Rattle.connections.specs.Logs.{logged};
+
+    ghost Value = { ConnectionsView };
+
+    ghost view = { λ c. record { table = c.table.items; next = c.next; heard = logged c.heard.items; given = logged c.given.items; taken = c.taken.items; replied = c.replied.items } };
+
+    ghost invariant = { λ c. IsConnections (record { table = c.table.items; next = c.next; heard = logged c.heard.items; given = logged c.given.items; taken = c.taken.items; replied = c.replied.items }) };
+}
+
+impl Connections {
+    ghost use Rattle.std.specs.Prelude.{◌≡◌, ◌<◌, ◌≤◌, ◌+◌, ◌++◌, ◌∷◌, ◌⊎◌, [], true, false, None, Some, IfOk, IfErr, OnOk, OnErr, OnSome, IfSome, IfNone, Err, is_some};
+    ghost use Rattle.connections.specs.Connection.{new_connection};
+    ghost use Rattle.connections.specs.Places.{place_in, is_here, is_untaken_in, left_at};
+    ghost use Rattle.connections.specs.Connections.{IsConnections, no_connections, HasSameLogs, HasText, AreBefore};
+
+    /// No connection came.
+    pub fn new(alloc: Global) -> Connections
+        ensures { result ≡ no_connections }
+    {
+        Connections {
+            table: Vec::new(alloc),
+            next: 0,
+            heard: Log::new(),
+            given: Log::new(),
+            taken: Log::new(),
+            replied: Log::new(),
+        }
+    }
+
+    /// A connection comes. Connections are numbered by rising numbers; the event loop may use a key again after
+    /// its connection left.
+    ///
+    /// After an error no connection has changed. Unfit: the number is not above those that came, or another
+    /// connection is at the key; Full: the key is 65,536 or more; NoMemory: an allocation failed.
+    pub fn come(&mut self, alloc: Global, at: Place) -> Result<(), Fault>
+        ensures logs { HasSameLogs self.old self.new }
+        ensures here { OnOk result (place_in self.new.table at.key ≡ Some (new_connection at.number)) }
+        ensures next { OnOk result ((self.old.next ≤ at.number) × (self.new.next ≡ at.number + 1)) }
+        ensures err { OnErr result (self.new.next ≡ self.old.next) }
+        ensures only { IfErr result (λ fault. (fault ≡ Fault.Unfit) ⊎ (fault ≡ Fault.Full) ⊎ (fault ≡ Fault.NoMemory)) }
+    {
+        if at.number < self.next || table::is_taken(&self.table, at.key) {
+            return Err(Fault::Unfit);
+        }
+        let next = at.number.checked_add(1).ok_or(Fault::Unfit)?;
+        table::grow_to(&mut self.table, at.key)?;
+        table::put(&mut self.table, at.key, Connection::new(alloc, at.number));
+        self.next = next;
+        Ok(())
+    }
+
+    /// Reads a piece of what comes of a connection: what the connection is given at once.
+    ///
+    /// Unfit: it is not here; NoMemory: an allocation failed; Stopped: it has no number left for a command. After
+    /// an error it is not here any more, and is to be closed.
+    pub fn hear(&mut self, alloc: Global, at: Place, piece: Vec<u8>) -> Result<Said, Fault>
+        ensures heard { is_here at.number self.old.table at.key ≡ true → self.new.heard ≡ self.old.heard ++ (at.number, piece.items) ∷ [] }
+        ensures given { IfOk result (λ said. self.new.given ≡ self.old.given ++ (at.number, said.bytes.items) ∷ []) }
+        ensures to { IfOk result (λ said. (said.key ≡ at.key) × (said.number ≡ at.number)) }
+        ensures not_here { is_here at.number self.old.table at.key ≡ false → (result ≡ Err Fault.Unfit) × (self.new ≡ self.old) }
+        ensures err { OnErr result (self.new.given ≡ self.old.given) }
+        ensures leaves { OnErr result (is_here at.number self.new.table at.key ≡ false) }
+        ensures closes { IfOk result (λ said. said.closes ≡ true → place_in self.new.table at.key ≡ None) }
+        ensures others { (self.new.taken ≡ self.old.taken) × (self.new.replied ≡ self.old.replied) × (self.new.next ≡ self.old.next) }
+    {
+        if !table::is_here(&self.table, at) {
+            return Err(Fault::Unfit);
+        }
+        self.heard = self.heard.and(&at.number, &piece);
+        let said = table::feed(&mut self.table, alloc, at, piece)?;
+        self.given = self.given.and(&at.number, &said.bytes);
+        Ok(said)
+    }
+
+    /// Takes the command of a connection that was not taken. `None`: there is none, or the connection is not here.
+    pub fn take(&mut self, at: Place) -> Option<Ready>
+        ensures none { IfNone result (self.new ≡ self.old) }
+        ensures taken { IfSome result (λ ready. self.new.taken ≡ self.old.taken ++ (record { connection = at.number; turn = ready.turn }, ready.command) ∷ []) }
+        ensures first { IfSome result (λ ready. AreBefore self.old.taken at.number ready.turn) }
+        ensures text { IfSome result (λ ready. HasText ready.command ready.quiet) }
+        ensures others { (self.new.heard ≡ self.old.heard) × (self.new.given ≡ self.old.given) × (self.new.replied ≡ self.old.replied) × (self.new.next ≡ self.old.next) }
+    {
+        let ready = table::take(&mut self.table, at)?;
+        let number = CommandNumber {
+            connection: at.number,
+            turn: ready.turn,
+        };
+        self.taken = self.taken.and(&number, &ready.command);
+        Some(ready)
+    }
+
+    /// Gives a connection the reply to its command of this number: what it is given. `None`: it is not here any
+    /// more, and the reply is let go. If memory is wanted it leaves, and is told to close.
+    pub fn answer(&mut self, alloc: Global, at: Place, turn: u64, reply: Reply) -> Option<Said>
+        ensures none { IfNone result (self.new ≡ self.old) }
+        ensures here { is_some result ≡ is_here at.number self.old.table at.key }
+        ensures replied { OnSome result (self.new.replied ≡ self.old.replied ++ (record { connection = at.number; turn = turn }, reply) ∷ []) }
+        ensures given { IfSome result (λ said. self.new.given ≡ self.old.given ++ (at.number, said.bytes.items) ∷ []) }
+        ensures to { IfSome result (λ said. (said.key ≡ at.key) × (said.number ≡ at.number)) }
+        ensures closes { IfSome result (λ said. said.closes ≡ true → place_in self.new.table at.key ≡ None) }
+        ensures others { (self.new.heard ≡ self.old.heard) × (self.new.taken ≡ self.old.taken) × (self.new.next ≡ self.old.next) }
+    {
+        if !table::is_here(&self.table, at) {
+            return None;
+        }
+        let number = CommandNumber {
+            connection: at.number,
+            turn,
+        };
+        self.replied = self.replied.and(&number, &reply);
+        let said = table::answer(&mut self.table, alloc, at, turn, reply)?;
+        self.given = self.given.and(&at.number, &said.bytes);
+        Some(said)
+    }
+
+    /// A connection leaves. If it is not here nothing changes.
+    pub fn leave(&mut self, at: Place)
+        ensures { self.new ≡ record self.old { table = left_at at self.old.table } }
+    {
+        table::leave(&mut self.table, at);
+    }
+
+    /// A connection leaves for want of memory: what it is told. `None`: it is not here.
+    pub fn drop_out(&mut self, alloc: Global, at: Place) -> Option<Said>
+        ensures none { IfNone result (self.new ≡ self.old) }
+        ensures given { IfSome result (λ said. self.new.given ≡ self.old.given ++ (at.number, said.bytes.items) ∷ []) }
+        ensures to { IfSome result (λ said. (said.key ≡ at.key) × (said.number ≡ at.number) × (said.closes ≡ true)) }
+        ensures others { (self.new.heard ≡ self.old.heard) × (self.new.taken ≡ self.old.taken) × (self.new.replied ≡ self.old.replied) × (self.new.next ≡ self.old.next) }
+    {
+        if !table::is_here(&self.table, at) {
+            return None;
+        }
+        table::leave(&mut self.table, at);
+        let said = Said::last(alloc, at);
+        self.given = self.given.and(&at.number, &said.bytes);
+        Some(said)
+    }
+
+    /// So many of the bytes that a connection was given are written. If it is not here nothing changes. While 256 KB
+    /// or more are not written its command is not taken.
+    pub fn written(&mut self, at: Place, count: usize)
+        ensures { self.new ≡ self.old }
+    {
+        table::written(&mut self.table, at, count);
+    }
+
+    /// Whether a connection is here and has a command that was not taken.
+    pub fn is_ready(&self, at: Place) -> bool
+        ensures { result ≡ is_untaken_in at.number self.now.table at.key }
+    {
+        table::is_ready(&self.table, at)
+    }
+
+    /// What always holds of them. It does nothing.
+    pub fn always(&self)
+        ensures { IsConnections self.now }
+    {
+        let _ = &self.table;
+    }
+}

@@ -1,0 +1,13 @@
+-- What one read does to a reader whose bytes are known.
+use Rattle.std.specs.Prelude.{ℕ, ◌≢◌, List, [], Option, ⊤}
+use Rattle.std.specs.Io.KnownBytes.{Consumes, Keeps}
+use Rattle.event_loop.specs.declared.input.Piece.{Piece}
+use Rattle.event_loop.specs.declared.input.Piece.TheVariants.{Bytes, Nothing, Interrupted, End}
+
+-- the bytes that are given were the next ones, and are not given again. Where none are given none are lost,
+-- but at the end
+abbrev pub IsRead : Option (List ℕ) → Option (List ℕ) → Piece → Type 0
+IsRead old new (Bytes bytes has_more) = Consumes old new bytes.items × (bytes.items ≢ [])
+IsRead old new Nothing = Keeps old new
+IsRead old new Interrupted = Keeps old new
+IsRead old new End = ⊤

@@ -1,0 +1,198 @@
+//! The thread of the event loop.
+
+use crate::event_loop::{EventLoop, Ready};
+use crate::message::{FromService, ToService};
+use crate::service::Serve;
+use crate::service_thread::{MOST_TAKEN, seconds};
+use link::Link;
+use std::io;
+use std::rt::Clock;
+use std::sync::atomic::{AtomicBool, Ordering};
+use std::sync::{Mutex, Wait};
+use std::thread::Threads;
+use std::time::{Duration, Instant};
+
+/// How long a tick is, in milliseconds.
+const TICK: u64 = 100;
+
+/// If no more than so much happened in a round and the service is idle, the event loop's thread answers
+/// itself: to wake the other thread takes longer.
+const MOST_IN_PLACE: usize = 2;
+
+/// The event loop's ends of the links to the service.
+#[derive(Drop)]
+pub struct LoopEnds {
+    to_service: Link<ToService>,
+    from_service: Link<FromService>,
+    /// So many messages are not done with. No more are put while they are `MOST_TAKEN`, so the links never fill up.
+    unanswered: usize,
+    /// Whether the service wants ticks.
+    is_waiting: bool,
+}
+
+impl LoopEnds {
+    /// No message is under way.
+    pub fn new(to_service: Link<ToService>, from_service: Link<FromService>) -> LoopEnds {
+        LoopEnds {
+            to_service,
+            from_service,
+            unanswered: 0,
+            is_waiting: false,
+        }
+    }
+
+    /// Whether one more message may be put.
+    fn has_room(&self) -> bool {
+        self.unanswered < MOST_TAKEN
+    }
+
+    fn put<R: Wait>(&mut self, rt: &R, message: ToService) {
+        self.unanswered = self.unanswered.saturating_add(1);
+        let _ = self.to_service.put(rt, message);
+    }
+
+    /// Hands on all that the service has said.
+    fn take_all<R: Wait>(&mut self, rt: &R, event_loop: &mut EventLoop) {
+        for _ in rt.forever() {
+            let Some(message) = self.from_service.try_take(rt) else {
+                return;
+            };
+            self.unanswered = self.unanswered.saturating_sub(message.answered);
+            self.is_waiting = message.is_waiting;
+            event_loop.give(message.said);
+        }
+    }
+}
+
+/// The clock of the ticks.
+#[derive(Clone, Copy)]
+struct Ticks {
+    /// When the last tick was.
+    last: Option<Instant>,
+}
+
+impl Ticks {
+    /// Whether a tick is due now. It is counted as made.
+    fn is_due<R: Clock>(&mut self, rt: &R) -> bool {
+        let Ok(now) = Instant::now(rt) else {
+            return false;
+        };
+        let is_due = match self.last {
+            Some(last) => Duration::from_millis(TICK) <= now.saturating_duration_since(last),
+            None => true,
+        };
+        if is_due {
+            self.last = Some(now);
+        }
+        is_due
+    }
+}
+
+/// How long to wait for sockets, or none if there is no limit.
+fn limit(event_loop: &EventLoop, ends: &LoopEnds) -> Option<Duration> {
+    if ends.has_room() && event_loop.has_more() {
+        Some(Duration::from_millis(0))
+    } else if ends.is_waiting || event_loop.is_stuck() {
+        Some(Duration::from_millis(TICK))
+    } else {
+        None
+    }
+}
+
+/// Tells of a tick whom it concerns, if it is due.
+fn tick<R: Wait + Clock>(
+    rt: &R,
+    event_loop: &mut EventLoop,
+    ends: &mut LoopEnds,
+    ticks: &mut Ticks,
+) {
+    if (ends.is_waiting || event_loop.is_stuck()) && ticks.is_due(rt) {
+        event_loop.tick();
+        if ends.is_waiting && ends.has_room() {
+            ends.put(rt, ToService::Tick);
+        }
+    }
+}
+
+/// Lets the service answer here what happened, if that is little and the service is idle. Whether it did.
+fn answer_in_place<R: Threads + Wait + Sync + Clock, S: Serve>(
+    rt: &R,
+    service: &Mutex<S>,
+    event_loop: &mut EventLoop,
+    ends: &mut LoopEnds,
+) -> bool {
+    if ends.unanswered != 0 || MOST_IN_PLACE < event_loop.heard_count() {
+        return false;
+    }
+    let Some(mut guard) = service.try_lock() else {
+        return false;
+    };
+    // What the service said before goes first.
+    ends.take_all(rt, event_loop);
+    let service = &mut *guard;
+    service.hear(event_loop.take_heard());
+    let said = service.work(rt, seconds(rt));
+    ends.is_waiting = service.is_waiting();
+    let has_work = service.has_work();
+    drop(guard);
+    event_loop.give(said);
+    event_loop.turn(false);
+    if has_work {
+        ends.put(rt, ToService::Heard(event_loop.take_heard()));
+    }
+    true
+}
+
+/// One round: waits, gives each socket that is ready its turn, and has answered what happened.
+fn round<R: Threads + Wait + Sync + Clock, S: Serve>(
+    rt: &R,
+    service: &Mutex<S>,
+    event_loop: &mut EventLoop,
+    ready: &mut Ready,
+    ends: &mut LoopEnds,
+) -> io::Result<()> {
+    event_loop.wait(ready, limit(event_loop, ends))?;
+    ends.take_all(rt, event_loop);
+    let reads = ends.has_room();
+    // Sockets that are over make room for those that wait to be accepted.
+    event_loop.turn(reads);
+    if reads {
+        event_loop.accept();
+    }
+    if reads && 0 < event_loop.heard_count() && !answer_in_place(rt, service, event_loop, ends) {
+        let heard = event_loop.take_heard();
+        ends.put(rt, ToService::Heard(heard));
+    }
+    Ok(())
+}
+
+/// What the event loop's thread has.
+#[derive(Drop)]
+pub struct LoopSide {
+    pub event_loop: EventLoop,
+    pub ready: Ready,
+    pub ends: LoopEnds,
+}
+
+/// The loop of the event loop's thread, until it is told to stop or the system refuses to wait on the
+/// sockets. Then the service is told to stop.
+pub fn run_loop<R: Threads + Wait + Sync + Clock, S: Serve>(
+    rt: &R,
+    service: &Mutex<S>,
+    side: &mut LoopSide,
+    stopping: &AtomicBool,
+) {
+    let LoopSide {
+        event_loop,
+        ready,
+        ends,
+    } = side;
+    let mut ticks = Ticks { last: None };
+    for _ in rt.forever() {
+        if stopping.load(Ordering::SeqCst) || round(rt, service, event_loop, ready, ends).is_err() {
+            break;
+        }
+        tick(rt, event_loop, ends, &mut ticks);
+    }
+    ends.put(rt, ToService::Stop);
+}

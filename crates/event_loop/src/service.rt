@@ -1,0 +1,28 @@
+//! What answers the connections.
+
+use crate::message::{Heard, Said};
+use std::sync::Wait;
+use std::thread::Threads;
+
+/// A service behind an event loop. One thread at a time calls it.
+pub trait Serve {
+    ghost use denote.Param.Send.{IsSync};
+
+    /// Takes what happened, in order. To each `Bytes` it says at least once that it does not wait, or
+    /// that it closes, now or in a later `work`.
+    fn hear(&mut self, heard: Vec<Heard>);
+
+    /// Does what is due, and gives all that is said since the last call, in order. It does as much as keeps no
+    /// reply waiting for long: one batch. `seconds` are those of the clock, since 1970.
+    fn work<R: Threads + Wait + Sync>(&mut self, rt: &R, seconds: u32) -> Vec<Said>
+        requires { IsSync R.row };
+
+    /// A tenth of a second has passed, and something waits for it.
+    fn tick(&mut self);
+
+    /// Whether another `work` has something to do although nothing more happens.
+    fn has_work(&self) -> bool;
+
+    /// Whether something waits that may need a tick.
+    fn is_waiting(&self) -> bool;
+}

@@ -1,0 +1,152 @@
+//! An event loop beside a service, from the start of their threads to their end.
+
+use crate::event_loop::{Admission, EventLoop, Ready};
+use crate::loop_thread::{LoopEnds, LoopSide, run_loop};
+use crate::service::Serve;
+use crate::service_thread::{ServiceEnds, run_service};
+use link::Link;
+use mio::Waker;
+use mio::net::TcpListener;
+use std::alloc::{AllocError, Global};
+use std::io::{ErrorKind, Read};
+use std::net::Net;
+use std::rt::Clock;
+use std::sync::atomic::{AtomicBool, Ordering};
+use std::sync::{Mutex, Wait};
+use std::thread::Threads;
+use std::{io, thread};
+
+/// Why nothing was served.
+#[derive(Clone, Copy, Debug, PartialEq, Eq)]
+pub enum Refused {
+    /// Memory ran out.
+    NoMemory,
+    /// A thread or a descriptor was not given by the system.
+    Start,
+}
+
+impl From<AllocError> for Refused {
+    fn from(_e: AllocError) -> Refused {
+        Refused::NoMemory
+    }
+}
+
+impl From<io::Error> for Refused {
+    fn from(e: io::Error) -> Refused {
+        match e.kind() {
+            ErrorKind::OutOfMemory => Refused::NoMemory,
+            _ => Refused::Start,
+        }
+    }
+}
+
+/// What the two threads are given.
+#[derive(Drop)]
+struct Parts {
+    loop_side: LoopSide,
+    service_ends: ServiceEnds,
+    waker: Waker,
+}
+
+impl Parts {
+    fn new<R: Net>(
+        rt: &R,
+        alloc: Global,
+        listener: TcpListener,
+        admission: Admission,
+    ) -> Result<Parts, Refused> {
+        let event_loop = EventLoop::new(rt, alloc, listener, admission)?;
+        let waker = event_loop.waker()?;
+        let mut to_service = Link::new(alloc)?;
+        let mut from_service = Link::new(alloc)?;
+        let inbox = to_service.another()?;
+        let outbox = from_service.another()?;
+        Ok(Parts {
+            loop_side: LoopSide {
+                event_loop,
+                ready: Ready::new(alloc)?,
+                ends: LoopEnds::new(to_service, from_service),
+            },
+            service_ends: ServiceEnds { inbox, outbox },
+            waker,
+        })
+    }
+}
+
+/// Reads to the end, or to the first read that fails.
+fn read_out<I: Read>(until: &mut I) {
+    let mut buffer = [0u8; 512];
+    for _ in 0..u64::MAX {
+        match until.read(&mut buffer) {
+            Ok(0) => return,
+            Ok(_) => {}
+            Err(e) => {
+                if e.kind() != ErrorKind::Interrupted {
+                    return;
+                }
+            }
+        }
+    }
+}
+
+/// Runs the two threads until `until` is at its end. Whether both could be started.
+fn run<'a, R: Threads + Wait + Sync + Clock, S: Serve + Send, I: Read>(
+    rt: &'a R,
+    service: &'a Mutex<S>,
+    parts: Parts,
+    until: &mut I,
+) -> bool {
+    let Parts {
+        loop_side,
+        service_ends,
+        waker,
+    } = parts;
+    let is_stopping = AtomicBool::new(false);
+    let (stopping, bell) = (&is_stopping, &waker);
+    thread::scope(thread::scope_env(), rt, |scope| {
+        let of_loop = move || {
+            let mut side = loop_side;
+            run_loop(rt, service, &mut side, stopping);
+        };
+        if scope.spawn(of_loop).is_err() {
+            return false;
+        }
+        let of_service = move || {
+            let mut ends = service_ends;
+            run_service(rt, service, &mut ends, bell);
+        };
+        let is_started = scope.spawn(of_service).is_ok();
+        if is_started {
+            read_out(until);
+        }
+        stopping.store(true, Ordering::SeqCst);
+        let _ = bell.wake();
+        is_started
+    })
+}
+
+/// Serves the connections of the listener until the end or a fault of `until`: no more connections are
+/// taken then, those that are here are closed, and no thread is left. The service comes back.
+///
+/// `NoMemory` if memory ran out before it began to serve, `Start` if the system gave no thread or descriptor.
+pub fn serve<R: Net + Threads + Wait + Clock + Sync, S: Serve + Send, I: Read>(
+    rt: &R,
+    alloc: Global,
+    listener: TcpListener,
+    admission: Admission,
+    service: S,
+    until: &mut I,
+) -> (S, Result<(), Refused>) {
+    let parts = match Parts::new(rt, alloc, listener, admission) {
+        Ok(parts) => parts,
+        Err(refused) => return (service, Err(refused)),
+    };
+    let shared = Mutex::new(service);
+    let is_started = run(rt, &shared, parts, until);
+    let served = if is_started {
+        Ok(())
+    } else {
+        Err(Refused::Start)
+    };
+    (shared.into_inner(), served)
+}

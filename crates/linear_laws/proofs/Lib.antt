@@ -1,0 +1,9 @@
+pub mod Answers
+pub mod Orders
+pub mod Flat
+pub mod Later
+pub mod Rounds
+pub mod Runs
+pub mod Fresh
+pub mod Plays
+pub mod Samples

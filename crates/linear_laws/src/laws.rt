@@ -1,0 +1,35 @@
+//! Laws of one order of item steps. The functions do nothing: what each says is its contract.
+
+ghost use Rattle.linear_laws.specs.Laws.{RoundIsOneList, RunIsOneList, ListGoesOn, AskedLaterIsLater, PlaysAreLinearizable, ReachedAreLinearizable, GetsMayOverlap};
+
+use one_server::worlds_are_of_one_server;
+
+/// A round is one list of item steps, and so is a run, whose list goes on where the run does.
+pub fn rounds_are_one_list()
+    ensures round { RoundIsOneList }
+    ensures run { RunIsOneList }
+    ensures on { ListGoesOn }
+{}
+
+/// A request that was not asked yet stands behind all rounds of the run so far.
+pub fn asked_later_is_later()
+    ensures { AskedLaterIsLater }
+{}
+
+/// A play that shows one server is linearizable.
+pub fn plays_are_linearizable()
+    ensures { PlaysAreLinearizable }
+{}
+
+/// The worlds that events lead through are linearizable.
+pub fn reached_are_linearizable()
+    ensures { ReachedAreLinearizable }
+{
+    worlds_are_of_one_server();
+}
+
+/// A get of several keys is no one step: the mixer lets two of them and two sets run in one group, so that
+/// each get sees another set of the two.
+pub fn gets_of_several_keys_may_overlap()
+    ensures { GetsMayOverlap }
+{}

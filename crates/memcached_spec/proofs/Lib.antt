@@ -1,0 +1,4 @@
+pub mod OneOrder
+pub mod Samples
+pub mod Stale
+pub mod Fresh

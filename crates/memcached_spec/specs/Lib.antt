@@ -1,0 +1,5 @@
+pub mod Asked
+pub mod Fed
+pub mod Server
+pub mod Order
+pub mod Laws

@@ -1,0 +1,101 @@
+//! A proxy.
+
+ghost use Rattle.std.specs.Prelude.{◌≡◌, ◌≤◌};
+
+use client::Asked;
+use proto::{Command, Fault};
+use sessions::Request;
+use std::alloc::AllocError;
+use std::marker::Model;
+
+/// A client of the replicas that asks for others. It has at most one request outstanding.
+#[derive(Drop)]
+pub struct Proxy {
+    client: u16,
+    last: u64,
+    asked: Option<Asked>,
+}
+
+impl Model for Proxy {
+    ghost use Rattle.std.specs.Prelude.{◌≤◌};
+    ghost use Rattle.proxies.specs.Proxy.{ProxyView};
+
+    ghost Value = { ProxyView };
+
+    ghost view = { λ p. record { client = p.client; last = p.last; asked = p.asked } };
+
+    ghost invariant = { λ p. 1 ≤ p.client };
+}
+
+impl Proxy {
+    ghost use Rattle.std.specs.Prelude.{◌≡◌, ◌≤◌, ◌⊎◌, ◌^◌, ◌-◌, ◌+◌, None, Some, IfOk, OnErr, OnOk, Err, IfErr, is_none};
+    ghost use Rattle.client.specs.Talk.{next_request};
+    ghost use Rattle.proxies.specs.Proxy.{asks, answers, quiet_of, request_of};
+
+    /// One that has asked nothing. Clients are numbered from 1.
+    pub fn new(client: u16) -> Proxy
+        requires { 1 ≤ client }
+        ensures { result ≡ record { client = client; last = 0; asked = None } }
+    {
+        Proxy {
+            client,
+            last: 0,
+            asked: None,
+        }
+    }
+
+    /// Asks the command as its next request, which is to be sent to all executors. `quiet`: the reply is
+    /// left out of what the connection is given. After an error nothing has changed. Stopped: no number is
+    /// left; NoMemory: an allocation failed.
+    pub fn ask(&mut self, command: Command, quiet: bool) -> Result<Request, Fault>
+        requires { self.old.asked ≡ None }
+        ensures ok { OnOk result (self.new ≡ asks self.old command quiet) }
+        ensures request { IfOk result (λ r. r ≡ next_request self.old.client self.old.last command) }
+        ensures err { OnErr result (self.new ≡ self.old) }
+        ensures stopped { result ≡ Err Fault.Stopped → self.old.last ≡ 2 ^ 64 - 1 }
+        ensures only { IfErr result (λ fault. (fault ≡ Fault.NoMemory) ⊎ (fault ≡ Fault.Stopped)) }
+    {
+        let number = self.last.checked_add(1).ok_or(Fault::Stopped)?;
+        let request = Request {
+            client: self.client,
+            number,
+            command,
+        };
+        let copy = request.clone()?;
+        self.last = number;
+        self.asked = Some(Asked { request, quiet });
+        Ok(copy)
+    }
+
+    /// The request of this number is answered: whether its reply is left out. None, and nothing changes: that
+    /// request is not outstanding.
+    pub fn answer(&mut self, number: u64) -> Option<bool>
+        ensures after { self.new ≡ answers self.old number }
+        ensures quiet { result ≡ quiet_of self.old.asked number }
+    {
+        let quiet = match &self.asked {
+            Some(asked) if asked.request.number == number => asked.quiet,
+            _ => return None,
+        };
+        self.asked = None;
+        Some(quiet)
+    }
+
+    /// What is outstanding, which is to be sent to all executors once more. None: nothing is outstanding.
+    /// The only error is a failed allocation.
+    pub fn again(&self) -> Result<Option<Request>, AllocError>
+        ensures { IfOk result (λ request. request ≡ request_of self.now.asked) }
+    {
+        match &self.asked {
+            None => Ok(None),
+            Some(asked) => Ok(Some(asked.request.clone()?)),
+        }
+    }
+
+    /// Whether nothing is outstanding, so that it may ask.
+    pub fn is_free(&self) -> bool
+        ensures { result ≡ is_none self.now.asked }
+    {
+        self.asked.is_none()
+    }
+}
