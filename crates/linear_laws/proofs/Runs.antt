@@ -16,7 +16,8 @@ use Rattle.memcached_spec.specs.Server.{Made, Line, Leads, made_for}
 use Rattle.memcached_spec.specs.Order.{replies_of}
 use Rattle.linear_laws.specs.Laws.{seen, last_of}
 use Rattle.linear_laws.proofs.Flat.{leads_on}
-use Rattle.linear_laws.proofs.Answers.{runs_next, round_one, after_answer, number_stays}
+use Rattle.one_run.proofs.Replies.{runs_next, round_one, after_answer}
+use Rattle.linear_laws.proofs.Answers.{number_stays}
 use Rattle.linear_laws.proofs.Rounds.{RoundMade, RanOne, round_made, steps_made, answers_made, made_for-append, runner_in}
 
 -- these lines are those of the rounds, one after the other

@@ -28,7 +28,7 @@ same_key : (q k : ℕ) → eq_by_cmp nat_cmp q k ≡ true → q ≡ k
 same_key q k e = grind (arith, nat_tests)
 
 -- a request that runs is the first of these, or one of the later ones
-first_or_later : (s : Replies) (earlier later : List Request) (q : Request) (r : Runner) → Contains (fresh_after s earlier (q ∷ later)) r
+pub first_or_later : (s : Replies) (earlier later : List Request) (q : Request) (r : Runner) → Contains (fresh_after s earlier (q ∷ later)) r
     → ((runs s earlier q ≡ true) × ((length earlier, q) ≡ r)) ⊎ Contains (fresh_after s (earlier ++ q ∷ []) later) r
 first_or_later s earlier later q r c =
     ⊎_elim (λ h. inl (here (runs s earlier q) h)) inr
@@ -39,7 +39,7 @@ first_or_later s earlier later q r c =
     here true h = (refl, ⊎_elim (λ (e : (length earlier, q) ≡ r). e) (λ none. absurd (in_none r none)) (first_or_other (length earlier, q) r [] h))
 
 -- what runs is its client's next
-runs_next : (s : Replies) (earlier later : List Request) (r : Runner) → Contains (fresh_after s earlier later) r → r.1.number ≡ next_number s r.1.client
+pub runs_next : (s : Replies) (earlier later : List Request) (r : Runner) → Contains (fresh_after s earlier later) r → r.1.number ≡ next_number s r.1.client
 runs_next s earlier [] r c = absurd (in_none r c)
 runs_next s earlier (q ∷ later) r c = elim (first_or_later s earlier later q r c) [
   | inl (is_run, same) ↦
@@ -63,7 +63,7 @@ none_earlier s earlier (q ∷ later) r c x before client = elim (first_or_later 
 ]
 
 -- of a client one request runs
-one_runs : (s : Replies) (earlier later : List Request) (r t : Runner) → Contains (fresh_after s earlier later) r → Contains (fresh_after s earlier later) t → r.1.client ≡ t.1.client → r ≡ t
+pub one_runs : (s : Replies) (earlier later : List Request) (r t : Runner) → Contains (fresh_after s earlier later) r → Contains (fresh_after s earlier later) t → r.1.client ≡ t.1.client → r ≡ t
 one_runs s earlier [] r t c d client = absurd (in_none r c)
 one_runs s earlier (q ∷ later) r t c d client = elim (first_or_later s earlier later q r c) [
   | inl (is_run, same) ↦ elim (first_or_later s earlier later q t d) [
@@ -77,15 +77,15 @@ one_runs s earlier (q ∷ later) r t c d client = elim (first_or_later s earlier
 ]
 
 -- each answer is of the number that its client has here
-abbrev HaveNumbers : (ℕ → ℕ) → List Answered → Type 0
+abbrev pub HaveNumbers : (ℕ → ℕ) → List Answered → Type 0
 HaveNumbers f replies = (a : Answered) → Contains replies a → a.number ≡ f a.client
 
 -- of its client's next one
-abbrev AreNext : Replies → List Answered → Type 0
+abbrev pub AreNext : Replies → List Answered → Type 0
 AreNext s replies = HaveNumbers (next_number s) replies
 
 -- of a client there is one
-abbrev AreOne : List Answered → Type 0
+abbrev pub AreOne : List Answered → Type 0
 AreOne replies = (a b : Answered) → Contains replies a → Contains replies b → a.client ≡ b.client → a ≡ b
 
 module _ (old new : StateView) (batch : Batch) (ordered : Bool) (replies : List Answered) (round : Round old batch ordered new replies) where
@@ -94,7 +94,7 @@ module _ (old new : StateView) (batch : Batch) (ordered : Bool) (replies : List 
       let w = in_map (answered round.answers) (runners old batch) a c in
       subst (λ (x : Answered). x.number ≡ next_number old.sessions x.client) w.2 (runs_next old.sessions [] batch.requests w.0 w.1))
 
-  round_one : AreOne replies
+  pub round_one : AreOne replies
   round_one = subst AreOne (sym round.replied) (λ a b c d client.
       let w = in_map (answered round.answers) (runners old batch) a c in
       let v = in_map (answered round.answers) (runners old batch) b d in
@@ -102,11 +102,11 @@ module _ (old new : StateView) (batch : Batch) (ordered : Bool) (replies : List 
       sym w.2 ∙ (ap (answered round.answers) same ∙ v.2))
 
 -- what is kept of an answer
-abbrev kept_of : Answered → LastReply
+abbrev pub kept_of : Answered → LastReply
 kept_of a = record { number = a.number; reply = a.reply }
 
 -- the number after one answer is kept
-number_step : (s : Replies) (a : Answered) (c : ℕ) → ((c ≡ a.client) × (next_number (insert s a.client (kept_of a)) c ≡ a.number + 1)) ⊎ (next_number (insert s a.client (kept_of a)) c ≡ next_number s c)
+pub number_step : (s : Replies) (a : Answered) (c : ℕ) → ((c ≡ a.client) × (next_number (insert s a.client (kept_of a)) c ≡ a.number + 1)) ⊎ (next_number (insert s a.client (kept_of a)) c ≡ next_number s c)
 number_step s a c =
     let got = get-insert nat_cmp_total s a.client (kept_of a) c in
     let step : (b : Bool) → eq_by_cmp nat_cmp c a.client ≡ b → next_number (insert s a.client (kept_of a)) c ≡ option_map_or (λ (k : LastReply). k.number + 1) (cond b (Some (kept_of a)) (get s c)) 1 =
@@ -175,7 +175,7 @@ module _ (old : StateView) (e : Executed) (h : IsOver old e) where
   next_in : AreNext old.sessions e.replies
   next_in = round_next old e.new e.batch e.ordered e.replies h.round
 
-  after_answer : (a : Answered) → Contains e.replies a → next_number e.new.sessions a.client ≡ a.number + 1
+  pub after_answer : (a : Answered) → Contains e.replies a → next_number e.new.sessions a.client ≡ a.number + 1
   after_answer a c =
       ap (λ (s : Replies). next_number s a.client) h.round.sessions
       ∙ (raised (next_number old.sessions) old.sessions e.replies a next_in c ∙ ap (λ n. n + 1) (sym (next_in a c)))
