@@ -1,0 +1,139 @@
+-- How nodes and a world that is like them go on.
+use Rattle.std.proofs.Common.{◌≡◌, ◌⊎◌, inl, inr, ⊎_elim, ℕ, zero, suc, List, [], ◌∷◌, ◌++◌, length, map, Option, None, Some, slice_get, slice_set, refl, sym, ap, ◌∙◌, subst, arith}
+use Rattle.std.specs.Prelude.{Contains}
+use Rattle.std.proofs.lemmas.List.{append-nil}
+use Rattle.std.proofs.lemmas.List.Concat.{flat_map-append}
+use Rattle.std.proofs.lemmas.List.Elements.{Contains-append_left}
+use Rattle.proto.specs.declared.reply.Reply as replies
+use Rattle.proto.specs.Grammar.{Spells}
+use Rattle.decrees.specs.declared.node.Letter.{Letter}
+use Rattle.exec_lines.specs.declared.body.Body.{Body}
+use Rattle.events.specs.declared.event.Event.{Event}
+use Rattle.events.specs.Config.{ConfigView}
+use Rattle.worlds.specs.World.{WorldView, WorldNext, WorldRuns, last_world, ReachedWorlds, EndsWith}
+use Rattle.worlds.specs.Laws.{IsReached}
+use Rattle.memcached_spec.specs.Fed.{fed_by, fed_to}
+use Rattle.worlds.specs.Asked.{WasSent}
+use Rattle.worlds.proofs.LeadLemmas.{LeadsTo, leads_nowhere, leads_append, runs_append, last_append}
+use Rattle.proxies.specs.Proxy.{ProxyView}
+use Rattle.ensemble.specs.Nodes.{NodesView}
+use Rattle.ensemble.specs.Ensemble.{EnsembleView, IsLike, IsEnsemble, turns_of}
+
+-- ---- worlds
+
+-- events lead there that feed nobody, and letters are not lost
+pub record Moves (w now : WorldView) : Type 0 where
+  pub events : List Event
+  pub leads : LeadsTo w events now
+  pub unfed : (client : ℕ) → fed_to client events ≡ []
+  pub grows : (l : Letter Body) → Contains w.letters l → Contains now.letters l
+
+pub stays : (w now : WorldView) → now ≡ w → Moves w now
+stays w now same = record {
+  events = [];
+  leads = subst (λ (x : WorldView). LeadsTo w [] x) (sym same) (leads_nowhere w);
+  unfed = λ client. refl;
+  grows = λ l c. subst (λ (x : WorldView). Contains x.letters l) (sym same) c;
+}
+
+-- by one event
+pub moves_by : (w now : WorldView) (e : Event) (new : List (Letter Body)) → WorldNext w e now → ((client : ℕ) → fed_by client e ≡ []) → now.letters ≡ w.letters ++ new → Moves w now
+moves_by w now e new next unfed sent = record {
+  events = e ∷ [];
+  leads = (now ∷ [], (next, tt), refl);
+  unfed = λ client. append-nil (fed_by client e) ∙ unfed client;
+  grows = λ l c. subst (λ (ls : List (Letter Body)). Contains ls l) (sym sent) (Contains-append_left w.letters new l c);
+}
+
+fed_both : (client : ℕ) (es fs : List Event) → fed_to client (es ++ fs) ≡ fed_to client es ++ fed_to client fs
+fed_both client es fs = flat_map-append (fed_by client) es fs
+
+pub moves_on : (a b c : WorldView) → Moves a b → Moves b c → Moves a c
+moves_on a b c p q = record {
+  events = p.events ++ q.events;
+  leads = leads_append a b c p.events q.events p.leads q.leads;
+  unfed = λ client. fed_both client p.events q.events ∙ (λ i. p.unfed client i ++ q.unfed client i);
+  grows = λ l in_a. q.grows l (p.grows l in_a);
+}
+
+pub reached_more : (config : ConfigView) (es fs : List Event) (w now : WorldView) → IsReached config es w → LeadsTo w fs now → IsReached config (es ++ fs) now
+reached_more config es fs w now r leads = by r.worlds r.reached r.ends
+  where
+    by : (worlds : List WorldView) → ReachedWorlds config es worlds → EndsWith worlds w → IsReached config (es ++ fs) now
+    by [] reached ends = absurd reached
+    by (first ∷ later) reached ends = record {
+      worlds = first ∷ (later ++ leads.0);
+      reached = (reached.0, runs_append first es fs later leads.0 reached.1 (subst (λ (x : WorldView). WorldRuns x fs leads.0) (sym ends) leads.1));
+      ends = last_append first later leads.0 ∙ (ap (λ (x : WorldView). last_world x leads.0) ends ∙ leads.2);
+    }
+
+-- ---- nodes
+
+-- the same proxies, whatever they wait for
+pub record SameProxies (old now : List ProxyView) : Type 0 where
+  pub count : length now ≡ length old
+  pub each : (i : ℕ) (p : ProxyView) → slice_get now i ≡ Some p → (q : ProxyView) × (slice_get old i ≡ Some q) × (p.client ≡ q.client) × (p.last ≡ q.last)
+
+pub same_proxies : (old now : List ProxyView) → now ≡ old → SameProxies old now
+same_proxies old now same = subst (SameProxies old) (sym same) (record { count = refl; each = λ i p at. (p, at, refl, refl) })
+
+-- the nodes went on, and so did the world
+pub record Goes (n now : NodesView) (w : WorldView) : Type 0 where
+  pub world : WorldView
+  pub moves : Moves w world
+  pub like : IsLike now world
+  pub same_u : now.u ≡ n.u
+  pub proxies : SameProxies n.proxies now.proxies
+
+pub goes_nowhere : (n now : NodesView) (w : WorldView) → IsLike n w → now ≡ n → Goes n now w
+goes_nowhere n now w like same = record {
+  world = w;
+  moves = stays w w refl;
+  like = subst (λ (x : NodesView). IsLike x w) (sym same) like;
+  same_u = ap (λ (x : NodesView). x.u) same;
+  proxies = same_proxies n.proxies now.proxies (ap (λ (x : NodesView). x.proxies) same);
+}
+
+pub goes_on : (a b c : NodesView) (w : WorldView) (p : Goes a b w) → Goes b c p.world → Goes a c w
+goes_on a b c w p q = record {
+  world = q.world;
+  moves = moves_on w p.world q.world p.moves q.moves;
+  like = q.like;
+  same_u = q.same_u ∙ p.same_u;
+  proxies = record {
+    count = q.proxies.count ∙ p.proxies.count;
+    each = λ i r at.
+        let mid = q.proxies.each i r at in
+        let first = p.proxies.each i mid.0 mid.1 in
+        (first.0, first.1, mid.2 ∙ first.2, mid.3 ∙ first.3);
+  };
+}
+
+-- ---- the ensemble
+
+pub still_sent : (letters more : List (Letter Body)) (client number : ℕ) (reply : replies.Reply) → ((l : Letter Body) → Contains letters l → Contains more l) → WasSent letters client number reply → WasSent more client number reply
+still_sent letters more client number reply grows sent = (sent.0, grows sent.0 sent.1, sent.2, sent.3)
+
+-- what was answered now was sent
+abbrev pub AreSent : List ((ℕ × ℕ) × replies.Reply) → List (Letter Body) → Type 0
+AreSent answered letters = (a : (ℕ × ℕ) × replies.Reply) → Contains answered a → WasSent letters a.0.0 a.0.1 a.1
+
+pub ensemble_goes : (e : EnsembleView) (n : NodesView) (answered : List ((ℕ × ℕ) × replies.Reply)) (h : IsEnsemble e) (g : Goes e.nodes n h.now) → AreSent answered g.world.letters → IsEnsemble (record { nodes = n; asked = e.asked; answered = answered })
+ensemble_goes e n answered h g sent = record {
+  config = h.config;
+  events = h.events ++ g.moves.events;
+  now = g.world;
+  same_u = h.same_u ∙ sym g.same_u;
+  clients = h.clients ∙ sym g.proxies.count;
+  through = reached_more h.config h.events g.moves.events h.now g.world h.through g.moves.leads;
+  like = g.like;
+  numbered = λ i p at. let old = g.proxies.each i p at in let was = h.numbered i old.0 old.1 in (old.2 ∙ was.0, old.3 ∙ was.1);
+  in_order = h.in_order;
+  fed = λ client. subst (λ (bytes : List ℕ). Spells bytes (turns_of client e.asked) [])
+      (sym (fed_both client h.events g.moves.events ∙ (ap (λ (bytes : List ℕ). fed_to client h.events ++ bytes) (g.moves.unfed client) ∙ append-nil (fed_to client h.events)))) (h.fed client);
+  answers = sent;
+}
+
+-- nothing was answered
+pub ensemble_stays : (e : EnsembleView) (n : NodesView) (h : IsEnsemble e) → Goes e.nodes n h.now → IsEnsemble (record { nodes = n; asked = e.asked; answered = e.answered })
+ensemble_stays e n h g = ensemble_goes e n e.answered h g (λ a c. still_sent h.now.letters g.world.letters a.0.0 a.0.1 a.1 g.moves.grows (h.answers a c))

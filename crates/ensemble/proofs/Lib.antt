@@ -1,0 +1,11 @@
+mod Lists
+mod Goes
+mod Hosts
+mod Verifiers
+mod Clients
+mod Logs
+mod Asks
+mod GhostVec
+mod First
+mod Going
+mod Crossing

@@ -1,0 +1,9 @@
+use Rattle.std.proofs.Common.{◌≡◌}
+use Rattle.ensemble.specs.Ensemble.{Answers}
+use Rattle.ensemble.proofs.ensemble.Ensemble.deliver_all.Given as goal
+
+abbrev pub invariant-loop : goal.invariant-loop
+invariant-loop l = record {
+  asked : l.self.asked ≡ l.fn.self.asked;
+  answered : Answers l.fn.self.answered l.fn.answers.items l.self.answered l.answers.items;
+}

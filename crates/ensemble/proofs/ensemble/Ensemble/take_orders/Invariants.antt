@@ -1,0 +1,8 @@
+use Rattle.std.proofs.Common.{◌≡◌}
+use Rattle.ensemble.proofs.ensemble.Ensemble.take_orders.Given as goal
+
+abbrev pub invariant-loop-id : goal.invariant-loop-id
+invariant-loop-id l = record {
+  asked : l.self.asked ≡ l.fn.self.asked;
+  answered : l.self.answered ≡ l.fn.self.answered;
+}

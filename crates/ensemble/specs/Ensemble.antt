@@ -1,0 +1,118 @@
+-- What an ensemble keeps, and what is always true of it.
+use Rattle.std.specs.Prelude.{◌≡◌, ◌⊎◌, ℕ, zero, suc, ◌<◌, ◌≤◌, ◌==◌, Bool, true, List, [], ◌∷◌, ◌++◌, length, map, Option, None, Some, Contains, slice_get, filter, refl}
+use Rattle.std.specs.Coded.{Coded, code_by, coded×, coded_ℕ, coded_bool, coded_list}
+use Rattle.proto.specs.declared.command.Command.{Command}
+use Rattle.proto.specs.declared.reply.Reply as replies
+use Rattle.proto.specs.declared.turn.Turn.{Turn}
+use Rattle.proto.specs.declared.turn.Turn.TheVariants.{Ask}
+use Rattle.proto.specs.Grammar.{Spells, IsTurnText}
+use Rattle.sessions.specs.declared.request.Request.{Request}
+use Rattle.decrees.specs.declared.node.Letter.{Letter}
+use Rattle.decrees.specs.declared.node.Node.TheVariants.{Executor}
+use Rattle.exec_lines.specs.declared.body.Body.{Body}
+use Rattle.client.specs.Client.{ClientView}
+use Rattle.events.specs.declared.event.Event.{Event}
+use Rattle.events.specs.Config.{ConfigView}
+use Rattle.worlds.specs.World.{WorldView}
+use Rattle.worlds.specs.Laws.{IsReached}
+use Rattle.memcached_spec.specs.Fed.{fed_to}
+use Rattle.worlds.specs.Asked.{WasSent}
+use Rattle.proxies.specs.Proxy.{ProxyView, talk_of}
+use Rattle.hosts.specs.Host.{HostView}
+use Rattle.ensemble.specs.declared.answer.Answer.{Answer}
+use Rattle.ensemble.specs.Nodes.{NodesView}
+
+pub record EnsembleView : Type 0 where
+  pub nodes : NodesView
+  -- each request that was asked, and whether its reply is left out of what the connection is given
+  pub asked : List (Request × Bool)
+  -- each answer: the proxy and the request's number, and the reply
+  pub answered : List ((ℕ × ℕ) × replies.Reply)
+
+-- an ensemble is identified by what it has
+abbrev pub ensemble_code : Coded NodesView → Coded Request → Coded (replies.Reply) → Coded EnsembleView
+ensemble_code nodes request reply =
+    code_by ((NodesView × List (Request × Bool)) × List ((ℕ × ℕ) × replies.Reply))
+    (coded× (coded× nodes (coded_list (coded× request coded_bool))) (coded_list (coded× (coded× coded_ℕ coded_ℕ) reply)))
+    (λ e. ((e.nodes, e.asked), e.answered))
+    (λ p. record { nodes = p.0.0; asked = p.0.1; answered = p.1 })
+    (λ _. refl)
+
+-- bytes of a connection can ask it
+abbrev pub HasText : Command → Bool → Type 0
+HasText command quiet = (bytes : List ℕ) × IsTurnText bytes (Ask command quiet)
+
+-- ---- logs
+
+abbrev pub answer_entry : Answer → (ℕ × ℕ) × replies.Reply
+answer_entry a = ((a.proxy, a.number), a.reply)
+
+abbrev pub answer_log : Option Answer → List ((ℕ × ℕ) × replies.Reply)
+answer_log None = []
+answer_log (Some a) = answer_entry a ∷ []
+
+-- one more request was asked: this one
+pub record IsLogged (asked : List (Request × Bool)) (proxy number : ℕ) (command : Command) (quiet : Bool) (now : List (Request × Bool)) : Type 0 where
+  pub request : Request
+  pub of_proxy : request.client ≡ proxy
+  pub numbered : request.number ≡ number
+  pub asks : request.command ≡ command
+  pub after : now ≡ asked ++ (request, quiet) ∷ []
+
+-- ---- what was asked, as bytes spell it
+
+abbrev pub is_of : ℕ → Request × Bool → Bool
+is_of client a = a.0.client == client
+
+-- what this client asked, in order
+abbrev pub asks_of : ℕ → List (Request × Bool) → List (Request × Bool)
+asks_of client asked = filter (is_of client) asked
+
+abbrev pub turn_of : Request × Bool → Turn
+turn_of a = Ask a.0.command a.1
+
+abbrev pub turns_of : ℕ → List (Request × Bool) → List Turn
+turns_of client asked = map turn_of (asks_of client asked)
+
+-- ---- an ensemble and a world
+
+-- a proxy is a client of the world
+abbrev pub client_of : ℕ → ProxyView → ClientView
+client_of u p = record { client = p.client; u = u; talk = talk_of p; up = true }
+
+-- what a host has of letters was sent to its executor
+pub record HasSent (h : HostView) (id : ℕ) (letters : List (Letter Body)) : Type 0 where
+  pub held : (l : Letter Body) → Contains h.held l → Contains letters l × (l.to ≡ Executor id)
+  pub sent : (l : Letter Body) → Contains h.sent l → Contains letters l
+
+-- the world has the same nodes, and each letter that is under way was sent in it
+pub record IsLike (n : NodesView) (w : WorldView) : Type 0 where
+  pub same_u : w.u ≡ n.u
+  pub executors : w.executors ≡ map (λ h. h.slot) n.executors
+  pub verifiers : w.verifiers ≡ n.verifiers
+  pub clients : map (λ slot. slot.client) w.clients ≡ map (client_of n.u) n.proxies
+  pub mail : (l : Letter Body) → Contains n.mail l → Contains w.letters l
+  pub hosts : (id : ℕ) (h : HostView) → slice_get n.executors id ≡ Some h → HasSent h id w.letters
+
+-- What is always true of an ensemble: it is a world that events lead to, in which just that was asked and answered which was.
+pub record IsEnsemble (e : EnsembleView) : Type 0 where
+  pub config : ConfigView
+  pub events : List Event
+  pub now : WorldView
+  pub same_u : config.u ≡ e.nodes.u
+  pub clients : config.clients ≡ length e.nodes.proxies
+  pub through : IsReached config events now
+  pub like : IsLike e.nodes now
+  -- proxies are numbered from 1, and each has asked so many requests, which are numbered from 1 too
+  pub numbered : (i : ℕ) (p : ProxyView) → slice_get e.nodes.proxies i ≡ Some p → (p.client ≡ suc i) × (p.last ≡ length (asks_of (suc i) e.asked))
+  pub in_order : (client k : ℕ) (a : Request × Bool) → slice_get (asks_of client e.asked) k ≡ Some a → a.0.number ≡ suc k
+  -- each client was fed just what was asked, and nothing is left of that
+  pub fed : (client : ℕ) → Spells (fed_to client events) (turns_of client e.asked) []
+  -- each answer was sent
+  pub answers : (a : (ℕ × ℕ) × replies.Reply) → Contains e.answered a → WasSent now.letters a.0.0 a.0.1 a.1
+
+-- answers came behind these, and were logged
+pub record Answers (log : List ((ℕ × ℕ) × replies.Reply)) (answers : List Answer) (log_now : List ((ℕ × ℕ) × replies.Reply)) (answers_now : List Answer) : Type 0 where
+  pub added : List Answer
+  pub after : answers_now ≡ answers ++ added
+  pub logged : log_now ≡ log ++ map answer_entry added

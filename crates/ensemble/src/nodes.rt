@@ -1,0 +1,81 @@
+//! All nodes, and the letters that are under way.
+
+ghost use Rattle.std.specs.Prelude.{◌≡◌, ◌<◌};
+
+use decrees::Letter;
+use exec_lines::Body;
+use hosts::ExecutorHost;
+use proxies::Proxy;
+use std::collections::VecDeque;
+use std::marker::Model;
+use worlds::VerifierPlace;
+
+/// All replicas, their proxies, and the letters that are under way. It cannot be dropped, since executors
+/// cannot: `end` ends it. Each of its methods is one event at most.
+pub struct Nodes {
+    pub u: u8,
+    pub proxies: Vec<Proxy>,
+    pub executors: Vec<ExecutorHost>,
+    pub verifiers: Vec<VerifierPlace>,
+    pub mail: VecDeque<Letter<Body>>,
+}
+
+impl Model for Nodes {
+    ghost use Rattle.std.specs.Prelude.{◌<◌};
+    ghost use Rattle.proxies.specs.contracts.proxy.Proxy as proxy;
+    ghost use Rattle.hosts.specs.contracts.executor_host.ExecutorHost as host;
+    ghost use Rattle.worlds.specs.contracts.verifier_place.VerifierPlace as verifier;
+    ghost use Rattle.decrees.specs.contracts.node.Letter as letter;
+    ghost use Rattle.exec_lines.specs.contracts.body.Body as body;
+    ghost use Rattle.ensemble.specs.Nodes.{NodesView, nodes_code};
+
+    ghost Value = { NodesView };
+
+    ghost coded = { nodes_code proxy.the_row.coded host.the_row.coded verifier.the_row.coded (letter.the_row body.the_row).coded };
+
+    ghost view = { λ n. record { u = n.u; proxies = n.proxies.items; executors = n.executors.items; verifiers = n.verifiers.items; mail = n.mail.items } };
+
+    ghost invariant = { λ n. n.u < 4 };
+}
+
+/// Ends these executors.
+pub fn end_executors(mut executors: Vec<ExecutorHost>) {
+    while let Some(host) = executors.pop() {
+        host.end();
+    }
+    executors.destroy_empty();
+}
+
+impl Nodes {
+    ghost use Rattle.std.specs.Prelude.{◌≡◌, ◌+◌, ◌*◌};
+
+    /// How many executors there are, and as many verifiers.
+    pub fn members(&self) -> u8
+        ensures { result ≡ 2 * self.now.u + 1 }
+    {
+        2 * self.u + 1
+    }
+
+    /// Whether the executor of this number is up and has a job.
+    pub fn has_job(&self, id: u8) -> bool {
+        match self.executors.get(usize::from(id)) {
+            Some(host) => host.job_len().is_some(),
+            None => false,
+        }
+    }
+
+    /// Ends all of them.
+    pub fn end(self) {
+        let Nodes {
+            u: _,
+            proxies,
+            executors,
+            verifiers,
+            mail,
+        } = self;
+        end_executors(executors);
+        drop(proxies);
+        drop(verifiers);
+        drop(mail);
+    }
+}

@@ -1,0 +1,129 @@
+//! The ensemble before the first request.
+
+ghost use Rattle.std.specs.Prelude.{◌≡◌, ◌<◌, ◌≤◌, ◌*◌, ◌+◌, IfOk, [], None};
+ghost use Rattle.worlds.specs.declared.slot.Slot.TheVariants.{Up};
+ghost use Rattle.worlds.specs.First.{first_verifier, all_up};
+ghost use Rattle.ensemble.specs.First.{first_proxies_of, first_hosts, first_host, first_nodes};
+
+use crate::ensemble::Ensemble;
+use crate::nodes::{Nodes, end_executors};
+use crate::progress::Progress;
+use hosts::ExecutorHost;
+use http_server::Log;
+use proto::Fault;
+use proxies::Proxy;
+use std::alloc::{AllocError, Global};
+use std::collections::VecDeque;
+use worlds::{Config, VerifierPlace};
+
+/// So many proxies that have asked nothing.
+fn first_proxies(alloc: Global, count: u16) -> Result<Vec<Proxy>, AllocError>
+    ensures { IfOk result (λ proxies. proxies.items ≡ first_proxies_of count) }
+{
+    let mut proxies = Vec::new(alloc);
+    for i in 0..count {
+        proxies.push(Proxy::new(i + 1))?;
+    }
+    Ok(proxies)
+}
+
+/// A verifier that is opened for the first time. It sends nothing.
+fn opened_verifier(alloc: Global, u: u8, id: u8) -> Result<VerifierPlace, AllocError>
+    requires few { u < 4 }
+    requires member { id ≤ 2 * u }
+    ensures { IfOk result (λ place. place ≡ Up (first_verifier u id)) }
+{
+    let mut place = VerifierPlace::unopened();
+    place.restart(alloc, u, id);
+    if place.node().is_some() {
+        Ok(place)
+    } else {
+        Err(AllocError)
+    }
+}
+
+/// The verifiers below this number alike.
+fn opened_verifiers(alloc: Global, u: u8, count: u8) -> Result<Vec<VerifierPlace>, AllocError>
+    requires few { u < 4 }
+    requires members { count ≤ 2 * u + 1 }
+    ensures { IfOk result (λ places. places.items ≡ all_up (first_verifier u) count) }
+{
+    let mut places = Vec::new(alloc);
+    for id in 0..count {
+        places.push(opened_verifier(alloc, u, id)?)?;
+    }
+    Ok(places)
+}
+
+/// An executor that is opened for the first time. It sends nothing.
+fn opened_executor(alloc: Global, u: u8, id: u8) -> Result<ExecutorHost, AllocError>
+    requires few { u < 4 }
+    requires member { id ≤ 2 * u }
+    ensures { IfOk result (λ host. host ≡ first_host u id) }
+{
+    let mut host = ExecutorHost::unopened(alloc);
+    host.open(alloc, u, id);
+    if host.is_up() {
+        return Ok(host);
+    }
+    host.end();
+    Err(AllocError)
+}
+
+/// The executors below this number alike. Room is taken first, since they cannot be dropped.
+fn opened_executors(alloc: Global, u: u8, count: u8) -> Result<Vec<ExecutorHost>, AllocError>
+    requires few { u < 4 }
+    requires members { count ≤ 2 * u + 1 }
+    ensures { IfOk result (λ hosts. hosts.items ≡ first_hosts u count) }
+{
+    let mut hosts = Vec::with_capacity(alloc, usize::from(count))?;
+    for id in 0..count {
+        match opened_executor(alloc, u, id) {
+            Ok(host) => hosts.push_reserved(host),
+            Err(error) => {
+                end_executors(hosts);
+                return Err(error);
+            }
+        }
+    }
+    Ok(hosts)
+}
+
+/// All nodes, with no letter under way.
+fn opened_nodes(alloc: Global, config: &Config) -> Result<Nodes, AllocError>
+    ensures { IfOk result (λ nodes. nodes ≡ first_nodes config.now) }
+{
+    let u = config.u();
+    let proxies = first_proxies(alloc, config.clients())?;
+    let verifiers = opened_verifiers(alloc, u, 2 * u + 1)?;
+    let executors = opened_executors(alloc, u, 2 * u + 1)?;
+    Ok(Nodes {
+        u,
+        proxies,
+        executors,
+        verifiers,
+        mail: VecDeque::new(alloc),
+    })
+}
+
+impl Ensemble {
+    ghost use Rattle.std.specs.Prelude.{◌≡◌, ◌⊎◌, IfOk, IfErr, []};
+
+    /// All replicas are opened, each with a keeper in memory that has no record, and there are as many proxies
+    /// as the config has clients. NoMemory, the only error: there is no memory for it, and all that was opened
+    /// is ended.
+    pub fn open(alloc: Global, config: &Config) -> Result<Ensemble, Fault>
+        ensures asked { IfOk result (λ ensemble. ensemble.asked ≡ []) }
+        ensures answered { IfOk result (λ ensemble. ensemble.answered ≡ []) }
+        ensures only { IfErr result (λ fault. fault ≡ Fault.NoMemory) }
+    {
+        let progress = Progress::new(alloc, 2 * config.u() + 1)?;
+        let nodes = opened_nodes(alloc, config)?;
+        Ok(Ensemble {
+            nodes,
+            progress,
+            asked: Log::new(),
+            answered: Log::new(),
+        })
+    }
+}
