@@ -1,0 +1,9 @@
+use Rattle.std.proofs.Common.{List, Option, subst}
+use Rattle.service.specs.declared.assignment.Outstanding.{Outstanding}
+use Rattle.service.specs.Steps.{EndsWait}
+use Rattle.service.proofs.WaitLemmas.{ends_take}
+use Rattle.service.proofs.pool.Pool.answered.Goals as goal
+
+pub returns : goal.returns
+returns c =
+    subst (λ (v : List (Option Outstanding)). EndsWait v c.args.proxy c.args.number c.take_at-outstanding.new.waiting.items c.take_at-outstanding.result) c.self.view_is (ends_take c.self.inside.waiting.items c.take_at-outstanding.new.waiting.items c.place_of.result c.args.proxy c.args.number c.take_at-outstanding.result c.take_at-outstanding.ensures)

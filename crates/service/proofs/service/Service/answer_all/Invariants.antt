@@ -1,0 +1,13 @@
+use Rattle.std.proofs.Common.{◌≡◌, length}
+use Rattle.service.specs.Service.{Gives, AreLogged}
+use Rattle.service.proofs.service.Service.answer_all.Given as goal
+
+abbrev pub invariant-loop-answer : goal.invariant-loop-answer
+invariant-loop-answer l = record {
+  logged : AreLogged l.answers.items l.self.answered;
+  given : Gives l.initial.self.connections.given l.initial.said.items l.self.connections.given l.said.items;
+  heard : l.self.connections.heard ≡ l.initial.self.connections.heard;
+}
+
+abbrev pub decreases-loop-answer : goal.decreases-loop-answer
+decreases-loop-answer l = length l.answers.items

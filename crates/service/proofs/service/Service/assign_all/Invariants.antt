@@ -1,0 +1,9 @@
+use Rattle.std.proofs.Common.{◌≡◌}
+use Rattle.service.specs.Service.{Gives}
+use Rattle.service.proofs.service.Service.assign_all.Given as goal
+
+abbrev pub invariant-loop : goal.invariant-loop
+invariant-loop l = record {
+  given : Gives l.initial.self.connections.given l.initial.said.items l.self.connections.given l.said.items;
+  heard : l.self.connections.heard ≡ l.initial.self.connections.heard;
+}

@@ -1,0 +1,11 @@
+use Rattle.std.proofs.Common.{ap}
+use Rattle.connections.specs.Connections.{ConnectionsView}
+use Rattle.service.specs.Service.{ServiceView, assigned}
+use Rattle.service.proofs.KeepLemmas.{connections_keep}
+use Rattle.service.proofs.service.Service.leave.Goals as goal
+
+pub invariant_of-self : goal.invariant_of-self
+invariant_of-self c =
+    let s = c.self.inside in
+    let v : ServiceView = record { connections = s.connections; asked = s.ensemble.asked; answered = s.ensemble.answered; assignments = assigned s.assignments.items; waiting = s.pool } in
+    (connections_keep v c.leave.new.self c.self.invariant.0 (ap (λ (x : ConnectionsView). x.taken) c.leave.ensures) (ap (λ (x : ConnectionsView). x.replied) c.leave.ensures), c.self.invariant.1)

@@ -1,0 +1,9 @@
+use Rattle.std.proofs.Common.{ap}
+use Rattle.service.specs.Service.{assigned}
+use Rattle.connections.specs.Connections.{ConnectionsView}
+use Rattle.service.proofs.KeepLemmas.{first_keeps}
+use Rattle.service.proofs.service.Service.open.Goals as goal
+
+pub invariant_of-result : goal.invariant_of-result
+invariant_of-result c =
+    (first_keeps _ (ap assigned c.new-5.ensures) c.in_ok-ensemble.ensures.asked (ap (λ (x : ConnectionsView). x.replied) c.new-3.ensures) c.in_ok-pool.ensures, c.u-2.ensures.few)

@@ -1,0 +1,3 @@
+pub mod Pause
+pub mod Service
+pub mod Steps

@@ -1,0 +1,112 @@
+-- What proxies wait for, and how a command is asked.
+use Rattle.std.specs.Prelude.{◌≡◌, ◌⊎◌, ℕ, ◌==◌, ◌&&◌, Bool, false, List, [], ◌∷◌, ◌++◌, Option, Some, None, Contains, slice_get, slice_set, if◌then◌else◌}
+use Rattle.proto.specs.declared.command.Command.{Command}
+use Rattle.connections.specs.declared.connections.CommandNumber.{CommandNumber}
+use Rattle.connections.specs.declared.places.Place.{Place}
+use Rattle.connections.specs.declared.said.Said.{Said}
+use Rattle.connections.specs.Connections.{ConnectionsView, AreBefore}
+use Rattle.ensemble.specs.Ensemble.{EnsembleView, IsLogged}
+use Rattle.service.specs.declared.assignment.Assignment.{Assignment}
+use Rattle.service.specs.declared.assignment.Outstanding.{Outstanding}
+use Rattle.service.specs.declared.asking.Asking.{Asking}
+use Rattle.service.specs.declared.asking.Asking.TheVariants.{Nothing, Asked, Failed}
+use Rattle.service.specs.Service.{Waits, given_entry}
+
+abbrev pub NoneWaits : List (Option Outstanding) → Type 0
+NoneWaits waiting = (a : Assignment) → Waits waiting a → ⊥
+
+abbrev pub is_request_of : ℕ → ℕ → Option Outstanding → Bool
+is_request_of proxy number None = false
+is_request_of proxy number (Some o) = (o.assignment.proxy == proxy) && (o.assignment.number == number)
+
+-- ---- one place
+
+abbrev pub assignment_of : Option Outstanding → Option Assignment
+assignment_of None = None
+assignment_of (Some o) = Some o.assignment
+
+-- what is there is taken, if it is this request
+abbrev pub TakesOne : ℕ → ℕ → Option Outstanding → Option Outstanding → Option Outstanding → Type 0
+TakesOne proxy number place now result = (result ≡ (if is_request_of proxy number place then place else None)) × (now ≡ (if is_request_of proxy number place then None else place))
+
+abbrev pub TakesWaitIn : ℕ → ℕ → ℕ → List (Option Outstanding) → List (Option Outstanding) → Option Outstanding → Option (Option Outstanding) → Type 0
+TakesWaitIn at proxy number old new result None = (new ≡ old) × (result ≡ None)
+TakesWaitIn at proxy number old new result (Some place) = (now : Option Outstanding) × TakesOne proxy number place now result × (new ≡ slice_set old at now)
+
+abbrev pub TakesWaitAt : ℕ → ℕ → ℕ → List (Option Outstanding) → List (Option Outstanding) → Option Outstanding → Type 0
+TakesWaitAt at proxy number old new result = TakesWaitIn at proxy number old new result (slice_get old at)
+
+-- the place has the same assignment
+abbrev pub SetsWaitIn : ℕ → List (Option Outstanding) → List (Option Outstanding) → Option (Option Outstanding) → Type 0
+SetsWaitIn at old new None = new ≡ old
+SetsWaitIn at old new (Some place) = (now : Option Outstanding) × (assignment_of now ≡ assignment_of place) × (new ≡ slice_set old at now)
+
+abbrev pub SetsWaitAt : ℕ → List (Option Outstanding) → List (Option Outstanding) → Type 0
+SetsWaitAt at old new = SetsWaitIn at old new (slice_get old at)
+
+-- ---- all places
+
+-- no proxy waits for what none waited for
+abbrev pub KeepsWaits : List (Option Outstanding) → List (Option Outstanding) → Type 0
+KeepsWaits old new = (a : Assignment) → Waits new a → Waits old a
+
+-- one waits for this
+abbrev pub AddsWait : List (Option Outstanding) → Assignment → List (Option Outstanding) → Type 0
+AddsWait old added new = (a : Assignment) → Waits new a → Waits old a ⊎ (a ≡ added)
+
+-- one waits no more, for this
+abbrev pub EndsWait : List (Option Outstanding) → ℕ → ℕ → List (Option Outstanding) → Option Outstanding → Type 0
+EndsWait old proxy number new None = KeepsWaits old new
+EndsWait old proxy number new (Some o) = KeepsWaits old new × Waits old o.assignment × (o.assignment.proxy ≡ proxy) × (o.assignment.number ≡ number)
+
+-- ---- a command is asked
+
+pub record HasSameBytes (v now : ConnectionsView) : Type 0 where
+  pub heard : now.heard ≡ v.heard
+  pub given : now.given ≡ v.given
+  pub replied : now.replied ≡ v.replied
+
+-- what was taken before still is
+abbrev pub KeepsTaken : ConnectionsView → ConnectionsView → Type 0
+KeepsTaken v now = (e : CommandNumber × Command) → Contains v.taken e → Contains now.taken e
+
+-- the command of the connection was asked of the proxy
+pub record IsAskedOf (at : Place) (proxy : ℕ) (v now : ConnectionsView) (e f : EnsembleView) (a : Assignment) : Type 0 where
+  pub of_connection : a.connection ≡ at.number
+  pub of_proxy : a.proxy ≡ proxy
+  pub command : Command
+  pub quiet : Bool
+  pub taken : now.taken ≡ v.taken ++ (record { connection = at.number; turn = a.turn }, command) ∷ []
+  pub first : AreBefore v.taken at.number a.turn
+  pub logged : IsLogged e.asked proxy a.number command quiet f.asked
+  pub answered : f.answered ≡ e.answered
+  pub bytes : HasSameBytes v now
+
+-- nothing was asked
+pub record AsksNothing (v now : ConnectionsView) (e f : EnsembleView) : Type 0 where
+  pub taken : KeepsTaken v now
+  pub same : f ≡ e
+  pub heard : now.heard ≡ v.heard
+  pub replied : now.replied ≡ v.replied
+
+abbrev pub AsksFor : Place → ℕ → ConnectionsView → EnsembleView → ConnectionsView → EnsembleView → Asking → Type 0
+AsksFor at proxy v e now f Nothing = AsksNothing v now e f × (now.given ≡ v.given)
+AsksFor at proxy v e now f (Asked a) = IsAskedOf at proxy v now e f a
+AsksFor at proxy v e now f (Failed said) = AsksNothing v now e f × (now.given ≡ v.given ++ given_entry said ∷ [])
+
+-- the connection leaves
+pub record LeavesFor (v now : ConnectionsView) : Type 0 where
+  pub taken : now.taken ≡ v.taken
+  pub heard : now.heard ≡ v.heard
+  pub replied : now.replied ≡ v.replied
+
+abbrev pub Fails : ConnectionsView → ConnectionsView → Asking → Type 0
+Fails v now Nothing = LeavesFor v now × (now.given ≡ v.given)
+Fails v now (Asked a) = ⊥
+Fails v now (Failed said) = LeavesFor v now × (now.given ≡ v.given ++ given_entry said ∷ [])
+
+-- what came of it is kept: what proxies wait for, which command was asked, and what is given
+abbrev pub Settles : Asking → List (Option Outstanding) → List (Option Outstanding) → List Assignment → List Assignment → List Said → List Said → Type 0
+Settles Nothing old new before now said said_now = (new ≡ old) × (now ≡ before) × (said_now ≡ said)
+Settles (Asked a) old new before now said said_now = AddsWait old a new × (now ≡ before ++ a ∷ []) × (said_now ≡ said)
+Settles (Failed given) old new before now said said_now = (new ≡ old) × (now ≡ before) × (said_now ≡ said ++ given ∷ [])

@@ -1,0 +1,64 @@
+//! How a command is asked of a proxy.
+
+ghost use Rattle.std.specs.Prelude.{◌≡◌};
+ghost use Rattle.service.specs.Steps.{AsksFor};
+
+use crate::assignment::Assignment;
+use connections::{Connections, Place, Ready, Said};
+use ensemble::Ensemble;
+use std::alloc::Global;
+
+/// What came of it that a command was to be asked.
+#[derive(Drop)]
+pub enum Asking {
+    /// There was no command.
+    Nothing,
+    /// It was asked.
+    Asked(Assignment),
+    /// There is no memory for it. The connection is to be closed.
+    Failed(Said),
+}
+
+/// The connection is closed, since memory ran out for its command.
+fn failed(alloc: Global, connections: &mut Connections, at: Place) -> Asking
+    ensures { Fails connections.old connections.new result }
+{
+    match connections.drop_out(alloc, at) {
+        Some(said) => Asking::Failed(said),
+        None => Asking::Nothing,
+    }
+}
+
+ghost use Rattle.service.specs.Steps.{Fails};
+
+/// The command of the connection, if it has one that may be asked, is asked of the proxy.
+pub fn ask(
+    alloc: Global,
+    connections: &mut Connections,
+    ensemble: &mut Ensemble,
+    at: Place,
+    proxy: u16,
+) -> Asking
+    ensures { AsksFor at proxy connections.old ensemble.old connections.new ensemble.new result }
+{
+    if !ensemble.is_free(proxy) {
+        return Asking::Nothing;
+    }
+    let Some(ready) = connections.take(at) else {
+        return Asking::Nothing;
+    };
+    let Ready {
+        turn,
+        command,
+        quiet,
+    } = ready;
+    match ensemble.ask(alloc, proxy, command, quiet) {
+        Ok(number) => Asking::Asked(Assignment {
+            connection: at.number,
+            turn,
+            proxy,
+            number,
+        }),
+        Err(_) => failed(alloc, connections, at),
+    }
+}

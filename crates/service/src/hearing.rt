@@ -1,0 +1,40 @@
+//! What is heard of connections.
+
+ghost use Rattle.std.specs.Prelude.{◌≡◌};
+ghost use Rattle.service.specs.Service.{Hears};
+
+use connections::{Connections, Place, Said};
+use proto::Fault;
+use std::alloc::Global;
+use std::collections::VecDeque;
+
+/// Puts a connection into the line if a command of it waits for a proxy.
+pub fn line_up(connections: &Connections, line: &mut VecDeque<Place>, at: Place) {
+    if connections.is_ready(at) {
+        let _ = line.push_back(at);
+    }
+}
+
+/// Reads a piece of what comes of a connection. If it asks a command it joins the line.
+pub fn hear_at(
+    alloc: Global,
+    connections: &mut Connections,
+    line: &mut VecDeque<Place>,
+    at: Place,
+    piece: Vec<u8>,
+) -> Result<Said, Fault>
+    ensures hears { Hears at.key at.number piece.items connections.old connections.new result }
+    ensures taken { connections.new.taken ≡ connections.old.taken }
+    ensures replied { connections.new.replied ≡ connections.old.replied }
+{
+    if line.reserve(1).is_err() {
+        connections.leave(at);
+        return Err(Fault::NoMemory);
+    }
+    let was_ready = connections.is_ready(at);
+    let said = connections.hear(alloc, at, piece)?;
+    if !was_ready {
+        line_up(connections, line, at);
+    }
+    Ok(said)
+}

@@ -1,0 +1,58 @@
+//! The nodes that may have stopped.
+
+ghost use Rattle.std.specs.Prelude.{◌<◌};
+
+use crate::pause::Pause;
+use ensemble::Replica;
+use std::alloc::{AllocError, Global};
+
+/// The pause of each node: executors first, then verifiers.
+#[derive(Drop)]
+pub struct Nodes {
+    members: u8,
+    pauses: Vec<Pause>,
+}
+
+impl Nodes {
+    /// `2u + 1` executors and as many verifiers, none of which has stopped yet.
+    pub fn new(alloc: Global, u: u8) -> Result<Nodes, AllocError>
+        requires { u < 4 }
+    {
+        let members = 2 * u + 1;
+        let mut pauses = Vec::new(alloc);
+        for _ in 0..2 * members {
+            pauses.push(Pause::new())?;
+        }
+        Ok(Nodes { members, pauses })
+    }
+
+    /// How many nodes there are.
+    pub fn count(&self) -> usize {
+        self.pauses.len()
+    }
+
+    /// The node at this place.
+    pub fn replica(&self, at: usize) -> Replica {
+        let at = u8::try_from(at).unwrap_or(0);
+        if at < self.members {
+            Replica::Executor(at)
+        } else {
+            Replica::Verifier(at - self.members)
+        }
+    }
+
+    /// A tick that finds the node at this place up or down: whether it is to be opened now.
+    pub fn tick(&mut self, at: usize, is_up: bool) -> bool {
+        match self.pauses.get_mut(at) {
+            Some(pause) => {
+                if is_up {
+                    pause.find_up();
+                    false
+                } else {
+                    pause.find_down()
+                }
+            }
+            None => false,
+        }
+    }
+}

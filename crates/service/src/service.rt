@@ -1,0 +1,174 @@
+//! The service, and what comes from outside.
+
+ghost use Rattle.std.specs.Prelude.{◌≡◌};
+
+use crate::assignment::Assignment;
+use crate::hearing::{hear_at, line_up};
+use crate::incidents::Incidents;
+use crate::nodes::Nodes;
+use crate::pool::Pool;
+use connections::{Connections, Place, Said};
+use ensemble::{Config, Ensemble};
+use http_server::Log;
+use proto::Fault;
+use std::alloc::Global;
+use std::collections::VecDeque;
+use std::marker::Model;
+
+/// Connections over the client proxies of one ensemble. It cannot be dropped: `end` ends it.
+pub struct Service {
+    pub(crate) ensemble: Ensemble,
+    pub(crate) connections: Connections,
+    /// Those whose command waits for a proxy, in order. Some may have left.
+    pub(crate) line: VecDeque<Place>,
+    pub(crate) pool: Pool,
+    pub(crate) nodes: Nodes,
+    pub(crate) u: u8,
+    pub(crate) suspicions: u64,
+    /// Which command was asked as which request, each with its proxy.
+    pub(crate) assignments: Log<Assignment, u16>,
+}
+
+impl Model for Service {
+    ghost use Rattle.std.specs.Prelude.{◌<◌};
+    ghost use Rattle.service.specs.Service.{ServiceView, IsService, assigned};
+
+    ghost Value = { ServiceView };
+
+    ghost view = { λ s. record { connections = s.connections; asked = s.ensemble.asked; answered = s.ensemble.answered; assignments = assigned s.assignments.items; waiting = s.pool } };
+
+    ghost invariant = { λ s. IsService (record { connections = s.connections; asked = s.ensemble.asked; answered = s.ensemble.answered; assignments = assigned s.assignments.items; waiting = s.pool }) × (s.u < 4) };
+}
+
+impl Service {
+    ghost use Rattle.std.specs.Prelude.{◌≡◌, ◌++◌, ◌∷◌, ◌⊎◌, [], true, false, IfOk, OnOk, OnErr};
+    ghost use Rattle.connections.specs.Places.{is_here};
+    ghost use Rattle.connections.specs.Connections.{HasSameLogs, no_connections, IsConnections};
+    ghost use Rattle.service.specs.Service.{IsService, HasEnsemble, HasSameRequests, Hears};
+
+    /// A service where no connection came, over `2u + 1` executors, as many verifiers, and as many proxies as
+    /// the config has clients.
+    ///
+    /// NoMemory: an allocation failed. Any other error is that of a node that does not open.
+    pub fn open(alloc: Global, config: &Config) -> Result<Service, Fault>
+        ensures connections { IfOk result (λ s. s.connections ≡ no_connections) }
+        ensures asked { IfOk result (λ s. s.asked ≡ []) }
+        ensures answered { IfOk result (λ s. s.answered ≡ []) }
+    {
+        let pool = Pool::new(alloc, config.clients())?;
+        let nodes = Nodes::new(alloc, config.u())?;
+        let ensemble = Ensemble::open(alloc, config)?;
+        Ok(Service {
+            ensemble,
+            connections: Connections::new(alloc),
+            line: VecDeque::new(alloc),
+            pool,
+            nodes,
+            u: config.u(),
+            suspicions: 0,
+            assignments: Log::new(),
+        })
+    }
+
+    /// A connection comes. `key` is where the event loop keeps it, and is used again after it left; `number` is
+    /// above those of all connections that came before.
+    ///
+    /// After an error no connection has changed, and this one is to be closed. Unfit: the number is not above the
+    /// others, or a connection is at the key; Full: the key is 65,536 or more; NoMemory: an allocation failed.
+    pub fn come(&mut self, alloc: Global, key: usize, number: u64) -> Result<(), Fault>
+        ensures logs { HasSameLogs self.old.connections self.new.connections }
+        ensures requests { HasSameRequests self.old self.new }
+    {
+        self.connections.come(alloc, Place { key, number })
+    }
+
+    /// Reads a piece of what comes of a connection: what the connection is given at once, before its command, if
+    /// it asks one, is answered by `work`.
+    ///
+    /// Unfit: it is not here; NoMemory: an allocation failed; Stopped: it has no number left for a command. After
+    /// an error it has left, and is to be closed. Nothing else has changed.
+    pub fn hear(
+        &mut self,
+        alloc: Global,
+        key: usize,
+        number: u64,
+        piece: Vec<u8>,
+    ) -> Result<Said, Fault>
+        ensures hears { Hears key number piece.items self.old.connections self.new.connections result }
+        ensures requests { HasSameRequests self.old self.new }
+    {
+        hear_at(
+            alloc,
+            &mut self.connections,
+            &mut self.line,
+            Place { key, number },
+            piece,
+        )
+    }
+
+    /// So many of the bytes that a connection was given are written. While 256 KB or more are not written its next
+    /// command is not asked. If the connection is not here nothing changes.
+    pub fn written(&mut self, key: usize, number: u64, count: usize)
+        ensures { self.new ≡ self.old }
+    {
+        let at = Place { key, number };
+        self.connections.written(at, count);
+        line_up(&self.connections, &mut self.line, at);
+    }
+
+    /// A connection has left. Its command, if one was asked, is carried out; its reply is let go when it comes. If the
+    /// connection is not here nothing changes.
+    pub fn leave(&mut self, key: usize, number: u64)
+        ensures logs { HasSameLogs self.old.connections self.new.connections }
+        ensures requests { HasSameRequests self.old self.new }
+    {
+        self.connections.leave(Place { key, number });
+    }
+
+    /// Whether `work` has something to do at once: a command waits, and a proxy is free.
+    pub fn is_ready(&self) -> bool {
+        !self.line.is_empty() && self.pool.has_free()
+    }
+
+    /// Whether something waits for a tick: a request is not answered, or a node is down.
+    pub fn is_waiting(&self) -> bool {
+        !self.line.is_empty() || self.pool.is_waiting() || self.is_any_down()
+    }
+
+    /// What it has come through.
+    pub fn incidents(&self) -> Incidents {
+        Incidents {
+            suspicions: self.suspicions,
+            rollbacks: self.ensemble.epoch().saturating_sub(1),
+        }
+    }
+
+    /// What always holds of it. It does nothing.
+    pub fn shows(&self)
+        ensures connections { IsConnections self.now.connections }
+        ensures service { IsService self.now }
+        ensures ensemble { HasEnsemble self.now }
+    {
+        self.connections.always();
+        self.ensemble.shows();
+    }
+
+    /// Ends it.
+    pub fn end(self) {
+        let Service {
+            ensemble,
+            connections,
+            line,
+            pool,
+            nodes,
+            u: _,
+            suspicions: _,
+            assignments: _,
+        } = self;
+        ensemble.end();
+        drop(connections);
+        drop(line);
+        drop(pool);
+        drop(nodes);
+    }
+}

@@ -1,0 +1,112 @@
+//! What is due after a tick.
+
+ghost use Rattle.std.specs.Prelude.{◌≡◌, ◌<◌};
+ghost use Rattle.service.specs.Steps.{KeepsWaits};
+
+use crate::pool::Pool;
+use crate::service::Service;
+use ensemble::Ensemble;
+use serving::{Seen, Urge};
+use std::alloc::Global;
+
+/// The proxy at this place asks again.
+fn ask_again(alloc: Global, pool: &mut Pool, ensemble: &mut Ensemble, at: usize, seen: Seen)
+    ensures waits { KeepsWaits pool.old pool.new }
+    ensures asked { ensemble.new.asked ≡ ensemble.old.asked }
+    ensures answered { ensemble.new.answered ≡ ensemble.old.answered }
+{
+    if let Some(proxy) = pool.ask_again(at, seen) {
+        ensemble.again(alloc, proxy);
+    }
+}
+
+/// What is due of the proxy at this place: whether the leader is suspected.
+fn tick_at(
+    alloc: Global,
+    pool: &mut Pool,
+    ensemble: &mut Ensemble,
+    at: usize,
+    u: u8,
+    seen: Seen,
+) -> bool
+    requires { u < 4 }
+    ensures waits { KeepsWaits pool.old pool.new }
+    ensures asked { ensemble.new.asked ≡ ensemble.old.asked }
+    ensures answered { ensemble.new.answered ≡ ensemble.old.answered }
+{
+    let urge = pool.tick(at, u, seen);
+    if urge != Urge::Wait {
+        ask_again(alloc, pool, ensemble, at, seen);
+    }
+    urge == Urge::Suspect
+}
+
+impl Service {
+    ghost use Rattle.std.specs.Prelude.{◌≡◌};
+
+    /// Whether a node is down.
+    pub(crate) fn is_any_down(&self) -> bool {
+        for at in 0..self.nodes.count() {
+            if !self.ensemble.is_up(self.nodes.replica(at)) {
+                return true;
+            }
+        }
+        false
+    }
+
+    /// Opens a node again if it is down and its pause has gone by.
+    fn tick_node(&mut self, alloc: Global, at: usize)
+        ensures { self.new.connections ≡ self.old.connections }
+    {
+        let replica = self.nodes.replica(at);
+        let is_up = self.ensemble.is_up(replica);
+        if self.nodes.tick(at, is_up) {
+            let _ = self.ensemble.restart(alloc, replica);
+        }
+    }
+
+    /// Tells the next verifier that the leader is suspected. They take turns, from the second one on.
+    fn suspect(&mut self, alloc: Global)
+        ensures { self.new.connections ≡ self.old.connections }
+    {
+        self.suspicions = self.suspicions.wrapping_add(1);
+        let members = u64::from(2 * self.u + 1);
+        self.ensemble
+            .suspect(alloc, (self.suspicions % members) as u8);
+    }
+
+    /// What is due of the proxy at this place: whether the leader is suspected.
+    fn tick_proxy(&mut self, alloc: Global, at: usize, seen: Seen) -> bool
+        ensures { self.new.connections ≡ self.old.connections }
+    {
+        tick_at(alloc, &mut self.pool, &mut self.ensemble, at, self.u, seen)
+    }
+
+    /// What is due of all proxies: whether the leader is suspected.
+    fn tick_proxies(&mut self, alloc: Global) -> bool
+        ensures { self.new.connections ≡ self.old.connections }
+    {
+        let seen = self.ensemble.seen();
+        let mut is_suspected = false;
+        for at in 0..self.pool.count() {
+            if self.tick_proxy(alloc, at, seen) {
+                is_suspected = true;
+            }
+        }
+        is_suspected
+    }
+
+    /// A tick, ten of which come in a second while something waits (`is_waiting`), also while requests come: a
+    /// proxy that waits for long asks again, and then suspects the leader; a node that stopped is opened
+    /// again. `work` is to come after it.
+    pub fn tick(&mut self, alloc: Global)
+        ensures { self.new.connections ≡ self.old.connections }
+    {
+        if self.tick_proxies(alloc) {
+            self.suspect(alloc);
+        }
+        for at in 0..self.nodes.count() {
+            self.tick_node(alloc, at);
+        }
+    }
+}
