@@ -1,0 +1,26 @@
+-- Which lines are due, and what the log has told of then.
+use Rattle.std.specs.Prelude.{ℕ}
+use Rattle.daemon.specs.declared.report.Due.{Due}
+use Rattle.daemon.specs.declared.report.Report.{Report}
+use Rattle.daemon.specs.declared.report.Totals.{Totals}
+use Rattle.daemon.specs.Told.{due_number, told_after}
+
+abbrev pub due_lines : Report → Totals → ℕ → Due
+due_lines report totals second = record {
+  stops = due_number report.stops totals.stops second;
+  returns = due_number report.returns totals.returns second;
+  suspicions = due_number report.suspicions totals.suspicions second;
+  rollbacks = due_number report.rollbacks totals.rollbacks second;
+  refused = due_number report.refused totals.refused second;
+  failed = due_number report.failed totals.failed second;
+}
+
+abbrev pub report_after : Report → Totals → ℕ → Report
+report_after report totals second = record {
+  stops = told_after report.stops totals.stops second;
+  returns = told_after report.returns totals.returns second;
+  suspicions = told_after report.suspicions totals.suspicions second;
+  rollbacks = told_after report.rollbacks totals.rollbacks second;
+  refused = told_after report.refused totals.refused second;
+  failed = told_after report.failed totals.failed second;
+}

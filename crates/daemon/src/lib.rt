@@ -1,0 +1,22 @@
+//! What a daemon is told, and what it tells: the words of its command line, and the lines of its log.
+//!
+//! It stands on `clap` for the words, on `log` for the lines and on `figures` for what they are about. The program
+//! `eve_cached` uses `read_settings`, and `Report`, which says which lines are due: at most one of a kind a second, and
+//! the numbers of a kind's lines add up to what has happened.
+#![tactic(auto)]
+
+mod laws;
+mod lines;
+mod report;
+mod resident;
+mod settings;
+mod stamped;
+mod told;
+
+pub use laws::lines_add_up;
+pub use lines::{NO_TARGET, tell, tell_listening};
+pub use report::{Due, Report, Totals};
+pub use resident::resident_pages;
+pub use settings::{MOST_CONNECTIONS, Settings, read_settings};
+pub use stamped::{Stamped, seconds};
+pub use told::Told;

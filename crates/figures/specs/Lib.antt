@@ -1,0 +1,8 @@
+pub mod Asked
+pub mod Count
+pub mod Commands
+pub mod Histogram
+pub mod Kind
+pub mod Line
+pub mod Lines
+pub mod Outcome

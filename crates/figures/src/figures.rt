@@ -1,0 +1,185 @@
+//! All figures.
+
+ghost use Rattle.std.specs.Prelude.{◌≡◌, ◌≢◌, ◌∷◌, [], ◌<◌};
+ghost use Rattle.figures.specs.Count.{up, sum_of};
+ghost use Rattle.figures.specs.Outcome.{outcome_of};
+ghost use Rattle.figures.specs.Asked.{found_of};
+ghost use Rattle.figures.specs.Commands.{kind_count};
+ghost use Rattle.figures.specs.declared.kind.Kind.{Kind};
+ghost use Rattle.figures.specs.declared.outcome.Outcome.{Outcome};
+
+use crate::asked::{Asked, found_in};
+use crate::commands::Commands;
+use crate::count::plus;
+use crate::histogram::Histogram;
+use crate::lines::Lines;
+use crate::node::{MOST_NODES, NodeFigures};
+use crate::outcome::Outcome;
+use proto::Reply;
+
+/// Connections of clients.
+#[derive(Clone, Copy, Debug, PartialEq, Eq, Default)]
+pub struct Connections {
+    /// Open now.
+    pub open: u64,
+    /// Accepted since the start.
+    pub accepted: u64,
+    /// Closed at once since the limit was reached.
+    pub refused: u64,
+    /// How often a connection could not be accepted, as at the limit on descriptors.
+    pub failed: u64,
+    /// Bytes read from all connections.
+    pub bytes_read: u64,
+    /// Bytes written to all connections.
+    pub bytes_written: u64,
+}
+
+/// Keys of `get`, `gets`, `gat` and `gats`.
+#[derive(Clone, Copy, Debug, PartialEq, Eq, Default)]
+pub struct Keys {
+    pub asked: u64,
+    pub found: u64,
+}
+
+/// Batches of requests.
+#[derive(Clone, Copy, Debug, PartialEq, Eq, Default)]
+pub struct Batches {
+    /// Cut by the leading executor.
+    pub cut: u64,
+    /// Requests in all of them.
+    pub requests: u64,
+    /// Decided as Commits.
+    pub committed: u64,
+    /// Decided as Rollbacks.
+    pub rolled_back: u64,
+}
+
+/// The replicas.
+#[derive(Clone, Copy, Debug, PartialEq, Eq)]
+pub struct Replicas {
+    /// How many executors there are, and as many verifiers: 1, 3, 5 or 7.
+    pub members: u8,
+    /// The executors. Those from `members` on are not there.
+    pub executors: [NodeFigures; MOST_NODES],
+    /// The verifiers. Those from `members` on are not there.
+    pub verifiers: [NodeFigures; MOST_NODES],
+    /// The epoch, which each Rollback raises. The first is 1.
+    pub epoch: u64,
+    /// The view of the verifiers, which each change of the leader raises.
+    pub view: u64,
+    /// The number of the last state that was committed.
+    pub number: u64,
+    /// How often a verifier was told that the leader is suspected.
+    pub suspicions: u64,
+}
+
+/// What is stored, and what it takes.
+#[derive(Clone, Copy, Debug, PartialEq, Eq, Default)]
+pub struct Memory {
+    /// Items in one state.
+    pub items: u64,
+    /// Bytes of their keys and blocks.
+    pub item_bytes: u64,
+    /// Resident memory of the process in bytes. 0: it is not known.
+    pub resident_bytes: u64,
+}
+
+/// All that a server counts, and where it stands. It can be copied.
+#[derive(Clone, Copy, Debug, PartialEq, Eq)]
+pub struct Figures {
+    /// Seconds since the start.
+    pub uptime_seconds: u64,
+    pub connections: Connections,
+    /// Commands that were answered, by kind and outcome.
+    pub commands: Commands,
+    pub keys: Keys,
+    /// Lines that are answered without the replicas.
+    pub lines: Lines,
+    pub batches: Batches,
+    pub replicas: Replicas,
+    pub memory: Memory,
+    /// From a command's last byte to its reply.
+    pub reply_times: Histogram,
+    /// From a batch's cut to its replies.
+    pub batch_times: Histogram,
+}
+
+impl Connections {
+    /// No connection came.
+    pub const NONE: Connections = Connections {
+        open: 0,
+        accepted: 0,
+        refused: 0,
+        failed: 0,
+        bytes_read: 0,
+        bytes_written: 0,
+    };
+}
+
+impl Keys {
+    /// No key was asked.
+    pub const NONE: Keys = Keys { asked: 0, found: 0 };
+}
+
+impl Batches {
+    /// No batch was cut.
+    pub const NONE: Batches = Batches {
+        cut: 0,
+        requests: 0,
+        committed: 0,
+        rolled_back: 0,
+    };
+}
+
+impl Replicas {
+    /// No replica is there.
+    pub const NONE: Replicas = Replicas {
+        members: 0,
+        executors: [NodeFigures::NONE; MOST_NODES],
+        verifiers: [NodeFigures::NONE; MOST_NODES],
+        epoch: 0,
+        view: 0,
+        number: 0,
+        suspicions: 0,
+    };
+}
+
+impl Memory {
+    /// Nothing is stored.
+    pub const NONE: Memory = Memory {
+        items: 0,
+        item_bytes: 0,
+        resident_bytes: 0,
+    };
+}
+
+impl Figures {
+    /// Nothing was counted.
+    pub const NONE: Figures = Figures {
+        uptime_seconds: 0,
+        connections: Connections::NONE,
+        commands: Commands::NONE,
+        keys: Keys::NONE,
+        lines: Lines::NONE,
+        batches: Batches::NONE,
+        replicas: Replicas::NONE,
+        memory: Memory::NONE,
+        reply_times: Histogram::NONE,
+        batch_times: Histogram::NONE,
+    };
+
+    /// A command was answered.
+    pub fn answer(&mut self, asked: Asked, reply: &Reply)
+        ensures counted { kind_count self.new.commands asked.kind (outcome_of reply.now) ≡ up (kind_count self.old.commands asked.kind (outcome_of reply.now)) }
+        ensures outcomes { (other : Outcome) → other ≢ outcome_of reply.now → kind_count self.new.commands asked.kind other ≡ kind_count self.old.commands asked.kind other }
+        ensures kinds { (other : Kind) → (any : Outcome) → other ≢ asked.kind → kind_count self.new.commands other any ≡ kind_count self.old.commands other any }
+        ensures keys { self.new.keys ≡ record { asked = sum_of self.old.keys.asked asked.keys; found = sum_of self.old.keys.found (found_of reply.now) } }
+        ensures others { self.new ≡ record self.old { commands = self.new.commands; keys = self.new.keys } }
+    {
+        self.commands.count(asked.kind, Outcome::of(reply));
+        self.keys = Keys {
+            asked: plus(self.keys.asked, asked.keys),
+            found: plus(self.keys.found, found_in(reply)),
+        };
+    }
+}

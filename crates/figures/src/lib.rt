@@ -1,0 +1,27 @@
+//! Figures: what a server counts of its work, as one plain value that can be copied.
+//!
+//! It stands on `proto`, whose commands, replies and notices are counted by their kinds. The layers that do the
+//! work count into their own part; the layers above show a copy of `Figures`. No count decides anything.
+#![tactic(auto)]
+
+mod asked;
+mod commands;
+mod count;
+mod figures;
+mod histogram;
+mod kind;
+mod line;
+mod lines;
+mod node;
+mod outcome;
+
+pub use asked::{Asked, found_in};
+pub use commands::{Commands, Outcomes};
+pub use count::{one_more, plus};
+pub use figures::{Batches, Connections, Figures, Keys, Memory, Replicas};
+pub use histogram::{BOUNDS, BUCKETS, Histogram};
+pub use kind::{ALL_KINDS, KINDS, Kind};
+pub use line::{ALL_LINES, LINES, Line};
+pub use lines::Lines;
+pub use node::{MOST_NODES, NodeFigures};
+pub use outcome::{ALL_OUTCOMES, OUTCOMES, Outcome};

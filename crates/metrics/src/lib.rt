@@ -1,0 +1,18 @@
+//! Figures in Prometheus' text form (version 0.0.4).
+//!
+//! It stands on `figures`. The layer above uses `metrics_of`, whose contract gives each byte of the text: the
+//! HELP and the TYPE line of each metric, and a line for each of its values.
+#![tactic(auto)]
+
+mod families;
+mod metric;
+mod metric_type;
+mod number;
+mod plain;
+mod sample;
+
+pub use families::metrics_of;
+pub use metric::{ALL_METRICS, METRICS, Metric};
+pub use metric_type::MetricType;
+pub use plain::Plain;
+pub use sample::{Labels, Number, Role, Sample, Suffix};

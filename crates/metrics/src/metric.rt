@@ -1,0 +1,99 @@
+//! The metrics.
+
+ghost use Rattle.std.specs.Prelude.{◌≡◌};
+ghost use Rattle.metrics.specs.Metric.{metric_name, metric_help, metric_type_of};
+
+use crate::metric_type::MetricType;
+use crate::plain::Plain;
+
+/// How many metrics there are.
+pub const METRICS: usize = 26;
+
+/// A metric: one value, or one for each of its labels.
+#[derive(Clone, Copy, Debug, PartialEq, Eq)]
+pub enum Metric {
+    Plain(Plain),
+    Commands,
+    Lines,
+    NodeUp,
+    NodeStops,
+    ReplySeconds,
+    BatchSeconds,
+}
+
+/// All metrics, in the order in which they are shown.
+pub const ALL_METRICS: [Metric; METRICS] = [
+    Metric::Plain(Plain::UptimeSeconds),
+    Metric::Plain(Plain::ConnectionsOpen),
+    Metric::Plain(Plain::ConnectionsAccepted),
+    Metric::Plain(Plain::ConnectionsRefused),
+    Metric::Plain(Plain::AcceptFailures),
+    Metric::Plain(Plain::BytesRead),
+    Metric::Plain(Plain::BytesWritten),
+    Metric::Commands,
+    Metric::Lines,
+    Metric::Plain(Plain::KeysAsked),
+    Metric::Plain(Plain::KeysFound),
+    Metric::Plain(Plain::Batches),
+    Metric::Plain(Plain::BatchRequests),
+    Metric::Plain(Plain::Commits),
+    Metric::Plain(Plain::Rollbacks),
+    Metric::Plain(Plain::Epoch),
+    Metric::Plain(Plain::View),
+    Metric::Plain(Plain::StateNumber),
+    Metric::Plain(Plain::Suspicions),
+    Metric::NodeUp,
+    Metric::NodeStops,
+    Metric::Plain(Plain::Items),
+    Metric::Plain(Plain::ItemBytes),
+    Metric::Plain(Plain::ResidentMemory),
+    Metric::ReplySeconds,
+    Metric::BatchSeconds,
+];
+
+impl Metric {
+    /// Its name.
+    pub fn name(self) -> &'static str
+        ensures { result.now ≡ metric_name self }
+    {
+        match self {
+            Metric::Plain(plain) => plain.name(),
+            Metric::Commands => "eve_commands_total",
+            Metric::Lines => "eve_lines_total",
+            Metric::NodeUp => "eve_node_up",
+            Metric::NodeStops => "eve_node_stops_total",
+            Metric::ReplySeconds => "eve_reply_seconds",
+            Metric::BatchSeconds => "eve_batch_seconds",
+        }
+    }
+
+    /// What it counts, for a reader.
+    pub fn help(self) -> &'static str
+        ensures { result.now ≡ metric_help self }
+    {
+        match self {
+            Metric::Plain(plain) => plain.help(),
+            Metric::Commands => "Commands that were answered, by command and outcome.",
+            Metric::Lines => "Lines that were answered without the replicas.",
+            Metric::NodeUp => "Whether the executor or verifier is up.",
+            Metric::NodeStops => "Times that the executor or verifier was found down.",
+            Metric::ReplySeconds => "Time from the last byte of a command to its reply.",
+            Metric::BatchSeconds => "Time from the cut of a batch to its replies.",
+        }
+    }
+
+    /// Whether it only grows, or has buckets.
+    pub fn metric_type(self) -> MetricType
+        ensures { result ≡ metric_type_of self }
+    {
+        match self {
+            Metric::Plain(plain) => plain.metric_type(),
+            Metric::Commands => MetricType::Counter,
+            Metric::Lines => MetricType::Counter,
+            Metric::NodeUp => MetricType::Gauge,
+            Metric::NodeStops => MetricType::Counter,
+            Metric::ReplySeconds => MetricType::Histogram,
+            Metric::BatchSeconds => MetricType::Histogram,
+        }
+    }
+}

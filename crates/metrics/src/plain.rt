@@ -1,0 +1,148 @@
+//! The metrics that have one value.
+
+ghost use Rattle.std.specs.Prelude.{◌≡◌};
+ghost use Rattle.metrics.specs.Plain.{plain_name, plain_help, plain_type, plain_value};
+
+use crate::metric_type::MetricType;
+use figures::Figures;
+
+/// A metric that has one value and no labels.
+#[derive(Clone, Copy, Debug, PartialEq, Eq)]
+pub enum Plain {
+    UptimeSeconds,
+    ConnectionsOpen,
+    ConnectionsAccepted,
+    ConnectionsRefused,
+    AcceptFailures,
+    BytesRead,
+    BytesWritten,
+    KeysAsked,
+    KeysFound,
+    Batches,
+    BatchRequests,
+    Commits,
+    Rollbacks,
+    Epoch,
+    View,
+    StateNumber,
+    Suspicions,
+    Items,
+    ItemBytes,
+    ResidentMemory,
+}
+
+impl Plain {
+    /// Its name.
+    pub fn name(self) -> &'static str
+        ensures { result.now ≡ plain_name self }
+    {
+        match self {
+            Plain::UptimeSeconds => "eve_uptime_seconds",
+            Plain::ConnectionsOpen => "eve_connections_open",
+            Plain::ConnectionsAccepted => "eve_connections_accepted_total",
+            Plain::ConnectionsRefused => "eve_connections_refused_total",
+            Plain::AcceptFailures => "eve_accept_failures_total",
+            Plain::BytesRead => "eve_bytes_read_total",
+            Plain::BytesWritten => "eve_bytes_written_total",
+            Plain::KeysAsked => "eve_keys_asked_total",
+            Plain::KeysFound => "eve_keys_found_total",
+            Plain::Batches => "eve_batches_total",
+            Plain::BatchRequests => "eve_batch_requests_total",
+            Plain::Commits => "eve_commits_total",
+            Plain::Rollbacks => "eve_rollbacks_total",
+            Plain::Epoch => "eve_epoch",
+            Plain::View => "eve_view",
+            Plain::StateNumber => "eve_state_number",
+            Plain::Suspicions => "eve_suspicions_total",
+            Plain::Items => "eve_items",
+            Plain::ItemBytes => "eve_item_bytes",
+            Plain::ResidentMemory => "eve_resident_memory_bytes",
+        }
+    }
+
+    /// What it counts, for a reader.
+    pub fn help(self) -> &'static str
+        ensures { result.now ≡ plain_help self }
+    {
+        match self {
+            Plain::UptimeSeconds => "Seconds since the start.",
+            Plain::ConnectionsOpen => "Connections that are open.",
+            Plain::ConnectionsAccepted => "Connections that were accepted.",
+            Plain::ConnectionsRefused =>
+                "Connections that were closed at once, at the limit on connections.",
+            Plain::AcceptFailures =>
+                "Times that no connection could be accepted, as at the limit on descriptors.",
+            Plain::BytesRead => "Bytes read from clients.",
+            Plain::BytesWritten => "Bytes written to clients.",
+            Plain::KeysAsked => "Keys of get, gets, gat and gats.",
+            Plain::KeysFound => "Keys of get, gets, gat and gats that were found.",
+            Plain::Batches => "Batches that were cut.",
+            Plain::BatchRequests => "Requests in all batches.",
+            Plain::Commits => "Batches that were committed.",
+            Plain::Rollbacks => "Rollbacks that were decided.",
+            Plain::Epoch => "The epoch. Each rollback raises it.",
+            Plain::View => "The view of the verifiers. Each change of the leader raises it.",
+            Plain::StateNumber => "The number of the last committed state.",
+            Plain::Suspicions => "Times that the leader was suspected.",
+            Plain::Items => "Items in one state.",
+            Plain::ItemBytes => "Bytes of the keys and values of all items in one state.",
+            Plain::ResidentMemory => "Resident memory of the process, 0 if it is not known.",
+        }
+    }
+
+    /// Whether it only grows.
+    pub fn metric_type(self) -> MetricType
+        ensures { result ≡ plain_type self }
+    {
+        match self {
+            Plain::UptimeSeconds => MetricType::Gauge,
+            Plain::ConnectionsOpen => MetricType::Gauge,
+            Plain::ConnectionsAccepted => MetricType::Counter,
+            Plain::ConnectionsRefused => MetricType::Counter,
+            Plain::AcceptFailures => MetricType::Counter,
+            Plain::BytesRead => MetricType::Counter,
+            Plain::BytesWritten => MetricType::Counter,
+            Plain::KeysAsked => MetricType::Counter,
+            Plain::KeysFound => MetricType::Counter,
+            Plain::Batches => MetricType::Counter,
+            Plain::BatchRequests => MetricType::Counter,
+            Plain::Commits => MetricType::Counter,
+            Plain::Rollbacks => MetricType::Counter,
+            Plain::Epoch => MetricType::Gauge,
+            Plain::View => MetricType::Gauge,
+            Plain::StateNumber => MetricType::Gauge,
+            Plain::Suspicions => MetricType::Counter,
+            Plain::Items => MetricType::Gauge,
+            Plain::ItemBytes => MetricType::Gauge,
+            Plain::ResidentMemory => MetricType::Gauge,
+        }
+    }
+
+    /// Its value.
+    pub fn value(self, figures: &Figures) -> u64
+        ensures { result ≡ plain_value figures.now self }
+    {
+        match self {
+            Plain::UptimeSeconds => figures.uptime_seconds,
+            Plain::ConnectionsOpen => figures.connections.open,
+            Plain::ConnectionsAccepted => figures.connections.accepted,
+            Plain::ConnectionsRefused => figures.connections.refused,
+            Plain::AcceptFailures => figures.connections.failed,
+            Plain::BytesRead => figures.connections.bytes_read,
+            Plain::BytesWritten => figures.connections.bytes_written,
+            Plain::KeysAsked => figures.keys.asked,
+            Plain::KeysFound => figures.keys.found,
+            Plain::Batches => figures.batches.cut,
+            Plain::BatchRequests => figures.batches.requests,
+            Plain::Commits => figures.batches.committed,
+            Plain::Rollbacks => figures.batches.rolled_back,
+            Plain::Epoch => figures.replicas.epoch,
+            Plain::View => figures.replicas.view,
+            Plain::StateNumber => figures.replicas.number,
+            Plain::Suspicions => figures.replicas.suspicions,
+            Plain::Items => figures.memory.items,
+            Plain::ItemBytes => figures.memory.item_bytes,
+            Plain::ResidentMemory => figures.memory.resident_bytes,
+        }
+    }
+}

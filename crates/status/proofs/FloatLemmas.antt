@@ -1,0 +1,45 @@
+-- The figures as JSON have no float.
+use Rattle.std.proofs.Common.{◌≡◌, ℕ, List, [], ◌∷◌, map, false, refl}
+use Rattle.figures.specs.declared.figures.Figures.{Figures}
+use Rattle.figures.specs.declared.figures.Replicas.{Replicas}
+use Rattle.figures.specs.declared.histogram.Histogram.{Histogram}
+use Rattle.figures.specs.declared.commands.Commands.{Commands}
+use Rattle.figures.specs.declared.kind.Kind.{Kind}
+use Rattle.figures.specs.declared.kind.TheConstants.{ALL_KINDS}
+use Rattle.figures.specs.declared.node.NodeFigures.{NodeFigures}
+use Rattle.serde_json.specs.Written.{has_float, items_have_float}
+use Rattle.serde_json.specs.View.{items_of}
+use Rattle.status.specs.Data.{whole, outcomes_data, all_commands_data, connections_data, keys_data, batches_data, memory_data, lines_data, node_data, histogram_data, replicas_data, figures_data}
+
+no_float_in_wholes : (counts : List ℕ) → items_have_float (items_of (map whole counts)) ≡ false
+no_float_in_wholes [] = refl
+no_float_in_wholes (_ ∷ counts) = no_float_in_wholes counts
+
+no_float_in_outcomes : (c : Commands) (k : Kind) → has_float (outcomes_data c k) ≡ false
+unfolding outcomes_data
+no_float_in_outcomes c k = refl
+
+no_float_in_commands : (c : Commands) (kinds : List Kind) → items_have_float (items_of (map (outcomes_data c) kinds)) ≡ false
+no_float_in_commands c [] = refl
+no_float_in_commands c (k ∷ kinds) = rw (no_float_in_outcomes c k) (no_float_in_commands c kinds)
+
+no_float_in_nodes : (nodes : List NodeFigures) → items_have_float (items_of (map node_data nodes)) ≡ false
+unfolding node_data
+no_float_in_nodes [] = refl
+no_float_in_nodes (_ ∷ nodes) = no_float_in_nodes nodes
+
+no_float_in_replicas : (r : Replicas) → has_float (replicas_data r) ≡ false
+unfolding replicas_data
+no_float_in_replicas r = rw (no_float_in_nodes r.executors) (rw (no_float_in_nodes r.verifiers) refl)
+
+no_float_in_histogram : (h : Histogram) → has_float (histogram_data h) ≡ false
+unfolding histogram_data
+no_float_in_histogram h = rw (no_float_in_wholes h.counts) refl
+
+pub no_float : (f : Figures) → has_float (figures_data f) ≡ false
+unfolding figures_data connections_data keys_data batches_data memory_data lines_data all_commands_data
+no_float f =
+    rw (no_float_in_commands f.commands ALL_KINDS)
+    (rw (no_float_in_replicas f.replicas)
+    (rw (no_float_in_histogram f.reply_times)
+    (rw (no_float_in_histogram f.batch_times) refl)))

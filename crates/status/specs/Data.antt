@@ -1,0 +1,105 @@
+-- The figures as JSON.
+use Rattle.std.specs.Prelude.{ℕ, List, codes, map}
+use Rattle.serde_json.specs.Data.{Data, number, unsigned, boolean, array, object, member, no_members}
+use Rattle.serde_json.specs.View.{items_of}
+use Rattle.figures.specs.declared.figures.Figures.{Figures}
+use Rattle.figures.specs.declared.figures.Connections.{Connections}
+use Rattle.figures.specs.declared.figures.Keys.{Keys}
+use Rattle.figures.specs.declared.figures.Batches.{Batches}
+use Rattle.figures.specs.declared.figures.Memory.{Memory}
+use Rattle.figures.specs.declared.figures.Replicas.{Replicas}
+use Rattle.figures.specs.declared.commands.Commands.{Commands}
+use Rattle.figures.specs.declared.lines.Lines.{Lines}
+use Rattle.figures.specs.declared.histogram.Histogram.{Histogram}
+use Rattle.figures.specs.declared.node.NodeFigures.{NodeFigures}
+use Rattle.figures.specs.declared.kind.Kind.{Kind}
+use Rattle.figures.specs.declared.kind.TheConstants.{ALL_KINDS}
+use Rattle.figures.specs.declared.line.Line.TheVariants as line
+use Rattle.figures.specs.declared.outcome.TheConstants.{ALL_OUTCOMES}
+use Rattle.figures.specs.Commands.{kind_count}
+use Rattle.figures.specs.Lines.{line_count}
+
+-- a count
+abbrev pub whole : ℕ → Data
+whole n = number (unsigned n)
+
+-- the counts of a list
+abbrev pub wholes_data : List ℕ → Data
+wholes_data counts = array (items_of (map whole counts))
+
+unfoldable pub connections_data : Connections → Data
+connections_data x = object (member (codes "accepted") (whole x.accepted)
+    (member (codes "bytes_read") (whole x.bytes_read)
+    (member (codes "bytes_written") (whole x.bytes_written)
+    (member (codes "failed") (whole x.failed)
+    (member (codes "open") (whole x.open)
+    (member (codes "refused") (whole x.refused) no_members))))))
+
+unfoldable pub keys_data : Keys → Data
+keys_data x = object (member (codes "asked") (whole x.asked)
+    (member (codes "found") (whole x.found) no_members))
+
+unfoldable pub batches_data : Batches → Data
+batches_data x = object (member (codes "committed") (whole x.committed)
+    (member (codes "cut") (whole x.cut)
+    (member (codes "requests") (whole x.requests)
+    (member (codes "rolled_back") (whole x.rolled_back) no_members))))
+
+unfoldable pub memory_data : Memory → Data
+memory_data x = object (member (codes "item_bytes") (whole x.item_bytes)
+    (member (codes "items") (whole x.items)
+    (member (codes "resident_bytes") (whole x.resident_bytes) no_members)))
+
+-- how often a command of the kind had each outcome
+unfoldable pub outcomes_data : Commands → Kind → Data
+outcomes_data commands kind = wholes_data (map (kind_count commands kind) ALL_OUTCOMES)
+
+-- the outcomes of each command, in the order of ALL_KINDS
+abbrev pub commands_data : Commands → List Kind → Data
+commands_data commands kinds = array (items_of (map (outcomes_data commands) kinds))
+
+unfoldable pub lines_data : Lines → Data
+lines_data l = object (member (codes "bad_chunk") (whole (line_count l line.BadChunk))
+    (member (codes "bad_delta") (whole (line_count l line.BadDelta))
+    (member (codes "bad_format") (whole (line_count l line.BadFormat))
+    (member (codes "quit") (whole (line_count l line.Quit))
+    (member (codes "too_large") (whole (line_count l line.TooLarge))
+    (member (codes "too_long") (whole (line_count l line.TooLong))
+    (member (codes "unknown_name") (whole (line_count l line.UnknownName))
+    (member (codes "version") (whole (line_count l line.Version)) no_members))))))))
+
+unfoldable pub node_data : NodeFigures → Data
+node_data n = object (member (codes "stops") (whole n.stops)
+    (member (codes "up") (boolean n.is_up) no_members))
+
+abbrev pub nodes_data : List NodeFigures → Data
+nodes_data nodes = array (items_of (map node_data nodes))
+
+unfoldable pub histogram_data : Histogram → Data
+histogram_data h = object (member (codes "counts") (wholes_data h.counts)
+    (member (codes "sum") (whole h.sum) no_members))
+
+unfoldable pub replicas_data : Replicas → Data
+replicas_data r = object (member (codes "epoch") (whole r.epoch)
+    (member (codes "executors") (nodes_data r.executors)
+    (member (codes "members") (whole r.members)
+    (member (codes "number") (whole r.number)
+    (member (codes "suspicions") (whole r.suspicions)
+    (member (codes "verifiers") (nodes_data r.verifiers)
+    (member (codes "view") (whole r.view) no_members)))))))
+
+unfoldable pub all_commands_data : Commands → Data
+all_commands_data c = commands_data c ALL_KINDS
+
+-- all figures
+unfoldable pub figures_data : Figures → Data
+figures_data f = object (member (codes "batch_times") (histogram_data f.batch_times)
+    (member (codes "batches") (batches_data f.batches)
+    (member (codes "commands") (all_commands_data f.commands)
+    (member (codes "connections") (connections_data f.connections)
+    (member (codes "keys") (keys_data f.keys)
+    (member (codes "lines") (lines_data f.lines)
+    (member (codes "memory") (memory_data f.memory)
+    (member (codes "replicas") (replicas_data f.replicas)
+    (member (codes "reply_times") (histogram_data f.reply_times)
+    (member (codes "uptime_seconds") (whole f.uptime_seconds) no_members))))))))))

@@ -1,0 +1,4 @@
+pub mod Answer
+pub mod Data
+pub mod Response
+pub mod Wanted

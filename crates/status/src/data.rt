@@ -1,0 +1,147 @@
+//! The figures as JSON, for the page.
+
+ghost use Rattle.std.specs.Prelude.{◌≡◌, string_bytes, IfOk};
+ghost use Rattle.serde_json.specs.Written.{compact_text};
+ghost use Rattle.serde_json.specs.View.{view};
+ghost use Rattle.status.specs.Data as spec;
+
+use figures::{
+    ALL_KINDS, Batches, Commands, Connections, Figures, Histogram, Keys, Kind, Line, Lines, Memory,
+    NodeFigures, Outcome, Replicas,
+};
+use serde_json::{Value, json};
+use std::alloc::{AllocError, Global};
+
+#[tactic(auto, unfolding(crate::specs::Data::connections_data))]
+fn connections_json(alloc: Global, connections: &Connections) -> Result<Value, AllocError>
+    ensures { IfOk result (λ v. view v ≡ spec.connections_data connections.now) }
+{
+    json!(in alloc; {"open": connections.open, "accepted": connections.accepted, "refused": connections.refused, "failed": connections.failed, "bytes_read": connections.bytes_read, "bytes_written": connections.bytes_written})
+}
+
+#[tactic(auto, unfolding(crate::specs::Data::keys_data))]
+fn keys_json(alloc: Global, keys: &Keys) -> Result<Value, AllocError>
+    ensures { IfOk result (λ v. view v ≡ spec.keys_data keys.now) }
+{
+    json!(in alloc; {"asked": keys.asked, "found": keys.found})
+}
+
+#[tactic(auto, unfolding(crate::specs::Data::batches_data))]
+fn batches_json(alloc: Global, batches: &Batches) -> Result<Value, AllocError>
+    ensures { IfOk result (λ v. view v ≡ spec.batches_data batches.now) }
+{
+    json!(in alloc; {"cut": batches.cut, "requests": batches.requests, "committed": batches.committed, "rolled_back": batches.rolled_back})
+}
+
+#[tactic(auto, unfolding(crate::specs::Data::memory_data))]
+fn memory_json(alloc: Global, memory: &Memory) -> Result<Value, AllocError>
+    ensures { IfOk result (λ v. view v ≡ spec.memory_data memory.now) }
+{
+    json!(in alloc; {"items": memory.items, "item_bytes": memory.item_bytes, "resident_bytes": memory.resident_bytes})
+}
+
+/// How often a command of the kind had each outcome.
+#[tactic(auto, unfolding(crate::specs::Data::outcomes_data))]
+fn outcomes_json(alloc: Global, kind: Kind, commands: &Commands) -> Result<Value, AllocError>
+    ensures { IfOk result (λ v. view v ≡ spec.outcomes_data commands.now kind) }
+{
+    json!(in alloc; [commands.count_of(kind, Outcome::Hit), commands.count_of(kind, Outcome::Miss), commands.count_of(kind, Outcome::Stored), commands.count_of(kind, Outcome::NotStored), commands.count_of(kind, Outcome::Exists), commands.count_of(kind, Outcome::NotFound), commands.count_of(kind, Outcome::Deleted), commands.count_of(kind, Outcome::Touched), commands.count_of(kind, Outcome::Counted), commands.count_of(kind, Outcome::TooLarge), commands.count_of(kind, Outcome::NotNumber)])
+}
+
+/// The outcomes of each of these commands.
+fn commands_json(alloc: Global, kinds: &[Kind], commands: &Commands) -> Result<Value, AllocError>
+    ensures { IfOk result (λ v. view v ≡ spec.commands_data commands.now kinds.now) }
+{
+    let mut values = Vec::new(alloc);
+    for kind in kinds {
+        values.push(outcomes_json(alloc, *kind, commands)?)?;
+    }
+    Ok(Value::Array(values))
+}
+
+/// The outcomes of all commands.
+#[tactic(auto, unfolding(crate::specs::Data::all_commands_data))]
+fn all_commands_json(alloc: Global, commands: &Commands) -> Result<Value, AllocError>
+    ensures { IfOk result (λ v. view v ≡ spec.all_commands_data commands.now) }
+{
+    commands_json(alloc, ALL_KINDS.as_slice(), commands)
+}
+
+#[tactic(auto, unfolding(crate::specs::Data::lines_data))]
+fn lines_json(alloc: Global, lines: &Lines) -> Result<Value, AllocError>
+    ensures { IfOk result (λ v. view v ≡ spec.lines_data lines.now) }
+{
+    json!(in alloc; {"unknown_name": lines.of(Line::UnknownName), "bad_format": lines.of(Line::BadFormat), "bad_delta": lines.of(Line::BadDelta), "too_long": lines.of(Line::TooLong), "too_large": lines.of(Line::TooLarge), "bad_chunk": lines.of(Line::BadChunk), "version": lines.of(Line::Version), "quit": lines.of(Line::Quit)})
+}
+
+#[tactic(auto, unfolding(crate::specs::Data::node_data))]
+fn node_json(alloc: Global, node: &NodeFigures) -> Result<Value, AllocError>
+    ensures { IfOk result (λ v. view v ≡ spec.node_data node.now) }
+{
+    json!(in alloc; {"up": node.is_up, "stops": node.stops})
+}
+
+/// All nodes of one role, those that are not there too.
+fn nodes_json(alloc: Global, nodes: &[NodeFigures]) -> Result<Value, AllocError>
+    ensures { IfOk result (λ v. view v ≡ spec.nodes_data nodes.now) }
+{
+    let mut values = Vec::new(alloc);
+    for node in nodes {
+        values.push(node_json(alloc, node)?)?;
+    }
+    Ok(Value::Array(values))
+}
+
+#[tactic(auto, unfolding(crate::specs::Data::replicas_data))]
+fn replicas_json(alloc: Global, replicas: &Replicas) -> Result<Value, AllocError>
+    ensures { IfOk result (λ v. view v ≡ spec.replicas_data replicas.now) }
+{
+    let executors = nodes_json(alloc, replicas.executors.as_slice())?;
+    let verifiers = nodes_json(alloc, replicas.verifiers.as_slice())?;
+    json!(in alloc; {"members": replicas.members, "executors": executors, "verifiers": verifiers, "epoch": replicas.epoch, "view": replicas.view, "number": replicas.number, "suspicions": replicas.suspicions})
+}
+
+/// The counts of a list.
+fn wholes_json(alloc: Global, counts: &[u64]) -> Result<Value, AllocError>
+    ensures { IfOk result (λ v. view v ≡ spec.wholes_data counts.now) }
+{
+    let mut values = Vec::new(alloc);
+    for count in counts {
+        values.push(Value::from(*count))?;
+    }
+    Ok(Value::Array(values))
+}
+
+#[tactic(auto, unfolding(crate::specs::Data::histogram_data))]
+fn histogram_json(alloc: Global, histogram: &Histogram) -> Result<Value, AllocError>
+    ensures { IfOk result (λ v. view v ≡ spec.histogram_data histogram.now) }
+{
+    let counts = wholes_json(alloc, histogram.counts.as_slice())?;
+    json!(in alloc; {"counts": counts, "sum": histogram.sum})
+}
+
+/// All figures.
+#[tactic(auto, unfolding(crate::specs::Data::figures_data))]
+fn figures_json(alloc: Global, figures: &Figures) -> Result<Value, AllocError>
+    ensures { IfOk result (λ v. view v ≡ spec.figures_data figures.now) }
+{
+    let connections = connections_json(alloc, &figures.connections)?;
+    let commands = all_commands_json(alloc, &figures.commands)?;
+    let keys = keys_json(alloc, &figures.keys)?;
+    let lines = lines_json(alloc, &figures.lines)?;
+    let batches = batches_json(alloc, &figures.batches)?;
+    let replicas = replicas_json(alloc, &figures.replicas)?;
+    let memory = memory_json(alloc, &figures.memory)?;
+    let reply_times = histogram_json(alloc, &figures.reply_times)?;
+    let batch_times = histogram_json(alloc, &figures.batch_times)?;
+    json!(in alloc; {"uptime_seconds": figures.uptime_seconds, "connections": connections, "commands": commands, "keys": keys, "lines": lines, "batches": batches, "replicas": replicas, "memory": memory, "reply_times": reply_times, "batch_times": batch_times})
+}
+
+/// The text of all figures as JSON. Some 2 KB.
+///
+/// It fails if an allocation fails.
+pub fn data_of(alloc: Global, figures: &Figures) -> Result<String, AllocError>
+    ensures { IfOk result (λ text. string_bytes text ≡ compact_text (spec.figures_data figures.now)) }
+{
+    figures_json(alloc, figures)?.to_string(alloc)
+}

@@ -1,0 +1,14 @@
+//! The status port's answers: a page for a browser, its data, and the metrics.
+//!
+//! It stands on `figures` and `metrics`, and on `httparse` and `serde_json`. The layer above uses `answer`, whose
+//! contract gives each byte of the response for what came of a request. There is no socket here.
+#![tactic(auto)]
+
+mod answering;
+mod data;
+mod page;
+mod response;
+mod wanted;
+
+pub use answering::answer;
+pub use wanted::{MOST_FIELDS, MOST_HEAD_BYTES, Wanted, wanted_by};

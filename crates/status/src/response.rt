@@ -1,0 +1,113 @@
+//! Responses.
+
+ghost use Rattle.std.specs.Prelude.{◌≡◌, ◌++◌, OnOk, IfOk, length};
+ghost use Rattle.status.specs.Response.{status_text, type_text, extra_text, type_field, length_text, fields_text, response_head, response_text, note_text};
+
+use crate::wanted::Wanted;
+use itoa::Buffer;
+use std::alloc::{AllocError, Global};
+
+impl Wanted {
+    /// The status line, up to its line end.
+    #[tactic(auto, unfolding(crate::specs::Response::status_text))]
+    fn status(self) -> &'static [u8]
+        ensures { result.now ≡ status_text self }
+    {
+        match self {
+            Wanted::Page | Wanted::Data | Wanted::Metrics => b"HTTP/1.1 200 OK",
+            Wanted::NotFound => b"HTTP/1.1 404 Not Found",
+            Wanted::BadMethod => b"HTTP/1.1 405 Method Not Allowed",
+            Wanted::BadRequest => b"HTTP/1.1 400 Bad Request",
+            Wanted::TooLong => b"HTTP/1.1 431 Request Header Fields Too Large",
+        }
+    }
+
+    /// The type of the body.
+    #[tactic(auto, unfolding(crate::specs::Response::type_text))]
+    fn body_type(self) -> &'static [u8]
+        ensures { result.now ≡ type_text self }
+    {
+        match self {
+            Wanted::Page => b"text/html; charset=utf-8",
+            Wanted::Data => b"application/json",
+            Wanted::Metrics => b"text/plain; version=0.0.4; charset=utf-8",
+            _ => b"text/plain; charset=utf-8",
+        }
+    }
+
+    /// The fields that only some responses have.
+    #[tactic(auto, unfolding(crate::specs::Response::extra_text))]
+    fn extra(self) -> &'static [u8]
+        ensures { result.now ≡ extra_text self }
+    {
+        match self {
+            Wanted::Page => {
+                b"content-security-policy: default-src 'none'; script-src 'unsafe-inline'; style-src 'unsafe-inline'; connect-src 'self'\r\n"
+            }
+            Wanted::BadMethod => b"allow: GET\r\n",
+            _ => b"",
+        }
+    }
+
+    /// The body of a response that shows no figures.
+    pub fn note(self) -> &'static [u8]
+        ensures { result.now ≡ note_text self }
+    {
+        match self {
+            Wanted::NotFound => b"There are /, /metrics and /data.json.\n",
+            Wanted::BadMethod => b"Only GET is answered.\n",
+            Wanted::BadRequest => b"This is no request of HTTP/1.\n",
+            Wanted::TooLong => b"The head of the request is too long.\n",
+            _ => b"",
+        }
+    }
+}
+
+#[tactic(auto, unfolding(crate::specs::Response::length_text))]
+fn write_length(length: usize, out: &mut Vec<u8>) -> Result<(), AllocError>
+    ensures { OnOk result (out.new.items ≡ out.old.items ++ length_text length) }
+{
+    let mut buffer = Buffer::new();
+    out.extend_from_slice(b"\r\ncontent-length: ".as_slice())?;
+    out.extend_from_slice(buffer.format(length).as_bytes())?;
+    out.extend_from_slice(b"\r\n".as_slice())
+}
+
+/// The fields that each response has, and the empty line.
+#[tactic(auto, unfolding(crate::specs::Response::fields_text))]
+fn write_fields(out: &mut Vec<u8>) -> Result<(), AllocError>
+    ensures { OnOk result (out.new.items ≡ out.old.items ++ fields_text) }
+{
+    out.extend_from_slice(
+        b"cache-control: no-store\r\nx-content-type-options: nosniff\r\nconnection: close\r\n\r\n".as_slice(),
+    )
+}
+
+/// The field with the type of the body.
+#[tactic(auto, unfolding(crate::specs::Response::type_field))]
+fn write_type(wanted: Wanted, out: &mut Vec<u8>) -> Result<(), AllocError>
+    ensures { OnOk result (out.new.items ≡ out.old.items ++ type_field wanted) }
+{
+    out.extend_from_slice(b"\r\ncontent-type: ".as_slice())?;
+    out.extend_from_slice(wanted.body_type())
+}
+
+fn write_head(wanted: Wanted, length: usize, out: &mut Vec<u8>) -> Result<(), AllocError>
+    ensures { OnOk result (out.new.items ≡ out.old.items ++ response_head wanted length) }
+{
+    out.extend_from_slice(wanted.status())?;
+    write_type(wanted, out)?;
+    write_length(length, out)?;
+    out.extend_from_slice(wanted.extra())?;
+    write_fields(out)
+}
+
+/// The bytes of the response with this body. It fails if an allocation fails.
+pub fn response_of(alloc: Global, wanted: Wanted, body: &[u8]) -> Result<Vec<u8>, AllocError>
+    ensures { IfOk result (λ response. response.items ≡ response_text wanted body.now) }
+{
+    let mut out = Vec::with_capacity(alloc, 512)?;
+    write_head(wanted, body.len(), &mut out)?;
+    out.extend_from_slice(body)?;
+    Ok(out)
+}

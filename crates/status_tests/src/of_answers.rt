@@ -1,0 +1,122 @@
+//! Rows of a request and the beginning of its response.
+
+use crate::samples::some_figures;
+use serde_json::Value;
+use status::answer;
+use std::alloc::Global;
+use std::test::Fail;
+
+/// Whether the request is answered by a response that begins so and closes the connection.
+fn answers(alloc: Global, request: &[u8], first: &[u8]) -> bool {
+    match answer(alloc, request, &some_figures()) {
+        Ok(Some(response)) => {
+            let closing = b"\r\nconnection: close\r\n\r\n".as_slice();
+            response.starts_with(first) && response.windows(closing.len()).any(|w| w == closing)
+        }
+        _ => false,
+    }
+}
+
+/// Whether more bytes are asked for.
+fn waits(alloc: Global, request: &[u8]) -> bool {
+    matches!(answer(alloc, request, &some_figures()), Ok(None))
+}
+
+/// A GET of this path with so many fields of so many bytes.
+fn long(alloc: Global, fields: usize, bytes: usize) -> Option<Vec<u8>> {
+    let mut request = Vec::new(alloc);
+    request.extend_from_slice(b"GET / HTTP/1.1\r\n").ok()?;
+    for _ in 0..fields {
+        request.extend_from_slice(b"x: ").ok()?;
+        for _ in 0..bytes {
+            request.push(b'a').ok()?;
+        }
+        request.extend_from_slice(b"\r\n").ok()?;
+    }
+    request.extend_from_slice(b"\r\n").ok()?;
+    Some(request)
+}
+
+fn answers_long(alloc: Global, fields: usize, bytes: usize, first: &[u8]) -> bool {
+    match long(alloc, fields, bytes) {
+        Some(request) => answers(alloc, request.as_slice(), first),
+        None => false,
+    }
+}
+
+/// The number at this path of the data.
+fn number_at(alloc: Global, path: &str) -> Option<u64> {
+    let response = answer(alloc, b"GET /data.json HTTP/1.1\r\n\r\n", &some_figures()).ok()??;
+    let start = response.iter().position(|b| *b == b'{')?;
+    let (_, body) = response.split_at(start.min(response.len()));
+    let text = std::str::from_utf8(body).ok()?;
+    let value = Value::from_str(alloc, text).ok()?;
+    value.pointer(path).and_then(Value::as_u64)
+}
+
+#[test]
+fn requests_that_are_answered(rt: HostRuntime) -> Result<(), Fail> {
+    let alloc = rt.alloc();
+    let page = b"HTTP/1.1 200 OK\r\ncontent-type: text/html; charset=utf-8\r\n";
+    let text = b"HTTP/1.1 200 OK\r\ncontent-type: text/plain; version=0.0.4; charset=utf-8\r\n";
+    assert!(rt; answers(alloc, b"GET / HTTP/1.1\r\nHost: a\r\n\r\n", page));
+    assert!(rt; answers(alloc, b"GET /?a=b HTTP/1.0\r\n\r\n", page));
+    assert!(rt; answers(alloc, b"GET /metrics HTTP/1.1\r\nHost: a\r\n\r\nmore", text));
+    assert!(rt;
+        answers(
+            alloc,
+            b"GET /data.json HTTP/1.1\r\n\r\n",
+            b"HTTP/1.1 200 OK\r\ncontent-type: application/json\r\n"
+        )
+    );
+    Ok(())
+}
+
+#[test]
+fn requests_that_are_refused(rt: HostRuntime) -> Result<(), Fail> {
+    let alloc = rt.alloc();
+    let bad = b"HTTP/1.1 400 Bad Request\r\n";
+    let method = b"HTTP/1.1 405 Method Not Allowed\r\n";
+    let missing = b"HTTP/1.1 404 Not Found\r\n";
+    assert!(rt; answers(alloc, b"GET /metric HTTP/1.1\r\n\r\n", missing));
+    assert!(rt; answers(alloc, b"GET /metrics/ HTTP/1.1\r\n\r\n", missing));
+    assert!(rt; answers(alloc, b"POST /metrics HTTP/1.1\r\n\r\n", method));
+    assert!(rt; answers(alloc, b"get / HTTP/1.1\r\n\r\n", method));
+    assert!(rt; answers(alloc, b"set a 0 0 1\r\n", bad));
+    assert!(rt; answers(alloc, b"GET / HTTP/2.0\r\n\r\n", bad));
+    assert!(rt; answers(alloc, b"\x16\x03\x01", bad));
+    Ok(())
+}
+
+#[test]
+fn heads_that_are_long(rt: HostRuntime) -> Result<(), Fail> {
+    let alloc = rt.alloc();
+    let long = b"HTTP/1.1 431 Request Header Fields Too Large\r\n";
+    assert!(rt; answers_long(alloc, 64, 20, b"HTTP/1.1 200 OK\r\n"));
+    assert!(rt; answers_long(alloc, 65, 20, long));
+    assert!(rt; answers_long(alloc, 1, 8169, b"HTTP/1.1 200 OK\r\n"));
+    assert!(rt; answers_long(alloc, 1, 8170, long));
+    Ok(())
+}
+
+#[test]
+fn heads_that_are_not_whole(rt: HostRuntime) -> Result<(), Fail> {
+    let alloc = rt.alloc();
+    assert!(rt; waits(alloc, b""));
+    assert!(rt; waits(alloc, b"GET"));
+    assert!(rt; waits(alloc, b"GET / HTTP/1.1\r\nHost: a\r\n"));
+    Ok(())
+}
+
+#[test]
+fn numbers_of_the_data(rt: HostRuntime) -> Result<(), Fail> {
+    let alloc = rt.alloc();
+    assert!(rt; number_at(alloc, "/uptime_seconds") == Some(7));
+    assert!(rt; number_at(alloc, "/connections/accepted") == Some(12));
+    assert!(rt; number_at(alloc, "/commands/4/2") == Some(2));
+    assert!(rt; number_at(alloc, "/lines/version") == Some(1));
+    assert!(rt; number_at(alloc, "/replicas/executors/0/stops") == Some(2));
+    assert!(rt; number_at(alloc, "/reply_times/counts/1") == Some(1));
+    assert!(rt; number_at(alloc, "/batch_times/sum") == Some(1234567));
+    Ok(())
+}

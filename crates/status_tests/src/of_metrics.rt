@@ -1,0 +1,90 @@
+//! The metrics.
+
+use crate::grammar::is_line;
+use crate::samples::some_figures;
+use figures::Figures;
+use metrics::metrics_of;
+use std::alloc::Global;
+use std::test::Fail;
+
+/// Whether all lines are of the form, and there are so many. The last one ends too.
+fn is_form(text: &[u8], count: usize) -> bool {
+    let mut lines = 0usize;
+    for line in text.split(|b| *b == b'\n') {
+        if !line.is_empty() {
+            if !is_line(line) {
+                return false;
+            }
+            lines = lines.saturating_add(1);
+        }
+    }
+    lines == count && text.ends_with(b"\n")
+}
+
+fn has_line(text: &[u8], wanted: &[u8]) -> bool {
+    text.split(|b| *b == b'\n').any(|line| line == wanted)
+}
+
+fn are_form(alloc: Global, figures: &Figures, count: usize) -> bool {
+    match metrics_of(alloc, figures) {
+        Ok(text) => is_form(text.as_slice(), count),
+        Err(_) => false,
+    }
+}
+
+fn have_line(alloc: Global, wanted: &[u8]) -> bool {
+    match metrics_of(alloc, &some_figures()) {
+        Ok(text) => has_line(text.as_slice(), wanted),
+        Err(_) => false,
+    }
+}
+
+/// 26 metrics with two lines each; 20 values, 32 of commands, 8 of lines, 18 of each histogram. Each node that is
+/// there has a line of two metrics.
+#[test]
+fn each_line_is_of_the_form(rt: HostRuntime) -> Result<(), Fail> {
+    let alloc = rt.alloc();
+    assert!(rt; are_form(alloc, &Figures::NONE, 52 + 20 + 32 + 8 + 36));
+    assert!(rt; are_form(alloc, &some_figures(), 52 + 20 + 32 + 8 + 36 + 12));
+    Ok(())
+}
+
+#[test]
+fn lines_of_values(rt: HostRuntime) -> Result<(), Fail> {
+    let alloc = rt.alloc();
+    assert!(rt; have_line(alloc, b"eve_uptime_seconds 7"));
+    assert!(rt; have_line(alloc, b"# TYPE eve_uptime_seconds gauge"));
+    assert!(rt; have_line(alloc, b"# TYPE eve_connections_accepted_total counter"));
+    assert!(rt; have_line(alloc, b"eve_connections_accepted_total 12"));
+    assert!(rt;
+        have_line(
+            alloc,
+            b"eve_commands_total{command=\"set\",outcome=\"stored\"} 2"
+        )
+    );
+    assert!(rt;
+        have_line(
+            alloc,
+            b"eve_commands_total{command=\"get\",outcome=\"miss\"} 0"
+        )
+    );
+    assert!(rt; have_line(alloc, b"eve_lines_total{line=\"version\"} 1"));
+    assert!(rt; have_line(alloc, b"eve_node_up{role=\"executor\",id=\"0\"} 1"));
+    assert!(rt; have_line(alloc, b"eve_node_up{role=\"executor\",id=\"2\"} 0"));
+    assert!(rt; have_line(alloc, b"eve_node_stops_total{role=\"executor\",id=\"0\"} 2"));
+    Ok(())
+}
+
+#[test]
+fn lines_of_histograms(rt: HostRuntime) -> Result<(), Fail> {
+    let alloc = rt.alloc();
+    assert!(rt; have_line(alloc, b"# TYPE eve_reply_seconds histogram"));
+    assert!(rt; have_line(alloc, b"eve_reply_seconds_bucket{le=\"0.000050\"} 1"));
+    assert!(rt; have_line(alloc, b"eve_reply_seconds_bucket{le=\"0.000100\"} 2"));
+    assert!(rt; have_line(alloc, b"eve_reply_seconds_bucket{le=\"2.500000\"} 2"));
+    assert!(rt; have_line(alloc, b"eve_reply_seconds_bucket{le=\"+Inf\"} 2"));
+    assert!(rt; have_line(alloc, b"eve_reply_seconds_sum 0.000101"));
+    assert!(rt; have_line(alloc, b"eve_reply_seconds_count 2"));
+    assert!(rt; have_line(alloc, b"eve_batch_seconds_sum 1.234567"));
+    Ok(())
+}
