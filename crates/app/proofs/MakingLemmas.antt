@@ -8,7 +8,7 @@ use Rattle.makers.specs.Table.{next_event, after_event}
 use Rattle.schedules.specs.declared.line.ScheduleLine.{ScheduleLine}
 use Rattle.worlds.specs.World.{WorldView}
 use Rattle.app.specs.Past.{PastView}
-use Rattle.app.specs.Making.{Stage, stage, HappensAt, IsNextToSettle, SettlesTimes, Settles, words_after, MayHappen, MadeOfWords, LineMakes, LinesMake}
+use Rattle.app.specs.Making.{Stage, stage, HappensAt, IsNextToSettle, SettlesTimes, StageSettles, words_after, MayHappen, MadeOfWords, LineMakes, LinesMake}
 
 -- ---- letters are delivered, and work is done
 
@@ -22,13 +22,13 @@ settles_next k s w p q event t so_far next same happens =
     (stage w p, so_far, (event, next, subst (λ (r : PastView). HappensAt (stage w r) event t) same happens))
 
 -- all of them happened
-pub settles_most : (most : ℕ) (s t : Stage) → SettlesTimes most s t → Settles most s t
+pub settles_most : (most : ℕ) (s t : Stage) → SettlesTimes most s t → StageSettles most s t
 settles_most most s t times = (most, omega arith, times, inl refl)
 
 -- nothing is left to do
-pub settles_all : (most k : ℕ) (s : Stage) (w : WorldView) (p q : PastView) → k < most → SettlesTimes k s (stage w p) → IsNextToSettle (stage w p) None → q ≡ p → Settles most s (stage w q)
+pub settles_all : (most k : ℕ) (s : Stage) (w : WorldView) (p q : PastView) → k < most → SettlesTimes k s (stage w p) → IsNextToSettle (stage w p) None → q ≡ p → StageSettles most s (stage w q)
 settles_all most k s w p q l times none same =
-    subst (λ (r : PastView). Settles most s (stage w r)) (sym same) (k, omega (arith, l), times, inr none)
+    subst (λ (r : PastView). StageSettles most s (stage w r)) (sym same) (k, omega (arith, l), times, inr none)
 
 -- ---- events at random
 

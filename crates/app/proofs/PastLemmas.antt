@@ -2,7 +2,7 @@
 use Rattle.std.proofs.Common.{◌≡◌, ℕ, zero, suc, ◌<◌, ◌≤◌, ◌+◌, ◌-◌, ◌⊎◌, Bool, true, false, List, [], ◌∷◌, ◌++◌, length, Some, None, get_or, refl, sym, ap, ◌∙◌, subst, inl, inr, ⊎_elim, arith, slice_get, slice_set}
 use Rattle.std.proofs.Math.Numerals.{add-one}
 use Rattle.std.proofs.lemmas.Option.{slice_get_read}
-use Rattle.app.specs.Past.{AllMarkedBelow, marked, IsNextLetter}
+use Rattle.app.specs.Past.{AllMarkedBelow, marked_at, IsNextLetter}
 
 -- a mark more leaves the others as they are
 set_keeps : (marks : List Bool) (at i : ℕ) → slice_get marks i ≡ Some true → slice_get (slice_set marks at true) i ≡ Some true
@@ -20,11 +20,11 @@ set_past [] at l = refl
 set_past (m ∷ marks) zero l = absurd (omega (arith, l))
 set_past (m ∷ marks) (suc at) l = ap (λ ms. m ∷ ms) (set_past marks at (omega (arith, l)))
 
-pub marked_there : (marks : List Bool) (letter : ℕ) → 1 ≤ letter → slice_set marks (letter - 1) true ≡ marked marks letter
+pub marked_there : (marks : List Bool) (letter : ℕ) → 1 ≤ letter → slice_set marks (letter - 1) true ≡ marked_at marks letter
 marked_there marks zero l = absurd (omega (arith, l))
 marked_there marks (suc i) l = let e : suc i - 1 ≡ i = omega arith in ap (λ n. slice_set marks n true) e
 
-pub marked_not : (marks : List Bool) (letter : ℕ) → (letter < 1) ⊎ (length marks < letter) → marked marks letter ≡ marks
+pub marked_not : (marks : List Bool) (letter : ℕ) → (letter < 1) ⊎ (length marks < letter) → marked_at marks letter ≡ marks
 marked_not marks zero l = refl
 marked_not marks (suc i) l = set_past marks i (⊎_elim (λ h. absurd (omega (arith, h))) (λ h. omega (arith, h)) l)
 

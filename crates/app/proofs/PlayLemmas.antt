@@ -9,23 +9,23 @@ use Rattle.streams.specs.Writes.{Taken}
 use Rattle.app.specs.declared.fault.PlayFault.{PlayFault}
 use Rattle.app.specs.declared.fault.PlayFault.TheVariants.{Refused, Read}
 use Rattle.app.specs.Printed.{refusal_text}
-use Rattle.app.specs.Play.{Shows, IsFaultOf, IsTold, IsToldInPart, IsShown, IsShownInPart, IsRefused}
+use Rattle.app.specs.Play.{Shows, IsPlayFaultOf, IsTold, IsToldInPart, IsShown, IsShownInPart, IsRefused}
 
 pub shown_known : (known : Option (List ℕ)) (read slice text : List ℕ) → IfSome known (λ input. read ≡ input) → slice ≡ read → Shows slice text → IfSome known (λ bytes. Shows bytes text)
 shown_known None read slice text same is shows = tt
 shown_known (Some input) read slice text same is shows = subst (λ bytes. Shows bytes text) same (subst (λ bytes. Shows bytes text) is shows)
 
-pub refused_known : (known : Option (List ℕ)) (read slice : List ℕ) (fault : ScheduleFault) → IfSome known (λ input. read ≡ input) → slice ≡ read → IsRefusedRightly slice fault → IsFaultOf known (Refused fault)
+pub refused_known : (known : Option (List ℕ)) (read slice : List ℕ) (fault : ScheduleFault) → IfSome known (λ input. read ≡ input) → slice ≡ read → IsRefusedRightly slice fault → IsPlayFaultOf known (Refused fault)
 refused_known None read slice fault same is right = tt
 refused_known (Some input) read slice fault same is right = subst (λ bytes. IsRefusedRightly bytes fault) same (subst (λ bytes. IsRefusedRightly bytes fault) is right)
 
-no_memory_known : (known : Option (List ℕ)) → IsFaultOf known (Refused NoMemory)
+no_memory_known : (known : Option (List ℕ)) → IsPlayFaultOf known (Refused NoMemory)
 no_memory_known None = tt
 no_memory_known (Some input) = tt
 
 -- a fault of reading
-pub unread_known : (known : Option (List ℕ)) (fault : PlayFault) → (fault ≡ Read) ⊎ (fault ≡ Refused NoMemory) → IsFaultOf known fault
-unread_known known fault only = ⊎_elim (λ is. subst (IsFaultOf known) (sym is) tt) (λ is. subst (IsFaultOf known) (sym is) (no_memory_known known)) only
+pub unread_known : (known : Option (List ℕ)) (fault : PlayFault) → (fault ≡ Read) ⊎ (fault ≡ Refused NoMemory) → IsPlayFaultOf known fault
+unread_known known fault only = ⊎_elim (λ is. subst (IsPlayFaultOf known) (sym is) tt) (λ is. subst (IsPlayFaultOf known) (sym is) (no_memory_known known)) only
 
 module _ {S : Type 0} {takes : S → List ℕ → Taken → S → Type 0} {contents : S → Option (List ℕ)} where
   pub all_known : (known : Option (List ℕ)) (old new : S) (text slice : List ℕ) → IfSome known (λ bytes. Shows bytes text) → slice ≡ text → IsTold takes contents slice old new → IsShown takes contents known old new
@@ -34,6 +34,6 @@ module _ {S : Type 0} {takes : S → List ℕ → Taken → S → Type 0} {conte
   pub part_known : (known : Option (List ℕ)) (old new : S) (text slice : List ℕ) → IfSome known (λ bytes. Shows bytes text) → slice ≡ text → IsToldInPart takes contents slice old new → IsShownInPart takes contents known old new
   part_known known old new text slice shows is wrote = (text, shows, subst (λ (t : List ℕ). IsToldInPart takes contents t old new) is wrote)
 
-pub refusal_known : (known old new : Option (List ℕ)) (fault : ScheduleFault) → IsFaultOf known (Refused fault) → Appends old new (refusal_text fault) → IfSome known (λ bytes. IsRefused bytes old new)
+pub refusal_known : (known old new : Option (List ℕ)) (fault : ScheduleFault) → IsPlayFaultOf known (Refused fault) → Appends old new (refusal_text fault) → IfSome known (λ bytes. IsRefused bytes old new)
 refusal_known None old new fault right wrote = tt
 refusal_known (Some input) old new fault right wrote = (fault, right, wrote)

@@ -48,8 +48,8 @@ SettlesTimes zero s t = t ≡ s
 SettlesTimes (suc k) s t = (middle : Stage) × SettlesTimes k s middle × SettlesOne middle t
 
 -- until nothing is left to do, by at most so many events
-abbrev pub Settles : ℕ → Stage → Stage → Type 0
-Settles most s t = (k : ℕ) × (k ≤ most) × SettlesTimes k s t × ((k ≡ most) ⊎ IsNextToSettle t None)
+abbrev pub StageSettles : ℕ → Stage → Stage → Type 0
+StageSettles most s t = (k : ℕ) × (k ≤ most) × SettlesTimes k s t × ((k ≡ most) ⊎ IsNextToSettle t None)
 
 -- ---- events at random
 
@@ -75,7 +75,7 @@ words_of_seed seed = pcg32_of_seed (pcg32_seed 16 seed)
 
 abbrev pub LineMakes : ConfigView → ScheduleLine → Stage → Stage → Type 0
 LineMakes c (Happens event) s t = HappensAt s event t
-LineMakes c (Settle most) s t = Settles most s t
+LineMakes c (Settle most) s t = StageSettles most s t
 LineMakes c (Random seed count) s t = MadeOfWords c count (words_of_seed seed) s t
 
 -- the lines, one after the other

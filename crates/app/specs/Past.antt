@@ -10,13 +10,13 @@ pub record PastView : Type 0 where
   pub delivered : List Bool
 
 -- the letter of this number is delivered, if it was sent; letters are numbered from 1
-abbrev pub marked : List Bool → ℕ → List Bool
-marked marks zero = marks
-marked marks (suc i) = slice_set marks i true
+abbrev pub marked_at : List Bool → ℕ → List Bool
+marked_at marks zero = marks
+marked_at marks (suc i) = slice_set marks i true
 
 -- a letter that comes is delivered, whatever becomes of the node that it is for
 abbrev pub marked_by : List Bool → Event → List Bool
-marked_by marks (Deliver letter) = marked marks letter
+marked_by marks (Deliver letter) = marked_at marks letter
 marked_by marks event = marks
 
 -- so many letters were sent by now, and no event delivered the new ones

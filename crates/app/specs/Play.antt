@@ -48,6 +48,6 @@ abbrev pub IsRefused : List ℕ → Option (List ℕ) → Option (List ℕ) → 
 IsRefused bytes old new = (fault : ScheduleFault) × IsRefusedRightly bytes fault × Appends old new (refusal_text fault)
 
 -- what was read is refused rightly, or could not be read
-abbrev pub IsFaultOf : Option (List ℕ) → PlayFault → Type 0
-IsFaultOf known (Refused fault) = IfSome known (λ bytes. IsRefusedRightly bytes fault)
-IsFaultOf known Read = Unit {0}
+abbrev pub IsPlayFaultOf : Option (List ℕ) → PlayFault → Type 0
+IsPlayFaultOf known (Refused fault) = IfSome known (λ bytes. IsRefusedRightly bytes fault)
+IsPlayFaultOf known Read = Unit {0}

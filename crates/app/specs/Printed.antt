@@ -11,7 +11,7 @@ use Rattle.worlds.specs.declared.status.Status.{Status}
 use Rattle.worlds.specs.declared.status.Status.TheVariants.{Up, Down, Lost}
 use Rattle.worlds.specs.declared.status.VerifierReport.{VerifierReport}
 use Rattle.worlds.specs.Slots.{ClientSlot}
-use Rattle.worlds.specs.Status.{status_of, executor_report, verifier_report, is_open}
+use Rattle.worlds.specs.Status.{status_of, executor_report, verifier_report, is_client_open}
 use Rattle.worlds.specs.World.{WorldView}
 
 -- a space and the bytes, if there are any
@@ -22,7 +22,7 @@ given_part (b ∷ bs) = codes " " ++ printed_text (b ∷ bs)
 -- whether what it sends is still taken, how many bytes it was given, and which
 abbrev pub client_line : ℕ → ClientSlot → List ℕ
 client_line number slot =
-    codes "client " ++ decimal number ++ (if is_open slot then codes " open " else codes " closed ")
+    codes "client " ++ decimal number ++ (if is_client_open slot then codes " open " else codes " closed ")
     ++ decimal (length slot.given) ++ given_part slot.given ++ 10 ∷ []
 
 abbrev pub executor_status : Status Report → List ℕ

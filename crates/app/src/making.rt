@@ -70,7 +70,7 @@ fn settle<P: Progress>(
     most: u32,
     progress: &mut P,
 ) -> Result<World, AllocError>
-    ensures { IfOk result (λ now. spec.Settles most (spec.stage world past.old) (spec.stage now past.new)) }
+    ensures { IfOk result (λ now. spec.StageSettles most (spec.stage world past.old) (spec.stage now past.new)) }
 {
     let mut world = world;
     for _ in 0..most {

@@ -41,7 +41,7 @@ impl Delivered {
     /// The letter of this number, if it was sent, is delivered.
     #[tactic(auto, using(crate::proofs::PastLemmas::set_all, crate::proofs::PastLemmas::marked_there, crate::proofs::PastLemmas::marked_not))]
     fn mark(&mut self, letter: u64)
-        ensures { self.new ≡ spec.marked self.old letter }
+        ensures { self.new ≡ spec.marked_at self.old letter }
     {
         if 1 <= letter && letter <= self.marks.len() as u64 {
             self.marks[(letter - 1) as usize] = true;

@@ -4,7 +4,7 @@ ghost use Rattle.std.specs.Prelude.{◌≡◌, ◌⊎◌, IfOk, IfErr, OnOk, IfS
 ghost use Rattle.std.specs.Io.KnownBytes.{Appends};
 ghost use Rattle.schedules.specs.Schedule.{IsRefusedRightly};
 ghost use Rattle.app.specs.Printed.{refusal_text, unread_text};
-ghost use Rattle.app.specs.Play.{Shows, IsFaultOf, IsTold, IsToldInPart, IsShown, IsShownInPart, IsRefused};
+ghost use Rattle.app.specs.Play.{Shows, IsPlayFaultOf, IsTold, IsToldInPart, IsShown, IsShownInPart, IsRefused};
 
 use crate::fault::PlayFault;
 use crate::input::read_input;
@@ -52,7 +52,7 @@ fn text_of_input<R: Read, P: Progress>(
     progress: &mut P,
 ) -> Result<Vec<u8>, PlayFault>
     ensures shown { IfOk result (λ text. IfSome (R.remaining input.old) (λ bytes. Shows bytes text.items)) }
-    ensures refused { IfErr result (λ fault. IsFaultOf (R.remaining input.old) fault) }
+    ensures refused { IfErr result (λ fault. IsPlayFaultOf (R.remaining input.old) fault) }
 {
     match read_input(alloc, input) {
         Ok(bytes) => match text_of_schedule(alloc, bytes.as_slice(), progress) {

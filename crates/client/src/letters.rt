@@ -1,14 +1,41 @@
 //! The letters of a client.
 
-ghost use Rattle.std.specs.Prelude.{◌≡◌, ◌<◌, IfOk};
-ghost use Rattle.client.specs.Talk.{wants};
+ghost use Rattle.std.specs.Prelude.{◌≡◌, ◌<◌, ◌∷◌, [], IfOk};
+ghost use Rattle.decrees.specs.declared.node.Node.TheVariants.{Executor};
+ghost use Rattle.exec_lines.specs.declared.body.Body.TheVariants.{Want};
+ghost use Rattle.client.specs.Talk.{client_letter, wants};
 
 use decrees::{Letter, Node};
 use exec_lines::Body;
 use sessions::Request;
 use std::alloc::{AllocError, Global};
 
-/// The request, to all executors. They share the data of its block.
+/// The request, as it is sent to this executor.
+fn want(client: u16, to: u8, request: Request) -> Letter<Body>
+    ensures { result ≡ client_letter client (Executor to) (Want request) }
+{
+    Letter {
+        from: Node::Client(client),
+        to: Node::Executor(to),
+        body: Body::Want(request),
+    }
+}
+
+/// The request, to one executor. NoMemory: an allocation failed.
+pub fn ask_one(
+    alloc: Global,
+    client: u16,
+    to: u8,
+    request: Request,
+) -> Result<Vec<Letter<Body>>, AllocError>
+    ensures { IfOk result (λ letters. letters.items ≡ client_letter client (Executor to) (Want request) ∷ []) }
+{
+    let mut letters = Vec::with_capacity(alloc, 1)?;
+    letters.push(want(client, to, request))?;
+    Ok(letters)
+}
+
+/// The request, to all executors. They share the data of its block. NoMemory: an allocation failed.
 pub fn ask_all(
     alloc: Global,
     u: u8,
@@ -21,11 +48,7 @@ pub fn ask_all(
     let members = 2 * u + 1;
     let mut letters = Vec::with_capacity(alloc, usize::from(members))?;
     for to in 0..members {
-        letters.push(Letter {
-            from: Node::Client(client),
-            to: Node::Executor(to),
-            body: Body::Want(request.clone()?),
-        })?;
+        letters.push(want(client, to, request.clone()?))?;
     }
     Ok(letters)
 }

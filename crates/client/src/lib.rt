@@ -22,5 +22,6 @@ pub use input::Input;
 pub use laws::{
     outstanding_is_the_last_request, turns_are_taken_in_order, unfit_input_moves_nothing,
 };
+pub use letters::{ask_all, ask_one};
 pub use talk::Talk;
 pub use turns::Turns;

@@ -16,11 +16,12 @@ use Rattle.connections.specs.declared.places.Place.{Place}
 use Rattle.connections.specs.declared.said.Said.{Said}
 use Rattle.connections.specs.Connection.{ConnectionView, IsTaken}
 use Rattle.connections.specs.Logs.{logged, logged_one}
-use Rattle.connections.specs.Places.{is_number, place_of, place_in, is_here, FeedsHere, FeedsIn, FeedsAt, AnswersHere, AnswersIn, AnswersAt, TakesPlace, TakesWhere, TakesIn, TakesAt, left_in, left_at}
-use Rattle.connections.specs.Connections.{ConnectionsView, AreBefore, HasText, IsConnections}
+use Rattle.connections.specs.Places.{is_of_connection, connection_at, place_in, is_here, FeedsHere, FeedsIn, FeedsAt, AnswersHere, AnswersIn, AnswersAt, TakesPlace, TakesWhere, TakesIn, TakesAt, left_in, left_at}
+use Rattle.memcached_spec.specs.Asked.{HasText}
+use Rattle.connections.specs.Connections.{ConnectionsView, AreBefore, AreReplied, IsConnections}
 use Rattle.connections.proofs.PlaceLemmas.{set_place, place_there, here_is}
 use Rattle.connections.proofs.KeepLemmas.{left_keeps, failed_keeps, told_keeps, fed_keeps, replied_keeps}
-use Rattle.connections.proofs.TakeLemmas.{taken_keeps, before, has_text}
+use Rattle.connections.proofs.TakeLemmas.{taken_keeps, before, in_turn, has_text}
 
 pub logged_more : (log : List (ℕ × Vec ℕ Global)) (e : ℕ × Vec ℕ Global) → logged (log ++ e ∷ []) ≡ logged log ++ logged_one e ∷ []
 logged_more log e = map-append logged_one log (e ∷ [])
@@ -40,15 +41,15 @@ module _ {X : Type 0} where
 pub left_at_keeps : (v : ConnectionsView) (at : Place) → IsConnections v → IsConnections (record v { table = left_at at v.table })
 left_at_keeps v at ok = by (slice_get v.table at.key) refl
   where
-    by_place : (p : Option ConnectionView) (b : Bool) → slice_get v.table at.key ≡ Some p → is_number at.number p ≡ b → IsConnections (record v { table = slice_set v.table at.key (if b then None else p) })
+    by_place : (p : Option ConnectionView) (b : Bool) → slice_get v.table at.key ≡ Some p → is_of_connection at.number p ≡ b → IsConnections (record v { table = slice_set v.table at.key (if b then None else p) })
     by_place p true e is =
         let c = here_is at.number p is in
-        left_keeps v ok at.key c.0 (ap place_of e ∙ c.1)
+        left_keeps v ok at.key c.0 (ap connection_at e ∙ c.1)
     by_place p false e is = subst (λ (table : List (Option ConnectionView)). IsConnections (record v { table = table })) (sym (set_same v.table at.key p e)) ok
 
     by : (o : Option (Option ConnectionView)) → slice_get v.table at.key ≡ o → IsConnections (record v { table = left_in at v.table o })
     by None e = ok
-    by (Some p) e = by_place p (is_number at.number p) e refl
+    by (Some p) e = by_place p (is_of_connection at.number p) e refl
 
 -- where it is here nobody is at its place then
 pub left_none : (v : ConnectionsView) (at : Place) (c : ConnectionView) → place_in v.table at.key ≡ Some c → c.number ≡ at.number → left_at at v.table ≡ slice_set v.table at.key None
@@ -189,7 +190,7 @@ pub takes_some : (at : Place) (old table : List (Option ConnectionView)) (ready 
 takes_some at old table ready t = by (slice_get old at.key) refl t
   where
     by_number : (c : ConnectionView) (b : Bool) (now : Option ConnectionView) → (c.number == at.number) ≡ b → slice_get old at.key ≡ Some (Some c) → table ≡ slice_set old at.key now → TakesWhere b c now (Some ready) → TookAt at old table ready
-    by_number c true now e there set t = record { was = c; next = t.0; at_key = ap place_of there; number = eqb-true c.number at.number e; is = t.1; set = set ∙ ap (slice_set old at.key) t.2 }
+    by_number c true now e there set t = record { was = c; next = t.0; at_key = ap connection_at there; number = eqb-true c.number at.number e; is = t.1; set = set ∙ ap (slice_set old at.key) t.2 }
     by_number c false now e there set t = let clash : ◌≡◌ {A = Option Ready} (Some ready) None = t.1 in absurd (cc clash)
 
     by_place : (p now : Option ConnectionView) → slice_get old at.key ≡ Some p → table ≡ slice_set old at.key now → TakesPlace at.number p now (Some ready) → TookAt at old table ready
@@ -212,6 +213,11 @@ pub took_before : (v : ConnectionsView) (at : Place) (table : List (Option Conne
 took_before v at table ready ok t =
     let k = takes_some at v.table table ready t in
     subst (λ (n : ℕ). AreBefore v.taken n ready.turn) k.number (before v ok at.key k.was k.at_key ready k.next k.is)
+
+pub took_in_turn : (v : ConnectionsView) (at : Place) (table : List (Option ConnectionView)) (ready : Ready) → IsConnections v → TakesAt at v.table table (Some ready) → AreReplied v.replied at.number ready.turn
+took_in_turn v at table ready ok t =
+    let k = takes_some at v.table table ready t in
+    subst (λ (n : ℕ). AreReplied v.replied n ready.turn) k.number (in_turn v ok at.key k.was k.at_key ready k.next k.is)
 
 pub took_text : (v : ConnectionsView) (at : Place) (table : List (Option ConnectionView)) (ready : Ready) → IsConnections v → TakesAt at v.table table (Some ready) → HasText ready.command ready.quiet
 took_text v at table ready ok t =

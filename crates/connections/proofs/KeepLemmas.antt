@@ -10,9 +10,9 @@ use Rattle.client.specs.Step.{IsFed}
 use Rattle.client.specs.Taken.{TalkOk}
 use Rattle.client.proofs.TakenLemmas.{talk_implies, new_ok, fed_ok, replied_ok}
 use Rattle.connections.specs.declared.connections.CommandNumber.{CommandNumber}
-use Rattle.connections.specs.Connection.{ConnectionView, new_connection, after, answered}
+use Rattle.connections.specs.Connection.{ConnectionView, new_connection, after_given, answer_given}
 use Rattle.connections.specs.Places.{place_in, IsGrown}
-use Rattle.connections.specs.Connections.{ConnectionsView, no_connections, bytes_of, WasReplied, IsAnswered, IsHere, IsConnections}
+use Rattle.connections.specs.Connections.{ConnectionsView, no_connections, bytes_of_connection, WasReplied, IsAnswered, IsHere, IsConnections}
 use Rattle.connections.proofs.PlaceLemmas.{there, set_place, other_place, place_there, same_or_not}
 use Rattle.connections.proofs.TextLemmas.{bytes_own, bytes_other, answered_longer, answered_implies}
 use Rattle.connections.proofs.StepLemmas.{MayAsk, asks_may, fed_asks, answered_asks}
@@ -98,9 +98,9 @@ module _ (v : ConnectionsView) (ok : IsConnections v) (key : ℕ) (c : Connectio
   set_is p = set_place v.table key p (Some c) (place_there v.table key c at)
 
   -- it leaves, and what came of it and what it was given are so
-  gone : (heard given : List (ℕ × List ℕ)) (replied : List (CommandNumber × replies.Reply)) → ((h : ℕ) → h ≢ c.number → bytes_of h heard ≡ bytes_of h v.heard) → ((h : ℕ) → h ≢ c.number → bytes_of h given ≡ bytes_of h v.given)
-      → ((more : List ℕ) × (bytes_of c.number heard ≡ bytes_of c.number v.heard ++ more)) → ((h q : ℕ) (r : replies.Reply) → WasReplied v.replied h q r → WasReplied replied h q r)
-      → IsAnswered (WasReplied replied c.number) (bytes_of c.number heard) (bytes_of c.number given)
+  gone : (heard given : List (ℕ × List ℕ)) (replied : List (CommandNumber × replies.Reply)) → ((h : ℕ) → h ≢ c.number → bytes_of_connection h heard ≡ bytes_of_connection h v.heard) → ((h : ℕ) → h ≢ c.number → bytes_of_connection h given ≡ bytes_of_connection h v.given)
+      → ((more : List ℕ) × (bytes_of_connection c.number heard ≡ bytes_of_connection c.number v.heard ++ more)) → ((h q : ℕ) (r : replies.Reply) → WasReplied v.replied h q r → WasReplied replied h q r)
+      → IsAnswered (WasReplied replied c.number) (bytes_of_connection c.number heard) (bytes_of_connection c.number given)
       → IsConnections (record { table = slice_set v.table key None; next = v.next; heard = heard; given = given; taken = v.taken; replied = replied })
   gone heard given replied hs gs longer rs is =
       let now : ConnectionsView = record { table = slice_set v.table key None; next = v.next; heard = heard; given = given; taken = v.taken; replied = replied } in
@@ -121,32 +121,32 @@ module _ (v : ConnectionsView) (ok : IsConnections v) (key : ℕ) (c : Connectio
 
   -- it leaves
   pub left_keeps : IsConnections (record v { table = slice_set v.table key None })
-  left_keeps = gone v.heard v.given v.replied (λ h differs. refl) (λ h differs. refl) ([], sym (append-nil (bytes_of c.number v.heard))) (λ h q r w. w) (ok.answered c.number)
+  left_keeps = gone v.heard v.given v.replied (λ h differs. refl) (λ h differs. refl) ([], sym (append-nil (bytes_of_connection c.number v.heard))) (λ h q r w. w) (ok.answered c.number)
 
   -- it read a piece, and failed
   pub failed_keeps : (piece : List ℕ) → IsConnections (record v { table = slice_set v.table key None; heard = v.heard ++ (c.number, piece) ∷ [] })
   failed_keeps piece = gone (v.heard ++ (c.number, piece) ∷ []) v.given v.replied (λ h differs. bytes_other h c.number v.heard piece differs) (λ h differs. refl) (piece, bytes_own c.number v.heard piece) (λ h q r w. w)
-      (subst (λ (bytes : List ℕ). IsAnswered (WasReplied v.replied c.number) bytes (bytes_of c.number v.given)) (sym (bytes_own c.number v.heard piece))
-      (answered_longer (WasReplied v.replied c.number) (WasReplied v.replied c.number) (bytes_of c.number v.heard) piece (bytes_of c.number v.given) (λ q r w. w) (ok.answered c.number)))
+      (subst (λ (bytes : List ℕ). IsAnswered (WasReplied v.replied c.number) bytes (bytes_of_connection c.number v.given)) (sym (bytes_own c.number v.heard piece))
+      (answered_longer (WasReplied v.replied c.number) (WasReplied v.replied c.number) (bytes_of_connection c.number v.heard) piece (bytes_of_connection c.number v.given) (λ q r w. w) (ok.answered c.number)))
 
   -- it leaves, and is given nothing; replies may have come
   pub told_keeps : (replied : List (CommandNumber × replies.Reply)) → ((h q : ℕ) (r : replies.Reply) → WasReplied v.replied h q r → WasReplied replied h q r)
       → IsConnections (record v { table = slice_set v.table key None; given = v.given ++ (c.number, []) ∷ []; replied = replied })
-  told_keeps replied rs = gone v.heard (v.given ++ (c.number, []) ∷ []) replied (λ h differs. refl) (λ h differs. bytes_other h c.number v.given [] differs) ([], sym (append-nil (bytes_of c.number v.heard))) rs
-      (subst (λ (bytes : List ℕ). IsAnswered (WasReplied replied c.number) (bytes_of c.number v.heard) bytes) (sym (bytes_own c.number v.given [] ∙ append-nil (bytes_of c.number v.given)))
-      (answered_implies (WasReplied v.replied c.number) (WasReplied replied c.number) (bytes_of c.number v.heard) (bytes_of c.number v.given) (rs c.number) (ok.answered c.number)))
+  told_keeps replied rs = gone v.heard (v.given ++ (c.number, []) ∷ []) replied (λ h differs. refl) (λ h differs. bytes_other h c.number v.given [] differs) ([], sym (append-nil (bytes_of_connection c.number v.heard))) rs
+      (subst (λ (bytes : List ℕ). IsAnswered (WasReplied replied c.number) (bytes_of_connection c.number v.heard) bytes) (sym (bytes_own c.number v.given [] ∙ append-nil (bytes_of_connection c.number v.given)))
+      (answered_implies (WasReplied v.replied c.number) (WasReplied replied c.number) (bytes_of_connection c.number v.heard) (bytes_of_connection c.number v.given) (rs c.number) (ok.answered c.number)))
 
   -- it read a piece
-  pub fed_keeps : (piece : List ℕ) (g : Given) (p : Option ConnectionView) → IsFed 0 1 c.talk piece g → ((d : ConnectionView) → p ≡ Some d → d ≡ after c g)
+  pub fed_keeps : (piece : List ℕ) (g : Given) (p : Option ConnectionView) → IsFed 0 1 c.talk piece g → ((d : ConnectionView) → p ≡ Some d → d ≡ after_given c g)
       → IsConnections (record v { table = slice_set v.table key p; heard = v.heard ++ (c.number, piece) ∷ []; given = v.given ++ (c.number, g.bytes) ∷ [] })
   fed_keeps piece g p fed only =
       let now : ConnectionsView = record v { table = slice_set v.table key p; heard = v.heard ++ (c.number, piece) ∷ []; given = v.given ++ (c.number, g.bytes) ∷ [] } in
       let P = WasReplied v.replied c.number in
       let h = ok.here key c at in
-      let talks : TalkOk P 1 (bytes_of c.number now.heard) false g.talk (bytes_of c.number now.given) =
+      let talks : TalkOk P 1 (bytes_of_connection c.number now.heard) false g.talk (bytes_of_connection c.number now.given) =
       subst (λ (z : List ℕ × List ℕ). TalkOk P 1 z.0 false g.talk z.1) (λ i. (sym (bytes_own c.number v.heard piece) i, sym (bytes_own c.number v.given g.bytes) i))
-      (fed_ok P 0 1 (bytes_of c.number v.heard) piece false c.talk (bytes_of c.number v.given) g h.talks fed) in
-      let here : IsHere now (after c g) = record { below = h.below; talks = talks; counted = λ e in_it is. counted_on e.0.turn c g (asks_may c.talk g (fed_asks c.talk piece g fed)) (h.counted e in_it is) } in
+      (fed_ok P 0 1 (bytes_of_connection c.number v.heard) piece false c.talk (bytes_of_connection c.number v.given) g h.talks fed) in
+      let here : IsHere now (after_given c g) = record { below = h.below; talks = talks; counted = λ e in_it is. counted_on e.0.turn c g (asks_may c.talk g (fed_asks c.talk piece g fed)) (h.counted e in_it is) } in
       moved_keeps v now key c.number ok (record {
         was = c;
         was_at = at;
@@ -162,12 +162,12 @@ module _ (v : ConnectionsView) (ok : IsConnections v) (key : ℕ) (c : Connectio
         answered = record { taken = talks.taken; texts = talks.texts; first = talks.front };
       })
 
-  talk_after : (P : ℕ → replies.Reply → Type 0) (all given : List ℕ) (turn : ℕ) (reply : replies.Reply) (o : Option Command) → P turn reply → TalkOk P 1 all false c.talk given → TalkOk P 1 all false (answered c turn reply o).talk (given ++ (answered c turn reply o).bytes)
+  talk_after : (P : ℕ → replies.Reply → Type 0) (all given : List ℕ) (turn : ℕ) (reply : replies.Reply) (o : Option Command) → P turn reply → TalkOk P 1 all false c.talk given → TalkOk P 1 all false (answer_given c turn reply o).talk (given ++ (answer_given c turn reply o).bytes)
   talk_after P all given turn reply None p t = replied_ok P 0 1 all false c.talk given turn reply p t
   talk_after P all given turn reply (Some command) p t = subst (TalkOk P 1 all false c.talk) (sym (append-nil given)) t
 
   -- it took a reply
-  pub replied_keeps : (turn : ℕ) (reply : replies.Reply) (g : Given) (p : Option ConnectionView) → g ≡ answered c turn reply c.command → ((d : ConnectionView) → p ≡ Some d → d ≡ after c g)
+  pub replied_keeps : (turn : ℕ) (reply : replies.Reply) (g : Given) (p : Option ConnectionView) → g ≡ answer_given c turn reply c.command → ((d : ConnectionView) → p ≡ Some d → d ≡ after_given c g)
       → IsConnections (record v { table = slice_set v.table key p; given = v.given ++ (c.number, g.bytes) ∷ []; replied = v.replied ++ (record { connection = c.number; turn = turn }, reply) ∷ [] })
   replied_keeps turn reply g p step only =
       let entry : CommandNumber × replies.Reply = (record { connection = c.number; turn = turn }, reply) in
@@ -175,12 +175,12 @@ module _ (v : ConnectionsView) (ok : IsConnections v) (key : ℕ) (c : Connectio
       let Q = WasReplied now.replied c.number in
       let on = λ (h q : ℕ) (r : replies.Reply) (w : WasReplied v.replied h q r). Contains-append_left v.replied (entry ∷ []) (record { connection = h; turn = q }, r) w in
       let h = ok.here key c at in
-      let all = bytes_of c.number v.heard in
-      let before = talk_implies (WasReplied v.replied c.number) Q 1 all false c.talk (bytes_of c.number v.given) (on c.number) h.talks in
-      let talked : TalkOk Q 1 all false g.talk (bytes_of c.number v.given ++ g.bytes) = subst (λ (x : Given). TalkOk Q 1 all false x.talk (bytes_of c.number v.given ++ x.bytes)) (sym step)
-      (talk_after Q all (bytes_of c.number v.given) turn reply c.command (Contains-push v.replied entry) before) in
-      let talks : TalkOk Q 1 all false g.talk (bytes_of c.number now.given) = subst (TalkOk Q 1 all false g.talk) (sym (bytes_own c.number v.given g.bytes)) talked in
-      let here : IsHere now (after c g) = record {
+      let all = bytes_of_connection c.number v.heard in
+      let before = talk_implies (WasReplied v.replied c.number) Q 1 all false c.talk (bytes_of_connection c.number v.given) (on c.number) h.talks in
+      let talked : TalkOk Q 1 all false g.talk (bytes_of_connection c.number v.given ++ g.bytes) = subst (λ (x : Given). TalkOk Q 1 all false x.talk (bytes_of_connection c.number v.given ++ x.bytes)) (sym step)
+      (talk_after Q all (bytes_of_connection c.number v.given) turn reply c.command (Contains-push v.replied entry) before) in
+      let talks : TalkOk Q 1 all false g.talk (bytes_of_connection c.number now.given) = subst (TalkOk Q 1 all false g.talk) (sym (bytes_own c.number v.given g.bytes)) talked in
+      let here : IsHere now (after_given c g) = record {
         below = h.below;
         talks = talks;
         counted = λ e in_it is. counted_on e.0.turn c g (subst (MayAsk c.talk) (sym step) (answered_asks c turn reply c.command)) (h.counted e in_it is);

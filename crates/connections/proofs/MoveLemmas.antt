@@ -8,11 +8,12 @@ use Rattle.client.specs.Talk.{Given}
 use Rattle.client.specs.Taken.{TalkOk}
 use Rattle.client.proofs.TakenLemmas.{talk_implies}
 use Rattle.connections.specs.declared.connections.CommandNumber.{CommandNumber}
-use Rattle.connections.specs.Connection.{ConnectionView, wanted, or_else}
+use Rattle.connections.specs.Connection.{ConnectionView, wanted_command, or_else}
 use Rattle.connections.specs.Places.{place_in}
-use Rattle.connections.specs.Connections.{ConnectionsView, bytes_of, WasReplied, IsAnswered, untaken, IsHere, IsConnections}
+use Rattle.connections.specs.Connections.{ConnectionsView, bytes_of_connection, WasReplied, IsAnswered, untaken, IsHere, IsConnections}
 use Rattle.connections.proofs.PlaceLemmas.{same_or_not}
-use Rattle.connections.proofs.TextLemmas.{asked_longer, answered_implies}
+use Rattle.memcached_spec.proofs.Longer.{asked_longer}
+use Rattle.connections.proofs.TextLemmas.{answered_implies}
 use Rattle.connections.proofs.StepLemmas.{MayAsk}
 
 -- What became of the connection of this number, which was at this key.
@@ -24,27 +25,27 @@ pub record Moved (v now : ConnectionsView) (key number : ℕ) : Type 0 where
   pub own : (c : ConnectionView) → place_in now.table key ≡ Some c → (c.number ≡ number) × IsHere now c
   pub next : now.next ≡ v.next
   pub taken : now.taken ≡ v.taken
-  pub heard : (h : ℕ) → h ≢ number → bytes_of h now.heard ≡ bytes_of h v.heard
-  pub given : (h : ℕ) → h ≢ number → bytes_of h now.given ≡ bytes_of h v.given
-  pub longer : (more : List ℕ) × (bytes_of number now.heard ≡ bytes_of number v.heard ++ more)
+  pub heard : (h : ℕ) → h ≢ number → bytes_of_connection h now.heard ≡ bytes_of_connection h v.heard
+  pub given : (h : ℕ) → h ≢ number → bytes_of_connection h now.given ≡ bytes_of_connection h v.given
+  pub longer : (more : List ℕ) × (bytes_of_connection number now.heard ≡ bytes_of_connection number v.heard ++ more)
   pub replied : (h q : ℕ) (r : replies.Reply) → WasReplied v.replied h q r → WasReplied now.replied h q r
-  pub answered : IsAnswered (WasReplied now.replied number) (bytes_of number now.heard) (bytes_of number now.given)
+  pub answered : IsAnswered (WasReplied now.replied number) (bytes_of_connection number now.heard) (bytes_of_connection number now.given)
 
 -- a connection that did not move, as its bytes and its replies did not
-pub stays_here : (v now : ConnectionsView) (c : ConnectionView) → now.next ≡ v.next → now.taken ≡ v.taken → bytes_of c.number now.heard ≡ bytes_of c.number v.heard → bytes_of c.number now.given ≡ bytes_of c.number v.given
+pub stays_here : (v now : ConnectionsView) (c : ConnectionView) → now.next ≡ v.next → now.taken ≡ v.taken → bytes_of_connection c.number now.heard ≡ bytes_of_connection c.number v.heard → bytes_of_connection c.number now.given ≡ bytes_of_connection c.number v.given
     → ((q : ℕ) (r : replies.Reply) → WasReplied v.replied c.number q r → WasReplied now.replied c.number q r) → IsHere v c → IsHere now c
 stays_here v now c next taken heard given replied h = record {
   below = subst (λ (n : ℕ). c.number < n) (sym next) h.below;
   talks = subst (λ (z : List ℕ × List ℕ). TalkOk (WasReplied now.replied c.number) 1 z.0 false c.talk z.1) (λ i. (sym heard i, sym given i))
-      (talk_implies (WasReplied v.replied c.number) (WasReplied now.replied c.number) 1 (bytes_of c.number v.heard) false c.talk (bytes_of c.number v.given) replied h.talks);
+      (talk_implies (WasReplied v.replied c.number) (WasReplied now.replied c.number) 1 (bytes_of_connection c.number v.heard) false c.talk (bytes_of_connection c.number v.given) replied h.talks);
   counted = λ e in_it is. h.counted e (subst (λ (es : List (CommandNumber × Command)). Contains es e) taken in_it) is;
 }
 
-pub answered_same : (v now : ConnectionsView) (n : ℕ) → bytes_of n now.heard ≡ bytes_of n v.heard → bytes_of n now.given ≡ bytes_of n v.given
-    → ((q : ℕ) (r : replies.Reply) → WasReplied v.replied n q r → WasReplied now.replied n q r) → IsAnswered (WasReplied v.replied n) (bytes_of n v.heard) (bytes_of n v.given) → IsAnswered (WasReplied now.replied n) (bytes_of n now.heard) (bytes_of n now.given)
+pub answered_same : (v now : ConnectionsView) (n : ℕ) → bytes_of_connection n now.heard ≡ bytes_of_connection n v.heard → bytes_of_connection n now.given ≡ bytes_of_connection n v.given
+    → ((q : ℕ) (r : replies.Reply) → WasReplied v.replied n q r → WasReplied now.replied n q r) → IsAnswered (WasReplied v.replied n) (bytes_of_connection n v.heard) (bytes_of_connection n v.given) → IsAnswered (WasReplied now.replied n) (bytes_of_connection n now.heard) (bytes_of_connection n now.given)
 answered_same v now n heard given replied is =
     subst (λ (z : List ℕ × List ℕ). IsAnswered (WasReplied now.replied n) z.0 z.1) (λ i. (sym heard i, sym given i))
-    (answered_implies (WasReplied v.replied n) (WasReplied now.replied n) (bytes_of n v.heard) (bytes_of n v.given) replied is)
+    (answered_implies (WasReplied v.replied n) (WasReplied now.replied n) (bytes_of_connection n v.heard) (bytes_of_connection n v.given) replied is)
 
 module _ (v now : ConnectionsView) (key number : ℕ) (ok : IsConnections v) (m : Moved v now key number) where
   -- who is there now was there, or another one of that number
@@ -63,12 +64,12 @@ module _ (v now : ConnectionsView) (key number : ℕ) (ok : IsConnections v) (m 
       stays_here v now c m.next m.taken (m.heard c.number other) (m.given c.number other) (m.replied c.number) (ok.here k c before))
       (same_or_not k key)
 
-  asked_now : (e : CommandNumber × Command) → Contains v.taken e → IsAsked (bytes_of e.0.connection now.heard) e.0.turn e.1
+  asked_now : (e : CommandNumber × Command) → Contains v.taken e → IsAsked (bytes_of_connection e.0.connection now.heard) e.0.turn e.1
   asked_now e in_it = ⊎_elim
       (λ (same : e.0.connection ≡ number).
       let P : ℕ × List ℕ → Type 0 = λ z. IsAsked z.1 e.0.turn e.1 in
-      let long = asked_longer (bytes_of e.0.connection v.heard) m.longer.0 e.0.turn e.1 (ok.asked e in_it) in
-      let eq : bytes_of e.0.connection v.heard ++ m.longer.0 ≡ bytes_of e.0.connection now.heard = ap (λ (n : ℕ). bytes_of n v.heard ++ m.longer.0) same ∙ (sym m.longer.1 ∙ ap (λ (n : ℕ). bytes_of n now.heard) (sym same)) in
+      let long = asked_longer (bytes_of_connection e.0.connection v.heard) m.longer.0 e.0.turn e.1 (ok.asked e in_it) in
+      let eq : bytes_of_connection e.0.connection v.heard ++ m.longer.0 ≡ bytes_of_connection e.0.connection now.heard = ap (λ (n : ℕ). bytes_of_connection n v.heard ++ m.longer.0) same ∙ (sym m.longer.1 ∙ ap (λ (n : ℕ). bytes_of_connection n now.heard) (sym same)) in
       subst (λ (bytes : List ℕ). IsAsked bytes e.0.turn e.1) eq long)
       (λ (differs : e.0.connection ≢ number). subst (λ (bytes : List ℕ). IsAsked bytes e.0.turn e.1) (sym (m.heard e.0.connection differs)) (ok.asked e in_it))
       (same_or_not e.0.connection number)
@@ -80,7 +81,7 @@ module _ (v now : ConnectionsView) (key number : ℕ) (ok : IsConnections v) (m 
         let b = back i c at_i in let e = back j d at_j in
         ok.one_place i j b.0 e.0 b.1 e.1 (b.2 ∙ (same ∙ sym e.2));
     answered = λ n. ⊎_elim
-        (λ (same : n ≡ number). subst (λ (x : ℕ). IsAnswered (WasReplied now.replied x) (bytes_of x now.heard) (bytes_of x now.given)) (sym same) m.answered)
+        (λ (same : n ≡ number). subst (λ (x : ℕ). IsAnswered (WasReplied now.replied x) (bytes_of_connection x now.heard) (bytes_of_connection x now.given)) (sym same) m.answered)
         (λ (differs : n ≢ number). answered_same v now n (m.heard n differs) (m.given n differs) (m.replied n) (ok.answered n))
         (same_or_not n number);
     fresh = λ n above.
@@ -98,7 +99,7 @@ module _ (v now : ConnectionsView) (key number : ℕ) (ok : IsConnections v) (m 
 
 -- ---- the commands that were taken come before the one that was not
 
-pub counted_on : (turn : ℕ) (c : ConnectionView) (g : Given) → MayAsk c.talk g → turn + untaken c.command ≤ c.talk.last → turn + untaken (or_else (wanted g.letters) c.command) ≤ g.talk.last
+pub counted_on : (turn : ℕ) (c : ConnectionView) (g : Given) → MayAsk c.talk g → turn + untaken c.command ≤ c.talk.last → turn + untaken (or_else (wanted_command g.letters) c.command) ≤ g.talk.last
 counted_on turn c g (inl h) le = subst (λ (z : Option Command × ℕ). turn + untaken (or_else z.0 c.command) ≤ z.1) (λ i. (sym h.0 i, sym h.1 i)) le
 counted_on turn c g (inr h) le =
     let less : turn + 1 ≤ c.talk.last + 1 = omega (arith, le) in

@@ -3,7 +3,7 @@ use Rattle.std.proofs.Common.{◌≡◌, ◌⊎◌, inl, inr, ℕ, zero, suc, �
 use Rattle.std.specs.Prelude.{◌≢◌, ◌==◌}
 use Rattle.std.proofs.lemmas.Bool.{eq-eqb, eqb-true}
 use Rattle.connections.specs.Connection.{ConnectionView}
-use Rattle.connections.specs.Places.{place_of, place_in, IsGrown, is_number}
+use Rattle.connections.specs.Places.{connection_at, place_in, IsGrown, is_of_connection}
 
 module _ {X : Type 0} where
   pub set_get : (xs : List X) (v : ℕ) (n old : X) → slice_get xs v ≡ Some old → slice_get (slice_set xs v n) v ≡ Some n
@@ -36,21 +36,21 @@ grown_pushed old table g key = place_pushed table key ∙ g key
 -- ---- one place is set
 
 pub set_place : (table : List (Option ConnectionView)) (key : ℕ) (p old : Option ConnectionView) → slice_get table key ≡ Some old → place_in (slice_set table key p) key ≡ p
-set_place table key p old at = ap place_of (set_get table key p old at)
+set_place table key p old at = ap connection_at (set_get table key p old at)
 
 pub other_place : (table : List (Option ConnectionView)) (key : ℕ) (p : Option ConnectionView) (i : ℕ) → i ≢ key → place_in (slice_set table key p) i ≡ place_in table i
-other_place table key p i e = ap place_of (set_other table key p i e)
+other_place table key p i e = ap connection_at (set_other table key p i e)
 
 -- a connection that is at a place
 pub place_there : (table : List (Option ConnectionView)) (key : ℕ) (c : ConnectionView) → place_in table key ≡ Some c → slice_get table key ≡ Some (Some c)
 place_there table key c at = by (slice_get table key) at
   where
-    by : (o : Option (Option ConnectionView)) → place_of o ≡ Some c → o ≡ Some (Some c)
+    by : (o : Option (Option ConnectionView)) → connection_at o ≡ Some c → o ≡ Some (Some c)
     by None e = absurd (cc e)
     by (Some p) e = ap (λ (x : Option ConnectionView). Some x) e
 
 -- the connection of a number is here
-pub here_is : (number : ℕ) (p : Option ConnectionView) → is_number number p ≡ true → (c : ConnectionView) × (p ≡ Some c) × (c.number ≡ number)
+pub here_is : (number : ℕ) (p : Option ConnectionView) → is_of_connection number p ≡ true → (c : ConnectionView) × (p ≡ Some c) × (c.number ≡ number)
 here_is number None e = absurd (cc e)
 here_is number (Some c) e = (c, refl, eqb-true c.number number e)
 

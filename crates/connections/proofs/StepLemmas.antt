@@ -11,15 +11,15 @@ use Rattle.client.specs.declared.asked.Asked.{Asked}
 use Rattle.client.specs.declared.talk.Talk.{Talk}
 use Rattle.client.specs.Talk.{Given, unmoved, go, go_where, go_on}
 use Rattle.client.specs.Step.{IsFed, IsFedWhere, on_reply, answered_to}
-use Rattle.connections.specs.Connection.{ConnectionView, IsOf, wanted, or_else, answered}
+use Rattle.connections.specs.Connection.{ConnectionView, IsOf, wanted_command, or_else, answer_given}
 
 -- nothing is asked; or the next command is, and is outstanding
 abbrev pub MayAsk : Talk → Given → Type 0
-MayAsk t g = ((wanted g.letters ≡ None) × (g.talk.last ≡ t.last)) ⊎ ((a : Asked) × (wanted g.letters ≡ Some a.request.command) × (g.talk.outstanding ≡ Some a) × (g.talk.last ≡ t.last + 1))
+MayAsk t g = ((wanted_command g.letters ≡ None) × (g.talk.last ≡ t.last)) ⊎ ((a : Asked) × (wanted_command g.letters ≡ Some a.request.command) × (g.talk.outstanding ≡ Some a) × (g.talk.last ≡ t.last + 1))
 
 -- where nothing is asked, what was outstanding is
 abbrev pub Asks : Talk → Given → Type 0
-Asks t g = ((wanted g.letters ≡ None) × (g.talk.last ≡ t.last) × (g.talk.outstanding ≡ t.outstanding)) ⊎ ((a : Asked) × (wanted g.letters ≡ Some a.request.command) × (g.talk.outstanding ≡ Some a) × (g.talk.last ≡ t.last + 1))
+Asks t g = ((wanted_command g.letters ≡ None) × (g.talk.last ≡ t.last) × (g.talk.outstanding ≡ t.outstanding)) ⊎ ((a : Asked) × (wanted_command g.letters ≡ Some a.request.command) × (g.talk.outstanding ≡ Some a) × (g.talk.last ≡ t.last + 1))
 
 pub asks_may : (t : Talk) (g : Given) → Asks t g → MayAsk t g
 asks_may t g (inl h) = inl (h.0, h.1)
@@ -56,16 +56,16 @@ replied_asks t turn reply = by t.outstanding
         (λ _. asks_may t' (go_on 0 1 t' (given_text reply a.quiet)) (where_asks t' (given_text reply a.quiet) t'.outstanding t'.closed))
         (λ _. inl (refl, refl))
 
-pub answered_asks : (c : ConnectionView) (turn : ℕ) (reply : replies.Reply) (o : Option Command) → MayAsk c.talk (answered c turn reply o)
+pub answered_asks : (c : ConnectionView) (turn : ℕ) (reply : replies.Reply) (o : Option Command) → MayAsk c.talk (answer_given c turn reply o)
 answered_asks c turn reply None = replied_asks c.talk turn reply
 answered_asks c turn reply (Some command) = inl (refl, refl)
 
 -- ---- what was not taken is what is outstanding
 
-pub fed_of : (command : Option Command) (t : Talk) (g : Given) → IsOf command t.outstanding → Asks t g → IsOf (or_else (wanted g.letters) command) g.talk.outstanding
+pub fed_of : (command : Option Command) (t : Talk) (g : Given) → IsOf command t.outstanding → Asks t g → IsOf (or_else (wanted_command g.letters) command) g.talk.outstanding
 fed_of command t g is (inl h) = subst (λ (z : Option Command × Option Asked). IsOf (or_else z.0 command) z.1) (λ i. (sym h.0 i, sym h.2 i)) is
 fed_of command t g is (inr h) = subst (λ (z : Option Command × Option Asked). IsOf (or_else z.0 command) z.1) (λ i. (sym h.1 i, sym h.2 i)) refl
 
-pub replied_of : (t : Talk) (g : Given) → MayAsk t g → IsOf (or_else (wanted g.letters) None) g.talk.outstanding
+pub replied_of : (t : Talk) (g : Given) → MayAsk t g → IsOf (or_else (wanted_command g.letters) None) g.talk.outstanding
 replied_of t g (inl h) = subst (λ (o : Option Command). IsOf (or_else o None) g.talk.outstanding) (sym h.0) tt
 replied_of t g (inr h) = subst (λ (z : Option Command × Option Asked). IsOf (or_else z.0 None) z.1) (λ i. (sym h.1 i, sym h.2 i)) refl

@@ -3,16 +3,17 @@ use Rattle.std.proofs.Common.{◌≡◌, ◌⊎◌, inl, inr, ⊎_elim, ℕ, zer
 use Rattle.std.specs.Prelude.{◌≢◌, Contains}
 use Rattle.std.proofs.lemmas.List.Elements.{Contains-append_right, Contains-append_cases}
 use Rattle.proto.specs.declared.command.Command.{Command}
+use Rattle.proto.specs.declared.reply.Reply as replies
 use Rattle.proto.specs.declared.turn.Turn.{Turn}
 use Rattle.proto.specs.declared.turn.Turn.TheVariants.{Ask, Say, Close}
 use Rattle.proto.proofs.SpellsLemmas.{reads_spells, spelled_alone}
-use Rattle.memcached_spec.specs.Asked.{asked, IsAsked}
+use Rattle.memcached_spec.specs.Asked.{asked, TextsBy, IsAsked, HasText}
 use Rattle.client.specs.Taken.{Live, pending}
 use Rattle.connections.specs.declared.connection.Ready.{Ready}
 use Rattle.connections.specs.declared.connections.CommandNumber.{CommandNumber}
 use Rattle.connections.specs.Connection.{ConnectionView, IsTaken}
 use Rattle.connections.specs.Places.{place_in}
-use Rattle.connections.specs.Connections.{ConnectionsView, bytes_of, untaken, AreBefore, HasText, IsHere, IsConnections}
+use Rattle.connections.specs.Connections.{ConnectionsView, bytes_of_connection, untaken, WasReplied, AreBefore, AreReplied, IsHere, IsConnections}
 use Rattle.connections.proofs.PlaceLemmas.{set_place, other_place, place_there, same_or_not}
 
 -- the command behind some turns
@@ -39,11 +40,21 @@ module _ {X : Type 0} where
   one_of x a (zero, lt, e) = e
   one_of x a (suc k, lt, e) = absurd (omega (arith, lt))
 
+-- each command among turns that were answered has a reply
+answered_turn : (P : ℕ → replies.Reply → Type 0) (q : ℕ) (turns : List Turn) (bytes : List ℕ) → TextsBy P q turns bytes → (k : ℕ) → k < length (asked turns) → (reply : replies.Reply) × P (q + k) reply
+answered_turn P q [] bytes texts k below = absurd (omega (arith, below))
+answered_turn P q (Say n ∷ turns) bytes texts k below = answered_turn P q turns texts.0 texts.2 k below
+answered_turn P q (Close n ∷ turns) bytes texts k below = answered_turn P q turns texts.0 texts.2 k below
+answered_turn P q (Ask command quiet ∷ turns) bytes texts zero below = (texts.0, subst (λ (n : ℕ). P n texts.0) (omega arith) texts.2)
+answered_turn P q (Ask command quiet ∷ turns) bytes texts (suc k) below =
+    let r = answered_turn P (q + 1) turns texts.1 texts.4 k (omega (arith, below)) in
+    (r.0, subst (λ (n : ℕ). P n r.0) (omega arith) r.1)
+
 module _ (v : ConnectionsView) (ok : IsConnections v) (key : ℕ) (c : ConnectionView) (at : place_in v.table key ≡ Some c) (ready : Ready) (next : ConnectionView) (t : IsTaken c ready next) where
   h : IsHere v c
   h = ok.here key c at
 
-  live : Live 1 (bytes_of c.number v.heard) c.talk h.talks.taken
+  live : Live 1 (bytes_of_connection c.number v.heard) c.talk h.talks.taken
   live = h.talks.live refl
 
   pend : pending c.talk.outstanding ≡ Ask t.asked.request.command t.asked.quiet ∷ []
@@ -58,9 +69,9 @@ module _ (v : ConnectionsView) (ok : IsConnections v) (key : ℕ) (c : Connectio
   last_is : c.talk.last ≡ length (asked h.talks.taken) + 1
   last_is = live.number ∙ ap (λ (ts : List Turn). length (asked h.talks.taken) + length ts) pend
 
-  pub is_asked : IsAsked (bytes_of c.number v.heard) ready.turn ready.command
+  pub is_asked : IsAsked (bytes_of_connection c.number v.heard) ready.turn ready.command
   is_asked =
-      let s = reads_spells (bytes_of c.number v.heard) live.turns c.talk.reader live.reads in
+      let s = reads_spells (bytes_of_connection c.number v.heard) live.turns c.talk.reader live.reads in
       let place : ready.turn - 1 ≡ length (asked h.talks.taken) = let a = turn_is in let b = last_is in omega (arith, a, b) in
       record {
         turns = live.turns;
@@ -72,10 +83,10 @@ module _ (v : ConnectionsView) (ok : IsConnections v) (key : ℕ) (c : Connectio
 
   pub has_text : HasText ready.command ready.quiet
   has_text =
-      let s = reads_spells (bytes_of c.number v.heard) live.turns c.talk.reader live.reads in
+      let s = reads_spells (bytes_of_connection c.number v.heard) live.turns c.talk.reader live.reads in
       let there : Contains live.turns (Ask ready.command ready.quiet) = subst (λ (ts : List Turn). Contains ts (Ask ready.command ready.quiet)) (sym split)
       (Contains-append_right h.talks.taken (Ask ready.command ready.quiet ∷ c.talk.waiting) (Ask ready.command ready.quiet) (0, omega arith, refl)) in
-      spelled_alone (bytes_of c.number v.heard) live.turns s.0 ready.command ready.quiet s.1 there
+      spelled_alone (bytes_of_connection c.number v.heard) live.turns s.0 ready.command ready.quiet s.1 there
 
   pub before : AreBefore v.taken c.number ready.turn
   before e in_it is =
@@ -83,6 +94,14 @@ module _ (v : ConnectionsView) (ok : IsConnections v) (key : ℕ) (c : Connectio
       let one : untaken c.command ≡ 1 = ap untaken t.untaken in
       let turn = turn_is in
       omega (arith, n, one, turn)
+
+  pub in_turn : AreReplied v.replied c.number ready.turn
+  in_turn k from_one below =
+      let a = turn_is in
+      let b = last_is in
+      let r = answered_turn (WasReplied v.replied c.number) 1 h.talks.taken (bytes_of_connection c.number v.given) h.talks.texts (k - 1) (omega (arith, a, b, from_one, below)) in
+      let at_k : 1 + (k - 1) ≡ k = omega (arith, from_one) in
+      (r.0, subst (λ (n : ℕ). WasReplied v.replied c.number n r.0) at_k r.1)
 
   abbrev pub entry : CommandNumber × Command
   entry = (record { connection = c.number; turn = ready.turn }, ready.command)
@@ -156,7 +175,7 @@ module _ (v : ConnectionsView) (ok : IsConnections v) (key : ℕ) (c : Connectio
     fresh = ok.fresh;
     asked = λ e in_it. ⊎_elim
         (λ (old : Contains v.taken e). ok.asked e old)
-        (λ (new : entry ≡ e). subst (λ (x : CommandNumber × Command). IsAsked (bytes_of x.0.connection v.heard) x.0.turn x.1) new is_asked)
+        (λ (new : entry ≡ e). subst (λ (x : CommandNumber × Command). IsAsked (bytes_of_connection x.0.connection v.heard) x.0.turn x.1) new is_asked)
         (old_or_new e in_it);
     below = λ e in_it. ⊎_elim
         (λ (old : Contains v.taken e). ok.below e old)

@@ -51,8 +51,8 @@ wanted_if None = None
 wanted_if (Some body) = wanted_by body
 
 -- the command of the last letter
-abbrev pub wanted : List (Letter Body) → Option Command
-wanted letters = wanted_if (last_body letters)
+abbrev pub wanted_command : List (Letter Body) → Option Command
+wanted_command letters = wanted_if (last_body letters)
 
 abbrev pub or_else : Option Command → Option Command → Option Command
 or_else None old = old
@@ -61,21 +61,21 @@ or_else (Some command) old = Some command
 -- ---- what calls do
 
 -- the connection after a step of its part, which leaves this
-abbrev pub after : ConnectionView → Given → ConnectionView
-after c g = record { number = c.number; talk = g.talk; command = or_else (wanted g.letters) c.command }
+abbrev pub after_given : ConnectionView → Given → ConnectionView
+after_given c g = record { number = c.number; talk = g.talk; command = or_else (wanted_command g.letters) c.command }
 
 -- it reads a piece, and is given these bytes
 abbrev pub IsFedTo : ConnectionView → List ℕ → ConnectionView → List ℕ → Type 0
-IsFedTo c piece now bytes = (g : Given) × IsFed 0 1 c.talk piece g × (now ≡ after c g) × (bytes ≡ g.bytes)
+IsFedTo c piece now bytes = (g : Given) × IsFed 0 1 c.talk piece g × (now ≡ after_given c g) × (bytes ≡ g.bytes)
 
 -- A reply to the command of this number. Where the outstanding command was not taken nothing was asked, and nothing changes.
-abbrev pub answered : ConnectionView → ℕ → replies.Reply → Option Command → Given
-answered c turn reply None = on_reply 0 1 c.talk turn reply
-answered c turn reply (Some command) = unmoved c.talk
+abbrev pub answer_given : ConnectionView → ℕ → replies.Reply → Option Command → Given
+answer_given c turn reply None = on_reply 0 1 c.talk turn reply
+answer_given c turn reply (Some command) = unmoved c.talk
 
 -- it takes a reply, and is given these bytes
-abbrev pub IsAnsweredBy : ConnectionView → ℕ → replies.Reply → ConnectionView → List ℕ → Type 0
-IsAnsweredBy c turn reply now bytes = (g : Given) × (g ≡ answered c turn reply c.command) × (now ≡ after c g) × (bytes ≡ g.bytes)
+abbrev pub ConnectionAnswers : ConnectionView → ℕ → replies.Reply → ConnectionView → List ℕ → Type 0
+ConnectionAnswers c turn reply now bytes = (g : Given) × (g ≡ answer_given c turn reply c.command) × (now ≡ after_given c g) × (bytes ≡ g.bytes)
 
 -- the outstanding command is taken
 pub record IsTaken (c : ConnectionView) (ready : Ready) (now : ConnectionView) : Type 0 where

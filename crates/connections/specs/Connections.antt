@@ -3,8 +3,6 @@ use Rattle.std.specs.Prelude.{◌≡◌, ℕ, ◌+◌, ◌≤◌, ◌<◌, ◌==
 use Rattle.proto.specs.declared.command.Command.{Command}
 use Rattle.proto.specs.declared.reply.Reply as replies
 use Rattle.proto.specs.declared.turn.Turn.{Turn}
-use Rattle.proto.specs.declared.turn.Turn.TheVariants.{Ask}
-use Rattle.proto.specs.Grammar.{IsTurnText}
 use Rattle.memcached_spec.specs.Asked.{TextsBy, Front, IsAsked}
 use Rattle.client.specs.Taken.{TalkOk}
 use Rattle.connections.specs.declared.connections.CommandNumber.{CommandNumber}
@@ -29,8 +27,8 @@ abbrev pub bytes_in : ℕ → ℕ × List ℕ → List ℕ
 bytes_in number e = if e.0 == number then e.1 else []
 
 -- the bytes of the connection of this number, in order
-abbrev pub bytes_of : ℕ → List (ℕ × List ℕ) → List ℕ
-bytes_of number log = flat_map (bytes_in number) log
+abbrev pub bytes_of_connection : ℕ → List (ℕ × List ℕ) → List ℕ
+bytes_of_connection number log = flat_map (bytes_in number) log
 
 -- this reply came back for command `turn` of connection `number`
 abbrev pub WasReplied : List (CommandNumber × replies.Reply) → ℕ → ℕ → replies.Reply → Type 0
@@ -42,13 +40,13 @@ pub record IsAnswered (P : ℕ → replies.Reply → Type 0) (heard given : List
   pub texts : TextsBy P 1 taken given
   pub first : Front heard taken
 
--- bytes spell this command, and nothing else
-abbrev pub HasText : Command → Bool → Type 0
-HasText command quiet = (bytes : List ℕ) × IsTurnText bytes (Ask command quiet)
-
 -- the commands of this connection that were taken come before this one
 abbrev pub AreBefore : List (CommandNumber × Command) → ℕ → ℕ → Type 0
 AreBefore taken number turn = (e : CommandNumber × Command) → Contains taken e → e.0.connection ≡ number → e.0.turn < turn
+
+-- each command of this connection before this one was answered
+abbrev pub AreReplied : List (CommandNumber × replies.Reply) → ℕ → ℕ → Type 0
+AreReplied replied number turn = (k : ℕ) → 1 ≤ k → k < turn → (reply : replies.Reply) × WasReplied replied number k reply
 
 -- no connection came
 abbrev pub no_connections : ConnectionsView
@@ -70,7 +68,7 @@ untaken (Some command) = 1
 -- a connection that is here
 pub record IsHere (v : ConnectionsView) (c : ConnectionView) : Type 0 where
   pub below : c.number < v.next
-  pub talks : TalkOk (WasReplied v.replied c.number) 1 (bytes_of c.number v.heard) false c.talk (bytes_of c.number v.given)
+  pub talks : TalkOk (WasReplied v.replied c.number) 1 (bytes_of_connection c.number v.heard) false c.talk (bytes_of_connection c.number v.given)
   -- the commands that were taken come before the one that was not
   pub counted : (e : CommandNumber × Command) → Contains v.taken e → e.0.connection ≡ c.number → e.0.turn + untaken c.command ≤ c.talk.last
 
@@ -78,10 +76,10 @@ pub record IsConnections (v : ConnectionsView) : Type 0 where
   pub here : (key : ℕ) (c : ConnectionView) → place_in v.table key ≡ Some c → IsHere v c
   pub one_place : (i j : ℕ) (c d : ConnectionView) → place_in v.table i ≡ Some c → place_in v.table j ≡ Some d → c.number ≡ d.number → i ≡ j
   -- each connection, here or gone, was answered in order
-  pub answered : (number : ℕ) → IsAnswered (WasReplied v.replied number) (bytes_of number v.heard) (bytes_of number v.given)
-  pub fresh : (number : ℕ) → v.next ≤ number → (bytes_of number v.heard ≡ []) × (bytes_of number v.given ≡ [])
+  pub answered : (number : ℕ) → IsAnswered (WasReplied v.replied number) (bytes_of_connection number v.heard) (bytes_of_connection number v.given)
+  pub fresh : (number : ℕ) → v.next ≤ number → (bytes_of_connection number v.heard ≡ []) × (bytes_of_connection number v.given ≡ [])
   -- a command that was taken is the one of its number that the bytes of its connection ask
-  pub asked : (e : CommandNumber × Command) → Contains v.taken e → IsAsked (bytes_of e.0.connection v.heard) e.0.turn e.1
+  pub asked : (e : CommandNumber × Command) → Contains v.taken e → IsAsked (bytes_of_connection e.0.connection v.heard) e.0.turn e.1
   pub below : (e : CommandNumber × Command) → Contains v.taken e → e.0.connection < v.next
   -- each command is taken once
   pub once : (i j : ℕ) (a b : CommandNumber × Command) → slice_get v.taken i ≡ Some a → slice_get v.taken j ≡ Some b → a.0.connection ≡ b.0.connection → a.0.turn ≡ b.0.turn → i ≡ j

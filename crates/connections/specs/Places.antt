@@ -6,12 +6,12 @@ use Rattle.proto.specs.declared.reply.Reply as replies
 use Rattle.connections.specs.declared.connection.Ready.{Ready}
 use Rattle.connections.specs.declared.places.Place.{Place}
 use Rattle.connections.specs.declared.said.Said.{Said}
-use Rattle.connections.specs.Connection.{ConnectionView, IsFedTo, IsAnsweredBy, IsTaken}
+use Rattle.connections.specs.Connection.{ConnectionView, IsFedTo, ConnectionAnswers, IsTaken}
 
 -- the connection of this number is there
-abbrev pub is_number : ℕ → Option ConnectionView → Bool
-is_number number None = false
-is_number number (Some c) = c.number == number
+abbrev pub is_of_connection : ℕ → Option ConnectionView → Bool
+is_of_connection number None = false
+is_of_connection number (Some c) = c.number == number
 
 -- and has a command that was not taken
 abbrev pub is_untaken : ℕ → Option ConnectionView → Bool
@@ -25,15 +25,15 @@ pub record IsSaid (at : Place) (c : ConnectionView) (said : Said) : Type 0 where
   pub waits : said.waits ≡ is_some c.talk.outstanding
 
 -- the connection failed, and leaves
-pub record IsLast (at : Place) (said : Said) : Type 0 where
+pub record IsLastSaid (at : Place) (said : Said) : Type 0 where
   pub key : said.key ≡ at.key
   pub number : said.number ≡ at.number
   pub nothing : said.bytes.items ≡ []
   pub closes : said.closes ≡ true
 
-abbrev pub stays : Result Said Fault → Bool
-stays (Ok said) = not said.closes
-stays (Err f) = false
+abbrev pub stays_open : Result Said Fault → Bool
+stays_open (Ok said) = not said.closes
+stays_open (Err f) = false
 
 -- ---- a piece comes
 
@@ -49,7 +49,7 @@ FeedsPlace at piece (Some c) new result = FeedsHere at piece c new result
 
 -- it takes the reply; or it fails
 abbrev pub AnswersOne : Place → ℕ → replies.Reply → ConnectionView → ConnectionView → Said → Type 0
-AnswersOne at turn reply c now said = (IsAnsweredBy c turn reply now said.bytes.items × IsSaid at now said) ⊎ IsLast at said
+AnswersOne at turn reply c now said = (ConnectionAnswers c turn reply now said.bytes.items × IsSaid at now said) ⊎ IsLastSaid at said
 
 abbrev pub AnswersHere : Place → ℕ → replies.Reply → ConnectionView → Option ConnectionView → Option Said → Type 0
 AnswersHere at turn reply c new None = ⊥
@@ -76,20 +76,20 @@ TakesPlace number (Some c) new result = TakesWhere (c.number == number) c new re
 -- ---- it leaves
 
 abbrev pub left_place : ℕ → Option ConnectionView → Option ConnectionView
-left_place number place = if is_number number place then None else place
+left_place number place = if is_of_connection number place then None else place
 
 -- ---- a table of places, by key
 
-abbrev pub place_of : Option (Option ConnectionView) → Option ConnectionView
-place_of None = None
-place_of (Some place) = place
+abbrev pub connection_at : Option (Option ConnectionView) → Option ConnectionView
+connection_at None = None
+connection_at (Some place) = place
 
 -- the connection at this key
 abbrev pub place_in : List (Option ConnectionView) → ℕ → Option ConnectionView
-place_in table key = place_of (slice_get table key)
+place_in table key = connection_at (slice_get table key)
 
 abbrev pub is_here : ℕ → List (Option ConnectionView) → ℕ → Bool
-is_here number table key = is_number number (place_in table key)
+is_here number table key = is_of_connection number (place_in table key)
 
 abbrev pub is_untaken_in : ℕ → List (Option ConnectionView) → ℕ → Bool
 is_untaken_in number table key = is_untaken number (place_in table key)

@@ -47,7 +47,7 @@ impl Connection {
     ghost use Rattle.std.specs.Prelude.{◌≡◌, ◌⊎◌, [], None, IfOk, IfErr, IfSome, IfNone, IsOk, IsTrue, is_some, not, OnErr, false};
     ghost use Rattle.client.specs.Step.{IsFed};
     ghost use Rattle.client.specs.Talk.{Given};
-    ghost use Rattle.connections.specs.Connection.{IsFedTo, IsAnsweredBy, IsTaken, turn_of, new_connection};
+    ghost use Rattle.connections.specs.Connection.{IsFedTo, ConnectionAnswers, IsTaken, turn_of, new_connection};
 
     /// The connection of this number, of which nothing came yet.
     pub fn new(alloc: Global, number: u64) -> Connection
@@ -96,7 +96,7 @@ impl Connection {
     ///
     /// NoMemory, Stopped: as in `feed`.
     pub fn answer(&mut self, alloc: Global, turn: u64, reply: Reply) -> Result<Vec<u8>, Fault>
-        ensures ok { IfOk result (λ bytes. IsAnsweredBy self.old turn reply self.new bytes.items) }
+        ensures ok { IfOk result (λ bytes. ConnectionAnswers self.old turn reply self.new bytes.items) }
         ensures same { self.new.number ≡ self.old.number }
         ensures only { IfErr result (λ fault. (fault ≡ Fault.NoMemory) ⊎ (fault ≡ Fault.Stopped)) }
     {

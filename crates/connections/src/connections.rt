@@ -47,9 +47,10 @@ impl Model for Connections {
 
 impl Connections {
     ghost use Rattle.std.specs.Prelude.{◌≡◌, ◌<◌, ◌≤◌, ◌+◌, ◌++◌, ◌∷◌, ◌⊎◌, [], true, false, None, Some, IfOk, IfErr, OnOk, OnErr, OnSome, IfSome, IfNone, Err, is_some};
+    ghost use Rattle.memcached_spec.specs.Asked.{HasText};
     ghost use Rattle.connections.specs.Connection.{new_connection};
     ghost use Rattle.connections.specs.Places.{place_in, is_here, is_untaken_in, left_at};
-    ghost use Rattle.connections.specs.Connections.{IsConnections, no_connections, HasSameLogs, HasText, AreBefore};
+    ghost use Rattle.connections.specs.Connections.{IsConnections, no_connections, HasSameLogs, AreBefore, AreReplied};
 
     /// No connection came.
     pub fn new(alloc: Global) -> Connections
@@ -115,6 +116,7 @@ impl Connections {
         ensures none { IfNone result (self.new ≡ self.old) }
         ensures taken { IfSome result (λ ready. self.new.taken ≡ self.old.taken ++ (record { connection = at.number; turn = ready.turn }, ready.command) ∷ []) }
         ensures first { IfSome result (λ ready. AreBefore self.old.taken at.number ready.turn) }
+        ensures in_turn { IfSome result (λ ready. AreReplied self.old.replied at.number ready.turn) }
         ensures text { IfSome result (λ ready. HasText ready.command ready.quiet) }
         ensures others { (self.new.heard ≡ self.old.heard) × (self.new.given ≡ self.old.given) × (self.new.replied ≡ self.old.replied) × (self.new.next ≡ self.old.next) }
     {
@@ -161,6 +163,7 @@ impl Connections {
     /// A connection leaves for want of memory: what it is told. `None`: it is not here.
     pub fn drop_out(&mut self, alloc: Global, at: Place) -> Option<Said>
         ensures none { IfNone result (self.new ≡ self.old) }
+        ensures here { is_some result ≡ is_here at.number self.old.table at.key }
         ensures given { IfSome result (λ said. self.new.given ≡ self.old.given ++ (at.number, said.bytes.items) ∷ []) }
         ensures to { IfSome result (λ said. (said.key ≡ at.key) × (said.number ≡ at.number) × (said.closes ≡ true)) }
         ensures others { (self.new.heard ≡ self.old.heard) × (self.new.taken ≡ self.old.taken) × (self.new.replied ≡ self.old.replied) × (self.new.next ≡ self.old.next) }

@@ -2,7 +2,7 @@
 
 ghost use Rattle.std.specs.Prelude.{◌≡◌, ◌⊎◌, None, IfOk, IfErr, if◌then◌else◌};
 ghost use Rattle.connections.specs.Connection.{IsFedTo};
-ghost use Rattle.connections.specs.Places.{is_number, is_untaken, stays, IsSaid, AnswersOne, FeedsPlace, AnswersPlace, TakesPlace, left_place};
+ghost use Rattle.connections.specs.Places.{is_of_connection, is_untaken, stays_open, IsSaid, AnswersOne, FeedsPlace, AnswersPlace, TakesPlace, left_place};
 
 use crate::connection::{Connection, Ready};
 use crate::said::Said;
@@ -18,7 +18,7 @@ pub struct Place {
 
 /// Whether the connection of this number is there.
 pub fn is_there(place: &Option<Connection>, number: u64) -> bool
-    ensures { result ≡ is_number number place.now }
+    ensures { result ≡ is_of_connection number place.now }
 {
     match place {
         Some(connection) => connection.number() == number,
@@ -94,7 +94,7 @@ fn settle(place: &mut Option<Connection>, stays: bool)
 
 /// Whether a connection that was fed stays.
 fn stays_after(fed: &Result<Said, Fault>) -> bool
-    ensures { result ≡ stays fed.now }
+    ensures { result ≡ stays_open fed.now }
 {
     match fed {
         Ok(said) => !said.closes,

@@ -1,7 +1,7 @@
 //! The command that a client's letters ask.
 
 ghost use Rattle.std.specs.Prelude.{◌≡◌, None};
-ghost use Rattle.connections.specs.Connection.{wanted, wanted_by, or_else, last_body as last_said};
+ghost use Rattle.connections.specs.Connection.{wanted_command, wanted_by, or_else, last_body as last_said};
 
 use decrees::Letter;
 use exec_lines::Body;
@@ -34,7 +34,7 @@ fn last_body(letters: &mut Vec<Letter<Body>>) -> Option<Body>
 
 /// The command of the last letter, moved out of it. `None`: no letter, or one that asks none.
 fn command_in(letters: Vec<Letter<Body>>) -> Option<Command>
-    ensures { result ≡ wanted letters.items }
+    ensures { result ≡ wanted_command letters.items }
 {
     let mut letters = letters;
     let body = last_body(&mut letters)?;
@@ -43,7 +43,7 @@ fn command_in(letters: Vec<Letter<Body>>) -> Option<Command>
 
 /// The command that the letters ask, if they ask one, is the one to be taken.
 pub fn put_wanted(command: &mut Option<Command>, letters: Vec<Letter<Body>>)
-    ensures { command.new ≡ or_else (wanted letters.items) command.old }
+    ensures { command.new ≡ or_else (wanted_command letters.items) command.old }
 {
     let wanted = command_in(letters);
     if wanted.is_some() {

@@ -10,7 +10,7 @@ use Rattle.proto.specs.declared.turn.Turn.TheVariants.{Ask}
 use Rattle.proto.specs.Grammar.{Spells, IsTurnText, next_turn}
 use Rattle.proto.proofs.SpellsLemmas.{next_extends}
 use Rattle.sessions.specs.declared.request.Request.{Request}
-use Rattle.ensemble.specs.Ensemble.{is_of, asks_of, turn_of, turns_of}
+use Rattle.ensemble.specs.Ensemble.{is_of, asks_of, asked_turn, turns_of}
 
 abbrev Ask_of : Type 0
 Ask_of = Request × Bool
@@ -65,21 +65,21 @@ count_other client asked a other = by (a.0.client == client) refl
 
 -- ---- as bytes spell it
 
-map_more : (entries : List Ask_of) (a : Ask_of) → map turn_of (entries ++ a ∷ []) ≡ map turn_of entries ++ turn_of a ∷ []
+map_more : (entries : List Ask_of) (a : Ask_of) → map asked_turn (entries ++ a ∷ []) ≡ map asked_turn entries ++ asked_turn a ∷ []
 map_more [] a = refl
-map_more (b ∷ entries) a = ap (λ (ts : List Turn). turn_of b ∷ ts) (map_more entries a)
+map_more (b ∷ entries) a = ap (λ (ts : List Turn). asked_turn b ∷ ts) (map_more entries a)
 
-spells_more : (bytes own : List ℕ) (entries : List Ask_of) (a : Ask_of) → Spells bytes (map turn_of entries) [] → IsTurnText own (turn_of a) → Spells (bytes ++ own) (map turn_of entries ++ turn_of a ∷ []) []
+spells_more : (bytes own : List ℕ) (entries : List Ask_of) (a : Ask_of) → Spells bytes (map asked_turn entries) [] → IsTurnText own (asked_turn a) → Spells (bytes ++ own) (map asked_turn entries ++ asked_turn a ∷ []) []
 spells_more bytes own [] a spells text =
     let nothing : next_turn [] ≡ None = subst (λ (bs : List ℕ). next_turn bs ≡ None) (sym spells.1) spells.0 in
-    subst (λ (bs : List ℕ). Spells (bs ++ own) (turn_of a ∷ []) []) spells.1 ([], text, (nothing, refl))
+    subst (λ (bs : List ℕ). Spells (bs ++ own) (asked_turn a ∷ []) []) spells.1 ([], text, (nothing, refl))
 spells_more bytes own (b ∷ entries) a spells text =
-    (spells.0 ++ own, next_extends bytes own spells.0 (turn_of b) spells.1, spells_more spells.0 own entries a spells.2 text)
+    (spells.0 ++ own, next_extends bytes own spells.0 (asked_turn b) spells.1, spells_more spells.0 own entries a spells.2 text)
 
-pub spells_asked : (client : ℕ) (bytes own : List ℕ) (asked : List Ask_of) (a : Ask_of) → Spells bytes (turns_of client asked) [] → IsTurnText own (turn_of a) → a.0.client ≡ client → Spells (bytes ++ own) (turns_of client (asked ++ a ∷ [])) []
+pub spells_asked : (client : ℕ) (bytes own : List ℕ) (asked : List Ask_of) (a : Ask_of) → Spells bytes (turns_of client asked) [] → IsTurnText own (asked_turn a) → a.0.client ≡ client → Spells (bytes ++ own) (turns_of client (asked ++ a ∷ [])) []
 spells_asked client bytes own asked a spells text is =
-    subst (λ (ts : List Turn). Spells (bytes ++ own) ts []) (sym (ap (map turn_of) (asks_same client asked a is) ∙ map_more (asks_of client asked) a)) (spells_more bytes own (asks_of client asked) a spells text)
+    subst (λ (ts : List Turn). Spells (bytes ++ own) ts []) (sym (ap (map asked_turn) (asks_same client asked a is) ∙ map_more (asks_of client asked) a)) (spells_more bytes own (asks_of client asked) a spells text)
 
 pub spells_other : (client : ℕ) (bytes : List ℕ) (asked : List Ask_of) (a : Ask_of) → Spells bytes (turns_of client asked) [] → (a.0.client == client) ≡ false → Spells bytes (turns_of client (asked ++ a ∷ [])) []
 spells_other client bytes asked a spells other =
-    subst (λ (ts : List Turn). Spells bytes ts []) (sym (ap (map turn_of) (asks_other client asked a other))) spells
+    subst (λ (ts : List Turn). Spells bytes ts []) (sym (ap (map asked_turn) (asks_other client asked a other))) spells

@@ -1,7 +1,6 @@
 -- A proxy is a client of the world.
 use Rattle.std.proofs.Common.{◌≡◌, ◌⊎◌, inl, inr, ⊎_elim, ℕ, zero, suc, Bool, true, false, List, [], ◌∷◌, ◌++◌, length, map, Option, None, Some, slice_get, slice_set, refl, sym, ap, ◌∙◌, subst}
 use Rattle.std.specs.Prelude.{Contains, ◌==◌}
-use Rattle.std.proofs.lemmas.List.{append-nil}
 use Rattle.std.proofs.lemmas.List.Elements.{Contains-append_left, Contains-append_right}
 use Rattle.std.proofs.lemmas.Bool.{eqb-true}
 use Rattle.proto.specs.declared.reply.Reply as replies
@@ -21,14 +20,13 @@ use Rattle.events.specs.declared.event.Event.TheVariants.{Deliver, Again}
 use Rattle.worlds.specs.Slots.{ClientSlot, ClientSettles, ClientSettlesWhere}
 use Rattle.worlds.specs.World.{WorldView, WorldNext, ClientAtGiven, ClientGiven, NodeReached, IsDelivered, with_client}
 use Rattle.worlds.specs.World as of_world
-use Rattle.worlds.specs.Asked.{WasSent}
-use Rattle.proxies.specs.Proxy.{ProxyView, answers, quiet_of, request_of, left_of, talk_of, AnswerIsReplied, AgainIsAsked}
+use Rattle.proxies.specs.Proxy.{ProxyView, answers, asked_quiet, request_of, talk_of, AnswerIsReplied, AgainIsAsked}
 use Rattle.hosts.specs.Host.{HostView}
 use Rattle.ensemble.specs.declared.answer.Answer.{Answer}
-use Rattle.ensemble.specs.Nodes.{NodesView, MayGrow, IsAnswered, ProxyGets, ProxyReached, AsksAgain}
-use Rattle.ensemble.specs.Ensemble.{HasSent, IsLike, client_of, answer_log}
-use Rattle.ensemble.proofs.Lists.{grown, set_cases, length_set, in_head, in_none, place_of, map_get, get_map, map_set}
-use Rattle.ensemble.proofs.Goes.{Moves, stays, moves_by, SameProxies, same_proxies, Goes, goes_nowhere, AreSent}
+use Rattle.ensemble.specs.Nodes.{NodesView, ProxyAnswers, IsPosted, AsksAgain}
+use Rattle.ensemble.specs.Ensemble.{HasSent, IsLike, client_of}
+use Rattle.ensemble.proofs.Lists.{grown, set_cases, length_set, place_of, map_get, get_map, map_set}
+use Rattle.ensemble.proofs.Goes.{stays, moves_by, SameProxies, same_proxies, Goes, goes_nowhere}
 
 abbrev client_in : ClientSlot → ClientView
 client_in slot = slot.client
@@ -61,17 +59,21 @@ still_has h id letters more has = record {
   sent = λ l c. Contains-append_left letters more l (has.sent l c);
 }
 
+-- what is under way was so before, or was sent just now
+pub posted_from : (n : NodesView) (client : ℕ) (r : Request) (now : NodesView) (letters : List (Letter Body)) → wants n.u client r ≡ letters → IsPosted n client r now → (l : Letter Body) → Contains now.mail l → Contains n.mail l ⊎ Contains letters l
+posted_from n client r now letters wanted posted l c = ⊎_elim (λ (old : Contains n.mail l). inl old) (λ (fresh : Contains posted.sent l). inr (subst (λ (ls : List (Letter Body)). Contains ls l) wanted (posted.among l fresh))) (grown n.mail posted.sent now.mail posted.grows l c)
+
 -- so the world stays like the nodes
-pub like_client : (n : NodesView) (w : WorldView) (index : ℕ) (p : ProxyView) (slot : ClientSlot) (new mail : List (Letter Body)) → IsLike n w → slot.client ≡ client_of n.u p → MayGrow n.mail new mail
+pub like_client : (n : NodesView) (w : WorldView) (index : ℕ) (p : ProxyView) (slot : ClientSlot) (new mail : List (Letter Body)) → IsLike n w → slot.client ≡ client_of n.u p → ((l : Letter Body) → Contains mail l → Contains n.mail l ⊎ Contains new l)
     → IsLike (record n { proxies = slice_set n.proxies index p; mail = mail }) (with_client w index slot new)
-like_client n w index p slot new mail like is grows = record {
+like_client n w index p slot new mail like is from = record {
   same_u = like.same_u;
   executors = like.executors;
   verifiers = like.verifiers;
   clients =
       map_set client_in w.clients index slot
       ∙ ((λ i. slice_set (like.clients i) index (is i)) ∙ sym (map_set (client_of n.u) n.proxies index p));
-  mail = λ l c. ⊎_elim (λ (old : Contains n.mail l). Contains-append_left w.letters new l (like.mail l old)) (λ (fresh : Contains new l). Contains-append_right w.letters new l fresh) (grown n.mail new mail grows l c);
+  mail = λ l c. ⊎_elim (λ (old : Contains n.mail l). Contains-append_left w.letters new l (like.mail l old)) (λ (fresh : Contains new l). Contains-append_right w.letters new l fresh) (from l c);
   hosts = λ j k there. still_has k j w.letters new (like.hosts j k there);
 }
 
@@ -87,16 +89,16 @@ answered_proxies ps index p q at client last = record {
 }
 
 -- what was asked under this number
-asked_under : (o : Option Asked) (number : ℕ) (quiet : Bool) → quiet_of o number ≡ Some quiet → (a : Asked) × (o ≡ Some a) × (a.request.number ≡ number)
+asked_under : (o : Option Asked) (number : ℕ) (quiet : Bool) → asked_quiet o number ≡ Some quiet → (a : Asked) × (o ≡ Some a) × (a.request.number ≡ number)
 asked_under None number quiet is = absurd (cc is)
 asked_under (Some a) number quiet is = by (a.request.number == number) refl
   where
     by : (same : Bool) → (a.request.number == number) ≡ same → (b : Asked) × (◌≡◌ {A = Option Asked} (Some a) (Some b)) × (b.request.number ≡ number)
     by true e = (a, refl, eqb-true a.request.number number e)
-    by false e = absurd (let none : quiet_of (Some a) number ≡ None = rw e refl in cc (sym none ∙ is))
+    by false e = absurd (let none : asked_quiet (Some a) number ≡ None = rw e refl in cc (sym none ∙ is))
 
 -- the step of the client to which the reply comes
-replied : AnswerIsReplied → (u : ℕ) (p : ProxyView) (number : ℕ) (quiet : Bool) (reply : replies.Reply) → quiet_of p.asked number ≡ Some quiet
+replied : AnswerIsReplied → (u : ℕ) (p : ProxyView) (number : ℕ) (quiet : Bool) (reply : replies.Reply) → asked_quiet p.asked number ≡ Some quiet
     → (g : Given) × IsClientStep u p.client (talk_of p) (input.Reply number reply) g × (g.talk ≡ talk_of (answers p number)) × (g.letters ≡ [])
 replied law u p number quiet reply is =
     let a = asked_under p.asked number quiet is in
@@ -107,7 +109,7 @@ replied law u p number quiet reply is =
 
 -- a reply was sent to the proxy, and is answered
 pub answered_goes : AnswerIsReplied → (n : NodesView) (w : WorldView) (l : Letter Body) (client number : ℕ) (reply : replies.Reply) (proxies : List ProxyView) (answer : Option Answer) → IsLike n w → Contains w.letters l → l.to ≡ node.Client client → l.body ≡ body.Reply number reply
-    → IsAnswered n.proxies client number reply proxies answer → Goes n (record n { proxies = proxies }) w
+    → ProxyAnswers n.proxies client number reply proxies answer → Goes n (record n { proxies = proxies }) w
 answered_goes law n w l client number reply proxies answer like was to says r =
     let slot = slot_of n w r.index r.proxy like r.there in
     let step = replied law n.u r.proxy number r.quiet reply r.was_asked in
@@ -123,7 +125,7 @@ answered_goes law n w l client number reply proxies answer like was to says r =
     record {
       world = now;
       moves = moves_by w now (Deliver (suc k.0)) step.0.letters next (λ c. refl) refl;
-      like = subst (λ (ps : List ProxyView). IsLike (record n { proxies = ps }) now) (sym r.after) (like_client n w r.index (answers r.proxy number) after step.0.letters n.mail like is (inr refl));
+      like = subst (λ (ps : List ProxyView). IsLike (record n { proxies = ps }) now) (sym r.after) (like_client n w r.index (answers r.proxy number) after step.0.letters n.mail like is (λ l c. inl c));
       same_u = refl;
       proxies = subst (SameProxies n.proxies) (sym r.after) (answered_proxies n.proxies r.index r.proxy (answers r.proxy number) r.there refl refl);
     }
@@ -150,11 +152,10 @@ again_goes law n now w number like numbered (inl (request, r, posted)) =
     let given = client_given n w r.index r.proxy slot.0 input.Again g slot.1 slot.2 (sym (law n.u r.proxy out.0 out.1)) in
     let own : number ≡ r.proxy.client = r.at ∙ sym (numbered r.index r.proxy r.there) in
     let wanted : wants n.u number request ≡ g.letters = λ i. wants n.u (own i) (sym out.2 i) in
-    let grows : MayGrow n.mail g.letters posted.0 = subst (λ (ls : List (Letter Body)). MayGrow n.mail ls posted.0) wanted posted.1 in
-    subst (λ (x : NodesView). Goes n x w) (sym posted.2) (record {
+    subst (λ (x : NodesView). Goes n x w) (sym posted.after) (record {
       world = there;
       moves = moves_by w there (Again (suc r.index)) g.letters given (λ c. refl) refl;
-      like = subst (λ (ps : List ProxyView). IsLike (record n { proxies = ps; mail = posted.0 }) there) (same_set n.proxies r.index r.proxy r.there) (like_client n w r.index r.proxy after g.letters posted.0 like refl grows);
+      like = subst (λ (ps : List ProxyView). IsLike (record n { proxies = ps; mail = now.mail }) there) (same_set n.proxies r.index r.proxy r.there) (like_client n w r.index r.proxy after g.letters now.mail like refl (posted_from n number request now g.letters wanted posted));
       same_u = refl;
       proxies = same_proxies n.proxies n.proxies refl;
     })

@@ -1,10 +1,12 @@
--- Hosts of executors go to other threads.
+-- Hosts of executors go to other threads, and so does an ensemble.
 use denote.Param.Send.{IsSend, sendable}
 use Rattle.std.proofs.Crossing.{crosses}
 use Rattle.std.proofs.alloc.Global.TheSendSync as global
 use Rattle.std.proofs.option.Option.TheSendSync as option
 use Rattle.std.proofs.sync.Arc.TheSendSync as arc
 use Rattle.std.proofs.vec.Vec.TheSendSync as vec
+use Rattle.std.proofs.collections.VecDeque.TheSendSync as deque
+use Rattle.http_server.proofs.log.Log.TheSendSync as log
 use Rattle.base.proofs.text.Text.TheSendSync as text
 use Rattle.proto.proofs.reply.Reply.TheSendSync as reply
 use Rattle.sessions.proofs.request.Request.TheSendSync as request
@@ -40,6 +42,11 @@ use Rattle.exec_lines.specs.contracts.state.State as executor
 use Rattle.exec_lines.specs.contracts.record.ExecutorRecord as kept
 use Rattle.worlds.specs.contracts.executor_place.ExecutorPlace as place
 use Rattle.hosts.specs.contracts.executor_host.ExecutorHost as host
+use Rattle.worlds.proofs.verifier_place.VerifierPlace.TheSendSync as verifier
+use Rattle.proxies.proofs.proxy.Proxy.TheSendSync as proxy
+use Rattle.ensemble.proofs.progress.Progress.TheSendSync as progress
+use Rattle.ensemble.specs.contracts.nodes.Nodes as nodes
+use Rattle.ensemble.specs.contracts.ensemble.Ensemble as ensemble
 
 ruleset parts = (
   page_send,
@@ -113,7 +120,7 @@ executor_send = search (chain_send, work_send, parts, sendable) depth 60 fits 20
 parcel_send : IsSend parcel.the_row
 parcel_send = search (parts, sendable) depth 60 fits 20000
 
-body_send : IsSend body.the_row
+pub body_send : IsSend body.the_row
 body_send = search (parcel_send, parts, sendable) depth 60 fits 20000
 
 saved_member_send : IsSend saved_member.the_row
@@ -130,3 +137,9 @@ place_send = first_of (search (executor_send, kept_send, parts, sendable) depth 
 
 pub host_send : IsSend host.the_row
 host_send = first_of (search (place_send, body_send, letter.the_send, parts, sendable) depth 60 fits 20000, search (place_send, body_send, parts, sendable) depth 60 fits 20000)
+
+nodes_send : IsSend nodes.the_row
+nodes_send = search (host_send, body_send, letter.the_send, verifier.the_send, proxy.the_send, deque.the_send, parts, sendable) depth 60 fits 20000
+
+pub ensemble_send : IsSend ensemble.the_row
+ensemble_send = search (nodes_send, progress.the_send, log.the_send, parts, sendable) depth 60 fits 20000

@@ -1,5 +1,5 @@
 -- What is true of an ensemble whose replicas were just opened.
-use Rattle.std.proofs.Common.{◌≡◌, ⊎_elim, ℕ, zero, suc, ◌+◌, List, [], ◌∷◌, ◌++◌, length, map, None, Some, slice_get, refl, sym, ap, ◌∙◌, subst, arith}
+use Rattle.std.proofs.Common.{◌≡◌, ⊎_elim, ℕ, zero, suc, ◌+◌, Bool, true, List, [], ◌∷◌, ◌++◌, length, map, None, Some, slice_get, refl, sym, ap, ◌∙◌, subst, arith}
 use Rattle.std.specs.Prelude.{Contains}
 use Rattle.std.proofs.lemmas.List.{length-append}
 use Rattle.std.proofs.Math.Numerals.{add-one}
@@ -19,8 +19,9 @@ use Rattle.worlds.proofs.FirstLemmas.{reached_first}
 use Rattle.proxies.specs.Proxy.{ProxyView}
 use Rattle.hosts.specs.Host.{HostView}
 use Rattle.ensemble.specs.First.{first_proxies_of, first_host, first_hosts, first_nodes}
-use Rattle.ensemble.specs.Ensemble.{EnsembleView, HasSent, IsEnsemble, client_of}
+use Rattle.ensemble.specs.Ensemble.{EnsembleView, HasSent, IsPast, IsEnsemble, client_of}
 use Rattle.ensemble.proofs.Lists.{in_none}
+use Rattle.ensemble.proofs.Past.{past_now}
 use Rattle.ensemble.proofs.Asks.{at_end}
 
 abbrev slot_of : HostView → Slot ExecutorView
@@ -68,7 +69,11 @@ of_hosts u (suc n) id h at = ⊎_elim
     (λ (last : (id ≡ length (first_hosts u n)) × (h ≡ first_host u n)). (ap (λ (k : HostView). k.held) last.1, ap (λ (k : HostView). k.sent) last.1))
     (at_end (first_hosts u n) (first_host u n) h id at)
 
-pub first_is_ensemble : (c : ConfigView) → IsEnsemble (record { nodes = first_nodes c; asked = []; answered = [] })
+begins_empty : (early late : List ((ℕ × ℕ) × Bool)) → [] ≡ early ++ late → [] ≡ early
+begins_empty [] late is = refl
+begins_empty (x ∷ early) late is = absurd (cc is)
+
+pub first_is_ensemble : (c : ConfigView) → IsEnsemble (record { nodes = first_nodes c; asked = []; answered = []; order = [] })
 first_is_ensemble c = record {
   config = c;
   events = [];
@@ -91,4 +96,8 @@ first_is_ensemble c = record {
   in_order = λ client k a at. absurd (cc at);
   fed = λ client. (nothing_next, refl);
   answers = λ a x. absurd (in_none a x);
+  ordered_asks = λ a x. absurd (in_none a x);
+  ordered_answers = λ client number x. absurd (in_none ((client, number), true) x);
+  past = λ early late is. subst (λ (o : List ((ℕ × ℕ) × Bool)). IsPast [] (reached_first c (first_world c) refl).worlds o) (begins_empty early late is)
+      (past_now c [] (first_world c) (reached_first c (first_world c) refl) [] [] [] (λ client k a at. absurd (cc at)) (λ client. (nothing_next, refl)) (λ a x. absurd (in_none a x)) (λ client number x. absurd (in_none ((client, number), true) x)) (λ a x. absurd (in_none a x)));
 }

@@ -1,11 +1,12 @@
 -- How nodes and a world that is like them go on.
-use Rattle.std.proofs.Common.{◌≡◌, ◌⊎◌, inl, inr, ⊎_elim, ℕ, zero, suc, List, [], ◌∷◌, ◌++◌, length, map, Option, None, Some, slice_get, slice_set, refl, sym, ap, ◌∙◌, subst, arith}
+use Rattle.std.proofs.Common.{◌≡◌, ◌⊎◌, inl, inr, ⊎_elim, ℕ, zero, suc, Bool, true, false, List, [], ◌∷◌, ◌++◌, length, map, Option, None, Some, slice_get, slice_set, refl, sym, ap, ◌∙◌, subst, arith}
 use Rattle.std.specs.Prelude.{Contains}
 use Rattle.std.proofs.lemmas.List.{append-nil}
 use Rattle.std.proofs.lemmas.List.Concat.{flat_map-append}
-use Rattle.std.proofs.lemmas.List.Elements.{Contains-append_left}
+use Rattle.std.proofs.lemmas.List.Elements.{Contains-append_left, Contains-push, Contains-push_cases}
 use Rattle.proto.specs.declared.reply.Reply as replies
 use Rattle.proto.specs.Grammar.{Spells}
+use Rattle.sessions.specs.declared.request.Request.{Request}
 use Rattle.decrees.specs.declared.node.Letter.{Letter}
 use Rattle.exec_lines.specs.declared.body.Body.{Body}
 use Rattle.events.specs.declared.event.Event.{Event}
@@ -17,7 +18,8 @@ use Rattle.worlds.specs.Asked.{WasSent}
 use Rattle.worlds.proofs.LeadLemmas.{LeadsTo, leads_nowhere, leads_append, runs_append, last_append}
 use Rattle.proxies.specs.Proxy.{ProxyView}
 use Rattle.ensemble.specs.Nodes.{NodesView}
-use Rattle.ensemble.specs.Ensemble.{EnsembleView, IsLike, IsEnsemble, turns_of}
+use Rattle.ensemble.specs.Ensemble.{EnsembleView, IsLike, IsPast, IsEnsemble, turns_of}
+use Rattle.ensemble.proofs.Past.{Order, longer_split, past_more, past_now}
 
 -- ---- worlds
 
@@ -56,16 +58,26 @@ moves_on a b c p q = record {
   grows = λ l in_a. q.grows l (p.grows l in_a);
 }
 
+reached_by : (config : ConfigView) (es fs : List Event) (w now : WorldView) (worlds : List WorldView) → ReachedWorlds config es worlds → EndsWith worlds w → LeadsTo w fs now → IsReached config (es ++ fs) now
+reached_by config es fs w now [] reached ends leads = absurd reached
+reached_by config es fs w now (first ∷ later) reached ends leads = record {
+  worlds = first ∷ (later ++ leads.0);
+  reached = (reached.0, runs_append first es fs later leads.0 reached.1 (subst (λ (x : WorldView). WorldRuns x fs leads.0) (sym ends) leads.1));
+  ends = last_append first later leads.0 ∙ (ap (λ (x : WorldView). last_world x leads.0) ends ∙ leads.2);
+}
+
 pub reached_more : (config : ConfigView) (es fs : List Event) (w now : WorldView) → IsReached config es w → LeadsTo w fs now → IsReached config (es ++ fs) now
-reached_more config es fs w now r leads = by r.worlds r.reached r.ends
-  where
-    by : (worlds : List WorldView) → ReachedWorlds config es worlds → EndsWith worlds w → IsReached config (es ++ fs) now
-    by [] reached ends = absurd reached
-    by (first ∷ later) reached ends = record {
-      worlds = first ∷ (later ++ leads.0);
-      reached = (reached.0, runs_append first es fs later leads.0 reached.1 (subst (λ (x : WorldView). WorldRuns x fs leads.0) (sym ends) leads.1));
-      ends = last_append first later leads.0 ∙ (ap (λ (x : WorldView). last_world x leads.0) ends ∙ leads.2);
-    }
+reached_more config es fs w now r leads = reached_by config es fs w now r.worlds r.reached r.ends leads
+
+worlds_by : (config : ConfigView) (es fs : List Event) (w now : WorldView) (worlds : List WorldView) (reached : ReachedWorlds config es worlds) (ends : EndsWith worlds w) (leads : LeadsTo w fs now) → (reached_by config es fs w now worlds reached ends leads).worlds ≡ worlds ++ leads.0
+unfolding reached_by
+worlds_by config es fs w now [] reached ends leads = absurd reached
+worlds_by config es fs w now (first ∷ later) reached ends leads = refl
+
+-- its worlds are those of before and those that the events led to
+pub worlds_more : (config : ConfigView) (es fs : List Event) (w now : WorldView) (r : IsReached config es w) (leads : LeadsTo w fs now) → (reached_more config es fs w now r leads).worlds ≡ r.worlds ++ leads.0
+unfolding reached_more
+worlds_more config es fs w now r leads = worlds_by config es fs w now r.worlds r.reached r.ends leads
 
 -- ---- nodes
 
@@ -118,8 +130,20 @@ still_sent letters more client number reply grows sent = (sent.0, grows sent.0 s
 abbrev pub AreSent : List ((ℕ × ℕ) × replies.Reply) → List (Letter Body) → Type 0
 AreSent answered letters = (a : (ℕ × ℕ) × replies.Reply) → Contains answered a → WasSent letters a.0.0 a.0.1 a.1
 
-pub ensemble_goes : (e : EnsembleView) (n : NodesView) (answered : List ((ℕ × ℕ) × replies.Reply)) (h : IsEnsemble e) (g : Goes e.nodes n h.now) → AreSent answered g.world.letters → IsEnsemble (record { nodes = n; asked = e.asked; answered = answered })
-ensemble_goes e n answered h g sent = record {
+-- what was fed to a client is what it was, since nobody was fed
+still_fed : (w now : WorldView) (m : Moves w now) (events : List Event) (client : ℕ) → fed_to client (events ++ m.events) ≡ fed_to client events
+still_fed w now m events client = fed_both client events m.events ∙ (ap (λ (bytes : List ℕ). fed_to client events ++ bytes) (m.unfed client) ∙ append-nil (fed_to client events))
+
+-- each beginning of the order that was there is still a moment
+pub still_past : (e : EnsembleView) (h : IsEnsemble e) (more : List Event) (now : WorldView) (leads : LeadsTo h.now more now) (early late : Order) → e.order ≡ early ++ late
+    → IsPast (h.events ++ more) (reached_more h.config h.events more h.now now h.through leads).worlds early
+still_past e h more now leads early late is =
+    subst (λ (ws : List WorldView). IsPast (h.events ++ more) ws early) (sym (worlds_more h.config h.events more h.now now h.through leads))
+    (past_more h.events more h.through.worlds leads.0 early (h.past early late is))
+
+-- nothing was answered
+pub ensemble_stays : (e : EnsembleView) (n : NodesView) (h : IsEnsemble e) → Goes e.nodes n h.now → IsEnsemble (record e { nodes = n })
+ensemble_stays e n h g = record {
   config = h.config;
   events = h.events ++ g.moves.events;
   now = g.world;
@@ -129,11 +153,49 @@ ensemble_goes e n answered h g sent = record {
   like = g.like;
   numbered = λ i p at. let old = g.proxies.each i p at in let was = h.numbered i old.0 old.1 in (old.2 ∙ was.0, old.3 ∙ was.1);
   in_order = h.in_order;
-  fed = λ client. subst (λ (bytes : List ℕ). Spells bytes (turns_of client e.asked) [])
-      (sym (fed_both client h.events g.moves.events ∙ (ap (λ (bytes : List ℕ). fed_to client h.events ++ bytes) (g.moves.unfed client) ∙ append-nil (fed_to client h.events)))) (h.fed client);
-  answers = sent;
+  fed = λ client. subst (λ (bytes : List ℕ). Spells bytes (turns_of client e.asked) []) (sym (still_fed h.now g.world g.moves h.events client)) (h.fed client);
+  answers = λ a c. still_sent h.now.letters g.world.letters a.0.0 a.0.1 a.1 g.moves.grows (h.answers a c);
+  ordered_asks = h.ordered_asks;
+  ordered_answers = h.ordered_answers;
+  past = λ early late is. still_past e h g.moves.events g.world g.moves.leads early late is;
 }
 
--- nothing was answered
-pub ensemble_stays : (e : EnsembleView) (n : NodesView) (h : IsEnsemble e) → Goes e.nodes n h.now → IsEnsemble (record { nodes = n; asked = e.asked; answered = e.answered })
-ensemble_stays e n h g = ensemble_goes e n e.answered h g (λ a c. still_sent h.now.letters g.world.letters a.0.0 a.0.1 a.1 g.moves.grows (h.answers a c))
+in_longer : {X : Type 0} (xs : List X) (y x : X) → Contains xs x → Contains (xs ++ y ∷ []) x
+in_longer xs y x c = Contains-append_left xs (y ∷ []) x c
+
+-- one request was answered
+pub ensemble_answers : (e : EnsembleView) (n : NodesView) (h : IsEnsemble e) (g : Goes e.nodes n h.now) (client number : ℕ) (reply : replies.Reply) → WasSent g.world.letters client number reply
+    → IsEnsemble (record { nodes = n; asked = e.asked; answered = e.answered ++ ((client, number), reply) ∷ []; order = e.order ++ ((client, number), true) ∷ [] })
+unfolding ensemble_stays
+ensemble_answers e n h g client number reply sent =
+    let stays = ensemble_stays e n h g in
+    let answered : List ((ℕ × ℕ) × replies.Reply) = e.answered ++ ((client, number), reply) ∷ [] in
+    let order : Order = e.order ++ ((client, number), true) ∷ [] in
+    let answers : AreSent answered g.world.letters = λ a c. ⊎_elim
+    (λ (old : Contains e.answered a). stays.answers a old)
+    (λ (same : ((client, number), reply) ≡ a). subst (λ (x : (ℕ × ℕ) × replies.Reply). WasSent g.world.letters x.0.0 x.0.1 x.1) same sent)
+    (Contains-push_cases e.answered ((client, number), reply) a c) in
+    let ordered_asks : (a : Request × Bool) → Contains e.asked a → Contains order ((a.0.client, a.0.number), false) = λ a c. in_longer e.order ((client, number), true) ((a.0.client, a.0.number), false) (h.ordered_asks a c) in
+    let ordered_answers : (p k : ℕ) → Contains order ((p, k), true) → (r : replies.Reply) × Contains answered ((p, k), r) = λ p k c. ⊎_elim
+    (λ (old : Contains e.order ((p, k), true)). let was = h.ordered_answers p k old in (was.0, in_longer e.answered ((client, number), reply) ((p, k), was.0) was.1))
+    (λ (same : ◌≡◌ {A = (ℕ × ℕ) × Bool} ((client, number), true) ((p, k), true)). (reply, subst (λ (x : (ℕ × ℕ) × Bool). Contains answered (x.0, reply)) same (Contains-push e.answered ((client, number), reply))))
+    (Contains-push_cases e.order ((client, number), true) ((p, k), true) c) in
+    record {
+      config = stays.config;
+      events = stays.events;
+      now = stays.now;
+      same_u = stays.same_u;
+      clients = stays.clients;
+      through = stays.through;
+      like = stays.like;
+      numbered = stays.numbered;
+      in_order = stays.in_order;
+      fed = stays.fed;
+      answers = answers;
+      ordered_asks = ordered_asks;
+      ordered_answers = ordered_answers;
+      past = λ early late is. ⊎_elim
+          (λ (old : (rest : Order) × (e.order ≡ early ++ rest)). stays.past early old.0 old.1)
+          (λ (whole : early ≡ order). subst (λ (o : Order). IsPast stays.events stays.through.worlds o) (sym whole) (past_now stays.config stays.events stays.now stays.through e.asked answered order stays.in_order stays.fed ordered_asks ordered_answers answers))
+          (longer_split e.order ((client, number), true) early late is);
+    }

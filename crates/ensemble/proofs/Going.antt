@@ -1,14 +1,12 @@
 -- Each call leaves an ensemble of which the same is true.
-use Rattle.std.proofs.Common.{◌≡◌, ◌≢◌, ◌⊎◌, inl, inr, ⊎_elim, ℕ, zero, suc, ◌+◌, ◌<◌, ◌≤◌, ◌^◌, Bool, true, false, List, [], ◌∷◌, ◌++◌, length, map, Option, None, Some, slice_get, slice_set, refl, sym, ap, ◌∙◌, subst, arith}
+use Rattle.std.proofs.Common.{◌≡◌, ◌≢◌, ◌⊎◌, inl, inr, ⊎_elim, ℕ, zero, suc, ◌+◌, ◌<◌, ◌^◌, Bool, true, false, List, [], ◌∷◌, ◌++◌, length, map, Option, None, Some, slice_get, slice_set, refl, sym, ap, ◌∙◌, subst, arith}
 use Rattle.std.specs.Prelude.{Contains, ◌==◌}
 use Rattle.std.specs.declared.alloc.Global.{Global}
 use Rattle.std.specs.declared.vec.Vec.{Vec}
 use Rattle.std.proofs.lemmas.List.{append-nil}
 use Rattle.std.proofs.lemmas.List.Concat.{flat_map-append}
-use Rattle.std.proofs.lemmas.List.Elements.{Contains-append_left, Contains-append_cases}
-use Rattle.std.proofs.lemmas.Bool.{eqb-true, eqb-false, eq-eqb}
-use Rattle.proto.specs.declared.block.TheConstants.{MOST_BLOCK_BYTES}
-use Rattle.proto.specs.declared.line.TheConstants.{MOST_LINE_BYTES}
+use Rattle.std.proofs.lemmas.List.Elements.{Contains-append_left, Contains-append_cases, Contains-push, Contains-push_cases}
+use Rattle.std.proofs.lemmas.Bool.{eqb-true}
 use Rattle.proto.specs.declared.command.Command.{Command}
 use Rattle.proto.specs.declared.reply.Reply as replies
 use Rattle.proto.specs.declared.turn.Turn.TheVariants.{Ask}
@@ -25,7 +23,6 @@ use Rattle.verifier.specs.declared.input.Input.TheVariants as verifier_input
 use Rattle.client.specs.declared.input.Input.TheVariants as client_input
 use Rattle.client.specs.RequestProofs.{client_number}
 use Rattle.client.specs.Talk.{Given, next_request, wants}
-use Rattle.events.specs.declared.event.Event.{Event}
 use Rattle.events.specs.declared.event.Event.TheVariants.{Feed}
 use Rattle.worlds.specs.Slots.{ClientSlot}
 use Rattle.worlds.specs.Runs.{RunIsSteps}
@@ -33,15 +30,17 @@ use Rattle.worlds.specs.World.{WorldView, WorldNext, with_client}
 use Rattle.memcached_spec.specs.Fed.{fed_by, fed_to}
 use Rattle.worlds.specs.Asked.{WasSent}
 use Rattle.proxies.specs.Proxy.{ProxyView, asks, talk_of, AskIsFed, AnswerIsReplied, AgainIsAsked}
-use Rattle.hosts.specs.Host.{HostView, HostSettles, HostTakes, HostReopens, HostCollects}
+use Rattle.hosts.specs.Host.{HostSettles, HostTakes, HostReopens, HostCollects}
 use Rattle.ensemble.specs.declared.answer.Answer.{Answer}
-use Rattle.ensemble.specs.Nodes.{NodesView, MayGrow, HostMoves, HostAdvances, VerifierMoves, VerifierGets, VerifierOpens, VerifierTrims, ProxyGets, ProxyReached, NodeReached, DeliversOf, Delivers, RunsAll, IsAskedBy, IsPosted, AsksAgain}
-use Rattle.ensemble.specs.Ensemble.{EnsembleView, HasText, IsLogged, IsLike, IsEnsemble, asks_of, turn_of, turns_of, client_of, answer_log}
+use Rattle.ensemble.specs.Nodes.{NodesView, HostMoves, HostAdvances, VerifierMoves, VerifierGets, VerifierOpens, VerifierTrims, ProxyGets, ProxyReached, NodesReached, DeliversOf, Delivers, RunsAll, IsAskedBy, IsPosted, AsksAgain}
+use Rattle.memcached_spec.specs.Asked.{HasText}
+use Rattle.ensemble.specs.Ensemble.{EnsembleView, IsLogged, IsLike, IsPast, IsEnsemble, asks_of, asked_turn, turns_of, client_of, answer_log, order_log}
 use Rattle.ensemble.proofs.Lists.{set_split, length_set, in_head, in_tail}
-use Rattle.ensemble.proofs.Goes.{Moves, moves_by, Goes, goes_nowhere, AreSent, still_sent, reached_more, ensemble_goes, ensemble_stays}
+use Rattle.ensemble.proofs.Past.{Order, longer_split, past_now}
+use Rattle.ensemble.proofs.Goes.{Moves, Goes, goes_nowhere, AreSent, still_sent, still_past, reached_more, ensemble_answers, ensemble_stays}
 use Rattle.ensemble.proofs.Hosts.{host_goes, acts_takes, acts_cut, acts_opens, acts_collects, acts_advances, runs_goes}
 use Rattle.ensemble.proofs.Verifiers.{suspect_goes, trim_goes, open_verifier_goes, reached_goes}
-use Rattle.ensemble.proofs.Clients.{slot_of, client_given, like_client, answered_goes, again_goes}
+use Rattle.ensemble.proofs.Clients.{slot_of, client_given, posted_from, like_client, answered_goes, again_goes}
 use Rattle.ensemble.proofs.Asks.{still_in_order, count_same, count_other, spells_asked, spells_other}
 use Rattle.ensemble.proofs.GhostVec.{vec_of}
 
@@ -57,26 +56,17 @@ shorter n w l rest is like = record {
   hosts = like.hosts;
 }
 
-more_sent : (log : List ((ℕ × ℕ) × replies.Reply)) (a : (ℕ × ℕ) × replies.Reply) (letters : List (Letter Body)) → AreSent log letters → WasSent letters a.0.0 a.0.1 a.1 → AreSent (log ++ a ∷ []) letters
-more_sent log a letters are was b c = ⊎_elim
-    (λ (old : Contains log b). are b old)
-    (λ (new : Contains (a ∷ []) b). last new)
-    (Contains-append_cases log (a ∷ []) b c)
-  where
-    last : Contains (a ∷ []) b → WasSent letters b.0.0 b.0.1 b.1
-    last (zero, lt, e) = subst (λ (x : (ℕ × ℕ) × replies.Reply). WasSent letters x.0.0 x.0.1 x.1) e was
-    last (suc k, lt, e) = absurd (omega (arith, lt))
-
 module _ (law : AnswerIsReplied) (e : EnsembleView) (h : IsEnsemble e) where
   abbrev After : NodesView → Option Answer → Type 0
-  After n answer = IsEnsemble (record { nodes = n; asked = e.asked; answered = e.answered ++ answer_log answer })
+  After n answer = IsEnsemble (record { nodes = n; asked = e.asked; answered = e.answered ++ answer_log answer; order = e.order ++ order_log answer })
 
   -- it went on from what is left when a letter was taken
   silent : (mail : List (Letter Body)) (n : NodesView) (answer : Option Answer) → Goes (record e.nodes { mail = mail }) n h.now → answer ≡ None → After n answer
   silent mail n answer g none =
       let whole : Goes e.nodes n h.now = record { world = g.world; moves = g.moves; like = g.like; same_u = g.same_u; proxies = g.proxies } in
       subst (λ (o : Option Answer). After n o) (sym none)
-      (subst (λ (log : List ((ℕ × ℕ) × replies.Reply)). IsEnsemble (record { nodes = n; asked = e.asked; answered = log })) (sym (append-nil e.answered)) (ensemble_stays e n h whole))
+      (subst (λ (logs : List ((ℕ × ℕ) × replies.Reply) × List ((ℕ × ℕ) × Bool)). IsEnsemble (record { nodes = n; asked = e.asked; answered = logs.0; order = logs.1 }))
+      (λ i. (sym (append-nil e.answered) i, sym (append-nil e.order) i)) (ensemble_stays e n h whole))
 
   to_proxy : (l : Letter Body) (rest : List (Letter Body)) (client number : ℕ) (reply : replies.Reply) (proxies : List ProxyView) (answer : Option Answer) → IsLike (record e.nodes { mail = rest }) h.now → Contains h.now.letters l → l.to ≡ node.Client client → l.body ≡ body.Reply number reply
       → ProxyGets e.nodes.proxies client number reply proxies answer → After (record e.nodes { proxies = proxies; mail = rest }) answer
@@ -87,11 +77,10 @@ module _ (law : AnswerIsReplied) (e : EnsembleView) (h : IsEnsemble e) where
       let g = answered_goes law (record e.nodes { mail = rest }) h.now l client number reply proxies answer like was to says r in
       let n : NodesView = record e.nodes { proxies = proxies; mail = rest } in
       let whole : Goes e.nodes n h.now = record { world = g.world; moves = g.moves; like = g.like; same_u = g.same_u; proxies = g.proxies } in
-      let old : AreSent e.answered g.world.letters = λ a c. still_sent h.now.letters g.world.letters a.0.0 a.0.1 a.1 g.moves.grows (h.answers a c) in
       subst (λ (o : Option Answer). After n o) (sym r.is)
-      (ensemble_goes e n (e.answered ++ ((client, number), reply) ∷ []) h whole (more_sent e.answered ((client, number), reply) g.world.letters old (l, g.moves.grows l was, to, says)))
+      (ensemble_answers e n h whole client number reply (l, g.moves.grows l was, to, says))
 
-  come : (l : Letter Body) (rest : List (Letter Body)) (n : NodesView) (answer : Option Answer) → IsLike (record e.nodes { mail = rest }) h.now → Contains h.now.letters l → (x : Node) → l.to ≡ x → NodeReached (record e.nodes { mail = rest }) l x n answer → After n answer
+  come : (l : Letter Body) (rest : List (Letter Body)) (n : NodesView) (answer : Option Answer) → IsLike (record e.nodes { mail = rest }) h.now → Contains h.now.letters l → (x : Node) → l.to ≡ x → NodesReached (record e.nodes { mail = rest }) l x n answer → After n answer
   come l rest n answer like was (node.Executor id) to reached =
       silent rest n answer (host_goes (λ a left sent. HostTakes a l left sent) (record e.nodes { mail = rest }) n h.now id like (acts_takes h.now id l was to) reached.0) reached.1
   come l rest n answer like was (node.Verifier id) to reached =
@@ -118,7 +107,7 @@ module _ (law : AnswerIsReplied) (e : EnsembleView) (h : IsEnsemble e) where
 
 module _ (e : EnsembleView) (n : NodesView) (h : IsEnsemble e) where
   abbrev Stays : Type 0
-  Stays = IsEnsemble (record { nodes = n; asked = e.asked; answered = e.answered })
+  Stays = IsEnsemble (record e { nodes = n })
 
   pub take_held_goes : (id : ℕ) → HostMoves HostAdvances id e.nodes n → Stays
   take_held_goes id m = ensemble_stays e n h (host_goes HostAdvances e.nodes n h.now id h.like (acts_advances h.now id) m)
@@ -153,7 +142,7 @@ module _ (e : EnsembleView) (n : NodesView) (h : IsEnsemble e) where
 -- ---- a proxy asks
 
 -- what each client was fed spells what it asked
-spelled_next : (client index : ℕ) (fed : List ℕ) (bytes : Vec ℕ Global) (asked : List (Request × Bool)) (a : Request × Bool) → Spells fed (turns_of client asked) [] → IsTurnText bytes.items (turn_of a) → a.0.client ≡ suc index
+spelled_next : (client index : ℕ) (fed : List ℕ) (bytes : Vec ℕ Global) (asked : List (Request × Bool)) (a : Request × Bool) → Spells fed (turns_of client asked) [] → IsTurnText bytes.items (asked_turn a) → a.0.client ≡ suc index
     → Spells (fed ++ fed_by client (Feed (suc index) bytes)) (turns_of client (asked ++ a ∷ [])) []
 spelled_next client index fed bytes asked a spells text of = by (suc index == client) refl
   where
@@ -169,7 +158,7 @@ spelled_next client index fed bytes asked a spells text of = by (suc index == cl
 
 pub asks_goes : AskIsFed → Global → (e : EnsembleView) (h : IsEnsemble e) (mid n : NodesView) (number : ℕ) (command : Command) (quiet : Bool) (r : Request) → HasText command quiet
     → IsAskedBy e.nodes.proxies number command quiet mid.proxies r → mid ≡ record e.nodes { proxies = mid.proxies } → IsPosted mid number r n
-    → IsEnsemble (record { nodes = n; asked = e.asked ++ (r, quiet) ∷ []; answered = e.answered })
+    → IsEnsemble (record { nodes = n; asked = e.asked ++ (r, quiet) ∷ []; answered = e.answered; order = e.order ++ ((number, r.number), false) ∷ [] })
 asks_goes law alloc e h mid n number command quiet r text a is posted =
     let p = a.proxy in
     let own = text.0 in
@@ -188,20 +177,35 @@ asks_goes law alloc e h mid n number command quiet r text a is posted =
     let numbered : r.number ≡ p.last + 1 = ap (λ (x : Request). x.number) a.is in
     let asks_command : r.command ≡ command = ap (λ (x : Request). x.command) a.is in
     let wanted : wants mid.u number r ≡ g.letters = λ i. wants (ap (λ (x : NodesView). x.u) is i) ((a.at ∙ sym at.0) i) (a.is i) in
-    let grows : MayGrow e.nodes.mail g.letters posted.0 = subst (λ (p : List (Letter Body) × List (Letter Body)). MayGrow p.0 p.1 posted.0) (λ i. (ap (λ (x : NodesView). x.mail) is i, wanted i)) posted.1 in
-    let set : NodesView = record e.nodes { proxies = slice_set e.nodes.proxies a.index asked; mail = posted.0 } in
-    let n_is : n ≡ set = posted.2 ∙ (λ i. record (is i) { mail = posted.0 }) ∙ ap (λ (ps : List ProxyView). record e.nodes { proxies = ps; mail = posted.0 }) a.after in
+    let from : (l : Letter Body) → Contains n.mail l → Contains e.nodes.mail l ⊎ Contains g.letters l = λ l c. subst (λ (ls : List (Letter Body)). Contains ls l ⊎ Contains g.letters l) (ap (λ (x : NodesView). x.mail) is) (posted_from mid number r n g.letters wanted posted l c) in
+    let set : NodesView = record e.nodes { proxies = slice_set e.nodes.proxies a.index asked; mail = n.mail } in
+    let n_is : n ≡ set = posted.after ∙ (λ i. record (is i) { mail = n.mail }) ∙ ap (λ (ps : List ProxyView). record e.nodes { proxies = ps; mail = n.mail }) a.after in
     let entry : Request × Bool = (r, quiet) in
     let own_text : IsTurnText own (Ask r.command quiet) = subst (λ (c : Command). IsTurnText own (Ask c quiet)) (sym asks_command) text.1 in
     let fed_there = λ (client : ℕ). flat_map-append (fed_by client) h.events (event ∷ []) ∙ ap (λ (bs : List ℕ). fed_to client h.events ++ bs) (append-nil (fed_by client event)) in
-    subst (λ (x : NodesView). IsEnsemble (record { nodes = x; asked = e.asked ++ entry ∷ []; answered = e.answered })) (sym n_is) (record {
+    let order : Order = e.order ++ ((number, r.number), false) ∷ [] in
+    let through = reached_more h.config h.events (event ∷ []) h.now now h.through (now ∷ [], (next, tt), refl) in
+    let in_order : (client k : ℕ) (b : Request × Bool) → slice_get (asks_of client (e.asked ++ entry ∷ [])) k ≡ Some b → b.0.number ≡ suc k = λ client. still_in_order client e.asked entry (h.in_order client)
+    (λ same. numbered ∙ (ap (λ (k : ℕ). k + 1) (at.1 ∙ ap (λ (k : ℕ). length (asks_of k e.asked)) (sym of ∙ same)) ∙ plus_one (length (asks_of client e.asked)))) in
+    let fed : (client : ℕ) → Spells (fed_to client (h.events ++ event ∷ [])) (turns_of client (e.asked ++ entry ∷ [])) [] = λ client. subst (λ (bs : List ℕ). Spells bs (turns_of client (e.asked ++ entry ∷ [])) []) (sym (fed_there client)) (spelled_next client a.index (fed_to client h.events) bytes e.asked entry (h.fed client) own_text of) in
+    let answers : AreSent e.answered now.letters = λ b c. still_sent h.now.letters now.letters b.0.0 b.0.1 b.1 (λ l x. Contains-append_left h.now.letters g.letters l x) (h.answers b c) in
+    let key : ◌≡◌ {A = ℕ × ℕ} (r.client, r.number) (number, r.number) = λ i. ((of ∙ sym a.at) i, r.number) in
+    let ordered_asks : (b : Request × Bool) → Contains (e.asked ++ entry ∷ []) b → Contains order ((b.0.client, b.0.number), false) = λ b c. ⊎_elim
+    (λ (old : Contains e.asked b). Contains-append_left e.order _ _ (h.ordered_asks b old))
+    (λ (same : entry ≡ b). subst (λ (x : Request × Bool). Contains order ((x.0.client, x.0.number), false)) same (subst (λ (k : ℕ × ℕ). Contains order (k, false)) (sym key) (Contains-push e.order ((number, r.number), false))))
+    (Contains-push_cases e.asked entry b c) in
+    let ordered_answers : (p k : ℕ) → Contains order ((p, k), true) → (reply : replies.Reply) × Contains e.answered ((p, k), reply) = λ p k c. ⊎_elim
+    (λ (old : Contains e.order ((p, k), true)). h.ordered_answers p k old)
+    (λ (same : ◌≡◌ {A = (ℕ × ℕ) × Bool} ((number, r.number), false) ((p, k), true)). absurd (let kinds : false ≡ true = ap (λ (x : (ℕ × ℕ) × Bool). x.1) same in cc kinds))
+    (Contains-push_cases e.order ((number, r.number), false) ((p, k), true) c) in
+    subst (λ (x : NodesView). IsEnsemble (record { nodes = x; asked = e.asked ++ entry ∷ []; answered = e.answered; order = order })) (sym n_is) (record {
       config = h.config;
       events = h.events ++ event ∷ [];
       now = now;
       same_u = h.same_u;
       clients = h.clients ∙ sym (length_set e.nodes.proxies a.index asked);
-      through = reached_more h.config h.events (event ∷ []) h.now now h.through (now ∷ [], (next, tt), refl);
-      like = like_client e.nodes h.now a.index asked after g.letters posted.0 h.like refl grows;
+      through = through;
+      like = like_client e.nodes h.now a.index asked after g.letters n.mail h.like refl from;
       numbered = λ i q there. ⊎_elim
           (λ (here : (i ≡ a.index) × (q ≡ asked)). (
             ap (λ (x : ProxyView). x.client) here.1 ∙ (at.0 ∙ ap suc (sym here.0)),
@@ -212,10 +216,15 @@ asks_goes law alloc e h mid n number command quiet r text a is posted =
             (h.numbered i q other.1).1 ∙ sym (count_other (suc i) e.asked entry (λ same. other.0 (let both : suc a.index ≡ suc i = sym of ∙ same in omega (arith, both)))),
           ))
           (set_split e.nodes.proxies a.index i asked q there);
-      in_order = λ client. still_in_order client e.asked entry (h.in_order client)
-          (λ same. numbered ∙ (ap (λ (k : ℕ). k + 1) (at.1 ∙ ap (λ (k : ℕ). length (asks_of k e.asked)) (sym of ∙ same)) ∙ plus_one (length (asks_of client e.asked))));
-      fed = λ client. subst (λ (bs : List ℕ). Spells bs (turns_of client (e.asked ++ entry ∷ [])) []) (sym (fed_there client)) (spelled_next client a.index (fed_to client h.events) bytes e.asked entry (h.fed client) own_text of);
-      answers = λ b c. still_sent h.now.letters now.letters b.0.0 b.0.1 b.1 (λ l x. Contains-append_left h.now.letters g.letters l x) (h.answers b c);
+      in_order = in_order;
+      fed = fed;
+      answers = answers;
+      ordered_asks = ordered_asks;
+      ordered_answers = ordered_answers;
+      past = λ early late split. ⊎_elim
+          (λ (old : (rest : Order) × (e.order ≡ early ++ rest)). still_past e h (event ∷ []) now (now ∷ [], (next, tt), refl) early old.0 old.1)
+          (λ (whole : early ≡ order). subst (λ (o : Order). IsPast (h.events ++ event ∷ []) through.worlds o) (sym whole) (past_now h.config (h.events ++ event ∷ []) now through (e.asked ++ entry ∷ []) e.answered order in_order fed ordered_asks ordered_answers answers))
+          (longer_split e.order ((number, r.number), false) early late split);
     })
   where
     plus_one : (k : ℕ) → k + 1 ≡ suc k
@@ -235,14 +244,15 @@ asks_logged e h proxies number command quiet r now a is =
     }
 
 -- where nothing is answered
-pub deliver_none : AnswerIsReplied → (e : EnsembleView) (h : IsEnsemble e) (n : NodesView) (answer : Option Answer) → Delivers e.nodes n answer → answer ≡ None → IsEnsemble (record { nodes = n; asked = e.asked; answered = e.answered })
+pub deliver_none : AnswerIsReplied → (e : EnsembleView) (h : IsEnsemble e) (n : NodesView) (answer : Option Answer) → Delivers e.nodes n answer → answer ≡ None → IsEnsemble (record e { nodes = n })
 deliver_none law e h n answer d none =
-    subst (λ (log : List ((ℕ × ℕ) × replies.Reply)). IsEnsemble (record { nodes = n; asked = e.asked; answered = log })) (append-nil e.answered)
-    (subst (λ (o : Option Answer). IsEnsemble (record { nodes = n; asked = e.asked; answered = e.answered ++ answer_log o })) none (deliver_goes law e h n answer d))
+    subst (λ (logs : List ((ℕ × ℕ) × replies.Reply) × List ((ℕ × ℕ) × Bool)). IsEnsemble (record { nodes = n; asked = e.asked; answered = logs.0; order = logs.1 }))
+    (λ i. (append-nil e.answered i, append-nil e.order i))
+    (subst (λ (o : Option Answer). IsEnsemble (record { nodes = n; asked = e.asked; answered = e.answered ++ answer_log o; order = e.order ++ order_log o })) none (deliver_goes law e h n answer d))
 
 -- where one is
-pub deliver_some : AnswerIsReplied → (e : EnsembleView) (h : IsEnsemble e) (n : NodesView) (answer : Option Answer) (a : Answer) (log : List ((ℕ × ℕ) × replies.Reply)) → Delivers e.nodes n answer → answer ≡ Some a → log ≡ e.answered ++ ((a.proxy, a.number), a.reply) ∷ []
-    → IsEnsemble (record { nodes = n; asked = e.asked; answered = log })
-deliver_some law e h n answer a log d some is =
-    subst (λ (l : List ((ℕ × ℕ) × replies.Reply)). IsEnsemble (record { nodes = n; asked = e.asked; answered = l })) (sym is)
-    (subst (λ (o : Option Answer). IsEnsemble (record { nodes = n; asked = e.asked; answered = e.answered ++ answer_log o })) some (deliver_goes law e h n answer d))
+pub deliver_some : AnswerIsReplied → (e : EnsembleView) (h : IsEnsemble e) (n : NodesView) (answer : Option Answer) (a : Answer) (log : List ((ℕ × ℕ) × replies.Reply)) (order : Order) → Delivers e.nodes n answer → answer ≡ Some a
+    → log ≡ e.answered ++ ((a.proxy, a.number), a.reply) ∷ [] → order ≡ e.order ++ ((a.proxy, a.number), true) ∷ [] → IsEnsemble (record { nodes = n; asked = e.asked; answered = log; order = order })
+deliver_some law e h n answer a log order d some is in_order =
+    subst (λ (logs : List ((ℕ × ℕ) × replies.Reply) × List ((ℕ × ℕ) × Bool)). IsEnsemble (record { nodes = n; asked = e.asked; answered = logs.0; order = logs.1 })) (λ i. (sym is i, sym in_order i))
+    (subst (λ (o : Option Answer). IsEnsemble (record { nodes = n; asked = e.asked; answered = e.answered ++ answer_log o; order = e.order ++ order_log o })) some (deliver_goes law e h n answer d))

@@ -1,4 +1,5 @@
 mod Lists
+mod Past
 mod Goes
 mod Hosts
 mod Verifiers
@@ -8,4 +9,5 @@ mod Asks
 mod GhostVec
 mod First
 mod Going
-mod Crossing
+mod Sending
+pub mod Crossing

@@ -21,7 +21,7 @@ use Rattle.worlds.specs.World.{WorldView, WorldNext, VerifierAtGiven, VerifierGi
 use Rattle.worlds.specs.World as of_world
 use Rattle.memcached_spec.specs.Fed.{fed_by}
 use Rattle.hosts.specs.Host.{HostView}
-use Rattle.ensemble.specs.Nodes.{NodesView, MayGrow, AtVerifierIn, VerifierMoves, VerifierGets, VerifierOpens, VerifierTrims, VerifierReached}
+use Rattle.ensemble.specs.Nodes.{NodesView, MayGrow, AtVerifierIn, VerifierMoves, VerifierGets, VerifierOpens, VerifierTrims, VerifiersReached}
 use Rattle.ensemble.specs.Ensemble.{HasSent, IsLike}
 use Rattle.ensemble.proofs.Lists.{grown, set_same, in_none, place_of}
 use Rattle.ensemble.proofs.Goes.{Moves, stays, moves_by, Goes, goes_nowhere, same_proxies}
@@ -123,10 +123,10 @@ pub open_verifier_goes : (n now : NodesView) (w : WorldView) (id : ℕ) → IsLi
 open_verifier_goes n now w id like m = verifier_goes (VerifierOpens n.u id) n now w id like (acts_opens n.u w id like.same_u) m
 
 -- a letter comes that was sent to it
-pub reached_goes : (n now : NodesView) (w : WorldView) (l : Letter Body) (id : ℕ) → IsLike n w → Contains w.letters l → l.to ≡ node.Verifier id → VerifierReached n l id l.body now → Goes n now w
+pub reached_goes : (n now : NodesView) (w : WorldView) (l : Letter Body) (id : ℕ) → IsLike n w → Contains w.letters l → l.to ≡ node.Verifier id → VerifiersReached n l id l.body now → Goes n now w
 reached_goes n now w l id like was to reached = by l.body refl reached
   where
-    by : (b : Body) → l.body ≡ b → VerifierReached n l id b now → Goes n now w
+    by : (b : Body) → l.body ≡ b → VerifiersReached n l id b now → Goes n now w
     by (body.Ballot b) says m = verifier_goes (VerifierGets (input.Letter (record { from = l.from; to = l.to; body = b }))) n now w id like (acts_letter w id l b was to says) m
     by (body.Want r) says same = goes_nowhere n now w like same
     by (body.Order b) says same = goes_nowhere n now w like same

@@ -1,11 +1,11 @@
 -- What an ensemble keeps, and what is always true of it.
-use Rattle.std.specs.Prelude.{◌≡◌, ◌⊎◌, ℕ, zero, suc, ◌<◌, ◌≤◌, ◌==◌, Bool, true, List, [], ◌∷◌, ◌++◌, length, map, Option, None, Some, Contains, slice_get, filter, refl}
+use Rattle.std.specs.Prelude.{◌≡◌, ◌⊎◌, ℕ, zero, suc, ◌<◌, ◌≤◌, ◌==◌, Bool, true, false, List, [], ◌∷◌, ◌++◌, length, map, Option, None, Some, Contains, slice_get, filter, refl}
 use Rattle.std.specs.Coded.{Coded, code_by, coded×, coded_ℕ, coded_bool, coded_list}
 use Rattle.proto.specs.declared.command.Command.{Command}
 use Rattle.proto.specs.declared.reply.Reply as replies
 use Rattle.proto.specs.declared.turn.Turn.{Turn}
 use Rattle.proto.specs.declared.turn.Turn.TheVariants.{Ask}
-use Rattle.proto.specs.Grammar.{Spells, IsTurnText}
+use Rattle.proto.specs.Grammar.{Spells}
 use Rattle.sessions.specs.declared.request.Request.{Request}
 use Rattle.decrees.specs.declared.node.Letter.{Letter}
 use Rattle.decrees.specs.declared.node.Node.TheVariants.{Executor}
@@ -16,6 +16,7 @@ use Rattle.events.specs.Config.{ConfigView}
 use Rattle.worlds.specs.World.{WorldView}
 use Rattle.worlds.specs.Laws.{IsReached}
 use Rattle.memcached_spec.specs.Fed.{fed_to}
+use Rattle.memcached_spec.specs.Asked.{IsAsked}
 use Rattle.worlds.specs.Asked.{WasSent}
 use Rattle.proxies.specs.Proxy.{ProxyView, talk_of}
 use Rattle.hosts.specs.Host.{HostView}
@@ -28,19 +29,17 @@ pub record EnsembleView : Type 0 where
   pub asked : List (Request × Bool)
   -- each answer: the proxy and the request's number, and the reply
   pub answered : List ((ℕ × ℕ) × replies.Reply)
+  -- in which order: the proxy and the request's number, and whether that is its answer
+  pub order : List ((ℕ × ℕ) × Bool)
 
 -- an ensemble is identified by what it has
 abbrev pub ensemble_code : Coded NodesView → Coded Request → Coded (replies.Reply) → Coded EnsembleView
 ensemble_code nodes request reply =
-    code_by ((NodesView × List (Request × Bool)) × List ((ℕ × ℕ) × replies.Reply))
-    (coded× (coded× nodes (coded_list (coded× request coded_bool))) (coded_list (coded× (coded× coded_ℕ coded_ℕ) reply)))
-    (λ e. ((e.nodes, e.asked), e.answered))
-    (λ p. record { nodes = p.0.0; asked = p.0.1; answered = p.1 })
+    code_by (((NodesView × List (Request × Bool)) × List ((ℕ × ℕ) × replies.Reply)) × List ((ℕ × ℕ) × Bool))
+    (coded× (coded× (coded× nodes (coded_list (coded× request coded_bool))) (coded_list (coded× (coded× coded_ℕ coded_ℕ) reply))) (coded_list (coded× (coded× coded_ℕ coded_ℕ) coded_bool)))
+    (λ e. (((e.nodes, e.asked), e.answered), e.order))
+    (λ p. record { nodes = p.0.0.0; asked = p.0.0.1; answered = p.0.1; order = p.1 })
     (λ _. refl)
-
--- bytes of a connection can ask it
-abbrev pub HasText : Command → Bool → Type 0
-HasText command quiet = (bytes : List ℕ) × IsTurnText bytes (Ask command quiet)
 
 -- ---- logs
 
@@ -50,6 +49,14 @@ answer_entry a = ((a.proxy, a.number), a.reply)
 abbrev pub answer_log : Option Answer → List ((ℕ × ℕ) × replies.Reply)
 answer_log None = []
 answer_log (Some a) = answer_entry a ∷ []
+
+-- what an answer adds to the order
+abbrev pub order_entry : Answer → (ℕ × ℕ) × Bool
+order_entry a = ((a.proxy, a.number), true)
+
+abbrev pub order_log : Option Answer → List ((ℕ × ℕ) × Bool)
+order_log None = []
+order_log (Some a) = order_entry a ∷ []
 
 -- one more request was asked: this one
 pub record IsLogged (asked : List (Request × Bool)) (proxy number : ℕ) (command : Command) (quiet : Bool) (now : List (Request × Bool)) : Type 0 where
@@ -68,11 +75,11 @@ is_of client a = a.0.client == client
 abbrev pub asks_of : ℕ → List (Request × Bool) → List (Request × Bool)
 asks_of client asked = filter (is_of client) asked
 
-abbrev pub turn_of : Request × Bool → Turn
-turn_of a = Ask a.0.command a.1
+abbrev pub asked_turn : Request × Bool → Turn
+asked_turn a = Ask a.0.command a.1
 
 abbrev pub turns_of : ℕ → List (Request × Bool) → List Turn
-turns_of client asked = map turn_of (asks_of client asked)
+turns_of client asked = map asked_turn (asks_of client asked)
 
 -- ---- an ensemble and a world
 
@@ -94,6 +101,16 @@ pub record IsLike (n : NodesView) (w : WorldView) : Type 0 where
   pub mail : (l : Letter Body) → Contains n.mail l → Contains w.letters l
   pub hosts : (id : ℕ) (h : HostView) → slice_get n.executors id ≡ Some h → HasSent h id w.letters
 
+-- At a moment between the events just these were asked, and these answers were sent. Worlds are those that the events lead to, the first one before all of them.
+pub record IsPast (events : List Event) (worlds : List WorldView) (early : List ((ℕ × ℕ) × Bool)) : Type 0 where
+  pub before : List Event
+  pub after : List Event
+  pub split : events ≡ before ++ after
+  pub now : WorldView
+  pub there : slice_get worlds (length before) ≡ Some now
+  pub asked : (client number : ℕ) (command : Command) → IsAsked (fed_to client before) number command → Contains early ((client, number), false)
+  pub sent : (client number : ℕ) → Contains early ((client, number), true) → (reply : replies.Reply) × WasSent now.letters client number reply
+
 -- What is always true of an ensemble: it is a world that events lead to, in which just that was asked and answered which was.
 pub record IsEnsemble (e : EnsembleView) : Type 0 where
   pub config : ConfigView
@@ -110,9 +127,15 @@ pub record IsEnsemble (e : EnsembleView) : Type 0 where
   pub fed : (client : ℕ) → Spells (fed_to client events) (turns_of client e.asked) []
   -- each answer was sent
   pub answers : (a : (ℕ × ℕ) × replies.Reply) → Contains e.answered a → WasSent now.letters a.0.0 a.0.1 a.1
+  -- all that was asked is in the order, and an answer in the order was given
+  pub ordered_asks : (a : Request × Bool) → Contains e.asked a → Contains e.order ((a.0.client, a.0.number), false)
+  pub ordered_answers : (client number : ℕ) → Contains e.order ((client, number), true) → (reply : replies.Reply) × Contains e.answered ((client, number), reply)
+  -- each beginning of the order is what had been asked and answered at a moment
+  pub past : (early late : List ((ℕ × ℕ) × Bool)) → e.order ≡ early ++ late → IsPast events through.worlds early
 
--- answers came behind these, and were logged
-pub record Answers (log : List ((ℕ × ℕ) × replies.Reply)) (answers : List Answer) (log_now : List ((ℕ × ℕ) × replies.Reply)) (answers_now : List Answer) : Type 0 where
+-- answers came behind these, and were logged in order
+pub record Answers (log : List ((ℕ × ℕ) × replies.Reply)) (order : List ((ℕ × ℕ) × Bool)) (answers : List Answer) (log_now : List ((ℕ × ℕ) × replies.Reply)) (order_now : List ((ℕ × ℕ) × Bool)) (answers_now : List Answer) : Type 0 where
   pub added : List Answer
   pub after : answers_now ≡ answers ++ added
   pub logged : log_now ≡ log ++ map answer_entry added
+  pub ordered : order_now ≡ order ++ map order_entry added

@@ -1,5 +1,5 @@
 -- All nodes with the letters that are under way, and what one call does of them.
-use Rattle.std.specs.Prelude.{◌≡◌, ◌⊎◌, ℕ, zero, suc, ◌<◌, Bool, List, [], ◌∷◌, ◌++◌, length, map, Option, None, Some, slice_get, slice_set, refl}
+use Rattle.std.specs.Prelude.{◌≡◌, ◌⊎◌, ℕ, zero, suc, ◌<◌, Bool, List, [], ◌∷◌, ◌++◌, length, map, Option, None, Some, slice_get, slice_set, Contains, refl}
 use Rattle.std.specs.Coded.{Coded, code_by, coded×, coded_ℕ, coded_list}
 use Rattle.proto.specs.declared.command.Command.{Command}
 use Rattle.proto.specs.declared.reply.Reply as replies
@@ -17,7 +17,7 @@ use Rattle.client.specs.Talk.{next_request, wants}
 use Rattle.worlds.specs.Slot.{Slot}
 use Rattle.worlds.specs.Slots.{VerifierSettles, VerifierReopens}
 use Rattle.worlds.specs.World.{as_sent}
-use Rattle.proxies.specs.Proxy.{ProxyView, asks, answers, quiet_of, request_of}
+use Rattle.proxies.specs.Proxy.{ProxyView, asks, answers, asked_quiet, request_of}
 use Rattle.hosts.specs.Host.{HostView, HostTakes, HostRuns, HostObeys, HostForgets}
 use Rattle.ensemble.specs.declared.answer.Answer.{Answer}
 
@@ -87,19 +87,19 @@ VerifierTrims v left sent = ((left ≡ v) × (sent ≡ [])) ⊎ ((place : ℕ) �
 -- ---- a letter comes
 
 -- the request was answered so; it was outstanding
-pub record IsAnswered (proxies : List ProxyView) (client number : ℕ) (reply : replies.Reply) (now : List ProxyView) (answer : Option Answer) : Type 0 where
+pub record ProxyAnswers (proxies : List ProxyView) (client number : ℕ) (reply : replies.Reply) (now : List ProxyView) (answer : Option Answer) : Type 0 where
   pub index : ℕ
   pub at : client ≡ suc index
   pub proxy : ProxyView
   pub there : slice_get proxies index ≡ Some proxy
   pub quiet : Bool
-  pub was_asked : quiet_of proxy.asked number ≡ Some quiet
+  pub was_asked : asked_quiet proxy.asked number ≡ Some quiet
   pub after : now ≡ slice_set proxies index (answers proxy number)
   pub is : answer ≡ Some (record { proxy = client; number = number; reply = reply; quiet = quiet })
 
 -- a reply comes to the proxy of this number: the request is answered, or nothing is done
 abbrev pub ProxyGets : List ProxyView → ℕ → ℕ → replies.Reply → List ProxyView → Option Answer → Type 0
-ProxyGets proxies client number reply now answer = IsAnswered proxies client number reply now answer ⊎ ((now ≡ proxies) × (answer ≡ None))
+ProxyGets proxies client number reply now answer = ProxyAnswers proxies client number reply now answer ⊎ ((now ≡ proxies) × (answer ≡ None))
 
 -- only replies are for proxies
 abbrev pub ProxyReached : NodesView → ℕ → Body → NodesView → Option Answer → Type 0
@@ -111,24 +111,24 @@ ProxyReached n client (body.Parcel p) now answer = (now ≡ n) × (answer ≡ No
 ProxyReached n client (body.Ballot b) now answer = (now ≡ n) × (answer ≡ None)
 
 -- only ballots are for verifiers
-abbrev pub VerifierReached : NodesView → Letter Body → ℕ → Body → NodesView → Type 0
-VerifierReached n l id (body.Ballot b) now = VerifierMoves (VerifierGets (verifier_input.Letter (record { from = l.from; to = l.to; body = b }))) id n now
-VerifierReached n l id (body.Want r) now = now ≡ n
-VerifierReached n l id (body.Order b) now = now ≡ n
-VerifierReached n l id (body.Reply number reply) now = now ≡ n
-VerifierReached n l id (body.Need q) now = now ≡ n
-VerifierReached n l id (body.Parcel p) now = now ≡ n
+abbrev pub VerifiersReached : NodesView → Letter Body → ℕ → Body → NodesView → Type 0
+VerifiersReached n l id (body.Ballot b) now = VerifierMoves (VerifierGets (verifier_input.Letter (record { from = l.from; to = l.to; body = b }))) id n now
+VerifiersReached n l id (body.Want r) now = now ≡ n
+VerifiersReached n l id (body.Order b) now = now ≡ n
+VerifiersReached n l id (body.Reply number reply) now = now ≡ n
+VerifiersReached n l id (body.Need q) now = now ≡ n
+VerifiersReached n l id (body.Parcel p) now = now ≡ n
 
 -- the letter comes to the node that it names
-abbrev pub NodeReached : NodesView → Letter Body → Node → NodesView → Option Answer → Type 0
-NodeReached n l (Client c) now answer = ProxyReached n c l.body now answer
-NodeReached n l (Executor id) now answer = HostMoves (λ h left sent. HostTakes h l left sent) id n now × (answer ≡ None)
-NodeReached n l (Verifier id) now answer = VerifierReached n l id l.body now × (answer ≡ None)
+abbrev pub NodesReached : NodesView → Letter Body → Node → NodesView → Option Answer → Type 0
+NodesReached n l (Client c) now answer = ProxyReached n c l.body now answer
+NodesReached n l (Executor id) now answer = HostMoves (λ h left sent. HostTakes h l left sent) id n now × (answer ≡ None)
+NodesReached n l (Verifier id) now answer = VerifiersReached n l id l.body now × (answer ≡ None)
 
 -- the first of these letters comes
 abbrev pub DeliversOf : NodesView → List (Letter Body) → NodesView → Option Answer → Type 0
 DeliversOf n [] now answer = (now ≡ n) × (answer ≡ None)
-DeliversOf n (l ∷ rest) now answer = NodeReached (record n { mail = rest }) l l.to now answer
+DeliversOf n (l ∷ rest) now answer = NodesReached (record n { mail = rest }) l l.to now answer
 
 abbrev pub Delivers : NodesView → NodesView → Option Answer → Type 0
 Delivers n now answer = DeliversOf n n.mail now answer
@@ -163,9 +163,12 @@ pub record IsAskedBy (proxies : List ProxyView) (number : ℕ) (command : Comman
   pub is : r ≡ next_request proxy.client proxy.last command
   pub after : now ≡ slice_set proxies index (asks proxy command quiet)
 
--- this request of a client is under way to all executors
-abbrev pub IsPosted : NodesView → ℕ → Request → NodesView → Type 0
-IsPosted n client r now = (mail : List (Letter Body)) × MayGrow n.mail (wants n.u client r) mail × (now ≡ record n { mail = mail })
+-- this request of a client is under way to executors, or lost to some or all of them
+pub record IsPosted (n : NodesView) (client : ℕ) (r : Request) (now : NodesView) : Type 0 where
+  pub sent : List (Letter Body)
+  pub among : (l : Letter Body) → Contains sent l → Contains (wants n.u client r) l
+  pub grows : MayGrow n.mail sent now.mail
+  pub after : now ≡ record n { mail = now.mail }
 
 -- the proxy of this number has this request outstanding
 pub record IsOutstanding (proxies : List ProxyView) (number : ℕ) (r : Request) : Type 0 where

@@ -4,7 +4,8 @@ ghost use Rattle.std.specs.Prelude.{◌≡◌, IfOk, OnErr, IsTrue};
 ghost use Rattle.ensemble.specs.Nodes.{IsFree, IsAskedBy};
 
 use crate::nodes::Nodes;
-use crate::posting::{post, to_all_executors};
+use crate::posting::post;
+use client::{ask_all, ask_one};
 use proto::{Command, Fault};
 use proxies::Proxy;
 use sessions::Request;
@@ -31,7 +32,7 @@ fn ask_at(
 }
 
 impl Nodes {
-    ghost use Rattle.std.specs.Prelude.{◌≡◌, IfOk, IfSome, OnErr, IsTrue};
+    ghost use Rattle.std.specs.Prelude.{◌≡◌, ◌<◌, ◌+◌, ◌*◌, IfOk, IfSome, OnErr, IsTrue};
     ghost use Rattle.ensemble.specs.Nodes.{IsFree, IsAskedBy, IsOutstanding, IsPosted, AsksAgain};
 
     /// Whether the proxy of this number is there and has nothing outstanding.
@@ -58,11 +59,34 @@ impl Nodes {
         ask_at(&mut self.proxies, number, command, quiet)
     }
 
-    /// The request of this client is under way to all executors, or lost if there is no memory for that.
+    /// The request of this client is under way to this executor, or lost if there is no memory for that.
+    fn send_to(&mut self, alloc: Global, client: u16, to: u8, request: Request)
+        requires { to < 2 * self.old.u + 1 }
+        ensures { IsPosted self.old client request self.new }
+    {
+        if let Ok(letters) = ask_one(alloc, client, to, request) {
+            post(&mut self.mail, letters);
+        }
+    }
+
+    /// The request of this client is under way to the executor that leads, or to all if that is down. It is lost if
+    /// there is no memory for that. If another one comes to lead, the client asks again, and all get it.
     pub fn send(&mut self, alloc: Global, client: u16, request: Request)
         ensures { IsPosted self.old client request self.new }
     {
-        if let Ok(letters) = to_all_executors(alloc, self.u, client, request) {
+        let leader = self.leader();
+        if self.is_executor_up(leader) {
+            self.send_to(alloc, client, leader, request);
+        } else {
+            self.send_to_all(alloc, client, request);
+        }
+    }
+
+    /// The request of this client is under way to all executors, or lost if there is no memory for that.
+    fn send_to_all(&mut self, alloc: Global, client: u16, request: Request)
+        ensures { IsPosted self.old client request self.new }
+    {
+        if let Ok(letters) = ask_all(alloc, self.u, client, &request) {
             post(&mut self.mail, letters);
         }
     }
@@ -86,7 +110,7 @@ impl Nodes {
         ensures { AsksAgain self.old number self.new }
     {
         if let Some(request) = self.outstanding(number) {
-            self.send(alloc, number, request);
+            self.send_to_all(alloc, number, request);
         }
     }
 }

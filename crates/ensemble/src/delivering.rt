@@ -68,7 +68,7 @@ impl Nodes {
     ghost use Rattle.std.specs.Prelude.{◌≡◌, None};
     ghost use Rattle.verifier.specs.declared.input.Input.TheVariants as verifier_input;
     ghost use Rattle.hosts.specs.Host.{HostTakes};
-    ghost use Rattle.ensemble.specs.Nodes.{HostMoves, VerifierMoves, VerifierGets, VerifierReached, ProxyReached, NodeReached, Delivers};
+    ghost use Rattle.ensemble.specs.Nodes.{HostMoves, VerifierMoves, VerifierGets, VerifiersReached, ProxyReached, NodesReached, Delivers};
 
     /// The executor of this number gets the letter.
     fn reach_executor(&mut self, alloc: Global, id: u8, letter: Letter<Body>)
@@ -88,7 +88,7 @@ impl Nodes {
 
     /// The verifier of this number gets the letter, if it is a ballot.
     fn reach_verifier(&mut self, alloc: Global, id: u8, letter: Letter<Body>)
-        ensures { VerifierReached self.old letter id letter.body self.new }
+        ensures { VerifiersReached self.old letter id letter.body self.new }
     {
         let Letter { from, to, body } = letter;
         match body {
@@ -109,7 +109,7 @@ impl Nodes {
 
     /// The letter comes to the node that it names: what it answers.
     fn reach(&mut self, alloc: Global, letter: Letter<Body>) -> Option<Answer>
-        ensures { NodeReached self.old letter letter.to self.new result }
+        ensures { NodesReached self.old letter letter.to self.new result }
     {
         match letter.to {
             Node::Client(client) => self.reach_proxy(client, letter.body),

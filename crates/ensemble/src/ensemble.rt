@@ -24,6 +24,8 @@ pub struct Ensemble {
     pub(crate) asked: Log<Request, bool>,
     /// Each answer: the proxy and the request's number, and the reply.
     pub(crate) answered: Log<(u16, u64), Reply>,
+    /// In which order requests were asked and answered: the proxy and the request's number, and whether that is its answer.
+    pub(crate) order: Log<(u16, u64), bool>,
 }
 
 impl Model for Ensemble {
@@ -36,16 +38,17 @@ impl Model for Ensemble {
 
     ghost coded = { ensemble_code of_nodes.the_row.coded of_request.the_row.coded of_reply.the_row.coded };
 
-    ghost view = { λ e. record { nodes = e.nodes; asked = e.asked.items; answered = e.answered.items } };
+    ghost view = { λ e. record { nodes = e.nodes; asked = e.asked.items; answered = e.answered.items; order = e.order.items } };
 
-    ghost invariant = { λ e. IsEnsemble (record { nodes = e.nodes; asked = e.asked.items; answered = e.answered.items }) };
+    ghost invariant = { λ e. IsEnsemble (record { nodes = e.nodes; asked = e.asked.items; answered = e.answered.items; order = e.order.items }) };
 }
 
 impl Ensemble {
-    ghost use Rattle.std.specs.Prelude.{◌≡◌, ◌++◌, ◌∷◌, [], IfOk, IfErr, OnErr, IsTrue, ◌⊎◌, Err};
+    ghost use Rattle.std.specs.Prelude.{◌≡◌, ◌++◌, ◌∷◌, [], IfOk, IfErr, OnErr, IsTrue, ◌⊎◌, Err, false};
     ghost use Rattle.proto.specs.declared.command.Command.{Command};
     ghost use Rattle.ensemble.specs.Nodes.{IsFree};
-    ghost use Rattle.ensemble.specs.Ensemble.{IsEnsemble, HasText, IsLogged, answer_log};
+    ghost use Rattle.memcached_spec.specs.Asked.{HasText};
+    ghost use Rattle.ensemble.specs.Ensemble.{IsEnsemble, IsLogged, answer_log};
 
     /// What stands there is what events lead a world to: that world is like it, what its clients were fed is
     /// just what was asked, and each answer was sent in it. The call does nothing.
@@ -83,11 +86,13 @@ impl Ensemble {
         requires text { HasText command quiet }
         ensures ok { IfOk result (λ number. IsLogged self.old.asked proxy number command quiet self.new.asked) }
         ensures answered { self.new.answered ≡ self.old.answered }
+        ensures order { IfOk result (λ number. self.new.order ≡ self.old.order ++ ((proxy, number), false) ∷ []) }
         ensures err { OnErr result (self.new ≡ self.old) }
     {
         let request = self.nodes.ask(proxy, command, quiet)?;
         let number = request.number;
         self.asked = self.asked.and(&request, &quiet);
+        self.order = self.order.and(&(proxy, number), &false);
         self.nodes.send(alloc, proxy, request);
         self.progress.is_at_rest = false;
         Ok(number)
@@ -98,6 +103,7 @@ impl Ensemble {
     pub fn again(&mut self, alloc: Global, proxy: u16)
         ensures asked { self.new.asked ≡ self.old.asked }
         ensures answered { self.new.answered ≡ self.old.answered }
+        ensures order { self.new.order ≡ self.old.order }
     {
         self.nodes.again(alloc, proxy);
         self.progress.is_at_rest = false;
@@ -107,6 +113,7 @@ impl Ensemble {
     pub fn suspect(&mut self, alloc: Global, verifier: u8)
         ensures asked { self.new.asked ≡ self.old.asked }
         ensures answered { self.new.answered ≡ self.old.answered }
+        ensures order { self.new.order ≡ self.old.order }
     {
         self.nodes.suspect(alloc, verifier);
         self.progress.is_at_rest = false;
@@ -116,6 +123,7 @@ impl Ensemble {
     fn open_executor(&mut self, alloc: Global, id: u8)
         ensures asked { self.new.asked ≡ self.old.asked }
         ensures answered { self.new.answered ≡ self.old.answered }
+        ensures order { self.new.order ≡ self.old.order }
     {
         self.nodes.open_executor(alloc, id);
         self.progress.is_at_rest = false;
@@ -125,6 +133,7 @@ impl Ensemble {
     fn open_verifier(&mut self, alloc: Global, id: u8)
         ensures asked { self.new.asked ≡ self.old.asked }
         ensures answered { self.new.answered ≡ self.old.answered }
+        ensures order { self.new.order ≡ self.old.order }
     {
         self.nodes.open_verifier(alloc, id);
         self.progress.is_at_rest = false;
@@ -135,6 +144,7 @@ impl Ensemble {
     pub fn restart(&mut self, alloc: Global, replica: Replica) -> bool
         ensures asked { self.new.asked ≡ self.old.asked }
         ensures answered { self.new.answered ≡ self.old.answered }
+        ensures order { self.new.order ≡ self.old.order }
     {
         match replica {
             Replica::Executor(id) => self.open_executor(alloc, id),
@@ -146,10 +156,7 @@ impl Ensemble {
     /// Whether the replica is there and up.
     pub fn is_up(&self, replica: Replica) -> bool {
         match replica {
-            Replica::Executor(id) => match self.nodes.executors.get(usize::from(id)) {
-                Some(host) => host.is_up(),
-                None => false,
-            },
+            Replica::Executor(id) => self.nodes.is_executor_up(id),
             Replica::Verifier(id) => match self.nodes.verifiers.get(usize::from(id)) {
                 Some(place) => place.node().is_some(),
                 None => false,
@@ -159,13 +166,7 @@ impl Ensemble {
 
     /// The latest epoch of the executors that are up: 1 if none is. Each Rollback raises it.
     pub fn epoch(&self) -> u64 {
-        let mut latest = 1u64;
-        for host in &self.nodes.executors {
-            if let Some(epoch) = host.epoch() {
-                latest = latest.max(epoch);
-            }
-        }
-        latest
+        self.nodes.epoch()
     }
 
     /// Whether nothing is under way and nothing is left to be done: no reply will come unless something is
@@ -191,10 +192,12 @@ impl Ensemble {
             progress,
             asked,
             answered,
+            order,
         } = self;
         nodes.end();
         drop(progress);
         drop(asked);
         drop(answered);
+        drop(order);
     }
 }

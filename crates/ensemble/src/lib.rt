@@ -15,6 +15,7 @@ mod nodes;
 mod opening;
 mod posting;
 mod progress;
+mod showing;
 mod tending;
 mod working;
 

@@ -47,7 +47,7 @@ pub fn end_executors(mut executors: Vec<ExecutorHost>) {
 }
 
 impl Nodes {
-    ghost use Rattle.std.specs.Prelude.{◌≡◌, ◌+◌, ◌*◌};
+    ghost use Rattle.std.specs.Prelude.{◌≡◌, ◌<◌, ◌+◌, ◌*◌};
 
     /// How many executors there are, and as many verifiers.
     pub fn members(&self) -> u8
@@ -62,6 +62,34 @@ impl Nodes {
             Some(host) => host.job_len().is_some(),
             None => false,
         }
+    }
+
+    /// Whether the executor of this number is up.
+    pub fn is_executor_up(&self, id: u8) -> bool {
+        match self.executors.get(usize::from(id)) {
+            Some(host) => host.is_up(),
+            None => false,
+        }
+    }
+
+    /// The latest epoch of the executors that are up. The first is 1.
+    pub fn epoch(&self) -> u64 {
+        let mut latest = 1u64;
+        for host in &self.executors {
+            if let Some(epoch) = host.epoch() {
+                latest = latest.max(epoch);
+            }
+        }
+        latest
+    }
+
+    /// The number of the executor that leads this epoch: they take turns.
+    pub fn leader(&self) -> u8
+        ensures { result < 2 * self.now.u + 1 }
+    {
+        let members = u64::from(self.members());
+        let id = self.epoch().saturating_sub(1) % members;
+        u8::try_from(id).unwrap_or(0)
     }
 
     /// Ends all of them.

@@ -115,6 +115,7 @@ impl Ensemble {
     pub fn open(alloc: Global, config: &Config) -> Result<Ensemble, Fault>
         ensures asked { IfOk result (λ ensemble. ensemble.asked ≡ []) }
         ensures answered { IfOk result (λ ensemble. ensemble.answered ≡ []) }
+        ensures order { IfOk result (λ ensemble. ensemble.order ≡ []) }
         ensures only { IfErr result (λ fault. fault ≡ Fault.NoMemory) }
     {
         let progress = Progress::new(alloc, 2 * config.u() + 1)?;
@@ -124,6 +125,7 @@ impl Ensemble {
             progress,
             asked: Log::new(),
             answered: Log::new(),
+            order: Log::new(),
         })
     }
 }

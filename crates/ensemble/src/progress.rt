@@ -15,6 +15,8 @@ pub struct Progress {
     steps: u64,
     /// How far each executor was when it was last looked at.
     last: Vec<u64>,
+    /// How many batches were cut. It wraps.
+    pub cuts: u64,
 }
 
 impl Progress {
@@ -29,6 +31,7 @@ impl Progress {
             rests: 0,
             steps: 0,
             last,
+            cuts: 0,
         })
     }
 

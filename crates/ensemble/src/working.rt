@@ -17,17 +17,19 @@ const MOST_ROUNDS: u32 = 4096;
 
 impl Ensemble {
     ghost use Rattle.std.specs.Prelude.{◌≡◌, ◌++◌, [], map};
-    ghost use Rattle.ensemble.specs.Ensemble.{answer_entry, answer_log, Answers};
+    ghost use Rattle.ensemble.specs.Ensemble.{answer_entry, answer_log, order_entry, order_log, Answers};
 
     /// The first letter that is under way comes: what it answers.
     fn deliver(&mut self, alloc: Global) -> Option<Answer>
         ensures asked { self.new.asked ≡ self.old.asked }
         ensures answered { self.new.answered ≡ self.old.answered ++ answer_log result }
+        ensures order { self.new.order ≡ self.old.order ++ order_log result }
     {
         let answer = self.nodes.deliver(alloc)?;
         self.answered = self
             .answered
             .and(&(answer.proxy, answer.number), &answer.reply);
+        self.order = self.order.and(&(answer.proxy, answer.number), &true);
         Some(answer)
     }
 
@@ -35,7 +37,7 @@ impl Ensemble {
     /// no memory for an answer, and nothing was done.
     fn deliver_to(&mut self, alloc: Global, answers: &mut Vec<Answer>) -> bool
         ensures asked { self.new.asked ≡ self.old.asked }
-        ensures answered { Answers self.old.answered answers.old.items self.new.answered answers.new.items }
+        ensures answered { Answers self.old.answered self.old.order answers.old.items self.new.answered self.new.order answers.new.items }
     {
         if self.nodes.mail.is_empty() || answers.reserve(1).is_err() {
             return false;
@@ -50,7 +52,7 @@ impl Ensemble {
     /// there is no memory for an answer; then the letters stay under way.
     fn deliver_all(&mut self, alloc: Global, answers: &mut Vec<Answer>)
         ensures asked { self.new.asked ≡ self.old.asked }
-        ensures answered { Answers self.old.answered answers.old.items self.new.answered answers.new.items }
+        ensures answered { Answers self.old.answered self.old.order answers.old.items self.new.answered self.new.order answers.new.items }
     {
         for _ in 0..MOST_LETTERS {
             if !self.deliver_to(alloc, answers) {
@@ -63,6 +65,7 @@ impl Ensemble {
     fn take_held(&mut self, alloc: Global, id: u8) -> bool
         ensures asked { self.new.asked ≡ self.old.asked }
         ensures answered { self.new.answered ≡ self.old.answered }
+        ensures order { self.new.order ≡ self.old.order }
     {
         self.nodes.take_held(alloc, id)
     }
@@ -71,6 +74,7 @@ impl Ensemble {
     fn take_orders(&mut self, alloc: Global) -> bool
         ensures asked { self.new.asked ≡ self.old.asked }
         ensures answered { self.new.answered ≡ self.old.answered }
+        ensures order { self.new.order ≡ self.old.order }
     {
         let mut has_taken = false;
         for id in 0..self.members() {
@@ -85,6 +89,7 @@ impl Ensemble {
     fn run<R: Threads + Wait + Sync>(&mut self, rt: &R, alloc: Global)
         ensures asked { self.new.asked ≡ self.old.asked }
         ensures answered { self.new.answered ≡ self.old.answered }
+        ensures order { self.new.order ≡ self.old.order }
     {
         a_run_is_steps();
         self.nodes.run_jobs(rt, alloc);
@@ -94,6 +99,7 @@ impl Ensemble {
     fn collect(&mut self, alloc: Global, id: u8)
         ensures asked { self.new.asked ≡ self.old.asked }
         ensures answered { self.new.answered ≡ self.old.answered }
+        ensures order { self.new.order ≡ self.old.order }
     {
         self.nodes.collect(alloc, id);
     }
@@ -102,6 +108,7 @@ impl Ensemble {
     fn run_jobs<R: Threads + Wait + Sync>(&mut self, rt: &R, alloc: Global) -> bool
         ensures asked { self.new.asked ≡ self.old.asked }
         ensures answered { self.new.answered ≡ self.old.answered }
+        ensures order { self.new.order ≡ self.old.order }
     {
         if !self.nodes.has_jobs() {
             return false;
@@ -117,6 +124,7 @@ impl Ensemble {
     fn cut_at(&mut self, alloc: Global, id: u8, moment: u32) -> bool
         ensures asked { self.new.asked ≡ self.old.asked }
         ensures answered { self.new.answered ≡ self.old.answered }
+        ensures order { self.new.order ≡ self.old.order }
     {
         self.nodes.cut(alloc, id, moment)
     }
@@ -126,11 +134,13 @@ impl Ensemble {
     fn cut(&mut self, alloc: Global, moment: u32) -> bool
         ensures asked { self.new.asked ≡ self.old.asked }
         ensures answered { self.new.answered ≡ self.old.answered }
+        ensures order { self.new.order ≡ self.old.order }
     {
         let mut has_cut = false;
         for id in 0..self.members() {
             if self.cut_at(alloc, id, moment) {
                 has_cut = true;
+                self.progress.cuts = self.progress.cuts.wrapping_add(1);
             }
         }
         has_cut
@@ -140,6 +150,7 @@ impl Ensemble {
     fn trim_at(&mut self, alloc: Global, id: u8)
         ensures asked { self.new.asked ≡ self.old.asked }
         ensures answered { self.new.answered ≡ self.old.answered }
+        ensures order { self.new.order ≡ self.old.order }
     {
         self.nodes.trim(alloc, id);
     }
@@ -148,6 +159,7 @@ impl Ensemble {
     pub fn trim(&mut self, alloc: Global)
         ensures asked { self.new.asked ≡ self.old.asked }
         ensures answered { self.new.answered ≡ self.old.answered }
+        ensures order { self.new.order ≡ self.old.order }
     {
         for id in 0..self.members() {
             self.trim_at(alloc, id);
@@ -168,7 +180,7 @@ impl Ensemble {
         answers: &mut Vec<Answer>,
     ) -> bool
         ensures asked { self.new.asked ≡ self.old.asked }
-        ensures answered { Answers self.old.answered answers.old.items self.new.answered answers.new.items }
+        ensures answered { Answers self.old.answered self.old.order answers.old.items self.new.answered self.new.order answers.new.items }
     {
         self.deliver_all(alloc, answers);
         if !self.nodes.mail.is_empty() {
@@ -187,7 +199,7 @@ impl Ensemble {
         answers: &mut Vec<Answer>,
     ) -> bool
         ensures asked { self.new.asked ≡ self.old.asked }
-        ensures answered { Answers self.old.answered answers.old.items self.new.answered answers.new.items }
+        ensures answered { Answers self.old.answered self.old.order answers.old.items self.new.answered self.new.order answers.new.items }
     {
         for _ in 0..MOST_ROUNDS {
             if !self.go_on(rt, alloc, moment, answers) {
@@ -208,6 +220,7 @@ impl Ensemble {
     ) -> Vec<Answer>
         ensures asked { self.new.asked ≡ self.old.asked }
         ensures answered { self.new.answered ≡ self.old.answered ++ map answer_entry result.items }
+        ensures order { self.new.order ≡ self.old.order ++ map order_entry result.items }
     {
         let mut answers = Vec::new(alloc);
         self.trim(alloc);

@@ -1,14 +1,15 @@
 //! A memcached server on replicas: `eve-serve --port P --u U`.
 //!
 //! It listens on 127.0.0.1, prints its address, and ends with status 0 at the end of its standard input.
-//! Status 1 where memory ran out, 2 for other words, 3 where it cannot listen or cannot start. What is
-//! wrong stands on standard error.
+//! Status 1: memory ran out before it served; 2: other words; 3: it cannot listen or cannot start. A line on
+//! standard error says which.
 #![tactic(auto)]
 
 mod given;
 
 use crate::given::read_words;
-use server::{Incidents, ServeFault, serve};
+use server::{Incidents, ServeFault, Service, serve};
+use service_laws::serves;
 use std::io;
 use std::net::{Ipv4Addr, SocketAddr, SocketAddrV4, TcpListener};
 use std::process::ExitCode;
@@ -54,11 +55,20 @@ fn report(rt: &HostRuntime, incidents: Incidents) -> io::Result<()> {
     eprintln!(rt; "suspected {suspicions} times, rolled back {rollbacks} times")
 }
 
+/// Ends the service that has served: what it has come through. All that it was given and gave is what one server
+/// would have given: so says `serves`, which does nothing.
+fn end(service: Service) -> Incidents {
+    serves(&service);
+    let incidents = service.incidents();
+    service.end();
+    incidents
+}
+
 /// What the program has served ends with this status.
-fn ended(rt: &HostRuntime, served: Result<Incidents, ServeFault>) -> ExitCode {
+fn ended(rt: &HostRuntime, served: Result<Service, ServeFault>) -> ExitCode {
     match served {
-        Ok(incidents) => {
-            let _ = report(rt, incidents);
+        Ok(service) => {
+            let _ = report(rt, end(service));
             ExitCode::SUCCESS
         }
         Err(ServeFault::Own(fault)) => fail(eprintln!(rt; "refused: {fault}"), REFUSED),

@@ -6,8 +6,8 @@ use Rattle.event_loop.specs.declared.input.Piece.TheVariants.{Bytes, Nothing, In
 
 -- the bytes that are given were the next ones, and are not given again. Where none are given none are lost,
 -- but at the end
-abbrev pub IsRead : Option (List ℕ) → Option (List ℕ) → Piece → Type 0
-IsRead old new (Bytes bytes has_more) = Consumes old new bytes.items × (bytes.items ≢ [])
-IsRead old new Nothing = Keeps old new
-IsRead old new Interrupted = Keeps old new
-IsRead old new End = ⊤
+abbrev pub IsPieceRead : Option (List ℕ) → Option (List ℕ) → Piece → Type 0
+IsPieceRead old new (Bytes bytes has_more) = Consumes old new bytes.items × (bytes.items ≢ [])
+IsPieceRead old new Nothing = Keeps old new
+IsPieceRead old new Interrupted = Keeps old new
+IsPieceRead old new End = ⊤

@@ -1,41 +1,30 @@
-//! A listener, its sockets, and the turns that they have.
+//! The listeners, the sockets, and the turns that they have.
 
+use crate::counts::{Counts, Shared, plus};
+use crate::listeners::{Accepted, Listeners};
 use crate::message::{Heard, Said};
 use crate::socket::{After, Socket};
 use mio::net::{TcpListener, TcpStream};
 use mio::{Events, Interest, Poll, Token, Waker};
 use slab::Slab;
 use std::alloc::{AllocError, Global};
-use std::io::{ErrorKind, Write};
+use std::io::Write;
 use std::net::Net;
 use std::time::Duration;
 use std::{io, mem};
 
-const LISTENER: Token = Token(usize::MAX);
-
-const WAKER: Token = Token(usize::MAX - 1);
+/// Those of the listeners are below it.
+const WAKER: Token = Token(usize::MAX);
 
 /// So many events are taken in one wait, at most.
 const MOST_EVENTS: usize = 1024;
 
-/// So many connections are accepted before the sockets have their turns.
+/// So many connections of each listener are accepted before the sockets have their turns.
 const MOST_ACCEPTS: usize = 64;
 
 /// The most bytes of one read. Each connection has one in each round of the service, so a large block that comes while
 /// others are carried out must not take many.
 const MOST_PIECE_BYTES: usize = 262144;
-
-/// Whether connections wait to be accepted.
-#[derive(Clone, Copy, PartialEq, Eq)]
-enum Backlog {
-    /// None waits. The next one gives an event.
-    Empty,
-    /// Some may wait.
-    Due,
-    /// One waits, but there is no descriptor or no memory for it. It is tried again at the next tick, or
-    /// when a socket is closed. No event tells of it.
-    Stuck,
-}
 
 /// Which connections are let in.
 #[derive(Clone, Copy)]
@@ -46,16 +35,17 @@ pub struct Admission {
     pub refusal: &'static [u8],
 }
 
-/// The listener, its sockets, and what is to be told of them.
+/// The listeners, the sockets, and what is to be told of them.
 #[derive(Drop)]
 pub struct EventLoop {
     alloc: Global,
     poll: Poll,
-    listener: TcpListener,
+    listeners: Listeners,
     admission: Admission,
-    backlog: Backlog,
-    /// How many connections were let in. It is the number of the next.
-    count: u64,
+    /// As many as were accepted is the number of the next connection.
+    counts: Counts,
+    /// The counts that other threads see.
+    shown: Counts,
     sockets: Slab<Socket>,
     /// The keys of the sockets that have a turn, each once. Both lists have room for all sockets.
     listed: Vec<usize>,
@@ -88,19 +78,18 @@ impl EventLoop {
     pub fn new<R: Net>(
         rt: &R,
         alloc: Global,
-        mut listener: TcpListener,
+        listeners: Vec<TcpListener>,
         admission: Admission,
     ) -> io::Result<EventLoop> {
         let poll = Poll::new(rt)?;
-        poll.registry()
-            .register(&mut listener, LISTENER, Interest::READABLE)?;
+        let listeners = Listeners::new(alloc, &poll, listeners)?;
         Ok(EventLoop {
             alloc,
             poll,
-            listener,
+            listeners,
             admission,
-            backlog: Backlog::Due,
-            count: 0,
+            counts: Counts::default(),
+            shown: Counts::default(),
             sockets: Slab::new(alloc),
             listed: Vec::new(alloc),
             spare: Vec::new(alloc),
@@ -121,9 +110,10 @@ impl EventLoop {
         self.poll.poll(&mut ready.events, limit)?;
         for event in &ready.events {
             let token = event.token();
-            if token == LISTENER {
-                self.backlog = Backlog::Due;
-            } else if let Some(socket) = self.sockets.get_mut(token.0) {
+            if self.listeners.note(token) {
+                continue;
+            }
+            if let Some(socket) = self.sockets.get_mut(token.0) {
                 let may_read = event.is_readable() || event.is_error();
                 socket.note(may_read, event.is_writable(), event.is_read_closed());
                 list(&mut self.listed, token.0, socket);
@@ -134,40 +124,38 @@ impl EventLoop {
 
     /// Whether something is to be done although nothing more becomes ready.
     pub fn has_more(&self) -> bool {
-        !self.is_short && (!self.listed.is_empty() || self.backlog == Backlog::Due)
+        !self.is_short && (!self.listed.is_empty() || self.listeners.is_any_due())
     }
 
     /// Whether something waits for a tick.
     pub fn is_stuck(&self) -> bool {
-        self.is_short || self.backlog == Backlog::Stuck
+        self.is_short || self.listeners.is_any_stuck()
     }
 
     /// A tenth of a second has passed.
     pub fn tick(&mut self) {
         self.is_short = false;
-        self.try_again();
-    }
-
-    /// A connection that is stuck is tried again.
-    fn try_again(&mut self) {
-        if self.backlog == Backlog::Stuck {
-            self.backlog = Backlog::Due;
-        }
+        self.listeners.try_again();
     }
 
     /// Accepts the connections that wait.
     pub fn accept(&mut self) {
+        for at in 0..self.listeners.len() {
+            self.accept_at(at);
+        }
+    }
+
+    /// Accepts connections that wait at one listener.
+    fn accept_at(&mut self, at: usize) {
         for _ in 0..MOST_ACCEPTS {
-            if self.backlog != Backlog::Due {
-                return;
-            }
-            match self.listener.accept() {
-                Ok((stream, _)) => self.admit(stream),
-                Err(e) => match e.kind() {
-                    ErrorKind::Interrupted | ErrorKind::ConnectionAborted => {}
-                    ErrorKind::WouldBlock => self.backlog = Backlog::Empty,
-                    _ => self.backlog = Backlog::Stuck,
-                },
+            match self.listeners.accept(at) {
+                Accepted::Stream(stream) => self.admit(stream),
+                Accepted::Again => {}
+                Accepted::Nothing => return,
+                Accepted::Failed => {
+                    self.counts.failed = plus(self.counts.failed, 1);
+                    return;
+                }
             }
         }
     }
@@ -177,6 +165,7 @@ impl EventLoop {
         if self.admission.most <= self.sockets.len() {
             // What does not go out at once is lost: nothing waits for a connection that is not let in.
             let _ = stream.write(self.admission.refusal);
+            self.counts.refused = plus(self.counts.refused, 1);
             return;
         }
         // Small replies leave at once.
@@ -205,12 +194,12 @@ impl EventLoop {
 
     /// Puts the connection under the key, which is the next one.
     fn insert(&mut self, key: usize, stream: TcpStream) {
-        let number = self.count;
+        let number = self.counts.accepted;
         let socket = Socket::new(self.alloc, stream, number);
         if self.sockets.insert(socket).is_ok()
             && self.heard.push(Heard::Came { key, number }).is_ok()
         {
-            self.count = self.count.saturating_add(1);
+            self.counts.accepted = plus(self.counts.accepted, 1);
         }
     }
 
@@ -250,7 +239,11 @@ impl EventLoop {
         };
         socket.is_listed = false;
         let buffer = self.buffer.as_mut_slice();
-        match socket.turn(self.alloc, key, reads, buffer, &mut self.heard) {
+        let after = socket.turn(self.alloc, key, reads, buffer, &mut self.heard);
+        let moved = socket.take_moved();
+        self.counts.bytes_read = plus(self.counts.bytes_read, moved.read);
+        self.counts.bytes_written = plus(self.counts.bytes_written, moved.written);
+        match after {
             After::Rest => {}
             After::Again => list(&mut self.listed, key, socket),
             After::NoMemory => {
@@ -259,9 +252,18 @@ impl EventLoop {
             }
             After::Gone => {
                 self.sockets.try_remove(key);
-                self.try_again();
+                self.listeners.try_again();
             }
         }
+    }
+
+    /// Shows the counts to other threads. Whether they see those of now.
+    pub fn publish(&mut self, shared: &Shared) -> bool {
+        self.counts.open = plus(0, self.sockets.len());
+        if self.counts != self.shown && shared.publish(self.counts) {
+            self.shown = self.counts;
+        }
+        self.counts == self.shown
     }
 
     /// How much there is to be told to the service.

@@ -1,7 +1,7 @@
 //! The bytes that one read gives.
 
 ghost use Rattle.std.specs.Prelude.{◌≡◌, IfOk};
-ghost use Rattle.event_loop.specs.Input.{IsRead};
+ghost use Rattle.event_loop.specs.Input.{IsPieceRead};
 
 use std::alloc::{AllocError, Global};
 use std::io::{ErrorKind, Read};
@@ -30,7 +30,7 @@ fn copied(alloc: Global, piece: &[u8]) -> Result<Vec<u8>, AllocError>
 
 /// Reads once, as much as the buffer holds.
 pub fn read_once<I: Read>(input: &mut I, alloc: Global, buffer: &mut [u8]) -> Piece
-    ensures { IsRead (I.remaining input.old) (I.remaining input.new) result }
+    ensures { IsPieceRead (I.remaining input.old) (I.remaining input.new) result }
 {
     match input.read(buffer) {
         Ok(0) => Piece::End,

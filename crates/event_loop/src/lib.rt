@@ -10,8 +10,10 @@
 //! just those, and a socket is read only when none of its bytes are outstanding.
 #![tactic(auto)]
 
+mod counts;
 mod event_loop;
 mod input;
+mod listeners;
 mod loop_thread;
 mod message;
 mod output;
@@ -20,7 +22,8 @@ mod service_thread;
 mod serving;
 mod socket;
 
+pub use counts::{Counts, Watch};
 pub use event_loop::Admission;
 pub use message::{Heard, MOST_UNWRITTEN, Said};
 pub use service::Serve;
-pub use serving::{Refused, serve};
+pub use serving::{Refused, read_out, serve};

@@ -1,13 +1,13 @@
 //! The thread of the event loop.
 
+use crate::counts::Shared;
 use crate::event_loop::{EventLoop, Ready};
 use crate::message::{FromService, ToService};
 use crate::service::Serve;
-use crate::service_thread::{MOST_TAKEN, seconds};
+use crate::service_thread::{MOST_TAKEN, micros, seconds};
 use link::Link;
 use std::io;
 use std::rt::Clock;
-use std::sync::atomic::{AtomicBool, Ordering};
 use std::sync::{Mutex, Wait};
 use std::thread::Threads;
 use std::time::{Duration, Instant};
@@ -28,6 +28,8 @@ pub struct LoopEnds {
     unanswered: usize,
     /// Whether the service wants ticks.
     is_waiting: bool,
+    /// Other threads see the counts of the last round.
+    is_shown: bool,
 }
 
 impl LoopEnds {
@@ -38,6 +40,7 @@ impl LoopEnds {
             from_service,
             unanswered: 0,
             is_waiting: false,
+            is_shown: true,
         }
     }
 
@@ -92,7 +95,7 @@ impl Ticks {
 fn limit(event_loop: &EventLoop, ends: &LoopEnds) -> Option<Duration> {
     if ends.has_room() && event_loop.has_more() {
         Some(Duration::from_millis(0))
-    } else if ends.is_waiting || event_loop.is_stuck() {
+    } else if ends.is_waiting || event_loop.is_stuck() || !ends.is_shown {
         Some(Duration::from_millis(TICK))
     } else {
         None
@@ -130,8 +133,10 @@ fn answer_in_place<R: Threads + Wait + Sync + Clock, S: Serve>(
     // What the service said before goes first.
     ends.take_all(rt, event_loop);
     let service = &mut *guard;
+    service.set_micros(micros(rt));
     service.hear(event_loop.take_heard());
     let said = service.work(rt, seconds(rt));
+    service.set_micros(micros(rt));
     ends.is_waiting = service.is_waiting();
     let has_work = service.has_work();
     drop(guard);
@@ -180,7 +185,7 @@ pub fn run_loop<R: Threads + Wait + Sync + Clock, S: Serve>(
     rt: &R,
     service: &Mutex<S>,
     side: &mut LoopSide,
-    stopping: &AtomicBool,
+    shared: &Shared,
 ) {
     let LoopSide {
         event_loop,
@@ -189,10 +194,12 @@ pub fn run_loop<R: Threads + Wait + Sync + Clock, S: Serve>(
     } = side;
     let mut ticks = Ticks { last: None };
     for _ in rt.forever() {
-        if stopping.load(Ordering::SeqCst) || round(rt, service, event_loop, ready, ends).is_err() {
+        if shared.is_stopping() || round(rt, service, event_loop, ready, ends).is_err() {
             break;
         }
+        ends.is_shown = event_loop.publish(shared);
         tick(rt, event_loop, ends, &mut ticks);
     }
+    shared.end();
     ends.put(rt, ToService::Stop);
 }

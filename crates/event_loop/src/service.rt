@@ -8,6 +8,9 @@ use std::thread::Threads;
 pub trait Serve {
     ghost use denote.Param.Send.{IsSync};
 
+    /// It is now so many microseconds after the start of 1970. It is told before it hears and after it has worked.
+    fn set_micros(&mut self, micros: u64);
+
     /// Takes what happened, in order. To each `Bytes` it says at least once that it does not wait, or
     /// that it closes, now or in a later `work`.
     fn hear(&mut self, heard: Vec<Heard>);

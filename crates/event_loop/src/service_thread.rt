@@ -10,20 +10,28 @@ use mio::Waker;
 use std::rt::Clock;
 use std::sync::{Mutex, Wait};
 use std::thread::Threads;
-use std::time::SystemTime;
+use std::time::{Duration, SystemTime};
 
 /// So many messages are taken before the service works, at most.
 pub const MOST_TAKEN: usize = 64;
 
+/// The time since the start of 1970, or none if the clock cannot be read.
+fn since_1970<R: Clock>(rt: &R) -> Duration {
+    let Ok(now) = SystemTime::now(rt) else {
+        return Duration::from_secs(0);
+    };
+    now.duration_since(SystemTime::UNIX_EPOCH)
+        .unwrap_or(Duration::from_secs(0))
+}
+
 /// The seconds of the clock, or 0 if it cannot be read.
 pub fn seconds<R: Clock>(rt: &R) -> u32 {
-    let Ok(now) = SystemTime::now(rt) else {
-        return 0;
-    };
-    match now.duration_since(SystemTime::UNIX_EPOCH) {
-        Ok(since) => u32::try_from(since.as_secs()).unwrap_or(u32::MAX),
-        Err(_) => 0,
-    }
+    u32::try_from(since_1970(rt).as_secs()).unwrap_or(u32::MAX)
+}
+
+/// The microseconds of the clock, or 0 if it cannot be read.
+pub fn micros<R: Clock>(rt: &R) -> u64 {
+    u64::try_from(since_1970(rt).as_micros()).unwrap_or(u64::MAX)
 }
 
 /// The service's ends of the links to the event loop.
@@ -89,6 +97,7 @@ fn round<R: Threads + Wait + Sync + Clock, S: Serve>(
     first: Option<ToService>,
 ) -> Outcome {
     let mut answered = 0;
+    service.set_micros(micros(rt));
     if let Some(message) = first {
         if !hand_in(service, message) {
             return Outcome::STOP;
@@ -100,6 +109,7 @@ fn round<R: Threads + Wait + Sync + Clock, S: Serve>(
     };
     answered += more;
     let said = service.work(rt, seconds(rt));
+    service.set_micros(micros(rt));
     let has_said = 0 < answered || !said.is_empty();
     if has_said {
         let message = FromService {

@@ -1,5 +1,6 @@
 //! An event loop beside a service, from the start of their threads to their end.
 
+use crate::counts::{Shared, Watch};
 use crate::event_loop::{Admission, EventLoop, Ready};
 use crate::loop_thread::{LoopEnds, LoopSide, run_loop};
 use crate::service::Serve;
@@ -11,7 +12,6 @@ use std::alloc::{AllocError, Global};
 use std::io::{ErrorKind, Read};
 use std::net::Net;
 use std::rt::Clock;
-use std::sync::atomic::{AtomicBool, Ordering};
 use std::sync::{Mutex, Wait};
 use std::thread::Threads;
 use std::{io, thread};
@@ -52,10 +52,10 @@ impl Parts {
     fn new<R: Net>(
         rt: &R,
         alloc: Global,
-        listener: TcpListener,
+        listeners: Vec<TcpListener>,
         admission: Admission,
     ) -> Result<Parts, Refused> {
-        let event_loop = EventLoop::new(rt, alloc, listener, admission)?;
+        let event_loop = EventLoop::new(rt, alloc, listeners, admission)?;
         let waker = event_loop.waker()?;
         let mut to_service = Link::new(alloc)?;
         let mut from_service = Link::new(alloc)?;
@@ -73,11 +73,11 @@ impl Parts {
     }
 }
 
-/// Reads to the end, or to the first read that fails.
-fn read_out<I: Read>(until: &mut I) {
+/// Reads to the end, or to the first read that fails. It is what a caller of `serve` does that ends with its input.
+pub fn read_out<I: Read>(input: &mut I) {
     let mut buffer = [0u8; 512];
     for _ in 0..u64::MAX {
-        match until.read(&mut buffer) {
+        match input.read(&mut buffer) {
             Ok(0) => return,
             Ok(_) => {}
             Err(e) => {
@@ -89,24 +89,26 @@ fn read_out<I: Read>(until: &mut I) {
     }
 }
 
-/// Runs the two threads until `until` is at its end. Whether both could be started.
-fn run<'a, R: Threads + Wait + Sync + Clock, S: Serve + Send, I: Read>(
+/// Runs the two threads until `beside` returns. Whether both could be started.
+fn run<'a, R: Threads + Wait + Clock + Sync, S: Serve + Send, F: FnOnce(&Watch<'_, S>)>(
     rt: &'a R,
     service: &'a Mutex<S>,
     parts: Parts,
-    until: &mut I,
-) -> bool {
+    beside: F,
+) -> bool
+    requires { F.IsAlwaysCallable beside }
+{
     let Parts {
         loop_side,
         service_ends,
         waker,
     } = parts;
-    let is_stopping = AtomicBool::new(false);
-    let (stopping, bell) = (&is_stopping, &waker);
+    let together = Shared::new();
+    let (shared, bell) = (&together, &waker);
     thread::scope(thread::scope_env(), rt, |scope| {
         let of_loop = move || {
             let mut side = loop_side;
-            run_loop(rt, service, &mut side, stopping);
+            run_loop(rt, service, &mut side, shared);
         };
         if scope.spawn(of_loop).is_err() {
             return false;
@@ -117,32 +119,35 @@ fn run<'a, R: Threads + Wait + Sync + Clock, S: Serve + Send, I: Read>(
         };
         let is_started = scope.spawn(of_service).is_ok();
         if is_started {
-            read_out(until);
+            beside(&Watch::new(service, shared));
         }
-        stopping.store(true, Ordering::SeqCst);
+        shared.stop();
         let _ = bell.wake();
         is_started
     })
 }
 
-/// Serves the connections of the listener until the end or a fault of `until`: no more connections are
-/// taken then, those that are here are closed, and no thread is left. The service comes back.
+/// Serves the connections of the listeners until `beside` returns, which is called on this thread once they are
+/// served: no more connections are taken then, those that are here are closed, and no thread is left. The service
+/// comes back.
 ///
 /// `NoMemory` if memory ran out before it began to serve, `Start` if the system gave no thread or descriptor.
-pub fn serve<R: Net + Threads + Wait + Clock + Sync, S: Serve + Send, I: Read>(
+pub fn serve<R: Net + Threads + Wait + Clock + Sync, S: Serve + Send, F: FnOnce(&Watch<'_, S>)>(
     rt: &R,
     alloc: Global,
-    listener: TcpListener,
+    listeners: Vec<TcpListener>,
     admission: Admission,
     service: S,
-    until: &mut I,
-) -> (S, Result<(), Refused>) {
-    let parts = match Parts::new(rt, alloc, listener, admission) {
+    beside: F,
+) -> (S, Result<(), Refused>)
+    requires { F.IsAlwaysCallable beside }
+{
+    let parts = match Parts::new(rt, alloc, listeners, admission) {
         Ok(parts) => parts,
         Err(refused) => return (service, Err(refused)),
     };
     let shared = Mutex::new(service);
-    let is_started = run(rt, &shared, parts, until);
+    let is_started = run(rt, &shared, parts, beside);
     let served = if is_started {
         Ok(())
     } else {

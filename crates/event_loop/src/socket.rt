@@ -9,6 +9,7 @@ use crate::output::Output;
 use mio::net::TcpStream;
 use std::alloc::{AllocError, Global};
 use std::io::ErrorKind;
+use std::mem;
 
 /// So many writes are made in one turn, at most.
 const MOST_WRITES: usize = 16;
@@ -26,6 +27,13 @@ pub enum After {
     Gone,
 }
 
+/// How many bytes went through a socket.
+#[derive(Clone, Copy, Default)]
+pub struct Moved {
+    pub read: usize,
+    pub written: usize,
+}
+
 /// A socket and its state. It is read only when its last bytes are done with and all that was said to it
 /// is written, so what waits for a connection that never reads is bounded.
 #[derive(Drop)]
@@ -35,6 +43,8 @@ pub struct Socket {
     output: Output,
     /// The bytes said and not told of as written.
     untold: usize,
+    /// What was read and written since this was last asked.
+    moved: Moved,
     /// A read may give something. Events come only at changes, so this stays until a read finds nothing.
     is_readable: bool,
     is_writable: bool,
@@ -58,6 +68,7 @@ impl Socket {
             number,
             output: Output::new(alloc),
             untold: 0,
+            moved: Moved::default(),
             is_readable: false,
             is_writable: true,
             is_read_closed: false,
@@ -71,6 +82,11 @@ impl Socket {
     /// Its number among all connections.
     pub fn number(&self) -> u64 {
         self.number
+    }
+
+    /// How many bytes were read and written since this was last called.
+    pub fn take_moved(&mut self) -> Moved {
+        mem::take(&mut self.moved)
     }
 
     /// Notes what an event tells.
@@ -169,7 +185,7 @@ impl Socket {
     fn write_once(&mut self) {
         match self.output.write(&mut self.stream) {
             Ok(0) => self.has_ended = true,
-            Ok(_) => {}
+            Ok(count) => self.moved.written = self.moved.written.saturating_add(count),
             Err(e) => match e.kind() {
                 ErrorKind::WouldBlock => self.is_writable = false,
                 ErrorKind::Interrupted => {}
@@ -203,6 +219,7 @@ impl Socket {
                 // A read that leaves room has emptied the socket: what comes next gives an event. But the end may have
                 // come already, and gives none.
                 self.is_readable = has_more || self.is_read_closed;
+                self.moved.read = self.moved.read.saturating_add(bytes.len());
                 self.tell_bytes(key, bytes, heard);
             }
             Piece::Nothing => self.is_readable = false,

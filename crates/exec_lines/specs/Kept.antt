@@ -4,6 +4,6 @@ use Rattle.exec_lines.specs.declared.record.Kept.{Kept}
 use Rattle.exec_lines.specs.declared.record.Kept.TheVariants.{Shared, Bytes}
 use Rattle.exec_lines.specs.Record.{saved_text}
 
-abbrev pub kept_text : Kept → List ℕ
-kept_text (Shared s) = saved_text s.u s.id s.known s.standing s.chain
-kept_text (Bytes text) = text
+abbrev pub kept_state_text : Kept → List ℕ
+kept_state_text (Shared s) = saved_text s.u s.id s.known s.standing s.chain
+kept_state_text (Bytes text) = text

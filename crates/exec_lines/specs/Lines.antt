@@ -23,7 +23,7 @@ use Rattle.executor.specs.declared.work.Ended.TheVariants.{On, Done}
 use Rattle.executor.specs.Work.{TentativeView, WorkView, is_group_done}
 use Rattle.executor.specs.GroupRun.{is_untouched}
 use Rattle.executor.specs.StepOf.{step_of}
-use Rattle.rollback.specs.Chain.{ChainView, chain_tip, is_over, pushed, undone, commits_first, without_first, first_replies, chain_from, replies_to}
+use Rattle.rollback.specs.Chain.{ChainView, chain_tip, is_over, pushed, undone, commits_first, without_first, first_replies, chain_from, replies_on_commit}
 use Rattle.transfer.specs.declared.need.Need.{Need}
 use Rattle.transfer.specs.Need.{need_of}
 use Rattle.transfer.specs.Parcel.{ParcelView, answer_of, take_of}
@@ -161,17 +161,17 @@ abbrev pub obey : ℕ → ℕ → ExecutorState → Decree → ExecutorOutcome
 obey u id s d = if commits_first d s.chain.members then commit_first id s d else roll_back u id s d
 
 -- it is the next decree, and may come next
-abbrev pub is_due : ExecutorState → ℕ → Decree → Bool
-is_due s place d = (place == (s.known + 1)) && may_follow s.standing d
+abbrev pub decree_is_due : ExecutorState → ℕ → Decree → Bool
+decree_is_due s place d = (place == (s.known + 1)) && may_follow s.standing d
 
 -- it is that, or one of a later place
 abbrev pub is_heeded : ExecutorState → ℕ → Decree → Bool
-is_heeded s place d = is_due s place d || nat_lt (s.known + 1) place
+is_heeded s place d = decree_is_due s place d || nat_lt (s.known + 1) place
 
 -- A decree is decided.
 abbrev pub on_decree : ℕ → ℕ → ExecutorState → ℕ → ℕ → Decree → ExecutorOutcome
 on_decree u id s from place d =
-    if is_due s place d then obey u id s d
+    if decree_is_due s place d then obey u id s d
     else if nat_lt (s.known + 1) place then one_letter id s (Verifier from) (body.Ballot (Ask (s.known + 1)))
     else unchanged s
 
@@ -193,7 +193,7 @@ stood_without s place st = record s { known = place; standing = st; chain = undo
 
 abbrev pub stood : ℕ → ℕ → ExecutorState → ℕ → Standing → Option ChainView → ExecutorOutcome
 stood u id s place st None = record { state = stood_without s place st; saves = true; letters = needs u id (stood_without s place st) }
-stood u id s place st (Some c) = record { state = stood_over s place st c; saves = true; letters = to_clients id (replies_to st s.chain.have s.chain.members) }
+stood u id s place st (Some c) = record { state = stood_over s place st c; saves = true; letters = to_clients id (replies_on_commit st s.chain.have s.chain.members) }
 
 -- A verifier tells what stands after more decrees.
 abbrev pub on_stands : ℕ → ℕ → ExecutorState → ℕ → Standing → ExecutorOutcome

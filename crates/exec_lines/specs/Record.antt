@@ -2,17 +2,13 @@
 use Rattle.std.specs.Prelude.{ℕ, List, ◌∷◌, ◌++◌}
 use Rattle.std.specs.Int.{w8, w64}
 use Rattle.wire.specs.Number.{num}
-use Rattle.token.specs.Token.{token_bytes}
 use Rattle.decrees.specs.declared.standing.Standing.{Standing}
+use Rattle.decrees.specs.Record.{standing_text}
 use Rattle.states.specs.declared.version.Version.{Version}
 use Rattle.states.specs.declared.version.Version.TheVariants.{Second}
 use Rattle.states.specs.Version.{version_mark}
 use Rattle.rollback.specs.Chain.{chain_text_in}
 use Rattle.exec_lines.specs.State.{ExecutorState}
-
--- what the decrees stand for
-abbrev pub standing_text : Standing → List ℕ
-standing_text st = ((num w64 st.n ++ token_bytes st.token) ++ num w64 st.epoch) ++ num w64 st.start
 
 -- the version and the kind, the executor's number and how many may fail, and what is saved of its state
 abbrev pub executor_text_in : Version → ℕ → ℕ → ExecutorState → List ℕ

@@ -6,7 +6,7 @@ ghost use Rattle.decrees.specs.Standing.{may_follow};
 ghost use Rattle.transfer.specs.Need.{need_of};
 ghost use Rattle.exec_lines.specs.declared.body.Body.TheVariants as body;
 ghost use Rattle.exec_lines.specs.State.{to_other_executors};
-ghost use Rattle.exec_lines.specs.Lines.{rolled_back, stood_without, obey as obey_line, commit_first as commit_line, roll_back as roll_back_line, needs as needs_of, is_due as due, is_heeded, on_decree as decree_line, resumed as resumed_line};
+ghost use Rattle.exec_lines.specs.Lines.{rolled_back, stood_without, obey as obey_line, commit_first as commit_line, roll_back as roll_back_line, needs as needs_of, decree_is_due as due, is_heeded, on_decree as decree_line, resumed as resumed_line};
 ghost use Rattle.exec_lines.specs.Step.{IsCounted};
 
 use crate::body::Body;

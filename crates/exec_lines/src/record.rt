@@ -1,7 +1,8 @@
 //! The record of an executor.
 
 ghost use Rattle.std.specs.Prelude.{◌≡◌, ◌++◌, IfOk, OnOk};
-ghost use Rattle.exec_lines.specs.Record.{executor_text, saved_text, standing_text};
+ghost use Rattle.decrees.specs.Record.{standing_text};
+ghost use Rattle.exec_lines.specs.Record.{executor_text, saved_text};
 
 use crate::state::State;
 use base::Text;
@@ -46,9 +47,9 @@ impl Model for ExecutorRecord {
 
     ghost Value = { List ℕ };
 
-    ghost use Rattle.exec_lines.specs.Kept.{kept_text};
+    ghost use Rattle.exec_lines.specs.Kept.{kept_state_text};
 
-    ghost view = { λ r. kept_text r.kept };
+    ghost view = { λ r. kept_state_text r.kept };
 }
 
 /// Writes what the decrees stand for.

@@ -1,7 +1,7 @@
 //! What stands, told by a verifier that has forgotten the decrees.
 
 ghost use Rattle.std.specs.Prelude.{◌≡◌, ◌<◌, ◌++◌, ℕ, None, Some, is_some, not, IfOk, IsOk, IsTrue, OnOk};
-ghost use Rattle.rollback.specs.Chain.{ChainView, chain_from, replies_to};
+ghost use Rattle.rollback.specs.Chain.{ChainView, chain_from, replies_on_commit};
 ghost use Rattle.exec_lines.specs.Lines.{is_told as told, on_stands as stands_line, stood, stood_over};
 
 use crate::letters::to_clients;
@@ -30,7 +30,7 @@ impl State {
         requires told { IsTrue (told self.old place standing) }
         requires has { IsTrue (is_some (chain_from standing self.old.chain.have self.old.chain.members)) }
         ensures state { OnOk result ((c : ChainView) × (chain_from standing self.old.chain.have self.old.chain.members ≡ Some c) × (self.new ≡ stood_over self.old place standing c)) }
-        ensures replies { OnOk result (replies.new.items ≡ replies.old.items ++ replies_to standing self.old.chain.have self.old.chain.members) }
+        ensures replies { OnOk result (replies.new.items ≡ replies.old.items ++ replies_on_commit standing self.old.chain.have self.old.chain.members) }
     {
         let goes_on = standing.epoch == self.standing.epoch;
         let said = self.chain.commit_to(&standing, replies);

@@ -1,7 +1,7 @@
 pub mod OpenLemmas
 mod LinkedLemmas
 mod PlayedLemmas
-mod RecordLemmas
+pub mod RecordLemmas
 mod StepLemmas
 mod UnfitLemmas
 mod UnsavedLemmas

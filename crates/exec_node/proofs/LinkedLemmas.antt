@@ -30,7 +30,7 @@ use Rattle.exec_lines.specs.declared.body.Body.TheVariants as body
 use Rattle.exec_lines.specs.declared.input.Input.TheVariants as input
 use Rattle.exec_lines.specs.Begun.{begin_of, begun_at, finish_of, moved_on}
 use Rattle.exec_lines.specs.State.{ExecutorState, ExecutorOutcome, IsExecutor, WorksOverTip, is_behind, runs_in_order}
-use Rattle.exec_lines.specs.Lines.{wanted, went_on, ordered, after_cut, cut_batch, may_cut, may_obey_order, stepped, work_after, finished, on_decree, is_due, has_more, came, is_told, goes_on, stood, on_stands}
+use Rattle.exec_lines.specs.Lines.{wanted, went_on, ordered, after_cut, cut_batch, may_cut, may_obey_order, stepped, work_after, finished, on_decree, decree_is_due, has_more, came, is_told, goes_on, stood, on_stands}
 use Rattle.exec_lines.specs.Step.{from_client, from_executor, from_verifier, on_ballot, on_letter}
 use Rattle.exec_node.specs.Laws.{AreTentative, AreStates, IsLinkedExecutor, LinkedStays}
 
@@ -115,7 +115,7 @@ same_tip have (t ∷ ts) = refl
 
 of_decree : (u id : ℕ) (s : ExecutorState) (v place : ℕ) (d : Decree) → IsLinkedExecutor s → Stays (on_decree u id s v place d)
 of_decree u id s v place d l =
-    cond_both (is_due s place d) _ _ Stays
+    cond_both (decree_is_due s place d) _ _ Stays
     (λ _. cond_both (commits_first d s.chain.members) _ _ Stays
     (λ _ are. record {
       chain = first_is_committed s.chain.have s.chain.members l.chain are;

@@ -77,7 +77,7 @@ standing_free =
     pair_prefix_free (λ p. (num w64 p.0.0 ++ token_bytes p.0.1) ++ num w64 p.1) (num w64)
     (pair_prefix_free (λ p. num w64 p.0 ++ token_bytes p.1) (num w64) named_free (num_prefix_free w64 wide64)) (num_prefix_free w64 wide64)
 
-fields_free : IsPrefixFree head_fields
+pub fields_free : IsPrefixFree head_fields
 fields_free =
     pair_prefix_free (λ p. (num w8 p.0.0 ++ num w8 p.0.1) ++ num w64 p.1)
     (λ p. ((num w64 p.0.0.0 ++ token_bytes p.0.0.1) ++ num w64 p.0.1) ++ num w64 p.1) numbers_free standing_free

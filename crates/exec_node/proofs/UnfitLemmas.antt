@@ -13,7 +13,7 @@ use Rattle.exec_lines.specs.declared.body.Body.TheVariants as body
 use Rattle.exec_lines.specs.declared.input.Input.{Input}
 use Rattle.exec_lines.specs.declared.input.Input.TheVariants.{Letter, Cut, Step, Finish, Adopt}
 use Rattle.exec_lines.specs.State.{ExecutorState, ExecutorOutcome, is_behind, unchanged}
-use Rattle.exec_lines.specs.Lines.{on_decree, is_due, is_heeded, stepped, finished, work_after, may_obey_order, may_cut, may_adopt, has_more, is_told}
+use Rattle.exec_lines.specs.Lines.{on_decree, decree_is_due, is_heeded, stepped, finished, work_after, may_obey_order, may_cut, may_adopt, has_more, is_told}
 use Rattle.exec_lines.specs.Step.{from_client, from_executor, from_verifier, on_ballot, on_letter, fits_from_client, fits_from_executor, fits_from_verifier, fits_ballot, fits_from, is_at_end, executor_step, fits_a_line}
 use Rattle.exec_node.specs.Laws.{UnfitInputStays}
 
@@ -35,8 +35,8 @@ of_executor u id s e (body.Ballot b) unfit = refl
 
 of_decree : (u id : ℕ) (s : ExecutorState) (v place : ℕ) (d : Decree) → is_heeded s place d ≡ false → on_decree u id s v place d ≡ unchanged s
 of_decree u id s v place d unfit =
-    let both = or_parts (is_due s place d) (nat_lt (s.known + 1) place) unfit in
-    cond-false (is_due s place d) _ _ both.0 ∙ cond-false (nat_lt (s.known + 1) place) _ _ both.1
+    let both = or_parts (decree_is_due s place d) (nat_lt (s.known + 1) place) unfit in
+    cond-false (decree_is_due s place d) _ _ both.0 ∙ cond-false (nat_lt (s.known + 1) place) _ _ both.1
 
 of_ballot : (u id : ℕ) (s : ExecutorState) (v : ℕ) (b : Ballot) → fits_ballot s b ≡ false → on_ballot u id s v b ≡ unchanged s
 of_ballot u id s v (ballot.Token epoch n previous token) unfit = refl

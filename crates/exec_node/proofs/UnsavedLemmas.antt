@@ -24,7 +24,7 @@ use Rattle.exec_lines.specs.declared.body.Body.TheVariants as body
 use Rattle.exec_lines.specs.declared.input.Input.TheVariants as input
 use Rattle.exec_lines.specs.Begun.{begin_of, finish_of}
 use Rattle.exec_lines.specs.State.{ExecutorState, ExecutorOutcome, is_behind, runs_in_order, after_crash}
-use Rattle.exec_lines.specs.Lines.{wanted, went_on, ordered, after_cut, cut_batch, may_cut, may_obey_order, stepped, work_after, finished, may_adopt, on_decree, is_due, has_more, came, is_told, stood, on_stands}
+use Rattle.exec_lines.specs.Lines.{wanted, went_on, ordered, after_cut, cut_batch, may_cut, may_obey_order, stepped, work_after, finished, may_adopt, on_decree, decree_is_due, has_more, came, is_told, stood, on_stands}
 use Rattle.exec_lines.specs.Step.{from_client, from_executor, from_verifier, on_ballot, on_letter}
 use Rattle.exec_node.specs.Laws.{UnsavedExecutorStays}
 
@@ -65,7 +65,7 @@ of_finish u id s (Some w) = cond_both (is_group_done w.progress) _ _ (Kept s) (�
 
 of_decree : (u id : ℕ) (s : ExecutorState) (v place : ℕ) (d : Decree) → Kept s (on_decree u id s v place d)
 of_decree u id s v place d =
-    cond_both (is_due s place d) _ _ (Kept s)
+    cond_both (decree_is_due s place d) _ _ (Kept s)
     (λ _. cond_both (commits_first d s.chain.members) _ _ (Kept s) (λ _ e. absurd (cc e)) (λ _ e. absurd (cc e)))
     (λ _. cond_both (nat_lt (s.known + 1) place) _ _ (Kept s) (λ _ _. refl) (λ _ _. refl))
 

@@ -6,6 +6,7 @@ pub mod KeptLemmas
 pub mod GroupLemmas
 pub mod DoneLemmas
 pub mod ThroughLemmas
+pub mod TurnLemmas
 pub mod StepOfLemmas
 pub mod LeftLemmas
 pub mod GroupRunLemmas

@@ -18,7 +18,7 @@ use workers::Workers;
 /// A group of one request starts no thread, and no group starts more than it has requests. When the
 /// last group is done the workers make the digests of the pages that were written, where these are
 /// worth a thread, and beside them that of the sessions, where these are of 1,024 clients or more.
-/// The gate is told of each step.
+/// The gate is told of each step, if there is more than one worker on steps.
 ///
 /// The batch has the number after the base's. It errs only where an allocation fails.
 pub fn execute<R: Threads + Wait + Sync, G: Gate + Sync>(

@@ -4,9 +4,10 @@ ghost use Rattle.std.specs.Prelude.{◌≡◌, true, map, IfOk};
 ghost use Rattle.item_steps.specs.Schedule.{GroupRuns};
 ghost use Rattle.round.specs.Sittings.{group_fits};
 ghost use Rattle.token.specs.Digested.{AreDigested};
+ghost use Rattle.pages.specs.Joined.{ArePages, joined_pages, items_of};
 
 use item_steps::{Stamp, Task};
-use pages::Pages;
+use pages::{Page, Pages};
 use proto::Fault;
 use round::{Gate, Ran};
 use std::alloc::{AllocError, Global};
@@ -38,8 +39,27 @@ pub fn run_group<R: Threads + Wait + Sync, G: Gate + Sync>(
     }
 }
 
-/// The same pages, and the digest of the sessions in a state of this form: at most `workers` threads at once make it, and those
+/// These pages, and the digest of the sessions in a state of this form: at most `workers` threads at once make it, and those
 /// of the pages that were written, so that little is left to do when the pages are sealed.
+fn digest_parts<R: Threads + Sync>(
+    rt: &R,
+    alloc: Global,
+    parts: Vec<Page>,
+    form: Form,
+    sessions: &HashedSessions,
+    workers: Workers,
+) -> (Pages, Digested)
+    requires are { ArePages (items_of parts.items) }
+    ensures pages { result.0 ≡ joined_pages (items_of parts.items) }
+    ensures digested { AreDigested form sessions.now result.1 }
+{
+    let mut parts = parts;
+    let digested = digest_all(rt, alloc, parts.as_mut_slice(), form, sessions, workers);
+    (Pages::join(parts), digested)
+}
+
+/// The same pages, and the digest of the sessions in a state of this form. Where pages may have been written, threads make
+/// the digests; else there is one to make.
 pub fn digest<R: Threads + Sync>(
     rt: &R,
     alloc: Global,
@@ -51,7 +71,8 @@ pub fn digest<R: Threads + Sync>(
     ensures pages { result.0 ≡ pages }
     ensures digested { AreDigested form sessions.now result.1 }
 {
-    let mut parts = pages.part();
-    let digested = digest_all(rt, alloc, parts.as_mut_slice(), form, sessions, workers);
-    (Pages::join(parts), digested)
+    match pages.written() {
+        Ok(parts) => digest_parts(rt, alloc, parts, form, sessions, workers),
+        Err(shared) => (shared, Digested::of_sessions(alloc, form, sessions)),
+    }
 }

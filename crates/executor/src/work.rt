@@ -358,6 +358,55 @@ impl Work {
         Ok(())
     }
 
+    /// Makes the next step of the request at the place, which is in the group that runs and has one left.
+    #[tactic(auto, using(crate::proofs::TurnLemmas::has_or_none))]
+    fn make_step(&mut self, alloc: Global, place: u32) -> Result<(), AllocError>
+        requires left { HasStep self.old.progress place }
+        ensures made { OnOk result (WorkStep (first_place self.old.base self.old.batch) self.old.progress place self.new.progress) }
+        ensures others { self.new ≡ record self.old { progress = self.new.progress } }
+        ensures err { OnErr result (self.new ≡ self.old) }
+    {
+        match self.step(alloc, place) {
+            Ok(true) => Ok(()),
+            // It has one left.
+            Ok(false) => unreachable!(),
+            Err(e) => Err(e),
+        }
+    }
+
+    /// Makes each step that is left of the group that runs, on the thread that calls, in the order of the batch.
+    #[tactic(auto, using(crate::proofs::TurnLemmas::step_leaves_fewer, crate::proofs::TurnLemmas::step_keeps_later))]
+    fn run_in_turn(self, alloc: Global) -> Result<Work, AllocError>
+        ensures done { IfOk result (λ work. IsTrue (group_done work.progress)) }
+        ensures left { IfOk result (λ work. later work.progress ≡ later self.progress) }
+        ensures others { IfOk result (λ work. work ≡ record self { progress = work.progress }) }
+    {
+        let mut work = self;
+        while let Some(place) = work.next_place() {
+            work.make_step(alloc, place)?;
+        }
+        Ok(work)
+    }
+
+    /// Makes each step that is left of the group that runs. One worker needs no round.
+    fn run_one_group<R: Threads + Wait + Sync, G: Gate + Sync>(
+        self,
+        rt: &R,
+        alloc: Global,
+        workers: Workers,
+        gate: &G,
+    ) -> Result<Work, AllocError>
+        requires afresh { IsUntouched self.progress }
+        ensures done { IfOk result (λ work. IsTrue (group_done work.progress)) }
+        ensures left { IfOk result (λ work. later work.progress ≡ later self.progress) }
+        ensures others { IfOk result (λ work. work ≡ record self { progress = work.progress }) }
+    {
+        if workers.on_steps() == 1 {
+            return self.run_in_turn(alloc);
+        }
+        self.run_round(rt, alloc, workers, gate)
+    }
+
     /// Makes each step that is left of the group that runs, by a round of several workers.
     fn run_round<R: Threads + Wait + Sync, G: Gate + Sync>(
         self,
@@ -448,7 +497,7 @@ impl Work {
 
     /// Makes all steps that are left on at most so many threads at once, group by group, and ends: see
     /// `execute`. No step of the group that runs was made before (`is_untouched`). The gate is told of
-    /// each step. It errs only where an allocation fails.
+    /// each step that one of several workers makes. It errs only where an allocation fails.
     pub fn run_on_threads<R: Threads + Wait + Sync, G: Gate + Sync>(
         self,
         rt: &R,
@@ -462,7 +511,7 @@ impl Work {
     {
         let mut work = self;
         loop {
-            let ran = work.run_round(rt, alloc, workers, gate)?;
+            let ran = work.run_one_group(rt, alloc, workers, gate)?;
             match ran.group_after() {
                 Some(group) => work = ran.moved_to(group),
                 None => return ran.complete_on_threads(rt, alloc, workers),

@@ -385,7 +385,7 @@ fn write_each(alloc: Global, pages: &mut Pages) -> Result<(), AllocError> {
 fn written_pages(alloc: Global) -> Result<Vec<Page>, AllocError> {
     let mut pages = Pages::new(alloc)?;
     write_each(alloc, &mut pages)?;
-    Ok(pages.part())
+    pages.part()
 }
 
 /// Keeps a reply to the first request of the client.

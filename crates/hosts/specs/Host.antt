@@ -32,8 +32,8 @@ abbrev pub HostSettles : HostView → of_executor.Input → HostView → List (L
 HostSettles h x now new = (slot : Slot ExecutorView) × ExecutorSettles h.slot x slot new × (now ≡ record h { slot = slot })
 
 -- each of these is one of those
-abbrev pub AreAmong : List (Letter Body) → List (Letter Body) → Type 0
-AreAmong some all = (l : Letter Body) → Contains some l → Contains all l
+abbrev pub LettersAreAmong : List (Letter Body) → List (Letter Body) → Type 0
+LettersAreAmong some all = (l : Letter Body) → Contains some l → Contains all l
 
 -- the letter orders a batch
 abbrev pub is_order : Body → Bool
@@ -58,14 +58,14 @@ HostTakes h l now new = HostTakesWhere (is_order l.body) h l now new
 
 -- some of what is held was let go
 abbrev pub HostForgets : HostView → HostView → Type 0
-HostForgets h now = (rest : List (Letter Body)) × AreAmong rest h.held × (now ≡ record h { held = rest })
+HostForgets h now = (rest : List (Letter Body)) × LettersAreAmong rest h.held × (now ≡ record h { held = rest })
 
 -- one that was held was handed in, and some were let go
 pub record HostObeys (h now : HostView) (new : List (Letter Body)) : Type 0 where
   pub order : Letter Body
   pub was_held : Contains h.held order
   pub rest : List (Letter Body)
-  pub among : AreAmong rest h.held
+  pub among : LettersAreAmong rest h.held
   pub settles : HostSettles (record h { held = rest }) (executor_input.Letter order) now new
 
 -- its executor ran its job

@@ -1,7 +1,7 @@
 //! Orders that came before their turn.
 
 ghost use Rattle.std.specs.Prelude.{◌≡◌, ◌⊎◌, ◌++◌, ◌∷◌, [], Contains, IfSome, IfNone};
-ghost use Rattle.hosts.specs.Host.{AreAmong, is_order as of_order};
+ghost use Rattle.hosts.specs.Host.{LettersAreAmong, is_order as of_order};
 
 use decrees::Letter;
 use exec_lines::Body;
@@ -51,14 +51,14 @@ pub fn hold(held: &mut Vec<Letter<Body>>, letter: Letter<Body>)
 
 /// Lets go of the orders of earlier epochs, and of numbers below this one.
 fn forget(held: &mut Vec<Letter<Body>>, epoch: u64, number: u64)
-    ensures { AreAmong held.new.items held.old.items }
+    ensures { LettersAreAmong held.new.items held.old.items }
 {
     held.retain(|letter| is_ahead(letter, epoch, number));
 }
 
 /// Takes the first order of this epoch and number, if one waits.
 fn take(held: &mut Vec<Letter<Body>>, epoch: u64, number: u64) -> Option<Letter<Body>>
-    ensures among { AreAmong held.new.items held.old.items }
+    ensures among { LettersAreAmong held.new.items held.old.items }
     ensures taken { IfSome result (λ order. Contains held.old.items order) }
 {
     let place = held
@@ -69,7 +69,7 @@ fn take(held: &mut Vec<Letter<Body>>, epoch: u64, number: u64) -> Option<Letter<
 
 /// Takes the first order of this epoch and number, if one waits, and lets go of those whose turn is over.
 pub fn take_order(held: &mut Vec<Letter<Body>>, epoch: u64, number: u64) -> Option<Letter<Body>>
-    ensures among { AreAmong held.new.items held.old.items }
+    ensures among { LettersAreAmong held.new.items held.old.items }
     ensures taken { IfSome result (λ order. Contains held.old.items order) }
 {
     forget(held, epoch, number);

@@ -4,6 +4,7 @@ ghost use Rattle.std.specs.Prelude.{◌≡◌};
 ghost use Rattle.hosts.specs.Shown.{job_len_of, steps_of, epoch_of};
 
 use crate::executor_host::ExecutorHost;
+use pages::PAGES;
 
 impl ExecutorHost {
     /// How many requests the batch has that the executor is to run, if it is up and has a job.
@@ -29,5 +30,21 @@ impl ExecutorHost {
     {
         let report = self.place.node()?.state().report();
         Some(report.epoch)
+    }
+
+    /// The number of the executor's committed state, if it is up.
+    pub fn number(&self) -> Option<u64> {
+        let report = self.place.node()?.state().report();
+        Some(report.number)
+    }
+
+    /// How many items the executor's committed state has, if it is up.
+    pub fn items(&self) -> Option<u64> {
+        let pages = self.place.node()?.state().chain().committed().pages();
+        let mut items = 0u64;
+        for number in 0..PAGES {
+            items = items.saturating_add(pages.len(number));
+        }
+        Some(items)
     }
 }

@@ -3,7 +3,7 @@ use Rattle.std.specs.Prelude.{◌≡◌, ℕ, List, Contains}
 use Rattle.items.specs.Map.{Items}
 use Rattle.merkle.specs.Digest.{map_digest, map_texts}
 use Rattle.wire.specs.Distinct.{Distinct}
-use Rattle.merkle.specs.Laws.{AreAmong}
+use Rattle.merkle.specs.Laws.{TextsAreAmong}
 use Rattle.merkle.specs.KeyPath.{path_bit, path_bits}
 use Rattle.merkle.specs.ItemLeaf.{item_leaf}
 
@@ -16,4 +16,4 @@ items_texts m = map_texts item_leaf path_bit path_bits m
 
 -- items that have one digest are the same, if digests tell apart the texts that they are made of
 abbrev pub TellsItems : Type 0
-TellsItems = (texts : List (List ℕ)) → Distinct (Contains texts) → (m n : Items) → AreAmong (items_texts m) (Contains texts) → AreAmong (items_texts n) (Contains texts) → items_digest m ≡ items_digest n → m ≡ n
+TellsItems = (texts : List (List ℕ)) → Distinct (Contains texts) → (m n : Items) → TextsAreAmong (items_texts m) (Contains texts) → TextsAreAmong (items_texts n) (Contains texts) → items_digest m ≡ items_digest n → m ≡ n

@@ -10,8 +10,8 @@ use Rattle.item_steps.specs.declared.step.Answer.{Answer}
 use Rattle.states.specs.State.{StateView, initial_state}
 use Rattle.states.specs.Followed.{moment_of}
 use Rattle.executor.specs.Round.{runners, first_place, steps_in, GroupsRun}
-use Rattle.one_run.specs.Run.{Executed, IsRunFrom}
-use Rattle.memcached_spec.specs.Server.{Server, Line, Tick, Do, Leads, new_server, ticked, stepped}
+use Rattle.run_laws.specs.Run.{Executed, IsRunFrom}
+use Rattle.memcached_spec.specs.Server.{Server, Line, Tick, Do, Leads, new_server, ticked, server_stepped}
 use Rattle.linear_laws.specs.Laws.{seen, last_of, RoundIsOneList, RunIsOneList, ListGoesOn}
 
 abbrev pub at : Items → ℕ → Server
@@ -28,7 +28,7 @@ lines_in who base m (s ∷ order) = line_of who base m s ∷ lines_in who base (
 pub leads_on : (xs ys : List Line) (s t v : Server) → Leads s xs t → Leads t ys v → Leads s (xs ++ ys) v
 leads_on [] ys s t v h k = subst (λ (x : Server). Leads x ys v) (sym h) k
 leads_on (Tick now ∷ xs) ys s t v h k = (h.0, leads_on xs ys (ticked s now) t v h.1 k)
-leads_on (Do d ∷ xs) ys s t v h k = (h.0, leads_on xs ys (stepped s d) t v h.1 k)
+leads_on (Do d ∷ xs) ys s t v h k = (h.0, leads_on xs ys (server_stepped s d) t v h.1 k)
 
 pub order_leads : (who : ℕ → ℕ) (base : Stamp) (m : Items) (order : List Placed) → Leads (at m base.moment) (lines_in who base m order) (at (items_after base m order) base.moment)
 order_leads who base m [] = refl

@@ -1,7 +1,7 @@
 -- No two updates of a run have one unique.
 use Rattle.std.proofs.Common.{◌≡◌, ℕ, zero, suc, ◌+◌, ◌*◌, ◌<◌, ◌≤◌, ◌⊎◌, inl, inr, List, [], ◌∷◌, ◌++◌, refl, sym, ap, ◌∙◌, arith}
 use Rattle.states.specs.State.{StateView}
-use Rattle.one_run.specs.Run.{Executed, IsOver, IsRunFrom}
+use Rattle.run_laws.specs.Run.{Executed, IsOver, IsRunFrom}
 use Rattle.memcached_spec.specs.Server.{Line, uniques}
 use Rattle.linear_laws.proofs.Rounds.{count, count-append, uniques-append}
 use Rattle.linear_laws.proofs.Runs.{IsMadeOf}

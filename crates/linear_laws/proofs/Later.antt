@@ -1,8 +1,8 @@
 -- What was asked later stands later.
 use Rattle.std.proofs.Common.{◌≡◌, ℕ, zero, suc, ◌≤◌, ◌⊎◌, inl, inr, ⊎_elim, List, [], ◌∷◌, ◌++◌, length, Some, sym, ap, ◌∙◌, subst, arith}
 use Rattle.std.specs.Prelude.{Contains, slice_get}
-use Rattle.one_run.specs.Run.{Executed}
-use Rattle.one_run.proofs.Elements.{in_head, in_tail}
+use Rattle.run_laws.specs.Run.{Executed}
+use Rattle.run_laws.proofs.Elements.{in_head, in_tail}
 use Rattle.linear_laws.specs.Laws.{AskedLaterIsLater}
 
 -- an element of a list with others behind it is one of the list, or stands behind it

@@ -19,15 +19,15 @@ use Rattle.client.proofs.TakenLemmas.{texts_imply}
 use Rattle.events.specs.declared.event.Event.{Event}
 use Rattle.worlds.specs.Slots.{ClientSlot}
 use Rattle.worlds.specs.World.{WorldView}
-use Rattle.one_run.specs.Run.{Executed, IsRunFrom}
-use Rattle.one_run.proofs.Elements.{in_head, in_tail, in_none}
+use Rattle.run_laws.specs.Run.{Executed, IsRunFrom}
+use Rattle.run_laws.proofs.Elements.{in_head, in_tail, in_none}
 use Rattle.memcached_spec.specs.Fed.{fed_to, IsMoment}
-use Rattle.one_server.specs.Saved.{IsMet}
-use Rattle.one_server.specs.Served.{WasAnswered}
-use Rattle.one_server.specs.Run.{IsRun, RunsGrow}
-use Rattle.one_server.specs.Laws.{WorldsAreOfOneServer}
+use Rattle.server_laws.specs.Saved.{IsMet}
+use Rattle.server_laws.specs.Served.{WasAnswered}
+use Rattle.server_laws.specs.Run.{IsRun, RunsGrow}
+use Rattle.server_laws.specs.Laws.{WorldsAreOfOneServer}
 use Rattle.memcached_spec.specs.Server.{Line, Tick}
-use Rattle.memcached_spec.specs.Order.{replies_of, IsExecutedFor, IsAnsweredBy, IsOrder, OrdersGrow}
+use Rattle.memcached_spec.specs.Order.{replies_from, IsExecutedFor, IsAnsweredBy, IsOrder, OrdersGrow}
 use Rattle.linear_laws.specs.Laws.{seen, last_of, given_in, history_of, PlaysAreLinearizable, ReachedAreLinearizable}
 use Rattle.executor.proofs.RoundLemmas.{get_map}
 use Rattle.linear_laws.proofs.Flat.{after_first}
@@ -72,15 +72,15 @@ module _ (met : StateView → Type 0) (events : List Event) (w : WorldView) (run
       executed_for c s.0 s.1 s.2
 
   reply_there : (c : ℕ) (turns : List Turn) (rest : List ℕ) (spells : Spells (fed_to c events) turns rest) (number : ℕ) (r : Reply) → WasAnswered run c number r
-      → slice_get (replies_of (take (length (of_turns c turns rest spells).ran) (asked turns)) (answers_made c lines)) (number - 1) ≡ Some r
+      → slice_get (replies_from (take (length (of_turns c turns rest spells).ran) (asked turns)) (answers_made c lines)) (number - 1) ≡ Some r
   reply_there c turns rest spells number r was =
       let m = of_turns c turns rest spells in
       let g = m.replied was.given.executed was.answered (contains_at run was.place was.given.executed was.given.there) was.given.given was.client_is in
       let is = g.1 in
       let number_is = was.number_is in
       let place : g.0 ≡ number - 1 = omega (arith, is, number_is) in
-      subst (λ (cs : List Command). slice_get (replies_of cs (answers_made c lines)) (number - 1) ≡ Some r) (ran_first c turns m)
-      (subst (λ (k : ℕ). slice_get (replies_of m.ran (answers_made c lines)) k ≡ Some r) place (g.2 ∙ ap Some was.reply_is))
+      subst (λ (cs : List Command). slice_get (replies_from cs (answers_made c lines)) (number - 1) ≡ Some r) (ran_first c turns m)
+      (subst (λ (k : ℕ). slice_get (replies_from m.ran (answers_made c lines)) k ≡ Some r) place (g.2 ∙ ap Some was.reply_is))
 
   answered : (i : ℕ) (given : List ℕ) → slice_get (given_in w) i ≡ Some given → IsAnsweredBy lines (suc i) (fed_to (suc i) events) given
   unfolding executed_for

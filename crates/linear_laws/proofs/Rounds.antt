@@ -32,11 +32,11 @@ use Rattle.states.specs.Followed.{moment_of}
 use Rattle.executor.specs.declared.answered.Answered.{Answered}
 use Rattle.executor.specs.Fresh.{Runner, fresh_after}
 use Rattle.executor.specs.Round.{runners, first_place, steps_in, group_of, GroupsRun, Round, answered}
-use Rattle.one_run.specs.Run.{Executed, IsOver}
-use Rattle.one_run.proofs.Elements.{in_head, in_tail, in_none, first_or_other, in_map}
+use Rattle.run_laws.specs.Run.{Executed, IsOver}
+use Rattle.run_laws.proofs.Elements.{in_head, in_tail, in_none, first_or_other, in_map}
 use Rattle.memcached_spec.specs.Server.{Made, Line, Tick, Do, Leads, made_for, uniques, unique_of}
 use Rattle.linear_laws.specs.Laws.{seen}
-use Rattle.one_run.proofs.Replies.{one_runs, first_or_later}
+use Rattle.run_laws.proofs.Replies.{one_runs, first_or_later}
 use Rattle.linear_laws.proofs.Orders.{order_each, order_only, filter_none, once_among}
 use Rattle.linear_laws.proofs.Flat.{at, lines_in, line_of, leads_on, order_leads}
 

@@ -10,13 +10,13 @@ use Rattle.sessions.specs.declared.request.Request.{Request}
 use Rattle.sessions.specs.Fresh.{next_number}
 use Rattle.states.specs.State.{StateView}
 use Rattle.executor.specs.declared.answered.Answered.{Answered}
-use Rattle.one_run.specs.Run.{Executed, IsOver, IsRunFrom}
-use Rattle.one_run.proofs.Elements.{in_head, in_tail, in_none, first_or_other}
+use Rattle.run_laws.specs.Run.{Executed, IsOver, IsRunFrom}
+use Rattle.run_laws.proofs.Elements.{in_head, in_tail, in_none, first_or_other}
 use Rattle.memcached_spec.specs.Server.{Made, Line, Leads, made_for}
-use Rattle.memcached_spec.specs.Order.{replies_of}
+use Rattle.memcached_spec.specs.Order.{replies_from}
 use Rattle.linear_laws.specs.Laws.{seen, last_of}
 use Rattle.linear_laws.proofs.Flat.{leads_on}
-use Rattle.one_run.proofs.Replies.{runs_next, round_one, after_answer}
+use Rattle.run_laws.proofs.Replies.{runs_next, round_one, after_answer}
 use Rattle.linear_laws.proofs.Answers.{number_stays}
 use Rattle.linear_laws.proofs.Rounds.{RoundMade, RanOne, round_made, steps_made, answers_made, made_for-append, runner_in}
 
@@ -43,20 +43,20 @@ made_leads s (e ∷ run) lines h =
     subst (λ (l : List Line). Leads (seen s) l (seen (last_of e.new run))) (sym h.2)
     (leads_on h.0 h.1 (seen s) (seen e.new) (seen (last_of e.new run)) h.3.leads (made_leads e.new run h.1 h.4))
 
-steps_made-append : (c : ℕ) (xs ys : List Line) → steps_made c (xs ++ ys) ≡ steps_made c xs ++ steps_made c ys
+pub steps_made-append : (c : ℕ) (xs ys : List Line) → steps_made c (xs ++ ys) ≡ steps_made c xs ++ steps_made c ys
 steps_made-append c xs ys = ap (map (λ (d : Made). d.step)) (made_for-append c xs ys) ∙ map-append (λ (d : Made). d.step) (made_for c xs) (made_for c ys)
 
-answers_made-append : (c : ℕ) (xs ys : List Line) → answers_made c (xs ++ ys) ≡ answers_made c xs ++ answers_made c ys
+pub answers_made-append : (c : ℕ) (xs ys : List Line) → answers_made c (xs ++ ys) ≡ answers_made c xs ++ answers_made c ys
 answers_made-append c xs ys = ap (map (λ (d : Made). d.answer)) (made_for-append c xs ys) ∙ map-append (λ (d : Made). d.answer) (made_for c xs) (made_for c ys)
 
-as_many : (c : ℕ) (lines : List Line) → length (steps_made c lines) ≡ length (answers_made c lines)
+pub as_many : (c : ℕ) (lines : List Line) → length (steps_made c lines) ≡ length (answers_made c lines)
 as_many c lines = by (made_for c lines)
   where
     by : (xs : List Made) → length (map (λ (d : Made). d.step) xs) ≡ length (map (λ (d : Made). d.answer) xs)
     by [] = refl
     by (x ∷ xs) = ap suc (by xs)
 
-drop_seam : {X : Type 0} (xs ys : List X) → drop (length xs) (xs ++ ys) ≡ ys
+pub drop_seam : {X : Type 0} (xs ys : List X) → drop (length xs) (xs ++ ys) ≡ ys
 drop_seam [] ys = refl
 drop_seam (x ∷ xs) ys = drop_seam xs ys
 
@@ -69,7 +69,7 @@ pub record ClientMade (commands : List Command) (run : List Executed) (lines : L
   pub ran : List Command
   pub made : steps_made c lines ≡ flat_map steps ran
   pub theirs : (i : ℕ) (command : Command) → slice_get ran i ≡ Some command → slice_get commands (b + i) ≡ Some command
-  pub replied : (e : Executed) (a : Answered) → Contains run e → Contains e.replies a → a.client ≡ c → (i : ℕ) × (a.number ≡ suc (b + i)) × (slice_get (replies_of ran (answers_made c lines)) i ≡ Some a.reply)
+  pub replied : (e : Executed) (a : Answered) → Contains run e → Contains e.replies a → a.client ≡ c → (i : ℕ) × (a.number ≡ suc (b + i)) × (slice_get (replies_from ran (answers_made c lines)) i ≡ Some a.reply)
 
 no_answers_of : (c : ℕ) (lines : List Line) → steps_made c lines ≡ [] → answers_made c lines ≡ []
 no_answers_of c lines e = by (made_for c lines) e
@@ -129,7 +129,7 @@ module _ (c : ℕ) (commands : List Command) (s : StateView) (e : Executed) (ove
       | inr there' ↦
           let r = later.replied x a there' given client in
           let number = r.1 in
-          (suc r.0, omega (arith, number), subst (λ (l : List Answer). slice_get (replies_of later.ran l) r.0 ≡ Some a.reply) (sym back) r.2)
+          (suc r.0, omega (arith, number), subst (λ (l : List Answer). slice_get (replies_from later.ran l) r.0 ≡ Some a.reply) (sym back) r.2)
     ];
   }
 
@@ -155,7 +155,7 @@ module _ (c : ℕ) (commands : List Command) where
             | inl same ↦ absurd (none.none a (subst (λ (y : Executed). Contains y.replies a) (sym same) given) client)
             | inr there' ↦
                 let r = later.replied x a there' given client in
-                (r.0, r.1, subst (λ (l : List Answer). slice_get (replies_of later.ran l) r.0 ≡ Some a.reply) (sym answers) r.2)
+                (r.0, r.1, subst (λ (l : List Answer). slice_get (replies_from later.ran l) r.0 ≡ Some a.reply) (sym answers) r.2)
           ];
         }
     | inl one ↦

@@ -6,14 +6,14 @@ use Rattle.proto.specs.declared.command.StoreVerb.TheVariants.{Set}
 use Rattle.mixer.specs.Groups.{numbers_from}
 use Rattle.sessions.specs.declared.request.Request.{Request}
 use Rattle.states.specs.State.{StateView, initial_state}
-use Rattle.one_run.specs.Run.{Executed, IsOver, IsRunFrom, Extends}
+use Rattle.run_laws.specs.Run.{Executed, IsOver, IsRunFrom, Extends}
 use Rattle.events.specs.declared.event.Event.{Event}
 use Rattle.events.specs.Config.{ConfigView}
 use Rattle.worlds.specs.World.{WorldView, ReachedWorlds}
 use Rattle.worlds.specs.Laws.{IsReached}
-use Rattle.one_server.specs.Saved.{IsMet, DigestsAreDistinct}
+use Rattle.server_laws.specs.Saved.{IsMet, DigestsAreDistinct}
 use Rattle.worlds.specs.Asked.{IsAskedRequest}
-use Rattle.one_server.specs.Run.{IsRun, IsOneServer}
+use Rattle.server_laws.specs.Run.{IsRun, IsOneServer}
 use Rattle.memcached_spec.specs.Order.{AllGiven, IsLinearizable}
 use Rattle.memcached_spec.specs.Server.{Server, Line, Leads, new_server}
 

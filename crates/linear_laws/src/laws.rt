@@ -2,7 +2,7 @@
 
 ghost use Rattle.linear_laws.specs.Laws.{RoundIsOneList, RunIsOneList, ListGoesOn, AskedLaterIsLater, PlaysAreLinearizable, ReachedAreLinearizable, GetsMayOverlap};
 
-use one_server::worlds_are_of_one_server;
+use server_laws::worlds_are_of_one_server;
 
 /// A round is one list of item steps, and so is a run, whose list goes on where the run does.
 pub fn rounds_are_one_list()

@@ -34,9 +34,9 @@ use Rattle.events.specs.declared.event.Event.{Event}
 use Rattle.events.specs.declared.event.Event.TheVariants.{Feed}
 use Rattle.memcached_spec.specs.Asked.{asked, TextsBy}
 use Rattle.memcached_spec.specs.Fed.{fed_to}
-use Rattle.memcached_spec.specs.Server.{Server, Made, Line, Tick, Do, Leads, ticked, stepped, at_moment, made_for, new_server}
+use Rattle.memcached_spec.specs.Server.{Server, Made, Line, Tick, Do, Leads, ticked, server_stepped, at_moment, made_for, new_server}
 use Rattle.memcached_spec.specs.Laws.{StaleReadIsNone}
-use Rattle.memcached_spec.specs.Order.{IsExecutedFor, IsAnsweredBy, IsOrder, replies_of}
+use Rattle.memcached_spec.specs.Order.{IsExecutedFor, IsAnsweredBy, IsOrder, replies_from}
 
 abbrev pub a_set : Command
 a_set = command.Update (update.Store Set (codes "x") 0 (pos 0) (codes "1"))
@@ -85,7 +85,7 @@ has_ticked s now h = record {
 abbrev pub new_one : Server → ℕ → Item
 new_one s unique = record { block = codes "1"; flags = 0; due = None; unique = unique }
 
-has_set : (s : Server) (client unique : ℕ) (answer : Answer) → Has (stepped s (record { client = client; step = set_step; unique = unique; answer = answer }))
+has_set : (s : Server) (client unique : ℕ) (answer : Answer) → Has (server_stepped s (record { client = client; step = set_step; unique = unique; answer = answer }))
 unfolding updated
 has_set s client unique answer = record {
   item = new_one s unique;
@@ -115,16 +115,16 @@ same_made : (d e : Made) → Do d ≡ Do e → d ≡ e
 same_made d e h = cc
 
 -- one step more
-has_next : (s : Server) (d : Made) → (d.step ≡ set_step) ⊎ (d.step ≡ get_step) → Has s ⊎ (d.step ≡ set_step) → Has (stepped s d)
-has_next s d (inl sets) h = subst (λ (x : Step). Has (stepped s (record { client = d.client; step = x; unique = d.unique; answer = d.answer }))) (sym sets) (has_set s d.client d.unique d.answer)
-has_next s d (inr gets) (inl h) = subst (λ (x : Step). Has (stepped s (record { client = d.client; step = x; unique = d.unique; answer = d.answer }))) (sym gets) h
+has_next : (s : Server) (d : Made) → (d.step ≡ set_step) ⊎ (d.step ≡ get_step) → Has s ⊎ (d.step ≡ set_step) → Has (server_stepped s d)
+has_next s d (inl sets) h = subst (λ (x : Step). Has (server_stepped s (record { client = d.client; step = x; unique = d.unique; answer = d.answer }))) (sym sets) (has_set s d.client d.unique d.answer)
+has_next s d (inr gets) (inl h) = subst (λ (x : Step). Has (server_stepped s (record { client = d.client; step = x; unique = d.unique; answer = d.answer }))) (sym gets) h
 has_next s d (inr gets) (inr sets) = absurd (let no : set_step ≡ get_step = sym sets ∙ gets in cc no)
 
 -- it stays
 has_stays : (s t : Server) (lines : List Line) → AreSteps lines → Leads s lines t → Has s → Has t
 has_stays s t [] are leads h = subst Has leads h
 has_stays s t (Tick now ∷ lines) are leads h = has_stays (ticked s now) t lines (λ d at. are d (in_tail (Tick now) (Do d) lines at)) leads.1 (has_ticked s now h)
-has_stays s t (Do d ∷ lines) are leads h = has_stays (stepped s d) t lines (λ e at. are e (in_tail (Do d) (Do e) lines at)) leads.1 (has_next s d (are d (in_head (Do d) lines)) (inl h))
+has_stays s t (Do d ∷ lines) are leads h = has_stays (server_stepped s d) t lines (λ e at. are e (in_tail (Do d) (Do e) lines at)) leads.1 (has_next s d (are d (in_head (Do d) lines)) (inl h))
 
 -- it comes with a set
 has_comes : (s t : Server) (lines : List Line) (d : Made) → AreSteps lines → Leads s lines t → Contains lines (Do d) → d.step ≡ set_step → Has t
@@ -136,8 +136,8 @@ has_comes s t (Tick now ∷ lines) d are leads at sets = ⊎_elim
 has_comes s t (Do e ∷ lines) d are leads at sets =
     let others : AreSteps lines = λ f there. are f (in_tail (Do e) (Do f) lines there) in
     ⊎_elim
-    (λ (same : Do e ≡ Do d). has_stays (stepped s e) t lines others leads.1 (has_next s e (are e (in_head (Do e) lines)) (inr (ap (λ (m : Made). m.step) (same_made e d same) ∙ sets))))
-    (λ later. has_comes (stepped s e) t lines d others leads.1 later sets)
+    (λ (same : Do e ≡ Do d). has_stays (server_stepped s e) t lines others leads.1 (has_next s e (are e (in_head (Do e) lines)) (inr (ap (λ (m : Made). m.step) (same_made e d same) ∙ sets))))
+    (λ later. has_comes (server_stepped s e) t lines d others leads.1 later sets)
     (first_or_other (Do e) (Do d) lines at)
 
 record Sees (d : Made) : Type 0 where
@@ -153,7 +153,7 @@ get_sees s t (Tick now ∷ lines) d are leads h at gets = ⊎_elim
     (first_or_other (Tick now) (Do d) lines at)
 get_sees s t (Do e ∷ lines) d are leads h at gets = ⊎_elim
     (λ (same : Do e ≡ Do d). here (same_made e d same))
-    (λ later. get_sees (stepped s e) t lines d (λ f there. are f (in_tail (Do e) (Do f) lines there)) leads.1 (has_next s e (are e (in_head (Do e) lines)) (inl h)) later gets)
+    (λ later. get_sees (server_stepped s e) t lines d (λ f there. are f (in_tail (Do e) (Do f) lines there)) leads.1 (has_next s e (are e (in_head (Do e) lines)) (inl h)) later gets)
     (first_or_other (Do e) (Do d) lines at)
   where
     here : e ≡ d → Sees d
@@ -166,7 +166,7 @@ get_sees s t (Do e ∷ lines) d are leads h at gets = ⊎_elim
 leads_parts : (s t : Server) (first later : List Line) → Leads s (first ++ later) t → (m : Server) × Leads s first m × Leads m later t
 leads_parts s t [] later leads = (s, refl, leads)
 leads_parts s t (Tick now ∷ first) later leads = let p = leads_parts (ticked s now) t first later leads.1 in (p.0, (leads.0, p.1), p.2)
-leads_parts s t (Do d ∷ first) later leads = let p = leads_parts (stepped s d) t first later leads.1 in (p.0, (leads.0, p.1), p.2)
+leads_parts s t (Do d ∷ first) later leads = let p = leads_parts (server_stepped s d) t first later leads.1 in (p.0, (leads.0, p.1), p.2)
 
 -- ---- what was made for a client
 
@@ -254,9 +254,9 @@ answered_one lines client all rest command only b given one spelled a =
     record { made = found.0; there = found.1; is = found.2; text = found.3 }
   where
     P : List Turn → ℕ → Mades → ℕ → Reply → Type 0
-    P ts n ds number r = slice_get (replies_of (take n (asked ts)) (map (λ d. d.answer) ds)) (number - 1) ≡ Some r
+    P ts n ds number r = slice_get (replies_from (take n (asked ts)) (map (λ d. d.answer) ds)) (number - 1) ≡ Some r
 
-    one_made : (n : ℕ) (ds : Mades) (r : Reply) (more : List ℕ) → map (λ d. d.step) ds ≡ flat_map steps (take n (command ∷ [])) → slice_get (replies_of (take n (command ∷ [])) (map (λ d. d.answer) ds)) 0 ≡ Some r
+    one_made : (n : ℕ) (ds : Mades) (r : Reply) (more : List ℕ) → map (λ d. d.step) ds ≡ flat_map steps (take n (command ∷ [])) → slice_get (replies_from (take n (command ∷ [])) (map (λ d. d.answer) ds)) 0 ≡ Some r
         → b ∷ given ≡ reply_text r ++ more → more ≡ [] → (m : Made) × Contains ds m × (m.step ≡ only) × (b ∷ given ≡ reply_text (reply command (m.answer ∷ [])) ++ [])
     one_made zero ds r more e got text none = absurd (let f : None ≡ Some r = got in cc f)
     one_made (suc n) ds r more e got text none = among ds (e ∙ just n) got
@@ -265,7 +265,7 @@ answered_one lines client all rest command only b given one spelled a =
         just zero = ap (λ (xs : List Step). xs ++ []) one
         just (suc k) = ap (λ (xs : List Step). xs ++ []) one
 
-        among : (ds : Mades) → map (λ m. m.step) ds ≡ only ∷ [] → slice_get (replies_of (take (suc n) (command ∷ [])) (map (λ d. d.answer) ds)) 0 ≡ Some r
+        among : (ds : Mades) → map (λ m. m.step) ds ≡ only ∷ [] → slice_get (replies_from (take (suc n) (command ∷ [])) (map (λ d. d.answer) ds)) 0 ≡ Some r
             → (m : Made) × Contains ds m × (m.step ≡ only) × (b ∷ given ≡ reply_text (reply command (m.answer ∷ [])) ++ [])
         among [] f g = absurd (cc f)
         among (m ∷ k ∷ ds) f g = absurd (cc f)
@@ -287,7 +287,7 @@ answered_one lines client all rest command only b given one spelled a =
         let tail : taken ≡ [] = no_more taken more (cc both) in
         let all_taken : t ∷ taken ≡ Ask command false ∷ [] = λ i. head i ∷ tail i in
         let texts_now : TextsBy (P ts n ds) 1 (Ask command false ∷ []) (b ∷ given) = subst (λ (xs : List Turn). TextsBy (P ts n ds) 1 xs (b ∷ given)) all_taken texts in
-        let got = subst (λ (xs : List Turn). slice_get (replies_of (take n (asked xs)) (map (λ d. d.answer) ds)) 0 ≡ Some texts_now.0) is texts_now.2 in
+        let got = subst (λ (xs : List Turn). slice_get (replies_from (take n (asked xs)) (map (λ d. d.answer) ds)) 0 ≡ Some texts_now.0) is texts_now.2 in
         one_made n ds texts_now.0 texts_now.1 (made ∙ ap (λ (xs : List Turn). flat_map steps (take n (asked xs))) is) got texts_now.3 texts_now.4
 
 -- ---- the history

@@ -1,10 +1,10 @@
 -- What bytes ask, and which bytes answer it.
-use Rattle.std.specs.Prelude.{◌≡◌, ℕ, ◌+◌, ◌-◌, ◌≤◌, List, [], ◌∷◌, ◌++◌, Some, slice_get}
+use Rattle.std.specs.Prelude.{◌≡◌, ℕ, Bool, ◌+◌, ◌-◌, ◌≤◌, List, [], ◌∷◌, ◌++◌, Some, slice_get}
 use Rattle.proto.specs.declared.command.Command.{Command}
 use Rattle.proto.specs.declared.reply.Reply as replies
 use Rattle.proto.specs.declared.turn.Turn.{Turn}
 use Rattle.proto.specs.declared.turn.Turn.TheVariants.{Ask, Say, Close}
-use Rattle.proto.specs.Grammar.{Spells}
+use Rattle.proto.specs.Grammar.{Spells, IsTurnText}
 use Rattle.proto.specs.Text.{notice_text, given_text}
 
 -- the commands that turns ask, in order: the first one is request 1
@@ -36,3 +36,7 @@ pub record IsAsked (bytes : List ℕ) (number : ℕ) (command : Command) : Type 
   pub spells : Spells bytes turns rest
   pub from_one : 1 ≤ number
   pub is : slice_get (asked turns) (number - 1) ≡ Some command
+
+-- bytes spell this command, and nothing else
+abbrev pub HasText : Command → Bool → Type 0
+HasText command quiet = (bytes : List ℕ) × IsTurnText bytes (Ask command quiet)

@@ -12,9 +12,9 @@ use Rattle.memcached_spec.specs.Fed.{fed_to, IsMoment}
 use Rattle.memcached_spec.specs.Server.{Line, Tick, IsDone, made_for}
 
 -- the replies to these commands, whose steps had these answers
-abbrev pub replies_of : List Command → List Answer → List Reply
-replies_of [] answers = []
-replies_of (c ∷ commands) answers = reply c (take (length (steps c)) answers) ∷ replies_of commands (drop (length (steps c)) answers)
+abbrev pub replies_from : List Command → List Answer → List Reply
+replies_from [] answers = []
+replies_from (c ∷ commands) answers = reply c (take (length (steps c)) answers) ∷ replies_from commands (drop (length (steps c)) answers)
 
 -- Of the commands that a client's bytes ask, in their order, the first ones were executed, each once and whole.
 pub record IsExecutedFor (lines : List Line) (client : ℕ) (all : List ℕ) : Type 0 where
@@ -30,7 +30,7 @@ pub record IsAnsweredBy (lines : List Line) (client : ℕ) (all given : List ℕ
   pub taken : List Turn
   pub more : List Turn
   pub first : executed.turns ≡ taken ++ more
-  pub texts : TextsBy (λ number r. slice_get (replies_of (take executed.count (asked executed.turns)) (map (λ d. d.answer) (made_for client lines))) (number - 1) ≡ Some r) 1 taken given
+  pub texts : TextsBy (λ number r. slice_get (replies_from (take executed.count (asked executed.turns)) (map (λ d. d.answer) (made_for client lines))) (number - 1) ≡ Some r) 1 taken given
 
 -- What each client was given, those of number 1, 2 and so on.
 abbrev pub AllGiven : Type 0

@@ -4,7 +4,7 @@ use Rattle.std.specs.Prelude.{min, IfNone, IfSome}
 use Rattle.std.proofs.lemmas.Bool.{ltb-true, lt-ltb}
 use Rattle.merkle.specs.Shape.{Shape, none, one, fork, pairs, AllOn, IsTrie, earlier, least}
 use Rattle.merkle.specs.Remove.{kind}
-use Rattle.merkle.specs.Alive.{is_above, alive, IsPartOf, IsLessOf, IsAlive}
+use Rattle.merkle.specs.Alive.{is_above, alive_entries, IsPartOf, IsLessOf, IsAlive}
 use Rattle.merkle.proofs.PutLemmas.{all_append, all_left, all_right}
 use Rattle.merkle.proofs.RemoveLemmas.{two_of_kinds, small_trie}
 
@@ -24,52 +24,52 @@ above_earlier moment (Some x) (Some y) p q =
     lt-ltb moment (min x y) (omega arith)
 
 module _ {K V : Type 0} (due : V → Option ℕ) (moment : ℕ) where
-  alive_append : (xs ys : List (K × V)) → alive due moment (xs ++ ys) ≡ alive due moment xs ++ alive due moment ys
+  alive_append : (xs ys : List (K × V)) → alive_entries due moment (xs ++ ys) ≡ alive_entries due moment xs ++ alive_entries due moment ys
   alive_append [] ys = refl
   alive_append (x ∷ xs) ys =
-      elim (is_above moment (due x.1)) as (λ b. cond b (x ∷ alive due moment (xs ++ ys)) (alive due moment (xs ++ ys)) ≡ cond b (x ∷ alive due moment xs) (alive due moment xs) ++ alive due moment ys) [
+      elim (is_above moment (due x.1)) as (λ b. cond b (x ∷ alive_entries due moment (xs ++ ys)) (alive_entries due moment (xs ++ ys)) ≡ cond b (x ∷ alive_entries due moment xs) (alive_entries due moment xs) ++ alive_entries due moment ys) [
         | true ↦ ap (λ zs. x ∷ zs) (alive_append xs ys)
         | false ↦ alive_append xs ys
       ]
 
   -- where the least due time is above the moment, all is there
-  pub all_alive : (s : Shape K V) → is_above moment (least due s) ≡ true → alive due moment (pairs s) ≡ pairs s
+  pub all_alive : (s : Shape K V) → is_above moment (least due s) ≡ true → alive_entries due moment (pairs s) ≡ pairs s
   all_alive none h = refl
   all_alive (one k v) h = ap (λ b. cond b ((k, v) ∷ []) []) h
   all_alive (fork l r) h =
       let both = above_both moment (least due l) (least due r) h in
       alive_append (pairs l) (pairs r) ∙ (λ i. all_alive l both.0 i ++ all_alive r both.1 i)
 
-  at_most : (es : List (K × V)) → length (alive due moment es) ≤ length es
+  at_most : (es : List (K × V)) → length (alive_entries due moment es) ≤ length es
   at_most [] = omega arith
   at_most (e ∷ es) =
-      let rest : length (alive due moment es) ≤ length es = at_most es in
-      elim (is_above moment (due e.1)) as (λ b. length (cond b (e ∷ alive due moment es) (alive due moment es)) ≤ suc (length es)) [ true ↦ omega arith | false ↦ omega arith ]
+      let rest : length (alive_entries due moment es) ≤ length es = at_most es in
+      elim (is_above moment (due e.1)) as (λ b. length (cond b (e ∷ alive_entries due moment es) (alive_entries due moment es)) ≤ suc (length es)) [ true ↦ omega arith | false ↦ omega arith ]
 
   -- where it is not, something is due
-  pub fewer_alive : (s : Shape K V) → is_above moment (least due s) ≡ false → length (alive due moment (pairs s)) < length (pairs s)
+  pub fewer_alive : (s : Shape K V) → is_above moment (least due s) ≡ false → length (alive_entries due moment (pairs s)) < length (pairs s)
   fewer_alive none h = absurd (let e : true ≡ false = h in cc)
-  fewer_alive (one k v) h = (let e : length (alive due moment (pairs (one k v))) ≡ 0 = ap (λ b. length {A = K × V} (cond b ((k, v) ∷ []) [])) h in omega arith)
+  fewer_alive (one k v) h = (let e : length (alive_entries due moment (pairs (one k v))) ≡ 0 = ap (λ b. length {A = K × V} (cond b ((k, v) ∷ []) [])) h in omega arith)
   fewer_alive (fork l r) h = by (is_above moment (least due l)) (is_above moment (least due r)) refl refl (λ e. fewer_alive l e) (λ e. fewer_alive r e)
     where
-      whole : length (alive due moment (pairs l ++ pairs r)) ≡ length (alive due moment (pairs l)) + length (alive due moment (pairs r))
-      whole = ap length (alive_append (pairs l) (pairs r)) ∙ length-append (alive due moment (pairs l)) (alive due moment (pairs r))
+      whole : length (alive_entries due moment (pairs l ++ pairs r)) ≡ length (alive_entries due moment (pairs l)) + length (alive_entries due moment (pairs r))
+      whole = ap length (alive_append (pairs l) (pairs r)) ∙ length-append (alive_entries due moment (pairs l)) (alive_entries due moment (pairs r))
 
-      by : (a b : Bool) → is_above moment (least due l) ≡ a → is_above moment (least due r) ≡ b → (is_above moment (least due l) ≡ false → length (alive due moment (pairs l)) < length (pairs l)) → (is_above moment (least due r) ≡ false → length (alive due moment (pairs r)) < length (pairs r)) → length (alive due moment (pairs l ++ pairs r)) < length (pairs l ++ pairs r)
+      by : (a b : Bool) → is_above moment (least due l) ≡ a → is_above moment (least due r) ≡ b → (is_above moment (least due l) ≡ false → length (alive_entries due moment (pairs l)) < length (pairs l)) → (is_above moment (least due r) ≡ false → length (alive_entries due moment (pairs r)) < length (pairs r)) → length (alive_entries due moment (pairs l ++ pairs r)) < length (pairs l ++ pairs r)
       by false b p q on_left on_right =
-          let left : length (alive due moment (pairs l)) < length (pairs l) = on_left p in
-          let right : length (alive due moment (pairs r)) ≤ length (pairs r) = at_most (pairs r) in
+          let left : length (alive_entries due moment (pairs l)) < length (pairs l) = on_left p in
+          let right : length (alive_entries due moment (pairs r)) ≤ length (pairs r) = at_most (pairs r) in
           omega (arith, whole, length-append (pairs l) (pairs r))
       by true false p q on_left on_right =
-          let left : length (alive due moment (pairs l)) ≤ length (pairs l) = at_most (pairs l) in
-          let right : length (alive due moment (pairs r)) < length (pairs r) = on_right q in
+          let left : length (alive_entries due moment (pairs l)) ≤ length (pairs l) = at_most (pairs l) in
+          let right : length (alive_entries due moment (pairs r)) < length (pairs r) = on_right q in
           omega (arith, whole, length-append (pairs l) (pairs r))
       by true true p q on_left on_right = absurd (let e : true ≡ false = sym (above_earlier moment (least due l) (least due r) p q) ∙ h in cc)
 
-  pub fewer_on : (test : K → Bool) (side : Bool) (es : List (K × V)) → AllOn test side es → AllOn test side (alive due moment es)
+  pub fewer_on : (test : K → Bool) (side : Bool) (es : List (K × V)) → AllOn test side es → AllOn test side (alive_entries due moment es)
   fewer_on test side [] all = tt
   fewer_on test side (e ∷ es) all =
-      elim (is_above moment (due e.1)) as (λ b. AllOn test side (cond b (e ∷ alive due moment es) (alive due moment es))) [
+      elim (is_above moment (due e.1)) as (λ b. AllOn test side (cond b (e ∷ alive_entries due moment es) (alive_entries due moment es))) [
         | true ↦ (all.0, fewer_on test side es all.1)
         | false ↦ fewer_on test side es all.1
       ]
@@ -106,7 +106,7 @@ module _ {K V : Type 0} (due : V → Option ℕ) (moment : ℕ) where
         let same : length (pairs s) ≡ length (pairs l ++ pairs r) = ap length e in
         let fewer : length (pairs l ++ pairs r) ≤ length (pairs old) = is.fewer in
         record {
-          same = ap (alive due moment) e ∙ is.same;
+          same = ap (alive_entries due moment) e ∙ is.same;
           sides = λ test side all. subst (AllOn test side) (sym e) (is.sides test side all);
           trie = small_trie bit bits depth s few;
           fewer = omega arith;

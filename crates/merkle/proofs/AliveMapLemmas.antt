@@ -8,7 +8,7 @@ use Rattle.std.specs.Cmp.{IsTotalOrder}
 use Rattle.std.specs.FinMap.{FinMap, empty, entries, from_sorted, find, is_sorted, len, IsAntisymmetric, entries_sorted, same_map, get-entries, get-from_entries, get-from_sorted, from_entries, len-entries, len-empty, len-insert}
 use Rattle.std.specs.FinMap.Entries.{below_all}
 use Rattle.std.proofs.lemmas.Bool.{and_parts, and_from}
-use Rattle.merkle.specs.Alive.{is_above, alive, alive_map}
+use Rattle.merkle.specs.Alive.{is_above, alive_entries, alive_map}
 use Rattle.merkle.specs.Shape.{Shape, pairs, IsTrie, least}
 use Rattle.merkle.proofs.AliveLemmas.{all_alive, fewer_alive}
 use Rattle.merkle.proofs.FindLemmas.{equal_of}
@@ -92,7 +92,7 @@ module _ {K V : Type 0} {R : K → K → Ordering} (o : IsTotalOrder R) (same : 
       ∙ sym (get-from_sorted R (filter (λ e. p e.1) (entries m)) q rises ∙ find_alive q (entries m) (sorted_unique (entries m) (entries_sorted m))))
 
 module _ {K V : Type 0} {R : K → K → Ordering} (o : IsTotalOrder R) (same : IsAntisymmetric R) where
-  pub dropped : (due : V → Option ℕ) (moment : ℕ) (bit : K → ℕ → Bool) (bits : ℕ) (s : Shape K V) (new : List (K × V)) → IsTrie bit bits 0 s → new ≡ alive due moment (pairs s) → from_entries {R = R} new ≡ alive_map due moment (from_entries (pairs s))
+  pub dropped : (due : V → Option ℕ) (moment : ℕ) (bit : K → ℕ → Bool) (bits : ℕ) (s : Shape K V) (new : List (K × V)) → IsTrie bit bits 0 s → new ≡ alive_entries due moment (pairs s) → from_entries {R = R} new ≡ alive_map due moment (from_entries (pairs s))
   dropped due moment bit bits s new st e = ap (λ es. from_entries {R = R} es) e ∙ alive_of_map o same (λ v. is_above moment (due v)) (pairs s) (unique_pairs o same bit bits 0 s st)
 
   -- a map of entries in which no key comes twice has as many
@@ -109,7 +109,7 @@ module _ {K V : Type 0} {R : K → K → Ordering} (o : IsTotalOrder R) (same : 
   pub some_due : (due : V → Option ℕ) (moment : ℕ) (bit : K → ℕ → Bool) (bits : ℕ) (s : Shape K V) → IsTrie bit bits 0 s → is_above moment (least due s) ≡ false → alive_map due moment (from_entries {R = R} (pairs s)) ≡ from_entries (pairs s) → ⊥
   some_due due moment bit bits s st low e =
       let u = unique_pairs o same bit bits 0 s st in
-      let left : List (K × V) = alive due moment (pairs s) in
+      let left : List (K × V) = alive_entries due moment (pairs s) in
       let less : length left < length (pairs s) = fewer_alive due moment s low in
       let as_many : length left ≡ length (pairs s) = sym (length_unique left (unique_alive o same (λ v. is_above moment (due v)) (pairs s) u)) ∙ ap (λ m. length (entries m)) (dropped due moment bit bits s left st refl ∙ e) ∙ length_unique (pairs s) u in
       omega arith

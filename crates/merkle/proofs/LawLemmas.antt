@@ -13,7 +13,7 @@ use Rattle.wire.specs.FrontLaws.{split_at}
 use Rattle.merkle.specs.Shape.{Shape, none, one, fork, pairs, leaf_text, fork_text, hash_of}
 use Rattle.merkle.specs.Digest.{on_side, fork_over, chain_of, tree_of, texts_of, map_tree, map_pairs, map_texts, map_digest}
 use Rattle.wire.specs.Distinct.{Distinct}
-use Rattle.merkle.specs.Laws.{AreAmong, IsExact, TellsMaps}
+use Rattle.merkle.specs.Laws.{TextsAreAmong, IsExact, TellsMaps}
 use Rattle.merkle.proofs.PutLemmas.{or_else, find_append}
 
 not-not : (b : Bool) → not (not b) ≡ b
@@ -36,19 +36,19 @@ not_empty : (x : ℕ) (xs : List ℕ) → [] ≡ x ∷ xs → ⊥
 not_empty x xs e = cc
 
 module _ (among : List ℕ → Type 0) where
-  first_among : (x : List ℕ) (xs : List (List ℕ)) → AreAmong (x ∷ xs) among → among x
+  first_among : (x : List ℕ) (xs : List (List ℕ)) → TextsAreAmong (x ∷ xs) among → among x
   first_among x xs h = h.each x (0, omega arith, refl)
 
-  rest_among : (x : List ℕ) (xs : List (List ℕ)) → AreAmong (x ∷ xs) among → AreAmong xs among
+  rest_among : (x : List ℕ) (xs : List (List ℕ)) → TextsAreAmong (x ∷ xs) among → TextsAreAmong xs among
   rest_among x xs h = record { each = later }
     where
       later : (y : List ℕ) → Contains xs y → among y
       later y (k, lt, e) = h.each y (suc k, omega (arith, lt), e)
 
-  left_among : (xs ys : List (List ℕ)) → AreAmong (xs ++ ys) among → AreAmong xs among
+  left_among : (xs ys : List (List ℕ)) → TextsAreAmong (xs ++ ys) among → TextsAreAmong xs among
   left_among xs ys h = record { each = λ x c. h.each x (Contains-append_left xs ys x c) }
 
-  right_among : (xs ys : List (List ℕ)) → AreAmong (xs ++ ys) among → AreAmong ys among
+  right_among : (xs ys : List (List ℕ)) → TextsAreAmong (xs ++ ys) among → TextsAreAmong ys among
   right_among xs ys h = record { each = λ x c. h.each x (Contains-append_right xs ys x c) }
 
 module _ {K V : Type 0} (text : K → V → List ℕ) where
@@ -63,7 +63,7 @@ module _ {K V : Type 0} (text : K → V → List ℕ) where
     same_leaf k j v w e = (let both = exact k j v w (ap tail_of e) in λ i. one (both.0 i) (both.1 i))
 
     -- trees of one digest are one tree
-    told : (s t : Shape K V) → AreAmong (texts_of text s) among → AreAmong (texts_of text t) among → hash_of text s ≡ hash_of text t → s ≡ t
+    told : (s t : Shape K V) → TextsAreAmong (texts_of text s) among → TextsAreAmong (texts_of text t) among → hash_of text s ≡ hash_of text t → s ≡ t
     told none none p q d = refl
     told none (one k v) p q d = absurd (not_empty 5 _ (distinct _ _ (first_among among _ _ p) (first_among among _ _ q) d))
     told none (fork l r) p q d = absurd (not_empty 1 _ (distinct _ _ (first_among among _ _ p) (first_among among _ _ q) d))
@@ -144,7 +144,7 @@ unfolding map_tree
 pairs_make o same bit bits m = same_map o same _ _ (λ q. get-from_entries o (map_pairs bit bits m) q ∙ found same bit bits 0 q (entries m) ∙ sym (get-entries m q))
 
 pub same_maps : {K V : Type 0} {R : K → K → Ordering} → IsTotalOrder R → IsAntisymmetric R → (text : K → V → List ℕ) (bit : K → ℕ → Bool) (bits : ℕ) → IsExact text → (among : List ℕ → Type 0) → Distinct among → (m n : FinMap R V)
-    → AreAmong (map_texts text bit bits m) among → AreAmong (map_texts text bit bits n) among → map_digest text bit bits m ≡ map_digest text bit bits n → m ≡ n
+    → TextsAreAmong (map_texts text bit bits m) among → TextsAreAmong (map_texts text bit bits n) among → map_digest text bit bits m ≡ map_digest text bit bits n → m ≡ n
 unfolding map_tree
 same_maps {R = R} o same text bit bits exact among distinct m n p q d =
     let e = told text exact among distinct (tree_of bit bits 0 (entries m)) (tree_of bit bits 0 (entries n)) p q d in

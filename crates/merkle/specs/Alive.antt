@@ -10,19 +10,19 @@ is_above moment None = true
 is_above moment (Some t) = nat_lt moment t
 
 -- those that are there
-abbrev pub alive : {K V : Type 0} → (V → Option ℕ) → ℕ → List (K × V) → List (K × V)
-alive due moment es = filter (λ e. is_above moment (due e.1)) es
+abbrev pub alive_entries : {K V : Type 0} → (V → Option ℕ) → ℕ → List (K × V) → List (K × V)
+alive_entries due moment es = filter (λ e. is_above moment (due e.1)) es
 
 -- a tree at this depth of which a part of what is due was dropped, and nothing else
 pub record IsPartOf {K V : Type 0} (due : V → Option ℕ) (bit : K → ℕ → Bool) (bits depth moment : ℕ) (old new : Shape K V) : Type 0 where
-  pub same : alive due moment (pairs new) ≡ alive due moment (pairs old)
+  pub same : alive_entries due moment (pairs new) ≡ alive_entries due moment (pairs old)
   pub sides : (test : K → Bool) (side : Bool) → AllOn test side (pairs old) → AllOn test side (pairs new)
   pub trie : IsTrie bit bits depth new
   pub fewer : length (pairs new) ≤ length (pairs old)
 
 -- the same of a fork, over which there may be less than two keys
 pub record IsLessOf {K V : Type 0} (due : V → Option ℕ) (bit : K → ℕ → Bool) (bits depth moment : ℕ) (old left right : Shape K V) : Type 0 where
-  pub same : alive due moment (pairs left ++ pairs right) ≡ alive due moment (pairs old)
+  pub same : alive_entries due moment (pairs left ++ pairs right) ≡ alive_entries due moment (pairs old)
   pub sides : (test : K → Bool) (side : Bool) → AllOn test side (pairs old) → AllOn test side (pairs left ++ pairs right)
   pub within : depth < bits
   pub lefts : AllOn (λ k. bit k depth) false (pairs left)
@@ -33,8 +33,8 @@ pub record IsLessOf {K V : Type 0} (due : V → Option ℕ) (bit : K → ℕ →
 
 -- nothing of it is due
 abbrev pub IsAlive : {K V : Type 0} → (V → Option ℕ) → ℕ → Shape K V → Type 0
-IsAlive due moment s = alive due moment (pairs s) ≡ pairs s
+IsAlive due moment s = alive_entries due moment (pairs s) ≡ pairs s
 
 -- the same of a map
 abbrev pub alive_map : {K V : Type 0} {R : K → K → Ordering} → (V → Option ℕ) → ℕ → FinMap R V → FinMap R V
-alive_map due moment m = from_sorted (alive due moment (entries m))
+alive_map due moment m = from_sorted (alive_entries due moment (entries m))

@@ -21,8 +21,8 @@ metric_help metric.Commands = codes "Commands that were answered, by command and
 metric_help metric.Lines = codes "Lines that were answered without the replicas."
 metric_help metric.NodeUp = codes "Whether the executor or verifier is up."
 metric_help metric.NodeStops = codes "Times that the executor or verifier was found down."
-metric_help metric.ReplySeconds = codes "Time from the last byte of a command to its reply."
-metric_help metric.BatchSeconds = codes "Time from the cut of a batch to its replies."
+metric_help metric.ReplySeconds = codes "Time from when a command is ready in the service to its reply."
+metric_help metric.BatchSeconds = codes "Time of a round of the service that answered commands."
 
 abbrev pub metric_type_of : Metric → MetricType
 metric_type_of (metric.Plain p) = plain_type p

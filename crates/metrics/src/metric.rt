@@ -77,8 +77,8 @@ impl Metric {
             Metric::Lines => "Lines that were answered without the replicas.",
             Metric::NodeUp => "Whether the executor or verifier is up.",
             Metric::NodeStops => "Times that the executor or verifier was found down.",
-            Metric::ReplySeconds => "Time from the last byte of a command to its reply.",
-            Metric::BatchSeconds => "Time from the cut of a batch to its replies.",
+            Metric::ReplySeconds => "Time from when a command is ready in the service to its reply.",
+            Metric::BatchSeconds => "Time of a round of the service that answered commands.",
         }
     }
 

@@ -77,7 +77,7 @@ impl Plain {
             Plain::KeysAsked => "Keys of get, gets, gat and gats.",
             Plain::KeysFound => "Keys of get, gets, gat and gats that were found.",
             Plain::Batches => "Batches that were cut.",
-            Plain::BatchRequests => "Requests in all batches.",
+            Plain::BatchRequests => "Requests that were answered, each once.",
             Plain::Commits => "Batches that were committed.",
             Plain::Rollbacks => "Rollbacks that were decided.",
             Plain::Epoch => "The epoch. Each rollback raises it.",

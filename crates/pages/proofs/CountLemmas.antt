@@ -9,7 +9,7 @@ use Rattle.std.proofs.lemmas.Grind.{flat_map-append}
 use Rattle.items.specs.declared.item.Item.{Item}
 use Rattle.items.specs.Map.{Items}
 use Rattle.pages.specs.Page.{page_number, page_count, page_items, item_count}
-use Rattle.pages.specs.Joined.{ArePages, joined}
+use Rattle.pages.specs.Joined.{ArePages, joined_pages}
 use Rattle.pages.proofs.JoinedLemmas.{page_number-lt, no_items}
 use Rattle.pages.proofs.PartLemmas.{entries-page_items, parts-joined}
 
@@ -72,9 +72,9 @@ part_entries m a zero = refl
 part_entries m a (suc n) = λ i. entries-page_items m a i ++ part_entries m (a + 1) n i
 
 -- pages have as many items as the map that they are together
-pub count-joined : (pages : List Items) → ArePages pages → item_count pages ≡ length (entries (joined pages))
+pub count-joined : (pages : List Items) → ArePages pages → item_count pages ≡ length (entries (joined_pages pages))
 count-joined pages a =
-    ap item_count (sym (parts-joined pages a)) ∙ ap length (part_entries (joined pages) 0 page_count) ∙ all_of (entries (joined pages))
+    ap item_count (sym (parts-joined pages a)) ∙ ap length (part_entries (joined_pages pages) 0 page_count) ∙ all_of (entries (joined_pages pages))
 
 -- the items of one page more
 pub count-next : (pages : List Items) (n : ℕ) → n < length pages → item_count (take (n + 1) pages) ≡ item_count (take n pages) + length (entries (get_or pages n no_items))

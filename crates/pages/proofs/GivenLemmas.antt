@@ -13,7 +13,7 @@ use Rattle.items.specs.declared.item.Item.{Item}
 use Rattle.items.specs.Map.{Items, by_bytes}
 use Rattle.token.specs.declared.tree.TheConstants.{OLD_PAGES}
 use Rattle.pages.specs.Page.{number_among, page_entries, page_number, page_count, of_each}
-use Rattle.pages.specs.Joined.{IsOwn, AreOwn, ArePages, joined}
+use Rattle.pages.specs.Joined.{IsOwn, AreOwn, ArePages, joined_pages}
 use Rattle.pages.specs.Old.{old_entries, part_of_old, IsOldPage, AreGiven, given_at, given_or, part_given, page_over_old}
 use Rattle.pages.proofs.KeyLemmas.{same_key, all_keys}
 use Rattle.pages.proofs.JoinedLemmas.{no_items, joined_at, own-page, page_number-lt, same_number}
@@ -68,7 +68,7 @@ all-own p (e ∷ es) own =
 
 module _ (before : List Items) (a : ArePages before) (given : List (Option (List (List ℕ × Item)))) (are : AreGiven given) where
   whole : Items
-  whole = joined before
+  whole = joined_pages before
 
   each : (n : ℕ) → IfSome (given_at given (n % OLD_PAGES)) (IsOldPage (n % OLD_PAGES))
   each n = are.each (n % OLD_PAGES) (mod-lt n (omega arith))
@@ -89,19 +89,19 @@ module _ (before : List Items) (a : ArePages before) (given : List (Option (List
   pub given-pages : ArePages (of_each (page_over_old before given))
   given-pages = (length-map-range_with_len (page_over_old before given) 0 page_count, own_from 0 page_count)
 
-  get_given : (q : List ℕ) → get (joined (of_each (page_over_old before given))) q ≡ get (page_over_old before given (page_number q)) q
+  get_given : (q : List ℕ) → get (joined_pages (of_each (page_over_old before given))) q ≡ get (page_over_old before given (page_number q)) q
   get_given q =
       joined_at (of_each (page_over_old before given)) q given-pages
       ∙ ap (λ (m : Items). get m q) (get_or-map-range_with_len (page_over_old before given) 0 page_count (page_number q) (page_number q) no_items (page_number-lt q) (omega arith))
 
   -- what stands at a key of old page p
   get_over : (p : ℕ) (o : Option (List (List ℕ × Item))) (q : List ℕ) → given_at given p ≡ o → number_among OLD_PAGES q ≡ p
-      → get (joined (of_each (page_over_old before given))) q ≡ get (part_given (page_number q) (get_or before (page_number q) no_items) o) q
+      → get (joined_pages (of_each (page_over_old before given))) q ≡ get (part_given (page_number q) (get_or before (page_number q) no_items) o) q
   get_over p o q is here =
       get_given q ∙ ap (λ o. get (part_given (page_number q) (get_or before (page_number q) no_items) o) q) (ap (given_at given) (old-number q ∙ here) ∙ is)
 
-  old_is : (p : ℕ) (o : Option (List (List ℕ × Item))) → given_at given p ≡ o → IfSome o (IsOldPage p) → old_entries (joined (of_each (page_over_old before given))) p ≡ given_or (joined before) p o
-  old_is p None is own = same_old _ (joined before) p (λ q here. get_over p None q is here ∙ sym (joined_at before q a))
+  old_is : (p : ℕ) (o : Option (List (List ℕ × Item))) → given_at given p ≡ o → IfSome o (IsOldPage p) → old_entries (joined_pages (of_each (page_over_old before given))) p ≡ given_or (joined_pages before) p o
+  old_is p None is own = same_old _ (joined_pages before) p (λ q here. get_over p None q is here ∙ sym (joined_at before q a))
   old_is p (Some es) is own =
       same_old _ (made es) p (λ q here.
       get_over p (Some es) q is here ∙ get-part page_number (page_number q) es (as_t _ own.fit.rising) q
@@ -109,7 +109,7 @@ module _ (before : List Items) (a : ArePages before) (given : List (Option (List
       ∙ ap (filter (λ e. number_among OLD_PAGES e.0 == p)) (entries-from_sorted by_bytes es (as_t _ own.fit.rising)) ∙ all-own p es own.own
 
   -- each old page has the entries that are given, or else those it had
-  pub given-old : (p : ℕ) → p < OLD_PAGES → old_entries (joined (of_each (page_over_old before given))) p ≡ given_or (joined before) p (given_at given p)
+  pub given-old : (p : ℕ) → p < OLD_PAGES → old_entries (joined_pages (of_each (page_over_old before given))) p ≡ given_or (joined_pages before) p (given_at given p)
   given-old p l = old_is p (given_at given p) refl (are.each p l)
 
 -- maps with the same entries in the four pages of an old page have the same there

@@ -13,7 +13,7 @@ use Rattle.items.specs.declared.item.Item.{Item}
 use Rattle.items.specs.Map.{Items, by_bytes, alive, is_alive}
 use Rattle.items.proofs.AliveLemmas.{get-alive}
 use Rattle.pages.specs.Page.{page_number, page_count}
-use Rattle.pages.specs.Joined.{IsOwn, AreOwn, ArePages, joined}
+use Rattle.pages.specs.Joined.{IsOwn, AreOwn, ArePages, joined_pages}
 use Rattle.pages.proofs.KeyLemmas.{same_key, other_key, all_keys}
 
 -- the first value, or else the second
@@ -33,18 +33,18 @@ find-both q (x ∷ xs) ys = elim (eq_by_cmp by_bytes q x.0) as (λ b. cond b (So
 ]
 
 -- a first page, and the others
-get-joined : (m : Items) (pages : List Items) (q : List ℕ) → get (joined (m ∷ pages)) q ≡ or_else (get m q) (get (joined pages) q)
+get-joined : (m : Items) (pages : List Items) (q : List ℕ) → get (joined_pages (m ∷ pages)) q ≡ or_else (get m q) (get (joined_pages pages) q)
 get-joined m pages q = get-from_entries nat_list_cmp_total (entries m ++ flat_map entries pages) q
     ∙ find-both q (entries m) (flat_map entries pages)
     ∙ (λ i. or_else (sym (get-entries m q) i) (sym (get-from_entries nat_list_cmp_total (flat_map entries pages) q) i))
 
 -- no page before its own has the key
-below : (p : ℕ) (pages : List Items) (q : List ℕ) → AreOwn p pages → page_number q < p → get (joined pages) q ≡ None
+below : (p : ℕ) (pages : List Items) (q : List ℕ) → AreOwn p pages → page_number q < p → get (joined_pages pages) q ≡ None
 below p [] q own l = get-empty by_bytes q
 below p (m ∷ pages) q own l =
     get-joined m pages q ∙ (λ i. or_else (own.0 q (omega arith) i) (below (p + 1) pages q own.1 (omega arith) i))
 
-from_page : (p : ℕ) (pages : List Items) (q : List ℕ) → AreOwn p pages → p ≤ page_number q → get (joined pages) q ≡ get (get_or pages (page_number q - p) empty) q
+from_page : (p : ℕ) (pages : List Items) (q : List ℕ) → AreOwn p pages → p ≤ page_number q → get (joined_pages pages) q ≡ get (get_or pages (page_number q - p) empty) q
 from_page p [] q own l = refl
 from_page p (m ∷ pages) q own l = elim (eq-or-lt_of_le l) [
   | inl e ↦
@@ -59,7 +59,7 @@ from_page p (m ∷ pages) q own l = elim (eq-or-lt_of_le l) [
 ]
 
 -- a key stands in the page of its number alone
-pub joined_at : (pages : List Items) (q : List ℕ) → ArePages pages → get (joined pages) q ≡ get (get_or pages (page_number q) empty) q
+pub joined_at : (pages : List Items) (q : List ℕ) → ArePages pages → get (joined_pages pages) q ≡ get (get_or pages (page_number q) empty) q
 joined_at pages q a =
     let same : page_number q - 0 ≡ page_number q = omega arith in
     from_page 0 pages q a.1 (omega arith) ∙ ap (λ k. get (get_or pages k empty) q) same
@@ -116,10 +116,10 @@ page_number-lt q = mod-lt (sum q) (omega arith)
 
 -- what stands at a key of pages of which one was changed
 at_set : (pages : List Items) (i : ℕ) (m : Items) (q : List ℕ) → ArePages pages → IsOwn i m → i < page_count
-    → get (joined (set pages i m)) q ≡ cond (page_number q == i) (get m q) (get (joined pages) q)
+    → get (joined_pages (set pages i m)) q ≡ cond (page_number q == i) (get m q) (get (joined_pages pages) q)
 at_set pages i m q a own l = joined_at (set pages i m) q (pages-set pages i m a own) ∙ by (page_number q == i) refl
   where
-    by : (b : Bool) → (page_number q == i) ≡ b → get (get_or (set pages i m) (page_number q) empty) q ≡ cond b (get m q) (get (joined pages) q)
+    by : (b : Bool) → (page_number q == i) ≡ b → get (get_or (set pages i m) (page_number q) empty) q ≡ cond b (get m q) (get (joined_pages pages) q)
     by true e =
         let here : page_number q ≡ i = grind (arith, nat_tests) in
         let within : i < length pages = rw a.0 l in
@@ -139,37 +139,37 @@ module _ (pages : List Items) (a : ArePages pages) (k : List ℕ) where
   -- an edit of one key in its page is the edit of the whole
   edited : (m all : Items) (w : Option Item) → IsOwn (page_number k) m
       → ((q : List ℕ) → get m q ≡ cond (eq_by_cmp by_bytes q k) w (get page_of q))
-      → ((q : List ℕ) → get all q ≡ cond (eq_by_cmp by_bytes q k) w (get (joined pages) q))
-      → joined (set pages (page_number k) m) ≡ all
+      → ((q : List ℕ) → get all q ≡ cond (eq_by_cmp by_bytes q k) w (get (joined_pages pages) q))
+      → joined_pages (set pages (page_number k) m) ≡ all
   edited m all w own part whole = all_keys _ _ (λ q. at_set pages (page_number k) m q a own (page_number-lt k) ∙ at q ∙ sym (whole q))
     where
-      at : (q : List ℕ) → cond (page_number q == page_number k) (get m q) (get (joined pages) q) ≡ cond (eq_by_cmp by_bytes q k) w (get (joined pages) q)
+      at : (q : List ℕ) → cond (page_number q == page_number k) (get m q) (get (joined_pages pages) q) ≡ cond (eq_by_cmp by_bytes q k) w (get (joined_pages pages) q)
       at q = by (eq_by_cmp by_bytes q k) refl
         where
-          by : (b : Bool) → eq_by_cmp by_bytes q k ≡ b → cond (page_number q == page_number k) (get m q) (get (joined pages) q) ≡ cond b w (get (joined pages) q)
+          by : (b : Bool) → eq_by_cmp by_bytes q k ≡ b → cond (page_number q == page_number k) (get m q) (get (joined_pages pages) q) ≡ cond b w (get (joined_pages pages) q)
           by true e =
               let here : (page_number q == page_number k) ≡ true = ap (λ x. page_number x == page_number k) (same_key q k e) ∙ same_number (page_number k) in
               rw here (part q ∙ ap (λ b. cond b w (get page_of q)) e)
           by false e = elsewhere (page_number q == page_number k) refl
             where
-              elsewhere : (c : Bool) → (page_number q == page_number k) ≡ c → cond c (get m q) (get (joined pages) q) ≡ get (joined pages) q
+              elsewhere : (c : Bool) → (page_number q == page_number k) ≡ c → cond c (get m q) (get (joined_pages pages) q) ≡ get (joined_pages pages) q
               elsewhere true is =
                   let here : page_number k ≡ page_number q = grind (arith, nat_tests) in
                   part q ∙ ap (λ b. cond b w (get page_of q)) e ∙ ap (λ n. get (get_or pages n empty) q) here ∙ sym (joined_at pages q a)
               elsewhere false is = refl
 
-  pub joined-insert : (v : Item) → ArePages (set pages (page_number k) (insert page_of k v)) × (joined (set pages (page_number k) (insert page_of k v)) ≡ insert (joined pages) k v)
+  pub joined-insert : (v : Item) → ArePages (set pages (page_number k) (insert page_of k v)) × (joined_pages (set pages (page_number k) (insert page_of k v)) ≡ insert (joined_pages pages) k v)
   joined-insert v =
       let own = own-insert (page_number k) page_of k v (own-page pages (page_number k) a) refl in (
         pages-set pages (page_number k) (insert page_of k v) a own,
-        edited (insert page_of k v) (insert (joined pages) k v) (Some v) own (get-insert nat_list_cmp_total page_of k v) (get-insert nat_list_cmp_total (joined pages) k v),
+        edited (insert page_of k v) (insert (joined_pages pages) k v) (Some v) own (get-insert nat_list_cmp_total page_of k v) (get-insert nat_list_cmp_total (joined_pages pages) k v),
       )
 
-  pub joined-remove : ArePages (set pages (page_number k) (remove page_of k)) × (joined (set pages (page_number k) (remove page_of k)) ≡ remove (joined pages) k)
+  pub joined-remove : ArePages (set pages (page_number k) (remove page_of k)) × (joined_pages (set pages (page_number k) (remove page_of k)) ≡ remove (joined_pages pages) k)
   joined-remove =
       let own = own-remove (page_number k) page_of k (own-page pages (page_number k) a) in (
         pages-set pages (page_number k) (remove page_of k) a own,
-        edited (remove page_of k) (remove (joined pages) k) None own (get-remove nat_list_cmp_total page_of k) (get-remove nat_list_cmp_total (joined pages) k),
+        edited (remove page_of k) (remove (joined_pages pages) k) None own (get-remove nat_list_cmp_total page_of k) (get-remove nat_list_cmp_total (joined_pages pages) k),
       )
 
 are_alive : (p : ℕ) (pages : List Items) (moment : ℕ) → AreOwn p pages → AreOwn p (map (λ m. alive m moment) pages)
@@ -185,12 +185,12 @@ alive_at (m ∷ pages) moment zero = refl
 alive_at (m ∷ pages) moment (suc i) = alive_at pages moment i
 
 -- what is due is dropped from each page
-pub joined-alive : (pages : List Items) (moment : ℕ) → ArePages pages → ArePages (map (λ m. alive m moment) pages) × (joined (map (λ m. alive m moment) pages) ≡ alive (joined pages) moment)
+pub joined-alive : (pages : List Items) (moment : ℕ) → ArePages pages → ArePages (map (λ m. alive m moment) pages) × (joined_pages (map (λ m. alive m moment) pages) ≡ alive (joined_pages pages) moment)
 joined-alive pages moment a =
     let still : ArePages (map (λ m. alive m moment) pages) = (length-map pages (λ m. alive m moment) ∙ a.0, are_alive 0 pages moment a.1) in (
       still,
       all_keys _ _ (λ q. joined_at (map (λ m. alive m moment) pages) q still ∙ ap (λ m. get m q) (alive_at pages moment (page_number q))
-          ∙ get-alive (get_or pages (page_number q) empty) moment q ∙ ap (option_filter (is_alive moment)) (sym (joined_at pages q a)) ∙ sym (get-alive (joined pages) moment q)),
+          ∙ get-alive (get_or pages (page_number q) empty) moment q ∙ ap (option_filter (is_alive moment)) (sym (joined_at pages q a)) ∙ sym (get-alive (joined_pages pages) moment q)),
     )
 
 abbrev pub no_items : Items
@@ -201,10 +201,10 @@ are_empty p zero = tt
 are_empty p (suc n) = (own-empty p, are_empty (p + 1) n)
 
 -- pages with nothing in them
-pub joined-empty : ArePages (replicate page_count no_items) × (joined (replicate page_count no_items) ≡ empty)
+pub joined-empty : ArePages (replicate page_count no_items) × (joined_pages (replicate page_count no_items) ≡ empty)
 joined-empty =
     let are : ArePages (replicate page_count no_items) = (length-replicate page_count no_items, are_empty 0 page_count) in
-    (are, all_keys (joined (replicate page_count no_items)) empty (λ q. joined_at (replicate page_count no_items) q are ∙ ap (λ (m : Items). get m q) (at page_count (page_number q))))
+    (are, all_keys (joined_pages (replicate page_count no_items)) empty (λ q. joined_at (replicate page_count no_items) q are ∙ ap (λ (m : Items). get m q) (at page_count (page_number q))))
   where
     at : (n i : ℕ) → get_or (replicate n no_items) i no_items ≡ no_items
     at zero i = refl

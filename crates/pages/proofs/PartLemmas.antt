@@ -9,7 +9,7 @@ use Rattle.std.proofs.lemmas.Bool.Decides.{nat_tests}
 use Rattle.std.proofs.lemmas.List.FromFn.{length-map-range_with_len, get_or-map-range_with_len, fill_by_all}
 use Rattle.items.specs.Map.{Items, by_bytes}
 use Rattle.pages.specs.Page.{page_number, page_count, page_entries, page_items}
-use Rattle.pages.specs.Joined.{IsOwn, AreOwn, ArePages, joined, parts}
+use Rattle.pages.specs.Joined.{IsOwn, AreOwn, ArePages, joined_pages, parts}
 use Rattle.pages.proofs.KeyLemmas.{same_key, all_keys}
 use Rattle.pages.proofs.JoinedLemmas.{joined_at, own-page, page_number-lt, same_number, no_items}
 
@@ -39,9 +39,9 @@ module _ (m : Items) (p : ℕ) where
       by false e = refl
 
 -- a page of the whole is the part of its number
-pub page-items : (pages : List Items) (i : ℕ) → ArePages pages → get_or pages i no_items ≡ page_items (joined pages) i
+pub page-items : (pages : List Items) (i : ℕ) → ArePages pages → get_or pages i no_items ≡ page_items (joined_pages pages) i
 page-items pages i a = all_keys _ _ (λ q.
-    sym (get-page_items (joined pages) i q ∙ ap (λ x. cond (page_number q == i) x None) (joined_at pages q a) ∙ at q (page_number q == i) refl))
+    sym (get-page_items (joined_pages pages) i q ∙ ap (λ x. cond (page_number q == i) x None) (joined_at pages q a) ∙ at q (page_number q == i) refl))
   where
     at : (q : List ℕ) (b : Bool) → (page_number q == i) ≡ b → cond b (get (get_or pages (page_number q) no_items) q) None ≡ get (get_or pages i no_items) q
     at q true e =
@@ -52,8 +52,8 @@ page-items pages i a = all_keys _ _ (λ q.
         sym (own-page pages i a q other)
 
 -- and its entries are those of the whole whose keys have its number
-pub page-entries : (pages : List Items) (i : ℕ) → ArePages pages → entries (get_or pages i no_items) ≡ page_entries (joined pages) i
-page-entries pages i a = ap entries (page-items pages i a) ∙ entries-page_items (joined pages) i
+pub page-entries : (pages : List Items) (i : ℕ) → ArePages pages → entries (get_or pages i no_items) ≡ page_entries (joined_pages pages) i
+page-entries pages i a = ap entries (page-items pages i a) ∙ entries-page_items (joined_pages pages) i
 
 own_parts : (m : Items) (p n : ℕ) → AreOwn p (map (page_items m) (range_with_len p n))
 own_parts m p zero = tt
@@ -64,12 +64,12 @@ pub parts-are : (m : Items) → ArePages (parts m)
 parts-are m = (length-map-range_with_len (page_items m) 0 page_count, own_parts m 0 page_count)
 
 -- which are that map together
-pub joined-parts : (m : Items) → joined (parts m) ≡ m
+pub joined-parts : (m : Items) → joined_pages (parts m) ≡ m
 joined-parts m = all_keys _ _ (λ q.
     joined_at (parts m) q (parts-are m)
     ∙ ap (λ n. get n q) (get_or-map-range_with_len (page_items m) 0 page_count (page_number q) (page_number q) no_items (page_number-lt q) (omega arith))
     ∙ get-page_items m (page_number q) q ∙ ap (λ b. cond b (get m q) None) (same_number (page_number q)))
 
 -- and the parts of joined pages are those pages
-pub parts-joined : (pages : List Items) → ArePages pages → parts (joined pages) ≡ pages
-parts-joined pages a = sym (fill_by_all (page_items (joined pages)) pages page_count no_items a.0 (λ k l. page-items pages k a))
+pub parts-joined : (pages : List Items) → ArePages pages → parts (joined_pages pages) ≡ pages
+parts-joined pages a = sym (fill_by_all (page_items (joined_pages pages)) pages page_count no_items a.0 (λ k l. page-items pages k a))

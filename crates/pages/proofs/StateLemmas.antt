@@ -8,7 +8,7 @@ use Rattle.items.specs.Map.{Items}
 use Rattle.pages.specs.Page.{PageState, page_count, page_entries, page_items, page_digest_in, sealed_in}
 use Rattle.pages.specs.Layout.{digest_in}
 use Rattle.pages.specs.declared.layout.Layout.{Layout}
-use Rattle.pages.specs.Joined.{ArePages, AreSealed, joined, items_of}
+use Rattle.pages.specs.Joined.{ArePages, AreSealed, joined_pages, items_of}
 use Rattle.pages.proofs.JoinedLemmas.{no_items, pages-set, own-page}
 use Rattle.pages.proofs.PartLemmas.{page-entries, page-items}
 
@@ -34,13 +34,13 @@ items-read pages i n page a at l read =
 
 -- the entries of a page that was read
 pub page-at : (pages : List PageState) (i : ℕ) (page : PageState) → ArePages (items_of pages) → i < page_count → page ≡ get_or pages i page
-    → entries page.items ≡ page_entries (joined (items_of pages)) i
+    → entries page.items ≡ page_entries (joined_pages (items_of pages)) i
 page-at pages i page a l read =
     ap entries (items-at pages i page (omega (arith, l, length-states pages a)) read) ∙ page-entries (items_of pages) i a
 
 -- the items of a page that was read, as a part of the whole
 pub part-at : (pages : List PageState) (i : ℕ) (page : PageState) → ArePages (items_of pages) → i < page_count → page ≡ get_or pages i page
-    → page.items ≡ page_items (joined (items_of pages)) i
+    → page.items ≡ page_items (joined_pages (items_of pages)) i
 part-at pages i page a l read = items-at pages i page (omega (arith, l, length-states pages a)) read ∙ page-items (items_of pages) i a
 
 -- its layout
@@ -50,7 +50,7 @@ laid-at layout pages i page sealed l read =
 
 -- its digest
 pub digest-at : (layout : Layout) (pages : List PageState) (i : ℕ) (page : PageState) → AreSealed layout pages → i < page_count → page ≡ get_or pages i page
-    → digest_in page.layout page.items ≡ page_digest_in layout (joined (items_of pages)) i
+    → digest_in page.layout page.items ≡ page_digest_in layout (joined_pages (items_of pages)) i
 digest-at layout pages i page sealed l read = λ j. digest_in (laid-at layout pages i page sealed l read j) (part-at pages i page sealed.are l read j)
 
 -- after an edit of each page before i, and now of page i
@@ -94,19 +94,19 @@ ok-items (Err e) new m layout sealed ok = tt
 pub edit-page : {E : Type 0} (r : Result (Unit {0}) E) (pages : List PageState) (i n : ℕ) (old new : PageState) (edit : Items → Items) (whole : Items)
     → ArePages (items_of pages) → i ≡ n → i < page_count → old ≡ get_or pages i old
     → OnOk r (new.items ≡ edit old.items) → OnErr r (new ≡ old)
-    → ArePages (set (items_of pages) n (edit (get_or (items_of pages) n no_items))) × (joined (set (items_of pages) n (edit (get_or (items_of pages) n no_items))) ≡ whole)
-    → ArePages (items_of (set pages i new)) × OnOk r (joined (items_of (set pages i new)) ≡ whole)
+    → ArePages (set (items_of pages) n (edit (get_or (items_of pages) n no_items))) × (joined_pages (set (items_of pages) n (edit (get_or (items_of pages) n no_items))) ≡ whole)
+    → ArePages (items_of (set pages i new)) × OnOk r (joined_pages (items_of (set pages i new)) ≡ whole)
 edit-page {E = E} r pages i n old new edit whole a at l read ok err done = by r ok err
   where
     here : old.items ≡ get_or (items_of pages) n no_items
     here = items-read pages i n old a at l read
 
     by : (r : Result (Unit {0}) E) → OnOk r (new.items ≡ edit old.items) → OnErr r (new ≡ old)
-        → ArePages (items_of (set pages i new)) × OnOk r (joined (items_of (set pages i new)) ≡ whole)
+        → ArePages (items_of (set pages i new)) × OnOk r (joined_pages (items_of (set pages i new)) ≡ whole)
     by (Ok x) ok err =
         let same : items_of (set pages i new) ≡ set (items_of pages) n (edit (get_or (items_of pages) n no_items)) =
         items-set pages i new ∙ (λ j. set (items_of pages) (at j) ((ok ∙ ap edit here) j)) in
-        (subst ArePages (sym same) done.0, ap joined same ∙ done.1)
+        (subst ArePages (sym same) done.0, ap joined_pages same ∙ done.1)
     by (Err e) ok err =
         let same : items_of (set pages i new) ≡ set (items_of pages) n (get_or (items_of pages) n no_items) =
         items-set pages i new ∙ (λ j. set (items_of pages) (at j) ((ap (λ (a : PageState). a.items) err ∙ here) j)) in

@@ -20,8 +20,8 @@ abbrev pub ArePages : List Items → Type 0
 ArePages pages = (length pages ≡ page_count) × AreOwn 0 pages
 
 -- the map of all pages
-abbrev pub joined : List Items → Items
-joined pages = from_entries (flat_map entries pages)
+abbrev pub joined_pages : List Items → Items
+joined_pages pages = from_entries (flat_map entries pages)
 
 -- the pages of a map
 abbrev pub parts : Items → List Items
@@ -40,4 +40,4 @@ pub record AreSealed (layout : Layout) (pages : List PageState) : Type 0 where
 -- Such pages beside the root over their digests.
 pub record IsSnapshot (layout : Layout) (pages : List PageState) (root : List ℕ) : Type 0 where
   pub sealed : AreSealed layout pages
-  pub rooted : root ≡ root_in layout (joined (items_of pages))
+  pub rooted : root ≡ root_in layout (joined_pages (items_of pages))

@@ -23,11 +23,11 @@ text_prefix_free Sorted = made_of page_prefix_free (text_in Sorted) entries from
 text_prefix_free Tree = tree_prefix_free
 
 -- the first byte of a text tells its layout
-abbrev pub mark_of : Layout → ℕ
-mark_of Sorted = 0
-mark_of Tree = 6
+abbrev pub layout_mark : Layout → ℕ
+layout_mark Sorted = 0
+layout_mark Tree = 6
 
-pub begins : (layout : Layout) (m : Items) (rest : List ℕ) → head_of (text_in layout m ++ rest) ≡ mark_of layout
+pub begins : (layout : Layout) (m : Items) (rest : List ℕ) → head_of (text_in layout m ++ rest) ≡ layout_mark layout
 unfolding page_text tree_text
 begins Sorted m rest = refl
 begins Tree m rest = refl
@@ -44,7 +44,7 @@ laid_record_free = record { apart = apart }
         let both = (text_prefix_free l).apart m n r s e in
         (ap (laid l) both.0, both.1)
 
-    clash : (l k : Layout) (m n : Items) (r s : List ℕ) → text_in l m ++ r ≡ text_in k n ++ s → mark_of l ≡ mark_of k
+    clash : (l k : Layout) (m n : Items) (r s : List ℕ) → text_in l m ++ r ≡ text_in k n ++ s → layout_mark l ≡ layout_mark k
     clash l k m n r s e = sym (begins l m r) ∙ ap head_of e ∙ begins k n s
 
     by : (l k : Layout) (m n : Items) (r s : List ℕ) → text_in l m ++ r ≡ text_in k n ++ s → (laid l m ≡ laid k n) × (r ≡ s)

@@ -9,3 +9,4 @@ pub mod Tree
 pub mod Step
 pub mod Others
 pub mod Old
+pub mod Held

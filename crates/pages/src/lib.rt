@@ -20,6 +20,7 @@ mod laws;
 mod layout;
 mod number;
 mod old;
+mod own_pages;
 mod page;
 mod page_set;
 mod pages;

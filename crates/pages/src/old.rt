@@ -99,7 +99,7 @@ impl Pages {
         requires { AreGiven given.now }
         ensures { IfOk result (λ pages. (p : ℕ) → p < OLD_PAGES → old_entries pages p ≡ given_or self p (given_at given.now p)) }
     {
-        let before = self.part();
+        let before = self.part()?;
         Ok(Pages::join(pages_over(alloc, &before, given)?))
     }
 }

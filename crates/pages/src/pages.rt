@@ -1,12 +1,13 @@
-ghost use Rattle.std.specs.Prelude.{◌≡◌, ◌≤◌, ◌+◌, ◌-◌, ◌^◌, min, length, IfOk, OnOk, OnErr, map as map_list, replicate};
+ghost use Rattle.std.specs.Prelude.{◌≡◌, ◌≤◌, ◌+◌, ◌-◌, ◌^◌, min, length, true, IfOk, IfErr, OnOk, OnErr};
 ghost use Rattle.std.specs.FinMap as map;
 ghost use Rattle.items.specs.Map.{alive};
-ghost use Rattle.pages.specs.Page.{page_count, beside_due, sealed_in};
-ghost use Rattle.pages.specs.Joined.{ArePages, joined, parts, items_of};
+ghost use Rattle.pages.specs.Page.{page_count, beside_due};
+ghost use Rattle.pages.specs.Joined.{ArePages, joined_pages, parts, items_of};
+ghost use Rattle.pages.specs.Held.{items_held};
 
 use crate::layout::Layout;
-use crate::number::page_of;
-use crate::page::{Page, drop_from_all};
+use crate::own_pages::OwnPages;
+use crate::page::Page;
 use crate::snapshot::Snapshot;
 use items::{Item, Store};
 use proto::Key;
@@ -14,10 +15,46 @@ use std::alloc::{AllocError, Global};
 use std::marker::Model;
 use token::PAGES;
 
-/// A store of `PAGES` pages.
+/// What a store of pages has.
+#[derive(Drop)]
+enum Held {
+    /// The pages of a snapshot. Nothing was written.
+    Shared(Snapshot),
+    /// Pages of its own.
+    Own(OwnPages),
+}
+
+impl Held {
+    /// Pages of its own. The only error is a failed allocation.
+    fn own(self) -> Result<OwnPages, AllocError>
+        ensures { IfOk result (λ pages. pages ≡ items_held self) }
+    {
+        match self {
+            Held::Shared(snapshot) => snapshot.own(),
+            Held::Own(pages) => Ok(pages),
+        }
+    }
+
+    /// Drops what is due of pages of its own, and answers how many entries it looked at or copied.
+    fn drop_due_counted(&mut self, moment: u32) -> Result<u64, AllocError>
+        ensures ok { OnOk result (items_held self.new ≡ alive (items_held self.old) moment) }
+        ensures err { OnErr result (items_held self.new ≡ items_held self.old) }
+        ensures count { IfOk result (λ looks. looks + length (map.entries (items_held self.new))
+            ≤ length (map.entries (items_held self.old)) + page_count + beside_due moment (parts (items_held self.old))) }
+        ensures dropped { IfOk result (λ looks. min (length (map.entries (items_held self.old))) (2 ^ 64 - 1) ≤ looks + length (map.entries (items_held self.new))) }
+    {
+        match self {
+            // `make_own` was called before.
+            Held::Shared(_) => Err(AllocError),
+            Held::Own(pages) => pages.drop_due_counted(moment),
+        }
+    }
+}
+
+/// A store of `PAGES` pages. Those of a snapshot are shared until the first write.
 #[derive(Drop)]
 pub struct Pages {
-    pages: Vec<Page>,
+    held: Held,
 }
 
 impl Model for Pages {
@@ -25,38 +62,13 @@ impl Model for Pages {
     ghost use Rattle.std.specs.FinMap as map;
     ghost use Rattle.items.specs.Map.{Items};
     ghost use Rattle.items.specs.contracts.item.Item as item;
-    ghost use Rattle.pages.specs.Joined.{ArePages, joined, items_of};
+    ghost use Rattle.pages.specs.Held.{items_held};
 
     ghost Value = { Items };
 
     ghost coded = { map.code (coded_list coded_ℕ) item.the_row.coded };
 
-    ghost view = { λ a. joined (items_of a.pages.items) };
-
-    ghost invariant = { λ a. ArePages (items_of a.pages.items) };
-}
-
-/// As many pages without items as a store has, with one digest made for all of them.
-fn empty_pages(alloc: Global) -> Result<Vec<Page>, AllocError>
-    ensures { IfOk result (λ pages. items_of pages.items ≡ replicate page_count map.empty) }
-{
-    let mut empty = Page::new(alloc)?;
-    empty.seal(Layout::Sorted)?;
-    let mut pages = Vec::with_capacity(alloc, PAGES)?;
-    for made in 0..PAGES {
-        pages.push(empty.clone()?)?;
-    }
-    Ok(pages)
-}
-
-/// Brings each page into this layout, and makes its digest. The only error is a failed allocation.
-fn seal_all(pages: &mut Vec<Page>, layout: Layout) -> Result<(), AllocError>
-    ensures { OnOk result (pages.new.items ≡ map_list (sealed_in layout) pages.old.items) }
-{
-    for page in pages.iter_mut() {
-        page.seal(layout)?;
-    }
-    Ok(())
+    ghost view = { λ a. items_held a.held };
 }
 
 impl Pages {
@@ -64,37 +76,60 @@ impl Pages {
     pub fn new(alloc: Global) -> Result<Pages, AllocError>
         ensures { IfOk result (λ pages. pages ≡ map.empty) }
     {
-        let mut pages = empty_pages(alloc)?;
-        pages[0].keep_tree(alloc, &[[0; 32]; PAGES])?;
-        Ok(Pages { pages })
+        Ok(Pages {
+            held: Held::Own(OwnPages::new(alloc)?),
+        })
+    }
+
+    /// The pages of a snapshot.
+    pub(crate) fn of_shared(snapshot: Snapshot) -> Pages
+        ensures { result ≡ snapshot.items }
+    {
+        Pages {
+            held: Held::Shared(snapshot),
+        }
     }
 
     /// The `PAGES` pages that these are together, in the order of their numbers. Page `p` has only keys
     /// of number `p`.
     pub fn join(pages: Vec<Page>) -> Pages
         requires { ArePages (items_of pages.items) }
-        ensures { result ≡ joined (items_of pages.items) }
+        ensures { result ≡ joined_pages (items_of pages.items) }
     {
-        Pages { pages }
+        Pages {
+            held: Held::Own(OwnPages::join(pages)),
+        }
     }
 
-    /// The pages, in the order of their numbers.
-    pub fn part(self) -> Vec<Page>
-        ensures { items_of result.items ≡ parts self }
+    /// The pages, in the order of their numbers. The only error is a failed allocation, where they were shared.
+    pub fn part(self) -> Result<Vec<Page>, AllocError>
+        ensures { IfOk result (λ pages. items_of pages.items ≡ parts self) }
     {
-        let Pages { pages: parts } = self;
-        parts
+        let Pages { held } = self;
+        Ok(held.own()?.part())
+    }
+
+    /// The pages, in the order of their numbers, if something may have been written. Else it comes back: its pages are
+    /// those of a snapshot, whose digests were made.
+    pub fn written(self) -> Result<Vec<Page>, Pages>
+        ensures ok { IfOk result (λ pages. items_of pages.items ≡ parts self) }
+        ensures err { IfErr result (λ pages. pages ≡ self) }
+    {
+        let Pages { held } = self;
+        match held {
+            Held::Shared(snapshot) => Err(Pages::of_shared(snapshot)),
+            Held::Own(pages) => Ok(pages.part()),
+        }
     }
 
     /// How many items there are.
     pub fn len(&self) -> u64
         ensures { result ≡ length (map.entries self.now) }
     {
-        let mut len = 0;
-        for number in 0..PAGES {
-            len += self.pages[number].len();
+        match &self.held {
+            Held::Shared(snapshot) => snapshot.count(),
+            Held::Own(pages) => pages.len(),
         }
-        len
     }
 
     /// Keeps the pages as they are now, in this layout. A page is brought into the layout if it is in the
@@ -104,9 +139,32 @@ impl Pages {
     pub fn seal(self, layout: Layout) -> Result<Snapshot, AllocError>
         ensures { IfOk result (λ snapshot. snapshot ≡ record { items = self; layout = layout }) }
     {
-        let Pages { mut pages } = self;
-        seal_all(&mut pages, layout)?;
-        Snapshot::of_sealed(pages, layout)
+        let Pages { held } = self;
+        match held {
+            Held::Shared(snapshot) => snapshot.in_layout(layout),
+            Held::Own(pages) => pages.seal(layout),
+        }
+    }
+
+    /// Whether the pages are shared, and nothing is due in them at the moment or before it.
+    fn is_still(&self, moment: u32) -> bool
+        ensures { result ≡ true → alive self.now moment ≡ self.now }
+    {
+        match &self.held {
+            Held::Shared(snapshot) => !snapshot.has_due(moment),
+            Held::Own(_) => false,
+        }
+    }
+
+    /// Pages of its own in place of shared ones. The only error is a failed allocation.
+    fn make_own(&mut self) -> Result<(), AllocError>
+        ensures { self.new ≡ self.old }
+    {
+        if let Held::Shared(snapshot) = &self.held {
+            let pages = snapshot.own()?;
+            self.held = Held::Own(pages);
+        }
+        Ok(())
     }
 
     /// Drops every item that is due at the moment or before it, as `drop_due`, and answers how many
@@ -120,8 +178,11 @@ impl Pages {
             ≤ length (map.entries self.old) + page_count + beside_due moment (parts self.old)) }
         ensures dropped { IfOk result (λ looks. min (length (map.entries self.old)) (2 ^ 64 - 1) ≤ looks + length (map.entries self.new)) }
     {
-        let looks = drop_from_all(&mut self.pages, moment)?;
-        Ok(looks)
+        if self.is_still(moment) {
+            return Ok(PAGES as u64);
+        }
+        self.make_own()?;
+        self.held.drop_due_counted(moment)
     }
 }
 
@@ -129,19 +190,33 @@ impl Store for Pages {
     ghost contents = { λ pages. pages };
 
     fn get(&self, key: &Key) -> Option<&Item> {
-        self.pages[page_of(key)].get(key)
+        match &self.held {
+            Held::Shared(snapshot) => snapshot.get(key),
+            Held::Own(pages) => pages.get(key),
+        }
     }
 
     /// Refused where an allocation fails, or in the same way where the key's page has 2^32 - 1 entries and
     /// none at the key.
     fn put(&mut self, key: Key, item: Item) -> Result<(), AllocError> {
-        let page = &mut self.pages[page_of(&key)];
-        page.put(key, item)
+        self.make_own()?;
+        match &mut self.held {
+            Held::Own(pages) => pages.put(key, item),
+            // `make_own` left none that are shared.
+            Held::Shared(_) => Err(AllocError),
+        }
     }
 
     fn remove(&mut self, key: &Key) -> Result<(), AllocError> {
-        let page = &mut self.pages[page_of(key)];
-        page.remove(key)
+        if self.get(key).is_none() {
+            return Ok(());
+        }
+        self.make_own()?;
+        match &mut self.held {
+            Held::Own(pages) => pages.remove(key),
+            // `make_own` left none that are shared.
+            Held::Shared(_) => Err(AllocError),
+        }
     }
 
     fn drop_due(&mut self, moment: u32) -> Result<(), AllocError> {

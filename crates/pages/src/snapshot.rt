@@ -1,21 +1,25 @@
-ghost use Rattle.std.specs.Prelude.{◌≡◌, ◌<◌, ◌^◌, ◌↔◌, length, IfOk, OnOk, IsTrue};
+ghost use Rattle.std.specs.Prelude.{◌≡◌, ◌<◌, ◌^◌, ◌↔◌, length, false, IfOk, OnOk, IsTrue};
+ghost use Rattle.std.specs.Option.{option_copied};
+ghost use Rattle.std.specs.FinMap as map;
 ghost use Rattle.wire.specs.Item.{PageFits};
 ghost use Rattle.wire.specs.Record.{Puts};
 ghost use Rattle.items.specs.Map.{alive};
 ghost use Rattle.pages.specs.Form.{root_in};
 ghost use Rattle.pages.specs.Page.{page_items, page_entries, page_digest_in, page_count, of_each};
 ghost use Rattle.pages.specs.Layout.{text_in, entries_in};
-ghost use Rattle.pages.specs.Joined.{ArePages, AreSealed, IsSnapshot, joined, items_of};
+ghost use Rattle.pages.specs.Joined.{ArePages, AreSealed, IsSnapshot, joined_pages, items_of};
 ghost use Rattle.pages.specs.Others.{AreSameBeside};
 ghost use Rattle.pages.specs.declared.layout.Layout.{Layout as LayoutOf};
 ghost use Rattle.pages.specs.declared.layout.Layout.TheVariants.{Sorted};
 
 use crate::layout::Layout;
+use crate::number::page_of;
+use crate::own_pages::{OwnPages, count_of};
 use crate::page::Page;
 use crate::page_set::PageSet;
 use crate::pages::Pages;
 use base::Entry;
-use items::Item;
+use items::{Item, Store};
 use proto::Key;
 use std::alloc::{AllocError, Global};
 use std::marker::Model;
@@ -37,20 +41,20 @@ impl Model for Snapshot {
     ghost use Rattle.items.specs.contracts.item.Item as item;
     ghost use Rattle.pages.specs.contracts.layout.Layout as kind;
     ghost use Rattle.pages.specs.Page.{Laid, laid_code};
-    ghost use Rattle.pages.specs.Joined.{IsSnapshot, joined, items_of};
+    ghost use Rattle.pages.specs.Joined.{IsSnapshot, joined_pages, items_of};
 
     ghost Value = { Laid };
 
     ghost coded = { laid_code (map.code (coded_list coded_ℕ) item.the_row.coded) kind.the_row.coded };
 
-    ghost view = { λ a. record { items = joined (items_of a.pages.value.items); layout = a.layout } };
+    ghost view = { λ a. record { items = joined_pages (items_of a.pages.value.items); layout = a.layout } };
 
     ghost invariant = { λ a. IsSnapshot a.layout a.pages.value.items a.root };
 }
 
 fn digests_of(pages: &Vec<Page>) -> [[u8; 32]; PAGES]
     requires { ArePages (items_of pages.now.items) }
-    ensures { (layout : LayoutOf) → AreSealed layout pages.now.items → result ≡ of_each (page_digest_in layout (joined (items_of pages.now.items))) }
+    ensures { (layout : LayoutOf) → AreSealed layout pages.now.items → result ≡ of_each (page_digest_in layout (joined_pages (items_of pages.now.items))) }
 {
     let mut digests = [[0u8; 32]; PAGES];
     for number in 0..PAGES {
@@ -62,7 +66,7 @@ fn digests_of(pages: &Vec<Page>) -> [[u8; 32]; PAGES]
 /// The root over the digests of the pages. The tree that they keep, if any, is made theirs.
 fn root_over(pages: &mut Vec<Page>) -> [u8; 32]
     requires { ArePages (items_of pages.old.items) }
-    ensures root { (layout : LayoutOf) → AreSealed layout pages.old.items → result ≡ root_in layout (joined (items_of pages.old.items)) }
+    ensures root { (layout : LayoutOf) → AreSealed layout pages.old.items → result ≡ root_in layout (joined_pages (items_of pages.old.items)) }
     ensures same { pages.new.items ≡ pages.old.items }
 {
     let digests = digests_of(pages);
@@ -85,7 +89,7 @@ fn grow_tree(pages: &mut Vec<Page>) -> Result<(), AllocError>
 /// The pages in which something is due at the moment or before it.
 fn due_among(pages: &Vec<Page>, moment: u32) -> PageSet
     requires { ArePages (items_of pages.now.items) }
-    ensures { AreSameBeside result (joined (items_of pages.now.items)) (alive (joined (items_of pages.now.items)) moment) }
+    ensures { AreSameBeside result (joined_pages (items_of pages.now.items)) (alive (joined_pages (items_of pages.now.items)) moment) }
 {
     let mut due = PageSet::new();
     for number in 0..PAGES {
@@ -96,10 +100,23 @@ fn due_among(pages: &Vec<Page>, moment: u32) -> PageSet
     due
 }
 
+/// Whether something is due in one of the pages at the moment or before it.
+fn has_due_among(pages: &Vec<Page>, moment: u32) -> bool
+    requires { ArePages (items_of pages.now.items) }
+    ensures { result ≡ false → alive (joined_pages (items_of pages.now.items)) moment ≡ joined_pages (items_of pages.now.items) }
+{
+    for number in 0..PAGES {
+        if pages[number].has_due(moment) {
+            return true;
+        }
+    }
+    false
+}
+
 impl Snapshot {
     fn rooted(pages: Vec<Page>, layout: Layout, root: [u8; 32]) -> Result<Snapshot, AllocError>
         requires { IsSnapshot layout pages.items root }
-        ensures { IfOk result (λ snapshot. snapshot ≡ record { items = joined (items_of pages.items); layout = layout }) }
+        ensures { IfOk result (λ snapshot. snapshot ≡ record { items = joined_pages (items_of pages.items); layout = layout }) }
     {
         let alloc = *pages.allocator();
         Ok(Snapshot {
@@ -113,7 +130,7 @@ impl Snapshot {
     /// failed allocation.
     pub(crate) fn of_sealed(mut pages: Vec<Page>, layout: Layout) -> Result<Snapshot, AllocError>
         requires { AreSealed layout pages.items }
-        ensures { IfOk result (λ snapshot. snapshot ≡ record { items = joined (items_of pages.items); layout = layout }) }
+        ensures { IfOk result (λ snapshot. snapshot ≡ record { items = joined_pages (items_of pages.items); layout = layout }) }
     {
         let root = root_over(&mut pages);
         Snapshot::rooted(pages, layout, root)
@@ -130,14 +147,53 @@ impl Snapshot {
         })
     }
 
-    /// The pages to be written, with the digests that are kept. No item is copied, but the digests are,
-    /// 16 KB for the tree over them. The only error is a failed allocation.
+    /// The pages to be written, with the digests that are kept. They are shared until the first write. The only error
+    /// is a failed allocation.
     pub fn open(&self) -> Result<Pages, AllocError>
+        ensures { IfOk result (λ pages. pages ≡ self.now.items) }
+    {
+        Ok(Pages::of_shared(self.share()?))
+    }
+
+    /// The same pages, to be written. No item is copied, but the digests are, 16 KB for the tree over them. The only
+    /// error is a failed allocation.
+    pub(crate) fn own(&self) -> Result<OwnPages, AllocError>
         ensures { IfOk result (λ pages. pages ≡ self.now.items) }
     {
         let mut pages = (*self.pages).clone()?;
         grow_tree(&mut pages)?;
-        Ok(Pages::join(pages))
+        Ok(OwnPages::join(pages))
+    }
+
+    /// The same pages in this layout. The only error is a failed allocation.
+    pub(crate) fn in_layout(self, layout: Layout) -> Result<Snapshot, AllocError>
+        ensures { IfOk result (λ snapshot. snapshot ≡ record { items = self.items; layout = layout }) }
+    {
+        if self.layout == layout {
+            return Ok(self);
+        }
+        self.own()?.seal(layout)
+    }
+
+    /// How many items there are.
+    pub(crate) fn count(&self) -> u64
+        ensures { result ≡ length (map.entries self.now.items) }
+    {
+        count_of(&self.pages)
+    }
+
+    /// Whether something is due at the moment or before it. It looks at one entry of each page.
+    pub(crate) fn has_due(&self, moment: u32) -> bool
+        ensures { result ≡ false → alive self.now.items moment ≡ self.now.items }
+    {
+        has_due_among(&self.pages, moment)
+    }
+
+    /// The item of a key.
+    pub(crate) fn get(&self, key: &Key) -> Option<&Item>
+        ensures { option_copied result ≡ map.get self.now.items key.now }
+    {
+        self.page(page_of(key)).get(key)
     }
 
     fn page(&self, number: usize) -> &Page

@@ -335,7 +335,7 @@ fn put_and_remove(alloc: Global, page: &mut Page) -> Result<bool, AllocError> {
 
 #[test]
 fn parted_pages_are_stores(rt: HostRuntime) -> Result<(), Fail> {
-    let mut pages = Pages::new(rt.alloc())?.part();
+    let mut pages = Pages::new(rt.alloc())?.part()?;
     let there = put_and_remove(rt.alloc(), &mut pages[97])?;
     // A page without a digest weighs its entries and 64 more.
     assert!(rt; there && pages[97].weight() == 65 && pages[98].weight() == 0);

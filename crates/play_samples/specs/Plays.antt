@@ -10,15 +10,15 @@ use Rattle.decrees.specs.declared.ballot.Ballot.TheVariants.{Token, Accept, Acce
 use Rattle.decrees.specs.declared.node.Node.TheVariants.{Executor, Verifier}
 use Rattle.states.specs.State.{initial_state}
 use Rattle.verifier.specs.State.{letter, to_verifiers, to_others, to_executors}
-use Rattle.agreement.specs.Letters.{Letters}
-use Rattle.one_run.specs.Run.{Executed}
+use Rattle.agreement_laws.specs.Letters.{Letters}
+use Rattle.run_laws.specs.Run.{Executed}
 
 abbrev pub bytes : ℕ → token.Token
 bytes b = record { 0 = replicate 32 b }
 
 -- an executor tells verifier 0 the token of its state of this number, in this epoch and over that token
-abbrev pub says : ℕ → ℕ → ℕ → token.Token → token.Token → Letters
-says e epoch n previous t = record { from = Executor e; to = Verifier 0; body = Token epoch n previous t } ∷ []
+abbrev pub letter_says : ℕ → ℕ → ℕ → token.Token → token.Token → Letters
+letter_says e epoch n previous t = record { from = Executor e; to = Verifier 0; body = Token epoch n previous t } ∷ []
 
 abbrev pub accepted : ℕ → ℕ → ℕ → Decree → List ℕ → Letters
 accepted u view place d [] = []
@@ -29,23 +29,23 @@ abbrev pub decided : ℕ → ℕ → Decree → List ℕ → Letters
 decided u place d vs = to_verifiers u 0 (Accept 0 place d) ++ (accepted u 0 place d vs ++ (to_others u 0 (Decided place d) ++ to_executors u 0 (Decided place d)))
 
 abbrev pub two : Letters
-two = says 0 1 1 (bytes 0) (bytes 1) ++ (decided 0 1 (Commit 1 (bytes 1)) (0 ∷ []) ++ (says 0 1 2 (bytes 1) (bytes 2) ++ decided 0 2 (Commit 2 (bytes 2)) (0 ∷ [])))
+two = letter_says 0 1 1 (bytes 0) (bytes 1) ++ (decided 0 1 (Commit 1 (bytes 1)) (0 ∷ []) ++ (letter_says 0 1 2 (bytes 1) (bytes 2) ++ decided 0 2 (Commit 2 (bytes 2)) (0 ∷ [])))
 
 -- of three verifiers, of which two accept
-abbrev pub undone : Letters
-undone = says 0 1 1 (bytes 0) (bytes 1) ++ (says 1 1 1 (bytes 0) (bytes 2) ++ (says 2 1 1 (bytes 0) (bytes 3) ++ (decided 1 1 Rollback (0 ∷ 1 ∷ [])
-    ++ (says 0 2 1 (bytes 0) (bytes 4) ++ (says 1 2 1 (bytes 0) (bytes 4) ++ decided 1 2 (Commit 1 (bytes 4)) (0 ∷ 1 ∷ []))))))
+abbrev pub undone_letters : Letters
+undone_letters = letter_says 0 1 1 (bytes 0) (bytes 1) ++ (letter_says 1 1 1 (bytes 0) (bytes 2) ++ (letter_says 2 1 1 (bytes 0) (bytes 3) ++ (decided 1 1 Rollback (0 ∷ 1 ∷ [])
+    ++ (letter_says 0 2 1 (bytes 0) (bytes 4) ++ (letter_says 1 2 1 (bytes 0) (bytes 4) ++ decided 1 2 (Commit 1 (bytes 4)) (0 ∷ 1 ∷ []))))))
 
 abbrev pub decree : Decree
 decree = Commit 1 (bytes 1)
 
 -- verifier 1 accepts the proposal of verifier 0, promises to verifier 2, and is asked again
 abbrev pub before : Letters
-before = says 0 1 1 (bytes 0) (bytes 1) ++ (says 1 1 1 (bytes 0) (bytes 1) ++ (to_verifiers 1 0 (Accept 0 1 decree) ++ (accepted 1 0 1 decree (1 ∷ []) ++ (to_verifiers 1 2 (Change 2)
+before = letter_says 0 1 1 (bytes 0) (bytes 1) ++ (letter_says 1 1 1 (bytes 0) (bytes 1) ++ (to_verifiers 1 0 (Accept 0 1 decree) ++ (accepted 1 0 1 decree (1 ∷ []) ++ (to_verifiers 1 2 (Change 2)
     ++ (letter 1 (Verifier 2) (Promise 2 0 (Some (0, decree))) ∷ letter 2 (Verifier 2) (Promise 2 0 None) ∷ to_verifiers 1 2 (Accept 2 1 decree))))))
 
-abbrev pub later : Letters
-later = before ++ accepted 1 2 1 decree (1 ∷ 2 ∷ [])
+abbrev pub later_letters : Letters
+later_letters = before ++ accepted 1 2 1 decree (1 ∷ 2 ∷ [])
 
 -- the request of this number is answered; of the new state only number and token are looked at
 abbrev pub round_of : Batch → ℕ → Reply → Executed

@@ -19,9 +19,9 @@ pub record ProxyView : Type 0 where
 abbrev pub asks : ProxyView → Command → Bool → ProxyView
 asks p command quiet = record { client = p.client; last = p.last + 1; asked = Some (record { request = next_request p.client p.last command; quiet = quiet }) }
 
-abbrev pub quiet_of : Option Asked → ℕ → Option Bool
-quiet_of None number = None
-quiet_of (Some a) number = if a.request.number == number then Some a.quiet else None
+abbrev pub asked_quiet : Option Asked → ℕ → Option Bool
+asked_quiet None number = None
+asked_quiet (Some a) number = if a.request.number == number then Some a.quiet else None
 
 -- what is outstanding
 abbrev pub request_of : Option Asked → Option Request

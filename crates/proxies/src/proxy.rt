@@ -30,7 +30,7 @@ impl Model for Proxy {
 impl Proxy {
     ghost use Rattle.std.specs.Prelude.{◌≡◌, ◌≤◌, ◌⊎◌, ◌^◌, ◌-◌, ◌+◌, None, Some, IfOk, OnErr, OnOk, Err, IfErr, is_none};
     ghost use Rattle.client.specs.Talk.{next_request};
-    ghost use Rattle.proxies.specs.Proxy.{asks, answers, quiet_of, request_of};
+    ghost use Rattle.proxies.specs.Proxy.{asks, answers, asked_quiet, request_of};
 
     /// One that has asked nothing. Clients are numbered from 1.
     pub fn new(client: u16) -> Proxy
@@ -71,7 +71,7 @@ impl Proxy {
     /// request is not outstanding.
     pub fn answer(&mut self, number: u64) -> Option<bool>
         ensures after { self.new ≡ answers self.old number }
-        ensures quiet { result ≡ quiet_of self.old.asked number }
+        ensures quiet { result ≡ asked_quiet self.old.asked number }
     {
         let quiet = match &self.asked {
             Some(asked) if asked.request.number == number => asked.quiet,

@@ -6,7 +6,7 @@ use Rattle.std.proofs.lemmas.Bool.{cond_both, cond-true, cond-false}
 use Rattle.decrees.specs.declared.standing.Standing.{Standing}
 use Rattle.states.specs.State.{StateView}
 use Rattle.executor.specs.Work.{TentativeView}
-use Rattle.rollback.specs.Chain.{ChainView, tip, chain_tip, AreOver, without_first, first_replies, is_standing, chain_from, replies_to}
+use Rattle.rollback.specs.Chain.{ChainView, tip, chain_tip, AreOver, without_first, first_replies, is_standing, chain_from, replies_on_commit}
 
 -- It begins with the state that stands, and its members are the last ones, so its tip is the same.
 pub record IsEndOf (st : Standing) (have : StateView) (ts : List TentativeView) (c : ChainView) : Type 0 where
@@ -48,7 +48,7 @@ end_goes_on st have [] e = refl
 end_goes_on st have (t ∷ ts) e = sym (cond-false (is_standing st have) _ _ e)
 
 pub replies_go_on : (st : Standing) (have : StateView) (ts : List TentativeView) → is_standing st have ≡ false
-    → replies_to st have ts ≡ first_replies ts ++ replies_to st (without_first have ts).have (without_first have ts).members
+    → replies_on_commit st have ts ≡ first_replies ts ++ replies_on_commit st (without_first have ts).have (without_first have ts).members
 replies_go_on st have [] e = refl
 replies_go_on st have (t ∷ ts) e = cond-false (is_standing st have) _ _ e
 
@@ -62,6 +62,6 @@ pub end_here : (st : Standing) (have : StateView) (ts : List TentativeView) → 
 end_here st have [] e = cond-true (is_standing st have) _ _ e
 end_here st have (t ∷ ts) e = cond-true (is_standing st have) _ _ e
 
-pub no_reply_here : (st : Standing) (have : StateView) (ts : List TentativeView) → is_standing st have ≡ true → replies_to st have ts ≡ []
+pub no_reply_here : (st : Standing) (have : StateView) (ts : List TentativeView) → is_standing st have ≡ true → replies_on_commit st have ts ≡ []
 no_reply_here st have [] e = refl
 no_reply_here st have (t ∷ ts) e = cond-true (is_standing st have) _ _ e

@@ -86,9 +86,9 @@ chain_from st have [] = if is_standing st have then Some (record { have = have; 
 chain_from st have (t ∷ ts) = if is_standing st have then Some (record { have = have; members = t ∷ ts }) else chain_from st t.after ts
 
 -- the replies of the members up to it, in order
-abbrev pub replies_to : Standing → StateView → List TentativeView → List Answered
-replies_to st have [] = []
-replies_to st have (t ∷ ts) = if is_standing st have then [] else t.replies ++ replies_to st t.after ts
+abbrev pub replies_on_commit : Standing → StateView → List TentativeView → List Answered
+replies_on_commit st have [] = []
+replies_on_commit st have (t ∷ ts) = if is_standing st have then [] else t.replies ++ replies_on_commit st t.after ts
 
 -- a chain is identified by its states
 abbrev pub chain_code : Coded StateView → Coded TentativeView → Coded ChainView

@@ -2,7 +2,7 @@
 
 ghost use Rattle.std.specs.Prelude.{◌≡◌, ◌<◌, ◌++◌, length, is_some, IsTrue, OnOk, Some};
 ghost use Rattle.std.specs.List.{list_any};
-ghost use Rattle.rollback.specs.Chain.{without_first, first_replies, is_standing as stands, chain_from, replies_to};
+ghost use Rattle.rollback.specs.Chain.{without_first, first_replies, is_standing as stands, chain_from, replies_on_commit};
 
 use crate::chain::Chain;
 use decrees::{Decree, Standing};
@@ -65,7 +65,7 @@ impl Chain {
     ) -> Result<(), AllocError>
         requires { IsTrue (is_some (chain_from standing.now self.old.have self.old.members)) }
         ensures chain { OnOk result (chain_from standing.now self.old.have self.old.members ≡ Some self.new) }
-        ensures replies { OnOk result (replies.new.items ≡ replies.old.items ++ replies_to standing.now self.old.have self.old.members) }
+        ensures replies { OnOk result (replies.new.items ≡ replies.old.items ++ replies_on_commit standing.now self.old.have self.old.members) }
     {
         while !is_standing(standing, self.committed()) {
             self.commit_next(replies)?;

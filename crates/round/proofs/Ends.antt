@@ -12,7 +12,7 @@ use Rattle.item_steps.specs.declared.step.Stamp.{Stamp}
 use Rattle.item_steps.specs.declared.step.Answer.{Answer}
 use Rattle.item_steps.specs.declared.group.Task.{Task}
 use Rattle.pages.specs.Page.{page_count}
-use Rattle.pages.specs.Joined.{joined, parts}
+use Rattle.pages.specs.Joined.{joined_pages, parts}
 use Rattle.pages.proofs.PartLemmas.{joined-parts}
 use Rattle.round.specs.declared.rule.Entry.{Entry}
 use Rattle.round.specs.declared.rule.Held.{Held}
@@ -211,7 +211,7 @@ module _ {base : Stamp} {opening : Items} {group : List Task} {callers : ℕ} {o
   pub replayed : Replayed base (parts opening) order now
   replayed = replays_held base opening t.histories.0 now order t.wide t.kinds t.histories.1 t.histories.2
 
-  ends : RoundResult base opening group seats (joined now) (map (λ (task : Task). answered_at task.place order) group)
+  ends : RoundResult base opening group seats (joined_pages now) (map (λ (task : Task). answered_at task.place order) group)
   ends = record {
     order = order;
     interleaves = interleaved order group (apart_from group t.apart) (complete group callers t.apart order t.kinds t.none complete_logs t.some);
@@ -221,7 +221,7 @@ module _ {base : Stamp} {opening : Items} {group : List Task} {callers : ℕ} {o
     given = refl;
   }
 
-  pub gathered : (lists : List (List Running)) → lists ≡ map (λ (s : Sitting). map (running_in s.log) s.tasks) seats → Gathered base opening group callers seats (joined now) lists
+  pub gathered : (lists : List (List Running)) → lists ≡ map (λ (s : Sitting). map (running_in s.log) s.tasks) seats → Gathered base opening group callers seats (joined_pages now) lists
   gathered lists are = record {
     order = order;
     ended = ends;

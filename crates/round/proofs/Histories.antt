@@ -8,7 +8,7 @@ use Rattle.item_steps.specs.declared.step.Stamp.{Stamp}
 use Rattle.item_steps.specs.declared.step.Step.{Step}
 use Rattle.pages.specs.Step.{step_page}
 use Rattle.round.specs.declared.rule.Entry.{Entry}
-use Rattle.round.specs.Histories.{IsHistory, timed}
+use Rattle.round.specs.Histories.{IsRoundHistory, timed}
 use Rattle.round.proofs.Lists.{all_push}
 
 items_more : (page : Items) (steps : List (Step × Stamp)) (s : Step × Stamp) → history_items page (steps ++ s ∷ []) ≡ (effect (history_items page steps) s.0 s.1).0
@@ -19,12 +19,12 @@ answers_more : (page : Items) (steps : List (Step × Stamp)) (s : Step × Stamp)
 answers_more page [] s = refl
 answers_more page (x ∷ xs) s = ap (λ l. (effect page x.0 x.1).1 ∷ l) (answers_more (effect page x.0 x.1).0 xs s)
 
-pub history_none : (base : Stamp) (number : ℕ) (page : Items) → IsHistory base number page [] page
+pub history_none : (base : Stamp) (number : ℕ) (page : Items) → IsRoundHistory base number page [] page
 history_none base number page = record { own = tt; runs = record { items = refl; replies = refl } }
 
 pub history_push : (base : Stamp) (number : ℕ) (start : Items) (log : List Entry) (page now : Items) (e : Entry) → e.page ≡ number → step_page e.step ≡ number
     → now ≡ (effect page e.step (stamped base e.place)).0 → e.answer ≡ (effect page e.step (stamped base e.place)).1
-    → IsHistory base number start log page → IsHistory base number start (log ++ e ∷ []) now
+    → IsRoundHistory base number start log page → IsRoundHistory base number start (log ++ e ∷ []) now
 history_push base number start log page now e here on items answer h =
     let at = map-append (timed base) log (e ∷ []) in
     record {

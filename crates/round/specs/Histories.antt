@@ -18,6 +18,6 @@ abbrev pub timed : Stamp → Entry → Step × Stamp
 timed base e = (e.step, stamped base e.place)
 
 -- The log is of steps of this page alone, which in its order lead from one state of the page to the other, and answered what the log has.
-pub record IsHistory (base : Stamp) (number : ℕ) (start : Items) (log : List Entry) (now : Items) : Type 0 where
+pub record IsRoundHistory (base : Stamp) (number : ℕ) (start : Items) (log : List Entry) (now : Items) : Type 0 where
   pub own : AllByRecursion (λ e. (e.page ≡ number) × (step_page e.step ≡ number)) log
   pub runs : PageHistory start (map (timed base) log) now (map (λ e. e.answer) log)

@@ -13,7 +13,7 @@ use Rattle.round.specs.declared.rule.Entry.{Entry}
 use Rattle.round.specs.declared.rule.Held.{Held}
 use Rattle.round.specs.declared.rule.View.{View}
 use Rattle.round.specs.Tickets.{log_of, name_of_caller}
-use Rattle.round.specs.Histories.{IsHistory}
+use Rattle.round.specs.Histories.{IsRoundHistory}
 use Rattle.round.specs.Sittings.{Sitting, Running, running_in, dealt, answered_at}
 
 abbrev pub placed_of : Entry → Placed
@@ -27,7 +27,7 @@ abbrev pub AreHistories : Stamp → Items → ℕ → List Held → List Items �
 AreHistories base opening p [] [] = Unit {0}
 AreHistories base opening p [] (m ∷ ms) = ⊥
 AreHistories base opening p (h ∷ hs) [] = ⊥
-AreHistories base opening p (h ∷ hs) (m ∷ ms) = (h.name ≡ p) × IsHistory base p (page_items opening p) h.log m × AreHistories base opening (p + 1) hs ms
+AreHistories base opening p (h ∷ hs) (m ∷ ms) = (h.name ≡ p) × IsRoundHistory base p (page_items opening p) h.log m × AreHistories base opening (p + 1) hs ms
 
 -- what is held are the steps of these seats
 abbrev pub AreOf : List Held → List Sitting → Type 0

@@ -31,14 +31,14 @@ impl<J: Room> Model for Locked<J> {
     ghost use Rattle.pages.specs.Page.{page_count, page_items};
     ghost use Rattle.round.specs.declared.rule.Entry.{Entry};
     ghost use Rattle.round.specs.Tickets.{name_view, view_log};
-    ghost use Rattle.round.specs.Histories.{IsHistory};
+    ghost use Rattle.round.specs.Histories.{IsRoundHistory};
 
     ghost Value = { ℕ × List Entry };
 
     ghost view = { λ s. (s.number, view_log s.token.me.0) };
 
     ghost invariant = { λ s. (s.token.table_id ≡ J.table) × (s.token.me ≡ (name_view s.number (view_log s.token.me.0), []))
-        × (s.number < page_count) × IsHistory J.base s.number (page_items J.opening s.number) (view_log s.token.me.0) s.page.items };
+        × (s.number < page_count) × IsRoundHistory J.base s.number (page_items J.opening s.number) (view_log s.token.me.0) s.page.items };
 }
 
 impl<J: Room> Locked<J> {

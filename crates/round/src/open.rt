@@ -85,7 +85,8 @@ pub(crate) fn lock_pages<J: Room>(
     ensures all { IfOk result (λ locks. vec_len locks ≡ page_count) }
 {
     let mut locks = Vec::with_capacity(alloc, PAGES)?;
-    for page in pages.part() {
+    let parts = pages.part()?;
+    for page in parts {
         let token = word.new_name(master);
         locks.push(Mutex::new(Locked::new(locks.len(), page, token)))?;
     }

@@ -2,7 +2,7 @@
 use Rattle.std.proofs.Common.{◌≡◌, ℕ, suc, ◌+◌, ◌<◌, true, false, List, [], ◌∷◌, length, take, Option, Some, None, Result, Ok, Err, inl, inr, ◌⊎◌, ⊎_elim, refl, sym, ap, subst, arith}
 use Rattle.std.proofs.lemmas.Bool.{cases_Bool}
 use Rattle.events.specs.Config.{ConfigView}
-use Rattle.schedules.specs.Schedule.{is_skipped, told, FitsPlace, AllFit, IsFirstBad}
+use Rattle.schedules.specs.Schedule.{is_skipped, told_lines, FitsPlace, AllFit, IsFirstBad}
 use Rattle.schedules.specs.Reading.{LineView, line_said, size_said, clients_said, or_bad, head_said, with_lines, lines_said}
 use Rattle.schedules.proofs.LineLemmas.{says_something, says_nothing}
 use Rattle.schedules.proofs.HeadLemmas.{size_read, size_text, clients_read, clients_text, or_bad_ok, read_whole, at_ok}
@@ -11,8 +11,8 @@ use Rattle.schedules.proofs.HeadLemmas.{size_read, size_text, clients_read, clie
 pub record BadFrom (place before : ℕ) (lines : List (List ℕ)) (number : ℕ) : Type 0 where
   pub count : ℕ
   pub numbered : number ≡ before + suc count
-  pub all_fit : AllFit place (told (take count lines))
-  pub bad : ((count < length lines) × (AllFit place (told (take (suc count) lines)) → ⊥)) ⊎ ((count ≡ length lines) × (place + length (told lines) < 2))
+  pub all_fit : AllFit place (told_lines (take count lines))
+  pub bad : ((count < length lines) × (AllFit place (told_lines (take (suc count) lines)) → ⊥)) ⊎ ((count ≡ length lines) × (place + length (told_lines lines) < 2))
 
 bad_skip : (p b : ℕ) (line : List ℕ) (lines : List (List ℕ)) (n : ℕ) → is_skipped line ≡ true → BadFrom p (b + 1) lines n → BadFrom p b (line ∷ lines) n
 bad_skip p b line lines n skipped h = record {

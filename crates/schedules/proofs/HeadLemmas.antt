@@ -11,7 +11,7 @@ use Rattle.schedules.specs.declared.line.ScheduleLine.{ScheduleLine}
 use Rattle.schedules.specs.declared.schedule.Schedule.{Schedule}
 use Rattle.schedules.specs.Parts.{parted}
 use Rattle.schedules.specs.Line.{IsLineText}
-use Rattle.schedules.specs.Schedule.{is_skipped, told, IsSizeText, IsClientsText, SaySchedule}
+use Rattle.schedules.specs.Schedule.{is_skipped, told_lines, IsSizeText, IsClientsText, SaySchedule}
 use Rattle.schedules.specs.Reading.{LineView, line_view, line_said, size_said, clients_said, or_bad, head_said, with_lines, lines_said}
 use Rattle.schedules.proofs.OptionLemmas.{bind_some, guard_some, at_some}
 use Rattle.schedules.proofs.LinesLemmas.{parted_text}
@@ -73,7 +73,7 @@ size_tells u line (clients ∷ lines) c xs e h = (subst (λ (n : ℕ). IsSizeTex
 abbrev Head : Type 0
 Head = ConfigView × ℕ × List (List ℕ)
 
-pub head_tells : (size : Option ℕ) (before : ℕ) (lines : List (List ℕ)) (h : Head) → head_said size before lines ≡ Ok h → (xs : List ScheduleLine) → AllZip IsLineText xs (told h.2) → Tells size (told lines) h.0 xs
+pub head_tells : (size : Option ℕ) (before : ℕ) (lines : List (List ℕ)) (h : Head) → head_said size before lines ≡ Ok h → (xs : List ScheduleLine) → AllZip IsLineText xs (told_lines h.2) → Tells size (told_lines lines) h.0 xs
 head_tells None before [] h e xs all = absurd (cc)
 head_tells (Some u) before [] h e xs all = absurd (cc)
 head_tells None before (line ∷ lines) h e xs all =
@@ -81,7 +81,7 @@ head_tells None before (line ∷ lines) h e xs all =
       | inl skipped ↦ rw skipped (head_tells None (before + 1) lines h (rw skipped at e) xs all)
       | inr says ↦
           let u = or_bad_ok (size_said line) (before + 1) (λ (u : ℕ). head_said (Some u) (before + 1) lines) h (rw says at e) in
-          rw says (size_tells u.0 line (told lines) h.0 xs u.1 (head_tells (Some u.0) (before + 1) lines h u.2 xs all))
+          rw says (size_tells u.0 line (told_lines lines) h.0 xs u.1 (head_tells (Some u.0) (before + 1) lines h u.2 xs all))
     ]
 head_tells (Some u) before (line ∷ lines) h e xs all =
     elim (cases_Bool (is_skipped line)) [
@@ -89,7 +89,7 @@ head_tells (Some u) before (line ∷ lines) h e xs all =
       | inr says ↦
           let c = or_bad_ok (clients_said line) (before + 1) (λ (c : ℕ). Ok (record { u = u; clients = c }, before + 1, lines)) h (rw says at e) in
           let made : Head = (record { u = u; clients = c.0 }, before + 1, lines) in
-          rw says (subst (λ (g : Head). AllZip IsLineText xs (told g.2) → Tells (Some u) (line ∷ told lines) g.0 xs) (at_ok made h c.2) (λ rest. (refl, clients_text line c.0 c.1, rest)) all)
+          rw says (subst (λ (g : Head). AllZip IsLineText xs (told_lines g.2) → Tells (Some u) (line ∷ told_lines lines) g.0 xs) (at_ok made h c.2) (λ rest. (refl, clients_text line c.0 c.1, rest)) all)
     ]
 
 line_tells : (line : List ℕ) (lines : List (List ℕ)) (v : LineView) (vs all : List LineView) (xs : List ScheduleLine) → line_said line ≡ Some v → ((ys : List ScheduleLine) → map line_view ys ≡ vs → AllZip IsLineText ys lines) → v ∷ vs ≡ all → map line_view xs ≡ all → AllZip IsLineText xs (line ∷ lines)
@@ -100,7 +100,7 @@ none_tells : (xs : List ScheduleLine) → map line_view xs ≡ [] → AllZip IsL
 none_tells [] m = tt
 none_tells (x ∷ xs) m = absurd (cc)
 
-pub lines_tell : (before : ℕ) (lines : List (List ℕ)) (vs : List LineView) → lines_said before lines ≡ Ok vs → (xs : List ScheduleLine) → map line_view xs ≡ vs → AllZip IsLineText xs (told lines)
+pub lines_tell : (before : ℕ) (lines : List (List ℕ)) (vs : List LineView) → lines_said before lines ≡ Ok vs → (xs : List ScheduleLine) → map line_view xs ≡ vs → AllZip IsLineText xs (told_lines lines)
 lines_tell before [] vs e xs m = none_tells xs (m ∙ sym (at_ok [] vs e))
 lines_tell before (line ∷ lines) vs e xs m =
     elim (cases_Bool (is_skipped line)) [
@@ -108,7 +108,7 @@ lines_tell before (line ∷ lines) vs e xs m =
       | inr says ↦
           let v = or_bad_ok (line_said line) (before + 1) (λ (said : LineView). with_lines (said ∷ []) (lines_said (before + 1) lines)) vs (rw says at e) in
           let others = with_ok (v.0 ∷ []) (lines_said (before + 1) lines) vs v.2 in
-          rw says (line_tells line (told lines) v.0 others.0 vs xs v.1 (λ ys n. lines_tell (before + 1) lines others.0 others.1 ys n) others.2 m)
+          rw says (line_tells line (told_lines lines) v.0 others.0 vs xs v.1 (λ ys n. lines_tell (before + 1) lines others.0 others.1 ys n) others.2 m)
     ]
 
 pub says_schedule : (lines : List (List ℕ)) (s : Schedule) → Tells None lines s.config s.lines.items → SaySchedule lines s

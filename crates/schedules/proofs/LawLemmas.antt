@@ -5,7 +5,7 @@ use Rattle.std.proofs.lemmas.Bool.{cases_Bool, cases_lt}
 use Rattle.schedules.specs.declared.line.ScheduleLine.{ScheduleLine}
 use Rattle.schedules.specs.declared.schedule.Schedule.{Schedule}
 use Rattle.schedules.specs.Line.{IsLineText}
-use Rattle.schedules.specs.Schedule.{lines_of, is_skipped, told, SaySchedule, SpellsSchedule, AllFit, IsFirstBad}
+use Rattle.schedules.specs.Schedule.{lines_of, is_skipped, told_lines, SaySchedule, SpellsSchedule, AllFit, IsFirstBad}
 use Rattle.schedules.specs.Reading.{line_view}
 use Rattle.schedules.specs.Laws.{IsSameSchedule}
 use Rattle.schedules.proofs.OptionLemmas.{at_some}
@@ -37,7 +37,7 @@ same_schedule (size ∷ clients ∷ lines) s t a b =
     }
 
 pub one_is_spelled : (bytes : List ℕ) (s t : Schedule) → SpellsSchedule bytes s → SpellsSchedule bytes t → IsSameSchedule s t
-one_is_spelled bytes s t a b = same_schedule (told (lines_of bytes)) s t a b
+one_is_spelled bytes s t a b = same_schedule (told_lines (lines_of bytes)) s t a b
 
 -- ---- a bad line
 
@@ -52,7 +52,7 @@ schedule_fits (size ∷ []) s h = absurd h
 schedule_fits (size ∷ clients ∷ lines) s h = (((s.config.u, h.0), ((s.config.clients, h.1), all_lines_fit 0 lines s.lines.items h.2)), omega arith)
 
 -- the first so many of lines that fit do
-front_fits : (place n : ℕ) (lines : List (List ℕ)) → AllFit place (told lines) → AllFit place (told (take n lines))
+front_fits : (place n : ℕ) (lines : List (List ℕ)) → AllFit place (told_lines lines) → AllFit place (told_lines (take n lines))
 front_fits place zero lines h = tt
 front_fits place (suc n) [] h = tt
 front_fits place (suc n) (line ∷ lines) h =
@@ -63,7 +63,7 @@ front_fits place (suc n) (line ∷ lines) h =
 
 pub bad_spells_none : (bytes : List ℕ) (number : ℕ) (s : Schedule) → IsFirstBad (lines_of bytes) number → SpellsSchedule bytes s → ⊥
 bad_spells_none bytes number s bad h =
-    let fits = schedule_fits (told (lines_of bytes)) s h in
+    let fits = schedule_fits (told_lines (lines_of bytes)) s h in
     ⊎_elim (λ x. x.1 (front_fits 0 (suc bad.before) (lines_of bytes) fits.0)) (λ x. omega (arith, x.1, fits.1)) bad.bad
 
 -- ---- one first bad line
@@ -78,7 +78,7 @@ front_of_front (suc m) (suc n) (x ∷ lines) l = ap (λ (xs : List (List ℕ)). 
 not_before : (lines : List (List ℕ)) (a b : ℕ) (x : IsFirstBad lines a) (y : IsFirstBad lines b) → x.before < y.before → ⊥
 not_before lines a b x y l =
     let within : y.before ≤ length lines = ⊎_elim (λ h. omega (arith, h.0)) (λ h. omega (arith, h.0)) y.bad in
-    let fits : AllFit 0 (told (take (suc x.before) lines)) = subst (λ (ls : List (List ℕ)). AllFit 0 (told ls)) (front_of_front (suc x.before) y.before lines (omega arith)) (front_fits 0 (suc x.before) (take y.before lines) y.all_fit) in
+    let fits : AllFit 0 (told_lines (take (suc x.before) lines)) = subst (λ (ls : List (List ℕ)). AllFit 0 (told_lines ls)) (front_of_front (suc x.before) y.before lines (omega arith)) (front_fits 0 (suc x.before) (take y.before lines) y.all_fit) in
     ⊎_elim (λ h. h.1 fits) (λ h. omega (arith, h.0, within)) x.bad
 
 pub one_is_first_bad : (lines : List (List ℕ)) (a b : ℕ) → IsFirstBad lines a → IsFirstBad lines b → a ≡ b

@@ -4,7 +4,7 @@ use Rattle.events.specs.Config.{ConfigView}
 use Rattle.schedules.specs.declared.fault.ScheduleFault.{ScheduleFault}
 use Rattle.schedules.specs.declared.fault.ScheduleFault.TheVariants.{NoMemory, BadSchedule}
 use Rattle.schedules.specs.declared.schedule.Schedule.{Schedule}
-use Rattle.schedules.specs.Schedule.{lines_of, told, SpellsSchedule, IsRefusedRightly}
+use Rattle.schedules.specs.Schedule.{lines_of, told_lines, SpellsSchedule, IsRefusedRightly}
 use Rattle.schedules.specs.Reading.{line_view, head_said, lines_said, IsFaultOf}
 use Rattle.schedules.proofs.HeadLemmas.{Tells, head_tells, lines_tell, says_schedule}
 use Rattle.schedules.proofs.BadLemmas.{head_bad, head_then_bad, lines_bad, first_bad}
@@ -22,4 +22,4 @@ module _ (bytes : List ℕ) (h : ConfigView × ℕ × List (List ℕ)) (head : h
   is_spelled s config e =
       let all = lines_tell h.1 h.2 (map line_view s.lines.items) e s.lines.items refl in
       let tells = head_tells None 0 (lines_of bytes) h head s.lines.items all in
-      says_schedule (told (lines_of bytes)) s (subst (λ (c : ConfigView). Tells None (told (lines_of bytes)) c s.lines.items) config tells)
+      says_schedule (told_lines (lines_of bytes)) s (subst (λ (c : ConfigView). Tells None (told_lines (lines_of bytes)) c s.lines.items) config tells)

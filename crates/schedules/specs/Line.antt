@@ -9,7 +9,7 @@ use Rattle.events.specs.declared.event.Replica.TheVariants.{Executor, Verifier}
 use Rattle.schedules.specs.declared.number.TheConstants.{MOST_EVENTS, MOST_PLACES}
 use Rattle.schedules.specs.declared.line.ScheduleLine.{ScheduleLine}
 use Rattle.schedules.specs.declared.line.ScheduleLine.TheVariants.{Happens, Settle, Random}
-use Rattle.schedules.specs.Parts.{Begins, Joins}
+use Rattle.schedules.specs.Parts.{BeginsWith, Joins}
 use Rattle.schedules.specs.Escape.{IsEscaped}
 
 -- the decimal digits write this number, which is below the limit
@@ -40,29 +40,29 @@ NamesReplica (Verifier id) word = (digits : List ℕ) × (word ≡ codes "v" ++ 
 
 -- the line by which these bytes come from a client
 abbrev pub IsFeedText : ℕ → List ℕ → List ℕ → Type 0
-IsFeedText c bytes = Begins (codes "feed") (Joins (NamesClient c) (IsEscaped bytes))
+IsFeedText c bytes = BeginsWith (codes "feed") (Joins (NamesClient c) (IsEscaped bytes))
 
 -- the line of an event
 abbrev pub IsEventText : Event → List ℕ → Type 0
 IsEventText (Feed c bytes) = IsFeedText c bytes.items
-IsEventText (Again c) = Begins (codes "again") (NamesClient c)
-IsEventText (Hangup c) = Begins (codes "hangup") (NamesClient c)
-IsEventText (Deliver letter) = Begins (codes "deliver") (Writes (2 ^ 64) letter)
-IsEventText (Cut id moment) = Begins (codes "cut") (Joins (NumbersReplica id) (Writes (2 ^ 32) moment))
-IsEventText (Step id place) = Begins (codes "step") (Joins (NumbersReplica id) (Writes MOST_PLACES place))
-IsEventText (Finish id) = Begins (codes "finish") (NumbersReplica id)
-IsEventText (Suspect id) = Begins (codes "suspect") (NumbersReplica id)
+IsEventText (Again c) = BeginsWith (codes "again") (NamesClient c)
+IsEventText (Hangup c) = BeginsWith (codes "hangup") (NamesClient c)
+IsEventText (Deliver letter) = BeginsWith (codes "deliver") (Writes (2 ^ 64) letter)
+IsEventText (Cut id moment) = BeginsWith (codes "cut") (Joins (NumbersReplica id) (Writes (2 ^ 32) moment))
+IsEventText (Step id place) = BeginsWith (codes "step") (Joins (NumbersReplica id) (Writes MOST_PLACES place))
+IsEventText (Finish id) = BeginsWith (codes "finish") (NumbersReplica id)
+IsEventText (Suspect id) = BeginsWith (codes "suspect") (NumbersReplica id)
 -- no line says it
 IsEventText (Trim id place) = λ line. ⊥
-IsEventText (Crash replica) = Begins (codes "crash") (NamesReplica replica)
-IsEventText (Restart replica) = Begins (codes "restart") (NamesReplica replica)
-IsEventText (Lost replica) = Begins (codes "lose") (NamesReplica replica)
-IsEventText (FailSave replica) = Begins (codes "failsave") (NamesReplica replica)
+IsEventText (Crash replica) = BeginsWith (codes "crash") (NamesReplica replica)
+IsEventText (Restart replica) = BeginsWith (codes "restart") (NamesReplica replica)
+IsEventText (Lost replica) = BeginsWith (codes "lose") (NamesReplica replica)
+IsEventText (FailSave replica) = BeginsWith (codes "failsave") (NamesReplica replica)
 
 abbrev pub IsLineText : ScheduleLine → List ℕ → Type 0
 IsLineText (Happens event) = IsEventText event
-IsLineText (Settle most) = Begins (codes "settle") (Writes (MOST_EVENTS + 1) most)
-IsLineText (Random seed count) = Begins (codes "random") (Joins (Writes (2 ^ 64) seed) (Writes (MOST_EVENTS + 1) count))
+IsLineText (Settle most) = BeginsWith (codes "settle") (Writes (MOST_EVENTS + 1) most)
+IsLineText (Random seed count) = BeginsWith (codes "random") (Joins (Writes (2 ^ 64) seed) (Writes (MOST_EVENTS + 1) count))
 
 -- The line says something: that some bytes come, wherever they lie in memory, or else.
 abbrev pub SaysSomething : List ℕ → Type 0

@@ -4,8 +4,8 @@ use Rattle.std.specs.Option.{option_map}
 use Rattle.proto.specs.Line.{◌>>=◌}
 
 -- the word, a space, and a text of which this holds
-abbrev pub Begins : List ℕ → (List ℕ → Type 0) → List ℕ → Type 0
-Begins word P text = (rest : List ℕ) × (text ≡ word ++ 32 ∷ rest) × P rest
+abbrev pub BeginsWith : List ℕ → (List ℕ → Type 0) → List ℕ → Type 0
+BeginsWith word P text = (rest : List ℕ) × (text ≡ word ++ 32 ∷ rest) × P rest
 
 -- a text of which the one holds, a space, and a text of which the other holds
 abbrev pub Joins : (List ℕ → Type 0) → (List ℕ → Type 0) → List ℕ → Type 0

@@ -5,7 +5,7 @@ use Rattle.events.specs.declared.config.TheConstants.{MOST_CLIENTS}
 use Rattle.schedules.specs.declared.fault.ScheduleFault.{ScheduleFault}
 use Rattle.schedules.specs.declared.fault.ScheduleFault.TheVariants.{NoMemory, BadSchedule}
 use Rattle.schedules.specs.declared.schedule.Schedule.{Schedule}
-use Rattle.schedules.specs.Parts.{Begins}
+use Rattle.schedules.specs.Parts.{BeginsWith}
 use Rattle.schedules.specs.Line.{Writes, IsLineText, SaysSomething}
 
 -- the lines of a file: each ends at a byte 10, which the last one may lack
@@ -19,16 +19,16 @@ is_skipped [] = true
 is_skipped (b ∷ bs) = b == 35
 
 -- the lines that say something
-abbrev pub told : List (List ℕ) → List (List ℕ)
-told lines = filter (λ line. not (is_skipped line)) lines
+abbrev pub told_lines : List (List ℕ) → List (List ℕ)
+told_lines lines = filter (λ line. not (is_skipped line)) lines
 
 -- the first of them
 abbrev pub IsSizeText : ℕ → List ℕ → Type 0
-IsSizeText u = Begins (codes "u") (Writes 4 u)
+IsSizeText u = BeginsWith (codes "u") (Writes 4 u)
 
 -- the second one
 abbrev pub IsClientsText : ℕ → List ℕ → Type 0
-IsClientsText clients line = Begins (codes "clients") (Writes (MOST_CLIENTS + 1) clients) line × (1 ≤ clients)
+IsClientsText clients line = BeginsWith (codes "clients") (Writes (MOST_CLIENTS + 1) clients) line × (1 ≤ clients)
 
 -- lines that say something, and all that they say
 abbrev pub SaySchedule : List (List ℕ) → Schedule → Type 0
@@ -38,7 +38,7 @@ SaySchedule (size ∷ clients ∷ lines) s = IsSizeText s.config.u size × IsCli
 
 -- the bytes of the file spell this schedule
 abbrev pub SpellsSchedule : List ℕ → Schedule → Type 0
-SpellsSchedule bytes s = SaySchedule (told (lines_of bytes)) s
+SpellsSchedule bytes s = SaySchedule (told_lines (lines_of bytes)) s
 
 -- ---- what is refused
 
@@ -58,8 +58,8 @@ pub record IsFirstBad (lines : List (List ℕ)) (number : ℕ) : Type 0 where
   -- how many lines stand before it
   pub before : ℕ
   pub numbered : number ≡ suc before
-  pub all_fit : AllFit 0 (told (take before lines))
-  pub bad : ((before < length lines) × (AllFit 0 (told (take (suc before) lines)) → ⊥)) ⊎ ((before ≡ length lines) × (length (told lines) < 2))
+  pub all_fit : AllFit 0 (told_lines (take before lines))
+  pub bad : ((before < length lines) × (AllFit 0 (told_lines (take (suc before) lines)) → ⊥)) ⊎ ((before ≡ length lines) × (length (told_lines lines) < 2))
 
 -- a fault says which line that is, unless memory ran out
 abbrev pub IsRefusedRightly : List ℕ → ScheduleFault → Type 0

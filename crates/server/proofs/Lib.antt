@@ -1,1 +1,1 @@
-pub mod Crossing
+mod Crossing

@@ -32,3 +32,11 @@ impl From<AllocError> for ServeFault {
         ServeFault::Own(Fault::NoMemory)
     }
 }
+
+impl From<Fault> for ServeFault {
+    ghost from_gives = { λ fault e. e ≡ Own fault };
+
+    fn from(fault: Fault) -> ServeFault {
+        ServeFault::Own(fault)
+    }
+}

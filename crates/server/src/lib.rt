@@ -1,18 +1,15 @@
-//! A memcached server on replicas: the threads of the nodes, of each connection, of the ticks and of the
-//! accepting.
+//! A memcached server on replicas: the service behind the event loop.
 //!
-//! It stands on `nodes` (the loops of the nodes, the links to them), `client` (what a connection asks and
-//! is given), `streams` and `serving`. Its loops wait and start threads, so no clause says what they do:
-//! what is proved of them is what the calls promise that they make. The layer above uses `serve`.
+//! It stands on `service`, which answers, and on `event_loop`, which accepts, reads and writes. Nothing
+//! is decided here. The layer above uses `serve` or, for a server that is watched, `serve_beside`.
 #![tactic(auto)]
 
-mod accepting;
+mod answering;
 mod fault;
-mod house;
 mod life;
-mod session;
-mod ticking;
+mod watcher;
 
 pub use fault::ServeFault;
-pub use life::serve;
-pub use nodes::Incidents;
+pub use life::{MOST_CONNECTIONS, Options, serve, serve_beside};
+pub use service::{Incidents, Service};
+pub use watcher::Watcher;

@@ -2,100 +2,145 @@
 
 ghost use Rattle.std.specs.Prelude.{◌<◌};
 
+use crate::answering::Answering;
 use crate::fault::ServeFault;
-use crate::house::{House, end, start_accepting, start_nodes};
-use nodes::{Incidents, Size};
+use crate::watcher::Watcher;
+use event_loop::{Admission, Refused, Watch, read_out};
+use mio::net::TcpListener as Listener;
+use service::{Config, Fault, Service};
 use std::alloc::Global;
-use std::io::{ErrorKind, Read};
+use std::io::Read;
 use std::net::{Net, TcpListener, TcpStream};
 use std::rt::Clock;
-use std::sync::atomic::{AtomicBool, Ordering};
-use std::sync::{Arc, Wait};
+use std::sync::Wait;
 use std::thread::Threads;
 
-/// Reads to the end, or to the first read that fails.
-fn read_out<I: Read>(until: &mut I) {
-    let mut buffer = [0u8; 512];
-    for _ in 0..u64::MAX {
-        match until.read(&mut buffer) {
-            Ok(0) => return,
-            Ok(_) => {}
-            Err(e) => {
-                if e.kind() != ErrorKind::Interrupted {
-                    return;
-                }
-            }
+/// So many connections are served at once by `serve`.
+pub const MOST_CONNECTIONS: usize = 64;
+
+/// So many client proxies ask the replicas. A batch has at most one request of each.
+const PROXIES: u16 = 64;
+
+/// What a connection is given for which `serve` has no room.
+const TOO_MANY: &[u8] = b"SERVER_ERROR too many sessions\r\n";
+
+/// How a server is to serve.
+#[derive(Clone, Copy)]
+pub struct Options {
+    /// So many connections are served at once.
+    pub connections: usize,
+    /// What any other one is given before it is closed.
+    pub refusal: &'static [u8],
+    /// There are `2u + 1` executors and `2u + 1` verifiers.
+    pub u: u8,
+    ghost few: { u < 4 },
+}
+
+/// The service over its replicas, for the event loop.
+fn open(alloc: Global, options: Options) -> Result<Answering, ServeFault> {
+    let config = Config::new(options.u, PROXIES)?;
+    let service = Service::open(alloc, &config)?;
+    match Answering::new(alloc, service, options.connections) {
+        Ok(answering) => Ok(answering),
+        Err(service) => {
+            service.end();
+            Err(ServeFault::Own(Fault::NoMemory))
         }
     }
 }
 
-/// Takes connections until the end of `until`. Then no thread of them is left.
-fn serve_until<
-    R: Net<Listener = TcpListener, Stream = TcpStream>
-        + Threads
-        + Wait
-        + Clock
-        + Clone
-        + Send
-        + Drop
-        + 'static,
-    I: Read,
->(
-    rt: &R,
-    alloc: Global,
-    house: &mut House,
-    size: Size,
-    listener: TcpListener,
-    until: &mut I,
-) -> Result<(), ServeFault> {
-    let Ok(address) = listener.local_addr() else {
-        return Err(ServeFault::Start);
-    };
-    let stopping = Arc::new(alloc, AtomicBool::new(false))?;
-    let porch = house.porch(alloc, size, &stopping)?;
-    let accepting = start_accepting(rt, alloc, porch, listener)?;
-    read_out(until);
-    stopping.store(true, Ordering::SeqCst);
-    // The accepting thread looks whether it is to end when a connection comes.
-    let _ = TcpStream::connect(rt, address);
-    accepting.join(rt);
-    Ok(())
+/// Why the event loop did not begin.
+fn not_started(refused: Refused) -> ServeFault {
+    match refused {
+        Refused::NoMemory => ServeFault::Own(Fault::NoMemory),
+        Refused::Start => ServeFault::Start,
+    }
 }
 
-/// Serves memcached's text protocol on the listener, kept on `2u + 1` executors and `2u + 1` verifiers,
-/// each in a thread of this process. It returns after the end or a fault of `until`: no more connections
-/// are taken, those that are here are shut, and all threads are joined. The incidents say how often a leader was
-/// suspected and how many batches were rolled back; without a fault of a node both are 0.
-///
-/// `Own` where memory ran out before it began to serve, `Start` where a thread could not be started or
-/// the listener tells no address. Then no thread is left. Where memory runs out later, a connection is
-/// closed, or a node stops, and the others go on.
-pub fn serve<
-    R: Net<Listener = TcpListener, Stream = TcpStream>
-        + Threads
-        + Wait
-        + Clock
-        + Clone
-        + Send
-        + Sync
-        + Drop
-        + 'static,
-    I: Read,
+/// The listeners, such that none of their calls waits.
+fn waiting_for_none(
+    alloc: Global,
+    listeners: Vec<TcpListener>,
+) -> Result<Vec<Listener>, ServeFault> {
+    let mut all = Vec::with_capacity(alloc, listeners.len())?;
+    for listener in listeners {
+        if listener.set_nonblocking(true).is_err() {
+            return Err(ServeFault::Start);
+        }
+        all.push(Listener::from_std(listener))?;
+    }
+    Ok(all)
+}
+
+/// Serves until `beside` returns.
+fn serve_all<
+    R: Net<Listener = TcpListener, Stream = TcpStream> + Threads + Wait + Clock + Sync,
+    F: FnOnce(&Watch<'_, Answering>),
 >(
     rt: &R,
     alloc: Global,
-    listener: TcpListener,
-    u: u8,
-    until: &mut I,
-) -> Result<Incidents, ServeFault>
+    listeners: Vec<TcpListener>,
+    options: Options,
+    beside: F,
+) -> Result<Service, ServeFault>
+    requires { F.IsAlwaysCallable beside }
+{
+    let listeners = waiting_for_none(alloc, listeners)?;
+    let admission = Admission {
+        most: options.connections,
+        refusal: options.refusal,
+    };
+    let answering = open(alloc, options)?;
+    let (answering, served) = event_loop::serve(rt, alloc, listeners, admission, answering, beside);
+    let service = answering.into_service();
+    match served {
+        Ok(()) => Ok(service),
+        Err(refused) => {
+            service.end();
+            Err(not_started(refused))
+        }
+    }
+}
+
+/// Serves memcached's text protocol on the listener, kept on `2u + 1` executors and `2u + 1` verifiers in
+/// this process, to 64 connections at once. It returns after the end or a fault of `until`: no more connections are
+/// taken then, those that are here are closed, and no thread is left. The service comes back, for whoever asks what it
+/// came through or what its laws say; its `end` ends it.
+///
+/// `Own` if memory ran out before it began to serve, `Start` if the system gave no thread or descriptor, or
+/// the listener cannot be used. If memory runs out later, a connection is closed or a node stops, and the
+/// others go on.
+pub fn serve<
+    R: Net<Listener = TcpListener, Stream = TcpStream> + Threads + Wait + Clock + Sync,
+    I: Read,
+>(rt: &R, alloc: Global, listener: TcpListener, u: u8, until: &mut I) -> Result<Service, ServeFault>
     requires { u < 4 }
 {
-    let size = Size::new(u);
-    let mut house = House::new(alloc, size)?;
-    let served = match start_nodes(rt, alloc, &mut house, size) {
-        Ok(()) => serve_until(rt, alloc, &mut house, size, listener, until),
-        Err(fault) => Err(fault),
+    let mut listeners = Vec::with_capacity(alloc, 1)?;
+    listeners.push(listener)?;
+    let options = Options {
+        connections: MOST_CONNECTIONS,
+        refusal: TOO_MANY,
+        u,
     };
-    let incidents = end(rt, house);
-    served.map(|()| incidents)
+    serve_all(rt, alloc, listeners, options, |_| read_out(until))
+}
+
+/// Serves as `serve` does, but on all listeners, as the options say, and until `beside` returns. It is called on this
+/// thread once clients are served, and sees what the server counts.
+pub fn serve_beside<
+    R: Net<Listener = TcpListener, Stream = TcpStream> + Threads + Wait + Clock + Sync,
+    F: FnOnce(&Watcher<'_>),
+>(
+    rt: &R,
+    alloc: Global,
+    listeners: Vec<TcpListener>,
+    options: Options,
+    beside: F,
+) -> Result<Service, ServeFault>
+    requires { F.IsAlwaysCallable beside }
+{
+    serve_all(rt, alloc, listeners, options, |watch| {
+        beside(&Watcher::new(*watch));
+    })
 }

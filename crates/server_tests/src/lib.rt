@@ -10,4 +10,5 @@ mod of_serving;
 #[cfg(test)]
 mod of_streams;
 #[cfg(test)]
+#[cfg(test)]
 mod talking;

@@ -4,7 +4,7 @@ ghost use Rattle.std.specs.Prelude.{◌<◌};
 
 use crate::of_rows::{bad_chunk, session};
 use crate::talking::{connected, hears, is_at_end, says, talks};
-use server::{Incidents, serve};
+use server::{ServeFault, Service, serve};
 use std::alloc::Global;
 use std::io::Read;
 use std::net::{Net, SocketAddr, TcpListener, TcpStream};
@@ -301,9 +301,16 @@ fn act<R: Net<Stream = TcpStream> + Clock>(
     }
 }
 
-/// Whether no leader was suspected and nothing rolled back.
-fn is_quiet(incidents: Incidents) -> bool {
-    incidents.suspicions == 0 && incidents.rollbacks == 0
+/// Ends the server: whether it served, no leader was suspected and nothing rolled back.
+fn was_quiet(ended: Result<Service, ServeFault>) -> bool {
+    match ended {
+        Ok(service) => {
+            let incidents = service.incidents();
+            service.end();
+            incidents.suspicions == 0 && incidents.rollbacks == 0
+        }
+        Err(_) => false,
+    }
 }
 
 /// Whether all went well with a server of this `u`, which was ended after the play. Nobody suspected a leader.
@@ -337,14 +344,14 @@ fn served<
         clients: Some(clients),
         left: None,
     };
-    let ended = serve(rt, alloc, listener, u, &mut until);
+    let is_quiet = was_quiet(serve(rt, alloc, listener, u, &mut until));
     let UntilLeft {
         rt: _,
         clients: _,
         left,
     } = until;
     match left {
-        Some(left) => left.went_well && matches!(&ended, Ok(incidents) if is_quiet(*incidents)),
+        Some(left) => left.went_well && is_quiet,
         None => false,
     }
 }

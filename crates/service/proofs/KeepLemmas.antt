@@ -1,5 +1,5 @@
 -- Each call keeps what always holds of a service.
-use Rattle.std.proofs.Common.{◌≡◌, ⊎_elim, ℕ, zero, suc, Bool, List, [], ◌∷◌, ◌++◌, map, length, Option, Some, None, refl, sym, ap, ◌∙◌, subst, arith, slice_get, append_assoc}
+use Rattle.std.proofs.Common.{◌≡◌, ⊎_elim, ℕ, zero, suc, ◌<◌, ◌≤◌, Bool, true, false, List, [], ◌∷◌, ◌++◌, map, length, Option, Some, None, refl, sym, ap, ◌∙◌, subst, arith, slice_get, append_assoc}
 use Rattle.std.specs.Prelude.{Contains}
 use Rattle.std.proofs.lemmas.List.{append-nil, map-append}
 use Rattle.std.proofs.lemmas.List.Elements.{Contains-push, Contains-append_left, Contains-append_right, Contains-append_cases}
@@ -12,22 +12,26 @@ use Rattle.connections.specs.declared.said.Said.{Said}
 use Rattle.connections.specs.Connections.{ConnectionsView}
 use Rattle.connections.proofs.TakeLemmas.{get_pushed, contains_at, one_of}
 use Rattle.ensemble.specs.declared.answer.Answer.{Answer}
-use Rattle.ensemble.specs.Ensemble.{EnsembleView, answer_entry}
+use Rattle.ensemble.specs.Ensemble.{EnsembleView, answer_entry, order_entry}
 use Rattle.service.specs.declared.assignment.Assignment.{Assignment}
 use Rattle.service.specs.declared.assignment.Outstanding.{Outstanding}
 use Rattle.service.specs.declared.asking.Asking.{Asking}
 use Rattle.service.specs.declared.asking.Asking.TheVariants.{Nothing, Asked, Failed}
-use Rattle.service.specs.Service.{ServiceView, number_of, IsAssigned, IsService, Waits, assigned, AreLogged, AnswersTo, Gives, given_entry}
+use Rattle.service.specs.Service.{ServiceView, asked_keys, before_ask, IsAnsweredEarlier, command_number_of, IsAssigned, IsService, Waits, asked_as, assigned_as, assigned, AreLogged, AnswersTo, Gives, given_entry}
+use Rattle.service.proofs.OrderLemmas.{Order, asked_push, answers_ask_nothing, before_same, before_last, asked_below, asked_count}
 use Rattle.service.specs.Steps.{NoneWaits, KeepsWaits, AddsWait, EndsWait, KeepsTaken, IsAskedOf, AsksFor, Settles}
 
 -- ---- nothing was asked yet
 
-pub first_keeps : (v : ServiceView) → v.assignments ≡ [] → v.asked ≡ [] → v.connections.replied ≡ [] → NoneWaits v.waiting → IsService v
-first_keeps v none none_asked none_replied none_waits = record {
+pub first_keeps : (v : ServiceView) → v.assignments ≡ [] → v.asked ≡ [] → v.order ≡ [] → v.connections.replied ≡ [] → NoneWaits v.waiting → IsService v
+first_keeps v none none_asked none_ordered none_replied none_waits = record {
   each = λ a i. absurd (empty a (subst (λ (xs : List Assignment). Contains xs a) none i));
   none_else = λ r i. absurd (empty r (subst (λ (xs : List (Request × Bool)). Contains xs r) none_asked i));
+  in_order = ap (map asked_as) none_asked ∙ sym (ap (map assigned_as) none);
   once = λ i j a b at_i at_j same turn. let e : ◌≡◌ {A = Option Assignment} None (Some a) = subst (λ (xs : List Assignment). slice_get xs i ≡ Some a) none at_i in absurd (cc e);
   replied = λ e i. absurd (empty e (subst (λ (xs : List (CommandNumber × replies.Reply)). Contains xs e) none_replied i));
+  ordered = ap asked_keys none_ordered ∙ sym (ap (map assigned_as) none);
+  in_turn = λ i b at_i. let e : ◌≡◌ {A = Option Assignment} None (Some b) = subst (λ (xs : List Assignment). slice_get xs i ≡ Some b) none at_i in absurd (cc e);
   waits = λ a w. absurd (none_waits a w);
 }
   where
@@ -42,13 +46,13 @@ ends_keeps old new proxy number (Some o) e = e.0
 -- ---- nothing is asked
 
 pub keeps : (v now : ServiceView) → IsService v → KeepsTaken v.connections now.connections → now.connections.replied ≡ v.connections.replied → now.asked ≡ v.asked
-    → ((x : (ℕ × ℕ) × replies.Reply) → Contains v.answered x → Contains now.answered x) → now.assignments ≡ v.assignments → KeepsWaits v.waiting now.waiting → IsService now
-keeps v now ok taken replied asked answered same waits = record {
+    → ((x : (ℕ × ℕ) × replies.Reply) → Contains v.answered x → Contains now.answered x) → now.assignments ≡ v.assignments → (answers : List Answer) → now.order ≡ v.order ++ map order_entry answers → KeepsWaits v.waiting now.waiting → IsService now
+keeps v now ok taken replied asked answered same answers order waits = record {
   each = λ a i.
       let e = ok.each a (subst (λ (xs : List Assignment). Contains xs a) same i) in
       record {
         command = e.command;
-        taken = taken (number_of a, e.command) e.taken;
+        taken = taken (command_number_of a, e.command) e.taken;
         request = e.request;
         quiet = e.quiet;
         asked = subst (λ (xs : List (Request × Bool)). Contains xs (e.request, e.quiet)) (sym asked) e.asked;
@@ -59,41 +63,58 @@ keeps v now ok taken replied asked answered same waits = record {
   none_else = λ r i.
       let n = ok.none_else r (subst (λ (xs : List (Request × Bool)). Contains xs r) asked i) in
       (n.0, subst (λ (xs : List Assignment). Contains xs n.0) (sym same) n.1, n.2, n.3);
+  in_order = ap (map asked_as) asked ∙ ok.in_order ∙ sym (ap (map assigned_as) same);
   once = λ i j a b at_i at_j.
       ok.once i j a b (subst (λ (xs : List Assignment). slice_get xs i ≡ Some a) same at_i) (subst (λ (xs : List Assignment). slice_get xs j ≡ Some b) same at_j);
   replied = λ e i.
-      let r = ok.replied e (subst (λ (xs : List (CommandNumber × replies.Reply)). Contains xs e) replied i) in
-      (r.0, subst (λ (xs : List Assignment). Contains xs r.0) (sym same) r.1, r.2, answered ((r.0.proxy, r.0.number), e.1) r.3);
+      let r = ok.replied e (subst (λ (xs : List (CommandNumber × replies.Reply)). Contains xs e) replied i) in (
+        r.0,
+        subst (λ (xs : List Assignment). Contains xs r.0) (sym same) r.1,
+        r.2,
+        answered ((r.0.proxy, r.0.number), e.1) r.3,
+        subst (λ (o : Order). Contains o ((r.0.proxy, r.0.number), true)) (sym order) (Contains-append_left v.order (map order_entry answers) ((r.0.proxy, r.0.number), true) r.4),
+      );
+  ordered = ap asked_keys order ∙ (answers_ask_nothing v.order answers ∙ (ok.ordered ∙ sym (ap (map assigned_as) same)));
+  in_turn = λ i b at_i turn from_one below.
+      let at : slice_get v.assignments i ≡ Some b = subst (λ (xs : List Assignment). slice_get xs i ≡ Some b) same at_i in
+      let was = ok.in_turn i b at turn from_one below in
+      let before : before_ask i now.order ≡ before_ask i v.order = ap (before_ask i) order ∙ before_same i v.order (map order_entry answers) (asked_below v ok i b at) in
+      record { assignment = was.assignment; assigned = subst (λ (xs : List Assignment). Contains xs was.assignment) (sym same) was.assigned; of_connection = was.of_connection; of_turn = was.of_turn; answered = subst (λ (o : Order). Contains o ((was.assignment.proxy, was.assignment.number), true)) (sym before) was.answered };
   waits = λ a w. subst (λ (xs : List Assignment). Contains xs a) (sym same) (ok.waits a (waits a w));
 }
 
 -- the connections alone went on
 pub connections_keep : (v : ServiceView) (now : ConnectionsView) → IsService v → now.taken ≡ v.connections.taken → now.replied ≡ v.connections.replied → IsService (record v { connections = now })
-connections_keep v now ok taken replied = keeps v (record v { connections = now }) ok (λ e i. subst (λ (xs : List (CommandNumber × Command)). Contains xs e) (sym taken) i) replied refl (λ x i. i) refl (λ a w. w)
+connections_keep v now ok taken replied = keeps v (record v { connections = now }) ok (λ e i. subst (λ (xs : List (CommandNumber × Command)). Contains xs e) (sym taken) i) replied refl (λ x i. i) refl [] (sym (append-nil v.order)) (λ a w. w)
 
 -- the replicas worked
-pub worked_keeps : (v : ServiceView) (asked : List (Request × Bool)) (answered : List ((ℕ × ℕ) × replies.Reply)) (answers : List Answer) → IsService v → asked ≡ v.asked → answered ≡ v.answered ++ map answer_entry answers → IsService (record v { asked = asked; answered = answered })
-worked_keeps v asked answered answers ok same is =
-    keeps v (record v { asked = asked; answered = answered }) ok (λ e i. i) refl same
-    (λ x i. subst (λ (xs : List ((ℕ × ℕ) × replies.Reply)). Contains xs x) (sym is) (Contains-append_left v.answered (map answer_entry answers) x i)) refl (λ a w. w)
+pub worked_keeps : (v : ServiceView) (asked : List (Request × Bool)) (answered : List ((ℕ × ℕ) × replies.Reply)) (order : Order) (answers : List Answer) → IsService v → asked ≡ v.asked → answered ≡ v.answered ++ map answer_entry answers → order ≡ v.order ++ map order_entry answers
+    → IsService (record v { asked = asked; answered = answered; order = order })
+worked_keeps v asked answered order answers ok same is ordered =
+    keeps v (record v { asked = asked; answered = answered; order = order }) ok (λ e i. i) refl same
+    (λ x i. subst (λ (xs : List ((ℕ × ℕ) × replies.Reply)). Contains xs x) (sym is) (Contains-append_left v.answered (map answer_entry answers) x i)) refl answers ordered (λ a w. w)
 
-pub tended_keeps : (v : ServiceView) (asked : List (Request × Bool)) (answered : List ((ℕ × ℕ) × replies.Reply)) (waiting : List (Option Outstanding)) → IsService v → asked ≡ v.asked → answered ≡ v.answered → KeepsWaits v.waiting waiting → IsService (record v { asked = asked; answered = answered; waiting = waiting })
-tended_keeps v asked answered waiting ok same is waits =
-    keeps v (record v { asked = asked; answered = answered; waiting = waiting }) ok (λ e i. i) refl same (λ x i. subst (λ (xs : List ((ℕ × ℕ) × replies.Reply)). Contains xs x) (sym is) i) refl waits
+pub tended_keeps : (v : ServiceView) (asked : List (Request × Bool)) (answered : List ((ℕ × ℕ) × replies.Reply)) (order : Order) (waiting : List (Option Outstanding)) → IsService v → asked ≡ v.asked → answered ≡ v.answered → order ≡ v.order → KeepsWaits v.waiting waiting
+    → IsService (record v { asked = asked; answered = answered; order = order; waiting = waiting })
+tended_keeps v asked answered order waiting ok same is ordered waits =
+    keeps v (record v { asked = asked; answered = answered; order = order; waiting = waiting }) ok (λ e i. i) refl same (λ x i. subst (λ (xs : List ((ℕ × ℕ) × replies.Reply)). Contains xs x) (sym is) i) refl [] (ordered ∙ sym (append-nil v.order)) waits
 
-contains_map : (answers : List Answer) (a : Answer) → Contains answers a → Contains (map answer_entry answers) (answer_entry a)
-contains_map [] a i = let lt = i.1 in absurd (omega (arith, lt))
-contains_map (x ∷ answers) a (zero, lt, e) = (zero, omega arith, ap answer_entry e)
-contains_map (x ∷ answers) a (suc k, lt, e) = let c = contains_map answers a (k, omega (arith, lt), e) in let less = c.1 in (suc c.0, omega (arith, less), c.2)
+contains_map : {X : Type 0} (of : Answer → X) (answers : List Answer) (a : Answer) → Contains answers a → Contains (map of answers) (of a)
+contains_map of [] a i = let lt = i.1 in absurd (omega (arith, lt))
+contains_map of (x ∷ answers) a (zero, lt, e) = (zero, omega arith, ap of e)
+contains_map of (x ∷ answers) a (suc k, lt, e) = let c = contains_map of answers a (k, omega (arith, lt), e) in let less = c.1 in (suc c.0, omega (arith, less), c.2)
 
-pub are_logged : (answers : List Answer) (old new : List ((ℕ × ℕ) × replies.Reply)) → new ≡ old ++ map answer_entry answers → AreLogged answers new
-are_logged answers old new is a i = subst (λ (xs : List ((ℕ × ℕ) × replies.Reply)). Contains xs (answer_entry a)) (sym is) (Contains-append_right old (map answer_entry answers) (answer_entry a) (contains_map answers a i))
+pub are_logged : (answers : List Answer) (old new : List ((ℕ × ℕ) × replies.Reply)) (order order_now : Order) → new ≡ old ++ map answer_entry answers → order_now ≡ order ++ map order_entry answers → AreLogged answers new order_now
+are_logged answers old new order order_now is ordered a i = (
+  subst (λ (xs : List ((ℕ × ℕ) × replies.Reply)). Contains xs (answer_entry a)) (sym is) (Contains-append_right old (map answer_entry answers) (answer_entry a) (contains_map answer_entry answers a i)),
+  subst (λ (xs : Order). Contains xs (order_entry a)) (sym ordered) (Contains-append_right order (map order_entry answers) (order_entry a) (contains_map order_entry answers a i)),
+)
 
 -- ---- a command is asked
 
-module _ (v : ServiceView) (ok : IsService v) (at : Place) (proxy : ℕ) (next : ConnectionsView) (e f : EnsembleView) (same_asked : e.asked ≡ v.asked) (same_answered : e.answered ≡ v.answered) (a : Assignment) (waiting : List (Option Outstanding)) (is : IsAskedOf at proxy v.connections next e f a) (adds : AddsWait v.waiting a waiting) where
+module _ (v : ServiceView) (ok : IsService v) (at : Place) (proxy : ℕ) (next : ConnectionsView) (e f : EnsembleView) (same_asked : e.asked ≡ v.asked) (same_answered : e.answered ≡ v.answered) (same_order : e.order ≡ v.order) (a : Assignment) (waiting : List (Option Outstanding)) (is : IsAskedOf at proxy v.connections next e f a) (adds : AddsWait v.waiting a waiting) where
   abbrev pub now : ServiceView
-  now = record { connections = next; asked = f.asked; answered = f.answered; assignments = v.assignments ++ a ∷ []; waiting = waiting }
+  now = record { connections = next; asked = f.asked; answered = f.answered; order = f.order; assignments = v.assignments ++ a ∷ []; waiting = waiting }
 
   abbrev entry : Request × Bool
   entry = (is.logged.request, is.quiet)
@@ -104,13 +125,19 @@ module _ (v : ServiceView) (ok : IsService v) (at : Place) (proxy : ℕ) (next :
   answered_is : f.answered ≡ v.answered
   answered_is = is.answered ∙ same_answered
 
+  abbrev ask_entry : (ℕ × ℕ) × Bool
+  ask_entry = ((proxy, a.number), false)
+
+  order_is : f.order ≡ v.order ++ ask_entry ∷ []
+  order_is = is.ordered ∙ ap (λ (o : Order). o ++ ask_entry ∷ []) same_order
+
   kept : (b : Assignment) → Contains v.assignments b → Contains (v.assignments ++ a ∷ []) b
   kept b i = Contains-append_left v.assignments (a ∷ []) b i
 
   old_one : (b : Assignment) → IsAssigned v b → IsAssigned now b
   old_one b o = record {
     command = o.command;
-    taken = subst (λ (xs : List (CommandNumber × Command)). Contains xs (number_of b, o.command)) (sym is.taken) (Contains-append_left v.connections.taken _ (number_of b, o.command) o.taken);
+    taken = subst (λ (xs : List (CommandNumber × Command)). Contains xs (command_number_of b, o.command)) (sym is.taken) (Contains-append_left v.connections.taken _ (command_number_of b, o.command) o.taken);
     request = o.request;
     quiet = o.quiet;
     asked = subst (λ (xs : List (Request × Bool)). Contains xs (o.request, o.quiet)) (sym asked_is) (Contains-append_left v.asked (entry ∷ []) (o.request, o.quiet) o.asked);
@@ -122,8 +149,8 @@ module _ (v : ServiceView) (ok : IsService v) (at : Place) (proxy : ℕ) (next :
   new_one : IsAssigned now a
   new_one = record {
     command = is.command;
-    taken = subst (λ (xs : List (CommandNumber × Command)). Contains xs (number_of a, is.command)) (sym (is.taken ∙ ap (λ (n : ℕ). v.connections.taken ++ (record { connection = n; turn = a.turn }, is.command) ∷ []) (sym is.of_connection)))
-        (Contains-push v.connections.taken (number_of a, is.command));
+    taken = subst (λ (xs : List (CommandNumber × Command)). Contains xs (command_number_of a, is.command)) (sym (is.taken ∙ ap (λ (n : ℕ). v.connections.taken ++ (record { connection = n; turn = a.turn }, is.command) ∷ []) (sym is.of_connection)))
+        (Contains-push v.connections.taken (command_number_of a, is.command));
     request = is.logged.request;
     quiet = is.quiet;
     asked = subst (λ (xs : List (Request × Bool)). Contains xs entry) (sym asked_is) (Contains-push v.asked entry);
@@ -136,8 +163,33 @@ module _ (v : ServiceView) (ok : IsService v) (at : Place) (proxy : ℕ) (next :
   differs : (b : Assignment) → Contains v.assignments b → b.connection ≡ a.connection → b.turn ≡ a.turn → ⊥
   differs b i same turn =
       let o = ok.each b i in
-      let lt = is.first (number_of b, o.command) o.taken (same ∙ is.of_connection) in
+      let lt = is.first (command_number_of b, o.command) o.taken (same ∙ is.of_connection) in
       absurd (omega (arith, lt, turn))
+
+  same_request : asked_as entry ≡ assigned_as a
+  same_request = λ k. ((is.logged.of_proxy ∙ sym is.of_proxy) k, is.logged.numbered k)
+
+  -- a command that was answered before
+  answered_before : (b : ℕ) (turn : ℕ) (o p : Order) → p ≡ o → IsAnsweredEarlier v.assignments b turn o → IsAnsweredEarlier now.assignments b turn p
+  answered_before b turn o p same was = record { assignment = was.assignment; assigned = kept was.assignment was.assigned; of_connection = was.of_connection; of_turn = was.of_turn; answered = subst (λ (x : Order). Contains x ((was.assignment.proxy, was.assignment.number), true)) (sym same) was.answered }
+
+  -- each earlier command of the connection was answered
+  earlier_one : (turn : ℕ) → 1 ≤ turn → turn < a.turn → IsAnsweredEarlier v.assignments a.connection turn v.order
+  earlier_one turn from_one below =
+      let reply = is.earlier turn from_one below in
+      let r = ok.replied (record { connection = at.number; turn = turn }, reply.0) reply.1 in
+      record { assignment = r.0; assigned = r.1; of_connection = ap (λ (n : CommandNumber). n.connection) r.2 ∙ sym is.of_connection; of_turn = ap (λ (n : CommandNumber). n.turn) r.2; answered = r.4 }
+
+  turn_now : (i : ℕ) (b : Assignment) → slice_get now.assignments i ≡ Some b → (turn : ℕ) → 1 ≤ turn → turn < b.turn → IsAnsweredEarlier now.assignments b.connection turn (before_ask i f.order)
+  turn_now i b at_i turn from_one below = ⊎_elim
+      (λ (old : slice_get v.assignments i ≡ Some b). answered_before b.connection turn (before_ask i v.order) (before_ask i f.order)
+      (ap (before_ask i) order_is ∙ before_same i v.order (ask_entry ∷ []) (asked_below v ok i b old)) (ok.in_turn i b old turn from_one below))
+      (λ (new : (i ≡ length v.assignments) × (a ≡ b)).
+      let all : before_ask i f.order ≡ v.order = (λ j. before_ask (new.0 j) (order_is j)) ∙ (ap (λ (n : ℕ). before_ask n (v.order ++ ask_entry ∷ [])) (sym (asked_count v ok)) ∙ before_last v.order (proxy, a.number)) in
+      let turn_of_a : turn < a.turn = subst (λ (x : Assignment). turn < x.turn) (sym new.1) below in
+      subst (λ (x : Assignment). IsAnsweredEarlier now.assignments x.connection turn (before_ask i f.order)) new.1
+      (answered_before a.connection turn v.order (before_ask i f.order) all (earlier_one turn from_one turn_of_a)))
+      (get_pushed v.assignments a i b at_i)
 
   pub asked_keeps : IsService now
   asked_keeps = record {
@@ -146,6 +198,11 @@ module _ (v : ServiceView) (ok : IsService v) (at : Place) (proxy : ℕ) (next :
         (λ (old : Contains v.asked r). let n = ok.none_else r old in (n.0, kept n.0 n.1, n.2, n.3))
         (λ (new : Contains (entry ∷ []) r). subst (λ (x : Request × Bool). (b : Assignment) × Contains (v.assignments ++ a ∷ []) b × (b.proxy ≡ x.0.client) × (b.number ≡ x.0.number)) (one_of entry r new) (a, Contains-push v.assignments a, is.of_proxy ∙ sym is.logged.of_proxy, sym is.logged.numbered))
         (Contains-append_cases v.asked (entry ∷ []) r (subst (λ (xs : List (Request × Bool)). Contains xs r) asked_is i));
+    in_order =
+        ap (map asked_as) asked_is ∙ map-append asked_as v.asked (entry ∷ [])
+        ∙ ap (λ (xs : List (ℕ × ℕ)). xs ++ asked_as entry ∷ []) ok.in_order
+        ∙ ap (λ (x : ℕ × ℕ). map assigned_as v.assignments ++ x ∷ []) same_request
+        ∙ sym (map-append assigned_as v.assignments (a ∷ []));
     once = λ i j b d at_i at_j same turn. ⊎_elim
         (λ (old : slice_get v.assignments i ≡ Some b). ⊎_elim
         (λ (older : slice_get v.assignments j ≡ Some d). ok.once i j b d old older same turn)
@@ -157,21 +214,32 @@ module _ (v : ServiceView) (ok : IsService v) (at : Place) (proxy : ℕ) (next :
         (get_pushed v.assignments a j d at_j))
         (get_pushed v.assignments a i b at_i);
     replied = λ x i.
-        let r = ok.replied x (subst (λ (xs : List (CommandNumber × replies.Reply)). Contains xs x) is.bytes.replied i) in
-        (r.0, kept r.0 r.1, r.2, subst (λ (xs : List ((ℕ × ℕ) × replies.Reply)). Contains xs ((r.0.proxy, r.0.number), x.1)) (sym answered_is) r.3);
+        let r = ok.replied x (subst (λ (xs : List (CommandNumber × replies.Reply)). Contains xs x) is.bytes.replied i) in (
+          r.0,
+          kept r.0 r.1,
+          r.2,
+          subst (λ (xs : List ((ℕ × ℕ) × replies.Reply)). Contains xs ((r.0.proxy, r.0.number), x.1)) (sym answered_is) r.3,
+          subst (λ (o : Order). Contains o ((r.0.proxy, r.0.number), true)) (sym order_is) (Contains-append_left v.order (ask_entry ∷ []) ((r.0.proxy, r.0.number), true) r.4),
+        );
+    ordered =
+        ap asked_keys order_is ∙ (asked_push v.order (proxy, a.number)
+        ∙ (ap (λ (xs : List (ℕ × ℕ)). xs ++ (proxy, a.number) ∷ []) ok.ordered
+        ∙ (ap (λ (n : ℕ). map assigned_as v.assignments ++ (n, a.number) ∷ []) (sym is.of_proxy)
+        ∙ sym (map-append assigned_as v.assignments (a ∷ [])))));
+    in_turn = turn_now;
     waits = λ b w. ⊎_elim (λ (old : Waits v.waiting b). kept b (ok.waits b old)) (λ (same : b ≡ a). subst (Contains (v.assignments ++ a ∷ [])) (sym same) (Contains-push v.assignments a)) (adds b w);
   }
 
 -- whatever came of it
-pub assign_keeps : (v : ServiceView) (at : Place) (proxy : ℕ) (next : ConnectionsView) (e f : EnsembleView) (asking : Asking) (pool waiting : List (Option Outstanding)) (assignments : List Assignment) (said said_now : List Said) → IsService v → e.asked ≡ v.asked → e.answered ≡ v.answered → pool ≡ v.waiting
+pub assign_keeps : (v : ServiceView) (at : Place) (proxy : ℕ) (next : ConnectionsView) (e f : EnsembleView) (asking : Asking) (pool waiting : List (Option Outstanding)) (assignments : List Assignment) (said said_now : List Said) → IsService v → e.asked ≡ v.asked → e.answered ≡ v.answered → e.order ≡ v.order → pool ≡ v.waiting
     → AsksFor at proxy v.connections e next f asking → Settles asking pool waiting v.assignments assignments said said_now
-    → IsService (record { connections = next; asked = f.asked; answered = f.answered; assignments = assignments; waiting = waiting })
-assign_keeps v at proxy next e f Nothing pool waiting assignments said said_now ok a b same asks settles =
-    keeps v _ ok asks.0.taken asks.0.replied (ap (λ (x : EnsembleView). x.asked) asks.0.same ∙ a) (λ x i. subst (λ (xs : List ((ℕ × ℕ) × replies.Reply)). Contains xs x) (sym (ap (λ (y : EnsembleView). y.answered) asks.0.same ∙ b)) i) settles.1 (λ y w. subst (λ (ws : List (Option Outstanding)). Waits ws y) (settles.0 ∙ same) w)
-assign_keeps v at proxy next e f (Failed g) pool waiting assignments said said_now ok a b same asks settles =
-    keeps v _ ok asks.0.taken asks.0.replied (ap (λ (x : EnsembleView). x.asked) asks.0.same ∙ a) (λ x i. subst (λ (xs : List ((ℕ × ℕ) × replies.Reply)). Contains xs x) (sym (ap (λ (y : EnsembleView). y.answered) asks.0.same ∙ b)) i) settles.1 (λ y w. subst (λ (ws : List (Option Outstanding)). Waits ws y) (settles.0 ∙ same) w)
-assign_keeps v at proxy next e f (Asked x) pool waiting assignments said said_now ok a b same asks settles =
-    subst (λ (xs : List Assignment). IsService (record { connections = next; asked = f.asked; answered = f.answered; assignments = xs; waiting = waiting })) (sym settles.1) (asked_keeps v ok at proxy next e f a b x waiting asks (subst (λ (ws : List (Option Outstanding)). AddsWait ws x waiting) same settles.0))
+    → IsService (record { connections = next; asked = f.asked; answered = f.answered; order = f.order; assignments = assignments; waiting = waiting })
+assign_keeps v at proxy next e f Nothing pool waiting assignments said said_now ok a b o same asks settles =
+    keeps v _ ok asks.0.taken asks.0.replied (ap (λ (x : EnsembleView). x.asked) asks.0.same ∙ a) (λ x i. subst (λ (xs : List ((ℕ × ℕ) × replies.Reply)). Contains xs x) (sym (ap (λ (y : EnsembleView). y.answered) asks.0.same ∙ b)) i) settles.1 [] (ap (λ (y : EnsembleView). y.order) asks.0.same ∙ (o ∙ sym (append-nil v.order))) (λ y w. subst (λ (ws : List (Option Outstanding)). Waits ws y) (settles.0 ∙ same) w)
+assign_keeps v at proxy next e f (Failed g) pool waiting assignments said said_now ok a b o same asks settles =
+    keeps v _ ok asks.0.taken asks.0.replied (ap (λ (x : EnsembleView). x.asked) asks.0.same ∙ a) (λ x i. subst (λ (xs : List ((ℕ × ℕ) × replies.Reply)). Contains xs x) (sym (ap (λ (y : EnsembleView). y.answered) asks.0.same ∙ b)) i) settles.1 [] (ap (λ (y : EnsembleView). y.order) asks.0.same ∙ (o ∙ sym (append-nil v.order))) (λ y w. subst (λ (ws : List (Option Outstanding)). Waits ws y) (settles.0 ∙ same) w)
+assign_keeps v at proxy next e f (Asked x) pool waiting assignments said said_now ok a b o same asks settles =
+    subst (λ (xs : List Assignment). IsService (record { connections = next; asked = f.asked; answered = f.answered; order = f.order; assignments = xs; waiting = waiting })) (sym settles.1) (asked_keeps v ok at proxy next e f a b o x waiting asks (subst (λ (ws : List (Option Outstanding)). AddsWait ws x waiting) same settles.0))
 
 pub assign_gives : (at : Place) (proxy : ℕ) (old next : ConnectionsView) (e f : EnsembleView) (asking : Asking) (was waiting : List (Option Outstanding)) (before assignments : List Assignment) (said said_now : List Said)
     → AsksFor at proxy old e next f asking → Settles asking was waiting before assignments said said_now → Gives old.given said next.given said_now
@@ -186,23 +254,26 @@ assign_hears at proxy old next e f (Failed g) asks = asks.0.heard
 
 -- ---- a reply comes back
 
-pub replied_keeps : (v : ServiceView) (next : ConnectionsView) (waiting : List (Option Outstanding)) (o : Outstanding) (proxy number : ℕ) (reply : replies.Reply) (said said_now : List Said) → IsService v → Contains v.answered ((proxy, number), reply) → EndsWait v.waiting proxy number waiting (Some o)
+pub replied_keeps : (v : ServiceView) (next : ConnectionsView) (waiting : List (Option Outstanding)) (o : Outstanding) (proxy number : ℕ) (reply : replies.Reply) (said said_now : List Said) → IsService v → Contains v.answered ((proxy, number), reply) → Contains v.order ((proxy, number), true) → EndsWait v.waiting proxy number waiting (Some o)
     → AnswersTo o.assignment reply v.connections next said said_now → IsService (record v { connections = next; waiting = waiting })
-replied_keeps v next waiting o proxy number reply said said_now ok logged ends to = record {
+replied_keeps v next waiting o proxy number reply said said_now ok logged in_order ends to = record {
   each = λ a i.
       let e = ok.each a i in
-      record { command = e.command; taken = subst (λ (xs : List (CommandNumber × Command)). Contains xs (number_of a, e.command)) (sym to.taken) e.taken; request = e.request; quiet = e.quiet; asked = e.asked; of_proxy = e.of_proxy; numbered = e.numbered; same = e.same };
+      record { command = e.command; taken = subst (λ (xs : List (CommandNumber × Command)). Contains xs (command_number_of a, e.command)) (sym to.taken) e.taken; request = e.request; quiet = e.quiet; asked = e.asked; of_proxy = e.of_proxy; numbered = e.numbered; same = e.same };
   none_else = ok.none_else;
+  in_order = ok.in_order;
   once = ok.once;
   replied = λ e i. ⊎_elim
       (λ (same : next.replied ≡ v.connections.replied). ok.replied e (subst (λ (xs : List (CommandNumber × replies.Reply)). Contains xs e) same i))
-      (λ (more : next.replied ≡ v.connections.replied ++ (number_of o.assignment, reply) ∷ []). ⊎_elim
+      (λ (more : next.replied ≡ v.connections.replied ++ (command_number_of o.assignment, reply) ∷ []). ⊎_elim
       (λ (old : Contains v.connections.replied e). ok.replied e old)
-      (λ (new : Contains ((number_of o.assignment, reply) ∷ []) e).
-      subst (λ (x : CommandNumber × replies.Reply). (a : Assignment) × Contains v.assignments a × (number_of a ≡ x.0) × Contains v.answered ((a.proxy, a.number), x.1)) (one_of (number_of o.assignment, reply) e new)
-      (o.assignment, ok.waits o.assignment ends.1, refl, subst (λ (z : ℕ × ℕ). Contains v.answered (z, reply)) (λ j. (sym ends.2 j, sym ends.3 j)) logged))
-      (Contains-append_cases v.connections.replied ((number_of o.assignment, reply) ∷ []) e (subst (λ (xs : List (CommandNumber × replies.Reply)). Contains xs e) more i)))
+      (λ (new : Contains ((command_number_of o.assignment, reply) ∷ []) e).
+      subst (λ (x : CommandNumber × replies.Reply). (a : Assignment) × Contains v.assignments a × (command_number_of a ≡ x.0) × Contains v.answered ((a.proxy, a.number), x.1) × Contains v.order ((a.proxy, a.number), true)) (one_of (command_number_of o.assignment, reply) e new)
+      (o.assignment, ok.waits o.assignment ends.1, refl, subst (λ (z : ℕ × ℕ). Contains v.answered (z, reply)) (λ j. (sym ends.2 j, sym ends.3 j)) logged, subst (λ (z : ℕ × ℕ). Contains v.order (z, true)) (λ j. (sym ends.2 j, sym ends.3 j)) in_order))
+      (Contains-append_cases v.connections.replied ((command_number_of o.assignment, reply) ∷ []) e (subst (λ (xs : List (CommandNumber × replies.Reply)). Contains xs e) more i)))
       to.replied;
+  ordered = ok.ordered;
+  in_turn = ok.in_turn;
   waits = λ a w. ok.waits a (ends.0 a w);
 }
 

@@ -1,2 +1,4 @@
 pub mod WaitLemmas
 pub mod KeepLemmas
+pub mod Crossing
+mod OrderLemmas

@@ -11,8 +11,8 @@ abbrev pub after_up : Pause → Pause
 after_up p = if nat_le LONGEST_PAUSE p.calm then first_pause else record p { calm = p.calm + 1; left = p.next }
 
 -- its pause has gone by
-abbrev pub is_due : Pause → Bool
-is_due p = not (nat_lt 1 p.left)
+abbrev pub is_pause_over : Pause → Bool
+is_pause_over p = not (nat_lt 1 p.left)
 
 -- each opening doubles the next pause
 abbrev pub after_down : Pause → Pause

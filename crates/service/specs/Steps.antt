@@ -4,7 +4,8 @@ use Rattle.proto.specs.declared.command.Command.{Command}
 use Rattle.connections.specs.declared.connections.CommandNumber.{CommandNumber}
 use Rattle.connections.specs.declared.places.Place.{Place}
 use Rattle.connections.specs.declared.said.Said.{Said}
-use Rattle.connections.specs.Connections.{ConnectionsView, AreBefore}
+use Rattle.connections.specs.Connections.{ConnectionsView, AreBefore, AreReplied}
+use Rattle.connections.specs.Places.{is_here}
 use Rattle.ensemble.specs.Ensemble.{EnsembleView, IsLogged}
 use Rattle.service.specs.declared.assignment.Assignment.{Assignment}
 use Rattle.service.specs.declared.assignment.Outstanding.{Outstanding}
@@ -78,9 +79,15 @@ pub record IsAskedOf (at : Place) (proxy : ℕ) (v now : ConnectionsView) (e f :
   pub quiet : Bool
   pub taken : now.taken ≡ v.taken ++ (record { connection = at.number; turn = a.turn }, command) ∷ []
   pub first : AreBefore v.taken at.number a.turn
+  pub earlier : AreReplied v.replied at.number a.turn
   pub logged : IsLogged e.asked proxy a.number command quiet f.asked
   pub answered : f.answered ≡ e.answered
+  pub ordered : f.order ≡ e.order ++ ((proxy, a.number), false) ∷ []
   pub bytes : HasSameBytes v now
+
+-- no command of the connection was taken, or it is not here any more
+abbrev pub TakesNone : Place → ConnectionsView → ConnectionsView → Type 0
+TakesNone at v now = (now.taken ≡ v.taken) ⊎ (is_here at.number now.table at.key ≡ false)
 
 -- nothing was asked
 pub record AsksNothing (v now : ConnectionsView) (e f : EnsembleView) : Type 0 where
@@ -90,7 +97,7 @@ pub record AsksNothing (v now : ConnectionsView) (e f : EnsembleView) : Type 0 w
   pub replied : now.replied ≡ v.replied
 
 abbrev pub AsksFor : Place → ℕ → ConnectionsView → EnsembleView → ConnectionsView → EnsembleView → Asking → Type 0
-AsksFor at proxy v e now f Nothing = AsksNothing v now e f × (now.given ≡ v.given)
+AsksFor at proxy v e now f Nothing = AsksNothing v now e f × (now.given ≡ v.given) × TakesNone at v now
 AsksFor at proxy v e now f (Asked a) = IsAskedOf at proxy v now e f a
 AsksFor at proxy v e now f (Failed said) = AsksNothing v now e f × (now.given ≡ v.given ++ given_entry said ∷ [])
 
@@ -100,10 +107,10 @@ pub record LeavesFor (v now : ConnectionsView) : Type 0 where
   pub heard : now.heard ≡ v.heard
   pub replied : now.replied ≡ v.replied
 
-abbrev pub Fails : ConnectionsView → ConnectionsView → Asking → Type 0
-Fails v now Nothing = LeavesFor v now × (now.given ≡ v.given)
-Fails v now (Asked a) = ⊥
-Fails v now (Failed said) = LeavesFor v now × (now.given ≡ v.given ++ given_entry said ∷ [])
+abbrev pub Fails : Place → ConnectionsView → ConnectionsView → Asking → Type 0
+Fails at v now Nothing = LeavesFor v now × (now.given ≡ v.given) × (is_here at.number now.table at.key ≡ false)
+Fails at v now (Asked a) = ⊥
+Fails at v now (Failed said) = LeavesFor v now × (now.given ≡ v.given ++ given_entry said ∷ [])
 
 -- what came of it is kept: what proxies wait for, which command was asked, and what is given
 abbrev pub Settles : Asking → List (Option Outstanding) → List (Option Outstanding) → List Assignment → List Assignment → List Said → List Said → Type 0

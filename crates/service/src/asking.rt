@@ -4,14 +4,16 @@ ghost use Rattle.std.specs.Prelude.{◌≡◌};
 ghost use Rattle.service.specs.Steps.{AsksFor};
 
 use crate::assignment::Assignment;
+use crate::note::Note;
 use connections::{Connections, Place, Ready, Said};
 use ensemble::Ensemble;
+use figures::Asked;
 use std::alloc::Global;
 
 /// What came of it that a command was to be asked.
 #[derive(Drop)]
 pub enum Asking {
-    /// There was no command.
+    /// There was no command, or the connection is not here any more.
     Nothing,
     /// It was asked.
     Asked(Assignment),
@@ -21,7 +23,7 @@ pub enum Asking {
 
 /// The connection is closed, since memory ran out for its command.
 fn failed(alloc: Global, connections: &mut Connections, at: Place) -> Asking
-    ensures { Fails connections.old connections.new result }
+    ensures { Fails at connections.old connections.new result }
 {
     match connections.drop_out(alloc, at) {
         Some(said) => Asking::Failed(said),
@@ -31,13 +33,14 @@ fn failed(alloc: Global, connections: &mut Connections, at: Place) -> Asking
 
 ghost use Rattle.service.specs.Steps.{Fails};
 
-/// The command of the connection, if it has one that may be asked, is asked of the proxy.
+/// The command of the connection, if it has one that may be asked, is asked of the proxy. It is noted for its count.
 pub fn ask(
     alloc: Global,
     connections: &mut Connections,
     ensemble: &mut Ensemble,
     at: Place,
     proxy: u16,
+    note: &mut Note,
 ) -> Asking
     ensures { AsksFor at proxy connections.old ensemble.old connections.new ensemble.new result }
 {
@@ -52,6 +55,7 @@ pub fn ask(
         command,
         quiet,
     } = ready;
+    note.asked = Some(Asked::of(&command));
     match ensemble.ask(alloc, proxy, command, quiet) {
         Ok(number) => Asking::Asked(Assignment {
             connection: at.number,

@@ -1,5 +1,6 @@
 //! Which command is which request.
 
+use crate::note::Note;
 use connections::Place;
 use serving::Patience;
 
@@ -23,6 +24,7 @@ pub struct Outstanding {
     pub key: usize,
     pub assignment: Assignment,
     pub patience: Patience,
+    pub note: Note,
 }
 
 impl Outstanding {

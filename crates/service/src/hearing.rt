@@ -3,15 +3,16 @@
 ghost use Rattle.std.specs.Prelude.{◌≡◌};
 ghost use Rattle.service.specs.Service.{Hears};
 
+use crate::note::Waiting;
 use connections::{Connections, Place, Said};
 use proto::Fault;
 use std::alloc::Global;
 use std::collections::VecDeque;
 
-/// Puts a connection into the line if a command of it waits for a proxy.
-pub fn line_up(connections: &Connections, line: &mut VecDeque<Place>, at: Place) {
+/// Puts a connection into the line if a command of it waits for a proxy, since this moment in microseconds.
+pub fn line_up(connections: &Connections, line: &mut VecDeque<Waiting>, at: Place, since: u64) {
     if connections.is_ready(at) {
-        let _ = line.push_back(at);
+        let _ = line.push_back(Waiting { at, since });
     }
 }
 
@@ -19,9 +20,10 @@ pub fn line_up(connections: &Connections, line: &mut VecDeque<Place>, at: Place)
 pub fn hear_at(
     alloc: Global,
     connections: &mut Connections,
-    line: &mut VecDeque<Place>,
+    line: &mut VecDeque<Waiting>,
     at: Place,
     piece: Vec<u8>,
+    micros: u64,
 ) -> Result<Said, Fault>
     ensures hears { Hears at.key at.number piece.items connections.old connections.new result }
     ensures taken { connections.new.taken ≡ connections.old.taken }
@@ -34,7 +36,27 @@ pub fn hear_at(
     let was_ready = connections.is_ready(at);
     let said = connections.hear(alloc, at, piece)?;
     if !was_ready {
-        line_up(connections, line, at);
+        line_up(connections, line, at, micros);
     }
     Ok(said)
+}
+
+/// So many of the bytes that a connection was given are written. If its command may be asked now, it joins the line.
+/// `false`: there is no memory for its place there, and it has left.
+pub fn write_at(
+    connections: &mut Connections,
+    line: &mut VecDeque<Waiting>,
+    at: Place,
+    count: usize,
+    since: u64,
+) -> bool
+    ensures { connections.new ≡ record connections.old { table = connections.new.table } }
+{
+    if line.reserve(1).is_err() {
+        connections.leave(at);
+        return false;
+    }
+    connections.written(at, count);
+    line_up(connections, line, at, since);
+    true
 }

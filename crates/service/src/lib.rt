@@ -7,11 +7,14 @@
 
 mod asking;
 mod assignment;
+mod counting;
 mod hearing;
 mod incidents;
 mod nodes;
+mod note;
 mod pause;
 mod pool;
+mod replicas;
 mod service;
 mod ticking;
 mod working;
@@ -19,6 +22,7 @@ mod working;
 pub use assignment::Assignment;
 pub use connections::{MOST_PLACES, MOST_UNWRITTEN, Said};
 pub use ensemble::{Config, Replica};
+pub use figures::Figures;
 pub use incidents::Incidents;
 pub use proto::Fault;
 pub use service::Service;

@@ -26,6 +26,11 @@ impl Nodes {
         Ok(Nodes { members, pauses })
     }
 
+    /// How many executors there are, and as many verifiers.
+    pub fn members(&self) -> u8 {
+        self.members
+    }
+
     /// How many nodes there are.
     pub fn count(&self) -> usize {
         self.pauses.len()

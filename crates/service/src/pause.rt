@@ -1,7 +1,7 @@
 //! When a node that stopped is opened again.
 
 ghost use Rattle.std.specs.Prelude.{◌≡◌};
-ghost use Rattle.service.specs.Pause.{first_pause, after_up, is_due, after_down};
+ghost use Rattle.service.specs.Pause.{first_pause, after_up, is_pause_over, after_down};
 
 /// The longest pause, in ticks: 10 seconds.
 pub const LONGEST_PAUSE: u8 = 100;
@@ -44,7 +44,7 @@ impl Pause {
 
     /// A tick that finds the node down: whether it is to be opened now.
     pub fn find_down(&mut self) -> bool
-        ensures due { result ≡ is_due self.old }
+        ensures due { result ≡ is_pause_over self.old }
         ensures after { self.new ≡ after_down self.old }
     {
         self.calm = 0;

@@ -208,7 +208,6 @@ impl Pool {
 }
 
 /// Adds so many proxies, which are free.
-
 fn add_free(
     free: &mut Vec<u16>,
     waiting: &mut Vec<Option<Outstanding>>,

@@ -3,12 +3,15 @@
 ghost use Rattle.std.specs.Prelude.{◌≡◌};
 
 use crate::assignment::Assignment;
-use crate::hearing::{hear_at, line_up};
+use crate::counting::Counting;
+use crate::hearing::{hear_at, write_at};
 use crate::incidents::Incidents;
 use crate::nodes::Nodes;
+use crate::note::Waiting;
 use crate::pool::Pool;
 use connections::{Connections, Place, Said};
 use ensemble::{Config, Ensemble};
+use figures::Figures;
 use http_server::Log;
 use proto::Fault;
 use std::alloc::Global;
@@ -20,11 +23,12 @@ pub struct Service {
     pub(crate) ensemble: Ensemble,
     pub(crate) connections: Connections,
     /// Those whose command waits for a proxy, in order. Some may have left.
-    pub(crate) line: VecDeque<Place>,
+    pub(crate) line: VecDeque<Waiting>,
     pub(crate) pool: Pool,
     pub(crate) nodes: Nodes,
     pub(crate) u: u8,
     pub(crate) suspicions: u64,
+    pub(crate) counting: Counting,
     /// Which command was asked as which request, each with its proxy.
     pub(crate) assignments: Log<Assignment, u16>,
 }
@@ -35,9 +39,9 @@ impl Model for Service {
 
     ghost Value = { ServiceView };
 
-    ghost view = { λ s. record { connections = s.connections; asked = s.ensemble.asked; answered = s.ensemble.answered; assignments = assigned s.assignments.items; waiting = s.pool } };
+    ghost view = { λ s. record { connections = s.connections; asked = s.ensemble.asked; answered = s.ensemble.answered; order = s.ensemble.order; assignments = assigned s.assignments.items; waiting = s.pool } };
 
-    ghost invariant = { λ s. IsService (record { connections = s.connections; asked = s.ensemble.asked; answered = s.ensemble.answered; assignments = assigned s.assignments.items; waiting = s.pool }) × (s.u < 4) };
+    ghost invariant = { λ s. IsService (record { connections = s.connections; asked = s.ensemble.asked; answered = s.ensemble.answered; order = s.ensemble.order; assignments = assigned s.assignments.items; waiting = s.pool }) × (s.u < 4) };
 }
 
 impl Service {
@@ -54,9 +58,11 @@ impl Service {
         ensures connections { IfOk result (λ s. s.connections ≡ no_connections) }
         ensures asked { IfOk result (λ s. s.asked ≡ []) }
         ensures answered { IfOk result (λ s. s.answered ≡ []) }
+        ensures order { IfOk result (λ s. s.order ≡ []) }
     {
         let pool = Pool::new(alloc, config.clients())?;
         let nodes = Nodes::new(alloc, config.u())?;
+        let members = nodes.members();
         let ensemble = Ensemble::open(alloc, config)?;
         Ok(Service {
             ensemble,
@@ -66,6 +72,7 @@ impl Service {
             nodes,
             u: config.u(),
             suspicions: 0,
+            counting: Counting::new(alloc, members),
             assignments: Log::new(),
         })
     }
@@ -103,17 +110,26 @@ impl Service {
             &mut self.line,
             Place { key, number },
             piece,
+            self.counting.micros(),
         )
     }
 
     /// So many of the bytes that a connection was given are written. While 256 KB or more are not written its next
     /// command is not asked. If the connection is not here nothing changes.
-    pub fn written(&mut self, key: usize, number: u64, count: usize)
-        ensures { self.new ≡ self.old }
+    ///
+    /// `false`: there is no memory for its place in the line. It has left, and is to be closed.
+    pub fn written(&mut self, key: usize, number: u64, count: usize) -> bool
+        ensures logs { HasSameLogs self.old.connections self.new.connections }
+        ensures requests { HasSameRequests self.old self.new }
     {
         let at = Place { key, number };
-        self.connections.written(at, count);
-        line_up(&self.connections, &mut self.line, at);
+        write_at(
+            &mut self.connections,
+            &mut self.line,
+            at,
+            count,
+            self.counting.micros(),
+        )
     }
 
     /// A connection has left. Its command, if one was asked, is carried out; its reply is let go when it comes. If the
@@ -143,6 +159,22 @@ impl Service {
         }
     }
 
+    /// It is now so late by the caller's clock, in microseconds. It is read before connections are heard and after each
+    /// `work`. Times are counted by it, and nothing is decided.
+    pub fn set_micros(&mut self, micros: u64)
+        ensures { self.new ≡ self.old }
+    {
+        self.counting.set_micros(micros);
+    }
+
+    /// What was counted, and where the replicas are. Left 0 are lines that ask nothing, the bytes of items, and what only
+    /// the event loop and the system know.
+    pub fn figures(&self) -> Figures {
+        let mut figures = self.counting.figures;
+        self.show_replicas(&mut figures);
+        figures
+    }
+
     /// What always holds of it. It does nothing.
     pub fn shows(&self)
         ensures connections { IsConnections self.now.connections }
@@ -163,8 +195,10 @@ impl Service {
             nodes,
             u: _,
             suspicions: _,
+            counting,
             assignments: _,
         } = self;
+        drop(counting);
         ensemble.end();
         drop(connections);
         drop(line);

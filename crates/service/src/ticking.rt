@@ -4,6 +4,7 @@ ghost use Rattle.std.specs.Prelude.{◌≡◌, ◌<◌};
 ghost use Rattle.service.specs.Steps.{KeepsWaits};
 
 use crate::pool::Pool;
+use crate::replicas::note_node;
 use crate::service::Service;
 use ensemble::Ensemble;
 use serving::{Seen, Urge};
@@ -14,6 +15,7 @@ fn ask_again(alloc: Global, pool: &mut Pool, ensemble: &mut Ensemble, at: usize,
     ensures waits { KeepsWaits pool.old pool.new }
     ensures asked { ensemble.new.asked ≡ ensemble.old.asked }
     ensures answered { ensemble.new.answered ≡ ensemble.old.answered }
+    ensures order { ensemble.new.order ≡ ensemble.old.order }
 {
     if let Some(proxy) = pool.ask_again(at, seen) {
         ensemble.again(alloc, proxy);
@@ -33,6 +35,7 @@ fn tick_at(
     ensures waits { KeepsWaits pool.old pool.new }
     ensures asked { ensemble.new.asked ≡ ensemble.old.asked }
     ensures answered { ensemble.new.answered ≡ ensemble.old.answered }
+    ensures order { ensemble.new.order ≡ ensemble.old.order }
 {
     let urge = pool.tick(at, u, seen);
     if urge != Urge::Wait {
@@ -60,8 +63,10 @@ impl Service {
     {
         let replica = self.nodes.replica(at);
         let is_up = self.ensemble.is_up(replica);
+        note_node(&mut self.counting.figures, replica, is_up);
         if self.nodes.tick(at, is_up) {
-            let _ = self.ensemble.restart(alloc, replica);
+            let is_back = self.ensemble.restart(alloc, replica);
+            note_node(&mut self.counting.figures, replica, is_back);
         }
     }
 

@@ -8,9 +8,10 @@ ghost use Rattle.service.specs.Steps.{Settles};
 use crate::asking::{Asking, ask};
 use crate::assignment::{Assignment, Outstanding};
 use crate::hearing::line_up;
+use crate::note::{Note, Waiting};
 use crate::pool::Pool;
 use crate::service::Service;
-use connections::{Connections, Place, Said};
+use connections::{Connections, Said};
 use ensemble::Answer;
 use http_server::Log;
 use proto::Reply;
@@ -27,14 +28,14 @@ const MOST_ROUNDS: usize = 4;
 const MOST_SAID: usize = 128;
 
 /// Makes room for all that a round gives, and for those that line up in it.
-fn has_room(said: &mut Vec<Said>, line: &mut VecDeque<Place>) -> bool
+fn has_room(said: &mut Vec<Said>, line: &mut VecDeque<Waiting>) -> bool
     ensures { said.new.items ≡ said.old.items }
 {
     said.reserve(MOST_SAID).is_ok() && line.reserve(MOST_SAID).is_ok()
 }
 
 /// A free proxy, and the first of the line. `None`: there is none of either, and nothing changes.
-fn next_pair(pool: &mut Pool, line: &mut VecDeque<Place>) -> Option<(u16, Place)>
+fn next_pair(pool: &mut Pool, line: &mut VecDeque<Waiting>) -> Option<(u16, Waiting)>
     ensures { pool.new ≡ pool.old }
 {
     if line.is_empty() {
@@ -42,7 +43,7 @@ fn next_pair(pool: &mut Pool, line: &mut VecDeque<Place>) -> Option<(u16, Place)
     }
     let proxy = pool.take()?;
     match line.pop_front() {
-        Some(at) => Some((proxy, at)),
+        Some(waiting) => Some((proxy, waiting)),
         None => {
             pool.put_back(proxy);
             None
@@ -77,6 +78,7 @@ fn settle(
     assignments: &mut Log<Assignment, u16>,
     said: &mut Vec<Said>,
     patience: Patience,
+    note: Note,
     key: usize,
     proxy: u16,
     asking: Asking,
@@ -92,6 +94,7 @@ fn settle(
                 key,
                 assignment,
                 patience,
+                note,
             });
         }
         Asking::Failed(given) => {
@@ -103,7 +106,7 @@ fn settle(
 
 impl Service {
     ghost use Rattle.std.specs.Prelude.{◌≡◌, ◌++◌, map, Contains};
-    ghost use Rattle.ensemble.specs.Ensemble.{answer_entry};
+    ghost use Rattle.ensemble.specs.Ensemble.{answer_entry, order_entry};
     ghost use Rattle.service.specs.Service.{Gives, AreLogged, given_entry};
 
     /// The first of the line asks its command, if a proxy is free: whether one was.
@@ -114,17 +117,26 @@ impl Service {
         if said.reserve(1).is_err() {
             return false;
         }
-        let Some((proxy, at)) = next_pair(&mut self.pool, &mut self.line) else {
+        let Some((proxy, waiting)) = next_pair(&mut self.pool, &mut self.line) else {
             return false;
         };
         let seen = self.ensemble.seen();
-        let asking = ask(alloc, &mut self.connections, &mut self.ensemble, at, proxy);
+        let mut note = Note::new(waiting.since);
+        let asking = ask(
+            alloc,
+            &mut self.connections,
+            &mut self.ensemble,
+            waiting.at,
+            proxy,
+            &mut note,
+        );
         settle(
             &mut self.pool,
             &mut self.assignments,
             said,
             Patience::new(seen),
-            at.key,
+            note,
+            waiting.at.key,
             proxy,
             asking,
         );
@@ -145,10 +157,12 @@ impl Service {
 
     /// The reply goes to the connection that asked, if it is here.
     fn answer(&mut self, alloc: Global, answer: Answer, said: &mut Vec<Said>)
-        requires { Contains self.old.answered (answer_entry answer) }
+        requires logged { Contains self.old.answered (answer_entry answer) }
+        requires ordered { Contains self.old.order (order_entry answer) }
         ensures given { Gives self.old.connections.given said.old.items self.new.connections.given said.new.items }
         ensures heard { self.new.connections.heard ≡ self.old.connections.heard }
         ensures answered { self.new.answered ≡ self.old.answered }
+        ensures order { self.new.order ≡ self.old.order }
     {
         let Answer {
             proxy,
@@ -159,13 +173,19 @@ impl Service {
         let Some(outstanding) = self.pool.answered(proxy, number) else {
             return;
         };
+        self.counting.answer(outstanding.note, &reply);
         answer_to(alloc, &mut self.connections, &outstanding, reply, said);
-        line_up(&self.connections, &mut self.line, outstanding.place());
+        line_up(
+            &self.connections,
+            &mut self.line,
+            outstanding.place(),
+            self.counting.micros(),
+        );
     }
 
     /// All replies go to the connections that asked.
     fn answer_all(&mut self, alloc: Global, mut answers: Vec<Answer>, said: &mut Vec<Said>)
-        requires { AreLogged answers.items self.old.answered }
+        requires { AreLogged answers.items self.old.answered self.old.order }
         ensures given { Gives self.old.connections.given said.old.items self.new.connections.given said.new.items }
         ensures heard { self.new.connections.heard ≡ self.old.connections.heard }
     {
@@ -181,7 +201,7 @@ impl Service {
         alloc: Global,
         moment: u32,
     ) -> Vec<Answer>
-        ensures logged { AreLogged result.items self.new.answered }
+        ensures logged { AreLogged result.items self.new.answered self.new.order }
         ensures connections { self.new.connections ≡ self.old.connections }
     {
         self.ensemble.work(rt, alloc, moment)

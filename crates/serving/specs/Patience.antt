@@ -1,5 +1,5 @@
 -- When a client that waits asks again, and when it suspects the leader.
-use Rattle.std.specs.Prelude.{ℕ, Bool, ◌*◌, ◌-◌, ◌&&◌, true, not, min, nat_eq, nat_le, nat_lt, if◌then◌else◌}
+use Rattle.std.specs.Prelude.{ℕ, Bool, ◌*◌, ◌-◌, ◌&&◌, not, min, nat_eq, nat_le, nat_lt, if◌then◌else◌}
 use Rattle.decrees.specs.Count.{member_count}
 use Rattle.serving.specs.declared.patience.Patience.{Patience}
 use Rattle.serving.specs.declared.patience.Seen.{Seen}

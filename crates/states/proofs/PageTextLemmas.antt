@@ -10,7 +10,7 @@ use Rattle.wire.specs.Record.{Always, IsPrefixFree, NoPrefix, Puts, Refused}
 use Rattle.wire.proofs.Values.{Refused-weaker}
 use Rattle.pages.specs.Page.{PageState, page_count, page_items}
 use Rattle.pages.specs.declared.layout.Layout.TheVariants.{Sorted}
-use Rattle.pages.specs.Joined.{IsOwn, AreOwn, ArePages, joined, parts, items_of}
+use Rattle.pages.specs.Joined.{IsOwn, AreOwn, ArePages, joined_pages, parts, items_of}
 use Rattle.pages.proofs.JoinedLemmas.{no_items, own-page}
 use Rattle.pages.proofs.StateLemmas.{items-at, length-states}
 use Rattle.pages.proofs.PartLemmas.{page-items, parts-are, joined-parts}
@@ -53,7 +53,7 @@ pub same_pages : (v w : Items) → ((i : ℕ) → i < page_count → page_items 
 same_pages v w is =
     let same : parts v ≡ parts w = fill_by_all (page_items w) (parts v) page_count no_items (length-map-range_with_len (page_items v) 0 page_count)
     (λ k l. get_or-map-range_with_len (page_items v) 0 page_count k k no_items l (omega arith) ∙ is k l) in
-    sym (joined-parts v) ∙ (ap joined same ∙ joined-parts w)
+    sym (joined-parts v) ∙ (ap joined_pages same ∙ joined-parts w)
 
 own_snoc : (p : ℕ) (pages : List Items) (m : Items) → AreOwn p pages → IsOwn (p + length pages) m → AreOwn p (pages ++ m ∷ [])
 own_snoc p [] m own mine =
@@ -114,12 +114,12 @@ module _ (text : ℕ → Items → List ℕ) where
 
   -- all pages were read
   pub all_read : (pages : List Items) (count : ℕ) (bytes rest : List ℕ) → HasPages pages count bytes rest → count ≡ page_count
-      → ArePages pages × (bytes ≡ each_page (λ p. text p (page_items (joined pages) p)) ++ rest)
+      → ArePages pages × (bytes ≡ each_page (λ p. text p (page_items (joined_pages pages) p)) ++ rest)
   all_read pages count bytes rest so_far all =
       let are : ArePages pages = (so_far.counted ∙ all, so_far.own) in
       let here : (i : ℕ) → i ≡ 0 + i = λ i. omega arith in
-      let same = texts_are 0 pages (joined pages) (λ i l. page-items pages i are ∙ ap (page_items (joined pages)) (here i)) in
-      (are, so_far.parts_are ∙ ap (λ (t : List ℕ). t ++ rest) (same ∙ ap (texts_from (joined pages) 0) are.0))
+      let same = texts_are 0 pages (joined_pages pages) (λ i l. page-items pages i are ∙ ap (page_items (joined_pages pages)) (here i)) in
+      (are, so_far.parts_are ∙ ap (λ (t : List ℕ). t ++ rest) (same ∙ ap (texts_from (joined_pages pages) 0) are.0))
 
   module _ (free : (p : ℕ) → IsPrefixFree (text p)) where
     -- the page that comes next in such texts

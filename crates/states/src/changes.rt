@@ -118,7 +118,7 @@ pub fn take_changes<'b>(
 ) -> Result<(Pages, &'b [u8]), Fault>
     ensures { Takes Always (changes_text layout before.now.items) bytes.now result }
 {
-    let shared = before.open()?.part();
+    let shared = before.open()?.part()?;
     let mut pages = Vec::with_capacity(alloc, PAGES)?;
     let mut rest = bytes;
     for number in 0..PAGES {

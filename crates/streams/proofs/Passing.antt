@@ -10,16 +10,16 @@ use Rattle.std.specs.Io.KnownBytes.{Consumes, Keeps, IsAtEnd}
 use Rattle.std.proofs.KnownBytes.{Consumes-trans, Consumes-kept}
 use Rattle.std.specs.declared.io.ErrorKind.{ErrorKind}
 use Rattle.std.specs.declared.io.ErrorKind.TheVariants.{Interrupted}
-use Rattle.streams.specs.Session.{Given, GoesOn, pieces, IsSession}
+use Rattle.streams.specs.Session.{Read, ReadsOn, pieces, IsSession}
 use Rattle.streams.specs.declared.reading.Ending.TheVariants.{AtEnd, Failed, Enough}
 
-pieces_piece : (reads : List Given) (piece : List ℕ) → pieces (reads ++ Ok piece ∷ []) ≡ pieces reads ++ piece ∷ []
+pieces_piece : (reads : List Read) (piece : List ℕ) → pieces (reads ++ Ok piece ∷ []) ≡ pieces reads ++ piece ∷ []
 pieces_piece reads piece = filter_map-append result_ok reads (Ok piece ∷ [])
 
-pieces_fault : (reads : List Given) (kind : ErrorKind) → pieces (reads ++ Err kind ∷ []) ≡ pieces reads
+pieces_fault : (reads : List Read) (kind : ErrorKind) → pieces (reads ++ Err kind ∷ []) ≡ pieces reads
 pieces_fault reads kind = filter_map-append result_ok reads (Err kind ∷ []) ∙ append-nil (pieces reads)
 
-concat_piece : (reads : List Given) (piece : List ℕ) → concat (pieces (reads ++ Ok piece ∷ [])) ≡ concat (pieces reads) ++ piece
+concat_piece : (reads : List Read) (piece : List ℕ) → concat (pieces (reads ++ Ok piece ∷ [])) ≡ concat (pieces reads) ++ piece
 concat_piece reads piece = ap concat (pieces_piece reads piece) ∙ concat-append (pieces reads) (piece ∷ []) ∙ ap (λ xs. concat (pieces reads) ++ xs) (append-nil piece)
 
 -- P holds of one more
@@ -32,40 +32,40 @@ all_more {X} P xs x all p = All-append P xs (x ∷ []) all one where
 pub length_more : {X : Type 0} (xs : List X) (x : X) (count : ℕ) → length xs ≡ count → length (xs ++ x ∷ []) ≡ count + 1
 length_more xs x count counted = length-append xs (x ∷ []) ∙ ap (λ n. n + 1) counted
 
-lost_piece : (a b c : Option (List ℕ)) (reads : List Given) (piece : List ℕ) → Consumes a b (concat (pieces reads)) → Consumes b c piece → Consumes a c (concat (pieces (reads ++ Ok piece ∷ [])))
+lost_piece : (a b c : Option (List ℕ)) (reads : List Read) (piece : List ℕ) → Consumes a b (concat (pieces reads)) → Consumes b c piece → Consumes a c (concat (pieces (reads ++ Ok piece ∷ [])))
 lost_piece a b c reads piece first then = subst (Consumes a c) (sym (concat_piece reads piece)) (Consumes-trans a b c (concat (pieces reads)) piece first then)
 
-lost_none : (a b c : Option (List ℕ)) (reads : List Given) (kind : ErrorKind) → Consumes a b (concat (pieces reads)) → Keeps b c → Consumes a c (concat (pieces (reads ++ Err kind ∷ [])))
+lost_none : (a b c : Option (List ℕ)) (reads : List Read) (kind : ErrorKind) → Consumes a b (concat (pieces reads)) → Keeps b c → Consumes a c (concat (pieces (reads ++ Err kind ∷ [])))
 lost_none a b c reads kind first kept = subst (λ ps. Consumes a c (concat ps)) (sym (pieces_fault reads kind)) (Consumes-kept a b c (concat (pieces reads)) first kept)
 
 -- the session so far, in which no read was the last one
-pub record IsSoFar {S T : Type 0} (gives : S → Given → S → Type 0) (remaining : S → Option (List ℕ)) (hears : T → List ℕ → Bool → T → Type 0) (before now : S) (s t : T) (count : ℕ) : Type 0 where
-  pub reads : List Given
+pub record IsSoFar {S T : Type 0} (gives : S → Read → S → Type 0) (remaining : S → Option (List ℕ)) (hears : T → List ℕ → Bool → T → Type 0) (before now : S) (s t : T) (count : ℕ) : Type 0 where
+  pub reads : List Read
   pub counted : length reads ≡ count
   pub made : FoldsTo gives before reads now
-  pub went_on : All GoesOn reads
+  pub went_on : All ReadsOn reads
   pub heard : FoldsTo (λ s piece t. hears s piece true t) s (pieces reads) t
   pub lost : Consumes (remaining before) (remaining now) (concat (pieces reads))
 
-module _ {S T : Type 0} {gives : S → Given → S → Type 0} {remaining : S → Option (List ℕ)} {hears : T → List ℕ → Bool → T → Type 0} {before now : S} {s t : T} {count : ℕ} (far : IsSoFar gives remaining hears before now s t count) where
+module _ {S T : Type 0} {gives : S → Read → S → Type 0} {remaining : S → Option (List ℕ)} {hears : T → List ℕ → Bool → T → Type 0} {before now : S} {s t : T} {count : ℕ} (far : IsSoFar gives remaining hears before now s t count) where
   -- a piece was read, and the listener wants more
-  pub one_piece : {after : S} {u : T} (piece : List ℕ) → gives now (Ok piece) after → GoesOn (Ok piece) → Consumes (remaining now) (remaining after) piece → hears t piece true u → IsSoFar gives remaining hears before after s u (count + 1)
+  pub one_piece : {after : S} {u : T} (piece : List ℕ) → gives now (Ok piece) after → ReadsOn (Ok piece) → Consumes (remaining now) (remaining after) piece → hears t piece true u → IsSoFar gives remaining hears before after s u (count + 1)
   one_piece {after} {u} piece step goes_on lost heard = record {
     reads = far.reads ++ Ok piece ∷ [];
     counted = length_more far.reads (Ok piece) count far.counted;
     made = FoldsTo-push gives before far.reads now (Ok piece) after far.made step;
-    went_on = all_more GoesOn far.reads (Ok piece) far.went_on goes_on;
+    went_on = all_more ReadsOn far.reads (Ok piece) far.went_on goes_on;
     heard = subst (λ ps. FoldsTo (λ s piece t. hears s piece true t) s ps u) (sym (pieces_piece far.reads piece)) (FoldsTo-push (λ s piece t. hears s piece true t) s (pieces far.reads) t piece u far.heard heard);
     lost = lost_piece (remaining before) (remaining now) (remaining after) far.reads piece far.lost lost;
   }
 
   -- a read was interrupted
-  pub one_interrupted : {after : S} (kind : ErrorKind) → gives now (Err kind) after → GoesOn (Err kind) → Keeps (remaining now) (remaining after) → IsSoFar gives remaining hears before after s t (count + 1)
+  pub one_interrupted : {after : S} (kind : ErrorKind) → gives now (Err kind) after → ReadsOn (Err kind) → Keeps (remaining now) (remaining after) → IsSoFar gives remaining hears before after s t (count + 1)
   one_interrupted {after} kind step goes_on kept = record {
     reads = far.reads ++ Err kind ∷ [];
     counted = length_more far.reads (Err kind) count far.counted;
     made = FoldsTo-push gives before far.reads now (Err kind) after far.made step;
-    went_on = all_more GoesOn far.reads (Err kind) far.went_on goes_on;
+    went_on = all_more ReadsOn far.reads (Err kind) far.went_on goes_on;
     heard = subst (λ ps. FoldsTo (λ s piece t. hears s piece true t) s ps t) (sym (pieces_fault far.reads kind)) far.heard;
     lost = lost_none (remaining before) (remaining now) (remaining after) far.reads kind far.lost kept;
   }
@@ -97,7 +97,7 @@ module _ {S T : Type 0} {gives : S → Given → S → Type 0} {remaining : S �
   }
 
   -- the listener wants no more
-  pub enough : {leaves : T → T → Type 0} {after : S} {u : T} (piece : List ℕ) → gives now (Ok piece) after → GoesOn (Ok piece) → Consumes (remaining now) (remaining after) piece → hears t piece false u → IsSession gives remaining hears leaves before after s u Enough
+  pub enough : {leaves : T → T → Type 0} {after : S} {u : T} (piece : List ℕ) → gives now (Ok piece) after → ReadsOn (Ok piece) → Consumes (remaining now) (remaining after) piece → hears t piece false u → IsSession gives remaining hears leaves before after s u Enough
   enough {after = after} piece step goes_on lost heard = record {
     reads = far.reads;
     last = Ok piece ∷ [];

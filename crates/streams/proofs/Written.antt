@@ -7,7 +7,7 @@ use Rattle.std.specs.Io.KnownBytes.{Appends, Keeps}
 use Rattle.std.proofs.KnownBytes.{Appends-trans, Appends-kept}
 use Rattle.std.specs.declared.io.ErrorKind.{ErrorKind}
 use Rattle.std.specs.declared.io.ErrorKind.TheVariants.{Interrupted}
-use Rattle.streams.specs.Writes.{Taken, GoesOn, WritesRest, IsWritten, out}
+use Rattle.streams.specs.Writes.{Taken, WritesOn, WritesRest, IsWritten, out}
 use Rattle.streams.proofs.Passing.{all_more, length_more}
 
 -- n more bytes are written, which are the next ones
@@ -22,7 +22,7 @@ pub record IsSoFar {S : Type 0} (takes : S → List ℕ → Taken → S → Type
   pub counted : length writes ≡ count
   pub few : sent ≤ length text
   pub made : FoldsTo (WritesRest takes text) (before, 0) writes (now, sent)
-  pub went_on : All GoesOn writes
+  pub went_on : All WritesOn writes
   pub held : Appends (contents before) (contents now) (take sent text)
 
 module _ {S : Type 0} {takes : S → List ℕ → Taken → S → Type 0} {contents : S → Option (List ℕ)} {text : List ℕ} {before now : S} {sent count : ℕ} (far : IsSoFar takes contents text before now sent count) where
@@ -36,18 +36,18 @@ module _ {S : Type 0} {takes : S → List ℕ → Taken → S → Type 0} {conte
     counted = length_more far.writes (Ok n) count far.counted;
     few = few;
     made = made_more (Ok n) (sent + n) refl some step;
-    went_on = all_more GoesOn far.writes (Ok n) far.went_on any;
+    went_on = all_more WritesOn far.writes (Ok n) far.went_on any;
     held = subst (Appends (contents before) (contents after)) (sym (take_more sent n text)) (Appends-trans (contents before) (contents now) (contents after) (take sent text) (take n (drop sent text)) far.held held);
   }
 
   -- a write was interrupted
-  pub one_interrupted : {after : S} (kind : ErrorKind) → GoesOn (Err kind) → sent < length text → takes now (drop sent text) (Err kind) after → Keeps (contents now) (contents after) → IsSoFar takes contents text before after sent (count + 1)
+  pub one_interrupted : {after : S} (kind : ErrorKind) → WritesOn (Err kind) → sent < length text → takes now (drop sent text) (Err kind) after → Keeps (contents now) (contents after) → IsSoFar takes contents text before after sent (count + 1)
   one_interrupted {after} kind goes_on some step kept = record {
     writes = far.writes ++ Err kind ∷ [];
     counted = length_more far.writes (Err kind) count far.counted;
     few = far.few;
     made = made_more (Err kind) sent (omega arith) some step;
-    went_on = all_more GoesOn far.writes (Err kind) far.went_on goes_on;
+    went_on = all_more WritesOn far.writes (Err kind) far.went_on goes_on;
     held = Appends-kept (contents before) (contents now) (contents after) (take sent text) far.held kept;
   }
 

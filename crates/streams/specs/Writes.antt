@@ -10,9 +10,9 @@ use Rattle.std.specs.declared.io.ErrorKind.TheVariants.{Interrupted}
 abbrev pub Taken : Type 0
 Taken = Result ℕ ErrorKind
 
-abbrev pub taken : Result ℕ Error → Taken
-taken (Ok n) = Ok n
-taken (Err e) = Err (error_kind e)
+abbrev pub taken_by : Result ℕ Error → Taken
+taken_by (Ok n) = Ok n
+taken_by (Err e) = Err (error_kind e)
 
 -- how many bytes went out by it
 abbrev pub out : Taken → ℕ
@@ -20,9 +20,9 @@ out (Ok n) = n
 out (Err kind) = 0
 
 -- another write may follow this one: it took some bytes, or it was interrupted
-abbrev pub GoesOn : Taken → Type 0
-GoesOn (Ok n) = 0 < n
-GoesOn (Err kind) = kind ≡ Interrupted
+abbrev pub WritesOn : Taken → Type 0
+WritesOn (Ok n) = 0 < n
+WritesOn (Err kind) = kind ≡ Interrupted
 
 -- the last write took nothing, or it failed; or there were 2^64 - 1 writes before and it was not made
 abbrev pub EndsFailed : List Taken → List Taken → Type 0
@@ -47,5 +47,5 @@ module _ {S : Type 0} (takes : S → List ℕ → Taken → S → Type 0) where
     pub sent : ℕ
     -- these writes were made, and no other
     pub made : FoldsTo (WritesRest text) (before, 0) (writes ++ last) (after, sent)
-    pub went_on : All GoesOn writes
+    pub went_on : All WritesOn writes
     pub ended : EndsAs result text writes last sent

@@ -3,7 +3,7 @@
 ghost use Rattle.std.specs.Prelude.{ℕ, List, Bool, MatchResult};
 ghost use Rattle.std.specs.Io.{ReadsAtMost};
 ghost use Rattle.std.specs.Io.KnownBytes.{Consumes, Keeps, ReadConsumes};
-ghost use Rattle.streams.specs.Session.{Given, given, IsSession};
+ghost use Rattle.streams.specs.Session.{Read, read_of, IsSession};
 
 use std::io;
 use std::io::{ErrorKind, Read};
@@ -14,13 +14,13 @@ pub const MOST_PIECE_BYTES: usize = 16384;
 /// A reader whose reads a contract can count. Each reader is one.
 pub trait ReadOnce: Read {
     /// What it is after a read that gave this.
-    ghost gives: { Self → Given → Self → Type 0 };
+    ghost gives: { Self → Read → Self → Type 0 };
 
     /// One read, as that of `Read`.
     fn read_once(&mut self, buffer: &mut [u8]) -> io::Result<usize>
         ensures bound { ReadsAtMost result buffer.new }
         ensures bytes { ReadConsumes (Self.remaining self.old) (Self.remaining self.new) result buffer.new }
-        ensures step { gives self.old (given result buffer.new) self.new };
+        ensures step { gives self.old (read_of result buffer.new) self.new };
 }
 
 impl<R: Read> ReadOnce for R {

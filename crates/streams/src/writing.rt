@@ -3,7 +3,7 @@
 ghost use Rattle.std.specs.Prelude.{ℕ, List, ◌≤◌, length, take, MatchResult};
 ghost use Rattle.std.specs.Io.{WritesAtMost};
 ghost use Rattle.std.specs.Io.KnownBytes.{Appends, Keeps, WriteAppends};
-ghost use Rattle.streams.specs.Writes.{Taken, taken, IsWritten};
+ghost use Rattle.streams.specs.Writes.{Taken, taken_by, IsWritten};
 
 use std::io;
 use std::io::{ErrorKind, Write};
@@ -17,7 +17,7 @@ pub trait WriteOnce: Write {
     fn write_once(&mut self, text: &[u8]) -> io::Result<usize>
         ensures bound { WritesAtMost result text.now }
         ensures bytes { WriteAppends (Self.contents self.old) (Self.contents self.new) result text.now }
-        ensures step { takes self.old text.now (taken result) self.new };
+        ensures step { takes self.old text.now (taken_by result) self.new };
 }
 
 impl<W: Write> WriteOnce for W {

@@ -8,14 +8,14 @@ use Rattle.std.proofs.lemmas.List.{append-nil, get_or-set_same, get_or-set_other
 use Rattle.std.proofs.lemmas.List.FromFn.{length-map-range_with_len, get_or-map-range_with_len, fill_by_all}
 use Rattle.items.specs.Map.{Items}
 use Rattle.pages.specs.Page.{PageState, page_count, page_items, of_each}
-use Rattle.pages.specs.Joined.{ArePages, IsOwn, joined, items_of}
+use Rattle.pages.specs.Joined.{ArePages, IsOwn, joined_pages, items_of}
 use Rattle.pages.proofs.JoinedLemmas.{no_items, pages-set}
 use Rattle.pages.proofs.PartLemmas.{parts-joined}
 use Rattle.pages.proofs.StateLemmas.{items-set}
 use Rattle.transfer.specs.Parcel.{page_from}
 
 -- where none came, they are the own ones
-none_came : (pages : List Items) → ArePages pages → pages ≡ of_each (page_from (joined pages) [])
+none_came : (pages : List Items) → ArePages pages → pages ≡ of_each (page_from (joined_pages pages) [])
 none_came pages are = sym (parts-joined pages are)
 
 module _ (own : Items) (pages : List Items) (came : List (ℕ × Items)) (is : pages ≡ of_each (page_from own came)) where
@@ -42,7 +42,7 @@ module _ (own : Items) (pages : List Items) (came : List (ℕ × Items)) (is : p
 
 -- of the pages that came, those that are not left stand in the places of the own ones
 abbrev pub ArePut : List Items → List (ℕ × Items) → List (ℕ × Items) → List Items → Type 0
-ArePut own came left pages = (done : List (ℕ × Items)) × (came ≡ left ++ done) × ArePages pages × (pages ≡ of_each (page_from (joined own) done))
+ArePut own came left pages = (done : List (ℕ × Items)) × (came ≡ left ++ done) × ArePages pages × (pages ≡ of_each (page_from (joined_pages own) done))
 
 pub none_put : (own : List Items) (came : List (ℕ × Items)) → ArePages own → ArePut own came came own
 none_put own came are = ([], sym (append-nil came), are, none_came own are)
@@ -55,11 +55,11 @@ one_put own came left rest pages at put page so_far last here within is mine =
       page ∷ so_far.0,
       so_far.1 ∙ (ap (λ (ps : List (ℕ × Items)). ps ++ so_far.0) last ∙ append_assoc rest (page ∷ []) so_far.0),
       subst ArePages (sym now) (pages-set (items_of pages) page.0 page.1 so_far.2 mine),
-      now ∙ one_more (joined own) (items_of pages) so_far.0 so_far.3 page.0 page.1 (omega (arith, within, here)),
+      now ∙ one_more (joined_pages own) (items_of pages) so_far.0 so_far.3 page.0 page.1 (omega (arith, within, here)),
     )
 
 -- once none is left all that came stand in their places
-pub all_put : (own : List Items) (came left : List (ℕ × Items)) (pages : List Items) → ArePut own came left pages → left ≡ [] → pages ≡ of_each (page_from (joined own) came)
+pub all_put : (own : List Items) (came left : List (ℕ × Items)) (pages : List Items) → ArePut own came left pages → left ≡ [] → pages ≡ of_each (page_from (joined_pages own) came)
 all_put own came left pages put none =
     let all : came ≡ put.0 = put.1 ∙ ap (λ (ps : List (ℕ × Items)). ps ++ put.0) none in
-    put.3 ∙ ap (λ (ps : List (ℕ × Items)). of_each (page_from (joined own) ps)) (sym all)
+    put.3 ∙ ap (λ (ps : List (ℕ × Items)). of_each (page_from (joined_pages own) ps)) (sym all)

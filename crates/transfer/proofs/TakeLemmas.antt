@@ -14,7 +14,7 @@ use Rattle.items.specs.declared.item.Item.{Item}
 use Rattle.items.specs.Map.{Items}
 use Rattle.pages.specs.Page.{page_count, page_items, page_digest_in, of_each}
 use Rattle.pages.specs.Form.{fits_form, layout_of}
-use Rattle.pages.specs.Joined.{joined, parts}
+use Rattle.pages.specs.Joined.{joined_pages, parts}
 use Rattle.pages.proofs.JoinedLemmas.{no_items, same_number}
 use Rattle.pages.proofs.PartLemmas.{joined-parts}
 use Rattle.states.specs.State.{StateView, IsState, with_token}
@@ -96,7 +96,7 @@ module _ (own s : StateView) (tells : DigestsTellPages (layout_of s.form) (layou
       fill_by_all (page_items s.items) (of_each (page_from own.items (differing_pages s (need_of own)))) page_count no_items
       (length-map-range_with_len (page_from own.items (differing_pages s (need_of own))) 0 page_count)
       (λ k l. get_or-map-range_with_len (page_from own.items (differing_pages s (need_of own))) 0 page_count k k no_items l (omega arith) ∙ page_is k l) in
-      ap joined pages ∙ joined-parts s.items
+      ap joined_pages pages ∙ joined-parts s.items
 
   state_is : IsState s → 0 < s.number → parcel_state own.items (answer_of s (need_of own)) ≡ s
   state_is is later =

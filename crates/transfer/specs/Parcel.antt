@@ -19,7 +19,7 @@ use Rattle.wire.specs.Item.{page_text}
 use Rattle.wire.specs.Session.{sessions_text, SessionsFit}
 use Rattle.pages.specs.Page.{page_items, page_digest_in, page_count, of_each}
 use Rattle.pages.specs.Form.{fits_form, layout_of}
-use Rattle.pages.specs.Joined.{IsOwn, joined}
+use Rattle.pages.specs.Joined.{IsOwn, joined_pages}
 use Rattle.states.specs.State.{StateView, with_token}
 use Rattle.states.specs.Parts.{parts_of}
 use Rattle.states.specs.declared.origin.Origin.{Origin}
@@ -62,7 +62,7 @@ page_from own pages p = option_map_or (λ m. m) (lookup (λ q. p == q) pages) (p
 
 -- the items of the own pages, with those that came in their places
 abbrev pub joined_with : Items → List (ℕ × Items) → Items
-joined_with own pages = joined (of_each (page_from own pages))
+joined_with own pages = joined_pages (of_each (page_from own pages))
 
 -- the state that a parcel makes over the own pages, with its token from scratch
 abbrev pub parcel_state : Items → ParcelView → StateView

@@ -37,7 +37,7 @@ fn differing_from(
 ) -> Result<Vec<NumberedPage>, AllocError>
     ensures { IfOk result (λ pages. pages.items ≡ differing_pages state.now need.now) }
 {
-    let shared = state.pages().open()?.part();
+    let shared = state.pages().open()?.part()?;
     let mut pages = Vec::new(alloc);
     for number in 0..PAGES {
         add_differing(&mut pages, state, need, number, &shared[number])?;

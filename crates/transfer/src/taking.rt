@@ -4,7 +4,7 @@ ghost use Rattle.std.specs.Prelude.{◌≡◌, [], Some, None, IfOk, IfErr};
 ghost use Rattle.wire.specs.Record.{Refused};
 ghost use Rattle.pages.specs.Form.{layout_of};
 ghost use Rattle.pages.specs.Page.{of_each};
-ghost use Rattle.pages.specs.Joined.{ArePages, items_of, joined};
+ghost use Rattle.pages.specs.Joined.{ArePages, items_of, joined_pages};
 ghost use Rattle.transfer.specs.Parcel.{page_from, joined_with, take_of};
 
 use crate::numbered_page::NumberedPage;
@@ -20,7 +20,7 @@ use token::{HashedSessions, Token};
 fn put_all(own: Vec<Page>, came: Vec<NumberedPage>) -> Vec<Page>
     requires { ArePages (items_of own.items) }
     ensures are { ArePages (items_of result.items) }
-    ensures is { items_of result.items ≡ of_each (page_from (joined (items_of own.items)) came.items) }
+    ensures is { items_of result.items ≡ of_each (page_from (joined_pages (items_of own.items)) came.items) }
 {
     let mut pages = own;
     let mut came = came;
@@ -40,7 +40,7 @@ fn joined_pages(
 ) -> Result<Snapshot, AllocError>
     ensures { IfOk result (λ pages. pages ≡ record { items = joined_with own.now.items came.items; layout = layout }) }
 {
-    let shared = own.open()?.part();
+    let shared = own.open()?.part()?;
     Pages::join(put_all(shared, came)).seal(layout)
 }
 

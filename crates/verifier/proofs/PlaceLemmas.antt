@@ -12,7 +12,7 @@ use Rattle.decrees.specs.declared.ballot.Ballot.{Ballot}
 use Rattle.decrees.specs.declared.ballot.Ballot.TheVariants.{Decided}
 use Rattle.decrees.specs.declared.node.Letter.{Letter}
 use Rattle.verifier.specs.State.{VerifierState, OutcomeView, next_place, to_others, to_executors}
-use Rattle.verifier.specs.Lines.{learn, gone_to, proposing, proposal, on_accepted, on_decided, on_stands, is_fitting, is_ahead, with_tally}
+use Rattle.verifier.specs.Lines.{learn, gone_to, proposing, proposal, on_accepted, on_decided, verifier_on_stands, is_fitting, is_ahead, with_tally}
 use Rattle.verifier.specs.Tally.{is_accepted}
 
 proposing-next : (u id : ℕ) (s : VerifierState) (saves : Bool) (first : List (Letter Ballot)) (o : Option Decree) → next_place (proposing u id s saves first o).state ≡ next_place s
@@ -31,7 +31,7 @@ accepted-next u id s from view place d e f =
     ∙ proposing-next u id (learn s d) true (to_others u id (Decided place d) ++ to_executors u id (Decided place d)) (proposal u (learn s d))
 
 pub stands-next : (u id : ℕ) (s : VerifierState) (place : ℕ) (standing : Standing) → is_ahead s place standing ≡ true
-    → next_place (on_stands u id s place standing).state ≡ next_place (gone_to s (record { place = place; standing = standing }))
+    → next_place (verifier_on_stands u id s place standing).state ≡ next_place (gone_to s (record { place = place; standing = standing }))
 stands-next u id s place standing e =
     ap (λ (o : OutcomeView). next_place o.state) (cond-true (is_ahead s place standing) _ _ e)
     ∙ proposing-next u id (gone_to s (record { place = place; standing = standing })) true [] (proposal u (gone_to s (record { place = place; standing = standing })))

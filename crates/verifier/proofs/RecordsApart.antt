@@ -19,7 +19,7 @@ use Rattle.decrees.specs.RecordProofs.{decree_prefix_free, start_prefix_free}
 use Rattle.decrees.proofs.CouldStand.{could_parts}
 use Rattle.verifier.specs.State.{VerifierState, down}
 use Rattle.verifier.specs.Record.{accepted_text, whole_text, trimmed_text, record_text}
-use Rattle.verifier.specs.Row.{Head, WholeRow, TrimmedRow, head_row_text, whole_row_text, trimmed_row_text, state_of}
+use Rattle.verifier.specs.Row.{Head, WholeRow, TrimmedRow, head_row_text, whole_row_text, trimmed_row_text, verifier_state_of}
 use Rattle.verifier.specs.Laws.{OneState}
 
 or_second : (a b : Bool) → (not a || b) ≡ true → a ≡ true → b ≡ true
@@ -90,12 +90,12 @@ text_apart u id s t could_s could_t fresh_s fresh_t same = by (versioned u id s 
     by : Versioned u id s → Versioned u id t → s ≡ t
     by (of_first a e) (of_first b f) =
         let both = whole_apart (head_in u id s, s.log) (head_in u id t, t.log) (behind 1 _ _ (sym e ∙ (same ∙ f))) in
-        fresh_s ∙ ((λ i. state_of (both i).0 ((a ∙ sym b) i) (both i).1) ∙ sym fresh_t)
+        fresh_s ∙ ((λ i. verifier_state_of (both i).0 ((a ∙ sym b) i) (both i).1) ∙ sym fresh_t)
     by (of_first a e) (of_second b f) = let clash : whole_text u id s ≡ trimmed_text u id t = sym e ∙ (same ∙ f) in absurd (cc clash)
     by (of_second a e) (of_first b f) = let clash : trimmed_text u id s ≡ whole_text u id t = sym e ∙ (same ∙ f) in absurd (cc clash)
     by (of_second a e) (of_second b f) =
         let both = trimmed_apart ((head_in u id s, s.start), s.log) ((head_in u id t, t.start), t.log) (behind 2 _ _ (sym e ∙ (same ∙ f))) in
-        fresh_s ∙ ((λ i. state_of (both i).0.0 (both i).0.1 (both i).1) ∙ sym fresh_t)
+        fresh_s ∙ ((λ i. verifier_state_of (both i).0.0 (both i).0.1 (both i).1) ∙ sym fresh_t)
 
 pub one_state : OneState
 one_state u id bytes s t r q = text_apart u id s t r.begins q.begins r.fresh q.fresh (sym r.spelled ∙ q.spelled)

@@ -13,7 +13,7 @@ use Rattle.decrees.specs.Start.{first_start, could_stand}
 use Rattle.decrees.specs.Record.{decree_text, start_text}
 use Rattle.verifier.specs.State.{VerifierState}
 use Rattle.verifier.specs.Record.{accepted_text, whole_text, trimmed_text, IsRecord}
-use Rattle.verifier.specs.Row.{Head, WholeRow, TrimmedRow, head_row_text, whole_row_text, trimmed_row_text, state_of, may_be_of, is_row_of}
+use Rattle.verifier.specs.Row.{Head, WholeRow, TrimmedRow, head_row_text, whole_row_text, trimmed_row_text, verifier_state_of, may_be_of, is_row_of}
 use Rattle.verifier.proofs.RecordsApart.{Versioned, of_first, of_second, versioned, head_in, behind, whole_apart, trimmed_apart}
 
 -- what is tested of a row, part by part
@@ -54,7 +54,7 @@ head_same : (u id : ℕ) (h : Head) (start : Start) (log : List Decree) → Part
 head_same u id h start log p = λ i. ((num w8 (p.id_is i) ++ num w8 (p.u_is i)) ++ num w64 h.0.1) ++ option_text accepted_text h.1
 
 -- version 1
-pub whole_is_record : (u id : ℕ) (bytes : List ℕ) (h : Head) (log : List Decree) → length log < 2 ^ 32 → bytes ≡ whole_row_text (h, log) → is_row_of u id h first_start log ≡ true → IsRecord u id (1 ∷ 86 ∷ bytes) (state_of h first_start log)
+pub whole_is_record : (u id : ℕ) (bytes : List ℕ) (h : Head) (log : List Decree) → length log < 2 ^ 32 → bytes ≡ whole_row_text (h, log) → is_row_of u id h first_start log ≡ true → IsRecord u id (1 ∷ 86 ∷ bytes) (verifier_state_of h first_start log)
 whole_is_record u id bytes h log few e row =
     let p = parts_of u id h first_start log row in
     record {
@@ -85,10 +85,10 @@ other_whole u id bytes h log here bad s r = by (versioned u id s r.begins)
 
 -- version 2
 pub trimmed_is_record : (u id : ℕ) (bytes : List ℕ) (h : Head) (start : Start) (log : List Decree) → (start.place == 0) ≡ false → length log < 2 ^ 32 → bytes ≡ trimmed_row_text ((h, start), log) → is_row_of u id h start log ≡ true
-    → IsRecord u id (2 ∷ 86 ∷ bytes) (state_of h start log)
+    → IsRecord u id (2 ∷ 86 ∷ bytes) (verifier_state_of h start log)
 trimmed_is_record u id bytes h start log later few e row =
     let p = parts_of u id h start log row in
-    let s = state_of h start log in
+    let s = verifier_state_of h start log in
     record {
       fresh = refl;
       spelled =

@@ -22,7 +22,7 @@ use Rattle.decrees.proofs.LogLemmas.{is_log_from-front, is_log_from-back}
 use Rattle.verifier.specs.declared.input.Input.{Input}
 use Rattle.verifier.specs.declared.input.Input.TheVariants as input
 use Rattle.verifier.specs.State.{VerifierState, OutcomeView, known, stands, down, in_view, next_place, next_led}
-use Rattle.verifier.specs.Lines.{learn, proposing, suspected, on_token, on_change, on_promise, on_accept, on_accepted, on_decided, on_ask, on_trim, on_stands, is_fitting, is_awaited, is_ahead, may_trim, forgets, trimmed as trimmed_to, gone_to, vote_key, with_tally}
+use Rattle.verifier.specs.Lines.{learn, proposing, suspected, on_token, on_change, on_promise, on_accept, on_accepted, on_decided, on_ask, on_trim, verifier_on_stands, is_fitting, is_awaited, is_ahead, may_trim, forgets, trimmed_log as trimmed_to, gone_to, vote_key, with_tally}
 use Rattle.verifier.specs.Tally.{is_accepted}
 use Rattle.verifier.specs.Step.{step, received, of_executor, of_verifier}
 use Rattle.verifier.specs.Laws.{LogStep, same, learned, trimmed, gone, LearnsInOrder, StaysALog, BeginsAsItCould, ViewNeverFalls, UnsavedStays}
@@ -135,7 +135,7 @@ going s place standing ls e =
     let p = and_parts (nat_lt (known s) place) (could_stand place standing) e in
     record { log = gone refl (ltb-true (known s) place p.0) p.1; view = omega arith; unsaved = λ h. absurd (cc h) }
 
-fine_stands : (u id : ℕ) (s : VerifierState) (place : ℕ) (standing : Standing) → Fine s (on_stands u id s place standing)
+fine_stands : (u id : ℕ) (s : VerifierState) (place : ℕ) (standing : Standing) → Fine s (verifier_on_stands u id s place standing)
 fine_stands u id s place standing =
     cond_both (is_ahead s place standing) _ _ (Fine s)
     (λ e. proposed u id s _ true [] _ (going s place standing [] e))

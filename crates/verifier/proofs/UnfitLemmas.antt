@@ -14,7 +14,7 @@ use Rattle.decrees.specs.Standing.{may_follow}
 use Rattle.decrees.specs.Votes.{is_open}
 use Rattle.verifier.specs.declared.input.Input.TheVariants.{Letter, Suspect, Trim}
 use Rattle.verifier.specs.State.{VerifierState, stands, stays, next_place}
-use Rattle.verifier.specs.Lines.{on_token, on_change, on_promise, on_accept, on_accepted, on_decided, on_ask, on_trim, on_stands, may_trim, is_ahead, is_fitting, is_acceptable, is_news, is_awaited, vote_key}
+use Rattle.verifier.specs.Lines.{on_token, on_change, on_promise, on_accept, on_accepted, on_decided, on_ask, on_trim, verifier_on_stands, may_trim, is_ahead, is_fitting, is_acceptable, is_news, is_awaited, vote_key}
 use Rattle.verifier.specs.Step.{received, of_executor, of_verifier, fits_letter, fits_executor, fits_verifier}
 use Rattle.verifier.specs.Laws.{UnfitStays}
 
@@ -53,7 +53,7 @@ unfit_decided u id s v place d unfit =
 unfit_trim : (s : VerifierState) (place : ℕ) → may_trim s place ≡ false → on_trim s place ≡ stays s
 unfit_trim s place unfit = cond-false (may_trim s place) _ _ unfit
 
-unfit_stands : (u id : ℕ) (s : VerifierState) (place : ℕ) (standing : Standing) → is_ahead s place standing ≡ false → on_stands u id s place standing ≡ stays s
+unfit_stands : (u id : ℕ) (s : VerifierState) (place : ℕ) (standing : Standing) → is_ahead s place standing ≡ false → verifier_on_stands u id s place standing ≡ stays s
 unfit_stands u id s place standing unfit = cond-false (is_ahead s place standing) _ _ unfit
 
 -- a proposal that is refused is of the next place, and may not come next

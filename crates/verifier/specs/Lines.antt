@@ -164,11 +164,11 @@ may_trim s place = nat_lt s.start.place place && nat_le place (known s)
 abbrev pub forgets : VerifierState → ℕ → ℕ
 forgets s place = place - s.start.place
 
-abbrev pub trimmed : VerifierState → ℕ → VerifierState
-trimmed s place = record s { start = record { place = place; standing = stands_from s.start.standing (take (forgets s place) s.log) }; log = drop (forgets s place) s.log }
+abbrev pub trimmed_log : VerifierState → ℕ → VerifierState
+trimmed_log s place = record s { start = record { place = place; standing = stands_from s.start.standing (take (forgets s place) s.log) }; log = drop (forgets s place) s.log }
 
 abbrev pub on_trim : VerifierState → ℕ → OutcomeView
-on_trim s place = if may_trim s place then record { state = trimmed s place; saves = true; letters = [] } else stays s
+on_trim s place = if may_trim s place then record { state = trimmed_log s place; saves = true; letters = [] } else stays s
 
 -- this could stand there, and the verifier does not know as much
 abbrev pub is_ahead : VerifierState → ℕ → Standing → Bool
@@ -178,8 +178,8 @@ is_ahead s place standing = nat_lt (known s) place && could_stand place standing
 abbrev pub gone_to : VerifierState → Start → VerifierState
 gone_to s start = record s { start = start; log = []; accepted = None; proposed = false; tally = []; votes = open_votes start.standing s.votes }
 
-abbrev pub on_stands : ℕ → ℕ → VerifierState → ℕ → Standing → OutcomeView
-on_stands u id s place standing =
+abbrev pub verifier_on_stands : ℕ → ℕ → VerifierState → ℕ → Standing → OutcomeView
+verifier_on_stands u id s place standing =
     if is_ahead s place standing
     then try_to_propose u id (gone_to s (record { place = place; standing = standing })) true []
     else stays s

@@ -44,8 +44,8 @@ ReadsTrimmed bytes (Ok row) = (length row.1 < 2 ^ 32) × (bytes ≡ trimmed_row_
 ReadsTrimmed bytes (Err e) = Refused e ((row : TrimmedRow) → length row.1 < 2 ^ 32 → bytes ≡ trimmed_row_text row → ⊥)
 
 -- what a verifier is that is just up again with these
-abbrev pub state_of : Head → Start → List Decree → VerifierState
-state_of h start log = record { view = h.0.1; start = start; log = log; accepted = h.1; leads = false; proposed = false; doubt = false; promises = []; tally = []; votes = [] }
+abbrev pub verifier_state_of : Head → Start → List Decree → VerifierState
+verifier_state_of h start log = record { view = h.0.1; start = start; log = log; accepted = h.1; leads = false; proposed = false; doubt = false; promises = []; tally = []; votes = [] }
 
 -- a record of the verifier may have these, with so many decrees
 abbrev pub may_be_of : ℕ → ℕ → Head → Start → ℕ → Bool

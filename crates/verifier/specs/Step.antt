@@ -8,7 +8,7 @@ use Rattle.decrees.specs.Votes.{is_open}
 use Rattle.verifier.specs.declared.input.Input.{Input}
 use Rattle.verifier.specs.declared.input.Input.TheVariants as input
 use Rattle.verifier.specs.State.{VerifierState, OutcomeView, stands, stays}
-use Rattle.verifier.specs.Lines.{suspected, on_token, on_change, on_promise, on_accept, on_accepted, on_decided, on_ask, on_trim, on_stands, may_trim, is_ahead, is_fitting, is_acceptable, is_news, is_awaited, vote_key}
+use Rattle.verifier.specs.Lines.{suspected, on_token, on_change, on_promise, on_accept, on_accepted, on_decided, on_ask, on_trim, verifier_on_stands, may_trim, is_ahead, is_fitting, is_acceptable, is_news, is_awaited, vote_key}
 
 -- with a letter of an executor
 abbrev pub of_executor : ℕ → ℕ → VerifierState → ℕ → Ballot → OutcomeView
@@ -30,7 +30,7 @@ of_verifier u id s v (Decided place d) = on_decided u id s v place d
 of_verifier u id s v (Ask place) = on_ask id s (Verifier v) place
 of_verifier u id s v (Change view) = on_change id s v view
 of_verifier u id s v (Promise view count accepted) = on_promise u id s v view count accepted
-of_verifier u id s v (Stands place standing) = on_stands u id s place standing
+of_verifier u id s v (Stands place standing) = verifier_on_stands u id s place standing
 
 -- with a letter; those of clients fit no line
 abbrev pub received : ℕ → ℕ → VerifierState → Node → Ballot → OutcomeView

@@ -6,7 +6,7 @@ ghost use Rattle.decrees.specs.Votes.{is_open};
 ghost use Rattle.verifier.specs.State.{stands, known, next_place, says, decided_from, to_others as all_others, to_executors as all_executors};
 ghost use Rattle.decrees.specs.declared.ballot.Ballot.TheVariants.{Stands, Decided};
 ghost use Rattle.decrees.specs.Standing.{may_follow};
-ghost use Rattle.verifier.specs.Lines.{learn, try_to_propose, on_token, on_change, on_promise, on_accept, on_accepted, on_decided, on_ask, on_trim, on_stands, restarted, asked_if_behind, told_of, may_trim, is_ahead, is_fitting, is_awaited, is_acceptable, is_news};
+ghost use Rattle.verifier.specs.Lines.{learn, try_to_propose, on_token, on_change, on_promise, on_accept, on_accepted, on_decided, on_ask, on_trim, verifier_on_stands, restarted, asked_if_behind, told_of, may_trim, is_ahead, is_fitting, is_awaited, is_acceptable, is_news};
 
 use crate::letters::{decided, one, to_others, to_others_and_executors, to_verifiers};
 use crate::outcome::{Outcome, nothing};
@@ -345,9 +345,9 @@ impl State {
         start: Start,
     ) -> Result<Outcome, Fault>
         requires { u < 4 }
-        ensures done { IfOk result (λ outcome. record { state = self.new; saves = outcome.saves; letters = outcome.letters.items } ≡ on_stands u id self.old start.place start.standing) }
+        ensures done { IfOk result (λ outcome. record { state = self.new; saves = outcome.saves; letters = outcome.letters.items } ≡ verifier_on_stands u id self.old start.place start.standing) }
         ensures fits_none { IsTrue (not (is_ahead self.old start.place start.standing)) → IsOk result }
-        ensures err { IfErr result (λ fault. (fault ≡ Fault.NoMemory) ⊎ ((fault ≡ Fault.Stopped) × (2 ^ 64 ≤ next_place (on_stands u id self.old start.place start.standing).state))) }
+        ensures err { IfErr result (λ fault. (fault ≡ Fault.NoMemory) ⊎ ((fault ≡ Fault.Stopped) × (2 ^ 64 ≤ next_place (verifier_on_stands u id self.old start.place start.standing).state))) }
     {
         if !self.is_ahead(&start) {
             return Ok(nothing(alloc));

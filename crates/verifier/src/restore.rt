@@ -4,7 +4,7 @@ ghost use Rattle.std.specs.Prelude.{◌≡◌, ◌+◌, ◌<◌, ◌^◌, ◌∷
 ghost use Rattle.wire.specs.Record.{Refused};
 ghost use Rattle.verifier.specs.State.{VerifierState};
 ghost use Rattle.verifier.specs.Record.{IsRecord};
-ghost use Rattle.verifier.specs.Row.{state_of, may_be_of as may_be, is_row_of};
+ghost use Rattle.verifier.specs.Row.{verifier_state_of, may_be_of as may_be, is_row_of};
 
 use crate::record::{Head, KIND, TRIMMED, WHOLE, read_trimmed, read_whole};
 use crate::state::State;
@@ -38,7 +38,7 @@ fn of_row(
     decrees: Vec<Decree>,
 ) -> Result<State, Fault>
     requires { vec_len decrees < 2 ^ 32 }
-    ensures ok { IfOk result (λ state. state ≡ state_of head start decrees.items) }
+    ensures ok { IfOk result (λ state. state ≡ verifier_state_of head start decrees.items) }
     ensures valid { OnOk result (IsTrue (is_row_of u id head start decrees.items)) }
     ensures err { IfErr result (λ fault. Refused fault (IsTrue (not (is_row_of u id head start decrees.items)))) }
 {

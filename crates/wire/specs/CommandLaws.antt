@@ -46,15 +46,15 @@ count_free : IsPrefixFree count_row
 count_free = followed key_prefix_free u64_free
 
 -- the mark of an update
-abbrev pub mark_of : Update → ℕ
-mark_of (Store verb _ _ _ _) = verb_mark verb
-mark_of (Cas _ _ _ _ _) = 7
-mark_of (Delete _) = 8
-mark_of (Touch _ _) = 9
-mark_of (Incr _ _) = 10
-mark_of (Decr _ _) = 11
+abbrev pub update_mark : Update → ℕ
+update_mark (Store verb _ _ _ _) = verb_mark verb
+update_mark (Cas _ _ _ _ _) = 7
+update_mark (Delete _) = 8
+update_mark (Touch _ _) = 9
+update_mark (Incr _ _) = 10
+update_mark (Decr _ _) = 11
 
-pub head_is : (u : Update) (rest : List ℕ) → head_of (update_text u ++ rest) ≡ mark_of u
+pub head_is : (u : Update) (rest : List ℕ) → head_of (update_text u ++ rest) ≡ update_mark u
 head_is (Store _ _ _ _ _) rest = refl
 head_is (Cas _ _ _ _ _) rest = refl
 head_is (Delete _) rest = refl
@@ -76,7 +76,7 @@ verb_high Replace = omega arith
 verb_high Append = omega arith
 verb_high Prepend = omega arith
 
-pub mark_low : (u : Update) → 2 ≤ mark_of u
+pub mark_low : (u : Update) → 2 ≤ update_mark u
 mark_low (Store verb _ _ _ _) = verb_low verb
 mark_low (Cas _ _ _ _ _) = omega arith
 mark_low (Delete _) = omega arith
@@ -112,7 +112,7 @@ verb_kind Replace = refl
 verb_kind Append = refl
 verb_kind Prepend = refl
 
-pub kind_is : (u : Update) → kind_at (mark_of u) ≡ kind_of u
+pub kind_is : (u : Update) → kind_at (update_mark u) ≡ kind_of u
 unfolding kind_at
 kind_is (Store verb _ _ _ _) = verb_kind verb
 kind_is (Cas _ _ _ _ _) = refl
@@ -121,7 +121,7 @@ kind_is (Touch _ _) = refl
 kind_is (Incr _ _) = refl
 kind_is (Decr _ _) = refl
 
-update_alike : (v w : Update) (r s : List ℕ) → Passes (nat_eq (kind_of v) (kind_of w)) → mark_of v ≡ mark_of w → update_text v ++ r ≡ update_text w ++ s → (v ≡ w) × (r ≡ s)
+update_alike : (v w : Update) (r s : List ℕ) → Passes (nat_eq (kind_of v) (kind_of w)) → update_mark v ≡ update_mark w → update_text v ++ r ≡ update_text w ++ s → (v ≡ w) × (r ≡ s)
 update_alike (Store verb key flags exptime block) (Store verb' key' flags' exptime' block') r s h m e =
     let verbs = verb_alike verb verb' (same_numbers (verb_mark verb) (verb_mark verb') m) in
     let both = store_free.apart (((key, flags), exptime), block) (((key', flags'), exptime'), block') r s (tail_of (verb_mark verb) (verb_mark verb') _ _ e) in
@@ -164,7 +164,7 @@ command_mark (command.Get _) = 0
 command_mark (command.Gets _) = 1
 command_mark (command.Gat _ _) = 12
 command_mark (command.Gats _ _) = 13
-command_mark (command.Update u) = mark_of u
+command_mark (command.Update u) = update_mark u
 
 pub command_head : (c : Command) (rest : List ℕ) → head_of (command_text c ++ rest) ≡ command_mark c
 command_head (command.Get _) rest = refl
@@ -192,7 +192,7 @@ store_command Replace = refl
 store_command Append = refl
 store_command Prepend = refl
 
-update_command : (u : Update) → command_kind_at (mark_of u) ≡ 2
+update_command : (u : Update) → command_kind_at (update_mark u) ≡ 2
 unfolding command_kind_at
 update_command (Store verb _ _ _ _) = store_command verb
 update_command (Cas _ _ _ _ _) = refl

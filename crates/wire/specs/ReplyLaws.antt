@@ -50,19 +50,19 @@ unfolding values_text
 values_text-is found few = rw (le-leb _ _ few) refl
 
 -- the mark of a reply
-abbrev pub mark_of : Reply → ℕ
-mark_of reply.Stored = 0
-mark_of reply.NotStored = 1
-mark_of reply.Exists = 2
-mark_of reply.NotFound = 3
-mark_of reply.Deleted = 4
-mark_of reply.Touched = 5
-mark_of (reply.Number _) = 6
-mark_of (reply.Values _) = 7
-mark_of reply.TooLarge = 8
-mark_of reply.NotNumber = 9
+abbrev pub reply_mark : Reply → ℕ
+reply_mark reply.Stored = 0
+reply_mark reply.NotStored = 1
+reply_mark reply.Exists = 2
+reply_mark reply.NotFound = 3
+reply_mark reply.Deleted = 4
+reply_mark reply.Touched = 5
+reply_mark (reply.Number _) = 6
+reply_mark (reply.Values _) = 7
+reply_mark reply.TooLarge = 8
+reply_mark reply.NotNumber = 9
 
-pub head_is : (r : Reply) (rest : List ℕ) → head_of (reply_record r ++ rest) ≡ mark_of r
+pub head_is : (r : Reply) (rest : List ℕ) → head_of (reply_record r ++ rest) ≡ reply_mark r
 head_is reply.Stored rest = refl
 head_is reply.NotStored rest = refl
 head_is reply.Exists rest = refl
@@ -74,7 +74,7 @@ head_is (reply.Values x) rest = refl
 head_is reply.TooLarge rest = refl
 head_is reply.NotNumber rest = refl
 
-reply_alike : (v w : Reply) (r s : List ℕ) → Passes (nat_eq (mark_of v) (mark_of w)) → reply_record v ++ r ≡ reply_record w ++ s → (v ≡ w) × (r ≡ s)
+reply_alike : (v w : Reply) (r s : List ℕ) → Passes (nat_eq (reply_mark v) (reply_mark w)) → reply_record v ++ r ≡ reply_record w ++ s → (v ≡ w) × (r ≡ s)
 reply_alike reply.Stored reply.Stored r s h e = (refl, tail_of 0 0 r s e)
 reply_alike reply.NotStored reply.NotStored r s h e = (refl, tail_of 1 1 r s e)
 reply_alike reply.Exists reply.Exists r s h e = (refl, tail_of 2 2 r s e)
@@ -93,5 +93,5 @@ reply_alike _ _ r s h e = absurd h
 
 pub reply_prefix_free : IsPrefixFree reply_record
 reply_prefix_free = record {
-  apart = λ v w r s e. reply_alike v w r s (same_numbers (mark_of v) (mark_of w) (sym (head_is v r) ∙ (ap head_of e ∙ head_is w s))) e;
+  apart = λ v w r s e. reply_alike v w r s (same_numbers (reply_mark v) (reply_mark w) (sym (head_is v r) ∙ (ap head_of e ∙ head_is w s))) e;
 }

@@ -9,7 +9,7 @@ use Rattle.worlds.specs.First.{first_world}
 use Rattle.worlds.proofs.FirstLemmas.{reached_first}
 use Rattle.worlds.proofs.LeadLemmas.{runs_append, last_append}
 use Rattle.linear_laws.specs.Laws.{given_in, history_of}
-use Rattle.world.specs.History.{IsHistory, IsHistoryTo}
+use Rattle.world.specs.History.{IsHistoryOfPlay, IsHistoryTo}
 
 -- where no event came there is one world
 of_first : (c : ConfigView) (w : WorldView) (history : List AllGiven) (worlds : List WorldView) → ReachedWorlds c [] worlds → EndsWith worlds w → history ≡ given_in w ∷ [] → IsHistoryTo c [] w history
@@ -37,5 +37,5 @@ history_next c es i e w x old new long is h next more =
     (subst (λ (fs : List Event). IsHistoryTo c fs x (old ++ given_in x ∷ [])) (sym (take_more es i e long))
     (history_on c (take i es) h.worlds w x (get_or es i e) old h.reached h.ends h.given (subst (λ (d : Event). WorldNext w d x) is next)))
 
-pub history_is : (c : ConfigView) (es : List Event) (w : WorldView) (history : List AllGiven) → IsHistoryTo c es w history → IsHistory c es history
+pub history_is : (c : ConfigView) (es : List Event) (w : WorldView) (history : List AllGiven) → IsHistoryTo c es w history → IsHistoryOfPlay c es history
 history_is c es w history h = record { worlds = h.worlds; reached = h.reached; given = h.given }

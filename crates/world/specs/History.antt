@@ -6,7 +6,7 @@ use Rattle.events.specs.declared.event.Event.{Event}
 use Rattle.events.specs.Config.{ConfigView}
 use Rattle.memcached_spec.specs.Order.{AllGiven, IsLinearizable}
 use Rattle.worlds.specs.World.{ReachedWorlds, EndsWith, WorldView}
-use Rattle.one_server.specs.Saved.{DigestsAreDistinct}
+use Rattle.server_laws.specs.Saved.{DigestsAreDistinct}
 use Rattle.linear_laws.specs.Laws.{history_of}
 
 -- the bytes in these vectors
@@ -17,7 +17,7 @@ abbrev pub history_in : List (Vec (Vec ℕ Global) Global) → List AllGiven
 history_in moments = map (λ given. texts_in given.items) moments
 
 -- it is what clients had been given in the worlds that these events lead through
-pub record IsHistory (c : ConfigView) (events : List Event) (history : List AllGiven) : Type 0 where
+pub record IsHistoryOfPlay (c : ConfigView) (events : List Event) (history : List AllGiven) : Type 0 where
   pub worlds : List WorldView
   pub reached : ReachedWorlds c events worlds
   pub given : history ≡ history_of worlds
@@ -31,4 +31,4 @@ pub record IsHistoryTo (c : ConfigView) (events : List Event) (w : WorldView) (h
 
 -- where digests tell apart the states that executors had on the way, it is linearizable
 abbrev pub IsLinearizableIfDistinct : ConfigView → List Event → List AllGiven → Type 0
-IsLinearizableIfDistinct c events history = (is : IsHistory c events history) → DigestsAreDistinct is.worlds → IsLinearizable events history
+IsLinearizableIfDistinct c events history = (is : IsHistoryOfPlay c events history) → DigestsAreDistinct is.worlds → IsLinearizable events history

@@ -1,9 +1,9 @@
 //! A replica stops, is opened, is lost, or will fail its next save.
 
-use crate::sending::{send, send_ballots};
+use crate::sending::send;
 use crate::world::World;
 use std::alloc::{AllocError, Global};
-use worlds::Replica;
+use worlds::{Replica, send_ballots};
 
 impl World {
     ghost use Rattle.std.specs.Prelude.{◌≡◌, OnOk, slice_get};

@@ -1,11 +1,12 @@
 //! An input is given to a node, and what that sends joins all letters.
 
-use crate::sending::{send, send_ballots};
+use crate::sending::send;
 use crate::world::World;
 use client::Input as ClientInput;
 use exec_lines::Input as ExecutorInput;
 use std::alloc::{AllocError, Global};
 use verifier::Input as VerifierInput;
+use worlds::send_ballots;
 
 impl World {
     ghost use Rattle.std.specs.Prelude.{◌≡◌, OnOk, slice_get};

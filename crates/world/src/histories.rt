@@ -2,7 +2,7 @@
 
 ghost use Rattle.std.specs.Prelude.{◌≡◌, ◌++◌, ◌∷◌, [], map, IfOk, OnOk};
 ghost use Rattle.linear_laws.specs.Laws.{given_in};
-ghost use Rattle.world.specs.History.{IsHistory, IsHistoryTo, IsLinearizableIfDistinct, texts_in, history_in};
+ghost use Rattle.world.specs.History.{IsHistoryOfPlay, IsHistoryTo, IsLinearizableIfDistinct, texts_in, history_in};
 
 use crate::world::World;
 use linear_laws::reached_are_linearizable;
@@ -78,7 +78,7 @@ pub fn history(
     config: &Config,
     events: &[Event],
 ) -> Result<Vec<Vec<Vec<u8>>>, AllocError>
-    ensures is { IfOk result (λ history. IsHistory config.now events.now (history_in history.items)) }
+    ensures is { IfOk result (λ history. IsHistoryOfPlay config.now events.now (history_in history.items)) }
     ensures linearizable { IfOk result (λ history. IsLinearizableIfDistinct config.now events.now (history_in history.items)) }
 {
     reached_are_linearizable();

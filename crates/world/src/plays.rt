@@ -2,12 +2,12 @@
 
 ghost use Rattle.std.specs.Prelude.{◌≡◌, IfOk, IsTrue};
 ghost use Rattle.worlds.specs.Laws.{IsReached, OneIsChosen, ChosenIsBacked, ChosenStands, ChosenIsKept, trims_none};
-ghost use Rattle.one_server.specs.Laws.{ShowsOneServer, KeepsItsRun};
+ghost use Rattle.server_laws.specs.Laws.{ShowsOneServer, KeepsItsRun};
 ghost use Rattle.linear_laws.specs.Laws.{ShowsLinearizable};
 
 use crate::world::World;
 use linear_laws::reached_are_linearizable;
-use one_server::{executors_keep_the_run, worlds_are_of_one_server};
+use server_laws::{executors_keep_the_run, worlds_are_of_one_server};
 use std::alloc::{AllocError, Global};
 use worlds::{
     Config, Event, chosen_is_backed_in_worlds, chosen_is_kept_in_worlds, chosen_stands_in_worlds,

@@ -1,9 +1,8 @@
 //! Letters that are sent join all others.
 
-ghost use Rattle.std.specs.Prelude.{◌≡◌, ◌++◌, map, OnOk};
-ghost use Rattle.worlds.specs.World.{as_sent};
+ghost use Rattle.std.specs.Prelude.{◌≡◌, ◌++◌, OnOk};
 
-use decrees::{Ballot, Letter};
+use decrees::Letter;
 use exec_lines::Body;
 use std::alloc::AllocError;
 
@@ -13,23 +12,6 @@ pub fn send(sent: Vec<Letter<Body>>, letters: &mut Vec<Letter<Body>>) -> Result<
 {
     for letter in sent {
         letters.push(letter)?;
-    }
-    Ok(())
-}
-
-/// The ballots of a verifier join these.
-pub fn send_ballots(
-    sent: &[Letter<Ballot>],
-    letters: &mut Vec<Letter<Body>>,
-) -> Result<(), AllocError>
-    ensures { OnOk result (letters.new.items ≡ letters.old.items ++ map as_sent sent.now) }
-{
-    for letter in sent {
-        letters.push(Letter {
-            from: letter.from,
-            to: letter.to,
-            body: Body::Ballot(letter.body),
-        })?;
     }
     Ok(())
 }

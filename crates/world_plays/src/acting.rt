@@ -1,8 +1,8 @@
 //! What happens next in a play.
 
 use crate::stage::{Kind, Stage};
-use crate::words::Words;
 use events::{Event, Replica};
+use random::Words;
 use std::alloc::{AllocError, Global};
 use world::World;
 

@@ -30,7 +30,6 @@ mod restarts;
 mod stage;
 mod talks;
 mod task;
-mod words;
 
 use crate::counts::{Counts, Failed};
 use crate::playing::play_all;

@@ -6,9 +6,9 @@ use crate::counts::{Counts, Failed};
 use crate::ending::ended;
 use crate::stage::{Kind, MOST, Stage, kind_of};
 use crate::task::Seeds;
-use crate::words::Words;
 use events::{Config, Event};
 use proto::Fault;
+use random::Words;
 use std::alloc::{AllocError, Global};
 use world::World;
 

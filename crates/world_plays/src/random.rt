@@ -3,10 +3,10 @@
 use crate::counts::{Counts, Failed};
 use crate::ending::ended;
 use crate::stage::Stage;
-use crate::words::Words;
 use events::{Config, Event};
 use makers::Maker;
 use proto::Fault;
+use random::Words;
 use std::alloc::{AllocError, Global};
 use world::World;
 

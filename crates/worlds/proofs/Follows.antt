@@ -11,9 +11,9 @@ use Rattle.decrees.specs.declared.node.Node.TheVariants.{Client, Executor, Verif
 use Rattle.exec_lines.specs.declared.body.Body.{Body}
 use Rattle.exec_node.specs.Executor.{ExecutorView}
 use Rattle.verifier.specs.Verifier.{VerifierView}
-use Rattle.agreement.specs.Machine as machine
-use Rattle.agreement.specs.Machine.{Machine, sent_by, run, Send}
-use Rattle.agreement.specs.Laws.{trims_none}
+use Rattle.agreement_laws.specs.Machine as machine
+use Rattle.agreement_laws.specs.Machine.{Machine, sent_by, run, Send}
+use Rattle.agreement_laws.specs.Laws.{machine_trims_none}
 use Rattle.worlds.specs.Slot.{Slot}
 use Rattle.worlds.specs.Slots.{ClientSlot}
 use Rattle.worlds.specs.World.{WorldView, as_sent, with_verifier}
@@ -25,7 +25,7 @@ use Rattle.worlds.proofs.BallotLemmas.{ballots-append, ballots-sent, ballots-fro
 
 -- some events of the machine lead to one that is of this world, and trim only where they may
 abbrev pub Follows : Bool → ℕ → Machine → WorldView → Type 0
-Follows may_trim u m now = (more : List machine.Event) × IsTrue (trims_none more || may_trim) × IsOfMachine u now (run u more m)
+Follows may_trim u m now = (more : List machine.Event) × IsTrue (machine_trims_none more || may_trim) × IsOfMachine u now (run u more m)
 
 -- the node is no verifier
 abbrev pub IsOutside : Node → Type 0
@@ -46,7 +46,7 @@ sends u n out (b ∷ bs) m h =
     ∙ (sends u n out bs (record { verifiers = m.verifiers; letters = m.letters ++ b ∷ [] }) h.1
     ∙ (λ i. record { verifiers = m.verifiers; letters = append_assoc m.letters (b ∷ []) bs i }))
 
-sends_trim_none : (bs : List (Letter Ballot)) → trims_none (map Send bs) ≡ true
+sends_trim_none : (bs : List (Letter Ballot)) → machine_trims_none (map Send bs) ≡ true
 sends_trim_none [] = refl
 sends_trim_none (b ∷ bs) = sends_trim_none bs
 
@@ -71,7 +71,7 @@ module _ {may_trim : Bool} {u : ℕ} {w : WorldView} {m : Machine} (is : IsOfMac
 
 module _ {u : ℕ} {w : WorldView} {m : Machine} (is : IsOfMachine u w m) where
   -- one verifier is another, in the world and in the machine, with these letters
-  pub both_put : (id : ℕ) (old mine : machine.Slot) (slot : Slot VerifierView) (letters : List (Letter Body)) (sent : List (Letter Ballot)) → slice_get m.verifiers id ≡ Some old → IsSameVerifier u id mine slot → ballots letters ≡ sent
+  pub both_put : (id : ℕ) (old mine : machine.VerifierSlot) (slot : Slot VerifierView) (letters : List (Letter Body)) (sent : List (Letter Ballot)) → slice_get m.verifiers id ≡ Some old → IsSameVerifier u id mine slot → ballots letters ≡ sent
       → IsOfMachine u (record w { verifiers = slice_set w.verifiers id slot; letters = letters }) (record { verifiers = slice_set m.verifiers id mine; letters = sent })
   both_put id old mine slot letters sent at same e = record {
     same_u = is.same_u;
@@ -84,7 +84,7 @@ module _ {u : ℕ} {w : WorldView} {m : Machine} (is : IsOfMachine u w m) where
   }
 
   -- one is another in the world, and still the one of the machine
-  pub world_put : (id : ℕ) (mine : machine.Slot) (slot : Slot VerifierView) (letters : List (Letter Body)) → slice_get m.verifiers id ≡ Some mine → IsSameVerifier u id mine slot → ballots letters ≡ m.letters
+  pub world_put : (id : ℕ) (mine : machine.VerifierSlot) (slot : Slot VerifierView) (letters : List (Letter Body)) → slice_get m.verifiers id ≡ Some mine → IsSameVerifier u id mine slot → ballots letters ≡ m.letters
       → IsOfMachine u (record w { verifiers = slice_set w.verifiers id slot; letters = letters }) m
   world_put id mine slot letters at same e = record {
     same_u = is.same_u;
@@ -104,16 +104,16 @@ module _ {u : ℕ} {w : WorldView} {m : Machine} (is : IsOfMachine u w m) where
   sent_none new e = sent_more new ∙ (ap (λ (z : List (Letter Ballot)). m.letters ++ z) e ∙ append-nil m.letters)
 
   -- the verifier sends these, in both
-  pub verifier_sent : (id : ℕ) (old mine : machine.Slot) (slot : Slot VerifierView) (new sent : List (Letter Ballot)) → slice_get m.verifiers id ≡ Some old → IsSameVerifier u id mine slot → new ≡ sent
+  pub verifier_sent : (id : ℕ) (old mine : machine.VerifierSlot) (slot : Slot VerifierView) (new sent : List (Letter Ballot)) → slice_get m.verifiers id ≡ Some old → IsSameVerifier u id mine slot → new ≡ sent
       → IsOfMachine u (with_verifier w id slot new) (record { verifiers = slice_set m.verifiers id mine; letters = m.letters ++ sent })
   verifier_sent id old mine slot new sent at same e = both_put id old mine slot (w.letters ++ map as_sent new) (m.letters ++ sent) at same (sent_more new ∙ ap (λ (z : List (Letter Ballot)). m.letters ++ z) e)
 
   -- it sends nothing
-  pub verifier_silent : (id : ℕ) (old mine : machine.Slot) (slot : Slot VerifierView) (new : List (Letter Ballot)) → slice_get m.verifiers id ≡ Some old → IsSameVerifier u id mine slot → new ≡ []
+  pub verifier_silent : (id : ℕ) (old mine : machine.VerifierSlot) (slot : Slot VerifierView) (new : List (Letter Ballot)) → slice_get m.verifiers id ≡ Some old → IsSameVerifier u id mine slot → new ≡ []
       → IsOfMachine u (with_verifier w id slot new) (record { verifiers = slice_set m.verifiers id mine; letters = m.letters })
   verifier_silent id old mine slot new at same e = both_put id old mine slot (w.letters ++ map as_sent new) m.letters at same (sent_none new e)
 
   -- it sends nothing, and nothing happens in the machine
-  pub verifier_same : (id : ℕ) (mine : machine.Slot) (slot : Slot VerifierView) (new : List (Letter Ballot)) → slice_get m.verifiers id ≡ Some mine → IsSameVerifier u id mine slot → new ≡ []
+  pub verifier_same : (id : ℕ) (mine : machine.VerifierSlot) (slot : Slot VerifierView) (new : List (Letter Ballot)) → slice_get m.verifiers id ≡ Some mine → IsSameVerifier u id mine slot → new ≡ []
       → IsOfMachine u (with_verifier w id slot new) m
   verifier_same id mine slot new at same e = world_put id mine slot (w.letters ++ map as_sent new) at same (sent_none new e)

@@ -24,7 +24,7 @@ use Rattle.executor.specs.declared.answered.Answered.{Answered}
 use Rattle.executor.specs.declared.work.Ended.{Ended}
 use Rattle.executor.specs.declared.work.Ended.TheVariants.{On, Done}
 use Rattle.executor.specs.Work.{TentativeView, WorkView, is_group_done}
-use Rattle.rollback.specs.Chain.{ChainView, chain_tip, commits_first, first_replies, chain_from, replies_to}
+use Rattle.rollback.specs.Chain.{ChainView, chain_tip, commits_first, first_replies, chain_from, replies_on_commit}
 use Rattle.transfer.specs.declared.need.Need.{Need}
 use Rattle.transfer.specs.Need.{need_of}
 use Rattle.transfer.specs.Parcel.{ParcelView, answer_of, take_of}
@@ -34,7 +34,7 @@ use Rattle.exec_lines.specs.declared.input.Input as of_executor
 use Rattle.exec_lines.specs.declared.input.Input.TheVariants as executor_input
 use Rattle.exec_lines.specs.Begun.{begin_of, finish_of}
 use Rattle.exec_lines.specs.State.{ExecutorState, ExecutorOutcome, is_behind, runs_in_order, executor_letter, to_first_verifiers, to_all_verifiers, to_first_executors, to_other_executors, token_told, to_clients, unchanged, one_letter}
-use Rattle.exec_lines.specs.Lines.{waits, wanted, completed, went_on, begin, after_cut, cut_batch, ordered, may_cut, on_cut, may_obey_order, on_order, stepped, work_after, finished, may_adopt, on_adopt, needs, rolled_back, roll_back, commit_first, obey, is_due, on_decree, is_told, stood_without, stood, on_stands, has_more, on_need, came, on_parcel, resumed}
+use Rattle.exec_lines.specs.Lines.{waits, wanted, completed, went_on, begin, after_cut, cut_batch, ordered, may_cut, on_cut, may_obey_order, on_order, stepped, work_after, finished, may_adopt, on_adopt, needs, rolled_back, roll_back, commit_first, obey, decree_is_due, on_decree, is_told, stood_without, stood, on_stands, has_more, on_need, came, on_parcel, resumed}
 use Rattle.exec_lines.specs.Step.{from_client, from_executor, on_ballot, from_verifier, on_letter, executor_step}
 use Rattle.client.specs.declared.asked.Asked.{Asked}
 use Rattle.client.specs.declared.input.Input as of_client
@@ -120,13 +120,13 @@ obey_own u id s d = cond_both (commits_first d s.chain.members) (commit_first id
     (λ _. needs_own u id (rolled_back s d))
 
 decree_own : (u id : ℕ) (s : ExecutorState) (v place : ℕ) (d : Decree) → IsOwn id (on_decree u id s v place d)
-decree_own u id s v place d = cond_both (is_due s place d) (obey u id s d) (if nat_lt (s.known + 1) place then one_letter id s (Verifier v) (body.Ballot (Ask (s.known + 1))) else unchanged s) (IsOwn id)
+decree_own u id s v place d = cond_both (decree_is_due s place d) (obey u id s d) (if nat_lt (s.known + 1) place then one_letter id s (Verifier v) (body.Ballot (Ask (s.known + 1))) else unchanged s) (IsOwn id)
     (λ _. obey_own u id s d)
     (λ _. cond_both (nat_lt (s.known + 1) place) (one_letter id s (Verifier v) (body.Ballot (Ask (s.known + 1)))) (unchanged s) (IsOwn id) (λ _. (refl, tt)) (λ _. tt))
 
 stood_own : (u id : ℕ) (s : ExecutorState) (place : ℕ) (st : Standing) (o : Option ChainView) → IsOwn id (stood u id s place st o)
 stood_own u id s place st None = needs_own u id (stood_without s place st)
-stood_own u id s place st (Some c) = clients_own id (replies_to st s.chain.have s.chain.members)
+stood_own u id s place st (Some c) = clients_own id (replies_on_commit st s.chain.have s.chain.members)
 
 stands_own : (u id : ℕ) (s : ExecutorState) (place : ℕ) (st : Standing) → IsOwn id (on_stands u id s place st)
 stands_own u id s place st = cond_both (is_told s place st) (stood u id s place st (chain_from st s.chain.have s.chain.members)) (unchanged s) (IsOwn id)

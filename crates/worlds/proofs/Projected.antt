@@ -20,13 +20,13 @@ use Rattle.verifier.specs.Step.{step}
 use Rattle.verifier.specs.Verifier.{VerifierView, outcome, handled}
 use Rattle.client.specs.declared.input.Input as of_client
 use Rattle.client.specs.declared.input.Input.TheVariants as client_input
-use Rattle.agreement.specs.Machine as machine
-use Rattle.agreement.specs.Machine.{Machine, Luck, Done, StopsBefore, StopsAfter, given, delivered, reached_node, happens, run, reached, first_machine, saved_after, crashed}
-use Rattle.agreement.specs.Verifiers.{IsIn, IsKept}
-use Rattle.agreement.specs.Laws.{trims_none as none_trim}
-use Rattle.agreement.proofs.Machine.{Good, reached_ok}
-use Rattle.agreement.proofs.Grows.{run-append}
-use Rattle.agreement.proofs.Verifiers.{handled_is_done}
+use Rattle.agreement_laws.specs.Machine as machine
+use Rattle.agreement_laws.specs.Machine.{Machine, Luck, Done, StopsBefore, StopsAfter, given, delivered, reached_node, happens, run, reached, first_machine, saved_after, crashed}
+use Rattle.agreement_laws.specs.Verifiers.{IsIn, IsKeptAt}
+use Rattle.agreement_laws.specs.Laws.{machine_trims_none as none_trim}
+use Rattle.agreement_laws.proofs.Machine.{Good, reached_ok}
+use Rattle.agreement_laws.proofs.Grows.{run-append}
+use Rattle.agreement_laws.proofs.Verifiers.{handled_is_done}
 use Rattle.events.specs.declared.event.Event.{Event}
 use Rattle.events.specs.declared.event.Event.TheVariants.{Feed, Again, Hangup, Deliver, Cut, Step, Finish, Suspect, Trim, Crash, Restart, Lost, FailSave}
 use Rattle.events.specs.declared.event.Replica.TheVariants as replica
@@ -61,7 +61,7 @@ settled_executor_sends (Down kept) now x new h = (0, subst (AllFrom (node.Execut
 settled_executor_sends (Gone kept) now x new h = (0, subst (AllFrom (node.Executor 0)) (sym h.1) tt)
 
 -- a verifier that is told that a save will fail is still the one of the machine
-told_same : (u id : ℕ) (v : VerifierView) (mine : machine.Slot) → IsSameVerifier u id mine (Up v) → IsSameVerifier u id mine (Up (verifier_told v))
+told_same : (u id : ℕ) (v : VerifierView) (mine : machine.VerifierSlot) → IsSameVerifier u id mine (Up v) → IsSameVerifier u id mine (Up (verifier_told v))
 told_same u id v machine.New same = same
 told_same u id v (machine.Stopped saved) same = same
 told_same u id v (machine.Up s saved) same = ap verifier_told same
@@ -109,14 +109,14 @@ module _ {may_trim : Bool} {u : ℕ} {w : WorldView} {m : Machine} (is : IsOfMac
         one_event StopsAfter s saved (with_verifier w id (Down kept) new) at
         (verifier_silent is id (machine.Up s saved) (machine.Stopped (saved_after saved (step u id s x))) (Down kept) new at (e ∙ ap (λ (y : VerifierView). y.saved) done.0) none)
 
-    up_settles : (v : VerifierView) (now : Slot VerifierView) (new : List (Letter Ballot)) (mine : machine.Slot) → slice_get m.verifiers id ≡ Some mine → IsSameVerifier u id mine (Up v) → VerifierSettles (Up v) x now new
+    up_settles : (v : VerifierView) (now : Slot VerifierView) (new : List (Letter Ballot)) (mine : machine.VerifierSlot) → slice_get m.verifiers id ≡ Some mine → IsSameVerifier u id mine (Up v) → VerifierSettles (Up v) x now new
         → Follows may_trim u m (with_verifier w id now new)
     up_settles v now new machine.New at same h = absurd same
     up_settles v now new (machine.Stopped saved) at same h = absurd same
     up_settles v now new (machine.Up s saved) at same (inl h) = subst (λ (y : Slot VerifierView). Follows may_trim u m (with_verifier w id y new)) (sym h.1) (step_follows v new s saved at same h.2)
     up_settles v now new (machine.Up s saved) at same (inr h) = subst (λ (y : Slot VerifierView). Follows may_trim u m (with_verifier w id y new)) (sym h.1.1) (stop_follows v h.1.0 new s saved at same h.1.2 h.1.3.record_is)
 
-    settles : (old now : Slot VerifierView) (new : List (Letter Ballot)) (mine : machine.Slot) → slice_get m.verifiers id ≡ Some mine → IsSameVerifier u id mine old → VerifierSettles old x now new → Follows may_trim u m (with_verifier w id now new)
+    settles : (old now : Slot VerifierView) (new : List (Letter Ballot)) (mine : machine.VerifierSlot) → slice_get m.verifiers id ≡ Some mine → IsSameVerifier u id mine old → VerifierSettles old x now new → Follows may_trim u m (with_verifier w id now new)
     settles (Up v) now new mine at same h = up_settles v now new mine at same h
     settles (Down kept) now new mine at same h = ([], refl, verifier_same is id mine now new at (subst (IsSameVerifier u id mine) (sym h.0) same) h.1)
     settles (Gone kept) now new mine at same h = ([], refl, verifier_same is id mine now new at (subst (IsSameVerifier u id mine) (sym h.0) same) h.1)
@@ -129,8 +129,8 @@ module _ {may_trim : Bool} {u : ℕ} {w : WorldView} {m : Machine} (is : IsOfMac
 
   -- ---- a verifier that crashes, is lost, or is told that a save will fail
 
-  stops : (id : ℕ) (v : VerifierView) (slot : Slot VerifierView) → ((saved : VerifierState) → IsKept u id (machine.Stopped saved) v.saved → IsSameVerifier u id (machine.Stopped saved) slot)
-      → (mine : machine.Slot) → slice_get m.verifiers id ≡ Some mine → IsSameVerifier u id mine (Up v) → Follows may_trim u m (record w { verifiers = slice_set w.verifiers id slot })
+  stops : (id : ℕ) (v : VerifierView) (slot : Slot VerifierView) → ((saved : VerifierState) → IsKeptAt u id (machine.Stopped saved) v.saved → IsSameVerifier u id (machine.Stopped saved) slot)
+      → (mine : machine.VerifierSlot) → slice_get m.verifiers id ≡ Some mine → IsSameVerifier u id mine (Up v) → Follows may_trim u m (record w { verifiers = slice_set w.verifiers id slot })
   stops id v slot as_slot machine.New at same = absurd same
   stops id v slot as_slot (machine.Stopped saved) at same = absurd same
   stops id v slot as_slot (machine.Up s saved) at same = (
@@ -140,26 +140,26 @@ module _ {may_trim : Bool} {u : ℕ} {w : WorldView} {m : Machine} (is : IsOfMac
         (both_put is id (machine.Up s saved) (machine.Stopped saved) slot w.letters m.letters at (as_slot saved (ap (λ (y : VerifierView). y.saved) same)) is.letters),
   )
 
-  keeps_slot : (id : ℕ) (slot : Slot VerifierView) (mine : machine.Slot) → slice_get m.verifiers id ≡ Some mine → IsSameVerifier u id mine slot → Follows may_trim u m (record w { verifiers = slice_set w.verifiers id slot })
+  keeps_slot : (id : ℕ) (slot : Slot VerifierView) (mine : machine.VerifierSlot) → slice_get m.verifiers id ≡ Some mine → IsSameVerifier u id mine slot → Follows may_trim u m (record w { verifiers = slice_set w.verifiers id slot })
   keeps_slot id slot mine at same = ([], refl, world_put is id mine slot w.letters at same is.letters)
 
-  crashes : (id : ℕ) (slot : Slot VerifierView) (mine : machine.Slot) → slice_get m.verifiers id ≡ Some mine → IsSameVerifier u id mine slot → Follows may_trim u m (record w { verifiers = slice_set w.verifiers id (crashed_slot verifier_kept slot) })
+  crashes : (id : ℕ) (slot : Slot VerifierView) (mine : machine.VerifierSlot) → slice_get m.verifiers id ≡ Some mine → IsSameVerifier u id mine slot → Follows may_trim u m (record w { verifiers = slice_set w.verifiers id (crashed_slot verifier_kept slot) })
   crashes id (Up v) mine at same = stops id v (Down (verifier_kept v)) (λ saved h. h) mine at same
   crashes id (Down kept) mine at same = keeps_slot id (Down kept) mine at same
   crashes id (Gone kept) mine at same = keeps_slot id (Gone kept) mine at same
 
-  is_lost : (id : ℕ) (slot : Slot VerifierView) (mine : machine.Slot) → slice_get m.verifiers id ≡ Some mine → IsSameVerifier u id mine slot → Follows may_trim u m (record w { verifiers = slice_set w.verifiers id (lost_slot verifier_kept slot) })
+  is_lost : (id : ℕ) (slot : Slot VerifierView) (mine : machine.VerifierSlot) → slice_get m.verifiers id ≡ Some mine → IsSameVerifier u id mine slot → Follows may_trim u m (record w { verifiers = slice_set w.verifiers id (lost_slot verifier_kept slot) })
   is_lost id (Up v) mine at same = stops id v (Gone (verifier_kept v)) (λ saved h. h) mine at same
   is_lost id (Down kept) mine at same = keeps_slot id (Gone kept) mine at same
   is_lost id (Gone kept) mine at same = keeps_slot id (Gone kept) mine at same
 
-  is_told : (id : ℕ) (slot : Slot VerifierView) (mine : machine.Slot) → slice_get m.verifiers id ≡ Some mine → IsSameVerifier u id mine slot → Follows may_trim u m (record w { verifiers = slice_set w.verifiers id (told_slot verifier_told slot) })
+  is_told : (id : ℕ) (slot : Slot VerifierView) (mine : machine.VerifierSlot) → slice_get m.verifiers id ≡ Some mine → IsSameVerifier u id mine slot → Follows may_trim u m (record w { verifiers = slice_set w.verifiers id (told_slot verifier_told slot) })
   is_told id (Up v) mine at same = keeps_slot id (Up (verifier_told v)) mine at (told_same u id v mine same)
   is_told id (Down kept) mine at same = keeps_slot id (Down kept) mine at same
   is_told id (Gone kept) mine at same = keeps_slot id (Gone kept) mine at same
 
   changes : (id : ℕ) (change : Slot VerifierView → Slot VerifierView)
-      → ((slot : Slot VerifierView) (mine : machine.Slot) → slice_get m.verifiers id ≡ Some mine → IsSameVerifier u id mine slot → Follows may_trim u m (record w { verifiers = slice_set w.verifiers id (change slot) }))
+      → ((slot : Slot VerifierView) (mine : machine.VerifierSlot) → slice_get m.verifiers id ≡ Some mine → IsSameVerifier u id mine slot → Follows may_trim u m (record w { verifiers = slice_set w.verifiers id (change slot) }))
       → (o : Option (Slot VerifierView)) (now : WorldView) → slice_get w.verifiers id ≡ o → now ≡ record w { verifiers = changed_at w.verifiers id change o } → Follows may_trim u m now
   changes id change each None now at h = stays is h
   changes id change each (Some slot) now at h = let there = is.verifiers id slot at in subst (λ (y : WorldView). Follows may_trim u m y) (sym h) (each slot there.0 there.1 there.2)

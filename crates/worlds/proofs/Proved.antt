@@ -9,13 +9,13 @@ use Rattle.decrees.specs.Standing.{decree_at}
 use Rattle.verifier.specs.State.{VerifierState}
 use Rattle.verifier.specs.Record.{record_text}
 use Rattle.verifier.specs.Verifier.{VerifierView}
-use Rattle.agreement.specs.Letters.{Chosen, Backed}
-use Rattle.agreement.specs.Machine as machine
-use Rattle.agreement.specs.Machine.{reached, letters_of}
-use Rattle.agreement.specs.ChosenList.{chosen}
-use Rattle.agreement.specs.Laws.{recorded, record_of, Holds, StartsAbove}
-use Rattle.agreement.proofs.Proved.{at_most_one, all_backed, all_kept, list_is_chosen, list_grows}
-use Rattle.agreement.proofs.Untrimmed.{all_held}
+use Rattle.agreement_laws.specs.Letters.{Chosen, Backed}
+use Rattle.agreement_laws.specs.Machine as machine
+use Rattle.agreement_laws.specs.Machine.{reached, letters_of}
+use Rattle.agreement_laws.specs.ChosenList.{chosen}
+use Rattle.agreement_laws.specs.Laws.{recorded, record_of, Holds, StartsAbove}
+use Rattle.agreement_laws.proofs.Proved.{at_most_one, all_backed, all_kept, list_is_chosen, list_grows}
+use Rattle.agreement_laws.proofs.Untrimmed.{all_held}
 use Rattle.events.specs.declared.event.Event.{Event}
 use Rattle.worlds.specs.Slot.{Slot}
 use Rattle.worlds.specs.declared.slot.Slot.TheVariants.{Up, Down, Gone}
@@ -55,7 +55,7 @@ chosen_is_backed c events w r place d chosen =
     subst (λ (ls : List (Letter Ballot)). Backed w.u ls place d) (sym m.1.letters) (all_backed w.u m.0 place d (subst (λ (ls : List (Letter Ballot)). Chosen w.u ls place d) m.1.letters chosen))
 
 -- a record of the machine is that of the slot
-same_record : (u id : ℕ) (saved : VerifierState) (mine : machine.Slot) (slot : Slot VerifierView) → IsSameVerifier u id mine slot → recorded mine ≡ Some saved → verifier_record slot ≡ Some (record_text u id saved)
+same_record : (u id : ℕ) (saved : VerifierState) (mine : machine.VerifierSlot) (slot : Slot VerifierView) → IsSameVerifier u id mine slot → recorded mine ≡ Some saved → verifier_record slot ≡ Some (record_text u id saved)
 same_record u id saved machine.New (Up v) same e = absurd same
 same_record u id saved machine.New (Down kept) same e = absurd (cc e)
 same_record u id saved machine.New (Gone kept) same e = absurd (cc e)

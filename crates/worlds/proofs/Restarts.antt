@@ -10,12 +10,12 @@ use Rattle.verifier.specs.State.{VerifierState, new_state, down}
 use Rattle.verifier.specs.Lines.{restarted}
 use Rattle.verifier.specs.Record.{record_text}
 use Rattle.verifier.specs.Verifier.{VerifierView, Opens}
-use Rattle.agreement.specs.Machine as machine
-use Rattle.agreement.specs.Machine.{Machine, Done, StopsAfter, Restart, saved_after, opened}
-use Rattle.agreement.specs.Verifiers.{IsIn, IsKept}
-use Rattle.agreement.proofs.Machine.{Good}
-use Rattle.agreement.proofs.Verifiers.{opened_is_done}
-use Rattle.agreement.proofs.ReadBack.{begins_well}
+use Rattle.agreement_laws.specs.Machine as machine
+use Rattle.agreement_laws.specs.Machine.{Machine, Done, StopsAfter, Restart, saved_after, opened}
+use Rattle.agreement_laws.specs.Verifiers.{IsIn, IsKeptAt}
+use Rattle.agreement_laws.proofs.Machine.{Good}
+use Rattle.agreement_laws.proofs.Verifiers.{opened_is_done}
+use Rattle.agreement_laws.proofs.ReadBack.{begins_well}
 use Rattle.worlds.specs.Slot.{Slot}
 use Rattle.worlds.specs.declared.slot.Slot.TheVariants.{Up, Down, Gone}
 use Rattle.worlds.specs.Slots.{first_if_none, VerifierReopens, ExecutorReopens}
@@ -61,7 +61,7 @@ module _ {may_trim : Bool} {u : ℕ} {w : WorldView} {m : Machine} (is : IsOfMac
         (verifier_sent is id (machine.Stopped saved) (machine.Up (restarted u id saved).state (saved_after saved (restarted u id saved))) (Up v) new (restarted u id saved).letters at isin e),
   )
 
-  goes_on : (kept : Kept) (v : VerifierView) (new : List (Letter Ballot)) (mine : machine.Slot) → slice_get m.verifiers id ≡ Some mine → IsKept u id mine kept.saved → Opens u id kept.saved kept.failures kept.fails_next v new
+  goes_on : (kept : Kept) (v : VerifierView) (new : List (Letter Ballot)) (mine : machine.VerifierSlot) → slice_get m.verifiers id ≡ Some mine → IsKeptAt u id mine kept.saved → Opens u id kept.saved kept.failures kept.fails_next v new
       → Follows may_trim u m (with_verifier w id (Up v) new)
   goes_on kept v new (machine.Up s saved) at same h = absurd same
   goes_on kept v new machine.New at same h =
@@ -77,11 +77,11 @@ module _ {may_trim : Bool} {u : ℕ} {w : WorldView} {m : Machine} (is : IsOfMac
       again_follows saved v new at back.0 back.1
 
   -- it stays down, with what its keeper had, or with its first record
-  stays_down : (kept left : Kept) (new : List (Letter Ballot)) (mine : machine.Slot) → slice_get m.verifiers id ≡ Some mine → IsKept u id mine kept.saved → new ≡ []
+  stays_down : (kept left : Kept) (new : List (Letter Ballot)) (mine : machine.VerifierSlot) → slice_get m.verifiers id ≡ Some mine → IsKeptAt u id mine kept.saved → new ≡ []
       → ((left.saved ≡ kept.saved) ⊎ (left.saved ≡ first_if_none kept.saved (record_text u id (new_state u id)))) → Follows may_trim u m (with_verifier w id (Down left) new)
   stays_down kept left new mine at same none (inl e) = ([], refl, verifier_same is id mine (Down left) new at (kept_same mine same) none)
     where
-      kept_same : (mine : machine.Slot) → IsKept u id mine kept.saved → IsSameVerifier u id mine (Down left)
+      kept_same : (mine : machine.VerifierSlot) → IsKeptAt u id mine kept.saved → IsSameVerifier u id mine (Down left)
       kept_same (machine.Up s saved) k = absurd k
       kept_same machine.New k = e ∙ k
       kept_same (machine.Stopped saved) k = e ∙ k
@@ -97,20 +97,20 @@ module _ {may_trim : Bool} {u : ℕ} {w : WorldView} {m : Machine} (is : IsOfMac
             (verifier_silent is id machine.New (machine.Stopped (down (new_state u id))) (Down left) new at has none),
       )
 
-  reopens_follows : (old now : Slot VerifierView) (new : List (Letter Ballot)) (mine : machine.Slot) → slice_get m.verifiers id ≡ Some mine → IsSameVerifier u id mine old → VerifierReopens u id old now new → Follows may_trim u m (with_verifier w id now new)
+  reopens_follows : (old now : Slot VerifierView) (new : List (Letter Ballot)) (mine : machine.VerifierSlot) → slice_get m.verifiers id ≡ Some mine → IsSameVerifier u id mine old → VerifierReopens u id old now new → Follows may_trim u m (with_verifier w id now new)
   reopens_follows (Up v) now new mine at same h = ([], refl, verifier_same is id mine now new at (subst (IsSameVerifier u id mine) (sym h.0) same) h.1)
   reopens_follows (Gone kept) now new mine at same h = ([], refl, verifier_same is id mine now new at (subst (IsSameVerifier u id mine) (sym h.0) same) h.1)
   reopens_follows (Down kept) now new mine at same (inl h) =
       subst (λ (y : Slot VerifierView). Follows may_trim u m (with_verifier w id y new)) (sym h.1.1) (goes_on kept h.1.0 new mine at (kept_of mine same) h.1.2)
     where
-      kept_of : (mine : machine.Slot) → IsSameVerifier u id mine (Down kept) → IsKept u id mine kept.saved
+      kept_of : (mine : machine.VerifierSlot) → IsSameVerifier u id mine (Down kept) → IsKeptAt u id mine kept.saved
       kept_of (machine.Up s saved) k = k
       kept_of machine.New k = k
       kept_of (machine.Stopped saved) k = k
   reopens_follows (Down kept) now new mine at same (inr h) =
       subst (λ (y : Slot VerifierView). Follows may_trim u m (with_verifier w id y new)) (sym h.1) (stays_down kept h.0 new mine at (kept_of mine same) h.2 h.3.record_is)
     where
-      kept_of : (mine : machine.Slot) → IsSameVerifier u id mine (Down kept) → IsKept u id mine kept.saved
+      kept_of : (mine : machine.VerifierSlot) → IsSameVerifier u id mine (Down kept) → IsKeptAt u id mine kept.saved
       kept_of (machine.Up s saved) k = k
       kept_of machine.New k = k
       kept_of (machine.Stopped saved) k = k

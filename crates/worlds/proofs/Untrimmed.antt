@@ -4,10 +4,10 @@ use Rattle.std.specs.Prelude.{not, IsTrue, ◌||◌}
 use Rattle.std.specs.List.{list_any}
 use Rattle.std.proofs.lemmas.List.Folds.{list_any-append}
 use Rattle.decrees.specs.Count.{member_count}
-use Rattle.agreement.specs.Machine as machine
-use Rattle.agreement.specs.Machine.{reached}
-use Rattle.agreement.specs.Laws.{trims, trims_none as machine_trims_none}
-use Rattle.agreement.proofs.Machine.{reached_ok}
+use Rattle.agreement_laws.specs.Machine as machine
+use Rattle.agreement_laws.specs.Machine.{reached}
+use Rattle.agreement_laws.specs.Laws.{trims, machine_trims_none}
+use Rattle.agreement_laws.proofs.Machine.{reached_ok}
 use Rattle.events.specs.declared.event.Event.{Event}
 use Rattle.events.specs.declared.event.Event.TheVariants.{Restart}
 use Rattle.events.specs.declared.event.Replica.{Replica}

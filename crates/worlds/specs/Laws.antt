@@ -7,9 +7,9 @@ use Rattle.decrees.specs.Standing.{decree_at}
 use Rattle.verifier.specs.State.{VerifierState}
 use Rattle.verifier.specs.Record.{record_text}
 use Rattle.verifier.specs.Verifier.{VerifierView}
-use Rattle.agreement.specs.Letters.{Chosen, Backed}
-use Rattle.agreement.specs.ChosenList.{chosen}
-use Rattle.agreement.specs.Laws.{Holds, StartsAbove}
+use Rattle.agreement_laws.specs.Letters.{Chosen, Backed}
+use Rattle.agreement_laws.specs.ChosenList.{chosen}
+use Rattle.agreement_laws.specs.Laws.{Holds, StartsAbove}
 use Rattle.events.specs.declared.event.Event.{Event}
 use Rattle.events.specs.declared.event.Event.TheVariants.{Feed, Again, Hangup, Deliver, Cut, Step, Finish, Suspect, Trim, Crash, Restart, Lost, FailSave}
 use Rattle.worlds.specs.Slot.{Slot}

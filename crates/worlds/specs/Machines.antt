@@ -1,28 +1,28 @@
--- A world, seen as a machine of `agreement`: its verifiers, and its ballots.
+-- A world, seen as a machine of `agreement_laws`: its verifiers, and its ballots.
 use Rattle.std.specs.Prelude.{◌≡◌, ℕ, List, [], ◌∷◌, ◌++◌, length, Some, slice_get}
 use Rattle.decrees.specs.Count.{member_count}
 use Rattle.verifier.specs.Verifier.{VerifierView}
-use Rattle.agreement.specs.Machine as machine
-use Rattle.agreement.specs.Machine.{Machine, reached}
-use Rattle.agreement.specs.Verifiers.{IsIn, IsKept}
+use Rattle.agreement_laws.specs.Machine as machine
+use Rattle.agreement_laws.specs.Machine.{Machine, reached}
+use Rattle.agreement_laws.specs.Verifiers.{IsIn, IsKeptAt}
 use Rattle.worlds.specs.Slot.{Slot}
 use Rattle.worlds.specs.declared.slot.Slot.TheVariants.{Up, Down, Gone}
 use Rattle.worlds.specs.World.{WorldView}
 use Rattle.worlds.specs.Ballots.{ballots}
 
 -- verifier `id` of the machine is the one in this slot, by its state or by its record
-abbrev pub IsSameVerifier : ℕ → ℕ → machine.Slot → Slot VerifierView → Type 0
+abbrev pub IsSameVerifier : ℕ → ℕ → machine.VerifierSlot → Slot VerifierView → Type 0
 IsSameVerifier u id (machine.Up s saved) (Up v) = IsIn u id (machine.Up s saved) v
 IsSameVerifier u id (machine.Stopped saved) (Up v) = ⊥
 IsSameVerifier u id machine.New (Up v) = ⊥
-IsSameVerifier u id mine (Down kept) = IsKept u id mine kept.saved
-IsSameVerifier u id mine (Gone kept) = IsKept u id mine kept.saved
+IsSameVerifier u id mine (Down kept) = IsKeptAt u id mine kept.saved
+IsSameVerifier u id mine (Gone kept) = IsKeptAt u id mine kept.saved
 
 pub record IsOfMachine (u : ℕ) (w : WorldView) (m : Machine) : Type 0 where
   pub same_u : w.u ≡ u
   pub letters : ballots w.letters ≡ m.letters
   pub count : length w.verifiers ≡ member_count u
-  pub verifiers : (id : ℕ) (slot : Slot VerifierView) → slice_get w.verifiers id ≡ Some slot → (mine : machine.Slot) × (slice_get m.verifiers id ≡ Some mine) × IsSameVerifier u id mine slot
+  pub verifiers : (id : ℕ) (slot : Slot VerifierView) → slice_get w.verifiers id ≡ Some slot → (mine : machine.VerifierSlot) × (slice_get m.verifiers id ≡ Some mine) × IsSameVerifier u id mine slot
 
 -- each of these worlds is of a machine that is reached, the first one after these events, and each later one after more of them
 abbrev pub HaveMachines : ℕ → List machine.Event → List WorldView → Type 0

@@ -37,5 +37,5 @@ WaitsFor (slot.Down kept) next = next ≡ None
 WaitsFor (slot.Gone kept) next = next ≡ None
 
 -- what its client sends is still taken
-abbrev pub is_open : ClientSlot → Bool
-is_open c = c.client.up && not c.client.talk.closed
+abbrev pub is_client_open : ClientSlot → Bool
+is_client_open c = c.client.up && not c.client.talk.closed

@@ -3,7 +3,7 @@
 
 ghost use Rattle.worlds.specs.Laws.{WorldsAreOfMachines, OneIsChosenInWorlds, ChosenIsBackedInWorlds, ChosenStandsInWorlds, ChosenIsKeptInWorlds, ListIsChosenInWorlds, ListGrowsInWorlds};
 
-/// The verifiers and the ballots of each reached world are those of a reached machine of `agreement`,
+/// The verifiers and the ballots of each reached world are those of a reached machine of `agreement_laws`,
 /// and the machine of the next world comes of it by more events. So each of its laws holds of worlds.
 pub fn worlds_are_of_machines()
     ensures { WorldsAreOfMachines }

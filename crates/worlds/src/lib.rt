@@ -2,7 +2,7 @@
 //!
 //! It stands on `events`, on `client`, `exec_node` and `verifier`, whose steps a place makes and of whose step
 //! functions the worlds of `specs/World.antt` are made, on `keeper`, whose keepers in memory outlive their
-//! replicas, and on `agreement`, whose laws hold of each world. The layer above uses the relation `WorldNext`,
+//! replicas, and on `agreement_laws`, whose laws hold of each world. The layer above uses the relation `WorldNext`,
 //! of which each of its steps is to be one; `settle`, `run`, `restart`, `crash`, `lose` and `fail_next` of a place,
 //! each of which is exactly the part of that relation that it names; `letter_copy`, since a letter may come
 //! any number of times; and the laws: each is the contract of a function that does nothing.
@@ -15,6 +15,7 @@ mod kept_node;
 mod laws;
 mod places;
 mod running;
+mod sending;
 mod slot;
 mod status;
 mod verifier_place;
@@ -28,6 +29,7 @@ pub use laws::{
     chosen_stands_in_worlds, one_is_chosen_in_worlds, worlds_are_of_machines,
 };
 pub use running::a_run_is_steps;
+pub use sending::send_ballots;
 pub use slot::Slot;
 pub use status::{Status, VerifierReport};
 pub use verifier_place::VerifierPlace;

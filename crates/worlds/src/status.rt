@@ -4,7 +4,7 @@ ghost use Rattle.std.specs.Prelude.{◌≡◌};
 ghost use Rattle.std.specs.Option.{option_map};
 ghost use Rattle.exec_node.specs.Executor.{ExecutorView};
 ghost use Rattle.verifier.specs.Verifier.{VerifierView};
-ghost use Rattle.worlds.specs.Status.{status_of, executor_report, verifier_report, node_at, WaitsFor, is_open};
+ghost use Rattle.worlds.specs.Status.{status_of, executor_report, verifier_report, node_at, WaitsFor, is_client_open};
 
 use crate::client_place::ClientPlace;
 use crate::executor_place::{ExecutorPlace, KeptExecutor};
@@ -92,7 +92,7 @@ impl ClientPlace {
     /// Whether what its client sends is still taken: it was not closed, its client did not hang up, and it
     /// was not stopped.
     pub fn is_open(&self) -> bool
-        ensures { result ≡ is_open self.now }
+        ensures { result ≡ is_client_open self.now }
     {
         self.client.is_up() && !self.client.is_closed()
     }

@@ -1,5 +1,5 @@
 use Rattle.std.proofs.Common.{true≢false, sym, ap, ◌∙◌, arith}
-use Rattle.pages.specs.Joined.{joined, items_of}
+use Rattle.pages.specs.Joined.{joined_pages, items_of}
 use Rattle.pages.specs.Others.{has_page}
 use Rattle.pages.proofs.PartLemmas.{page-items}
 use Rattle.pages.proofs.StateLemmas.{items-at, length-states}
@@ -10,7 +10,7 @@ use Rattle.pages.proofs.snapshot.due_among.Goals as goal
 pub loop-number-preserved : goal.loop-number-preserved
 loop-number-preserved c =
     let pages = c.args.pages.now.items in
-    let m = joined (items_of c.args.pages.now.items) in
+    let m = joined_pages (items_of c.args.pages.now.items) in
     let n = c.loop-number.number in
     elim c.if-has_due.branch [
       | then-has_due w ↦ due-next m c.args.moment n c.loop-number.due c.if-has_due.due c.loop-number.invariant

@@ -30,7 +30,7 @@ all_came opening came rest all none =
 
 pub loop-page-init : goal.loop-page-init
 loop-page-init g c =
-    let items = ap items_of c.into_iter-page-iterator.ensures.into_iter_gives.0 ∙ c.part-page-items.ensures ∙ ap parts c.requires.pages in
+    let items = ap items_of c.into_iter-page-iterator.ensures.into_iter_gives.0 ∙ c.in_ok-parts.ensures ∙ ap parts c.requires.pages in
     (tt, tt, c.requires.master.0, c.requires.master.1, c.in_ok-locks.ensures.len, items)
 
 pub returns-clause-master : goal.returns-clause-master

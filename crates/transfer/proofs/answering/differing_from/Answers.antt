@@ -10,8 +10,8 @@ use Rattle.transfer.proofs.answering.differing_from.Goals as goal
 
 pub add_differing-requires-clause-is : goal.add_differing-requires-clause-is
 add_differing-requires-clause-is c =
-    let parted : items_of c.part-shared.result.items ≡ parts c.args.state.now.items = c.part-shared.ensures ∙ ap parts (c.in_ok-open.ensures ∙ c.pages.ensures.items) in
-    shared_page c.part-shared.result.items c.args.state.now.items c.loop-number.number c.index.result.now parted (omega (arith, c.loop-number-test.true)) c.index.ensures
+    let parted : items_of c.in_ok-shared.shared.items ≡ parts c.args.state.now.items = c.in_ok-shared.ensures ∙ ap parts (c.in_ok-open.ensures ∙ c.pages.ensures.items) in
+    shared_page c.in_ok-shared.shared.items c.args.state.now.items c.loop-number.number c.index.result.now parted (omega (arith, c.loop-number-test.true)) c.index.ensures
 
 pub loop-number-preserved : goal.loop-number-preserved
 loop-number-preserved c =

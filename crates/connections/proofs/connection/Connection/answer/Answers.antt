@@ -3,7 +3,7 @@ use Rattle.std.specs.Prelude.{is_some}
 use Rattle.proto.specs.declared.command.Command.{Command}
 use Rattle.client.specs.Step.{on_reply}
 use Rattle.client.specs.Talk.{Given}
-use Rattle.connections.specs.Connection.{IsOf, or_else, wanted}
+use Rattle.connections.specs.Connection.{IsOf, or_else, wanted_command}
 use Rattle.connections.proofs.StepLemmas.{MayAsk, replied_asks, replied_of}
 use Rattle.connections.proofs.connection.Connection.answer.Goals as goal
 
@@ -22,5 +22,5 @@ invariant_of-self c =
     let of = replied_of old.talk g (subst (MayAsk old.talk) (sym step) (replied_asks old.talk c.args.turn c.args.reply)) in (
       c.handle.ensures.same.0 ∙ inv.0,
       c.handle.ensures.same.1 ∙ inv.1,
-      subst (λ (o : Option Command). IsOf o g.talk.outstanding) (sym c.put_wanted.ensures) (subst (λ (o : Option Command). IsOf (or_else (wanted g.letters) o) g.talk.outstanding) (sym none) of),
+      subst (λ (o : Option Command). IsOf o g.talk.outstanding) (sym c.put_wanted.ensures) (subst (λ (o : Option Command). IsOf (or_else (wanted_command g.letters) o) g.talk.outstanding) (sym none) of),
     )

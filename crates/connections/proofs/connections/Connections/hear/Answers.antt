@@ -1,7 +1,7 @@
 use Rattle.std.proofs.Common.{rules, ◌≡◌, true, ap, ◌∙◌}
 use Rattle.std.specs.Prelude.{Result, Ok, Err, OnErr}
 use Rattle.connections.specs.Logs.{logged}
-use Rattle.connections.specs.Places.{is_number, is_here}
+use Rattle.connections.specs.Places.{is_of_connection, is_here}
 use Rattle.connections.specs.Connections.{ConnectionsView}
 use Rattle.connections.proofs.AtLemmas.{logged_more, fed_at_keeps, failed_at_keeps, failed_leaves, closed_leaves}
 use Rattle.connections.proofs.connections.Connections.hear.Goals as goal
@@ -23,7 +23,7 @@ returns-in_err-said-clause-leaves c =
     let s = c.self.inside in
     let v : ConnectionsView = record { table = s.table.items; next = s.next; heard = logged s.heard.items; given = logged s.given.items; taken = s.taken.items; replied = s.replied.items } in
     let here : is_here c.args.at.number s.table.items c.args.at.key ≡ true = search rules in
-    on_err _ _ (ap (is_number c.args.at.number) (failed_leaves v c.args.at c.args.piece.items c.feed.new.table.items _ here c.in_err-said.ensures))
+    on_err _ _ (ap (is_of_connection c.args.at.number) (failed_leaves v c.args.at c.args.piece.items c.feed.new.table.items _ here c.in_err-said.ensures))
 
 pub invariant_of-self-2 : goal.invariant_of-self-2
 invariant_of-self-2 c =

@@ -2,8 +2,8 @@ use Rattle.std.proofs.Common.{List, Option, None, Some, sym, ap, ◌∙◌, subs
 use Rattle.std.specs.Prelude.{IfNone}
 use Rattle.connections.specs.Connection.{ConnectionView}
 use Rattle.connections.specs.Logs.{logged}
-use Rattle.connections.specs.Connections.{ConnectionsView, IsConnections, AreBefore}
-use Rattle.connections.proofs.AtLemmas.{takes_none, took_keeps, took_before, took_text}
+use Rattle.connections.specs.Connections.{ConnectionsView, IsConnections, AreBefore, AreReplied}
+use Rattle.connections.proofs.AtLemmas.{takes_none, took_keeps, took_before, took_in_turn, took_text}
 use Rattle.connections.proofs.connections.Connections.take.Goals as goal
 
 if_none : {T : Type 0} (o : Option T) (P : Type 0) → P → IfNone o P
@@ -34,6 +34,13 @@ returns-clause-first c =
     let v : ConnectionsView = record { table = s.table.items; next = s.next; heard = logged s.heard.items; given = logged s.given.items; taken = s.taken.items; replied = s.replied.items } in
     subst (λ (x : ConnectionsView). AreBefore x.taken c.args.at.number c.in_ok-ready.ready.turn) c.self.view_is
     (took_before v c.args.at c.take.new.table.items c.in_ok-ready.ready c.self.invariant c.in_ok-ready.ensures)
+
+pub returns-clause-in_turn : goal.returns-clause-in_turn
+returns-clause-in_turn c =
+    let s = c.self.inside in
+    let v : ConnectionsView = record { table = s.table.items; next = s.next; heard = logged s.heard.items; given = logged s.given.items; taken = s.taken.items; replied = s.replied.items } in
+    subst (λ (x : ConnectionsView). AreReplied x.replied c.args.at.number c.in_ok-ready.ready.turn) c.self.view_is
+    (took_in_turn v c.args.at c.take.new.table.items c.in_ok-ready.ready c.self.invariant c.in_ok-ready.ensures)
 
 pub returns-clause-text : goal.returns-clause-text
 returns-clause-text c =

@@ -1,4 +1,4 @@
-use Rattle.std.proofs.Common.{◌≡◌, ◌++◌, ◌∷◌, [], List, sym, ap, ◌∙◌, subst}
+use Rattle.std.proofs.Common.{◌≡◌, ℕ, ◌++◌, ◌∷◌, [], List, sym, ap, ◌∙◌, subst}
 use Rattle.std.specs.Prelude.{Bool}
 use Rattle.sessions.specs.declared.request.Request.{Request}
 use Rattle.proxies.proofs.ProxyLemmas.{ask_is_fed}
@@ -8,12 +8,12 @@ use Rattle.ensemble.proofs.ensemble.Ensemble.ask.Goals as goal
 
 pub invariant_of-self-2 : goal.invariant_of-self-2
 invariant_of-self-2 c =
-    let old : EnsembleView = record { nodes = c.self.inside.nodes; asked = c.self.inside.asked.items; answered = c.self.inside.answered.items } in
-    subst (λ (log : List (Request × Bool)). IsEnsemble (record { nodes = c.send.new.self; asked = log; answered = c.self.inside.answered.items })) (sym c.and-self-inside.ensures)
+    let old : EnsembleView = record { nodes = c.self.inside.nodes; asked = c.self.inside.asked.items; answered = c.self.inside.answered.items; order = c.self.inside.order.items } in
+    subst (λ (logs : List (Request × Bool) × List ((ℕ × ℕ) × Bool)). IsEnsemble (record { nodes = c.send.new.self; asked = logs.0; answered = c.self.inside.answered.items; order = logs.1 })) (λ i. (sym c.and-self-inside.ensures i, sym c.and-self-inside-2.ensures i))
     (asks_goes ask_is_fed c.args.alloc old c.self.invariant c.ask.new.self c.send.new.self c.args.proxy c.args.command c.args.quiet c.in_ok-request.request c.requires.text c.in_ok-request.ensures.ok c.in_ok-request.ensures.others c.send.ensures)
 
 pub returns-clause-ok : goal.returns-clause-ok
 returns-clause-ok c =
-    let old : EnsembleView = record { nodes = c.self.inside.nodes; asked = c.self.inside.asked.items; answered = c.self.inside.answered.items } in
+    let old : EnsembleView = record { nodes = c.self.inside.nodes; asked = c.self.inside.asked.items; answered = c.self.inside.answered.items; order = c.self.inside.order.items } in
     subst (λ (log : List (Request × Bool)). IsLogged log c.args.proxy c.in_ok-request.request.number c.args.command c.args.quiet c.and-self-inside.result.items) (ap (λ (e : EnsembleView). e.asked) c.self.view_is)
     (asks_logged old c.self.invariant c.ask.new.self.proxies c.args.proxy c.args.command c.args.quiet c.in_ok-request.request c.and-self-inside.result.items c.in_ok-request.ensures.ok c.and-self-inside.ensures)

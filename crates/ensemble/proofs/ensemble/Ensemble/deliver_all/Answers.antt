@@ -5,17 +5,17 @@ use Rattle.ensemble.proofs.ensemble.Ensemble.deliver_all.Goals as goal
 pub loop-init : goal.loop-init
 loop-init c = record {
   asked = refl;
-  answered = none_came _ _ _ _ refl refl;
+  answered = none_came _ _ _ _ _ _ refl refl refl;
 }
 
 pub loop-preserved : goal.loop-preserved
 loop-preserved c = record {
   asked = c.deliver_to.ensures.asked ∙ c.loop.invariant.asked;
-  answered = more_came _ _ _ _ _ _ c.loop.invariant.answered c.deliver_to.ensures.answered;
+  answered = more_came _ _ _ _ _ _ _ _ _ c.loop.invariant.answered c.deliver_to.ensures.answered;
 }
 
 pub returns-then-not-deliver_to-clause-asked : goal.returns-then-not-deliver_to-clause-asked
 returns-then-not-deliver_to-clause-asked c = c.deliver_to.ensures.asked ∙ c.loop.invariant.asked
 
 pub returns-then-not-deliver_to-clause-answered : goal.returns-then-not-deliver_to-clause-answered
-returns-then-not-deliver_to-clause-answered c = more_came _ _ _ _ _ _ c.loop.invariant.answered c.deliver_to.ensures.answered
+returns-then-not-deliver_to-clause-answered c = more_came _ _ _ _ _ _ _ _ _ c.loop.invariant.answered c.deliver_to.ensures.answered

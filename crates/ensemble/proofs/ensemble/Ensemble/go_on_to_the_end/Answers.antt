@@ -5,17 +5,17 @@ use Rattle.ensemble.proofs.ensemble.Ensemble.go_on_to_the_end.Goals as goal
 pub loop-init : goal.loop-init
 loop-init g c = record {
   asked = refl;
-  answered = none_came _ _ _ _ refl refl;
+  answered = none_came _ _ _ _ _ _ refl refl refl;
 }
 
 pub loop-preserved : goal.loop-preserved
 loop-preserved g c = record {
   asked = c.go_on.ensures.asked ∙ c.loop.invariant.asked;
-  answered = more_came _ _ _ _ _ _ c.loop.invariant.answered c.go_on.ensures.answered;
+  answered = more_came _ _ _ _ _ _ _ _ _ c.loop.invariant.answered c.go_on.ensures.answered;
 }
 
 pub returns-then-not-go_on-clause-asked : goal.returns-then-not-go_on-clause-asked
 returns-then-not-go_on-clause-asked g c = c.go_on.ensures.asked ∙ c.loop.invariant.asked
 
 pub returns-then-not-go_on-clause-answered : goal.returns-then-not-go_on-clause-answered
-returns-then-not-go_on-clause-answered g c = more_came _ _ _ _ _ _ c.loop.invariant.answered c.go_on.ensures.answered
+returns-then-not-go_on-clause-answered g c = more_came _ _ _ _ _ _ _ _ _ c.loop.invariant.answered c.go_on.ensures.answered

@@ -5,5 +5,5 @@ use Rattle.ensemble.proofs.ensemble.Ensemble.go_on_to_the_end.Given as goal
 abbrev pub invariant-loop : goal.invariant-loop
 invariant-loop g l = record {
   asked : l.self.asked ≡ l.fn.self.asked;
-  answered : Answers l.fn.self.answered l.fn.answers.items l.self.answered l.answers.items;
+  answered : Answers l.fn.self.answered l.fn.self.order l.fn.answers.items l.self.answered l.self.order l.answers.items;
 }

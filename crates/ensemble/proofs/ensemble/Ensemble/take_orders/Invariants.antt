@@ -5,4 +5,5 @@ abbrev pub invariant-loop-id : goal.invariant-loop-id
 invariant-loop-id l = record {
   asked : l.self.asked ≡ l.fn.self.asked;
   answered : l.self.answered ≡ l.fn.self.answered;
+  order : l.self.order ≡ l.fn.self.order;
 }

@@ -1,5 +1,5 @@
 use Rattle.std.proofs.Common.{ℕ, List, [], ◌∷◌, ◌++◌, ap, ◌∙◌}
-use Rattle.exec_lines.specs.Record.{standing_text}
+use Rattle.decrees.specs.Record.{standing_text}
 use Rattle.exec_lines.proofs.record.Saved.text.Goals as goal
 
 pub returns : goal.returns

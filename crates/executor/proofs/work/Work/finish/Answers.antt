@@ -29,3 +29,22 @@ returns-in-Some-clause-goes c =
       subst (λ (g : ℕ). IsNextGroup c.args.self.progress.running (Some c.args.self.progress.group) g) (sym group) c.in-Some.ensures.some,
       c.moved_to.ensures.moved ∙ ap (λ (g : ℕ). record c.args.self { progress = record { items = c.args.self.progress.items; running = c.args.self.progress.running; group = g } }) (sym group),
     )
+
+pub returns-then-not-is_group_done-clause-goes : goal.returns-then-not-is_group_done-clause-goes
+returns-then-not-is_group_done-clause-goes c =
+    let not_done : list_all (λ r. not (r.group == c.self.inside.group) || is_complete r) c.self.inside.running.items ≡ false =
+    ap (list_all (λ (r : BatchRequest). not (r.group == c.self.inside.group) || is_complete r)) (sym c.deref.ensures.value) ∙ (sym c.is_group_done.ensures ∙ c.if-not-is_group_done.true) in
+    let whole : is_group_done c.args.self.progress ≡ false = subst (λ (v : WorkView). is_group_done v.progress ≡ false) c.self.view_is not_done in
+    subst (λ b. MovesOn b c.args.self c.args.self) (sym whole) refl
+
+pub moved_to-requires-clause-done : goal.moved_to-requires-clause-done
+moved_to-requires-clause-done c =
+    let done : list_all (λ r. not (r.group == c.self.inside.group) || is_complete r) c.self.inside.running.items ≡ true =
+    ap (list_all (λ (r : BatchRequest). not (r.group == c.self.inside.group) || is_complete r)) (sym c.deref.ensures.value) ∙ (sym c.is_group_done.ensures ∙ c.if-not-is_group_done.false) in
+    subst (λ (v : WorkView). IsTrue (is_group_done v.progress)) c.self.view_is done
+
+pub complete-requires-clause-done : goal.complete-requires-clause-done
+complete-requires-clause-done c =
+    let done : list_all (λ r. not (r.group == c.self.inside.group) || is_complete r) c.self.inside.running.items ≡ true =
+    ap (list_all (λ (r : BatchRequest). not (r.group == c.self.inside.group) || is_complete r)) (sym c.deref.ensures.value) ∙ (sym c.is_group_done.ensures ∙ c.if-not-is_group_done.false) in
+    subst (λ (v : WorkView). IsTrue (is_group_done v.progress)) c.self.view_is done

@@ -1,7 +1,6 @@
-use Rattle.std.proofs.Common.{sym, ap, ◌∙◌}
-use Rattle.pages.specs.Joined.{items_of, parts}
-use Rattle.pages.proofs.PartLemmas.{parts-joined}
+use Rattle.std.proofs.Common.{ap, ◌∙◌}
+use Rattle.pages.specs.Joined.{parts}
 use Rattle.pages.proofs.pages.Pages.part.Goals as goal
 
 pub returns : goal.returns
-returns c = sym (parts-joined (items_of c.self.inside.pages.items) c.self.invariant) ∙ ap parts c.self.view_is
+returns c = c.part.ensures ∙ ap parts (c.in_ok-own.ensures ∙ c.self.view_is)

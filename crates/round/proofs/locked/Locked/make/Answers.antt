@@ -7,7 +7,7 @@ use Rattle.pages.specs.Page.{page_count, page_items}
 use Rattle.pages.specs.Step.{step_page}
 use Rattle.round.specs.declared.rule.Entry.{Entry}
 use Rattle.round.specs.Tickets.{view_log, name_of_caller}
-use Rattle.round.specs.Histories.{IsHistory}
+use Rattle.round.specs.Histories.{IsRoundHistory}
 use Rattle.round.specs.Sittings.{Running, Sitting, running_in, next_of, is_done, answered_at, dealt, task_fits, Follows}
 use Rattle.round.proofs.Lists.{same_element}
 use Rattle.round.proofs.Histories.{history_push}
@@ -62,7 +62,7 @@ invariant_of-self-2 g c =
       c.draw.ensures.tokens.0 ∙ i.0,
       search rules,
       i.2,
-      subst (λ (l : List Entry). IsHistory g.J.Room.base c.self.inside.number (page_items g.J.Room.opening c.self.inside.number) l c.make.new.page.items) grown
+      subst (λ (l : List Entry). IsRoundHistory g.J.Room.base c.self.inside.number (page_items g.J.Room.opening c.self.inside.number) l c.make.new.page.items) grown
           (history_push g.J.Room.base c.self.inside.number (page_items g.J.Room.opening c.self.inside.number) log page c.make.new.page.items e refl on items answer i.3),
     )
 

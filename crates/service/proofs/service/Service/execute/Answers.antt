@@ -5,8 +5,8 @@ use Rattle.service.proofs.service.Service.execute.Goals as goal
 pub invariant_of-self : goal.invariant_of-self
 invariant_of-self g c =
     let s = c.self.inside in
-    let v : ServiceView = record { connections = s.connections; asked = s.ensemble.asked; answered = s.ensemble.answered; assignments = assigned s.assignments.items; waiting = s.pool } in
-    (worked_keeps v c.work.new.self.asked c.work.new.self.answered c.work.result.items c.self.invariant.0 c.work.ensures.asked c.work.ensures.answered, c.self.invariant.1)
+    let v : ServiceView = record { connections = s.connections; asked = s.ensemble.asked; answered = s.ensemble.answered; order = s.ensemble.order; assignments = assigned s.assignments.items; waiting = s.pool } in
+    (worked_keeps v c.work.new.self.asked c.work.new.self.answered c.work.new.self.order c.work.result.items c.self.invariant.0 c.work.ensures.asked c.work.ensures.answered c.work.ensures.order, c.self.invariant.1)
 
 pub returns-clause-logged : goal.returns-clause-logged
-returns-clause-logged g c = are_logged c.work.result.items c.self.inside.ensemble.answered c.work.new.self.answered c.work.ensures.answered
+returns-clause-logged g c = are_logged c.work.result.items c.self.inside.ensemble.answered c.work.new.self.answered c.self.inside.ensemble.order c.work.new.self.order c.work.ensures.answered c.work.ensures.order

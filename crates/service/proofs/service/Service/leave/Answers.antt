@@ -7,5 +7,5 @@ use Rattle.service.proofs.service.Service.leave.Goals as goal
 pub invariant_of-self : goal.invariant_of-self
 invariant_of-self c =
     let s = c.self.inside in
-    let v : ServiceView = record { connections = s.connections; asked = s.ensemble.asked; answered = s.ensemble.answered; assignments = assigned s.assignments.items; waiting = s.pool } in
+    let v : ServiceView = record { connections = s.connections; asked = s.ensemble.asked; answered = s.ensemble.answered; order = s.ensemble.order; assignments = assigned s.assignments.items; waiting = s.pool } in
     (connections_keep v c.leave.new.self c.self.invariant.0 (ap (λ (x : ConnectionsView). x.taken) c.leave.ensures) (ap (λ (x : ConnectionsView). x.replied) c.leave.ensures), c.self.invariant.1)

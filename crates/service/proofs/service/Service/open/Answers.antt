@@ -6,4 +6,4 @@ use Rattle.service.proofs.service.Service.open.Goals as goal
 
 pub invariant_of-result : goal.invariant_of-result
 invariant_of-result c =
-    (first_keeps _ (ap assigned c.new-5.ensures) c.in_ok-ensemble.ensures.asked (ap (λ (x : ConnectionsView). x.replied) c.new-3.ensures) c.in_ok-pool.ensures, c.u-2.ensures.few)
+    (first_keeps _ (ap assigned c.new-6.ensures) c.in_ok-ensemble.ensures.asked c.in_ok-ensemble.ensures.order (ap (λ (x : ConnectionsView). x.replied) c.new-3.ensures) c.in_ok-pool.ensures, c.u-2.ensures.few)

@@ -5,5 +5,5 @@ use Rattle.service.proofs.service.Service.tick_proxy.Goals as goal
 pub invariant_of-self : goal.invariant_of-self
 invariant_of-self c =
     let s = c.self.inside in
-    let v : ServiceView = record { connections = s.connections; asked = s.ensemble.asked; answered = s.ensemble.answered; assignments = assigned s.assignments.items; waiting = s.pool } in
-    (tended_keeps v c.tick_at.new.ensemble.asked c.tick_at.new.ensemble.answered c.tick_at.new.pool c.self.invariant.0 c.tick_at.ensures.asked c.tick_at.ensures.answered c.tick_at.ensures.waits, c.self.invariant.1)
+    let v : ServiceView = record { connections = s.connections; asked = s.ensemble.asked; answered = s.ensemble.answered; order = s.ensemble.order; assignments = assigned s.assignments.items; waiting = s.pool } in
+    (tended_keeps v c.tick_at.new.ensemble.asked c.tick_at.new.ensemble.answered c.tick_at.new.ensemble.order c.tick_at.new.pool c.self.invariant.0 c.tick_at.ensures.asked c.tick_at.ensures.answered c.tick_at.ensures.order c.tick_at.ensures.waits, c.self.invariant.1)

@@ -1,5 +1,0 @@
-use Rattle.agreement.proofs.Proved.{at_most_one}
-use Rattle.agreement.proofs.laws.at_most_one_is_chosen.Goals as goal
-
-pub returns : goal.returns
-returns c = at_most_one

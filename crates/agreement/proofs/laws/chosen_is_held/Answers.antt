@@ -1,5 +1,0 @@
-use Rattle.agreement.proofs.Untrimmed.{all_held}
-use Rattle.agreement.proofs.laws.chosen_is_held.Goals as goal
-
-pub returns : goal.returns
-returns c = all_held

@@ -1,5 +1,0 @@
-use Rattle.agreement.proofs.Proved.{list_is_chosen}
-use Rattle.agreement.proofs.laws.list_is_what_is_chosen.Goals as goal
-
-pub returns : goal.returns
-returns c = list_is_chosen

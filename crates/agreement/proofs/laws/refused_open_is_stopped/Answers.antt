@@ -1,5 +1,0 @@
-use Rattle.agreement.proofs.Verifiers.{refused_open_is_stopped}
-use Rattle.agreement.proofs.laws.refused_open_is_stopped.Goals as goal
-
-pub returns : goal.returns
-returns c = refused_open_is_stopped

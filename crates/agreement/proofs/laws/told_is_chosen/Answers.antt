@@ -1,5 +1,0 @@
-use Rattle.agreement.proofs.Proved.{told_is_chosen}
-use Rattle.agreement.proofs.laws.told_is_chosen.Goals as goal
-
-pub returns : goal.returns
-returns c = told_is_chosen

@@ -1,0 +1,5 @@
+use Rattle.agreement_laws.proofs.Verifiers.{refused_is_stopped}
+use Rattle.agreement_laws.proofs.laws.refused_is_stopped.Goals as goal
+
+pub returns : goal.returns
+returns c = refused_is_stopped

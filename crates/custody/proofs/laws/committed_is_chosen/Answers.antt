@@ -1,5 +1,0 @@
-use Rattle.custody.proofs.Custody.{committed_is_chosen}
-use Rattle.custody.proofs.laws.committed_is_chosen.Goals as goal
-
-pub returns : goal.returns
-returns c = committed_is_chosen

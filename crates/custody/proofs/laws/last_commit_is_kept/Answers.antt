@@ -1,5 +1,0 @@
-use Rattle.custody.proofs.Custody.{last_commit_is_kept}
-use Rattle.custody.proofs.laws.last_commit_is_kept.Goals as goal
-
-pub returns : goal.returns
-returns c = last_commit_is_kept

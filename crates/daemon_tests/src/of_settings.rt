@@ -1,0 +1,116 @@
+//! The words of the command line.
+
+use clap::Error;
+use clap::error::ErrorKind;
+use daemon::{Settings, read_settings};
+use std::alloc::Global;
+use std::net::SocketAddr;
+use std::test::Fail;
+
+/// What the words say, without the program's name.
+fn read(alloc: Global, words: &str) -> Option<Result<Settings, Error>> {
+    let mut all = Vec::new(alloc);
+    all.push(String::from_str(alloc, "eve_cached").ok()?).ok()?;
+    for word in words.split(' ') {
+        if !word.is_empty() {
+            all.push(String::from_str(alloc, word).ok()?).ok()?;
+        }
+    }
+    Some(read_settings(alloc, all.as_slice()))
+}
+
+/// Whether the address is spelled so.
+fn is_at(address: &SocketAddr, text: &str) -> bool {
+    text.parse::<SocketAddr>() == Ok(*address)
+}
+
+/// Whether they listen on these and no others.
+fn listens(settings: &Settings, texts: &[&str]) -> bool {
+    settings.listen.len() == texts.len()
+        && settings
+            .listen
+            .iter()
+            .zip(texts.iter())
+            .all(|(address, text)| is_at(address, text))
+}
+
+fn defaults(alloc: Global) -> bool {
+    match read(alloc, "") {
+        Some(Ok(settings)) => {
+            listens(&settings, &["127.0.0.1:11211"])
+                && settings.u == 1
+                && settings.connections == 1024
+                && settings.status.is_none()
+        }
+        _ => false,
+    }
+}
+
+fn all_given(alloc: Global) -> bool {
+    let words =
+        "--listen 0.0.0.0:1 --u 3 --listen [::1]:2 --connections=10000 --status 127.0.0.1:3";
+    match read(alloc, words) {
+        Some(Ok(settings)) => {
+            listens(&settings, &["0.0.0.0:1", "[::1]:2"])
+                && settings.u == 3
+                && settings.connections == 10000
+                && matches!(&settings.status, Some(address) if is_at(address, "127.0.0.1:3"))
+        }
+        _ => false,
+    }
+}
+
+/// The kind of error that the words give, and the program's status by it.
+fn refusal(alloc: Global, words: &str) -> Option<(ErrorKind, i32)> {
+    match read(alloc, words)? {
+        Ok(_) => None,
+        Err(error) => Some((error.kind(), error.exit_code())),
+    }
+}
+
+#[test]
+fn without_words_there_are_defaults(rt: HostRuntime) -> Result<(), Fail> {
+    assert!(rt; defaults(rt.alloc()));
+    Ok(())
+}
+
+#[test]
+fn each_option_is_read(rt: HostRuntime) -> Result<(), Fail> {
+    assert!(rt; all_given(rt.alloc()));
+    Ok(())
+}
+
+#[test]
+fn help_and_version_are_no_mistake(rt: HostRuntime) -> Result<(), Fail> {
+    let rows = [
+        ("--help", ErrorKind::DisplayHelp),
+        ("-h", ErrorKind::DisplayHelp),
+        ("--version", ErrorKind::DisplayVersion),
+    ];
+    for (words, kind) in rows {
+        assert_eq!(rt; refusal(rt.alloc(), words), Some((kind, 0)), "{words}");
+    }
+    Ok(())
+}
+
+#[test]
+fn other_words_are_refused(rt: HostRuntime) -> Result<(), Fail> {
+    let rows = [
+        ("--u 4", ErrorKind::ValueValidation),
+        ("--u -1", ErrorKind::UnknownArgument),
+        ("--u x", ErrorKind::ValueValidation),
+        ("--u 1 --u 1", ErrorKind::ArgumentConflict),
+        ("--connections 0", ErrorKind::ValueValidation),
+        ("--connections 10001", ErrorKind::ValueValidation),
+        ("--listen 127.0.0.1", ErrorKind::ValueValidation),
+        ("--listen localhost:1", ErrorKind::ValueValidation),
+        ("--listen", ErrorKind::InvalidValue),
+        ("--status :80", ErrorKind::ValueValidation),
+        ("--port 11211", ErrorKind::UnknownArgument),
+        ("serve", ErrorKind::UnknownArgument),
+    ];
+    for (words, kind) in rows {
+        assert_eq!(rt; refusal(rt.alloc(), words), Some((kind, 2)), "{words}");
+    }
+    Ok(())
+}

@@ -1,0 +1,42 @@
+//! Where the replicas are, for whoever watches. Nothing is decided by it.
+
+use crate::ensemble::Ensemble;
+
+impl Ensemble {
+    /// The number of the last committed state of the executors that are up: 0 if none is.
+    pub fn number(&self) -> u64 {
+        let mut latest = 0u64;
+        for host in &self.nodes.executors {
+            if let Some(number) = host.number() {
+                latest = latest.max(number);
+            }
+        }
+        latest
+    }
+
+    /// How many items the committed state has of the first executor that is up: 0 if none is.
+    pub fn items(&self) -> u64 {
+        for host in &self.nodes.executors {
+            if let Some(items) = host.items() {
+                return items;
+            }
+        }
+        0
+    }
+
+    /// The latest view of the verifiers that are up: 0 if none is.
+    pub fn view(&self) -> u64 {
+        let mut latest = 0u64;
+        for place in &self.nodes.verifiers {
+            if let Some(node) = place.node() {
+                latest = latest.max(node.view());
+            }
+        }
+        latest
+    }
+
+    /// How many batches were cut. It wraps.
+    pub fn cuts(&self) -> u64 {
+        self.progress.cuts
+    }
+}

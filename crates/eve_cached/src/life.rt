@@ -1,0 +1,142 @@
+//! The daemon, from its listeners to its end.
+
+ghost use Rattle.std.specs.Prelude.{◌<◌};
+
+use crate::showing::{Shown, show};
+use crate::watching::{figures, watch};
+use crate::{CANNOT, REFUSED};
+use daemon::{NO_TARGET, Settings, Stamped, tell_listening};
+use log::{error, warn};
+use server::{Options, ServeFault, Watcher, serve_beside};
+use std::alloc::Global;
+use std::net::{Net, SocketAddr, TcpListener, TcpStream};
+use std::rt::{Clock, Files};
+use std::sync::Wait;
+use std::thread;
+use std::thread::Threads;
+use std::time::Instant;
+
+/// What a connection is given for which there is no room.
+const TOO_MANY: &[u8] = b"SERVER_ERROR too many open connections\r\n";
+
+/// The listeners of a daemon.
+#[derive(Drop)]
+struct Ports {
+    clients: Vec<TcpListener>,
+    status: Option<TcpListener>,
+}
+
+/// A listener at the address. If there is none, the log tells why.
+fn bound<R: Net<Listener = TcpListener, Stream = TcpStream> + Clock + Eprint>(
+    rt: &R,
+    address: SocketAddr,
+) -> Result<TcpListener, u8> {
+    match TcpListener::bind(rt, address) {
+        Ok(listener) => Ok(listener),
+        Err(fault) => {
+            error!(Stamped(rt); target: NO_TARGET, "cannot listen on {address}: {fault}");
+            Err(CANNOT)
+        }
+    }
+}
+
+/// A listener at each address. The log tells where.
+fn listeners<R: Net<Listener = TcpListener, Stream = TcpStream> + Clock + Eprint>(
+    rt: &R,
+    alloc: Global,
+    addresses: &[SocketAddr],
+) -> Result<Vec<TcpListener>, u8> {
+    let mut all = Vec::new(alloc);
+    for address in addresses {
+        let listener = bound(rt, *address)?;
+        tell_listening(&Stamped(rt), listener.local_addr().unwrap_or(*address));
+        if all.push(listener).is_err() {
+            return Err(REFUSED);
+        }
+    }
+    Ok(all)
+}
+
+/// The listeners that the settings ask for.
+fn open_ports<R: Net<Listener = TcpListener, Stream = TcpStream> + Clock + Eprint>(
+    rt: &R,
+    alloc: Global,
+    settings: &Settings,
+) -> Result<Ports, u8> {
+    let status = match settings.status {
+        Some(address) => Some(bound(rt, address)?),
+        None => None,
+    };
+    let clients = listeners(rt, alloc, settings.listen.as_slice())?;
+    Ok(Ports { clients, status })
+}
+
+/// Shows the figures, if it has a listener for that, and tells what happens, until the server ends by itself.
+fn attend<
+    R: Net<Listener = TcpListener, Stream = TcpStream>
+        + Threads
+        + Wait
+        + Clock
+        + Files
+        + Eprint
+        + AllocGlobal
+        + Sync,
+>(rt: &R, watcher: &Watcher<'_>, status: Option<TcpListener>) {
+    let start = Instant::now(rt).ok();
+    let now = Shown::new(figures(rt, watcher, start));
+    let shown = &now;
+    thread::scope(thread::scope_env(), rt, |scope| {
+        if let Some(listener) = status {
+            let of_status = move || {
+                if let Err(fault) = show(rt, rt.alloc(), shown, listener) {
+                    warn!(Stamped(rt); target: NO_TARGET, "no status port: {fault}");
+                }
+            };
+            if scope.spawn(of_status).is_err() {
+                warn!(Stamped(rt); target: NO_TARGET, "no thread for the status port");
+            }
+        }
+        watch(rt, watcher, shown, start);
+        shown.end();
+    });
+}
+
+/// Runs a daemon. The status of the program if it ends by itself.
+pub fn run<
+    R: Net<Listener = TcpListener, Stream = TcpStream>
+        + Threads
+        + Wait
+        + Clock
+        + Files
+        + Eprint
+        + AllocGlobal
+        + Sync,
+>(rt: &R, settings: Settings) -> u8 {
+    let options = Options {
+        connections: usize::from(settings.connections),
+        refusal: TOO_MANY,
+        u: settings.u,
+    };
+    let Ports { clients, status } = match open_ports(rt, rt.alloc(), &settings) {
+        Ok(ports) => ports,
+        Err(status) => return status,
+    };
+    let served = serve_beside(rt, rt.alloc(), clients, options, |watcher| {
+        attend(rt, watcher, status);
+    });
+    match served {
+        Ok(service) => {
+            service.end();
+            error!(Stamped(rt); target: NO_TARGET, "the system no longer lets it wait on its sockets");
+            CANNOT
+        }
+        Err(ServeFault::Own(fault)) => {
+            error!(Stamped(rt); target: NO_TARGET, "cannot start: {fault}");
+            REFUSED
+        }
+        Err(ServeFault::Start) => {
+            error!(Stamped(rt); target: NO_TARGET, "cannot start");
+            CANNOT
+        }
+    }
+}

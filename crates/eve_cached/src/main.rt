@@ -1,0 +1,53 @@
+//! A memcached server on replicas, as a daemon: `eve_cached --listen ADDR:PORT --u U --connections N --status ADDR:PORT`.
+//!
+//! It serves until a signal ends it, and tells on standard error what an operator wants to know. Status 0 for `--help`
+//! and `--version`, 1 if memory ran out before it served, 2 for other words, 3 if it cannot listen or cannot start, or
+//! if the system no longer lets it wait on its sockets.
+#![tactic(auto)]
+
+mod life;
+mod showing;
+mod watching;
+
+use crate::life::run;
+use clap::Error;
+use clap::error::ErrorKind;
+use daemon::{Settings, read_settings};
+use std::process::ExitCode;
+use words::{WordsFault, words_of};
+
+/// Memory ran out before it served.
+pub const REFUSED: u8 = 1;
+
+/// It cannot listen or start.
+pub const CANNOT: u8 = 3;
+
+/// Prints why the words are not taken, or the help that they ask for.
+fn explain(rt: &HostRuntime, error: &Error) -> ExitCode {
+    if error.print(rt).is_err() {
+        return ExitCode::from(CANNOT);
+    }
+    match error.kind() {
+        ErrorKind::OutOfMemory => ExitCode::from(REFUSED),
+        _ => ExitCode::from(if error.use_stderr() { 2 } else { 0 }),
+    }
+}
+
+/// What the words of the command line say.
+fn given(rt: &HostRuntime) -> Result<Settings, ExitCode> {
+    match words_of(rt) {
+        Ok(words) => match read_settings(rt.alloc(), words.as_slice()) {
+            Ok(settings) => Ok(settings),
+            Err(error) => Err(explain(rt, &error)),
+        },
+        Err(WordsFault::NoMemory) => Err(ExitCode::from(REFUSED)),
+        Err(WordsFault::Usage) => Err(ExitCode::from(2)),
+    }
+}
+
+fn main(rt: HostRuntime) -> ExitCode {
+    match given(&rt) {
+        Ok(settings) => ExitCode::from(run(&rt, settings)),
+        Err(status) => status,
+    }
+}

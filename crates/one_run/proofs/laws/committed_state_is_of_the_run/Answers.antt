@@ -1,5 +1,0 @@
-use Rattle.one_run.proofs.Runs.{committed_is_of_run}
-use Rattle.one_run.proofs.laws.committed_state_is_of_the_run.Goals as goal
-
-pub returns : goal.returns
-returns c = committed_is_of_run

@@ -1,8 +1,0 @@
-use Rattle.one_run.proofs.Runs.{has_run, one_run}
-use Rattle.one_run.proofs.laws.decrees_have_one_run.Goals as goal
-
-pub returns-clause-has : goal.returns-clause-has
-returns-clause-has c = has_run
-
-pub returns-clause-one : goal.returns-clause-one
-returns-clause-one c = one_run

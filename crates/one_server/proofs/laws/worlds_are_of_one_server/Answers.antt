@@ -1,5 +1,0 @@
-use Rattle.one_server.proofs.Runs.{are_of_one_server}
-use Rattle.one_server.proofs.laws.worlds_are_of_one_server.Goals as goal
-
-pub returns : goal.returns
-returns c = are_of_one_server c.executed_is_asked_in_worlds.ensures c.given_is_replied_in_worlds.ensures

@@ -1,5 +1,0 @@
-use Rattle.one_server.proofs.AskedProved.{executed_is_asked}
-use Rattle.one_server.proofs.requests.executed_is_asked_in_worlds.Goals as goal
-
-pub returns : goal.returns
-returns c = executed_is_asked

@@ -1,0 +1,45 @@
+//! What others see of a server while it serves.
+
+use crate::answering::Answering;
+use event_loop::{Counts, Watch};
+use figures::{Connections, Figures};
+use std::sync::Wait;
+
+/// What the thread that started a server sees of it.
+#[derive(Clone, Copy)]
+pub struct Watcher<'a> {
+    watch: Watch<'a, Answering>,
+}
+
+/// The event loop's counts, as they are shown.
+fn connections(counts: Counts) -> Connections {
+    Connections {
+        open: counts.open,
+        accepted: counts.accepted,
+        refused: counts.refused,
+        failed: counts.failed,
+        bytes_read: counts.bytes_read,
+        bytes_written: counts.bytes_written,
+    }
+}
+
+impl<'a> Watcher<'a> {
+    /// A view of this.
+    pub fn new(watch: Watch<'a, Answering>) -> Watcher<'a> {
+        Watcher { watch }
+    }
+
+    /// What the server has counted. The caller waits for the end of a batch, if one is carried out; clients wait for the
+    /// copy alone. What the server does not know of itself, as its memory and the time since its start, is 0.
+    pub fn figures<R: Wait>(&self, rt: &R) -> Figures {
+        let counts = self.watch.counts(rt);
+        let mut figures = self.watch.service(rt).figures();
+        figures.connections = connections(counts);
+        figures
+    }
+
+    /// Whether the server has ended by itself, since the system refused to wait on its sockets.
+    pub fn has_ended(&self) -> bool {
+        self.watch.has_ended()
+    }
+}

@@ -1,0 +1,25 @@
+//! What holds of requests and replies in every world that is reached. The functions do nothing: what each
+//! says is its contract.
+
+ghost use Rattle.server_laws.specs.AskedLaws.{ExecutedIsAsked, GivenIsReplied, AskedStaysAsked, BeginningIsReached};
+
+/// Each request of a batch that an executor executed, tentatively or not, was asked: the bytes that the
+/// events so far fed to its client spell turns of which its command is the one asked at its number. The
+/// moment of the batch is that of a cut.
+pub fn executed_is_asked_in_worlds()
+    ensures { ExecutedIsAsked }
+{}
+
+/// What a client was given are the texts of the first turns that its bytes spell, in order, each turn
+/// once. The text of each request's turn is that of a reply that a letter carried to the client for the
+/// request of this number.
+pub fn given_is_replied_in_worlds()
+    ensures { GivenIsReplied }
+{}
+
+/// The worlds up to one of them are reached by the events that come before it, so that each law of
+/// reached worlds holds of them too. What these events ask is asked by all events.
+pub fn beginnings_are_reached()
+    ensures reached { BeginningIsReached }
+    ensures asked { AskedStaysAsked }
+{}

@@ -1,0 +1,48 @@
+-- The order in which requests were asked and answered.
+use Rattle.std.proofs.Common.{◌≡◌, ℕ, zero, suc, ◌<◌, Bool, true, false, List, [], ◌∷◌, ◌++◌, map, length, Option, Some, None, refl, sym, ap, ◌∙◌, subst, arith, slice_get}
+use Rattle.std.proofs.lemmas.List.{length-map}
+use Rattle.ensemble.specs.declared.answer.Answer.{Answer}
+use Rattle.ensemble.specs.Ensemble.{order_entry}
+use Rattle.service.specs.declared.assignment.Assignment.{Assignment}
+use Rattle.service.specs.Service.{ServiceView, asked_keys, before_ask, assigned_as, IsService}
+
+abbrev pub Order : Type 0
+Order = List ((ℕ × ℕ) × Bool)
+
+pub asked_push : (order : Order) (key : ℕ × ℕ) → asked_keys (order ++ (key, false) ∷ []) ≡ asked_keys order ++ key ∷ []
+asked_push [] key = refl
+asked_push ((k, true) ∷ order) key = asked_push order key
+asked_push ((k, false) ∷ order) key = ap (λ (keys : List (ℕ × ℕ)). k ∷ keys) (asked_push order key)
+
+none_asked : (answers : List Answer) → asked_keys (map order_entry answers) ≡ []
+none_asked [] = refl
+none_asked (a ∷ answers) = none_asked answers
+
+pub answers_ask_nothing : (order : Order) (answers : List Answer) → asked_keys (order ++ map order_entry answers) ≡ asked_keys order
+answers_ask_nothing [] answers = none_asked answers
+answers_ask_nothing ((k, true) ∷ order) answers = answers_ask_nothing order answers
+answers_ask_nothing ((k, false) ∷ order) answers = ap (λ (keys : List (ℕ × ℕ)). k ∷ keys) (answers_ask_nothing order answers)
+
+-- what was before a request that is in the order stays so as it gets longer
+pub before_same : (i : ℕ) (order more : Order) → i < length (asked_keys order) → before_ask i (order ++ more) ≡ before_ask i order
+before_same i [] more below = absurd (omega (arith, below))
+before_same i ((k, true) ∷ order) more below = ap (λ (o : Order). (k, true) ∷ o) (before_same i order more below)
+before_same zero ((k, false) ∷ order) more below = refl
+before_same (suc i) ((k, false) ∷ order) more below = ap (λ (o : Order). (k, false) ∷ o) (before_same i order more (omega (arith, below)))
+
+-- before the last request was all else
+pub before_last : (order : Order) (key : ℕ × ℕ) → before_ask (length (asked_keys order)) (order ++ (key, false) ∷ []) ≡ order
+before_last [] key = refl
+before_last ((k, true) ∷ order) key = ap (λ (o : Order). (k, true) ∷ o) (before_last order key)
+before_last ((k, false) ∷ order) key = ap (λ (o : Order). (k, false) ∷ o) (before_last order key)
+
+pub asked_count : (v : ServiceView) → IsService v → length (asked_keys v.order) ≡ length v.assignments
+asked_count v ok = ap length ok.ordered ∙ length-map v.assignments assigned_as
+
+at_below : {X : Type 0} (xs : List X) (i : ℕ) (x : X) → slice_get xs i ≡ Some x → i < length xs
+at_below [] i x at = absurd (cc at)
+at_below (y ∷ xs) zero x at = omega arith
+at_below (y ∷ xs) (suc i) x at = let below = at_below xs i x at in omega (arith, below)
+
+pub asked_below : (v : ServiceView) → IsService v → (i : ℕ) (a : Assignment) → slice_get v.assignments i ≡ Some a → i < length (asked_keys v.order)
+asked_below v ok i a at = let below = at_below v.assignments i a at in let count = asked_count v ok in omega (arith, below, count)

@@ -1,0 +1,32 @@
+//! What is counted of a command.
+
+ghost use Rattle.std.specs.Prelude.{◌≡◌};
+
+use connections::Place;
+use figures::Asked;
+
+/// A connection whose command waits for a proxy.
+#[derive(Clone, Copy)]
+pub struct Waiting {
+    pub at: Place,
+    /// When it began to wait, in microseconds of the caller's clock.
+    pub since: u64,
+}
+
+/// What is counted of a command once its reply is there. No decision rests on it.
+#[derive(Clone, Copy)]
+pub struct Note {
+    /// None: the command was not taken.
+    pub asked: Option<Asked>,
+    /// When it began to wait, in microseconds of the caller's clock.
+    pub since: u64,
+}
+
+impl Note {
+    /// Of a command that began to wait then.
+    pub fn new(since: u64) -> Note
+        ensures since { result.since ≡ since }
+    {
+        Note { asked: None, since }
+    }
+}

@@ -1,0 +1,50 @@
+//! What is shown of the replicas.
+
+ghost use Rattle.std.specs.Prelude.{◌≡◌};
+
+use crate::service::Service;
+use ensemble::Replica;
+use figures::{Figures, NodeFigures, one_more};
+
+/// The place of what is shown of a replica, if there is one.
+fn node_of(figures: &mut Figures, replica: Replica) -> Option<&mut NodeFigures> {
+    match replica {
+        Replica::Executor(id) => figures.replicas.executors.get_mut(usize::from(id)),
+        Replica::Verifier(id) => figures.replicas.verifiers.get_mut(usize::from(id)),
+    }
+}
+
+/// The replica is found up or down. It stopped if it was up when it was last found.
+pub fn note_node(figures: &mut Figures, replica: Replica, is_up: bool) {
+    if let Some(node) = node_of(figures, replica) {
+        if node.is_up && !is_up {
+            node.stops = one_more(node.stops);
+        }
+        node.is_up = is_up;
+    }
+}
+
+impl Service {
+    /// Shows the replica at this place.
+    fn show_node(&self, figures: &mut Figures, at: usize) {
+        let replica = self.nodes.replica(at);
+        note_node(figures, replica, self.ensemble.is_up(replica));
+    }
+
+    /// Shows where the replicas are.
+    pub(crate) fn show_replicas(&self, figures: &mut Figures) {
+        for at in 0..self.nodes.count() {
+            self.show_node(figures, at);
+        }
+        let incidents = self.incidents();
+        figures.replicas.members = self.nodes.members();
+        figures.replicas.epoch = self.ensemble.epoch();
+        figures.replicas.view = self.ensemble.view();
+        figures.replicas.number = self.ensemble.number();
+        figures.replicas.suspicions = incidents.suspicions;
+        figures.batches.cut = self.ensemble.cuts();
+        figures.batches.committed = self.ensemble.number();
+        figures.batches.rolled_back = incidents.rollbacks;
+        figures.memory.items = self.ensemble.items();
+    }
+}

@@ -1,0 +1,78 @@
+-- Each command of a connection was asked after the earlier ones were answered, so all connections have one order.
+use Rattle.std.proofs.Common.{◌≡◌, ℕ, zero, suc, ◌<◌, Bool, true, false, List, [], ◌∷◌, ◌++◌, map, Some, refl, sym, ap, ◌∙◌, arith}
+use Rattle.std.specs.Prelude.{Contains, slice_get}
+use Rattle.executor.proofs.RoundLemmas.{get_map}
+use Rattle.server_laws.specs.Laws.{WorldsAreOfOneServer}
+use Rattle.connections.specs.Connections.{IsConnections}
+use Rattle.service.specs.Service.{ServiceView, IsService, HasEnsemble, asked_keys, before_ask, assigned_as}
+use Rattle.service_laws.specs.Orders.{AreAskedInTurn, IsInOneOrder}
+use Rattle.service_laws.proofs.AskedLemmas.{place_of}
+use Rattle.service_laws.proofs.ServingLemmas.{for_one, is_served, one_reply, is_serving}
+use Rattle.service_laws.proofs.Past.{has_run_in_turn}
+use Rattle.service_laws.proofs.Turns.{has_order}
+
+abbrev Order : Type 0
+Order = List ((ℕ × ℕ) × Bool)
+
+-- what was before a request is a beginning of the order
+before_begins : (i : ℕ) (order : Order) → (late : Order) × (order ≡ before_ask i order ++ late)
+before_begins i [] = ([], refl)
+before_begins i ((key, true) ∷ order) = (let rest = before_begins i order in (rest.0, ap (λ (o : Order). (key, true) ∷ o) rest.1))
+before_begins zero ((key, false) ∷ order) = ((key, false) ∷ order, refl)
+before_begins (suc i) ((key, false) ∷ order) = (let rest = before_begins i order in (rest.0, ap (λ (o : Order). (key, false) ∷ o) rest.1))
+
+-- a request that was asked before this one has an earlier place
+asked_before : (i : ℕ) (order : Order) (key : ℕ × ℕ) → Contains (before_ask i order) (key, false) → (j : ℕ) × (j < i) × (slice_get (asked_keys order) j ≡ Some key)
+asked_before i [] key c = let lt = c.1 in absurd (omega (arith, lt))
+asked_before i ((k, true) ∷ order) key (zero, lt, e) = absurd (let kinds : true ≡ false = ap (λ (x : (ℕ × ℕ) × Bool). x.1) e in cc kinds)
+asked_before i ((k, true) ∷ order) key (suc n, lt, e) = asked_before i order key (n, omega (arith, lt), e)
+asked_before zero ((k, false) ∷ order) key c = let lt = c.1 in absurd (omega (arith, lt))
+asked_before (suc i) ((k, false) ∷ order) key (zero, lt, e) = (0, omega arith, ap (λ (x : (ℕ × ℕ) × Bool). Some x.0) e)
+asked_before (suc i) ((k, false) ∷ order) key (suc n, lt, e) =
+    let r = asked_before i order key (n, omega (arith, lt), e) in
+    let below = r.1 in
+    (suc r.0, omega (arith, below), r.2)
+
+module _ (v : ServiceView) (talks : IsConnections v.connections) (ok : IsService v) (over : HasEnsemble v) where
+  are_in_turn : AreAskedInTurn over.world.events over.world.through.worlds v.assignments
+  are_in_turn b turn inside from_one below =
+      let at = place_of v.assignments b inside in
+      let was = ok.in_turn at.0 b at.1 turn from_one below in
+      let early = before_ask at.0 v.order in
+      let late = before_begins at.0 v.order in
+      let past = over.world.past early late.0 (over.same_order ∙ late.1) in
+      let reply = past.sent was.assignment.proxy was.assignment.number was.answered in (
+        was.assignment,
+        was.assigned,
+        was.of_connection,
+        was.of_turn,
+        record {
+          before = past.before;
+          after = past.after;
+          split = past.split;
+          now = past.now;
+          there = past.there;
+          reply = reply.0;
+          sent = reply.1;
+          not_asked = λ command is.
+              let earlier = asked_before at.0 v.order (b.proxy, b.number) (past.asked b.proxy b.number command is) in
+              let there : slice_get (map assigned_as v.assignments) earlier.0 ≡ Some (b.proxy, b.number) = sym (ap (λ (keys : List (ℕ × ℕ)). slice_get keys earlier.0) ok.ordered) ∙ earlier.2 in
+              let d = get_map assigned_as v.assignments earlier.0 (b.proxy, b.number) there in
+              let same = for_one v talks ok over earlier.0 at.0 d.0 b d.1 at.1 (sym (ap (λ (k : ℕ × ℕ). k.0) d.2)) (sym (ap (λ (k : ℕ × ℕ). k.1) d.2)) in
+              let less = earlier.1 in
+              absurd (omega (arith, same, less));
+        },
+      )
+
+pub has_one_order : (v : ServiceView) → IsConnections v.connections → IsService v → HasEnsemble v → WorldsAreOfOneServer → IsInOneOrder v
+has_one_order v talks ok over law =
+    let serving = is_serving v talks ok over law in
+    let w = serving.over.world in
+    let in_turn = are_in_turn v talks ok serving.over in
+    record {
+      serving = serving;
+      in_turn = in_turn;
+      one_order = λ distinct.
+          let run = has_run_in_turn law w.config w.events w.now w.through v.assignments distinct in_turn in
+          has_order v serving run.0 (record { is_run = run.1; served = is_served v talks ok serving.over run.0 run.1; one_reply = one_reply v talks ok serving.over run.0 run.1 }) run.2;
+    }

@@ -1,0 +1,9 @@
+pub mod AskedLemmas
+pub mod RunLemmas
+pub mod ServingLemmas
+pub mod Renamed
+pub mod ConnectionRuns
+pub mod Turns
+pub mod Grows
+pub mod Past
+pub mod InTurn

@@ -1,0 +1,73 @@
+-- One order of item steps for all connections.
+use Rattle.std.specs.Prelude.{◌≡◌, ℕ, ◌≤◌, ◌<◌, List, ◌++◌, length, Some, Contains, slice_get}
+use Rattle.proto.specs.declared.command.Command.{Command}
+use Rattle.proto.specs.declared.reply.Reply as replies
+use Rattle.events.specs.declared.event.Event.{Event}
+use Rattle.worlds.specs.World.{WorldView}
+use Rattle.worlds.specs.Asked.{WasSent}
+use Rattle.memcached_spec.specs.Asked.{IsAsked}
+use Rattle.memcached_spec.specs.Fed.{fed_to}
+use Rattle.executor.specs.declared.answered.Answered.{Answered}
+use Rattle.run_laws.specs.Run.{Executed}
+use Rattle.run_laws.specs.Replied.{GivenIn}
+use Rattle.memcached_spec.specs.Server.{Line, IsDone}
+use Rattle.memcached_spec.specs.Order.{IsExecutedFor, IsAnsweredBy}
+use Rattle.connections.specs.Connections.{bytes_of_connection}
+use Rattle.server_laws.specs.Saved.{IsMet, DigestsAreDistinct}
+use Rattle.server_laws.specs.Run.{IsRun}
+use Rattle.service.specs.declared.assignment.Assignment.{Assignment}
+use Rattle.service.specs.Service.{ServiceView}
+use Rattle.service_laws.specs.Serving.{IsServing, IsServedByOne}
+
+-- the command was executed in the run's round at this place
+abbrev pub RanAt : List Executed → ℕ → Assignment → Type 0
+RanAt run place a = (x : Answered) × GivenIn run place x × (x.client ≡ a.proxy) × (x.number ≡ a.number)
+
+-- each earlier command of the connection was executed in an earlier round
+abbrev pub RanInTurn : List Executed → List Assignment → Type 0
+RanInTurn run assignments = (b : Assignment) (place t : ℕ) → Contains assignments b → RanAt run place b → 1 ≤ t → t < b.turn
+    → (a : Assignment) × Contains assignments a × (a.connection ≡ b.connection) × (a.turn ≡ t) × (earlier : ℕ) × (earlier < place) × RanAt run earlier a
+
+-- What one server does in this order: each connection's first commands, in their order, each once and whole, and what it was given are the replies to them.
+pub record IsConnectionOrder (heard given : List (ℕ × List ℕ)) (lines : List Line) : Type 0 where
+  pub done : IsDone lines
+  pub asked_only : (c : ℕ) → IsExecutedFor lines c (bytes_of_connection c heard)
+  pub answered : (c : ℕ) → IsAnsweredBy lines c (bytes_of_connection c heard) (bytes_of_connection c given)
+
+-- At a moment of the play the first command had its reply, and the second one was not asked yet.
+pub record WasAnsweredBefore (events : List Event) (worlds : List WorldView) (a b : Assignment) : Type 0 where
+  pub before : List Event
+  pub after : List Event
+  pub split : events ≡ before ++ after
+  pub now : WorldView
+  pub there : slice_get worlds (length before) ≡ Some now
+  pub reply : replies.Reply
+  pub sent : WasSent now.letters a.proxy a.number reply
+  pub not_asked : (command : Command) → IsAsked (fed_to b.proxy before) b.number command → ⊥
+
+-- each earlier command of the connection was answered before this one was asked
+abbrev pub AreAskedInTurn : List Event → List WorldView → List Assignment → Type 0
+AreAskedInTurn events worlds assignments = (b : Assignment) (t : ℕ) → Contains assignments b → 1 ≤ t → t < b.turn
+    → (a : Assignment) × Contains assignments a × (a.connection ≡ b.connection) × (a.turn ≡ t) × WasAnsweredBefore events worlds a b
+
+-- ---- laws
+
+-- If commands are asked in turn, and digests tell apart the states that executors had, the world has a run that executes them in turn.
+abbrev pub RunsAreInTurn : Type 0
+RunsAreInTurn = (v : ServiceView) (serving : IsServing v) → AreAskedInTurn serving.over.world.events serving.over.world.through.worlds v.assignments → DigestsAreDistinct serving.over.world.through.worlds
+    → (run : List Executed) × IsRun (IsMet serving.over.world.through.worlds) serving.over.world.events serving.over.world.now run × RanInTurn run v.assignments
+
+-- if the run that serves all connections executes their commands in turn, there is one order of item steps for all of them
+abbrev pub ConnectionsHaveOneOrder : Type 0
+ConnectionsHaveOneOrder = (v : ServiceView) (serving : IsServing v) (run : List Executed) → IsServedByOne v serving.over run → RanInTurn run v.assignments → (lines : List Line) × IsConnectionOrder v.connections.heard v.connections.given lines
+
+-- at a later moment, when the run is longer and more was asked, the order is longer
+abbrev pub ConnectionOrdersGrow : Type 0
+ConnectionOrdersGrow = (v w : ServiceView) (early : IsServing v) (late : IsServing w) (run more : List Executed) (added : List Assignment) → IsServedByOne v early.over run → IsServedByOne w late.over (run ++ more) → RanInTurn run v.assignments → RanInTurn (run ++ more) w.assignments
+    → w.assignments ≡ v.assignments ++ added → (lines after : List Line) × IsConnectionOrder v.connections.heard v.connections.given lines × IsConnectionOrder w.connections.heard w.connections.given (lines ++ after)
+
+-- What all connections asked and were given, at any moment, is what one server does in one order of item steps, in which each connection's commands are in their order, if digests tell apart the states that executors had.
+pub record IsInOneOrder (v : ServiceView) : Type 0 where
+  pub serving : IsServing v
+  pub in_turn : AreAskedInTurn serving.over.world.events serving.over.world.through.worlds v.assignments
+  pub one_order : DigestsAreDistinct serving.over.world.through.worlds → (lines : List Line) × IsConnectionOrder v.connections.heard v.connections.given lines

@@ -1,0 +1,62 @@
+//! Drives a service at random, without sockets, and checks what its connections are given. All connections add one
+//! to a counter or read it, so a history is linearizable just if no number is given twice to those that add, each
+//! reply is at least what was given before its command was heard (more, if it adds), and none is above the count of
+//! the commands that were heard.
+//!
+//! A line `U SEED CALLS` of standard input is a play: so many calls of a service with `2U + 1` executors, made at
+//! random from the seed. Connections come, ask in pieces of any length, are slow to write, and leave; ticks come, and
+//! the replicas work. In the end each connection that is here has to be answered. For each play it prints what came
+//! of it. The status is 1 if a history is not linearizable, and 2 if a line cannot be played.
+#![tactic(auto)]
+
+mod judge;
+mod peer;
+mod plan;
+mod play;
+
+use crate::plan::{Plan, plan_of};
+use crate::play::play;
+use std::io;
+use std::process::ExitCode;
+use std::sync::Wait;
+use std::thread::Threads;
+
+/// Makes the play, and prints what came of it: the status.
+fn follow<R: Threads + Wait + Sync>(rt: &HostRuntime, threads: &R, plan: Plan) -> io::Result<u8> {
+    let Plan { u, seed, calls } = plan;
+    let Some(shown) = play(threads, rt.alloc(), plan) else {
+        println!(rt; "cannot play u {u}, seed {seed}")?;
+        return Ok(2);
+    };
+    println!(rt;
+        "u {u}, seed {seed}, {calls} calls: {} commands, {} replies, {} stops",
+        shown.commands, shown.replies, shown.stops
+    )?;
+    if let Some(call) = shown.wrong {
+        println!(rt; "u {u}, seed {seed}: wrong at call {call}")?;
+        return Ok(1);
+    }
+    Ok(0)
+}
+
+/// Makes the plays of all lines, up to the first whose status is not 0: the last status.
+fn follow_all<R: Threads + Wait + Sync>(rt: &HostRuntime, threads: &R) -> io::Result<u8> {
+    for line in rt.lines(rt.alloc()) {
+        let line = line?;
+        let status = match plan_of(line.as_str()) {
+            Some(plan) => follow(rt, threads, plan)?,
+            None => 2,
+        };
+        if status > 0 {
+            return Ok(status);
+        }
+    }
+    Ok(0)
+}
+
+fn main(rt: HostRuntime) -> ExitCode {
+    match follow_all(&rt, &rt) {
+        Ok(status) => ExitCode::from(status),
+        Err(_) => ExitCode::from(3),
+    }
+}
