@@ -77,7 +77,8 @@ impl Metric {
             Metric::Lines => "Lines that were answered without the replicas.",
             Metric::NodeUp => "Whether the executor or verifier is up.",
             Metric::NodeStops => "Times that the executor or verifier was found down.",
-            Metric::ReplySeconds => "Time from when a command is ready in the service to its reply.",
+            Metric::ReplySeconds =>
+                "Time from when a command is ready in the service to its reply.",
             Metric::BatchSeconds => "Time of a round of the service that answered commands.",
         }
     }
