@@ -25,7 +25,7 @@ mod ending;
 mod judge;
 mod plain;
 mod playing;
-mod random;
+mod random_events;
 mod restarts;
 mod stage;
 mod talks;
@@ -33,7 +33,7 @@ mod task;
 
 use crate::counts::{Counts, Failed};
 use crate::playing::play_all;
-use crate::random::play_random;
+use crate::random_events::play_random;
 use crate::restarts::play_restarts;
 use crate::task::{Task, task_of};
 use proto::Fault;
