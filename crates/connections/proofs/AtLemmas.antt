@@ -1,10 +1,7 @@
 -- What calls on the table do, next to what always holds.
 use Rattle.std.proofs.Common.{◌≡◌, ⊎_elim, ℕ, zero, suc, Bool, true, false, List, [], ◌∷◌, ◌++◌, Option, Some, None, refl, sym, ap, ◌∙◌, subst, slice_get, slice_set}
 use Rattle.std.specs.Prelude.{Result, Ok, Err, ◌==◌, not, if◌then◌else◌}
-use Rattle.std.specs.declared.alloc.Global.{Global}
-use Rattle.std.specs.declared.vec.Vec.{Vec}
 use Rattle.std.proofs.lemmas.Bool.{eq-eqb, eqb-true}
-use Rattle.std.proofs.lemmas.List.{map-append}
 use Rattle.std.proofs.lemmas.List.Elements.{Contains-append_left}
 use Rattle.base.specs.declared.fault.Fault.{Fault}
 use Rattle.proto.specs.declared.command.Command.{Command}
@@ -15,16 +12,12 @@ use Rattle.connections.specs.declared.connections.CommandNumber.{CommandNumber}
 use Rattle.connections.specs.declared.places.Place.{Place}
 use Rattle.connections.specs.declared.said.Said.{Said}
 use Rattle.connections.specs.Connection.{ConnectionView, IsTaken}
-use Rattle.connections.specs.Logs.{logged, logged_one}
 use Rattle.connections.specs.Places.{is_of_connection, connection_at, place_in, is_here, FeedsHere, FeedsIn, FeedsAt, AnswersHere, AnswersIn, AnswersAt, TakesPlace, TakesWhere, TakesIn, TakesAt, left_in, left_at}
 use Rattle.memcached_spec.specs.Asked.{HasText}
 use Rattle.connections.specs.Connections.{ConnectionsView, AreBefore, AreReplied, IsConnections}
 use Rattle.connections.proofs.PlaceLemmas.{set_place, place_there, here_is}
 use Rattle.connections.proofs.KeepLemmas.{left_keeps, failed_keeps, told_keeps, fed_keeps, replied_keeps}
 use Rattle.connections.proofs.TakeLemmas.{taken_keeps, before, in_turn, has_text}
-
-pub logged_more : (log : List (ℕ × Vec ℕ Global)) (e : ℕ × Vec ℕ Global) → logged (log ++ e ∷ []) ≡ logged log ++ logged_one e ∷ []
-logged_more log e = map-append logged_one log (e ∷ [])
 
 -- the connection at a place, if it is the one of the number
 pub found : (v : ConnectionsView) (at : Place) → is_here at.number v.table at.key ≡ true → (c : ConnectionView) × (place_in v.table at.key ≡ Some c) × (c.number ≡ at.number)

@@ -11,6 +11,7 @@ use Rattle.client.specs.Taken.{TalkOk}
 use Rattle.client.proofs.TakenLemmas.{talk_implies, new_ok, fed_ok, replied_ok}
 use Rattle.connections.specs.declared.connections.CommandNumber.{CommandNumber}
 use Rattle.connections.specs.Connection.{ConnectionView, new_connection, after_given, answer_given}
+use Rattle.connections.specs.History.{Passed}
 use Rattle.connections.specs.Places.{place_in, IsGrown}
 use Rattle.connections.specs.Connections.{ConnectionsView, no_connections, bytes_of_connection, WasReplied, IsAnswered, IsHere, IsConnections}
 use Rattle.connections.proofs.PlaceLemmas.{there, set_place, other_place, place_there, same_or_not}
@@ -29,6 +30,19 @@ none_keep = record {
   asked = λ e in_it. let lt = in_it.1 in absurd (omega (arith, lt));
   below = λ e in_it. let lt = in_it.1 in absurd (omega (arith, lt));
   once = λ i j a b at_i at_j same turn. let e : ◌≡◌ {A = Option (CommandNumber × Command)} None (Some a) = at_i in absurd (cc e);
+}
+
+-- ---- nothing is said of the order in which it came
+
+pub relogged : (v : ConnectionsView) (passed : List Passed) → IsConnections v → IsConnections (record v { passed = passed })
+relogged v passed ok = record {
+  here = λ key c at. let h = ok.here key c at in record { below = h.below; talks = h.talks; counted = h.counted };
+  one_place = ok.one_place;
+  answered = ok.answered;
+  fresh = ok.fresh;
+  asked = ok.asked;
+  below = ok.below;
+  once = ok.once;
 }
 
 -- ---- only places are added
@@ -101,9 +115,9 @@ module _ (v : ConnectionsView) (ok : IsConnections v) (key : ℕ) (c : Connectio
   gone : (heard given : List (ℕ × List ℕ)) (replied : List (CommandNumber × replies.Reply)) → ((h : ℕ) → h ≢ c.number → bytes_of_connection h heard ≡ bytes_of_connection h v.heard) → ((h : ℕ) → h ≢ c.number → bytes_of_connection h given ≡ bytes_of_connection h v.given)
       → ((more : List ℕ) × (bytes_of_connection c.number heard ≡ bytes_of_connection c.number v.heard ++ more)) → ((h q : ℕ) (r : replies.Reply) → WasReplied v.replied h q r → WasReplied replied h q r)
       → IsAnswered (WasReplied replied c.number) (bytes_of_connection c.number heard) (bytes_of_connection c.number given)
-      → IsConnections (record { table = slice_set v.table key None; next = v.next; heard = heard; given = given; taken = v.taken; replied = replied })
+      → IsConnections (record { table = slice_set v.table key None; next = v.next; heard = heard; given = given; passed = v.passed; taken = v.taken; replied = replied })
   gone heard given replied hs gs longer rs is =
-      let now : ConnectionsView = record { table = slice_set v.table key None; next = v.next; heard = heard; given = given; taken = v.taken; replied = replied } in
+      let now : ConnectionsView = record { table = slice_set v.table key None; next = v.next; heard = heard; given = given; passed = v.passed; taken = v.taken; replied = replied } in
       moved_keeps v now key c.number ok (record {
         was = c;
         was_at = at;

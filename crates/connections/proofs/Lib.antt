@@ -5,3 +5,4 @@ pub mod MoveLemmas
 pub mod KeepLemmas
 pub mod TakeLemmas
 pub mod AtLemmas
+pub mod HistoryLemmas

@@ -1,12 +1,15 @@
 -- All connections, what came of them and what they were given.
-use Rattle.std.specs.Prelude.{◌≡◌, ℕ, ◌+◌, ◌≤◌, ◌<◌, ◌==◌, Bool, false, List, [], flat_map, Option, Some, None, Contains, slice_get, if◌then◌else◌}
+use Rattle.std.specs.Prelude.{◌≡◌, ℕ, ◌+◌, ◌≤◌, ◌<◌, ◌==◌, Bool, false, List, [], ◌∷◌, ◌++◌, flat_map, Option, Some, None, Result, Ok, Err, Contains, slice_get, if◌then◌else◌}
 use Rattle.proto.specs.declared.command.Command.{Command}
 use Rattle.proto.specs.declared.reply.Reply as replies
 use Rattle.proto.specs.declared.turn.Turn.{Turn}
 use Rattle.memcached_spec.specs.Asked.{TextsBy, Front, IsAsked}
 use Rattle.client.specs.Taken.{TalkOk}
+use Rattle.base.specs.declared.fault.Fault.{Fault}
 use Rattle.connections.specs.declared.connections.CommandNumber.{CommandNumber}
+use Rattle.connections.specs.declared.said.Said.{Said}
 use Rattle.connections.specs.Connection.{ConnectionView}
+use Rattle.connections.specs.History.{Passed, heard_as, given_as, heard_among, given_among}
 use Rattle.connections.specs.Places.{place_in}
 
 pub record ConnectionsView : Type 0 where
@@ -18,6 +21,8 @@ pub record ConnectionsView : Type 0 where
   pub heard : List (ℕ × List ℕ)
   -- what each connection was given
   pub given : List (ℕ × List ℕ)
+  -- both, in one order
+  pub passed : List Passed
   -- the commands that were taken
   pub taken : List (CommandNumber × Command)
   -- the replies that came back
@@ -50,13 +55,19 @@ AreReplied replied number turn = (k : ℕ) → 1 ≤ k → k < turn → (reply :
 
 -- no connection came
 abbrev pub no_connections : ConnectionsView
-no_connections = record { table = []; next = 0; heard = []; given = []; taken = []; replied = [] }
+no_connections = record { table = []; next = 0; heard = []; given = []; passed = []; taken = []; replied = [] }
 
 pub record HasSameLogs (v now : ConnectionsView) : Type 0 where
   pub heard : now.heard ≡ v.heard
   pub given : now.given ≡ v.given
+  pub passed : now.passed ≡ v.passed
   pub taken : now.taken ≡ v.taken
   pub replied : now.replied ≡ v.replied
+
+-- a connection read this piece, and was given what it is told, if the call did not fail
+abbrev pub PassesOn : ℕ → List ℕ → List Passed → List Passed → Result Said Fault → Type 0
+PassesOn number piece passed now (Ok said) = now ≡ (passed ++ heard_as number piece ∷ []) ++ given_as number said.bytes.items ∷ []
+PassesOn number piece passed now (Err fault) = now ≡ passed ++ heard_as number piece ∷ []
 
 -- ---- what always holds
 

@@ -1,4 +1,5 @@
 pub mod Connection
 pub mod Places
 pub mod Logs
+pub mod History
 pub mod Connections

@@ -3,6 +3,7 @@
 ghost use Rattle.std.specs.Prelude.{◌≡◌};
 
 use crate::connection::{Connection, Ready};
+use crate::history::History;
 use crate::places::Place;
 use crate::said::Said;
 use crate::table;
@@ -24,10 +25,7 @@ pub struct Connections {
     table: Vec<Option<Connection>>,
     /// The least number that the next connection may have.
     next: u64,
-    /// What came of each connection.
-    heard: Log<u64, Vec<u8>>,
-    /// What each connection was given.
-    given: Log<u64, Vec<u8>>,
+    history: History,
     /// The commands that were taken.
     taken: Log<CommandNumber, Command>,
     /// The replies that came back.
@@ -36,13 +34,12 @@ pub struct Connections {
 
 impl Model for Connections {
     ghost use Rattle.connections.specs.Connections.{ConnectionsView, IsConnections};
-    ghost use Rattle.connections.specs.Logs.{logged};
 
     ghost Value = { ConnectionsView };
 
-    ghost view = { λ c. record { table = c.table.items; next = c.next; heard = logged c.heard.items; given = logged c.given.items; taken = c.taken.items; replied = c.replied.items } };
+    ghost view = { λ c. record { table = c.table.items; next = c.next; heard = c.history.heard; given = c.history.given; passed = c.history.passed; taken = c.taken.items; replied = c.replied.items } };
 
-    ghost invariant = { λ c. IsConnections (record { table = c.table.items; next = c.next; heard = logged c.heard.items; given = logged c.given.items; taken = c.taken.items; replied = c.replied.items }) };
+    ghost invariant = { λ c. IsConnections (record { table = c.table.items; next = c.next; heard = c.history.heard; given = c.history.given; passed = c.history.passed; taken = c.taken.items; replied = c.replied.items }) };
 }
 
 impl Connections {
@@ -50,7 +47,8 @@ impl Connections {
     ghost use Rattle.memcached_spec.specs.Asked.{HasText};
     ghost use Rattle.connections.specs.Connection.{new_connection};
     ghost use Rattle.connections.specs.Places.{place_in, is_here, is_untaken_in, left_at};
-    ghost use Rattle.connections.specs.Connections.{IsConnections, no_connections, HasSameLogs, AreBefore, AreReplied};
+    ghost use Rattle.connections.specs.History.{IsHistory, given_as};
+    ghost use Rattle.connections.specs.Connections.{IsConnections, no_connections, HasSameLogs, PassesOn, AreBefore, AreReplied};
 
     /// No connection came.
     pub fn new(alloc: Global) -> Connections
@@ -59,8 +57,7 @@ impl Connections {
         Connections {
             table: Vec::new(alloc),
             next: 0,
-            heard: Log::new(),
-            given: Log::new(),
+            history: History::new(),
             taken: Log::new(),
             replied: Log::new(),
         }
@@ -95,6 +92,7 @@ impl Connections {
     pub fn hear(&mut self, alloc: Global, at: Place, piece: Vec<u8>) -> Result<Said, Fault>
         ensures heard { is_here at.number self.old.table at.key ≡ true → self.new.heard ≡ self.old.heard ++ (at.number, piece.items) ∷ [] }
         ensures given { IfOk result (λ said. self.new.given ≡ self.old.given ++ (at.number, said.bytes.items) ∷ []) }
+        ensures passed { is_here at.number self.old.table at.key ≡ true → PassesOn at.number piece.items self.old.passed self.new.passed result }
         ensures to { IfOk result (λ said. (said.key ≡ at.key) × (said.number ≡ at.number)) }
         ensures not_here { is_here at.number self.old.table at.key ≡ false → (result ≡ Err Fault.Unfit) × (self.new ≡ self.old) }
         ensures err { OnErr result (self.new.given ≡ self.old.given) }
@@ -105,9 +103,9 @@ impl Connections {
         if !table::is_here(&self.table, at) {
             return Err(Fault::Unfit);
         }
-        self.heard = self.heard.and(&at.number, &piece);
+        self.history.hear(at.number, &piece);
         let said = table::feed(&mut self.table, alloc, at, piece)?;
-        self.given = self.given.and(&at.number, &said.bytes);
+        self.history.give(at.number, &said.bytes);
         Ok(said)
     }
 
@@ -118,7 +116,7 @@ impl Connections {
         ensures first { IfSome result (λ ready. AreBefore self.old.taken at.number ready.turn) }
         ensures in_turn { IfSome result (λ ready. AreReplied self.old.replied at.number ready.turn) }
         ensures text { IfSome result (λ ready. HasText ready.command ready.quiet) }
-        ensures others { (self.new.heard ≡ self.old.heard) × (self.new.given ≡ self.old.given) × (self.new.replied ≡ self.old.replied) × (self.new.next ≡ self.old.next) }
+        ensures others { (self.new.heard ≡ self.old.heard) × (self.new.given ≡ self.old.given) × (self.new.passed ≡ self.old.passed) × (self.new.replied ≡ self.old.replied) × (self.new.next ≡ self.old.next) }
     {
         let ready = table::take(&mut self.table, at)?;
         let number = CommandNumber {
@@ -136,6 +134,7 @@ impl Connections {
         ensures here { is_some result ≡ is_here at.number self.old.table at.key }
         ensures replied { OnSome result (self.new.replied ≡ self.old.replied ++ (record { connection = at.number; turn = turn }, reply) ∷ []) }
         ensures given { IfSome result (λ said. self.new.given ≡ self.old.given ++ (at.number, said.bytes.items) ∷ []) }
+        ensures passed { IfSome result (λ said. self.new.passed ≡ self.old.passed ++ given_as at.number said.bytes.items ∷ []) }
         ensures to { IfSome result (λ said. (said.key ≡ at.key) × (said.number ≡ at.number)) }
         ensures closes { IfSome result (λ said. said.closes ≡ true → place_in self.new.table at.key ≡ None) }
         ensures others { (self.new.heard ≡ self.old.heard) × (self.new.taken ≡ self.old.taken) × (self.new.next ≡ self.old.next) }
@@ -149,7 +148,7 @@ impl Connections {
         };
         self.replied = self.replied.and(&number, &reply);
         let said = table::answer(&mut self.table, alloc, at, turn, reply)?;
-        self.given = self.given.and(&at.number, &said.bytes);
+        self.history.give(at.number, &said.bytes);
         Some(said)
     }
 
@@ -165,6 +164,7 @@ impl Connections {
         ensures none { IfNone result (self.new ≡ self.old) }
         ensures here { is_some result ≡ is_here at.number self.old.table at.key }
         ensures given { IfSome result (λ said. self.new.given ≡ self.old.given ++ (at.number, said.bytes.items) ∷ []) }
+        ensures passed { IfSome result (λ said. self.new.passed ≡ self.old.passed ++ given_as at.number said.bytes.items ∷ []) }
         ensures to { IfSome result (λ said. (said.key ≡ at.key) × (said.number ≡ at.number) × (said.closes ≡ true)) }
         ensures others { (self.new.heard ≡ self.old.heard) × (self.new.taken ≡ self.old.taken) × (self.new.replied ≡ self.old.replied) × (self.new.next ≡ self.old.next) }
     {
@@ -173,7 +173,7 @@ impl Connections {
         }
         table::leave(&mut self.table, at);
         let said = Said::last(alloc, at);
-        self.given = self.given.and(&at.number, &said.bytes);
+        self.history.give(at.number, &said.bytes);
         Some(said)
     }
 
@@ -194,8 +194,9 @@ impl Connections {
 
     /// What always holds of them. It does nothing.
     pub fn always(&self)
-        ensures { IsConnections self.now }
+        ensures connections { IsConnections self.now }
+        ensures history { IsHistory (record { heard = self.now.heard; given = self.now.given; passed = self.now.passed }) }
     {
-        let _ = &self.table;
+        self.history.always();
     }
 }

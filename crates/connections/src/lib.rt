@@ -9,6 +9,7 @@
 
 mod connection;
 mod connections;
+mod history;
 mod places;
 mod said;
 mod table;
@@ -16,6 +17,7 @@ mod wanted;
 
 pub use connection::{Connection, MOST_UNWRITTEN, Ready};
 pub use connections::{CommandNumber, Connections};
+pub use history::History;
 pub use places::Place;
 pub use said::Said;
 pub use table::MOST_PLACES;

@@ -1,5 +1,5 @@
 mod Lists
-mod Past
+pub mod Past
 mod Goes
 mod Hosts
 mod Verifiers

@@ -33,18 +33,18 @@ get_longer (y ∷ xs) ys zero x at = at
 get_longer (y ∷ xs) ys (suc k) x at = get_longer xs ys k x at
 
 -- a beginning of a list that is longer by one is a beginning of it, or the whole of the longer one
-pub longer_split : (order : Order) (x : (ℕ × ℕ) × Bool) (early late : Order) → order ++ x ∷ [] ≡ early ++ late → ((rest : Order) × (order ≡ early ++ rest)) ⊎ (early ≡ order ++ x ∷ [])
+pub longer_split : {X : Type 0} (xs : List X) (x : X) (early late : List X) → xs ++ x ∷ [] ≡ early ++ late → ((rest : List X) × (xs ≡ early ++ rest)) ⊎ (early ≡ xs ++ x ∷ [])
 longer_split [] x [] late is = inl ([], refl)
-longer_split [] x (y ∷ []) late is = inr (let same : x ≡ y = cc is in ap (λ (z : (ℕ × ℕ) × Bool). z ∷ []) (sym same))
+longer_split {X} [] x (y ∷ []) late is = inr (let same : x ≡ y = cc is in ap (λ (z : X). z ∷ []) (sym same))
 longer_split [] x (y ∷ z ∷ early) late is = absurd (cc is)
-longer_split (w ∷ order) x [] late is = inl (w ∷ order, refl)
-longer_split (w ∷ order) x (y ∷ early) late is =
+longer_split (w ∷ xs) x [] late is = inl (w ∷ xs, refl)
+longer_split {X} (w ∷ xs) x (y ∷ early) late is =
     let same : w ≡ y = cc is in
-    let tails : order ++ x ∷ [] ≡ early ++ late = cc is in
+    let tails : xs ++ x ∷ [] ≡ early ++ late = cc is in
     ⊎_elim
-    (λ (old : (rest : Order) × (order ≡ early ++ rest)). inl (old.0, λ i. same i ∷ old.1 i))
-    (λ (whole : early ≡ order ++ x ∷ []). inr (λ i. sym same i ∷ whole i))
-    (longer_split order x early late tails)
+    (λ (old : (rest : List X) × (xs ≡ early ++ rest)). inl (old.0, λ i. same i ∷ old.1 i))
+    (λ (whole : early ≡ xs ++ x ∷ []). inr (λ i. sym same i ∷ whole i))
+    (longer_split xs x early late tails)
 
 abbrev IsAskOf : ℕ → Asks → Request × Bool → Type 0
 IsAskOf client asked a = Contains asked a × (a.0.client ≡ client)

@@ -21,5 +21,6 @@ mod working;
 
 pub use answer::Answer;
 pub use ensemble::Ensemble;
+pub use pages::PAGES;
 pub use serving::Seen;
 pub use worlds::{Config, Replica};

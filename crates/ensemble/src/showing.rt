@@ -1,6 +1,7 @@
 //! Where the replicas are, for whoever watches. Nothing is decided by it.
 
 use crate::ensemble::Ensemble;
+use std::alloc::Global;
 
 impl Ensemble {
     /// The number of the last committed state of the executors that are up: 0 if none is.
@@ -19,6 +20,17 @@ impl Ensemble {
         for host in &self.nodes.executors {
             if let Some(items) = host.items() {
                 return items;
+            }
+        }
+        0
+    }
+
+    /// How many bytes the keys and the data have of all items on this page of that state: 0 if no executor is up, or
+    /// there is no memory to look.
+    pub fn page_bytes(&self, alloc: Global, number: usize) -> u64 {
+        for host in &self.nodes.executors {
+            if let Some(bytes) = host.page_bytes(alloc, number) {
+                return bytes;
             }
         }
         0

@@ -25,7 +25,7 @@ mod working;
 pub use body::Body;
 pub use input::Input;
 pub use outcome::Outcome;
-pub use record::ExecutorRecord;
+pub use record::{ExecutorRecord, Saved};
 pub use running::Job;
 pub use shown::{NextWork, Report};
 pub use state::State;

@@ -1,8 +1,9 @@
 //! The record of an executor.
 
-ghost use Rattle.std.specs.Prelude.{◌≡◌, ◌++◌, IfOk, OnOk};
+ghost use Rattle.std.specs.Prelude.{◌≡◌, ◌++◌, IfOk, OnOk, IfSome};
 ghost use Rattle.decrees.specs.Record.{standing_text};
 ghost use Rattle.exec_lines.specs.Record.{executor_text, saved_text};
+ghost use Rattle.exec_lines.specs.Kept.{saved_record};
 
 use crate::state::State;
 use base::Text;
@@ -18,12 +19,12 @@ const MARKS: [u8; 2] = [2, b'E'];
 
 /// What is saved of an executor's state.
 #[derive(Drop)]
-struct Saved {
-    u: u8,
-    id: u8,
-    known: u64,
-    standing: Standing,
-    chain: SavedChain,
+pub struct Saved {
+    pub u: u8,
+    pub id: u8,
+    pub known: u64,
+    pub standing: Standing,
+    pub chain: SavedChain,
 }
 
 /// A record that was made of a state, or one whose bytes were read.
@@ -85,6 +86,16 @@ impl ExecutorRecord {
     {
         ExecutorRecord {
             kept: Kept::Bytes(text),
+        }
+    }
+
+    /// What was saved, if the record was made of a state in this process. `None`: it has the bytes alone.
+    pub fn saved(&self) -> Option<&Saved>
+        ensures { IfSome result (λ saved. self.now ≡ saved_record saved.now) }
+    {
+        match &self.kept {
+            Kept::Shared(saved) => Some(saved),
+            Kept::Bytes(_) => None,
         }
     }
 }

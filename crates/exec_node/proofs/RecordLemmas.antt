@@ -23,46 +23,14 @@ use Rattle.states.proofs.VersionLemmas.{one_state_in, state_in as state_in_today
 use Rattle.executor.specs.Work.{TentativeView}
 use Rattle.executor.specs.MemberRecord.{member_text_in}
 use Rattle.executor.proofs.MemberLemmas.{over_of, one_over_in}
-use Rattle.rollback.specs.Chain.{ChainView, AreOver, AreOverIn, IsRecorded, IsRecordedIn, chain_text_in}
+use Rattle.rollback.proofs.RecordLemmas.{chain_apart}
+use Rattle.rollback.specs.Chain.{ChainView, AreOver, AreOverIn, IsRecorded, IsRecordedIn, chain_text, chain_text_in}
+use Rattle.states.specs.declared.version.Version.TheVariants.{Second}
 use Rattle.exec_lines.specs.State.{ExecutorState}
+use Rattle.exec_lines.specs.Kept.{saved_record}
+use Rattle.exec_lines.specs.declared.record.Saved.{Saved}
 use Rattle.exec_node.specs.Record.{ExecutorHead, head_fields, executor_head_text, IsExecutorRecordIn, IsReadRecord}
 use Rattle.exec_node.specs.Laws.{SavedIsExecutorRecord, OneExecutorState, OldRecordsAreRenewed}
-
--- of a version
-module _ (version : Version) where
-  abbrev member : TentativeView → List ℕ
-  member t = member_text_in version t
-
-  two_parts : (t : TentativeView) (ts : List TentativeView) (rest : List ℕ) → flat_map member (t ∷ ts) ++ rest ≡ member t ++ (flat_map member ts ++ rest)
-  two_parts t ts rest = ap (λ (x : List ℕ). x ++ rest) (flat_map-cons member t ts) ∙ append_assoc (member t) (flat_map member ts) rest
-
-  -- so many members over one state are identified by their texts
-  members_apart : (s : StateView) (ts us : List TentativeView) (r q : List ℕ) → length ts ≡ length us → AreOverIn version s ts → AreOverIn version s us
-      → flat_map member ts ++ r ≡ flat_map member us ++ q → (ts ≡ us) × (r ≡ q)
-  members_apart s [] [] r q l over other e = (refl, e)
-  members_apart s [] (u ∷ us) r q l over other e = absurd (omega (arith, l))
-  members_apart s (t ∷ ts) [] r q l over other e = absurd (omega (arith, l))
-  members_apart s (t ∷ ts) (u ∷ us) r q l over other e =
-      let first = one_over_in version s t u (flat_map member ts ++ r) (flat_map member us ++ q) over.0 other.0 (sym (two_parts t ts r) ∙ (e ∙ two_parts u us q)) in
-      let others = members_apart t.after ts us r q (omega (arith, l)) over.1 (subst (λ (x : TentativeView). AreOverIn version x.after us) (sym first.0) other.1) first.1 in
-      ((λ i. first.0 i ∷ others.0 i), others.1)
-
-  in_parts : (c : ChainView) (rest : List ℕ) → chain_text_in version c ++ rest ≡ state_text_in version c.have ++ (num w8 (length c.members) ++ (flat_map member c.members ++ rest))
-  in_parts c rest =
-      append_assoc (state_text_in version c.have) (num w8 (length c.members) ++ flat_map member c.members) rest
-      ∙ ap (λ (x : List ℕ). state_text_in version c.have ++ x) (append_assoc (num w8 (length c.members)) (flat_map member c.members) rest)
-
-  -- and so are chains, each member over just the state before it
-  pub chain_apart : (c d : ChainView) (r q : List ℕ) → IsRecordedIn version c → IsRecordedIn version d → chain_text_in version c ++ r ≡ chain_text_in version d ++ q → (c ≡ d) × (r ≡ q)
-  chain_apart c d r q one other e =
-      let state = one_state_in version c.have d.have _ _ one.state other.state (sym (in_parts c r) ∙ (e ∙ in_parts d q)) in
-      let count = (num_prefix_free w8 wide8).apart (length c.members) (length d.members) _ _ state.1 in
-      let members = members_apart c.have c.members d.members r q count.0 one.over (subst (λ (s : StateView). AreOverIn version s d.members) (sym state.0) other.over) count.1 in
-      ((λ i. record { have = state.0 i; members = members.0 i }), members.1)
-
-  -- where something is left, the whole is no chain
-  pub chain_left_over : (bytes : List ℕ) (c : ChainView) (rest : List ℕ) → IsRecordedIn version c → bytes ≡ chain_text_in version c ++ rest → (rest ≡ [] → ⊥) → (d : ChainView) → IsRecordedIn version d → bytes ≡ chain_text_in version d → ⊥
-  chain_left_over bytes c rest one got more d other e = more (chain_apart c d rest [] one other (sym got ∙ (e ∙ sym (append-nil (chain_text_in version d))))).1
 
 numbers_free : IsPrefixFree {X = (ℕ × ℕ) × ℕ} (λ p. (num w8 p.0.0 ++ num w8 p.0.1) ++ num w64 p.1)
 numbers_free =
@@ -125,6 +93,20 @@ module _ (u id : ℕ) (bytes : List ℕ) (version : Version) (h : ExecutorHead) 
       let same = head_is s r in
       let again = subst (λ (v : Version). IsRecordedIn v s.chain × (rest ≡ chain_text_in v s.chain)) (sym (ap (λ (p : Version × ExecutorHead). p.0) same.0)) (r.1.recorded, same.1) in
       none s.chain again.0 again.1)
+
+-- ---- what was saved of a state
+
+abbrev pub saved_head : Saved → ExecutorHead
+saved_head s = (((s.id, s.u), s.known), (((s.standing.n, s.standing.token), s.standing.epoch), s.standing.start))
+
+saved_spelled : (s : Saved) → saved_record s ≡ executor_head_text (headed Second (saved_head s)) ++ s.chain
+saved_spelled s = refl
+
+pub saved_head_is : (u id : ℕ) (s : Saved) (t : ExecutorState) (r : IsReadRecord u id (saved_record s) t) → headed Second (saved_head s) ≡ headed r.0 (head_in u id t)
+saved_head_is u id s t r = (head_is u id (saved_record s) Second (saved_head s) s.chain (saved_spelled s) t r).0
+
+pub no_saved_chain : (u id : ℕ) (s : Saved) (e : Fault) → Refused e ((c : ChainView) → IsRecorded c → s.chain ≡ chain_text c → ⊥) → Refused e ((t : ExecutorState) → IsReadRecord u id (saved_record s) t → ⊥)
+no_saved_chain u id s = no_chain u id (saved_record s) Second (saved_head s) s.chain (saved_spelled s)
 
 -- a record of version 1 leads to a state whose record can be read
 recorded_today : (version : Version) (c : ChainView) → IsRecordedIn version c → IsRecorded c

@@ -3,11 +3,13 @@
 ghost use Rattle.std.specs.Prelude.{◌≡◌, ◌≤◌, IfOk, IfErr};
 ghost use Rattle.wire.specs.Record.{Always, Takes, Reads, Refused};
 ghost use Rattle.rollback.specs.Chain.{IsRecordedIn, chain_text_in};
+ghost use Rattle.states.specs.declared.version.Version.TheVariants.{Second};
 ghost use Rattle.exec_lines.specs.State.{ExecutorState};
+ghost use Rattle.exec_lines.specs.Kept.{saved_record};
 ghost use Rattle.exec_node.specs.Record.{IsExecutorRecordIn, IsReadRecord, executor_head_text};
 
 use decrees::Standing;
-use exec_lines::{ExecutorRecord, State};
+use exec_lines::{ExecutorRecord, Saved, State};
 use keeper::ToText;
 use proto::Fault;
 use rollback::Chain;
@@ -64,7 +66,20 @@ fn restore(alloc: Global, u: u8, id: u8, bytes: &[u8]) -> Result<(Version, State
     Ok((version, State::restored(alloc, known, standing, chain)))
 }
 
-/// The state of the executor whose record this is, and its version. It is read from its text.
+/// The state of the executor of which this was saved. It shares the committed state, which is not read.
+fn resume(alloc: Global, u: u8, id: u8, saved: &Saved) -> Result<State, Fault>
+    ensures ok { IfOk result (λ s. IsExecutorRecordIn Second u id (saved_record saved.now) s) }
+    ensures err { IfErr result (λ fault. Refused fault ((s : ExecutorState) → IsReadRecord u id (saved_record saved.now) s → ⊥)) }
+{
+    if saved.id != id || saved.u != u || saved.standing.epoch == 0 {
+        return Err(Fault::BadRecord);
+    }
+    let chain = saved.chain.chain(alloc)?;
+    Ok(State::restored(alloc, saved.known, saved.standing, chain))
+}
+
+/// The state of the executor whose record this is, and its version. It is read from its text, but for a committed state
+/// that was saved in this process: that one is shared.
 pub fn read_back(
     alloc: Global,
     u: u8,
@@ -74,6 +89,9 @@ pub fn read_back(
     ensures ok { IfOk result (λ p. IsExecutorRecordIn p.0 u id found.now p.1) }
     ensures err { IfErr result (λ fault. Refused fault ((s : ExecutorState) → IsReadRecord u id found.now s → ⊥)) }
 {
+    if let Some(saved) = found.saved() {
+        return Ok((Version::Second, resume(alloc, u, id, saved)?));
+    }
     let text = found.to_text(alloc)?;
     let bytes = text.joined(alloc)?;
     restore(alloc, u, id, &bytes)

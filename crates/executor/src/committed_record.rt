@@ -8,7 +8,6 @@ ghost use Rattle.states.specs.Version.{state_text_in};
 ghost use Rattle.states.specs.declared.version.Version.TheVariants.{Second};
 ghost use Rattle.executor.specs.Kept.{IsQuietIn};
 
-use crate::base_state::Base;
 use crate::tentative::Committed;
 use proto::Fault;
 use states::{State, Version};
@@ -46,11 +45,7 @@ impl Committed {
         ensures { Takes (IsQuietIn version) (λ c. state_text_in version c.state) bytes.now result }
     {
         let (state, rest) = State::take(alloc, version, bytes)?;
-        let committed = Committed {
-            base: Base { state },
-            replies: Vec::new(alloc),
-        };
-        Ok((committed, rest))
+        Ok((Committed::of_state(alloc, state), rest))
     }
 
     /// The committed state whose record, as `put` writes it, all of the bytes are: see `take`. `BadRecord`: they are the

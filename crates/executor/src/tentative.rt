@@ -167,6 +167,16 @@ impl Committed {
         })
     }
 
+    /// This state, as one that was committed. No reply comes with it.
+    pub fn of_state(alloc: Global, state: State) -> Committed
+        ensures { result ≡ record { state = state; replies = [] } }
+    {
+        Committed {
+            base: Base { state },
+            replies: Vec::new(alloc),
+        }
+    }
+
     /// A committed state that was sent: its token is recomputed from its parts. No reply comes with it.
     /// Its number is from 1 to 2^58 - 1.
     pub fn of_parts(alloc: Global, parts: Parts) -> Committed
@@ -175,12 +185,7 @@ impl Committed {
         requires laid { parts.pages.layout ≡ layout_of parts.origin.form }
         ensures { result ≡ record { state = with_token (parts_of parts); replies = [] } }
     {
-        Committed {
-            base: Base {
-                state: State::of_parts(alloc, parts),
-            },
-            replies: Vec::new(alloc),
-        }
+        Committed::of_state(alloc, State::of_parts(alloc, parts))
     }
 
     /// The committed state.

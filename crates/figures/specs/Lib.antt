@@ -3,6 +3,4 @@ pub mod Count
 pub mod Commands
 pub mod Histogram
 pub mod Kind
-pub mod Line
-pub mod Lines
 pub mod Outcome

@@ -12,7 +12,6 @@ use crate::asked::{Asked, found_in};
 use crate::commands::Commands;
 use crate::count::plus;
 use crate::histogram::Histogram;
-use crate::lines::Lines;
 use crate::node::{MOST_NODES, NodeFigures};
 use crate::outcome::Outcome;
 use proto::Reply;
@@ -93,8 +92,6 @@ pub struct Figures {
     /// Commands that were answered, by kind and outcome.
     pub commands: Commands,
     pub keys: Keys,
-    /// Lines that are answered without the replicas.
-    pub lines: Lines,
     pub batches: Batches,
     pub replicas: Replicas,
     pub memory: Memory,
@@ -160,7 +157,6 @@ impl Figures {
         connections: Connections::NONE,
         commands: Commands::NONE,
         keys: Keys::NONE,
-        lines: Lines::NONE,
         batches: Batches::NONE,
         replicas: Replicas::NONE,
         memory: Memory::NONE,

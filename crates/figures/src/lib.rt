@@ -10,8 +10,6 @@ mod count;
 mod figures;
 mod histogram;
 mod kind;
-mod line;
-mod lines;
 mod node;
 mod outcome;
 
@@ -21,7 +19,5 @@ pub use count::{one_more, plus};
 pub use figures::{Batches, Connections, Figures, Keys, Memory, Replicas};
 pub use histogram::{BOUNDS, BUCKETS, Histogram};
 pub use kind::{ALL_KINDS, KINDS, Kind};
-pub use line::{ALL_LINES, LINES, Line};
-pub use lines::Lines;
 pub use node::{MOST_NODES, NodeFigures};
 pub use outcome::{ALL_OUTCOMES, OUTCOMES, Outcome};

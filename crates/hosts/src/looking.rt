@@ -5,6 +5,7 @@ ghost use Rattle.hosts.specs.Shown.{job_len_of, steps_of, epoch_of};
 
 use crate::executor_host::ExecutorHost;
 use pages::PAGES;
+use std::alloc::Global;
 
 impl ExecutorHost {
     /// How many requests the batch has that the executor is to run, if it is up and has a job.
@@ -46,5 +47,22 @@ impl ExecutorHost {
             items = items.saturating_add(pages.len(number));
         }
         Some(items)
+    }
+
+    /// How many bytes the keys and the data have of all items on this page of the executor's committed state, if it is
+    /// up and there is memory to look. It is below `PAGES`.
+    pub fn page_bytes(&self, alloc: Global, number: usize) -> Option<u64> {
+        let pages = self.place.node()?.state().chain().committed().pages();
+        let entries = pages.entries(alloc, number % PAGES).ok()?;
+        let mut bytes = 0u64;
+        for entry in &entries {
+            let item = entry
+                .key()
+                .as_slice()
+                .len()
+                .saturating_add(entry.value().block.len());
+            bytes = bytes.saturating_add(item as u64);
+        }
+        Some(bytes)
     }
 }

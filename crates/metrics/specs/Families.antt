@@ -3,7 +3,6 @@ use Rattle.std.specs.Prelude.{ℕ, List, [], ◌∷◌, ◌++◌, ◌+◌, codes
 use Rattle.figures.specs.declared.figures.Figures.{Figures}
 use Rattle.figures.specs.declared.figures.Replicas.{Replicas}
 use Rattle.figures.specs.declared.commands.Commands.{Commands}
-use Rattle.figures.specs.declared.lines.Lines.{Lines}
 use Rattle.figures.specs.declared.histogram.Histogram.{Histogram}
 use Rattle.figures.specs.declared.histogram.TheConstants.{BOUNDS}
 use Rattle.figures.specs.declared.node.NodeFigures.{NodeFigures}
@@ -11,11 +10,8 @@ use Rattle.figures.specs.declared.kind.Kind.{Kind}
 use Rattle.figures.specs.declared.kind.TheConstants.{ALL_KINDS}
 use Rattle.figures.specs.declared.outcome.Outcome.{Outcome}
 use Rattle.figures.specs.declared.outcome.TheConstants.{ALL_OUTCOMES}
-use Rattle.figures.specs.declared.line.Line.{Line}
-use Rattle.figures.specs.declared.line.TheConstants.{ALL_LINES}
 use Rattle.figures.specs.Kind.{kind_has}
 use Rattle.figures.specs.Commands.{kind_count}
-use Rattle.figures.specs.Lines.{line_count}
 use Rattle.figures.specs.Count.{sum_of}
 use Rattle.metrics.specs.declared.metric.Metric.{Metric}
 use Rattle.metrics.specs.declared.metric.Metric.TheVariants as metric
@@ -56,9 +52,6 @@ commands_text commands = flat_map (command_text commands)
 -- the lines of all commands
 unfoldable pub all_commands_text : Commands → List ℕ
 all_commands_text commands = commands_text commands ALL_KINDS
-
-abbrev pub lines_text : Lines → List Line → List ℕ
-lines_text lines = flat_map (λ l. whole_sample_text metric.Lines (labels.Line l) (line_count lines l))
 
 abbrev pub bucket_bit : Bool → ℕ
 bucket_bit true = 1
@@ -106,7 +99,6 @@ histogram_text m h =
 abbrev pub samples_text : Figures → Metric → List ℕ
 samples_text f (metric.Plain p) = whole_sample_text (metric.Plain p) labels.None (plain_value f p)
 samples_text f metric.Commands = all_commands_text f.commands
-samples_text f metric.Lines = lines_text f.lines ALL_LINES
 samples_text f metric.NodeUp = all_nodes_text metric.NodeUp f.replicas
 samples_text f metric.NodeStops = all_nodes_text metric.NodeStops f.replicas
 samples_text f metric.ReplySeconds = histogram_text metric.ReplySeconds f.reply_times

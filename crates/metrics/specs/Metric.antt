@@ -9,7 +9,6 @@ use Rattle.metrics.specs.Plain.{plain_name, plain_help, plain_type}
 abbrev pub metric_name : Metric → List ℕ
 metric_name (metric.Plain p) = plain_name p
 metric_name metric.Commands = codes "eve_commands_total"
-metric_name metric.Lines = codes "eve_lines_total"
 metric_name metric.NodeUp = codes "eve_node_up"
 metric_name metric.NodeStops = codes "eve_node_stops_total"
 metric_name metric.ReplySeconds = codes "eve_reply_seconds"
@@ -18,7 +17,6 @@ metric_name metric.BatchSeconds = codes "eve_batch_seconds"
 abbrev pub metric_help : Metric → List ℕ
 metric_help (metric.Plain p) = plain_help p
 metric_help metric.Commands = codes "Commands that were answered, by command and outcome."
-metric_help metric.Lines = codes "Lines that were answered without the replicas."
 metric_help metric.NodeUp = codes "Whether the executor or verifier is up."
 metric_help metric.NodeStops = codes "Times that the executor or verifier was found down."
 metric_help metric.ReplySeconds = codes "Time from when a command is ready in the service to its reply."
@@ -27,7 +25,6 @@ metric_help metric.BatchSeconds = codes "Time of a round of the service that ans
 abbrev pub metric_type_of : Metric → MetricType
 metric_type_of (metric.Plain p) = plain_type p
 metric_type_of metric.Commands = Counter
-metric_type_of metric.Lines = Counter
 metric_type_of metric.NodeUp = Gauge
 metric_type_of metric.NodeStops = Counter
 metric_type_of metric.ReplySeconds = Histogram

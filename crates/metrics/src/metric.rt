@@ -7,14 +7,13 @@ use crate::metric_type::MetricType;
 use crate::plain::Plain;
 
 /// How many metrics there are.
-pub const METRICS: usize = 26;
+pub const METRICS: usize = 25;
 
 /// A metric: one value, or one for each of its labels.
 #[derive(Clone, Copy, Debug, PartialEq, Eq)]
 pub enum Metric {
     Plain(Plain),
     Commands,
-    Lines,
     NodeUp,
     NodeStops,
     ReplySeconds,
@@ -31,7 +30,6 @@ pub const ALL_METRICS: [Metric; METRICS] = [
     Metric::Plain(Plain::BytesRead),
     Metric::Plain(Plain::BytesWritten),
     Metric::Commands,
-    Metric::Lines,
     Metric::Plain(Plain::KeysAsked),
     Metric::Plain(Plain::KeysFound),
     Metric::Plain(Plain::Batches),
@@ -59,7 +57,6 @@ impl Metric {
         match self {
             Metric::Plain(plain) => plain.name(),
             Metric::Commands => "eve_commands_total",
-            Metric::Lines => "eve_lines_total",
             Metric::NodeUp => "eve_node_up",
             Metric::NodeStops => "eve_node_stops_total",
             Metric::ReplySeconds => "eve_reply_seconds",
@@ -74,7 +71,6 @@ impl Metric {
         match self {
             Metric::Plain(plain) => plain.help(),
             Metric::Commands => "Commands that were answered, by command and outcome.",
-            Metric::Lines => "Lines that were answered without the replicas.",
             Metric::NodeUp => "Whether the executor or verifier is up.",
             Metric::NodeStops => "Times that the executor or verifier was found down.",
             Metric::ReplySeconds =>
@@ -90,7 +86,6 @@ impl Metric {
         match self {
             Metric::Plain(plain) => plain.metric_type(),
             Metric::Commands => MetricType::Counter,
-            Metric::Lines => MetricType::Counter,
             Metric::NodeUp => MetricType::Gauge,
             Metric::NodeStops => MetricType::Counter,
             Metric::ReplySeconds => MetricType::Histogram,

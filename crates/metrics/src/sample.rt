@@ -5,7 +5,7 @@ ghost use Rattle.metrics.specs.Sample.{number_text, labels_text, suffix_text, sa
 
 use crate::metric::Metric;
 use crate::number::{write_decimal, write_seconds};
-use figures::{Kind, Line, Outcome};
+use figures::{Kind, Outcome};
 use std::alloc::AllocError;
 
 /// What a node does.
@@ -20,7 +20,6 @@ pub enum Role {
 pub enum Labels {
     None,
     Command(Kind, Outcome),
-    Line(Line),
     Node(Role, u64),
     /// The upper bound of a bucket in microseconds, if it has one.
     Bucket(Option<u64>),
@@ -96,14 +95,6 @@ fn write_command(kind: Kind, outcome: Outcome, out: &mut Vec<u8>) -> Result<(), 
     out.extend_from_slice(b"\"}".as_slice())
 }
 
-fn write_line_label(line: Line, out: &mut Vec<u8>) -> Result<(), AllocError>
-    ensures { OnOk result (out.new.items ≡ out.old.items ++ labels_text (Labels.Line line)) }
-{
-    out.extend_from_slice(b"{line=\"".as_slice())?;
-    out.extend_from_slice(line.name().as_bytes())?;
-    out.extend_from_slice(b"\"}".as_slice())
-}
-
 fn write_node(role: Role, id: u64, out: &mut Vec<u8>) -> Result<(), AllocError>
     ensures { OnOk result (out.new.items ≡ out.old.items ++ labels_text (Labels.Node role id)) }
 {
@@ -137,7 +128,6 @@ fn write_labels(labels: Labels, out: &mut Vec<u8>) -> Result<(), AllocError>
     match labels {
         Labels::None => Ok(()),
         Labels::Command(kind, outcome) => write_command(kind, outcome, out),
-        Labels::Line(line) => write_line_label(line, out),
         Labels::Node(role, id) => write_node(role, id, out),
         Labels::Bucket(bound) => write_bucket(bound, out),
     }

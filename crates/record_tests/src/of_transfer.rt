@@ -77,6 +77,17 @@ const STRAY: &[u8] = &[
     35, 0, 0, 0, 0, 1, 1, b'!', 0, 0, 0, 0, 0, 0, 0, 0, 0, 0, 0, 0, 64, 0, 0, 0, 1, b'2',
 ];
 
+/// The same three as pages of trees.
+const TREE_PAGE: &[u8] = &[
+    33, 6, 0, 0, 0, 1, 1, b'!', 0, 0, 0, 0, 0, 0, 0, 0, 0, 0, 0, 0, 64, 0, 0, 0, 1, b'2',
+];
+
+const TREE_EMPTY: &[u8] = &[34, 6, 0, 0, 0, 0];
+
+const TREE_STRAY: &[u8] = &[
+    35, 6, 0, 0, 0, 1, 1, b'!', 0, 0, 0, 0, 0, 0, 0, 0, 0, 0, 0, 0, 64, 0, 0, 0, 1, b'2',
+];
+
 #[test]
 fn numbers_and_forms_of_parcels(rt: HostRuntime) -> Result<(), Fail> {
     let rows: [(u8, [u8; 2], bool); 10] = [
@@ -92,20 +103,39 @@ fn numbers_and_forms_of_parcels(rt: HostRuntime) -> Result<(), Fail> {
         (4, [0, 1], false),
     ];
     for (form, number, has_record) in rows {
-        assert!(rt; is_so(rt.alloc(), (form, number, 1, &[PAGE]), has_record)?);
+        let page = if form == 3 { TREE_PAGE } else { PAGE };
+        assert!(rt; is_so(rt.alloc(), (form, number, 1, &[page]), has_record)?);
     }
     Ok(())
 }
 
 #[test]
 fn pages_of_parcels(rt: HostRuntime) -> Result<(), Fail> {
-    for form in [1u8, 2, 3] {
+    for (form, page, empty, stray) in [
+        (1u8, PAGE, EMPTY, STRAY),
+        (2, PAGE, EMPTY, STRAY),
+        (3, TREE_PAGE, TREE_EMPTY, TREE_STRAY),
+    ] {
         assert!(rt; is_so(rt.alloc(), (form, [0, 3], 0, &[]), true)?);
-        assert!(rt; is_so(rt.alloc(), (form, [0, 3], 2, &[PAGE, EMPTY]), true)?);
-        assert!(rt; is_so(rt.alloc(), (form, [0, 3], 1, &[PAGE, EMPTY]), false)?);
-        assert!(rt; is_so(rt.alloc(), (form, [0, 3], 2, &[EMPTY, PAGE]), false)?);
-        assert!(rt; is_so(rt.alloc(), (form, [0, 3], 2, &[PAGE, PAGE]), false)?);
-        assert!(rt; is_so(rt.alloc(), (form, [0, 3], 1, &[STRAY]), false)?);
+        assert!(rt; is_so(rt.alloc(), (form, [0, 3], 2, &[page, empty]), true)?);
+        assert!(rt; is_so(rt.alloc(), (form, [0, 3], 1, &[page, empty]), false)?);
+        assert!(rt; is_so(rt.alloc(), (form, [0, 3], 2, &[empty, page]), false)?);
+        assert!(rt; is_so(rt.alloc(), (form, [0, 3], 2, &[page, page]), false)?);
+        assert!(rt; is_so(rt.alloc(), (form, [0, 3], 1, &[stray]), false)?);
     }
+    Ok(())
+}
+
+#[test]
+fn pages_of_parcels_are_in_the_layout_of_the_form(rt: HostRuntime) -> Result<(), Fail> {
+    for (form, page, other) in [
+        (1u8, TREE_PAGE, TREE_EMPTY),
+        (2, TREE_PAGE, TREE_EMPTY),
+        (3, PAGE, EMPTY),
+    ] {
+        assert!(rt; is_so(rt.alloc(), (form, [0, 3], 1, &[page]), false)?);
+        assert!(rt; is_so(rt.alloc(), (form, [0, 3], 1, &[other]), false)?);
+    }
+    assert!(rt; is_so(rt.alloc(), (3, [0, 3], 2, &[TREE_PAGE, EMPTY]), false)?);
     Ok(())
 }

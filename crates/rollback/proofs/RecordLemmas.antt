@@ -3,7 +3,7 @@ use Rattle.std.proofs.Common.{◌≡◌, Bool, Result, Ok, Err, ℕ, ◌+◌, �
 use Rattle.std.specs.Prelude.{flat_map, IsTrue, ◌&&◌, ◌==◌}
 use Rattle.std.specs.Borrow.{Bor}
 use Rattle.std.specs.Int.{w8}
-use Rattle.std.proofs.lemmas.List.{length-append}
+use Rattle.std.proofs.lemmas.List.{length-append, append-nil}
 use Rattle.std.proofs.lemmas.List.Concat.{flat_map-cons}
 use Rattle.std.proofs.lemmas.Bool.Decides.{Decides-eqb}
 use Rattle.std.proofs.lemmas.Slice.Eq.{bytes_eq-Decides}
@@ -94,6 +94,29 @@ module _ (version : Version) where
   in_parts c after =
       append_assoc (state_text_in version c.have) (num w8 (length c.members) ++ flat_map (member_text_in version) c.members) after
       ∙ ap (λ (t : List ℕ). state_text_in version c.have ++ t) (append_assoc (num w8 (length c.members)) (flat_map (member_text_in version) c.members) after)
+
+  -- so many members over one state are identified by their texts
+  members_apart : (s : StateView) (ts us : List TentativeView) (r q : List ℕ) → length ts ≡ length us → AreOverIn version s ts → AreOverIn version s us
+      → flat_map (member_text_in version) ts ++ r ≡ flat_map (member_text_in version) us ++ q → (ts ≡ us) × (r ≡ q)
+  members_apart s [] [] r q l over other e = (refl, e)
+  members_apart s [] (u ∷ us) r q l over other e = absurd (omega (arith, l))
+  members_apart s (t ∷ ts) [] r q l over other e = absurd (omega (arith, l))
+  members_apart s (t ∷ ts) (u ∷ us) r q l over other e =
+      let first = one_over_in version s t u (flat_map (member_text_in version) ts ++ r) (flat_map (member_text_in version) us ++ q) over.0 other.0 (sym (two_parts t ts r) ∙ (e ∙ two_parts u us q)) in
+      let others = members_apart t.after ts us r q (omega (arith, l)) over.1 (subst (λ (x : TentativeView). AreOverIn version x.after us) (sym first.0) other.1) first.1 in
+      ((λ i. first.0 i ∷ others.0 i), others.1)
+
+  -- and so are chains, each member over just the state before it
+  pub chain_apart : (c d : ChainView) (r q : List ℕ) → IsRecordedIn version c → IsRecordedIn version d → chain_text_in version c ++ r ≡ chain_text_in version d ++ q → (c ≡ d) × (r ≡ q)
+  chain_apart c d r q one other e =
+      let state = one_state_in version c.have d.have _ _ one.state other.state (sym (in_parts c r) ∙ (e ∙ in_parts d q)) in
+      let count = (num_prefix_free w8 wide8).apart (length c.members) (length d.members) _ _ state.1 in
+      let members = members_apart c.have c.members d.members r q count.0 one.over (subst (λ (s : StateView). AreOverIn version s d.members) (sym state.0) other.over) count.1 in
+      ((λ i. record { have = state.0 i; members = members.0 i }), members.1)
+
+  -- where something is left, the whole is no chain
+  pub chain_left_over : (bytes : List ℕ) (c : ChainView) (rest : List ℕ) → IsRecordedIn version c → bytes ≡ chain_text_in version c ++ rest → (rest ≡ [] → ⊥) → (d : ChainView) → IsRecordedIn version d → bytes ≡ chain_text_in version d → ⊥
+  chain_left_over bytes c rest one got more d other e = more (chain_apart c d rest [] one other (sym got ∙ (e ∙ sym (append-nil (chain_text_in version d))))).1
 
   abbrev quiet_text : CommittedView → List ℕ
   quiet_text c = state_text_in version c.state

@@ -41,7 +41,7 @@ impl Chain {
 
     /// The chain over the committed state, with so many members, which are read; and the bytes after
     /// them.
-    fn filled<'b>(
+    pub(crate) fn filled<'b>(
         alloc: Global,
         version: Version,
         committed: Committed,

@@ -3,15 +3,16 @@
 ghost use Rattle.std.specs.Prelude.{◌≡◌, ◌≤◌, ◌++◌, flat_map, map, length, IfOk, OnOk};
 ghost use Rattle.std.specs.Int.{w8};
 ghost use Rattle.wire.specs.Number.{num};
-ghost use Rattle.wire.specs.Record.{Puts};
+ghost use Rattle.wire.specs.Record.{Puts, Reads};
 ghost use Rattle.states.specs.StateRecord.{state_text};
 ghost use Rattle.executor.specs.MemberRecord.{member_text};
-ghost use Rattle.rollback.specs.Chain.{chain_text};
+ghost use Rattle.rollback.specs.Chain.{IsRecorded, chain_text};
 ghost use Rattle.rollback.specs.declared.chain.TheConstants.{MOST_MEMBERS};
 
 use crate::chain::{Chain, MOST_MEMBERS};
-use executor::{SavedMember, Tentative};
-use states::State;
+use executor::{Committed, SavedMember, Tentative};
+use proto::Fault;
+use states::{State, Version};
 use std::alloc::{AllocError, Global};
 use std::marker::Model;
 use wire::{Record, Sink};
@@ -79,6 +80,15 @@ fn put_chain<S: Sink<Refusal = AllocError>>(
     put_members(alloc, members, sink)
 }
 
+/// The text of each member over the state before it.
+fn texts_of(alloc: Global, members: &[SavedMember]) -> Result<Vec<u8>, AllocError>
+    ensures { IfOk result (λ texts. texts.items ≡ flat_map (λ text. text) members.now) }
+{
+    let mut texts = Vec::new(alloc);
+    put_members(alloc, members, &mut texts)?;
+    Ok(texts)
+}
+
 impl Chain {
     /// What is saved of it: the committed state, and each member over the state before it. No text is
     /// written, and no page copied.
@@ -94,6 +104,32 @@ impl Chain {
 }
 
 impl SavedChain {
+    /// The chain that its text stands for, as `Chain::take` reads it. The committed state is shared, so nothing of it is
+    /// read or computed; the members are read from their texts.
+    ///
+    /// `BadRecord`: a member is not over just the state before it. `NoMemory` is the only other error.
+    pub fn chain(&self, alloc: Global) -> Result<Chain, Fault>
+        ensures { Reads IsRecorded chain_text self.now result }
+    {
+        let text = texts_of(alloc, self.members.as_slice())?;
+        self.committed.is_state();
+        let committed = Committed::of_state(alloc, self.committed.share()?);
+        let count = self.members.len() as u8;
+        let (chain, rest) = Chain::filled(
+            alloc,
+            Version::Second,
+            committed,
+            count,
+            text.as_slice(),
+        )?;
+        if rest.is_empty() {
+            Ok(chain)
+        } else {
+            chain.end();
+            Err(Fault::BadRecord)
+        }
+    }
+
     /// Writes its text: the committed state, how many members there are, and each of them over the
     /// state before it. A sink that takes shared pieces gets the texts that are kept; so a record in a
     /// text of pieces copies little. The only error is a failed allocation.

@@ -81,8 +81,8 @@ impl Answering {
     }
 
     /// What was counted.
-    pub fn figures(&self) -> Figures {
-        self.service.figures()
+    pub fn figures(&mut self) -> Figures {
+        self.service.figures(self.alloc)
     }
 
     /// A piece of a connection comes.

@@ -33,7 +33,9 @@ impl<'a> Watcher<'a> {
     /// copy alone. What the server does not know of itself, as its memory and the time since its start, is 0.
     pub fn figures<R: Wait>(&self, rt: &R) -> Figures {
         let counts = self.watch.counts(rt);
-        let mut figures = self.watch.service(rt).figures();
+        let mut service = self.watch.service(rt);
+        let mut figures = service.figures();
+        drop(service);
         figures.connections = connections(counts);
         figures
     }

@@ -1,5 +1,5 @@
 -- Each call keeps what always holds of a service.
-use Rattle.std.proofs.Common.{◌≡◌, ⊎_elim, ℕ, zero, suc, ◌<◌, ◌≤◌, Bool, true, false, List, [], ◌∷◌, ◌++◌, map, length, Option, Some, None, refl, sym, ap, ◌∙◌, subst, arith, slice_get, append_assoc}
+use Rattle.std.proofs.Common.{◌≡◌, ◌⊎◌, ⊎_elim, ℕ, zero, suc, ◌<◌, ◌≤◌, Bool, true, false, List, [], ◌∷◌, ◌++◌, map, length, Option, Some, None, refl, sym, ap, ◌∙◌, subst, arith, slice_get, append_assoc}
 use Rattle.std.specs.Prelude.{Contains}
 use Rattle.std.proofs.lemmas.List.{append-nil, map-append}
 use Rattle.std.proofs.lemmas.List.Elements.{Contains-push, Contains-append_left, Contains-append_right, Contains-append_cases}
@@ -17,7 +17,7 @@ use Rattle.service.specs.declared.assignment.Assignment.{Assignment}
 use Rattle.service.specs.declared.assignment.Outstanding.{Outstanding}
 use Rattle.service.specs.declared.asking.Asking.{Asking}
 use Rattle.service.specs.declared.asking.Asking.TheVariants.{Nothing, Asked, Failed}
-use Rattle.service.specs.Service.{ServiceView, asked_keys, before_ask, IsAnsweredEarlier, command_number_of, IsAssigned, IsService, Waits, asked_as, assigned_as, assigned, AreLogged, AnswersTo, Gives, given_entry}
+use Rattle.service.specs.Service.{ServiceView, asked_keys, before_ask, IsAnsweredEarlier, command_number_of, IsAssigned, IsService, Waits, asked_as, assigned_as, assigned, AreLogged, AnswersTo, Gives, GivesNothing, GivesOne, given_entry, passed_entry}
 use Rattle.service.proofs.OrderLemmas.{Order, asked_push, answers_ask_nothing, before_same, before_last, asked_below, asked_count}
 use Rattle.service.specs.Steps.{NoneWaits, KeepsWaits, AddsWait, EndsWait, KeepsTaken, IsAskedOf, AsksFor, Settles}
 
@@ -242,10 +242,10 @@ assign_keeps v at proxy next e f (Asked x) pool waiting assignments said said_no
     subst (λ (xs : List Assignment). IsService (record { connections = next; asked = f.asked; answered = f.answered; order = f.order; assignments = xs; waiting = waiting })) (sym settles.1) (asked_keeps v ok at proxy next e f a b o x waiting asks (subst (λ (ws : List (Option Outstanding)). AddsWait ws x waiting) same settles.0))
 
 pub assign_gives : (at : Place) (proxy : ℕ) (old next : ConnectionsView) (e f : EnsembleView) (asking : Asking) (was waiting : List (Option Outstanding)) (before assignments : List Assignment) (said said_now : List Said)
-    → AsksFor at proxy old e next f asking → Settles asking was waiting before assignments said said_now → Gives old.given said next.given said_now
-assign_gives at proxy old next e f Nothing was waiting before assignments said said_now asks settles = ([], settles.2 ∙ sym (append-nil said), asks.1 ∙ sym (append-nil old.given))
-assign_gives at proxy old next e f (Asked x) was waiting before assignments said said_now asks settles = ([], settles.2 ∙ sym (append-nil said), asks.bytes.given ∙ sym (append-nil old.given))
-assign_gives at proxy old next e f (Failed g) was waiting before assignments said said_now asks settles = (g ∷ [], settles.2, asks.1)
+    → AsksFor at proxy old e next f asking → Settles asking was waiting before assignments said said_now → Gives old said next said_now
+assign_gives at proxy old next e f Nothing was waiting before assignments said said_now asks settles = ([], settles.2 ∙ sym (append-nil said), asks.1 ∙ sym (append-nil old.given), asks.2 ∙ sym (append-nil old.passed))
+assign_gives at proxy old next e f (Asked x) was waiting before assignments said said_now asks settles = ([], settles.2 ∙ sym (append-nil said), asks.bytes.given ∙ sym (append-nil old.given), asks.bytes.passed ∙ sym (append-nil old.passed))
+assign_gives at proxy old next e f (Failed g) was waiting before assignments said said_now asks settles = (g ∷ [], settles.2, asks.1, asks.2)
 
 pub assign_hears : (at : Place) (proxy : ℕ) (old next : ConnectionsView) (e f : EnsembleView) (asking : Asking) → AsksFor at proxy old e next f asking → next.heard ≡ old.heard
 assign_hears at proxy old next e f Nothing asks = asks.0.heard
@@ -279,15 +279,26 @@ replied_keeps v next waiting o proxy number reply said said_now ok logged in_ord
 
 -- ---- what is given
 
-pub gives_none : (given : List (ℕ × List ℕ)) (said : List Said) → Gives given said given said
-gives_none given said = ([], sym (append-nil said), sym (append-nil given))
+pub gives_none : (v : ConnectionsView) (said : List Said) → Gives v said v said
+gives_none v said = ([], sym (append-nil said), sym (append-nil v.given), sym (append-nil v.passed))
 
-pub gives_on : (g0 g1 g2 : List (ℕ × List ℕ)) (s0 s1 s2 : List Said) → Gives g0 s0 g1 s1 → Gives g1 s1 g2 s2 → Gives g0 s0 g2 s2
-gives_on g0 g1 g2 s0 s1 s2 a b = (
+logged_on : {X : Type 0} (entry : Said → X) (l0 l1 l2 : List X) (a b : List Said) → l1 ≡ l0 ++ map entry a → l2 ≡ l1 ++ map entry b → l2 ≡ l0 ++ map entry (a ++ b)
+logged_on {X} entry l0 l1 l2 a b first second = second ∙ (ap (λ (xs : List X). xs ++ map entry b) first ∙ (append_assoc l0 (map entry a) (map entry b) ∙ ap (λ (xs : List X). l0 ++ xs) (sym (map-append entry a b))))
+
+pub gives_on : (v0 v1 v2 : ConnectionsView) (s0 s1 s2 : List Said) → Gives v0 s0 v1 s1 → Gives v1 s1 v2 s2 → Gives v0 s0 v2 s2
+gives_on v0 v1 v2 s0 s1 s2 a b = (
   a.0 ++ b.0,
   b.1 ∙ (ap (λ (xs : List Said). xs ++ b.0) a.1 ∙ append_assoc s0 a.0 b.0),
-  b.2 ∙ (ap (λ (xs : List (ℕ × List ℕ)). xs ++ map given_entry b.0) a.2 ∙ (append_assoc g0 (map given_entry a.0) (map given_entry b.0) ∙ ap (λ (xs : List (ℕ × List ℕ)). g0 ++ xs) (sym (map-append given_entry a.0 b.0)))),
+  logged_on given_entry v0.given v1.given v2.given a.0 b.0 a.2 b.2,
+  logged_on passed_entry v0.passed v1.passed v2.passed a.0 b.0 a.3 b.3,
 )
+
+-- a reply gives one text, or nothing
+pub gives_one : (v now : ConnectionsView) (said said_now : List Said) → GivesNothing v said now said_now ⊎ GivesOne v said now said_now → Gives v said now said_now
+gives_one v now said said_now gives = ⊎_elim
+    (λ (none : GivesNothing v said now said_now). ([], none.0 ∙ sym (append-nil said), none.1 ∙ sym (append-nil v.given), none.2 ∙ sym (append-nil v.passed)))
+    (λ (one : GivesOne v said now said_now). (one.0 ∷ [], one.1, one.2, one.3))
+    gives
 
 pub assigned_more : (log : List (Assignment × ℕ)) (e : Assignment × ℕ) → assigned (log ++ e ∷ []) ≡ assigned log ++ e.0 ∷ []
 assigned_more log e = map-append (λ (x : Assignment × ℕ). x.0) log (e ∷ [])

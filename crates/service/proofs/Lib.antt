@@ -2,3 +2,4 @@ pub mod WaitLemmas
 pub mod KeepLemmas
 pub mod Crossing
 mod OrderLemmas
+pub mod MomentLemmas

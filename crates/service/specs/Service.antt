@@ -5,7 +5,9 @@ use Rattle.proto.specs.declared.reply.Reply as replies
 use Rattle.sessions.specs.declared.request.Request.{Request}
 use Rattle.connections.specs.declared.connections.CommandNumber.{CommandNumber}
 use Rattle.connections.specs.declared.said.Said.{Said}
-use Rattle.connections.specs.Connections.{ConnectionsView}
+use Rattle.connections.specs.Connections.{ConnectionsView, bytes_of_connection, IsAnswered}
+use Rattle.connections.specs.History.{Passed, heard_as, given_as, heard_among, given_among}
+use Rattle.memcached_spec.specs.Asked.{IsAsked}
 use Rattle.base.specs.declared.fault.Fault.{Fault}
 use Rattle.ensemble.specs.declared.answer.Answer.{Answer}
 use Rattle.ensemble.specs.Ensemble.{EnsembleView, IsEnsemble, answer_entry, order_entry}
@@ -28,6 +30,9 @@ pub record ServiceView : Type 0 where
 -- what is given, by the number of its connection
 abbrev pub given_entry : Said → ℕ × List ℕ
 given_entry said = (said.number, said.bytes.items)
+
+abbrev pub passed_entry : Said → Passed
+passed_entry said = given_as said.number said.bytes.items
 
 -- ---- what always holds
 
@@ -91,6 +96,26 @@ pub record IsService (v : ServiceView) : Type 0 where
   pub in_turn : (i : ℕ) (b : Assignment) → slice_get v.assignments i ≡ Some b → (turn : ℕ) → 1 ≤ turn → turn < b.turn → IsAnsweredEarlier v.assignments b.connection turn (before_ask i v.order)
   pub waits : (a : Assignment) → Waits v.waiting a → Contains v.assignments a
 
+-- the command of this number was asked as a request that was answered so, by then
+abbrev pub WasAnsweredBy : List Assignment → List ((ℕ × ℕ) × replies.Reply) → List ((ℕ × ℕ) × Bool) → ℕ → ℕ → replies.Reply → Type 0
+WasAnsweredBy assignments answered order connection turn reply = (a : Assignment) × Contains assignments a × (a.connection ≡ connection) × (a.turn ≡ turn) × Contains answered ((a.proxy, a.number), reply) × Contains order ((a.proxy, a.number), true)
+
+-- When just this had passed, so much had been asked and answered: what was asked had been heard, and what was given answers it.
+pub record WasMoment (order : List ((ℕ × ℕ) × Bool)) (assignments : List Assignment) (answered : List ((ℕ × ℕ) × replies.Reply)) (passed : List Passed) : Type 0 where
+  pub order_then : List ((ℕ × ℕ) × Bool)
+  pub later_order : List ((ℕ × ℕ) × Bool)
+  pub split_order : order ≡ order_then ++ later_order
+  pub asked_then : List Assignment
+  pub asked_later : List Assignment
+  pub split_asked : assignments ≡ asked_then ++ asked_later
+  pub ordered : asked_keys order_then ≡ map assigned_as asked_then
+  pub heard : (a : Assignment) → Contains asked_then a → (command : Command) × IsAsked (bytes_of_connection a.connection (heard_among passed)) a.turn command
+  pub given : (connection : ℕ) → IsAnswered (WasAnsweredBy asked_then answered order_then connection) (bytes_of_connection connection (heard_among passed)) (bytes_of_connection connection (given_among passed))
+
+-- each beginning of what passed was a moment
+abbrev pub HasMoments : ServiceView → Type 0
+HasMoments v = (early late : List Passed) → v.connections.passed ≡ early ++ late → WasMoment v.order v.assignments v.answered early
+
 -- the ensemble that asked and answered so is a world
 pub record HasEnsemble (v : ServiceView) : Type 0 where
   pub ensemble : EnsembleView
@@ -113,12 +138,18 @@ pub record HasSameRequests (v now : ServiceView) : Type 0 where
 
 -- A piece came of a connection that is here; where the call failed it may not have been looked at.
 abbrev pub Hears : ℕ → ℕ → List ℕ → ConnectionsView → ConnectionsView → Result Said Fault → Type 0
-Hears key number piece v now (Ok said) = (now.heard ≡ v.heard ++ (number, piece) ∷ []) × (now.given ≡ v.given ++ (number, said.bytes.items) ∷ []) × (said.key ≡ key) × (said.number ≡ number)
-Hears key number piece v now (Err fault) = ((now.heard ≡ v.heard) ⊎ (now.heard ≡ v.heard ++ (number, piece) ∷ [])) × (now.given ≡ v.given)
+Hears key number piece v now (Ok said) = (now.heard ≡ v.heard ++ (number, piece) ∷ []) × (now.given ≡ v.given ++ (number, said.bytes.items) ∷ []) × (now.passed ≡ (v.passed ++ heard_as number piece ∷ []) ++ given_as number said.bytes.items ∷ []) × (said.key ≡ key) × (said.number ≡ number)
+Hears key number piece v now (Err fault) = (((now.heard ≡ v.heard) × (now.passed ≡ v.passed)) ⊎ ((now.heard ≡ v.heard ++ (number, piece) ∷ []) × (now.passed ≡ v.passed ++ heard_as number piece ∷ []))) × (now.given ≡ v.given)
 
 -- what is given came behind what was, and is logged
-abbrev pub Gives : List (ℕ × List ℕ) → List Said → List (ℕ × List ℕ) → List Said → Type 0
-Gives given said given_now said_now = (more : List Said) × (said_now ≡ said ++ more) × (given_now ≡ given ++ map given_entry more)
+abbrev pub Gives : ConnectionsView → List Said → ConnectionsView → List Said → Type 0
+Gives v said now said_now = (more : List Said) × (said_now ≡ said ++ more) × (now.given ≡ v.given ++ map given_entry more) × (now.passed ≡ v.passed ++ map passed_entry more)
+
+abbrev pub GivesNothing : ConnectionsView → List Said → ConnectionsView → List Said → Type 0
+GivesNothing v said now said_now = (said_now ≡ said) × (now.given ≡ v.given) × (now.passed ≡ v.passed)
+
+abbrev pub GivesOne : ConnectionsView → List Said → ConnectionsView → List Said → Type 0
+GivesOne v said now said_now = (given : Said) × (said_now ≡ said ++ given ∷ []) × (now.given ≡ v.given ++ given_entry given ∷ []) × (now.passed ≡ v.passed ++ passed_entry given ∷ [])
 
 -- each of these was logged
 abbrev pub AreLogged : List Answer → List ((ℕ × ℕ) × replies.Reply) → List ((ℕ × ℕ) × Bool) → Type 0
@@ -129,4 +160,4 @@ pub record AnswersTo (a : Assignment) (reply : replies.Reply) (v now : Connectio
   pub heard : now.heard ≡ v.heard
   pub taken : now.taken ≡ v.taken
   pub replied : (now.replied ≡ v.replied) ⊎ (now.replied ≡ v.replied ++ (command_number_of a, reply) ∷ [])
-  pub gives : Gives v.given said now.given said_now
+  pub gives : GivesNothing v said now said_now ⊎ GivesOne v said now said_now

@@ -11,7 +11,7 @@ use Rattle.service.specs.declared.assignment.Assignment.{Assignment}
 use Rattle.service.specs.declared.assignment.Outstanding.{Outstanding}
 use Rattle.service.specs.declared.asking.Asking.{Asking}
 use Rattle.service.specs.declared.asking.Asking.TheVariants.{Nothing, Asked, Failed}
-use Rattle.service.specs.Service.{Waits, given_entry}
+use Rattle.service.specs.Service.{Waits, given_entry, passed_entry}
 
 abbrev pub NoneWaits : List (Option Outstanding) → Type 0
 NoneWaits waiting = (a : Assignment) → Waits waiting a → ⊥
@@ -65,6 +65,7 @@ EndsWait old proxy number new (Some o) = KeepsWaits old new × Waits old o.assig
 pub record HasSameBytes (v now : ConnectionsView) : Type 0 where
   pub heard : now.heard ≡ v.heard
   pub given : now.given ≡ v.given
+  pub passed : now.passed ≡ v.passed
   pub replied : now.replied ≡ v.replied
 
 -- what was taken before still is
@@ -97,9 +98,9 @@ pub record AsksNothing (v now : ConnectionsView) (e f : EnsembleView) : Type 0 w
   pub replied : now.replied ≡ v.replied
 
 abbrev pub AsksFor : Place → ℕ → ConnectionsView → EnsembleView → ConnectionsView → EnsembleView → Asking → Type 0
-AsksFor at proxy v e now f Nothing = AsksNothing v now e f × (now.given ≡ v.given) × TakesNone at v now
+AsksFor at proxy v e now f Nothing = AsksNothing v now e f × (now.given ≡ v.given) × (now.passed ≡ v.passed) × TakesNone at v now
 AsksFor at proxy v e now f (Asked a) = IsAskedOf at proxy v now e f a
-AsksFor at proxy v e now f (Failed said) = AsksNothing v now e f × (now.given ≡ v.given ++ given_entry said ∷ [])
+AsksFor at proxy v e now f (Failed said) = AsksNothing v now e f × (now.given ≡ v.given ++ given_entry said ∷ []) × (now.passed ≡ v.passed ++ passed_entry said ∷ [])
 
 -- the connection leaves
 pub record LeavesFor (v now : ConnectionsView) : Type 0 where
@@ -108,9 +109,9 @@ pub record LeavesFor (v now : ConnectionsView) : Type 0 where
   pub replied : now.replied ≡ v.replied
 
 abbrev pub Fails : Place → ConnectionsView → ConnectionsView → Asking → Type 0
-Fails at v now Nothing = LeavesFor v now × (now.given ≡ v.given) × (is_here at.number now.table at.key ≡ false)
+Fails at v now Nothing = LeavesFor v now × (now.given ≡ v.given) × (now.passed ≡ v.passed) × (is_here at.number now.table at.key ≡ false)
 Fails at v now (Asked a) = ⊥
-Fails at v now (Failed said) = LeavesFor v now × (now.given ≡ v.given ++ given_entry said ∷ [])
+Fails at v now (Failed said) = LeavesFor v now × (now.given ≡ v.given ++ given_entry said ∷ []) × (now.passed ≡ v.passed ++ passed_entry said ∷ [])
 
 -- what came of it is kept: what proxies wait for, which command was asked, and what is given
 abbrev pub Settles : Asking → List (Option Outstanding) → List (Option Outstanding) → List Assignment → List Assignment → List Said → List Said → Type 0

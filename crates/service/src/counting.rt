@@ -1,8 +1,9 @@
 //! What is counted while connections are served. No decision rests on it.
 
+use crate::item_bytes::ItemBytes;
 use crate::note::Note;
 use crate::replicas::note_node;
-use ensemble::Replica;
+use ensemble::{Ensemble, Replica};
 use figures::{Figures, one_more};
 use proto::Reply;
 use std::alloc::Global;
@@ -15,6 +16,7 @@ pub struct Counting {
     micros: u64,
     /// When each command began to wait that was answered since the clock was last read.
     answered: Vec<u64>,
+    item_bytes: ItemBytes,
 }
 
 impl Counting {
@@ -29,12 +31,19 @@ impl Counting {
             figures,
             micros: 0,
             answered: Vec::new(alloc),
+            item_bytes: ItemBytes::new(),
         }
     }
 
     /// The moment, in microseconds of the caller's clock.
     pub fn micros(&self) -> u64 {
         self.micros
+    }
+
+    /// Looks at some pages of items, for how many bytes they have.
+    pub fn look(&mut self, alloc: Global, ensemble: &Ensemble) {
+        self.item_bytes.look(alloc, ensemble);
+        self.figures.memory.item_bytes = self.item_bytes.total();
     }
 
     /// A command is answered. If memory is wanted its time is not counted.

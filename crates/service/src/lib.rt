@@ -10,6 +10,7 @@ mod assignment;
 mod counting;
 mod hearing;
 mod incidents;
+mod item_bytes;
 mod nodes;
 mod note;
 mod pause;

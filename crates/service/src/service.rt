@@ -35,20 +35,22 @@ pub struct Service {
 
 impl Model for Service {
     ghost use Rattle.std.specs.Prelude.{◌<◌};
-    ghost use Rattle.service.specs.Service.{ServiceView, IsService, assigned};
+    ghost use Rattle.service.specs.Service.{ServiceView, IsService, HasMoments, assigned};
 
     ghost Value = { ServiceView };
 
     ghost view = { λ s. record { connections = s.connections; asked = s.ensemble.asked; answered = s.ensemble.answered; order = s.ensemble.order; assignments = assigned s.assignments.items; waiting = s.pool } };
 
-    ghost invariant = { λ s. IsService (record { connections = s.connections; asked = s.ensemble.asked; answered = s.ensemble.answered; order = s.ensemble.order; assignments = assigned s.assignments.items; waiting = s.pool }) × (s.u < 4) };
+    ghost invariant = { λ s. IsService (record { connections = s.connections; asked = s.ensemble.asked; answered = s.ensemble.answered; order = s.ensemble.order; assignments = assigned s.assignments.items; waiting = s.pool })
+        × HasMoments (record { connections = s.connections; asked = s.ensemble.asked; answered = s.ensemble.answered; order = s.ensemble.order; assignments = assigned s.assignments.items; waiting = s.pool }) × (s.u < 4) };
 }
 
 impl Service {
     ghost use Rattle.std.specs.Prelude.{◌≡◌, ◌++◌, ◌∷◌, ◌⊎◌, [], true, false, IfOk, OnOk, OnErr};
     ghost use Rattle.connections.specs.Places.{is_here};
     ghost use Rattle.connections.specs.Connections.{HasSameLogs, no_connections, IsConnections};
-    ghost use Rattle.service.specs.Service.{IsService, HasEnsemble, HasSameRequests, Hears};
+    ghost use Rattle.connections.specs.History.{IsHistory};
+    ghost use Rattle.service.specs.Service.{IsService, HasMoments, HasEnsemble, HasSameRequests, Hears};
 
     /// A service where no connection came, over `2u + 1` executors, as many verifiers, and as many proxies as
     /// the config has clients.
@@ -104,14 +106,16 @@ impl Service {
         ensures hears { Hears key number piece.items self.old.connections self.new.connections result }
         ensures requests { HasSameRequests self.old self.new }
     {
-        hear_at(
+        let heard = hear_at(
             alloc,
             &mut self.connections,
             &mut self.line,
             Place { key, number },
             piece,
             self.counting.micros(),
-        )
+        );
+        self.connections.always();
+        heard
     }
 
     /// So many of the bytes that a connection was given are written. While 256 KB or more are not written its next
@@ -167,9 +171,12 @@ impl Service {
         self.counting.set_micros(micros);
     }
 
-    /// What was counted, and where the replicas are. Left 0 are lines that ask nothing, the bytes of items, and what only
-    /// the event loop and the system know.
-    pub fn figures(&self) -> Figures {
+    /// What was counted, and where the replicas are. How many bytes the items have is looked up for 8 of the 256
+    /// pages in each call. Left 0 is what only the event loop and the system know.
+    pub fn figures(&mut self, alloc: Global) -> Figures
+        ensures same { self.new ≡ self.old }
+    {
+        self.counting.look(alloc, &self.ensemble);
         let mut figures = self.counting.figures;
         self.show_replicas(&mut figures);
         figures
@@ -178,6 +185,8 @@ impl Service {
     /// What always holds of it. It does nothing.
     pub fn shows(&self)
         ensures connections { IsConnections self.now.connections }
+        ensures history { IsHistory (record { heard = self.now.connections.heard; given = self.now.connections.given; passed = self.now.connections.passed }) }
+        ensures moments { HasMoments self.now }
         ensures service { IsService self.now }
         ensures ensemble { HasEnsemble self.now }
     {

@@ -107,11 +107,11 @@ fn settle(
 impl Service {
     ghost use Rattle.std.specs.Prelude.{◌≡◌, ◌++◌, map, Contains};
     ghost use Rattle.ensemble.specs.Ensemble.{answer_entry, order_entry};
-    ghost use Rattle.service.specs.Service.{Gives, AreLogged, given_entry};
+    ghost use Rattle.service.specs.Service.{Gives, AreLogged, given_entry, passed_entry};
 
     /// The first of the line asks its command, if a proxy is free: whether one was.
     fn assign(&mut self, alloc: Global, said: &mut Vec<Said>) -> bool
-        ensures given { Gives self.old.connections.given said.old.items self.new.connections.given said.new.items }
+        ensures given { Gives self.old.connections said.old.items self.new.connections said.new.items }
         ensures heard { self.new.connections.heard ≡ self.old.connections.heard }
     {
         if said.reserve(1).is_err() {
@@ -140,12 +140,13 @@ impl Service {
             proxy,
             asking,
         );
+        self.connections.always();
         true
     }
 
     /// All that wait ask, as far as proxies are free.
     fn assign_all(&mut self, alloc: Global, said: &mut Vec<Said>)
-        ensures given { Gives self.old.connections.given said.old.items self.new.connections.given said.new.items }
+        ensures given { Gives self.old.connections said.old.items self.new.connections said.new.items }
         ensures heard { self.new.connections.heard ≡ self.old.connections.heard }
     {
         for _ in 0..self.pool.count() {
@@ -159,7 +160,7 @@ impl Service {
     fn answer(&mut self, alloc: Global, answer: Answer, said: &mut Vec<Said>)
         requires logged { Contains self.old.answered (answer_entry answer) }
         requires ordered { Contains self.old.order (order_entry answer) }
-        ensures given { Gives self.old.connections.given said.old.items self.new.connections.given said.new.items }
+        ensures given { Gives self.old.connections said.old.items self.new.connections said.new.items }
         ensures heard { self.new.connections.heard ≡ self.old.connections.heard }
         ensures answered { self.new.answered ≡ self.old.answered }
         ensures order { self.new.order ≡ self.old.order }
@@ -181,12 +182,13 @@ impl Service {
             outstanding.place(),
             self.counting.micros(),
         );
+        self.connections.always();
     }
 
     /// All replies go to the connections that asked.
     fn answer_all(&mut self, alloc: Global, mut answers: Vec<Answer>, said: &mut Vec<Said>)
         requires { AreLogged answers.items self.old.answered self.old.order }
-        ensures given { Gives self.old.connections.given said.old.items self.new.connections.given said.new.items }
+        ensures given { Gives self.old.connections said.old.items self.new.connections said.new.items }
         ensures heard { self.new.connections.heard ≡ self.old.connections.heard }
     {
         while let Some(answer) = answers.pop() {
@@ -215,7 +217,7 @@ impl Service {
         moment: u32,
         said: &mut Vec<Said>,
     ) -> bool
-        ensures given { Gives self.old.connections.given said.old.items self.new.connections.given said.new.items }
+        ensures given { Gives self.old.connections said.old.items self.new.connections said.new.items }
         ensures heard { self.new.connections.heard ≡ self.old.connections.heard }
     {
         if !has_room(said, &mut self.line) {
@@ -238,6 +240,7 @@ impl Service {
         moment: u32,
     ) -> Vec<Said>
         ensures given { self.new.connections.given ≡ self.old.connections.given ++ map given_entry result.items }
+        ensures passed { self.new.connections.passed ≡ self.old.connections.passed ++ map passed_entry result.items }
         ensures heard { self.new.connections.heard ≡ self.old.connections.heard }
     {
         let mut said = Vec::new(alloc);

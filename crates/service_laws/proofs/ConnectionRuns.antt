@@ -1,5 +1,5 @@
 -- What a run makes for each connection, whose commands proxies ask.
-use Rattle.std.proofs.Common.{◌≡◌, ◌⊎◌, ℕ, zero, suc, ◌+◌, ◌≤◌, inl, inr, Bool, true, false, List, [], ◌∷◌, ◌++◌, map, length, take, drop, Some, refl, sym, ap, ◌∙◌, subst, arith}
+use Rattle.std.proofs.Common.{◌≡◌, ◌⊎◌, ℕ, zero, suc, ◌+◌, ◌≤◌, inl, inr, Bool, true, false, List, [], ◌∷◌, ◌++◌, map, length, take, drop, Some, refl, sym, ap, ◌∙◌, subst, arith, append_assoc}
 use Rattle.std.specs.Prelude.{slice_get, flat_map, Contains, ◌==◌}
 use Rattle.std.proofs.lemmas.Bool.{eqb-true, eq-eqb}
 use Rattle.std.proofs.Math.Seq.{take-append_seam}
@@ -153,6 +153,21 @@ module _ (owner turn : ℕ → ℕ → ℕ) where
     leads = lines_lead initial_state run lines made;
     fresh = λ u. subst (λ (us : List ℕ). count u us ≤ 1) (sym (lines_uniques initial_state run lines made)) (all_fresh initial_state run lines follows made u);
   }
+
+  -- the lines of a longer run begin with lines of the run
+  made_front : (s : StateView) (run more : List Executed) (lines : List Line) (made : IsMadeOf s (run ++ more) lines)
+      → (first : List Line) × (front : IsMadeOf s run first) × (rest : List Line) × (lines_of s (run ++ more) lines made ≡ lines_of s run first front ++ rest)
+  unfolding lines_of
+  made_front s [] more lines made = ([], refl, lines_of s more lines made, refl)
+  made_front s (e ∷ run) more lines made =
+      let r = made_front e.new run more made.1 made.4 in
+      let own = map (renamed_line (owner_in owner s)) made.0 in
+      (made.0 ++ r.0, (made.0, r.0, refl, made.3, r.1), r.2, ap (λ (ls : List Line). own ++ ls) r.3 ∙ sym (append_assoc own (lines_of e.new run r.0 r.1) r.2))
+
+  pub lines_begin : (s : StateView) (all run more : List Executed) → all ≡ run ++ more → (lines : List Line) (made : IsMadeOf s all lines)
+      → (first : List Line) × (front : IsMadeOf s run first) × (rest : List Line) × (lines_of s all lines made ≡ lines_of s run first front ++ rest)
+  lines_begin s all run more is =
+      subst (λ (r : List Executed). (lines : List Line) (made : IsMadeOf s r lines) → (first : List Line) × (front : IsMadeOf s run first) × (rest : List Line) × (lines_of s r lines made ≡ lines_of s run first front ++ rest)) (sym is) (made_front s run more)
 
   module _ (c : ℕ) (commands : List Command) where
     theirs_next : (b : ℕ) (command : Command) (ran : List Command) → slice_get commands b ≡ Some command → ((i : ℕ) (x : Command) → slice_get ran i ≡ Some x → slice_get commands (suc b + i) ≡ Some x)

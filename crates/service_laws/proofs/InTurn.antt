@@ -1,15 +1,12 @@
--- Each command of a connection was asked after the earlier ones were answered, so all connections have one order.
+-- Each command of a connection was asked after the earlier ones were answered.
 use Rattle.std.proofs.Common.{◌≡◌, ℕ, zero, suc, ◌<◌, Bool, true, false, List, [], ◌∷◌, ◌++◌, map, Some, refl, sym, ap, ◌∙◌, arith}
 use Rattle.std.specs.Prelude.{Contains, slice_get}
 use Rattle.executor.proofs.RoundLemmas.{get_map}
-use Rattle.server_laws.specs.Laws.{WorldsAreOfOneServer}
 use Rattle.connections.specs.Connections.{IsConnections}
 use Rattle.service.specs.Service.{ServiceView, IsService, HasEnsemble, asked_keys, before_ask, assigned_as}
-use Rattle.service_laws.specs.Orders.{AreAskedInTurn, IsInOneOrder}
+use Rattle.service_laws.specs.Orders.{AreAskedInTurn}
 use Rattle.service_laws.proofs.AskedLemmas.{place_of}
-use Rattle.service_laws.proofs.ServingLemmas.{for_one, is_served, one_reply, is_serving}
-use Rattle.service_laws.proofs.Past.{has_run_in_turn}
-use Rattle.service_laws.proofs.Turns.{has_order}
+use Rattle.service_laws.proofs.ServingLemmas.{for_one}
 
 abbrev Order : Type 0
 Order = List ((ℕ × ℕ) × Bool)
@@ -34,7 +31,7 @@ asked_before (suc i) ((k, false) ∷ order) key (suc n, lt, e) =
     (suc r.0, omega (arith, below), r.2)
 
 module _ (v : ServiceView) (talks : IsConnections v.connections) (ok : IsService v) (over : HasEnsemble v) where
-  are_in_turn : AreAskedInTurn over.world.events over.world.through.worlds v.assignments
+  pub are_in_turn : AreAskedInTurn over.world.events over.world.through.worlds v.assignments
   are_in_turn b turn inside from_one below =
       let at = place_of v.assignments b inside in
       let was = ok.in_turn at.0 b at.1 turn from_one below in
@@ -63,16 +60,3 @@ module _ (v : ServiceView) (talks : IsConnections v.connections) (ok : IsService
               absurd (omega (arith, same, less));
         },
       )
-
-pub has_one_order : (v : ServiceView) → IsConnections v.connections → IsService v → HasEnsemble v → WorldsAreOfOneServer → IsInOneOrder v
-has_one_order v talks ok over law =
-    let serving = is_serving v talks ok over law in
-    let w = serving.over.world in
-    let in_turn = are_in_turn v talks ok serving.over in
-    record {
-      serving = serving;
-      in_turn = in_turn;
-      one_order = λ distinct.
-          let run = has_run_in_turn law w.config w.events w.now w.through v.assignments distinct in_turn in
-          has_order v serving run.0 (record { is_run = run.1; served = is_served v talks ok serving.over run.0 run.1; one_reply = one_reply v talks ok serving.over run.0 run.1 }) run.2;
-    }

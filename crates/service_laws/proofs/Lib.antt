@@ -4,6 +4,6 @@ pub mod ServingLemmas
 pub mod Renamed
 pub mod ConnectionRuns
 pub mod Turns
-pub mod Grows
 pub mod Past
 pub mod InTurn
+pub mod Cuts

@@ -30,7 +30,7 @@ extends_on : (a b c : List Executed) → Extends a b → Extends b c → Extends
 extends_on a b c x y = (x.0 ++ y.0, y.1 ∙ (ap (λ (r : List Executed). r ++ y.0) x.1 ∙ append_assoc a x.0 y.0))
 
 -- each world has a run, which the last one begins with
-abbrev RunThere : (StateView → Type 0) → List Event → List Event → List WorldView → List Executed → Type 0
+abbrev pub RunThere : (StateView → Type 0) → List Event → List Event → List WorldView → List Executed → Type 0
 RunThere met past es worlds later = (k : ℕ) (x : WorldView) → slice_get worlds k ≡ Some x → (r : List Executed) × IsRun met (past ++ take k es) x r × Extends r later
 
 runs : (met : StateView → Type 0) (past : List Event) (run : List Executed) (w : WorldView) (es : List Event) (xs : List WorldView) → IsRun met past w run → RunsGrow met past run es xs
@@ -62,16 +62,16 @@ runs met past run w (e ∷ es) (x ∷ xs) is grows = by (runs met (past ++ e ∷
         at_each zero y at = let same : w ≡ y = cc at in (run, subst (λ (z : WorldView). IsRun met (past ++ []) z run) same (subst (λ (all : List Event). IsRun met all w run) (sym (append-nil past)) is), extends_on run grows.0 later grows.1 extends)
         at_each (suc k) y at = let r = there k y at in (r.0, subst (λ (all : List Event). IsRun met all y r.0) (append_assoc past (e ∷ []) (take k es)) r.1, r.2)
 
-take_front : {X : Type 0} (xs ys : List X) → take (length xs) (xs ++ ys) ≡ xs
+pub take_front : {X : Type 0} (xs ys : List X) → take (length xs) (xs ++ ys) ≡ xs
 take_front [] ys = refl
 take_front {X} (x ∷ xs) ys = ap (λ (l : List X). x ∷ l) (take_front xs ys)
 
-in_front : {X : Type 0} (xs ys : List X) (k : ℕ) (x : X) → slice_get xs k ≡ Some x → slice_get (xs ++ ys) k ≡ Some x
+pub in_front : {X : Type 0} (xs ys : List X) (k : ℕ) (x : X) → slice_get xs k ≡ Some x → slice_get (xs ++ ys) k ≡ Some x
 in_front [] ys k x at = absurd (cc at)
 in_front (y ∷ xs) ys zero x at = at
 in_front (y ∷ xs) ys (suc k) x at = in_front xs ys k x at
 
-front_or_behind : {X : Type 0} (xs ys : List X) (k : ℕ) (x : X) → slice_get (xs ++ ys) k ≡ Some x → (slice_get xs k ≡ Some x) ⊎ (length xs ≤ k)
+pub front_or_behind : {X : Type 0} (xs ys : List X) (k : ℕ) (x : X) → slice_get (xs ++ ys) k ≡ Some x → (slice_get xs k ≡ Some x) ⊎ (length xs ≤ k)
 front_or_behind [] ys k x at = inr (omega arith)
 front_or_behind (y ∷ xs) ys zero x at = inl at
 front_or_behind (y ∷ xs) ys (suc k) x at = elim (front_or_behind xs ys k x at) [
@@ -115,14 +115,14 @@ module _ (met : StateView → Type 0) (events : List Event) (worlds : List World
         | inr late ↦ (y.0, y.1, y.2, y.3, was.place, omega (arith, within, late), (was.answered, record { executed = was.given.executed; there = was_there; given = was.given.given }, was.client_is, was.number_is))
       ]
 
-run_in_turn : (events : List Event) (worlds : List WorldView) (w : WorldView) (assignments : List Assignment) → IsOneServer events worlds → EndsWith worlds w → AreAskedInTurn events worlds assignments → (run : List Executed) × IsRun (IsMet worlds) events w run × RanInTurn run assignments
+run_in_turn : (events : List Event) (worlds : List WorldView) (w : WorldView) (assignments : List Assignment) → IsOneServer events worlds → EndsWith worlds w → AreAskedInTurn events worlds assignments → (run : List Executed) × IsRun (IsMet worlds) events w run × RanInTurn run assignments × RunThere (IsMet worlds) [] events worlds run
 run_in_turn events [] w assignments shows ends asked = absurd shows
 run_in_turn events (first ∷ later) w assignments shows ends asked =
     let last = runs (IsMet (first ∷ later)) [] shows.0 first events later shows.1 shows.2 in
     let is : IsRun (IsMet (first ∷ later)) events w last.0 = subst (λ (x : WorldView). IsRun (IsMet (first ∷ later)) events x last.0) ends last.1 in
-    (last.0, is, ran_in_turn (IsMet (first ∷ later)) events (first ∷ later) w last.0 is last.3 assignments asked)
+    (last.0, is, ran_in_turn (IsMet (first ∷ later)) events (first ∷ later) w last.0 is last.3 assignments asked, last.3)
 
--- the world that events lead to has a run in which commands that were asked in turn are executed in turn
+-- the world that events lead to has a run in which commands that were asked in turn are executed in turn; it goes on where those of earlier worlds end
 pub has_run_in_turn : WorldsAreOfOneServer → (c : ConfigView) (events : List Event) (w : WorldView) (through : IsReached c events w) (assignments : List Assignment) → DigestsAreDistinct through.worlds → AreAskedInTurn events through.worlds assignments
-    → (run : List Executed) × IsRun (IsMet through.worlds) events w run × RanInTurn run assignments
+    → (run : List Executed) × IsRun (IsMet through.worlds) events w run × RanInTurn run assignments × RunThere (IsMet through.worlds) [] events through.worlds run
 has_run_in_turn law c events w through assignments distinct asked = run_in_turn events through.worlds w assignments (law c events through.worlds through.reached distinct) through.ends asked

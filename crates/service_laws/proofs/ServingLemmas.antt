@@ -24,7 +24,7 @@ use Rattle.service_laws.proofs.AskedLemmas.{place_of, asks, asked_by, asked_once
 use Rattle.service_laws.proofs.RunLemmas.{has_run}
 
 module _ (v : ServiceView) (talks : IsConnections v.connections) (ok : IsService v) (over : HasEnsemble v) where
-  is_assignment : (a : Assignment) → Contains v.assignments a → IsAssignment v over.world.events a
+  pub is_assignment : (a : Assignment) → Contains v.assignments a → IsAssignment v over.world.events a
   is_assignment a c =
       let is = ok.each a c in
       let of_request = asks over.ensemble over.world (is.request, is.quiet) (subst (λ (xs : List (Request × Bool)). Contains xs (is.request, is.quiet)) (sym over.same_asked) is.asked) in
@@ -34,7 +34,7 @@ module _ (v : ServiceView) (talks : IsConnections v.connections) (ok : IsService
         of_proxy = subst (λ (k : (ℕ × ℕ) × Command). IsAsked (fed_to k.0.0 over.world.events) k.0.1 k.1) (λ i. ((is.of_proxy i, is.numbered i), is.same i)) of_request;
       }
 
-  is_assigned : (proxy number : ℕ) (command : Command) → IsAsked (fed_to proxy over.world.events) number command → (a : Assignment) × Contains v.assignments a × (a.proxy ≡ proxy) × (a.number ≡ number)
+  pub is_assigned : (proxy number : ℕ) (command : Command) → IsAsked (fed_to proxy over.world.events) number command → (a : Assignment) × Contains v.assignments a × (a.proxy ≡ proxy) × (a.number ≡ number)
   is_assigned proxy number command is =
       let r = asked_by over.ensemble over.world proxy number command is in
       let a = ok.none_else r.0 (subst (λ (xs : List (Request × Bool)). Contains xs r.0) over.same_asked r.1) in

@@ -18,18 +18,18 @@ use Rattle.memcached_spec.specs.Asked.{asked, IsAsked}
 use Rattle.memcached_spec.specs.Fed.{fed_to}
 use Rattle.memcached_spec.specs.Server.{Line}
 use Rattle.memcached_spec.specs.Order.{replies_from, IsExecutedFor}
+use Rattle.events.specs.declared.event.Event.{Event}
+use Rattle.worlds.specs.World.{WorldView}
 use Rattle.run_laws.specs.Run.{Executed, IsOver, IsRunFrom}
 use Rattle.run_laws.proofs.Elements.{in_head, in_tail, in_none, first_or_other}
 use Rattle.run_laws.proofs.Replies.{runs_next}
-use Rattle.server_laws.specs.Saved.{IsMet}
 use Rattle.server_laws.specs.Run.{IsRun}
 use Rattle.connections.specs.Connections.{bytes_of_connection}
 use Rattle.connections.proofs.TakeLemmas.{contains_at}
 use Rattle.service.specs.declared.assignment.Assignment.{Assignment}
-use Rattle.service.specs.Service.{ServiceView}
 use Rattle.linear_laws.proofs.Rounds.{RoundMade, RanOne, answers_made, runner_in}
-use Rattle.linear_laws.proofs.Runs.{IsMadeOf, made_of_run}
-use Rattle.service_laws.specs.Serving.{WasAnsweredFor, IsServing, IsServedByOne}
+use Rattle.linear_laws.proofs.Runs.{IsMadeOf}
+use Rattle.service_laws.specs.Serving.{WasAnsweredFor, IsConnectionServed}
 use Rattle.service_laws.specs.Orders.{RanAt, RanInTurn, IsConnectionOrder}
 use Rattle.service_laws.proofs.AskedLemmas.{place_of}
 use Rattle.service_laws.proofs.ConnectionRuns.{owner_in, OneInTurn, NoneInTurn, AreInTurn, ConnectionMade, answer_ran, lines_of, is_done, connection_made}
@@ -97,41 +97,60 @@ pub at_seam : {X : Type 0} (xs : List X) (x : X) (ys : List X) → slice_get (xs
 at_seam [] x ys = refl
 at_seam (z ∷ xs) x ys = at_seam xs x ys
 
-module _ (v : ServiceView) (serving : IsServing v) (run : List Executed) (one_run : IsServedByOne v serving.over run) (in_turn : RanInTurn run v.assignments) where
-  abbrev xs : List Assignment
-  xs = v.assignments
+-- A run answers what connections asked and were given, whose commands proxies asked.
+pub record IsRunOf (heard given : List (ℕ × List ℕ)) (xs : List Assignment) (met : StateView → Type 0) (events : List Event) (w : WorldView) (run : List Executed) : Type 0 where
+  pub is_run : IsRun met events w run
+  pub once : (i j : ℕ) (a b : Assignment) → slice_get xs i ≡ Some a → slice_get xs j ≡ Some b → a.connection ≡ b.connection → a.turn ≡ b.turn → i ≡ j
+  pub for_one : (i j : ℕ) (a b : Assignment) → slice_get xs i ≡ Some a → slice_get xs j ≡ Some b → a.proxy ≡ b.proxy → a.number ≡ b.number → i ≡ j
+  pub from_one : (a : Assignment) → Contains xs a → 1 ≤ a.turn
+  -- what a proxy asked is a command that the bytes of a connection ask
+  pub asks : (proxy number : ℕ) (command : Command) → IsAsked (fed_to proxy events) number command → (a : Assignment) × Contains xs a × (a.proxy ≡ proxy) × (a.number ≡ number) × IsAsked (bytes_of_connection a.connection heard) a.turn command
+  pub served : (c : ℕ) → IsConnectionServed run xs c (bytes_of_connection c heard) (bytes_of_connection c given)
 
-  is_run : IsRun (IsMet serving.over.world.through.worlds) serving.over.world.events serving.over.world.now run
-  is_run = one_run.is_run
+module _ (xs : List Assignment) where
+  unfoldable pub owner : ℕ → ℕ → ℕ
+  owner p n = option_map_or (λ (a : Assignment). a.connection) (assigned_to xs p n) 0
+
+  unfoldable pub turn_of_request : ℕ → ℕ → ℕ
+  turn_of_request p n = option_map_or (λ (a : Assignment). a.turn) (assigned_to xs p n) 0
+
+pub same_asked : (bytes : List ℕ) (n : ℕ) (c d : Command) → IsAsked bytes n c → IsAsked bytes n d → c ≡ d
+same_asked bytes n c d x y =
+    let same = spells_one bytes x.turns y.turns x.rest y.rest x.spells y.spells in
+    cc (sym x.is ∙ (ap (λ (ts : List Turn). slice_get (asked ts) (n - 1)) same.0 ∙ y.is))
+
+module _ (heard given : List (ℕ × List ℕ)) (xs : List Assignment) (met : StateView → Type 0) (events : List Event) (w : WorldView) (run : List Executed) (serves : IsRunOf heard given xs met events w run) (in_turn : RanInTurn run xs) where
+  is_run : IsRun met events w run
+  is_run = serves.is_run
 
   same_command : (a b : Assignment) → Contains xs a → Contains xs b → a.connection ≡ b.connection → a.turn ≡ b.turn → a ≡ b
   same_command a b in_a in_b connection turn =
       let at_a = place_of xs a in_a in
       let at_b = place_of xs b in_b in
-      let place = serving.once at_a.0 at_b.0 a b at_a.1 at_b.1 connection turn in
+      let place = serves.once at_a.0 at_b.0 a b at_a.1 at_b.1 connection turn in
       cc (sym at_a.1 ∙ (ap (slice_get xs) place ∙ at_b.1))
 
   same_request : (a b : Assignment) → Contains xs a → Contains xs b → a.proxy ≡ b.proxy → a.number ≡ b.number → a ≡ b
   same_request a b in_a in_b proxy number =
       let at_a = place_of xs a in_a in
       let at_b = place_of xs b in_b in
-      let place = serving.for_one at_a.0 at_b.0 a b at_a.1 at_b.1 proxy number in
+      let place = serves.for_one at_a.0 at_b.0 a b at_a.1 at_b.1 proxy number in
       cc (sym at_a.1 ∙ (ap (slice_get xs) place ∙ at_b.1))
 
-  unfoldable pub owner : ℕ → ℕ → ℕ
-  owner p n = option_map_or (λ (a : Assignment). a.connection) (assigned_to xs p n) 0
+  abbrev its_owner : ℕ → ℕ → ℕ
+  its_owner = owner xs
 
-  pub turn_of_request : ℕ → ℕ → ℕ
-  turn_of_request p n = option_map_or (λ (a : Assignment). a.turn) (assigned_to xs p n) 0
+  abbrev its_turn_of : ℕ → ℕ → ℕ
+  its_turn_of = turn_of_request xs
 
-  owner_is : (a : Assignment) → Contains xs a → owner a.proxy a.number ≡ a.connection
+  owner_is : (a : Assignment) → Contains xs a → its_owner a.proxy a.number ≡ a.connection
   unfolding owner
   owner_is a c =
       let f = found xs a c in
       let same = same_request f.0 a f.2 c f.3 f.4 in
       ap (λ (o : Option Assignment). option_map_or (λ (x : Assignment). x.connection) o 0) f.1 ∙ ap (λ (x : Assignment). x.connection) same
 
-  turn_is : (a : Assignment) → Contains xs a → turn_of_request a.proxy a.number ≡ a.turn
+  turn_is : (a : Assignment) → Contains xs a → its_turn_of a.proxy a.number ≡ a.turn
   unfolding turn_of_request
   turn_is a c =
       let f = found xs a c in
@@ -145,29 +164,21 @@ module _ (v : ServiceView) (serving : IsServing v) (run : List Executed) (one_ru
     pub proxy : a.proxy ≡ p
     pub number : a.number ≡ next_number s.sessions p
     pub ran : RanAt run place a
-    pub asks : IsAsked (bytes_of_connection a.connection v.connections.heard) a.turn one.runner.1.command
-
-  same_asked : (bytes : List ℕ) (n : ℕ) (c d : Command) → IsAsked bytes n c → IsAsked bytes n d → c ≡ d
-  same_asked bytes n c d x y =
-      let same = spells_one bytes x.turns y.turns x.rest y.rest x.spells y.spells in
-      cc (sym x.is ∙ (ap (λ (ts : List Turn). slice_get (asked ts) (n - 1)) same.0 ∙ y.is))
+    pub asks : IsAsked (bytes_of_connection a.connection heard) a.turn one.runner.1.command
 
   pub carried : (s : StateView) (e : Executed) (first : List Line) (place p : ℕ) (one : RanOne s e first p) → slice_get run place ≡ Some e → Carried s e first place p one
   carried s e first place p one at =
       let q = one.runner.1 in
       let its_number : q.number ≡ next_number s.sessions p = runs_next s.sessions [] e.batch.requests one.runner one.runs ∙ ap (next_number s.sessions) one.client in
       let was_asked = is_run.asked e q (contains_at run place e at) (runner_in s e.batch one.runner one.runs) in
-      let a = serving.none_else q.client q.number q.command was_asked in
-      let is = serving.each a.0 a.1 in
-      let asked_same : IsAsked (fed_to a.0.proxy serving.over.world.events) a.0.number q.command = subst (λ (k : ℕ × ℕ). IsAsked (fed_to k.0 serving.over.world.events) k.1 q.command) (λ i. (sym a.2 i, sym a.3 i)) was_asked in
-      let command = same_asked (fed_to a.0.proxy serving.over.world.events) a.0.number is.command q.command is.of_proxy asked_same in
+      let a = serves.asks q.client q.number q.command was_asked in
       record {
         a = a.0;
         there = a.1;
         proxy = a.2 ∙ one.client;
         number = a.3 ∙ its_number;
         ran = (record { place = one.runner.0; client = q.client; number = q.number; reply = reply q.command (answers_made p first) }, record { executed = e; there = at; given = one.replied }, sym a.2, sym a.3);
-        asks = subst (λ (x : Command). IsAsked (bytes_of_connection a.0.connection v.connections.heard) a.0.turn x) command is.of_connection;
+        asks = a.4;
       }
 
   -- a command is executed in one round
@@ -176,7 +187,7 @@ module _ (v : ServiceView) (serving : IsServing v) (run : List Executed) (one_ru
 
   -- ---- the connection's commands, one after the other
 
-  module _ (c : ℕ) (turns : List Turn) (rest : List ℕ) (spells : Spells (bytes_of_connection c v.connections.heard) turns rest) where
+  module _ (c : ℕ) (turns : List Turn) (rest : List ℕ) (spells : Spells (bytes_of_connection c heard) turns rest) where
     -- what ran in the first rounds are commands up to b
     abbrev Low : ℕ → ℕ → Type 0
     Low rounds b = (a : Assignment) (place : ℕ) → Contains xs a → a.connection ≡ c → place < rounds → RanAt run place a → a.turn ≤ b
@@ -188,7 +199,7 @@ module _ (v : ServiceView) (serving : IsServing v) (run : List Executed) (one_ru
     next_is : (rounds b : ℕ) (a : Assignment) → Low rounds b → High rounds b → Contains xs a → a.connection ≡ c → RanAt run rounds a → a.turn ≡ suc b
     next_is rounds b a low high there own ran = elim (three a.turn b) [
       | inl le ↦
-          let from_one = (serving.each a there).of_connection.from_one in
+          let from_one = serves.from_one a there in
           let h = high a.turn from_one le in
           let same = same_command h.0 a h.1 there (h.2 ∙ sym own) h.3 in
           let place = one_place a h.4 rounds (subst (RanAt run h.4) same h.6) ran in
@@ -203,31 +214,31 @@ module _ (v : ServiceView) (serving : IsServing v) (run : List Executed) (one_ru
     ]
 
     module _ (s : StateView) (e : Executed) (over : IsOver s e) (first : List Line) (round : RoundMade s e first) (k : ℕ) (at : slice_get run k ≡ Some e) (b : ℕ) (low : Low k b) (high : High k b) where
-      its_next : (p : ℕ) (one : RanOne s e first p) → owner_in owner s p ≡ c → (w : Carried s e first k p one) × (w.a.connection ≡ c) × (w.a.turn ≡ suc b)
+      its_next : (p : ℕ) (one : RanOne s e first p) → owner_in its_owner s p ≡ c → (w : Carried s e first k p one) × (w.a.connection ≡ c) × (w.a.turn ≡ suc b)
       its_next p one own =
           let w = carried s e first k p one at in
-          let connection : w.a.connection ≡ c = sym (owner_is w.a w.there) ∙ ((λ i. owner (w.proxy i) (w.number i)) ∙ own) in
+          let connection : w.a.connection ≡ c = sym (owner_is w.a w.there) ∙ ((λ i. its_owner (w.proxy i) (w.number i)) ∙ own) in
           (w, connection, next_is k b w.a low high w.there connection w.ran)
 
-      its_command : (p : ℕ) (one : RanOne s e first p) → owner_in owner s p ≡ c → slice_get (asked turns) b ≡ Some one.runner.1.command
+      its_command : (p : ℕ) (one : RanOne s e first p) → owner_in its_owner s p ≡ c → slice_get (asked turns) b ≡ Some one.runner.1.command
       its_command p one own =
           let w = its_next p one own in
-          let own_asks : IsAsked (bytes_of_connection c v.connections.heard) w.0.a.turn one.runner.1.command = subst (λ (n : ℕ). IsAsked (bytes_of_connection n v.connections.heard) w.0.a.turn one.runner.1.command) w.1 w.0.asks in
-          let same = spells_one (bytes_of_connection c v.connections.heard) own_asks.turns turns own_asks.rest rest own_asks.spells spells in
+          let own_asks : IsAsked (bytes_of_connection c heard) w.0.a.turn one.runner.1.command = subst (λ (n : ℕ). IsAsked (bytes_of_connection n heard) w.0.a.turn one.runner.1.command) w.1 w.0.asks in
+          let same = spells_one (bytes_of_connection c heard) own_asks.turns turns own_asks.rest rest own_asks.spells spells in
           let is = w.2 in
           let place : b ≡ w.0.a.turn - 1 = omega (arith, is) in
           ap (slice_get (asked turns)) place ∙ subst (λ (ts : List Turn). slice_get (asked ts) (w.0.a.turn - 1) ≡ Some one.runner.1.command) same.0 own_asks.is
 
-      one_in_turn : (x : Answered) → Contains e.replies x → owner x.client x.number ≡ c → OneInTurn owner turn_of_request c (asked turns) s e first b
+      one_in_turn : (x : Answered) → Contains e.replies x → its_owner x.client x.number ≡ c → OneInTurn its_owner its_turn_of c (asked turns) s e first b
       one_in_turn x there own =
           let r = answer_ran s e over first round x there in
-          let own_in : owner_in owner s x.client ≡ c = ap (owner x.client) (sym r.1) ∙ own in
+          let own_in : owner_in its_owner s x.client ≡ c = ap (its_owner x.client) (sym r.1) ∙ own in
           let w = its_next x.client r.0 own_in in
           record {
             proxy = x.client;
             ran = r.0;
             own = own_in;
-            its_turn = (λ i. turn_of_request (sym w.0.proxy i) (sym w.0.number i)) ∙ (turn_is w.0.a w.0.there ∙ w.2);
+            its_turn = (λ i. its_turn_of (sym w.0.proxy i) (sym w.0.number i)) ∙ (turn_is w.0.a w.0.there ∙ w.2);
             command_is = its_command x.client r.0 own_in;
             only = λ q one own_q.
                 let u = its_next q one own_q in
@@ -236,16 +247,16 @@ module _ (v : ServiceView) (serving : IsServing v) (run : List Executed) (one_ru
           }
 
       -- a command of the connection that ran in this round
-      ran_here : (a : Assignment) → RanAt run k a → Contains xs a → a.connection ≡ c → (x : Answered) × Contains e.replies x × (owner x.client x.number ≡ c)
+      ran_here : (a : Assignment) → RanAt run k a → Contains xs a → a.connection ≡ c → (x : Answered) × Contains e.replies x × (its_owner x.client x.number ≡ c)
       ran_here a ran there own =
           let same : ran.1.executed ≡ e = cc (sym ran.1.there ∙ at) in
-          (ran.0, subst (λ (y : Executed). Contains y.replies ran.0) same ran.1.given, (λ i. owner (ran.2 i) (ran.3 i)) ∙ (owner_is a there ∙ own))
+          (ran.0, subst (λ (y : Executed). Contains y.replies ran.0) same ran.1.given, (λ i. its_owner (ran.2 i) (ran.3 i)) ∙ (owner_is a there ∙ own))
 
-      none_in_turn : ((x : Answered) → Contains e.replies x → owner x.client x.number ≡ c → ⊥) → NoneInTurn owner c s e first
+      none_in_turn : ((x : Answered) → Contains e.replies x → its_owner x.client x.number ≡ c → ⊥) → NoneInTurn its_owner c s e first
       none_in_turn none p one own =
           let q = one.runner.1 in
           let its_number : q.number ≡ next_number s.sessions p = runs_next s.sessions [] e.batch.requests one.runner one.runs ∙ ap (next_number s.sessions) one.client in
-          none (record { place = one.runner.0; client = q.client; number = q.number; reply = reply q.command (answers_made p first) }) one.replied ((λ i. owner (one.client i) (its_number i)) ∙ own)
+          none (record { place = one.runner.0; client = q.client; number = q.number; reply = reply q.command (answers_made p first) }) one.replied ((λ i. its_owner (one.client i) (its_number i)) ∙ own)
 
       low_one : Low (suc k) (suc b)
       low_one a place there own lt ran = elim (less_or place k lt) [
@@ -253,7 +264,7 @@ module _ (v : ServiceView) (serving : IsServing v) (run : List Executed) (one_ru
         | inr is ↦ let turn = next_is k b a low high there own (subst (λ (n : ℕ). RanAt run n a) is ran) in omega (arith, turn)
       ]
 
-      low_none : ((x : Answered) → Contains e.replies x → owner x.client x.number ≡ c → ⊥) → Low (suc k) b
+      low_none : ((x : Answered) → Contains e.replies x → its_owner x.client x.number ≡ c → ⊥) → Low (suc k) b
       low_none none a place there own lt ran = elim (less_or place k lt) [
         | inl less ↦ low a place there own less ran
         | inr is ↦ let w = ran_here a (subst (λ (n : ℕ). RanAt run n a) is ran) there own in absurd (none w.0 w.1 w.2)
@@ -262,31 +273,31 @@ module _ (v : ServiceView) (serving : IsServing v) (run : List Executed) (one_ru
       high_none : High (suc k) b
       high_none t from_one le = let h = high t from_one le in let lt = h.5 in (h.0, h.1, h.2, h.3, h.4, omega (arith, lt), h.6)
 
-      high_one : (x : Answered) → Contains e.replies x → owner x.client x.number ≡ c → High (suc k) (suc b)
+      high_one : (x : Answered) → Contains e.replies x → its_owner x.client x.number ≡ c → High (suc k) (suc b)
       high_one x there own t from_one le =
           let r = answer_ran s e over first round x there in
-          let w = its_next x.client r.0 (ap (owner x.client) (sym r.1) ∙ own) in
+          let w = its_next x.client r.0 (ap (its_owner x.client) (sym r.1) ∙ own) in
           elim (less_or t (suc b) (omega (arith, le))) [
             | inl less ↦ high_none t from_one (omega (arith, less))
             | inr is ↦ (w.0.a, w.0.there, w.1, w.2 ∙ sym is, k, omega arith, w.0.ran)
           ]
 
-    are_in_turn : (before later : List Executed) (s : StateView) (lines : List Line) (made : IsMadeOf s later lines) → IsRunFrom s later → run ≡ before ++ later → (k : ℕ) → k ≡ length before → (b : ℕ) → Low k b → High k b → AreInTurn owner turn_of_request c (asked turns) s later lines made b
+    are_in_turn : (before later : List Executed) (s : StateView) (lines : List Line) (made : IsMadeOf s later lines) → IsRunFrom s later → run ≡ before ++ later → (k : ℕ) → k ≡ length before → (b : ℕ) → Low k b → High k b → AreInTurn its_owner its_turn_of c (asked turns) s later lines made b
     are_in_turn before [] s lines made h is k len b low high = tt
     are_in_turn before (e ∷ later) s lines made h is k len b low high =
         let at : slice_get run k ≡ Some e = (λ i. slice_get (is i) (len i)) ∙ at_seam before e later in
         let is_next : run ≡ (before ++ e ∷ []) ++ later = is ∙ sym (append_assoc before (e ∷ []) later) in
         let more = length-append before (e ∷ []) in
         let len_next : suc k ≡ length (before ++ e ∷ []) = omega (arith, len, more) in
-        elim (any_or_none (λ (x : Answered). owner x.client x.number == c) e.replies) [
+        elim (any_or_none (λ (x : Answered). its_owner x.client x.number == c) e.replies) [
           | inl (x, there, own) ↦
-              let own_is = eqb-true (owner x.client x.number) c own in
+              let own_is = eqb-true (its_owner x.client x.number) c own in
               inl (
                 one_in_turn s e h.0 made.0 made.3 k at b low high x there own_is,
                 are_in_turn (before ++ e ∷ []) later e.new made.1 made.4 h.1 is_next (suc k) len_next (suc b) (low_one s e h.0 made.0 made.3 k at b low high) (high_one s e h.0 made.0 made.3 k at b low high x there own_is),
               )
           | inr none ↦
-              let none_own : (x : Answered) → Contains e.replies x → owner x.client x.number ≡ c → ⊥ = λ x there own. let yes_own : (owner x.client x.number == c) ≡ true = eq-eqb (owner x.client x.number) c own in let no_way : true ≡ false = sym yes_own ∙ none x there in cc no_way in
+              let none_own : (x : Answered) → Contains e.replies x → its_owner x.client x.number ≡ c → ⊥ = λ x there own. let yes_own : (its_owner x.client x.number == c) ≡ true = eq-eqb (its_owner x.client x.number) c own in let no_way : true ≡ false = sym yes_own ∙ none x there in cc no_way in
               inr (
                 none_in_turn s e h.0 made.0 made.3 k at b low high none_own,
                 are_in_turn (before ++ e ∷ []) later e.new made.1 made.4 h.1 is_next (suc k) len_next b (low_none s e h.0 made.0 made.3 k at b low high none_own) (high_none s e h.0 made.0 made.3 k at b low high),
@@ -297,49 +308,44 @@ module _ (v : ServiceView) (serving : IsServing v) (run : List Executed) (one_ru
 
     module _ (lines : List Line) (made : IsMadeOf initial_state run lines) where
       abbrev all : List Line
-      all = lines_of owner turn_of_request initial_state run lines made
+      all = lines_of its_owner its_turn_of initial_state run lines made
 
-      for_connection : ConnectionMade owner turn_of_request (asked turns) run all c 0
-      for_connection = connection_made owner turn_of_request c (asked turns) initial_state run lines made 0 is_run.follows
+      for_connection : ConnectionMade its_owner its_turn_of (asked turns) run all c 0
+      for_connection = connection_made its_owner its_turn_of c (asked turns) initial_state run lines made 0 is_run.follows
           (are_in_turn [] run initial_state lines made is_run.follows refl 0 refl 0 (λ a place there own lt ran. absurd (omega (arith, lt))) (λ t from_one le. absurd (omega (arith, from_one, le))))
 
       ran_first : for_connection.ran ≡ take (length for_connection.ran) (asked turns)
       ran_first = beginning for_connection.ran (asked turns) (λ i x at. let same : 0 + i ≡ i = omega arith in sym (ap (slice_get (asked turns)) same) ∙ for_connection.theirs i x at)
 
-      pub executed_for : IsExecutedFor all c (bytes_of_connection c v.connections.heard)
+      pub executed_for : IsExecutedFor all c (bytes_of_connection c heard)
       executed_for = record { turns = turns; rest = rest; spells = spells; count = length for_connection.ran; made = for_connection.made ∙ ap (flat_map steps) ran_first }
 
       reply_there : (number : ℕ) (r : replies.Reply) → WasAnsweredFor run xs c number r → slice_get (replies_from (take (length for_connection.ran) (asked turns)) (answers_made c all)) (number - 1) ≡ Some r
       reply_there number r (a, there, connection, turn, was) =
-          let own : owner was.answered.client was.answered.number ≡ c = (λ i. owner (was.client_is i) (was.number_is i)) ∙ (owner_is a there ∙ connection) in
+          let own : its_owner was.answered.client was.answered.number ≡ c = (λ i. its_owner (was.client_is i) (was.number_is i)) ∙ (owner_is a there ∙ connection) in
           let g = for_connection.replied was.given.executed was.answered (contains_at run was.place was.given.executed was.given.there) was.given.given own in
-          let turn_here : number ≡ suc (0 + g.0) = sym turn ∙ (sym (turn_is a there) ∙ ((λ i. turn_of_request (sym was.client_is i) (sym was.number_is i)) ∙ g.1)) in
+          let turn_here : number ≡ suc (0 + g.0) = sym turn ∙ (sym (turn_is a there) ∙ ((λ i. its_turn_of (sym was.client_is i) (sym was.number_is i)) ∙ g.1)) in
           let place : g.0 ≡ number - 1 = omega (arith, turn_here) in
           subst (λ (cs : List Command). slice_get (replies_from cs (answers_made c all)) (number - 1) ≡ Some r) ran_first
           (subst (λ (k : ℕ). slice_get (replies_from for_connection.ran (answers_made c all)) k ≡ Some r) place (g.2 ∙ ap Some was.reply_is))
 
   -- these lines are an order of all connections
-  pub order_of : (lines : List Line) (made : IsMadeOf initial_state run lines) → IsConnectionOrder v.connections.heard v.connections.given (lines_of owner turn_of_request initial_state run lines made)
+  pub order_of : (lines : List Line) (made : IsMadeOf initial_state run lines) → IsConnectionOrder heard given (lines_of its_owner its_turn_of initial_state run lines made)
   unfolding executed_for
   order_of lines made = record {
-    done = is_done owner turn_of_request run lines made is_run.follows;
+    done = is_done its_owner its_turn_of run lines made is_run.follows;
     asked_only = λ c.
-        let bytes = bytes_of_connection c v.connections.heard in
+        let bytes = bytes_of_connection c heard in
         let sp = spells_some (suc (length bytes)) bytes (omega arith) in
         executed_for c sp.0 sp.1 sp.2 lines made;
     answered = λ c.
-        let is = one_run.served c in
+        let is = serves.served c in
         let f = is.first in
         record {
           executed = executed_for c f.turns f.rest f.spells lines made;
           taken = is.taken;
           more = f.more;
           first = f.is;
-          texts = texts_imply (WasAnsweredFor run xs c) _ (reply_there c f.turns f.rest f.spells lines made) 1 is.taken (bytes_of_connection c v.connections.given) is.texts;
+          texts = texts_imply (WasAnsweredFor run xs c) _ (reply_there c f.turns f.rest f.spells lines made) 1 is.taken (bytes_of_connection c given) is.texts;
         };
   }
-
-  pub has_order : (lines : List Line) × IsConnectionOrder v.connections.heard v.connections.given lines
-  has_order =
-      let m = made_of_run initial_state run is_run.follows in
-      (lines_of owner turn_of_request initial_state run m.0 m.1, order_of m.0 m.1)

@@ -13,11 +13,11 @@ use Rattle.run_laws.specs.Replied.{GivenIn}
 use Rattle.memcached_spec.specs.Server.{Line, IsDone}
 use Rattle.memcached_spec.specs.Order.{IsExecutedFor, IsAnsweredBy}
 use Rattle.connections.specs.Connections.{bytes_of_connection}
-use Rattle.server_laws.specs.Saved.{IsMet, DigestsAreDistinct}
-use Rattle.server_laws.specs.Run.{IsRun}
+use Rattle.connections.specs.History.{Passed, heard_among, given_among}
+use Rattle.server_laws.specs.Saved.{DigestsAreDistinct}
 use Rattle.service.specs.declared.assignment.Assignment.{Assignment}
 use Rattle.service.specs.Service.{ServiceView}
-use Rattle.service_laws.specs.Serving.{IsServing, IsServedByOne}
+use Rattle.service_laws.specs.Serving.{IsServing}
 
 -- the command was executed in the run's round at this place
 abbrev pub RanAt : List Executed → ℕ → Assignment → Type 0
@@ -50,24 +50,12 @@ abbrev pub AreAskedInTurn : List Event → List WorldView → List Assignment �
 AreAskedInTurn events worlds assignments = (b : Assignment) (t : ℕ) → Contains assignments b → 1 ≤ t → t < b.turn
     → (a : Assignment) × Contains assignments a × (a.connection ≡ b.connection) × (a.turn ≡ t) × WasAnsweredBefore events worlds a b
 
--- ---- laws
+-- Each moment is a cut of this order: what stands before the cut had been heard by then, and answers all that had been given by then. What is asked or given later stands behind it.
+abbrev pub AreCuts : List Passed → List Line → Type 0
+AreCuts passed lines = (early late : List Passed) → passed ≡ early ++ late → (before after : List Line) × (lines ≡ before ++ after) × IsConnectionOrder (heard_among early) (given_among early) before
 
--- If commands are asked in turn, and digests tell apart the states that executors had, the world has a run that executes them in turn.
-abbrev pub RunsAreInTurn : Type 0
-RunsAreInTurn = (v : ServiceView) (serving : IsServing v) → AreAskedInTurn serving.over.world.events serving.over.world.through.worlds v.assignments → DigestsAreDistinct serving.over.world.through.worlds
-    → (run : List Executed) × IsRun (IsMet serving.over.world.through.worlds) serving.over.world.events serving.over.world.now run × RanInTurn run v.assignments
-
--- if the run that serves all connections executes their commands in turn, there is one order of item steps for all of them
-abbrev pub ConnectionsHaveOneOrder : Type 0
-ConnectionsHaveOneOrder = (v : ServiceView) (serving : IsServing v) (run : List Executed) → IsServedByOne v serving.over run → RanInTurn run v.assignments → (lines : List Line) × IsConnectionOrder v.connections.heard v.connections.given lines
-
--- at a later moment, when the run is longer and more was asked, the order is longer
-abbrev pub ConnectionOrdersGrow : Type 0
-ConnectionOrdersGrow = (v w : ServiceView) (early : IsServing v) (late : IsServing w) (run more : List Executed) (added : List Assignment) → IsServedByOne v early.over run → IsServedByOne w late.over (run ++ more) → RanInTurn run v.assignments → RanInTurn (run ++ more) w.assignments
-    → w.assignments ≡ v.assignments ++ added → (lines after : List Line) × IsConnectionOrder v.connections.heard v.connections.given lines × IsConnectionOrder w.connections.heard w.connections.given (lines ++ after)
-
--- What all connections asked and were given, at any moment, is what one server does in one order of item steps, in which each connection's commands are in their order, if digests tell apart the states that executors had.
-pub record IsInOneOrder (v : ServiceView) : Type 0 where
+-- The history of all connections, here or gone, is linearizable: what they asked and were given is what one server does in one order of item steps, which keeps the order of each connection and real time, if digests tell apart the states that executors had.
+pub record IsLinearizableService (v : ServiceView) : Type 0 where
   pub serving : IsServing v
   pub in_turn : AreAskedInTurn serving.over.world.events serving.over.world.through.worlds v.assignments
-  pub one_order : DigestsAreDistinct serving.over.world.through.worlds → (lines : List Line) × IsConnectionOrder v.connections.heard v.connections.given lines
+  pub one_order : DigestsAreDistinct serving.over.world.through.worlds → (lines : List Line) × IsConnectionOrder v.connections.heard v.connections.given lines × AreCuts v.connections.passed lines

@@ -1,34 +1,16 @@
-//! Laws of one order for all connections. The functions do nothing: what each says is its contract.
+//! The law of one order for all connections.
 
-ghost use Rattle.service_laws.specs.Orders.{RunsAreInTurn, ConnectionsHaveOneOrder, ConnectionOrdersGrow, IsInOneOrder};
+ghost use Rattle.service_laws.specs.Orders.{IsLinearizableService};
 
 use server_laws::worlds_are_of_one_server;
 use service::Service;
 
-/// If each command was asked only after the earlier ones of its connection were answered, the run executes it in a
-/// later round than these.
-pub fn runs_are_in_turn()
-    ensures { RunsAreInTurn }
-{
-    worlds_are_of_one_server();
-}
-
-/// If the run executes the commands of each connection in their order, all that connections asked and were given is
-/// what one server does in one order of item steps.
-pub fn connections_have_one_order()
-    ensures { ConnectionsHaveOneOrder }
-{}
-
-/// The order of a later moment, at which the run is longer and more was asked, begins with that of the earlier one.
-pub fn connection_orders_grow()
-    ensures { ConnectionOrdersGrow }
-{}
-
-/// All that connections asked and were given so far is what one server does in one order of item steps, in which the
-/// commands of each connection are in their order, if digests tell the states of the executors apart. It holds of each
-/// service at any moment, whatever happened. The call does nothing.
-pub fn serves_in_one_order(service: &Service)
-    ensures { IsInOneOrder service.now }
+/// The history of all connections, here or gone, is linearizable, if digests tell the states of the executors apart.
+/// All that they asked and were given so far is what one server does in one order of item steps. The commands of each
+/// connection are in their order. A command whose bytes were heard after a reply was given comes later than what was
+/// replied to. It holds of each service at any moment, whatever happened. The call does nothing.
+pub fn service_is_linearizable(service: &Service)
+    ensures { IsLinearizableService service.now }
 {
     service.shows();
     worlds_are_of_one_server();

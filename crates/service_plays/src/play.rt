@@ -228,8 +228,8 @@ impl Stage {
 }
 
 /// How often a replica was found down.
-fn stops(service: &Service) -> u64 {
-    let replicas = service.figures().replicas;
+fn stops(alloc: Global, service: &mut Service) -> u64 {
+    let replicas = service.figures(alloc).replicas;
     let mut stops = 0u64;
     for node in replicas.executors.iter().chain(replicas.verifiers.iter()) {
         stops = stops.saturating_add(node.stops);
@@ -262,7 +262,7 @@ fn drive<R: Threads + Wait + Sync>(
     Shown {
         commands: stage.judge.commands,
         replies: stage.judge.replies,
-        stops: stops(&stage.service),
+        stops: stops(alloc, &mut stage.service),
         wrong,
     }
 }

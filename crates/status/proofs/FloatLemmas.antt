@@ -9,7 +9,7 @@ use Rattle.figures.specs.declared.kind.TheConstants.{ALL_KINDS}
 use Rattle.figures.specs.declared.node.NodeFigures.{NodeFigures}
 use Rattle.serde_json.specs.Written.{has_float, items_have_float}
 use Rattle.serde_json.specs.View.{items_of}
-use Rattle.status.specs.Data.{whole, outcomes_data, all_commands_data, connections_data, keys_data, batches_data, memory_data, lines_data, node_data, histogram_data, replicas_data, figures_data}
+use Rattle.status.specs.Data.{whole, outcomes_data, all_commands_data, connections_data, keys_data, batches_data, memory_data, node_data, histogram_data, replicas_data, figures_data}
 
 no_float_in_wholes : (counts : List ℕ) → items_have_float (items_of (map whole counts)) ≡ false
 no_float_in_wholes [] = refl
@@ -37,7 +37,7 @@ unfolding histogram_data
 no_float_in_histogram h = rw (no_float_in_wholes h.counts) refl
 
 pub no_float : (f : Figures) → has_float (figures_data f) ≡ false
-unfolding figures_data connections_data keys_data batches_data memory_data lines_data all_commands_data
+unfolding figures_data connections_data keys_data batches_data memory_data all_commands_data
 no_float f =
     rw (no_float_in_commands f.commands ALL_KINDS)
     (rw (no_float_in_replicas f.replicas)

@@ -9,15 +9,12 @@ use Rattle.figures.specs.declared.figures.Batches.{Batches}
 use Rattle.figures.specs.declared.figures.Memory.{Memory}
 use Rattle.figures.specs.declared.figures.Replicas.{Replicas}
 use Rattle.figures.specs.declared.commands.Commands.{Commands}
-use Rattle.figures.specs.declared.lines.Lines.{Lines}
 use Rattle.figures.specs.declared.histogram.Histogram.{Histogram}
 use Rattle.figures.specs.declared.node.NodeFigures.{NodeFigures}
 use Rattle.figures.specs.declared.kind.Kind.{Kind}
 use Rattle.figures.specs.declared.kind.TheConstants.{ALL_KINDS}
-use Rattle.figures.specs.declared.line.Line.TheVariants as line
 use Rattle.figures.specs.declared.outcome.TheConstants.{ALL_OUTCOMES}
 use Rattle.figures.specs.Commands.{kind_count}
-use Rattle.figures.specs.Lines.{line_count}
 
 -- a count
 abbrev pub whole : ℕ → Data
@@ -58,16 +55,6 @@ outcomes_data commands kind = wholes_data (map (kind_count commands kind) ALL_OU
 abbrev pub commands_data : Commands → List Kind → Data
 commands_data commands kinds = array (items_of (map (outcomes_data commands) kinds))
 
-unfoldable pub lines_data : Lines → Data
-lines_data l = object (member (codes "bad_chunk") (whole (line_count l line.BadChunk))
-    (member (codes "bad_delta") (whole (line_count l line.BadDelta))
-    (member (codes "bad_format") (whole (line_count l line.BadFormat))
-    (member (codes "quit") (whole (line_count l line.Quit))
-    (member (codes "too_large") (whole (line_count l line.TooLarge))
-    (member (codes "too_long") (whole (line_count l line.TooLong))
-    (member (codes "unknown_name") (whole (line_count l line.UnknownName))
-    (member (codes "version") (whole (line_count l line.Version)) no_members))))))))
-
 unfoldable pub node_data : NodeFigures → Data
 node_data n = object (member (codes "stops") (whole n.stops)
     (member (codes "up") (boolean n.is_up) no_members))
@@ -98,8 +85,7 @@ figures_data f = object (member (codes "batch_times") (histogram_data f.batch_ti
     (member (codes "commands") (all_commands_data f.commands)
     (member (codes "connections") (connections_data f.connections)
     (member (codes "keys") (keys_data f.keys)
-    (member (codes "lines") (lines_data f.lines)
     (member (codes "memory") (memory_data f.memory)
     (member (codes "replicas") (replicas_data f.replicas)
     (member (codes "reply_times") (histogram_data f.reply_times)
-    (member (codes "uptime_seconds") (whole f.uptime_seconds) no_members))))))))))
+    (member (codes "uptime_seconds") (whole f.uptime_seconds) no_members)))))))))

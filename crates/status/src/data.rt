@@ -6,8 +6,8 @@ ghost use Rattle.serde_json.specs.View.{view};
 ghost use Rattle.status.specs.Data as spec;
 
 use figures::{
-    ALL_KINDS, Batches, Commands, Connections, Figures, Histogram, Keys, Kind, Line, Lines, Memory,
-    NodeFigures, Outcome, Replicas,
+    ALL_KINDS, Batches, Commands, Connections, Figures, Histogram, Keys, Kind, Memory, NodeFigures,
+    Outcome, Replicas,
 };
 use serde_json::{Value, json};
 use std::alloc::{AllocError, Global};
@@ -67,13 +67,6 @@ fn all_commands_json(alloc: Global, commands: &Commands) -> Result<Value, AllocE
     commands_json(alloc, ALL_KINDS.as_slice(), commands)
 }
 
-#[tactic(auto, unfolding(crate::specs::Data::lines_data))]
-fn lines_json(alloc: Global, lines: &Lines) -> Result<Value, AllocError>
-    ensures { IfOk result (λ v. view v ≡ spec.lines_data lines.now) }
-{
-    json!(in alloc; {"unknown_name": lines.of(Line::UnknownName), "bad_format": lines.of(Line::BadFormat), "bad_delta": lines.of(Line::BadDelta), "too_long": lines.of(Line::TooLong), "too_large": lines.of(Line::TooLarge), "bad_chunk": lines.of(Line::BadChunk), "version": lines.of(Line::Version), "quit": lines.of(Line::Quit)})
-}
-
 #[tactic(auto, unfolding(crate::specs::Data::node_data))]
 fn node_json(alloc: Global, node: &NodeFigures) -> Result<Value, AllocError>
     ensures { IfOk result (λ v. view v ≡ spec.node_data node.now) }
@@ -128,13 +121,12 @@ fn figures_json(alloc: Global, figures: &Figures) -> Result<Value, AllocError>
     let connections = connections_json(alloc, &figures.connections)?;
     let commands = all_commands_json(alloc, &figures.commands)?;
     let keys = keys_json(alloc, &figures.keys)?;
-    let lines = lines_json(alloc, &figures.lines)?;
     let batches = batches_json(alloc, &figures.batches)?;
     let replicas = replicas_json(alloc, &figures.replicas)?;
     let memory = memory_json(alloc, &figures.memory)?;
     let reply_times = histogram_json(alloc, &figures.reply_times)?;
     let batch_times = histogram_json(alloc, &figures.batch_times)?;
-    json!(in alloc; {"uptime_seconds": figures.uptime_seconds, "connections": connections, "commands": commands, "keys": keys, "lines": lines, "batches": batches, "replicas": replicas, "memory": memory, "reply_times": reply_times, "batch_times": batch_times})
+    json!(in alloc; {"uptime_seconds": figures.uptime_seconds, "connections": connections, "commands": commands, "keys": keys, "batches": batches, "replicas": replicas, "memory": memory, "reply_times": reply_times, "batch_times": batch_times})
 }
 
 /// The text of all figures as JSON. Some 2 KB.

@@ -54,7 +54,6 @@ rect { fill: var(--bar); }
 <section class="card"><h2>Replication</h2><table id="replicas"></table></section>
 <section class="card"><h2>Connections and memory</h2><table id="others"></table></section>
 <section class="card"><h2>Commands</h2><table id="commands"></table></section>
-<section class="card"><h2>Lines that asked nothing</h2><table id="lines"></table></section>
 </div>
 <script>
 "use strict";
@@ -145,7 +144,6 @@ function show(f) {
   rows("commands", f.commands.map((list, i) => [names[i], whole(sum(list))]));
   rows("others", [["Accepted", whole(f.connections.accepted)], ["Refused", whole(f.connections.refused)], ["Could not be accepted", whole(f.connections.failed)],
     ["Read", size(f.connections.bytes_read)], ["Written", size(f.connections.bytes_written)], ["Keys and values", size(f.memory.item_bytes)]]);
-  rows("lines", Object.entries(f.lines).map(([name, n]) => [name.replaceAll("_", " "), whole(n)]));
 }
 async function renew() {
   try {

@@ -114,7 +114,6 @@ fn numbers_of_the_data(rt: HostRuntime) -> Result<(), Fail> {
     assert!(rt; number_at(alloc, "/uptime_seconds") == Some(7));
     assert!(rt; number_at(alloc, "/connections/accepted") == Some(12));
     assert!(rt; number_at(alloc, "/commands/4/2") == Some(2));
-    assert!(rt; number_at(alloc, "/lines/version") == Some(1));
     assert!(rt; number_at(alloc, "/replicas/executors/0/stops") == Some(2));
     assert!(rt; number_at(alloc, "/reply_times/counts/1") == Some(1));
     assert!(rt; number_at(alloc, "/batch_times/sum") == Some(1234567));

@@ -39,13 +39,13 @@ fn have_line(alloc: Global, wanted: &[u8]) -> bool {
     }
 }
 
-/// 26 metrics with two lines each; 20 values, 32 of commands, 8 of lines, 18 of each histogram. Each node that is
+/// 25 metrics with two lines each; 20 values, 32 of commands, 18 of each histogram. Each node that is
 /// there has a line of two metrics.
 #[test]
 fn each_line_is_of_the_form(rt: HostRuntime) -> Result<(), Fail> {
     let alloc = rt.alloc();
-    assert!(rt; are_form(alloc, &Figures::NONE, 52 + 20 + 32 + 8 + 36));
-    assert!(rt; are_form(alloc, &some_figures(), 52 + 20 + 32 + 8 + 36 + 12));
+    assert!(rt; are_form(alloc, &Figures::NONE, 50 + 20 + 32 + 36));
+    assert!(rt; are_form(alloc, &some_figures(), 50 + 20 + 32 + 36 + 12));
     Ok(())
 }
 
@@ -68,7 +68,6 @@ fn lines_of_values(rt: HostRuntime) -> Result<(), Fail> {
             b"eve_commands_total{command=\"get\",outcome=\"miss\"} 0"
         )
     );
-    assert!(rt; have_line(alloc, b"eve_lines_total{line=\"version\"} 1"));
     assert!(rt; have_line(alloc, b"eve_node_up{role=\"executor\",id=\"0\"} 1"));
     assert!(rt; have_line(alloc, b"eve_node_up{role=\"executor\",id=\"2\"} 0"));
     assert!(rt; have_line(alloc, b"eve_node_stops_total{role=\"executor\",id=\"0\"} 2"));

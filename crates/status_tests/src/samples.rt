@@ -1,6 +1,6 @@
 //! Figures that are not all zero.
 
-use figures::{Asked, Figures, Kind, Line, NodeFigures};
+use figures::{Asked, Figures, Kind, NodeFigures};
 use proto::Reply;
 
 /// Three executors of which one is down, some commands, two times in each histogram.
@@ -20,7 +20,6 @@ pub fn some_figures() -> Figures {
     };
     figures.answer(set, &Reply::Stored);
     figures.answer(set, &Reply::Stored);
-    figures.lines.count(Line::Version);
     figures.reply_times.observe(50);
     figures.reply_times.observe(51);
     figures.batch_times.observe(1_234_567);

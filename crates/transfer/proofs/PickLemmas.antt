@@ -14,7 +14,7 @@ use Rattle.std.proofs.lemmas.Bool.Decides.{nat_tests}
 use Rattle.std.proofs.lemmas.Grind.{flat_map-append}
 use Rattle.std.proofs.lemmas.List.{append-nil}
 use Rattle.std.proofs.lemmas.List.Elements.{All-nil, All-cons}
-use Rattle.items.specs.Map.{Items}
+use Rattle.pages.specs.Page.{Laid}
 use Rattle.pages.proofs.JoinedLemmas.{same_number}
 
 range_more : (p n : ℕ) → range_with_len p (suc n) ≡ range_with_len p n ++ (p + n) ∷ []
@@ -33,19 +33,19 @@ flat_map_more f n =
     ap (λ k. flat_map f (range_with_len 0 k)) next ∙ (ap (flat_map f) (range_more 0 n) ∙ (flat_map-append f (range_with_len 0 n) ((0 + n) ∷ [])
     ∙ (ap (λ xs. flat_map f (range_with_len 0 n) ++ xs) (append-nil (f (0 + n))) ∙ ap (λ k. flat_map f (range_with_len 0 n) ++ f k) here)))
 
-module _ (passed : ℕ → Bool) (page : ℕ → Items) where
+module _ (passed : ℕ → Bool) (page : ℕ → Laid) where
   -- a page, unless it is passed over
-  abbrev pub pick : ℕ → List (ℕ × Items)
+  abbrev pub pick : ℕ → List (ℕ × Laid)
   pick k = if passed k then [] else (k, page k) ∷ []
 
-  abbrev pub picks : ℕ → ℕ → List (ℕ × Items)
+  abbrev pub picks : ℕ → ℕ → List (ℕ × Laid)
   picks p n = flat_map pick (range_with_len p n)
 
   -- before others, page p or none
-  abbrev before : ℕ → Bool → List (ℕ × Items) → List (ℕ × Items)
+  abbrev before : ℕ → Bool → List (ℕ × Laid) → List (ℕ × Laid)
   before p b others = (if b then [] else (p, page p) ∷ []) ++ others
 
-  all_above : (m p : ℕ) (b : Bool) (others : List (ℕ × Items)) → m < p → below_all nat_cmp m others ≡ true → below_all nat_cmp m (before p b others) ≡ true
+  all_above : (m p : ℕ) (b : Bool) (others : List (ℕ × Laid)) → m < p → below_all nat_cmp m others ≡ true → below_all nat_cmp m (before p b others) ≡ true
   all_above m p true others l h = h
   all_above m p false others l h = and_from _ _ (ap is_lt (sym (nat_cmp_is m p Less l))) h
 
@@ -53,7 +53,7 @@ module _ (passed : ℕ → Bool) (page : ℕ → Items) where
   above m p zero l = refl
   above m p (suc n) l = all_above m p (passed p) (picks (p + 1) n) l (above m (p + 1) n (omega (arith, l)))
 
-  rises : (p : ℕ) (b : Bool) (others : List (ℕ × Items)) → below_all nat_cmp p others ≡ true → is_sorted nat_cmp others ≡ true → is_sorted nat_cmp (before p b others) ≡ true
+  rises : (p : ℕ) (b : Bool) (others : List (ℕ × Laid)) → below_all nat_cmp p others ≡ true → is_sorted nat_cmp others ≡ true → is_sorted nat_cmp (before p b others) ≡ true
   rises p true others a h = h
   rises p false others a h = and_from _ _ a h
 
@@ -61,7 +61,7 @@ module _ (passed : ℕ → Bool) (page : ℕ → Items) where
   rising p zero = refl
   rising p (suc n) = rises p (passed p) (picks (p + 1) n) (above p (p + 1) n (omega arith)) (rising (p + 1) n)
 
-  one_at_most : (p n : ℕ) (b : Bool) (others : List (ℕ × Items)) → length others ≤ n → length (before p b others) ≤ suc n
+  one_at_most : (p n : ℕ) (b : Bool) (others : List (ℕ × Laid)) → length others ≤ n → length (before p b others) ≤ suc n
   one_at_most p n true others l = omega (arith, l)
   one_at_most p n false others l = omega (arith, l)
 
@@ -69,16 +69,16 @@ module _ (passed : ℕ → Bool) (page : ℕ → Items) where
   few p zero = omega arith
   few p (suc n) = one_at_most p n (passed p) (picks (p + 1) n) (few (p + 1) n)
 
-  all_before : (P : ℕ × Items → Type 0) (p : ℕ) (b : Bool) (others : List (ℕ × Items)) → P (p, page p) → All P others → All P (before p b others)
+  all_before : (P : ℕ × Laid → Type 0) (p : ℕ) (b : Bool) (others : List (ℕ × Laid)) → P (p, page p) → All P others → All P (before p b others)
   all_before P p true others here h = h
   all_before P p false others here h = All-cons P (p, page p) others here h
 
-  pub each : (P : ℕ × Items → Type 0) (p n : ℕ) → ((k : ℕ) → p ≤ k → k < p + n → P (k, page k)) → All P (picks p n)
+  pub each : (P : ℕ × Laid → Type 0) (p n : ℕ) → ((k : ℕ) → p ≤ k → k < p + n → P (k, page k)) → All P (picks p n)
   each P p zero all = All-nil P
   each P p (suc n) all = all_before P p (passed p) (picks (p + 1) n) (all p (omega arith) (omega arith)) (each P (p + 1) n (λ k a b. all k (omega (arith, a)) (omega (arith, b))))
 
   -- where a page of another number stands before others, they are looked through
-  looked_through : (k p : ℕ) (b : Bool) (others : List (ℕ × Items)) → (k == p) ≡ false → lookup (λ q. k == q) (before p b others) ≡ lookup (λ q. k == q) others
+  looked_through : (k p : ℕ) (b : Bool) (others : List (ℕ × Laid)) → (k == p) ≡ false → lookup (λ q. k == q) (before p b others) ≡ lookup (λ q. k == q) others
   looked_through k p true others other = refl
   looked_through k p false others other = ap (λ t. cond t (Some (page p)) (lookup (λ q. k == q) others)) other
 
@@ -88,7 +88,7 @@ module _ (passed : ℕ → Bool) (page : ℕ → Items) where
       let other : (k == p) ≡ false = grind (arith, nat_tests, l) in
       looked_through k p (passed p) (picks (p + 1) n) other ∙ missing k (p + 1) n (omega (arith, l))
 
-  found : (p : ℕ) (b : Bool) (others : List (ℕ × Items)) → lookup (λ q. p == q) others ≡ None → lookup (λ q. p == q) (before p b others) ≡ cond b None (Some (page p))
+  found : (p : ℕ) (b : Bool) (others : List (ℕ × Laid)) → lookup (λ q. p == q) others ≡ None → lookup (λ q. p == q) (before p b others) ≡ cond b None (Some (page p))
   found p true others none = none
   found p false others none = ap (λ t. cond t (Some (page p)) (lookup (λ q. p == q) others)) (same_number p)
 

@@ -12,7 +12,7 @@ use Rattle.decrees.specs.Votes.{token_eq}
 use Rattle.decrees.proofs.TokenLemmas.{token_eq-true}
 use Rattle.items.specs.declared.item.Item.{Item}
 use Rattle.items.specs.Map.{Items}
-use Rattle.pages.specs.Page.{page_count, page_items, page_digest_in, of_each}
+use Rattle.pages.specs.Page.{Laid, page_count, page_items, page_digest_in, of_each}
 use Rattle.pages.specs.Form.{fits_form, layout_of}
 use Rattle.pages.specs.Joined.{joined_pages, parts}
 use Rattle.pages.proofs.JoinedLemmas.{no_items, same_number}
@@ -21,7 +21,7 @@ use Rattle.states.specs.State.{StateView, IsState, with_token}
 use Rattle.states.specs.Parts.{parts_of}
 use Rattle.states.specs.Origin.{origin_of}
 use Rattle.transfer.specs.Need.{need_of}
-use Rattle.transfer.specs.Parcel.{ParcelView, page_from, joined_with, differing_pages, answer_of, parcel_state, makes_state, take_of}
+use Rattle.transfer.specs.Parcel.{ParcelView, own_page, page_from, joined_with, differing_pages, answer_of, parcel_state, makes_state, take_of}
 use Rattle.transfer.specs.Laws.{DigestsTellPages, HandsOver, TakesWhatWasAsked}
 use Rattle.transfer.proofs.PickLemmas.{picked}
 
@@ -82,9 +82,9 @@ module _ (own s : StateView) (tells : DigestsTellPages (layout_of s.form) (layou
   told k l = get_or-map-range_with_len (page_digest_in (layout_of own.form) own.items) 0 page_count k k [] l (omega arith)
 
   page_is : (k : ℕ) → k < page_count → page_from own.items (differing_pages s (need_of own)) k ≡ page_items s.items k
-  page_is k l = ap (λ o. option_map_or (λ (m : Items). m) o (page_items own.items k)) (picked same (page_items s.items) k 0 page_count (omega arith) (omega (arith, l))) ∙ by (same k) refl
+  page_is k l = ap (λ o. option_map_or (λ (page : Laid). page.items) o (page_items own.items k)) (picked same (own_page s) k 0 page_count (omega arith) (omega (arith, l))) ∙ by (same k) refl
     where
-      by : (b : Bool) → same k ≡ b → option_map_or (λ (m : Items). m) (cond b None (Some (page_items s.items k))) (page_items own.items k) ≡ page_items s.items k
+      by : (b : Bool) → same k ≡ b → option_map_or (λ (page : Laid). page.items) (cond b None (Some (own_page s k))) (page_items own.items k) ≡ page_items s.items k
       by true e =
           let digests : page_digest_in (layout_of s.form) s.items k ≡ page_digest_in (layout_of own.form) own.items k = (bytes_eq-Decides (page_digest_in (layout_of s.form) s.items k) (slice_index_or (need_of own).digests k [])).0 e ∙ told k l in
           ap (λ (es : List (List ℕ × Item)). from_sorted es) (sym (tells k l digests))

@@ -11,7 +11,7 @@ use pages::{PAGES, Page};
 use states::State;
 use std::alloc::{AllocError, Global};
 
-/// Adds a page of the state, where it has another digest than the need tells of.
+/// Adds a page of the state, if it has another digest than the need tells of.
 fn add_differing(
     pages: &mut Vec<NumberedPage>,
     state: &State,
@@ -24,7 +24,8 @@ fn add_differing(
     ensures { OnOk result (pages.new.items ≡ pages.old.items ++ differing state.now need.now number) }
 {
     if state.pages().digest(number) != need.digests.as_slice()[number] {
-        pages.push(NumberedPage::new(number, page.clone()?)?)?;
+        let layout = state.pages().layout();
+        pages.push(NumberedPage::new(number, layout, page.clone()?)?)?;
     }
     Ok(())
 }
@@ -46,8 +47,8 @@ fn differing_from(
 }
 
 /// What the node that said this needs of the state: its fields and its sessions, and of its pages those
-/// that have other digests. No digest is computed. Sessions are shared, and pages whose entries are
-/// sorted; other pages are laid out anew, with shared entries. The only error is a failed allocation.
+/// that have other digests. All is shared with the state: no entry is copied, and no digest is computed.
+/// The only error is a failed allocation.
 pub fn answer(alloc: Global, state: &State, need: &Need) -> Result<Parcel, AllocError>
     requires { 0 < state.now.number }
     ensures { IfOk result (λ parcel. parcel ≡ answer_of state.now need.now) }

@@ -3,7 +3,12 @@
 //! A node that is behind tells what it has: a `Need`, the digest of each of its pages. Another
 //! answers with a `Parcel`: the fields of its own state, its sessions, and just the pages whose
 //! digests are not those. The first joins these with its own pages, and takes what they make only
-//! where the token, computed from scratch, is the one that was decided. So it believes no sender.
+//! if its token is the one that was decided.
+//!
+//! A parcel shares its pages as they are, in the layout of the state's form, with the digests that they
+//! keep. The invariant of `Page` says that a digest it keeps is that of its items, and a record holds no
+//! digests. So the token is that of what came, and no sender is believed. Between two states of form 2,
+//! or two of form 3, neither side does work per item.
 //!
 //! It stands on `states` and `executor`, whose states it hands over, on `pages`, and on `wire` for
 //! the records. The layer above uses `Need::of_state`, `answer` and `take`: each is its definition,

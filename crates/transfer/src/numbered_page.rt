@@ -1,20 +1,19 @@
 //! A page with its number.
 
-ghost use Rattle.std.specs.Prelude.{◌≡◌, ◌<◌, IfOk};
+ghost use Rattle.std.specs.Prelude.{◌≡◌, ◌<◌, ◌↔◌, IsTrue, IfOk};
 ghost use Rattle.pages.specs.Page.{page_count};
-ghost use Rattle.pages.specs.Joined.{ArePages, IsOwn, items_of};
+ghost use Rattle.pages.specs.Joined.{IsOwn};
 ghost use Rattle.transfer.specs.Parcel.{PageOf, numbered_text};
 ghost use Rattle.transfer.specs.ParcelProofs.{numbered_prefix_free};
 
 use pages::{Layout, Page};
 use proto::Fault;
-use states::take_page;
 use std::alloc::{AllocError, Global};
 use std::marker::Model;
 use wire::{Record, Sink};
 
-/// A page with its number, of which alone its keys are. Its entries are sorted, so that its text does not
-/// depend on the form of the state that it was part of. Clones share the page.
+/// A page with its number, of which alone its keys are. Clones share the page, and the digest that it
+/// keeps.
 #[derive(Drop)]
 pub struct NumberedPage {
     number: u8,
@@ -25,31 +24,30 @@ impl Model for NumberedPage {
     ghost use Rattle.std.specs.Prelude.{ℕ};
     ghost use Rattle.std.specs.Coded.{coded×, coded_list, coded_ℕ};
     ghost use Rattle.std.specs.FinMap as map;
-    ghost use Rattle.items.specs.Map.{Items};
     ghost use Rattle.items.specs.contracts.item.Item as item;
+    ghost use Rattle.pages.specs.contracts.layout.Layout as kind;
+    ghost use Rattle.pages.specs.Page.{Laid, laid_code};
     ghost use Rattle.transfer.specs.Parcel.{PageOf};
 
-    ghost Value = { ℕ × Items };
+    ghost Value = { ℕ × Laid };
 
-    ghost coded = { coded× coded_ℕ (map.code (coded_list coded_ℕ) item.the_row.coded) };
+    ghost coded = { coded× coded_ℕ (laid_code (map.code (coded_list coded_ℕ) item.the_row.coded) kind.the_row.coded) };
 
-    ghost view = { λ n. (n.number, n.page.items) };
+    ghost view = { λ n. (n.number, record { items = n.page.items; layout = n.page.layout }) };
 
-    ghost use Rattle.std.specs.Prelude.{◌≡◌};
-    ghost use Rattle.pages.specs.declared.layout.Layout.TheVariants.{Sorted};
-
-    ghost invariant = { λ n. PageOf (n.number, n.page.items) × (n.page.layout ≡ Sorted) };
+    ghost invariant = { λ n. PageOf (n.number, record { items = n.page.items; layout = n.page.layout }) };
 }
 
 impl NumberedPage {
-    /// The page with its number, laid out in the order of keys. The only error is a failed allocation.
-    pub fn new(number: usize, page: Page) -> Result<NumberedPage, AllocError>
+    /// The page with its number, in this layout. A page that is in it stays as it is. The only error is a
+    /// failed allocation.
+    pub fn new(number: usize, layout: Layout, page: Page) -> Result<NumberedPage, AllocError>
         requires within { number < page_count }
         requires own { IsOwn number page.items }
-        ensures { IfOk result (λ numbered. numbered ≡ (number, page.items)) }
+        ensures { IfOk result (λ numbered. numbered ≡ (number, record { items = page.items; layout = layout })) }
     {
         let mut page = page;
-        page.lay_out(Layout::Sorted)?;
+        page.lay_out(layout)?;
         Ok(NumberedPage {
             number: number as u8,
             page,
@@ -64,10 +62,17 @@ impl NumberedPage {
         usize::from(self.number)
     }
 
+    /// Whether the page is in this layout.
+    pub fn is_laid(&self, layout: Layout) -> bool
+        ensures { IsTrue result ↔ (self.now.1.layout ≡ layout) }
+    {
+        self.page.layout() == layout
+    }
+
     /// The page, without its number.
     pub fn into_page(self) -> Page
-        ensures page { result.items ≡ self.1 }
-        ensures own { IsOwn self.0 self.1 }
+        ensures page { result.items ≡ self.1.items }
+        ensures own { IsOwn self.0 self.1.items }
     {
         self.page
     }
@@ -84,7 +89,7 @@ impl Clone for NumberedPage {
     }
 }
 
-/// The number, and the text of the page: shared where it is kept.
+/// The number, and the text of the page, by its layout.
 impl Record for NumberedPage {
     ghost fits = { PageOf };
 
@@ -97,9 +102,11 @@ impl Record for NumberedPage {
 
     fn take<'b>(alloc: Global, bytes: &'b [u8]) -> Result<(NumberedPage, &'b [u8]), Fault> {
         let (number, page_bytes) = u8::take(alloc, bytes)?;
-        let number = usize::from(number);
-        let (page, rest) = take_page(alloc, Layout::Sorted, number, page_bytes)?;
-        Ok((NumberedPage::new(number, page)?, rest))
+        let (page, rest) = Page::take(alloc, page_bytes)?;
+        if !page.is_own(alloc, usize::from(number))? {
+            return Err(Fault::BadRecord);
+        }
+        Ok((NumberedPage { number, page }, rest))
     }
 
     ghost prefix_free = { numbered_prefix_free };

@@ -1,22 +1,24 @@
 //! What a node sends of its state, and its record.
 
-ghost use Rattle.std.specs.Prelude.{◌≡◌, IsTrue, IfOk};
+ghost use Rattle.std.specs.Prelude.{◌≡◌, ◌↔◌, IsTrue, IfOk};
 ghost use Rattle.std.specs.Ordering.{nat_cmp, is_lt};
 ghost use Rattle.std.specs.FinMap.{is_sorted};
-ghost use Rattle.transfer.specs.Parcel.{IsParcel, parcel_text};
+ghost use Rattle.transfer.specs.Parcel.{AreLaid, IsParcel, parcel_text};
 ghost use Rattle.transfer.specs.ParcelProofs.{parcel_prefix_free};
 
 use crate::numbered_page::NumberedPage;
 use batches::GREATEST_NUMBER;
+use pages::Layout;
 use proto::Fault;
 use sessions::Sessions;
-use states::Origin;
+use states::{Origin, layout_of};
 use std::alloc::{AllocError, Global};
 use std::marker::Model;
 use wire::{Counted, Record, Sink, put_list};
 
 /// What a node sends of its state to one that has another: all but its token, and of its pages some.
-/// The pages and the sessions are shared with the state that it was made of, and with its clones.
+/// The pages and the sessions are shared with the state that it was made of, and with its clones; the
+/// pages are in the layout of the state's form, with the digests that they keep.
 #[derive(Drop)]
 pub struct Parcel {
     pub(crate) origin: Origin,
@@ -30,11 +32,13 @@ impl Model for Parcel {
     ghost use Rattle.items.specs.contracts.item.Item as item;
     ghost use Rattle.sessions.specs.contracts.sessions.LastReply as last;
     ghost use Rattle.states.specs.contracts.origin.Origin as fields;
+    ghost use Rattle.pages.specs.contracts.layout.Layout as kind;
+    ghost use Rattle.pages.specs.Page.{laid_code};
     ghost use Rattle.transfer.specs.Parcel.{ParcelView, IsParcel, parcel_code};
 
     ghost Value = { ParcelView };
 
-    ghost coded = { parcel_code fields.the_row.coded (map.code coded_ℕ last.the_row.coded) (map.code (coded_list coded_ℕ) item.the_row.coded) };
+    ghost coded = { parcel_code fields.the_row.coded (map.code coded_ℕ last.the_row.coded) (laid_code (map.code (coded_list coded_ℕ) item.the_row.coded) kind.the_row.coded) };
 
     ghost view = { λ p. record { origin = p.origin; sessions = p.sessions; pages = p.pages.items } };
 
@@ -50,6 +54,13 @@ fn is_rising(pages: &[NumberedPage]) -> bool
             ensures { result ≡ is_lt (nat_cmp a.now.0 b.now.0) }
         { a.number().cmp(&b.number()).is_lt() },
     )
+}
+
+/// Whether all pages are in this layout.
+fn are_laid(pages: &[NumberedPage], layout: Layout) -> bool
+    ensures { IsTrue result ↔ AreLaid layout pages.now }
+{
+    pages.iter().all(|page| page.is_laid(layout))
 }
 
 impl Parcel {
@@ -108,6 +119,9 @@ impl Record for Parcel {
             return Err(Fault::BadRecord);
         }
         if !is_rising(pages.as_slice()) {
+            return Err(Fault::BadRecord);
+        }
+        if !are_laid(pages.as_slice(), layout_of(origin.form)) {
             return Err(Fault::BadRecord);
         }
         let parcel = Parcel {

@@ -31,8 +31,8 @@ fn put_all(own: Vec<Page>, came: Vec<NumberedPage>) -> Vec<Page>
     pages
 }
 
-/// The own pages, shared, with those that came in their places. A digest is computed just for a page
-/// that came without one, or that another form keeps in another way.
+/// The own pages, shared, with those that came in their places. A page is laid out anew only if it is in
+/// another layout, and its digest is computed only then or if it came without one.
 fn joined_pages(
     own: &Snapshot,
     came: Vec<NumberedPage>,
@@ -61,8 +61,11 @@ fn parts_over(own: &Snapshot, parcel: Parcel) -> Result<Parts, AllocError>
 }
 
 /// The state of this number and this token, which a parcel makes over the own pages: those that came
-/// are put in the places of the own ones. The token is computed from scratch, and nothing that the
-/// sender said is believed. No reply comes with it.
+/// are put in the places of the own ones. The token is that of the items and sessions that this makes,
+/// whatever the sender said. No reply comes with it.
+///
+/// A page that is in the layout of the parcel's form and keeps its digest is taken without a walk over
+/// its items. Form 1 alone walks all of them, for its limits and its root.
 ///
 /// `BadRecord`: the parcel makes a state of another number or token, or one that its form may not
 /// have. `NoMemory` is the only other error. The own pages stay as they are, and are shared with the state that was taken.

@@ -1,7 +1,7 @@
 //! Records of needs and parcels, their bytes by hand.
 
 use crate::rows::*;
-use pages::PAGES;
+use pages::{Layout, PAGES};
 use proto::Fault;
 use states::State;
 use std::alloc::{AllocError, Global};
@@ -67,9 +67,9 @@ fn is_need(alloc: Global, bytes: &[u8]) -> Result<bool, Fault> {
     }
 }
 
-/// The fields and sessions of the state of number 3.
-fn add_fields(bytes: &mut Vec<u8>) -> Result<(), AllocError> {
-    bytes.extend_from_slice(&[2, 0, 0, 0, 0, 0, 0, 0, 3])?;
+/// The fields and sessions of the state of number 3 and this form.
+fn add_fields(bytes: &mut Vec<u8>, form: u8) -> Result<(), AllocError> {
+    bytes.extend_from_slice(&[form, 0, 0, 0, 0, 0, 0, 0, 3])?;
     bytes.extend_from_slice(&[7; 32])?;
     bytes.extend_from_slice(&[0, 0, 0, 0, 0, 0, 0, 4])?;
     bytes.extend_from_slice(&[9; 32])?;
@@ -85,12 +85,23 @@ const PAGE: &[u8] = &[
 /// Page 34, without items.
 const EMPTY: &[u8] = &[34, 0, 0, 0, 0, 0];
 
+/// The same two as pages of trees.
+const TREE_PAGE: &[u8] = &[
+    33, 6, 0, 0, 0, 1, 1, b'!', 0, 0, 0, 0, 0, 0, 0, 0, 0, 0, 0, 0, 64, 0, 0, 0, 1, b'2',
+];
+
+const TREE_EMPTY: &[u8] = &[34, 6, 0, 0, 0, 0];
+
 /// The record of a parcel of that state with both pages.
-fn add_parcel(bytes: &mut Vec<u8>) -> Result<(), AllocError> {
-    add_fields(bytes)?;
+fn add_parcel(bytes: &mut Vec<u8>, layout: Layout) -> Result<(), AllocError> {
+    let (form, page, empty) = match layout {
+        Layout::Sorted => (2, PAGE, EMPTY),
+        Layout::Tree => (3, TREE_PAGE, TREE_EMPTY),
+    };
+    add_fields(bytes, form)?;
     bytes.extend_from_slice(&[0, 0, 0, 2])?;
-    bytes.extend_from_slice(PAGE)?;
-    bytes.extend_from_slice(EMPTY)
+    bytes.extend_from_slice(page)?;
+    bytes.extend_from_slice(empty)
 }
 
 fn parcel_bytes(alloc: Global, parcel: &Parcel) -> Result<Vec<u8>, AllocError> {
@@ -124,25 +135,27 @@ fn is_answer_taken(
     )
 }
 
-/// Page 33 has another item, and page 34 none any more: both come along.
-fn is_written_so(alloc: Global, own: &State, more: &State) -> Result<bool, Fault> {
+/// Page 33 has another item, and page 34 none any more: both come along, in the layout of the state that
+/// answers.
+fn is_written_so(alloc: Global, layout: Layout, own: &State, more: &State) -> Result<bool, Fault> {
     let mut expected = Vec::new(alloc);
-    add_parcel(&mut expected)?;
+    add_parcel(&mut expected, layout)?;
     is_answer_taken(alloc, own, more, expected.as_slice())
 }
 
-fn is_third_written_so(alloc: Global, own: &State) -> Result<bool, Fault> {
-    let more = third(alloc, &[(b'!', b'2')])?;
-    is_written_so(alloc, own, &more)
+fn is_third_written_so(alloc: Global, layout: Layout, own: &State) -> Result<bool, Fault> {
+    let more = third_in(alloc, layout, &[(b'!', b'2')])?;
+    is_written_so(alloc, layout, own, &more)
 }
 
-fn is_third_written_for_second(alloc: Global) -> Result<bool, Fault> {
-    let own = second(alloc, &[(b'"', b'1')])?;
-    is_third_written_so(alloc, &own)
+fn is_third_written_for_second(alloc: Global, layout: Layout) -> Result<bool, Fault> {
+    let own = second_in(alloc, layout, &[(b'"', b'1')])?;
+    is_third_written_so(alloc, layout, &own)
 }
 
 #[test]
 fn the_record_of_a_parcel_which_is_taken(rt: HostRuntime) -> Result<(), Fail> {
-    assert!(rt; is_third_written_for_second(rt.alloc())?);
+    assert!(rt; is_third_written_for_second(rt.alloc(), Layout::Sorted)?);
+    assert!(rt; is_third_written_for_second(rt.alloc(), Layout::Tree)?);
     Ok(())
 }

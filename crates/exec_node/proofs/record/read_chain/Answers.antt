@@ -2,7 +2,7 @@ use Rattle.std.proofs.Common.{rules}
 use Rattle.std.proofs.lemmas.Result.{err_from_is_err_and}
 use Rattle.wire.proofs.Values.{none_whole}
 use Rattle.rollback.specs.Chain.{IsRecordedIn, chain_text_in}
-use Rattle.exec_node.proofs.RecordLemmas.{chain_left_over}
+use Rattle.rollback.proofs.RecordLemmas.{chain_left_over}
 use Rattle.exec_node.proofs.record.read_chain.Goals as goal
 
 pub returns-in_err-chain : goal.returns-in_err-chain

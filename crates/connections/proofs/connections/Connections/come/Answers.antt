@@ -1,6 +1,5 @@
 use Rattle.std.proofs.Common.{rules, ◌≡◌, ◌≤◌, ◌<◌, ◌+◌, ℕ, List, Option, Some, sym, ap, ◌∙◌, subst, length, slice_set}
 use Rattle.connections.specs.Connection.{ConnectionView, new_connection}
-use Rattle.connections.specs.Logs.{logged}
 use Rattle.connections.specs.Places.{place_in}
 use Rattle.connections.specs.Connections.{ConnectionsView, IsConnections}
 use Rattle.connections.proofs.PlaceLemmas.{there, set_place}
@@ -10,13 +9,13 @@ use Rattle.connections.proofs.connections.Connections.come.Goals as goal
 pub invariant_of-self : goal.invariant_of-self
 invariant_of-self c =
     let s = c.self.inside in
-    let v : ConnectionsView = record { table = s.table.items; next = s.next; heard = logged s.heard.items; given = logged s.given.items; taken = s.taken.items; replied = s.replied.items } in
+    let v : ConnectionsView = record { table = s.table.items; next = s.next; heard = s.history.heard; given = s.history.given; passed = s.history.passed; taken = s.taken.items; replied = s.replied.items } in
     grown_keeps v c.grow_to.new.table.items c.self.invariant c.grow_to.ensures.grown
 
 pub invariant_of-self-2 : goal.invariant_of-self-2
 invariant_of-self-2 c =
     let s = c.self.inside in
-    let v : ConnectionsView = record { table = s.table.items; next = s.next; heard = logged s.heard.items; given = logged s.given.items; taken = s.taken.items; replied = s.replied.items } in
+    let v : ConnectionsView = record { table = s.table.items; next = s.next; heard = s.history.heard; given = s.history.given; passed = s.history.passed; taken = s.taken.items; replied = s.replied.items } in
     let at = c.args.at in
     let table = c.grow_to.new.table.items in
     let fits : at.key < length table = search rules in

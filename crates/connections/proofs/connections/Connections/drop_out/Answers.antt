@@ -1,14 +1,15 @@
-use Rattle.std.proofs.Common.{rules, ◌≡◌, true, ℕ, List, [], ◌∷◌, ◌++◌, ap, ◌∙◌}
-use Rattle.connections.specs.Logs.{logged}
+use Rattle.std.proofs.Common.{rules, ◌≡◌, true, ℕ, List, [], ◌∷◌, ◌++◌, sym, ap, ◌∙◌, subst}
 use Rattle.connections.specs.Places.{is_here}
-use Rattle.connections.specs.Connections.{ConnectionsView}
-use Rattle.connections.proofs.AtLemmas.{logged_more, told_at_keeps}
+use Rattle.connections.specs.Connections.{ConnectionsView, IsConnections}
+use Rattle.connections.proofs.AtLemmas.{told_at_keeps}
+use Rattle.connections.proofs.KeepLemmas.{relogged}
 use Rattle.connections.proofs.connections.Connections.drop_out.Goals as goal
 
 pub invariant_of-self : goal.invariant_of-self
 invariant_of-self c =
     let s = c.self.inside in
-    let v : ConnectionsView = record { table = s.table.items; next = s.next; heard = logged s.heard.items; given = logged s.given.items; taken = s.taken.items; replied = s.replied.items } in
+    let v : ConnectionsView = record { table = s.table.items; next = s.next; heard = s.history.heard; given = s.history.given; passed = s.history.passed; taken = s.taken.items; replied = s.replied.items } in
     let here : is_here c.args.at.number s.table.items c.args.at.key ≡ true = search rules in
-    told_at_keeps v c.args.at c.leave.new.table.items (logged c.and-self-inside.result.items) c.self.invariant here c.leave.ensures
-    (ap logged c.and-self-inside.ensures ∙ (logged_more s.given.items _ ∙ ap (λ (bytes : List ℕ). logged s.given.items ++ (c.args.at.number, bytes) ∷ []) c.last-said.ensures.bytes))
+    subst IsConnections (λ i. record v { table = c.leave.new.table.items; heard = sym c.give.ensures.heard i; given = c.give.new.self.given; passed = c.give.new.self.passed })
+    (relogged _ c.give.new.self.passed (told_at_keeps v c.args.at c.leave.new.table.items c.give.new.self.given c.self.invariant here c.leave.ensures
+    (c.give.ensures.given ∙ ap (λ (bytes : List ℕ). s.history.given ++ (c.args.at.number, bytes) ∷ []) c.last-said.ensures.bytes)))

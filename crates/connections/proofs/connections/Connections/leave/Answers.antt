@@ -1,6 +1,5 @@
 use Rattle.std.proofs.Common.{List, Option, sym, subst}
 use Rattle.connections.specs.Connection.{ConnectionView}
-use Rattle.connections.specs.Logs.{logged}
 use Rattle.connections.specs.Connections.{ConnectionsView, IsConnections}
 use Rattle.connections.proofs.AtLemmas.{left_at_keeps}
 use Rattle.connections.proofs.connections.Connections.leave.Goals as goal
@@ -8,5 +7,5 @@ use Rattle.connections.proofs.connections.Connections.leave.Goals as goal
 pub invariant_of-self : goal.invariant_of-self
 invariant_of-self c =
     let s = c.self.inside in
-    let v : ConnectionsView = record { table = s.table.items; next = s.next; heard = logged s.heard.items; given = logged s.given.items; taken = s.taken.items; replied = s.replied.items } in
+    let v : ConnectionsView = record { table = s.table.items; next = s.next; heard = s.history.heard; given = s.history.given; passed = s.history.passed; taken = s.taken.items; replied = s.replied.items } in
     subst (λ (table : List (Option ConnectionView)). IsConnections (record v { table = table })) (sym c.leave.ensures) (left_at_keeps v c.args.at c.self.invariant)

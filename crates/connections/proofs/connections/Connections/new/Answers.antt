@@ -1,5 +1,4 @@
 use Rattle.std.proofs.Common.{sym, subst}
-use Rattle.connections.specs.Logs.{logged}
 use Rattle.connections.specs.Connections.{IsConnections}
 use Rattle.connections.proofs.KeepLemmas.{none_keep}
 use Rattle.connections.proofs.connections.Connections.new.Goals as goal
@@ -9,8 +8,9 @@ invariant_of-result c =
     subst IsConnections (λ i. record {
       table = sym c.new.ensures.items i;
       next = 0;
-      heard = logged (sym c.new-2.ensures i);
-      given = logged (sym c.new-3.ensures i);
-      taken = sym c.new-4.ensures i;
-      replied = sym c.new-5.ensures i;
+      heard = (sym c.new-2.ensures i).heard;
+      given = (sym c.new-2.ensures i).given;
+      passed = (sym c.new-2.ensures i).passed;
+      taken = sym c.new-3.ensures i;
+      replied = sym c.new-4.ensures i;
     }) none_keep

@@ -5,7 +5,7 @@ use Rattle.service.proofs.service.Service.answer_all.Given as goal
 abbrev pub invariant-loop-answer : goal.invariant-loop-answer
 invariant-loop-answer l = record {
   logged : AreLogged l.answers.items l.self.answered l.self.order;
-  given : Gives l.initial.self.connections.given l.initial.said.items l.self.connections.given l.said.items;
+  given : Gives l.initial.self.connections l.initial.said.items l.self.connections l.said.items;
   heard : l.self.connections.heard ≡ l.initial.self.connections.heard;
 }
 

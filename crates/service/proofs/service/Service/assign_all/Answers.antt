@@ -4,13 +4,13 @@ use Rattle.service.proofs.service.Service.assign_all.Goals as goal
 
 pub returns-then-not-assign-clause-given : goal.returns-then-not-assign-clause-given
 returns-then-not-assign-clause-given c =
-    gives_on c.args.self.now.connections.given c.loop.self.connections.given c.assign.new.self.connections.given c.args.said.now.items c.loop.said.items c.assign.new.said.items c.loop.invariant.given c.assign.ensures.given
+    gives_on c.args.self.now.connections c.loop.self.connections c.assign.new.self.connections c.args.said.now.items c.loop.said.items c.assign.new.said.items c.loop.invariant.given c.assign.ensures.given
 
 pub returns-then-not-assign-clause-heard : goal.returns-then-not-assign-clause-heard
 returns-then-not-assign-clause-heard c = c.assign.ensures.heard ∙ c.loop.invariant.heard
 
 pub loop-preserved : goal.loop-preserved
 loop-preserved c = record {
-  given = gives_on c.args.self.now.connections.given c.loop.self.connections.given c.assign.new.self.connections.given c.args.said.now.items c.loop.said.items c.assign.new.said.items c.loop.invariant.given c.assign.ensures.given;
+  given = gives_on c.args.self.now.connections c.loop.self.connections c.assign.new.self.connections c.args.said.now.items c.loop.said.items c.assign.new.said.items c.loop.invariant.given c.assign.ensures.given;
   heard = c.assign.ensures.heard ∙ c.loop.invariant.heard;
 }

@@ -4,6 +4,6 @@ use Rattle.service.proofs.service.Service.assign_all.Given as goal
 
 abbrev pub invariant-loop : goal.invariant-loop
 invariant-loop l = record {
-  given : Gives l.initial.self.connections.given l.initial.said.items l.self.connections.given l.said.items;
+  given : Gives l.initial.self.connections l.initial.said.items l.self.connections l.said.items;
   heard : l.self.connections.heard ≡ l.initial.self.connections.heard;
 }

@@ -4,6 +4,6 @@ use Rattle.service.proofs.service.Service.work.Given as goal
 
 abbrev pub invariant-loop : goal.invariant-loop
 invariant-loop g l = record {
-  given : Gives l.initial.self.connections.given [] l.self.connections.given l.said.items;
+  given : Gives l.initial.self.connections [] l.self.connections l.said.items;
   heard : l.self.connections.heard ≡ l.initial.self.connections.heard;
 }

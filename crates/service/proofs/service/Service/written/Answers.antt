@@ -1,6 +1,7 @@
-use Rattle.std.proofs.Common.{ap}
+use Rattle.std.proofs.Common.{refl, ap}
 use Rattle.connections.specs.Connections.{ConnectionsView}
 use Rattle.service.specs.Service.{ServiceView, assigned}
+use Rattle.service.proofs.MomentLemmas.{same_moments, over}
 use Rattle.service.proofs.KeepLemmas.{connections_keep}
 use Rattle.service.proofs.service.Service.written.Goals as goal
 
@@ -8,4 +9,4 @@ pub invariant_of-self : goal.invariant_of-self
 invariant_of-self c =
     let s = c.self.inside in
     let v : ServiceView = record { connections = s.connections; asked = s.ensemble.asked; answered = s.ensemble.answered; order = s.ensemble.order; assignments = assigned s.assignments.items; waiting = s.pool } in
-    (connections_keep v c.write_at.new.connections c.self.invariant.0 (ap (λ (x : ConnectionsView). x.taken) c.write_at.ensures) (ap (λ (x : ConnectionsView). x.replied) c.write_at.ensures), c.self.invariant.1)
+    (connections_keep v c.write_at.new.connections c.self.invariant.0 (ap (λ (x : ConnectionsView). x.taken) c.write_at.ensures) (ap (λ (x : ConnectionsView). x.replied) c.write_at.ensures), same_moments v (over v c.write_at.new.connections) c.self.invariant.1 (ap (λ (x : ConnectionsView). x.passed) c.write_at.ensures) refl refl refl, c.self.invariant.2)

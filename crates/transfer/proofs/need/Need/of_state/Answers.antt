@@ -1,4 +1,4 @@
-use Rattle.std.proofs.Common.{ap, ◌∙◌}
+use Rattle.std.proofs.Common.{◌∙◌}
 use Rattle.pages.specs.Page.{page_digest_in, of_each}
 use Rattle.transfer.proofs.need.Need.of_state.Goals as goal
 

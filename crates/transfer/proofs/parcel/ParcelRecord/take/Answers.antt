@@ -3,7 +3,7 @@ use Rattle.std.specs.Ordering.{nat_cmp}
 use Rattle.std.specs.FinMap.{is_sorted}
 use Rattle.std.proofs.lemmas.Result.{err_from_is_err_and}
 use Rattle.wire.proofs.Rows.{no_row, unfit}
-use Rattle.transfer.specs.Parcel.{IsParcel, parcel_text}
+use Rattle.transfer.specs.Parcel.{AreLaid, IsParcel, parcel_text}
 use Rattle.transfer.specs.ParcelProofs.{parcel_prefix_free}
 use Rattle.transfer.proofs.parcel.ParcelRecord.take.Goals as goal
 
@@ -28,3 +28,13 @@ returns-then-not-is_rising c =
     let not : is_sorted nat_cmp c.in_ok-row.row.1 ≡ false = search rules in
     unfit IsParcel parcel_prefix_free c.args.bytes.now (record { origin = c.in_ok-row.row.0.0; sessions = c.in_ok-row.row.0.1; pages = c.in_ok-row.row.1 }) c.in_ok-row.rest.now c.in_ok-row.ensures.1
     (λ f. let clash : false ≡ true = sym not ∙ f.rising in absurd (cc clash))
+
+pub returns-then-not-are_laid : goal.returns-then-not-are_laid
+returns-then-not-are_laid c =
+    let not : c.are_laid.result ≡ false = search rules in
+    let read : c.as_slice-2.result.now ≡ c.in_ok-row.row.1 = search rules in
+    unfit IsParcel parcel_prefix_free c.args.bytes.now (record { origin = c.in_ok-row.row.0.0; sessions = c.in_ok-row.row.0.1; pages = c.in_ok-row.row.1 }) c.in_ok-row.rest.now c.in_ok-row.ensures.1
+    (λ f.
+    let laid : AreLaid c.layout_of.result c.as_slice-2.result.now = rw c.layout_of.ensures (rw read f.laid) in
+    let clash : false ≡ true = sym not ∙ c.are_laid.ensures.1 laid in
+    absurd (cc clash))

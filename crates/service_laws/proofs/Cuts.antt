@@ -1,0 +1,191 @@
+-- All connections have one order, of which each moment is a cut.
+use Rattle.std.proofs.Common.{◌≡◌, ⊎_elim, ℕ, zero, suc, ◌<◌, ◌≤◌, Bool, true, false, List, [], ◌∷◌, ◌++◌, map, length, take, Some, refl, sym, ap, ◌∙◌, subst, arith}
+use Rattle.std.specs.Prelude.{Contains, slice_get}
+use Rattle.std.proofs.lemmas.List.Concat.{flat_map-append}
+use Rattle.std.proofs.lemmas.List.Elements.{Contains-append_left}
+use Rattle.std.proofs.lemmas.Option.{slice_get_within}
+use Rattle.proto.specs.declared.command.Command.{Command}
+use Rattle.proto.specs.declared.reply.Reply as replies
+use Rattle.memcached_spec.specs.Asked.{IsAsked}
+use Rattle.memcached_spec.specs.Fed.{fed_by, fed_to}
+use Rattle.memcached_spec.specs.Server.{Line}
+use Rattle.memcached_spec.proofs.Longer.{asked_longer}
+use Rattle.states.specs.State.{StateView, initial_state}
+use Rattle.executor.specs.declared.answered.Answered.{Answered}
+use Rattle.executor.proofs.RoundLemmas.{get_map}
+use Rattle.client.proofs.TakenLemmas.{texts_imply}
+use Rattle.events.specs.declared.event.Event.{Event}
+use Rattle.run_laws.specs.Run.{Executed}
+use Rattle.run_laws.proofs.Elements.{in_head, in_tail, in_none, first_or_other}
+use Rattle.server_laws.specs.Laws.{WorldsAreOfOneServer}
+use Rattle.server_laws.specs.Run.{IsRun}
+use Rattle.server_laws.specs.Saved.{IsMet, DigestsAreDistinct}
+use Rattle.server_laws.specs.Served.{WasAnswered}
+use Rattle.connections.specs.Connections.{bytes_in, bytes_of_connection, IsConnections}
+use Rattle.connections.specs.History.{Passed, IsHistory, heard_among, given_among}
+use Rattle.connections.proofs.TakeLemmas.{contains_at}
+use Rattle.ensemble.specs.Ensemble.{IsPast}
+use Rattle.linear_laws.proofs.Runs.{IsMadeOf, made_of_run}
+use Rattle.service.specs.declared.assignment.Assignment.{Assignment}
+use Rattle.service.specs.Service.{ServiceView, IsService, HasEnsemble, HasMoments, WasMoment, WasAnsweredBy, asked_keys, assigned_as}
+use Rattle.service.proofs.MomentLemmas.{history_of}
+use Rattle.service_laws.specs.Serving.{IsServing, WasAnsweredFor}
+use Rattle.service_laws.specs.Orders.{RanAt, RanInTurn, IsConnectionOrder, AreCuts, IsLinearizableService}
+use Rattle.service_laws.proofs.AskedLemmas.{place_of}
+use Rattle.service_laws.proofs.ServingLemmas.{is_assignment, is_assigned, for_one, is_served, is_serving}
+use Rattle.service_laws.proofs.Past.{RunThere, take_front, in_front, front_or_behind, has_run_in_turn}
+use Rattle.service_laws.proofs.InTurn.{are_in_turn}
+use Rattle.service_laws.proofs.ConnectionRuns.{lines_of, lines_begin}
+use Rattle.service_laws.proofs.Turns.{IsRunOf, owner, turn_of_request, same_asked, order_of}
+
+-- ---- lists
+
+-- what was heard at first comes first
+heard_first : (early late : List Passed) → heard_among (early ++ late) ≡ heard_among early ++ heard_among late
+heard_first [] late = refl
+heard_first (((n, true), bytes) ∷ early) late = heard_first early late
+heard_first (((n, false), bytes) ∷ early) late = ap (λ (log : List (ℕ × List ℕ)). (n, bytes) ∷ log) (heard_first early late)
+
+asked_in : (order : List ((ℕ × ℕ) × Bool)) (key : ℕ × ℕ) → Contains order (key, false) → Contains (asked_keys order) key
+asked_in [] key c = absurd (in_none (key, false) c)
+asked_in ((k, true) ∷ order) key c = ⊎_elim
+    (λ (same : ◌≡◌ {A = (ℕ × ℕ) × Bool} (k, true) (key, false)). absurd (let kinds : true ≡ false = ap (λ (x : (ℕ × ℕ) × Bool). x.1) same in cc kinds))
+    (λ (later : Contains order (key, false)). asked_in order key later)
+    (first_or_other (k, true) (key, false) order c)
+asked_in ((k, false) ∷ order) key c = ⊎_elim
+    (λ (same : ◌≡◌ {A = (ℕ × ℕ) × Bool} (k, false) (key, false)). subst (Contains (k ∷ asked_keys order)) (ap (λ (x : (ℕ × ℕ) × Bool). x.0) same) (in_head k (asked_keys order)))
+    (λ (later : Contains order (key, false)). in_tail k key (asked_keys order) (asked_in order key later))
+    (first_or_other (k, false) (key, false) order c)
+
+-- ---- a run that a longer one begins with
+
+ran_on : (run more : List Executed) (place : ℕ) (a : Assignment) → RanAt run place a → RanAt (run ++ more) place a
+ran_on run more place a ran = (ran.0, record { executed = ran.1.executed; there = in_front run more place ran.1.executed ran.1.there; given = ran.1.given }, ran.2, ran.3)
+
+front_in_turn : (run more : List Executed) (xs : List Assignment) → RanInTurn (run ++ more) xs → RanInTurn run xs
+front_in_turn run more xs in_turn b place t in_b ran from_one lt =
+    let was = in_turn b place t in_b (ran_on run more place b ran) from_one lt in
+    let earlier = was.5 in
+    let within = slice_get_within run place ran.1.executed ran.1.there in
+    let there : slice_get run was.4 ≡ Some was.6.1.executed = ⊎_elim
+    (λ (there : slice_get run was.4 ≡ Some was.6.1.executed). there)
+    (λ (behind : length run ≤ was.4). absurd (omega (arith, earlier, within, behind)))
+    (front_or_behind run more was.4 was.6.1.executed was.6.1.there) in
+    (was.0, was.1, was.2, was.3, was.4, earlier, (was.6.0, record { executed = was.6.1.executed; there = there; given = was.6.1.given }, was.6.2, was.6.3))
+
+module _ (v : ServiceView) (talks : IsConnections v.connections) (logs : IsHistory (history_of v.connections)) (ok : IsService v) (over : HasEnsemble v) where
+  from_one : (a : Assignment) → Contains v.assignments a → 1 ≤ a.turn
+  from_one a i = (is_assignment v talks ok over a i).of_connection.from_one
+
+  module _ (run : List Executed) (is_run : IsRun (IsMet over.world.through.worlds) over.world.events over.world.now run) where
+    -- now
+    run_of_now : IsRunOf v.connections.heard v.connections.given v.assignments (IsMet over.world.through.worlds) over.world.events over.world.now run
+    run_of_now = record {
+      is_run = is_run;
+      once = ok.once;
+      for_one = for_one v talks ok over;
+      from_one = from_one;
+      asks = λ proxy number command was.
+          let a = is_assigned v talks ok over proxy number command was in
+          let is = is_assignment v talks ok over a.0 a.1 in
+          let own : IsAsked (fed_to a.0.proxy over.world.events) a.0.number command = subst (λ (k : ℕ × ℕ). IsAsked (fed_to k.0 over.world.events) k.1 command) (λ i. (sym a.2 i, sym a.3 i)) was in
+          let same = same_asked (fed_to a.0.proxy over.world.events) a.0.number is.command command is.of_proxy own in
+          (a.0, a.1, a.2, a.3, subst (IsAsked (bytes_of_connection a.0.connection v.connections.heard) a.0.turn) same is.of_connection);
+      served = is_served v talks ok over run is_run;
+    }
+
+    -- at an earlier moment
+    module _ (early late : List Passed) (split : v.connections.passed ≡ early ++ late) (m : WasMoment v.order v.assignments v.answered early) (y : IsPast over.world.events over.world.through.worlds m.order_then)
+        (first more : List Executed) (is_first : IsRun (IsMet over.world.through.worlds) y.before y.now first) (extends : run ≡ first ++ more) where
+      -- its bytes are a beginning of those of now
+      longer : (c number : ℕ) (command : Command) → IsAsked (bytes_of_connection c (heard_among early)) number command → IsAsked (bytes_of_connection c v.connections.heard) number command
+      longer c number command is =
+          let all : bytes_of_connection c (heard_among early) ++ bytes_of_connection c (heard_among late) ≡ bytes_of_connection c v.connections.heard =
+          sym (flat_map-append (bytes_in c) (heard_among early) (heard_among late)) ∙ ap (bytes_of_connection c) (sym (heard_first early late) ∙ (ap heard_among (sym split) ∙ logs.heard)) in
+          subst (λ (bytes : List ℕ). IsAsked bytes number command) all (asked_longer (bytes_of_connection c (heard_among early)) (bytes_of_connection c (heard_among late)) number command is)
+
+      fed_longer : (proxy number : ℕ) (command : Command) → IsAsked (fed_to proxy y.before) number command → IsAsked (fed_to proxy over.world.events) number command
+      fed_longer proxy number command is =
+          subst (λ (bytes : List ℕ). IsAsked bytes number command) (sym (flat_map-append (fed_by proxy) y.before y.after) ∙ ap (fed_to proxy) (sym y.split)) (asked_longer (fed_to proxy y.before) (fed_to proxy y.after) number command is)
+
+      in_all : (a : Assignment) → Contains m.asked_then a → Contains v.assignments a
+      in_all a i = subst (λ (xs : List Assignment). Contains xs a) (sym m.split_asked) (Contains-append_left m.asked_then m.asked_later a i)
+
+      -- the command that a proxy's bytes asked by then
+      asked_as : (proxy number : ℕ) (command : Command) → IsAsked (fed_to proxy y.before) number command → (a : Assignment) × Contains v.assignments a × (a.proxy ≡ proxy) × (a.number ≡ number) × IsAsked (bytes_of_connection a.connection (heard_among early)) a.turn command
+      asked_as proxy number command was =
+          let key : Contains (map assigned_as m.asked_then) (proxy, number) = subst (λ (keys : List (ℕ × ℕ)). Contains keys (proxy, number)) m.ordered (asked_in m.order_then (proxy, number) (y.asked proxy number command was)) in
+          let at = place_of (map assigned_as m.asked_then) (proxy, number) key in
+          let a = get_map assigned_as m.asked_then at.0 (proxy, number) at.1 in
+          let then = contains_at m.asked_then at.0 a.0 a.1 in
+          let its_proxy : a.0.proxy ≡ proxy = sym (ap (λ (k : ℕ × ℕ). k.0) a.2) in
+          let its_number : a.0.number ≡ number = sym (ap (λ (k : ℕ × ℕ). k.1) a.2) in
+          let is = is_assignment v talks ok over a.0 (in_all a.0 then) in
+          let own : IsAsked (fed_to a.0.proxy over.world.events) a.0.number command = subst (λ (k : ℕ × ℕ). IsAsked (fed_to k.0 over.world.events) k.1 command) (λ i. (sym its_proxy i, sym its_number i)) (fed_longer proxy number command was) in
+          let of_proxy = same_asked (fed_to a.0.proxy over.world.events) a.0.number is.command command is.of_proxy own in
+          let h = m.heard a.0 then in
+          let of_connection = same_asked (bytes_of_connection a.0.connection v.connections.heard) a.0.turn h.0 is.command (longer a.0.connection a.0.turn h.0 h.1) is.of_connection in
+          (a.0, in_all a.0 then, its_proxy, its_number, subst (IsAsked (bytes_of_connection a.0.connection (heard_among early)) a.0.turn) (of_connection ∙ of_proxy) h.1)
+
+      -- a reply that was given by then is of the run by then
+      answered_then : (c turn : ℕ) (reply : replies.Reply) → WasAnsweredBy m.asked_then v.answered m.order_then c turn reply → WasAnsweredFor first v.assignments c turn reply
+      answered_then c turn reply was =
+          let a = was.0 in
+          let sent = y.sent a.proxy a.number was.5 in
+          let early_one = is_first.replied a.proxy a.number sent.0 sent.1 in
+          let late_one = is_run.replied a.proxy a.number reply (over.world.answers ((a.proxy, a.number), reply) (subst (λ (xs : List ((ℕ × ℕ) × replies.Reply)). Contains xs ((a.proxy, a.number), reply)) (sym over.same_answered) was.4)) in
+          let there : slice_get run early_one.place ≡ Some early_one.given.executed = ap (λ (r : List Executed). slice_get r early_one.place) extends ∙ in_front first more early_one.place early_one.given.executed early_one.given.there in
+          let one = is_run.once early_one.place late_one.place early_one.answered late_one.answered (record { executed = early_one.given.executed; there = there; given = early_one.given.given }) late_one.given (early_one.client_is ∙ sym late_one.client_is) (early_one.number_is ∙ sym late_one.number_is) in
+          (a, in_all a was.1, was.2, was.3, record { place = early_one.place; answered = early_one.answered; given = early_one.given; client_is = early_one.client_is; number_is = early_one.number_is; reply_is = ap (λ (x : Answered). x.reply) one.1 ∙ late_one.reply_is })
+
+      run_of_then : IsRunOf (heard_among early) (given_among early) v.assignments (IsMet over.world.through.worlds) y.before y.now first
+      run_of_then = record {
+        is_run = is_first;
+        once = ok.once;
+        for_one = for_one v talks ok over;
+        from_one = from_one;
+        asks = asked_as;
+        served = λ c. let g = m.given c in record { taken = g.taken; texts = texts_imply (WasAnsweredBy m.asked_then v.answered m.order_then c) (WasAnsweredFor first v.assignments c) (answered_then c) 1 g.taken (bytes_of_connection c (given_among early)) g.texts; first = g.first };
+      }
+
+    module _ (moments : HasMoments v) (in_turn : RanInTurn run v.assignments) (there : RunThere (IsMet over.world.through.worlds) [] over.world.events over.world.through.worlds run) where
+      abbrev made : (lines : List Line) × IsMadeOf initial_state run lines
+      made = made_of_run initial_state run is_run.follows
+
+      abbrev all_lines : List Line
+      all_lines = lines_of (owner v.assignments) (turn_of_request v.assignments) initial_state run made.0 made.1
+
+      cut : (early late : List Passed) → v.connections.passed ≡ early ++ late → (before after : List Line) × (all_lines ≡ before ++ after) × IsConnectionOrder (heard_among early) (given_among early) before
+      cut early late split =
+          let m = moments early late split in
+          let y = over.world.past m.order_then m.later_order (over.same_order ∙ m.split_order) in
+          let r = there (length y.before) y.now y.there in
+          let front : take (length y.before) over.world.events ≡ y.before = ap (take (length y.before)) y.split ∙ take_front y.before y.after in
+          let is : IsRun (IsMet over.world.through.worlds) y.before y.now r.0 = subst (λ (all : List Event). IsRun (IsMet over.world.through.worlds) all y.now r.0) front r.1 in
+          let lines = lines_begin (owner v.assignments) (turn_of_request v.assignments) initial_state run r.0 r.2.0 r.2.1 made.0 made.1 in
+          let turns : RanInTurn r.0 v.assignments = front_in_turn r.0 r.2.0 v.assignments (subst (λ (all : List Executed). RanInTurn all v.assignments) r.2.1 in_turn) in (
+            lines_of (owner v.assignments) (turn_of_request v.assignments) initial_state r.0 lines.0 lines.1,
+            lines.2,
+            lines.3,
+            order_of (heard_among early) (given_among early) v.assignments (IsMet over.world.through.worlds) y.before y.now r.0 (run_of_then early late split m y r.0 r.2.0 is r.2.1) turns lines.0 lines.1,
+          )
+
+      has_order : (lines : List Line) × IsConnectionOrder v.connections.heard v.connections.given lines × AreCuts v.connections.passed lines
+      has_order = (
+        all_lines,
+        order_of v.connections.heard v.connections.given v.assignments (IsMet over.world.through.worlds) over.world.events over.world.now run run_of_now in_turn made.0 made.1,
+        cut,
+      )
+
+pub linearizable : (v : ServiceView) → IsConnections v.connections → IsHistory (history_of v.connections) → HasMoments v → IsService v → HasEnsemble v → WorldsAreOfOneServer → IsLinearizableService v
+linearizable v talks logs moments ok over law =
+    let serving = is_serving v talks ok over law in
+    let w = serving.over.world in
+    let in_turn = are_in_turn v talks ok serving.over in
+    record {
+      serving = serving;
+      in_turn = in_turn;
+      one_order = λ distinct.
+          let run = has_run_in_turn law w.config w.events w.now w.through v.assignments distinct in_turn in
+          has_order v talks logs ok serving.over run.0 run.1 moments run.2 run.3;
+    }
