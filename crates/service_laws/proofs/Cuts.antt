@@ -112,8 +112,8 @@ module _ (v : ServiceView) (talks : IsConnections v.connections) (logs : IsHisto
       in_all a i = subst (λ (xs : List Assignment). Contains xs a) (sym m.split_asked) (Contains-append_left m.asked_then m.asked_later a i)
 
       -- the command that a proxy's bytes asked by then
-      asked_as : (proxy number : ℕ) (command : Command) → IsAsked (fed_to proxy y.before) number command → (a : Assignment) × Contains v.assignments a × (a.proxy ≡ proxy) × (a.number ≡ number) × IsAsked (bytes_of_connection a.connection (heard_among early)) a.turn command
-      asked_as proxy number command was =
+      asked_by_then : (proxy number : ℕ) (command : Command) → IsAsked (fed_to proxy y.before) number command → (a : Assignment) × Contains v.assignments a × (a.proxy ≡ proxy) × (a.number ≡ number) × IsAsked (bytes_of_connection a.connection (heard_among early)) a.turn command
+      asked_by_then proxy number command was =
           let key : Contains (map assigned_as m.asked_then) (proxy, number) = subst (λ (keys : List (ℕ × ℕ)). Contains keys (proxy, number)) m.ordered (asked_in m.order_then (proxy, number) (y.asked proxy number command was)) in
           let at = place_of (map assigned_as m.asked_then) (proxy, number) key in
           let a = get_map assigned_as m.asked_then at.0 (proxy, number) at.1 in
@@ -144,7 +144,7 @@ module _ (v : ServiceView) (talks : IsConnections v.connections) (logs : IsHisto
         once = ok.once;
         for_one = for_one v talks ok over;
         from_one = from_one;
-        asks = asked_as;
+        asks = asked_by_then;
         served = λ c. let g = m.given c in record { taken = g.taken; texts = texts_imply (WasAnsweredBy m.asked_then v.answered m.order_then c) (WasAnsweredFor first v.assignments c) (answered_then c) 1 g.taken (bytes_of_connection c (given_among early)) g.texts; first = g.first };
       }
 
