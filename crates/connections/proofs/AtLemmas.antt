@@ -44,6 +44,18 @@ left_at_keeps v at ok = by (slice_get v.table at.key) refl
     by None e = ok
     by (Some p) e = by_place p (is_of_connection at.number p) e refl
 
+-- then it is not here
+pub left_gone : (at : Place) (table : List (Option ConnectionView)) → is_here at.number (left_at at table) at.key ≡ false
+left_gone at table = by (slice_get table at.key) refl
+  where
+    by_place : (p : Option ConnectionView) (b : Bool) → slice_get table at.key ≡ Some p → is_of_connection at.number p ≡ b → is_here at.number (slice_set table at.key (if b then None else p)) at.key ≡ false
+    by_place p true e is = ap (is_of_connection at.number) (set_place table at.key None p e)
+    by_place p false e is = ap (is_of_connection at.number) (set_place table at.key p p e) ∙ is
+
+    by : (o : Option (Option ConnectionView)) → slice_get table at.key ≡ o → is_here at.number (left_in at table o) at.key ≡ false
+    by None e = ap (λ (o : Option (Option ConnectionView)). is_of_connection at.number (connection_at o)) e
+    by (Some p) e = by_place p (is_of_connection at.number p) e refl
+
 -- where it is here nobody is at its place then
 pub left_none : (v : ConnectionsView) (at : Place) (c : ConnectionView) → place_in v.table at.key ≡ Some c → c.number ≡ at.number → left_at at v.table ≡ slice_set v.table at.key None
 left_none v at c e same =

@@ -154,7 +154,8 @@ impl Connections {
 
     /// A connection leaves. If it is not here nothing changes.
     pub fn leave(&mut self, at: Place)
-        ensures { self.new ≡ record self.old { table = left_at at self.old.table } }
+        ensures left { is_here at.number self.new.table at.key ≡ false }
+        ensures table { self.new ≡ record self.old { table = left_at at self.old.table } }
     {
         table::leave(&mut self.table, at);
     }

@@ -1,6 +1,7 @@
 //! What is heard of connections.
 
-ghost use Rattle.std.specs.Prelude.{◌≡◌};
+ghost use Rattle.std.specs.Prelude.{◌≡◌, true, false, OnErr};
+ghost use Rattle.connections.specs.Places.{is_here};
 ghost use Rattle.service.specs.Service.{Hears};
 
 use crate::note::Waiting;
@@ -16,6 +17,19 @@ pub fn line_up(connections: &Connections, line: &mut VecDeque<Waiting>, at: Plac
     }
 }
 
+/// Makes room in the line for one more. `false`: there is no memory for it, and this connection has left.
+fn has_room_for(connections: &mut Connections, line: &mut VecDeque<Waiting>, at: Place) -> bool
+    ensures same { result ≡ true → connections.new ≡ connections.old }
+    ensures leaves { result ≡ false → is_here at.number connections.new.table at.key ≡ false }
+    ensures logs { connections.new ≡ record connections.old { table = connections.new.table } }
+{
+    let has_room = line.reserve(1).is_ok();
+    if !has_room {
+        connections.leave(at);
+    }
+    has_room
+}
+
 /// Reads a piece of what comes of a connection. If it asks a command it joins the line.
 pub fn hear_at(
     alloc: Global,
@@ -26,11 +40,11 @@ pub fn hear_at(
     micros: u64,
 ) -> Result<Said, Fault>
     ensures hears { Hears at.key at.number piece.items connections.old connections.new result }
+    ensures leaves { OnErr result (is_here at.number connections.new.table at.key ≡ false) }
     ensures taken { connections.new.taken ≡ connections.old.taken }
     ensures replied { connections.new.replied ≡ connections.old.replied }
 {
-    if line.reserve(1).is_err() {
-        connections.leave(at);
+    if !has_room_for(connections, line, at) {
         return Err(Fault::NoMemory);
     }
     let was_ready = connections.is_ready(at);
@@ -50,10 +64,10 @@ pub fn write_at(
     count: usize,
     since: u64,
 ) -> bool
-    ensures { connections.new ≡ record connections.old { table = connections.new.table } }
+    ensures leaves { result ≡ false → is_here at.number connections.new.table at.key ≡ false }
+    ensures logs { connections.new ≡ record connections.old { table = connections.new.table } }
 {
-    if line.reserve(1).is_err() {
-        connections.leave(at);
+    if !has_room_for(connections, line, at) {
         return false;
     }
     connections.written(at, count);

@@ -104,6 +104,7 @@ impl Service {
         piece: Vec<u8>,
     ) -> Result<Said, Fault>
         ensures hears { Hears key number piece.items self.old.connections self.new.connections result }
+        ensures leaves { OnErr result (is_here number self.new.connections.table key ≡ false) }
         ensures requests { HasSameRequests self.old self.new }
     {
         let heard = hear_at(
@@ -123,6 +124,7 @@ impl Service {
     ///
     /// `false`: there is no memory for its place in the line. It has left, and is to be closed.
     pub fn written(&mut self, key: usize, number: u64, count: usize) -> bool
+        ensures leaves { result ≡ false → is_here number self.new.connections.table key ≡ false }
         ensures logs { HasSameLogs self.old.connections self.new.connections }
         ensures requests { HasSameRequests self.old self.new }
     {
@@ -139,6 +141,7 @@ impl Service {
     /// A connection has left. Its command, if one was asked, is carried out; its reply is let go when it comes. If the
     /// connection is not here nothing changes.
     pub fn leave(&mut self, key: usize, number: u64)
+        ensures leaves { is_here number self.new.connections.table key ≡ false }
         ensures logs { HasSameLogs self.old.connections self.new.connections }
         ensures requests { HasSameRequests self.old self.new }
     {

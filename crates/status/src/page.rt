@@ -121,13 +121,21 @@ function charts(rates, counts) {
   fill("times", counts.map((n, i) => svg("rect", { x: i * 10 + 1, width: 8, y: 100 - 98 * n / top, height: 98 * n / top })));
   at("quantiles").textContent = "half within " + time(quantile(counts, .5)) + ", 99 % within " + time(quantile(counts, .99));
 }
-function show(f) {
-  const before = kept[Math.max(0, kept.length - 10)] || f;
-  kept.push(f);
+function keep(f) {
+  const last = kept.length ? kept[kept.length - 1].uptime_seconds : -1;
+  if (f.uptime_seconds < last) kept.length = 0;
+  if (f.uptime_seconds !== last) kept.push(f);
   if (kept.length > 121) kept.shift();
+}
+function rate(now, before) {
+  return Math.max(0, (answered(now) - answered(before)) / (now.uptime_seconds - before.uptime_seconds));
+}
+function show(f) {
+  keep(f);
+  const before = kept[Math.max(0, kept.length - 11)];
   const members = f.replicas.members, executors = f.replicas.executors.slice(0, members), verifiers = f.replicas.verifiers.slice(0, members);
   const down = executors.concat(verifiers).filter(node => !node.up).length;
-  const rates = kept.slice(1).map((g, i) => Math.max(0, (answered(g) - answered(kept[i])) * 1e3 / (g.seen - kept[i].seen)));
+  const rates = kept.slice(1).map((now, i) => rate(now, kept[Math.max(0, i - 4)]));
   const counts = f.reply_times.counts.map((n, i) => Math.max(0, n - before.reply_times.counts[i]));
   const asked = f.keys.asked - before.keys.asked, found = f.keys.found - before.keys.found;
   at("state").textContent = down ? down + (down > 1 ? " nodes are down" : " node is down") : "all nodes are up";
@@ -147,9 +155,7 @@ function show(f) {
 }
 async function renew() {
   try {
-    const f = await (await fetch("/data.json", { cache: "no-store" })).json();
-    f.seen = performance.now();
-    show(f);
+    show(await (await fetch("/data.json", { cache: "no-store" })).json());
   } catch (e) {
     at("state").textContent = "no answer";
     at("state").className = "bad";

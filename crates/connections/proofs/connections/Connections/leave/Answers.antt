@@ -1,7 +1,8 @@
-use Rattle.std.proofs.Common.{List, Option, sym, subst}
+use Rattle.std.proofs.Common.{◌≡◌, false, List, Option, sym, subst}
 use Rattle.connections.specs.Connection.{ConnectionView}
 use Rattle.connections.specs.Connections.{ConnectionsView, IsConnections}
-use Rattle.connections.proofs.AtLemmas.{left_at_keeps}
+use Rattle.connections.specs.Places.{is_here}
+use Rattle.connections.proofs.AtLemmas.{left_at_keeps, left_gone}
 use Rattle.connections.proofs.connections.Connections.leave.Goals as goal
 
 pub invariant_of-self : goal.invariant_of-self
@@ -9,3 +10,8 @@ invariant_of-self c =
     let s = c.self.inside in
     let v : ConnectionsView = record { table = s.table.items; next = s.next; heard = s.history.heard; given = s.history.given; passed = s.history.passed; taken = s.taken.items; replied = s.replied.items } in
     subst (λ (table : List (Option ConnectionView)). IsConnections (record v { table = table })) (sym c.leave.ensures) (left_at_keeps v c.args.at c.self.invariant)
+
+pub returns-clause-left : goal.returns-clause-left
+returns-clause-left c =
+    let s = c.self.inside in
+    subst (λ (table : List (Option ConnectionView)). is_here c.args.at.number table c.args.at.key ≡ false) (sym c.leave.ensures) (left_gone c.args.at s.table.items)
