@@ -89,9 +89,7 @@ fn nodes_json(alloc: Global, nodes: &[NodeFigures]) -> Result<Value, AllocError>
 fn replicas_json(alloc: Global, replicas: &Replicas) -> Result<Value, AllocError>
     ensures { IfOk result (λ v. view v ≡ spec.replicas_data replicas.now) }
 {
-    let executors = nodes_json(alloc, replicas.executors.as_slice())?;
-    let verifiers = nodes_json(alloc, replicas.verifiers.as_slice())?;
-    json!(in alloc; {"members": replicas.members, "executors": executors, "verifiers": verifiers, "epoch": replicas.epoch, "view": replicas.view, "number": replicas.number, "suspicions": replicas.suspicions})
+    json!(in alloc; {"members": replicas.members, "executors": nodes_json(alloc, replicas.executors.as_slice())?, "verifiers": nodes_json(alloc, replicas.verifiers.as_slice())?, "epoch": replicas.epoch, "view": replicas.view, "number": replicas.number, "suspicions": replicas.suspicions})
 }
 
 /// The counts of a list.
@@ -109,8 +107,7 @@ fn wholes_json(alloc: Global, counts: &[u64]) -> Result<Value, AllocError>
 fn histogram_json(alloc: Global, histogram: &Histogram) -> Result<Value, AllocError>
     ensures { IfOk result (λ v. view v ≡ spec.histogram_data histogram.now) }
 {
-    let counts = wholes_json(alloc, histogram.counts.as_slice())?;
-    json!(in alloc; {"counts": counts, "sum": histogram.sum})
+    json!(in alloc; {"counts": wholes_json(alloc, histogram.counts.as_slice())?, "sum": histogram.sum})
 }
 
 /// All figures.
@@ -118,15 +115,17 @@ fn histogram_json(alloc: Global, histogram: &Histogram) -> Result<Value, AllocEr
 fn figures_json(alloc: Global, figures: &Figures) -> Result<Value, AllocError>
     ensures { IfOk result (λ v. view v ≡ spec.figures_data figures.now) }
 {
-    let connections = connections_json(alloc, &figures.connections)?;
-    let commands = all_commands_json(alloc, &figures.commands)?;
-    let keys = keys_json(alloc, &figures.keys)?;
-    let batches = batches_json(alloc, &figures.batches)?;
-    let replicas = replicas_json(alloc, &figures.replicas)?;
-    let memory = memory_json(alloc, &figures.memory)?;
-    let reply_times = histogram_json(alloc, &figures.reply_times)?;
-    let batch_times = histogram_json(alloc, &figures.batch_times)?;
-    json!(in alloc; {"uptime_seconds": figures.uptime_seconds, "connections": connections, "commands": commands, "keys": keys, "batches": batches, "replicas": replicas, "memory": memory, "reply_times": reply_times, "batch_times": batch_times})
+    json!(in alloc; {
+        "uptime_seconds": figures.uptime_seconds,
+        "connections": connections_json(alloc, &figures.connections)?,
+        "commands": all_commands_json(alloc, &figures.commands)?,
+        "keys": keys_json(alloc, &figures.keys)?,
+        "batches": batches_json(alloc, &figures.batches)?,
+        "replicas": replicas_json(alloc, &figures.replicas)?,
+        "memory": memory_json(alloc, &figures.memory)?,
+        "reply_times": histogram_json(alloc, &figures.reply_times)?,
+        "batch_times": histogram_json(alloc, &figures.batch_times)?
+    })
 }
 
 /// The text of all figures as JSON. Some 2 KB.
