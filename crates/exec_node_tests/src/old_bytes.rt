@@ -1,4 +1,4 @@
-//! Records of executors, byte by byte: of version 1, as an older program wrote them, and of version 2,
+//! Records of executors, piece by piece: of version 1, as an older program wrote them, and of version 2,
 //! as they are kept today. Digests and tokens are those of another program.
 
 use crate::tests::FIRST_BATCH;
@@ -62,174 +62,155 @@ const SECOND_BATCH: [u8; 51] = [
     0, 0, 0, 2, 2, 1, b'a', 0, 0, 0, 0, 0, 0, 0, 0, 0, 0, 0, 1, b'5',
 ];
 
-fn add_zeros(bytes: &mut Vec<u8>, count: usize) -> Result<(), AllocError> {
-    for _ in 0..count {
-        bytes.push(0)?;
+/// A piece of a record.
+#[derive(Clone, Copy)]
+pub enum Piece {
+    /// The version, and whose record it is.
+    Head,
+    Bytes(&'static [u8]),
+    /// A number of eight bytes.
+    Number(u8),
+    /// The form of a state, which version 1 has not.
+    Form(u8),
+    /// So many zeros in version 1, and so many today.
+    Zeros(usize, usize),
+}
+
+use Piece::{Bytes, Form, Head, Number, Zeros};
+
+/// A record, in parts that several records share.
+pub type Record = &'static [&'static [Piece]];
+
+/// Up to the chain: no decree is known, and the first epoch begins. Then the first state: 40 bytes of number and
+/// token before, its epoch, 68 bytes of batch, moment and token, no sessions, and 64 or 256 pages without items.
+const FIRST: &[Piece] = &[
+    Head,
+    Zeros(48, 48),
+    Number(1),
+    Number(1),
+    Form(2),
+    Zeros(40, 40),
+    Number(1),
+    Zeros(68, 68),
+    Bytes(&[3, 0, 0, 0, 0]),
+    Zeros(320, 1280),
+];
+
+/// Up to the chain: one Commit is known.
+const ONE_COMMIT: &[Piece] = &[
+    Head,
+    Number(1),
+    Number(1),
+    Bytes(&TOKEN),
+    Number(1),
+    Number(1),
+];
+
+/// The head and the sessions of the state that batch 1 led to, of the old form: client 1 was answered STORED.
+const OLD_HEAD: &[Piece] = &[
+    Form(1),
+    Number(1),
+    Zeros(32, 32),
+    Number(1),
+    Bytes(&BATCH),
+    Bytes(&[0, 0, 3, 232]),
+    Bytes(&TOKEN),
+    Bytes(&[3, 0, 0, 0, 1, 0, 1, 0, 0, 0, 0, 0, 0, 0, 1, 0]),
+];
+
+/// Those of the state that batch 2 led to, of today's form.
+const NEXT_HEAD: &[Piece] = &[
+    Form(2),
+    Number(2),
+    Bytes(&TOKEN),
+    Number(1),
+    Bytes(&NEXT_BATCH),
+    Bytes(&[0, 0, 3, 232]),
+    Bytes(&NEXT_TOKEN),
+    Bytes(&[3, 0, 0, 0, 1, 0, 1, 0, 0, 0, 0, 0, 0, 0, 2, 0]),
+];
+
+/// The pages of a state. That of `a`, whose unique is 64, is page 33 of 64, or 97 of 256.
+const PAGES: &[Piece] = &[
+    Zeros(165, 485),
+    Bytes(&[0, 0, 0, 0, 1, 1, b'a', 0, 0, 0, 0, 0]),
+    Number(64),
+    Bytes(&[0, 0, 0, 1, b'5']),
+    Zeros(150, 790),
+];
+
+/// The pages of a member, of which only that of `a` is told: a byte says of each whether it is.
+const PAGES_TOLD: &[Piece] = &[
+    Zeros(33, 97),
+    Bytes(&[1, 0, 0, 0, 0, 1, 1, b'a', 0, 0, 0, 0, 0]),
+    Number(64),
+    Bytes(&[0, 0, 0, 1, b'5']),
+    Zeros(30, 158),
+];
+
+/// Those of the next member, where the unique is 128.
+const NEXT_PAGES_TOLD: &[Piece] = &[
+    Zeros(33, 97),
+    Bytes(&[1, 0, 0, 0, 0, 1, 1, b'a', 0, 0, 0, 0, 0]),
+    Number(128),
+    Bytes(&[0, 0, 0, 1, b'5']),
+    Zeros(30, 158),
+];
+
+/// A chain of no members, or of one, which begins with its batch.
+const NO_MEMBER: &[Piece] = &[Bytes(&[0])];
+
+const FIRST_MEMBER: &[Piece] = &[Bytes(&[1]), Bytes(&FIRST_BATCH)];
+
+const SECOND_MEMBER: &[Piece] = &[Bytes(&[1]), Bytes(&SECOND_BATCH)];
+
+/// Of a new executor.
+pub const NEW: Record = &[FIRST, NO_MEMBER];
+
+/// Of one that was stopped when its batch 1 was complete, and of which nothing is decided.
+pub const STOPPED: Record = &[FIRST, FIRST_MEMBER, OLD_HEAD, PAGES_TOLD];
+
+/// Of one for which batch 1 was committed.
+pub const COMMITTED: Record = &[ONE_COMMIT, OLD_HEAD, PAGES, NO_MEMBER];
+
+/// Of one that then executed batch 2.
+pub const NEXT: Record = &[
+    ONE_COMMIT,
+    OLD_HEAD,
+    PAGES,
+    SECOND_MEMBER,
+    NEXT_HEAD,
+    NEXT_PAGES_TOLD,
+];
+
+static NOTHING: [u8; 1280] = [0; 1280];
+
+fn put(bytes: &mut Vec<u8>, of: Written, piece: Piece) -> Result<(), AllocError> {
+    match piece {
+        Head => bytes.extend_from_slice(&[of.version, b'E', of.id, of.u]),
+        Bytes(text) => bytes.extend_from_slice(text),
+        Number(number) => bytes.extend_from_slice(&[0, 0, 0, 0, 0, 0, 0, number]),
+        Form(_) if of.version == 1 => Ok(()),
+        Form(form) => bytes.extend_from_slice(&[form]),
+        Zeros(old, now) => {
+            let count = if of.version == 1 { old } else { now };
+            bytes.extend_from_slice(NOTHING.get(..count).unwrap_or(&[]))
+        }
+    }
+}
+
+fn put_part(bytes: &mut Vec<u8>, of: Written, part: &[Piece]) -> Result<(), AllocError> {
+    for piece in part {
+        put(bytes, of, *piece)?;
     }
     Ok(())
 }
 
-/// A number of eight bytes.
-fn add_number(bytes: &mut Vec<u8>, number: u8) -> Result<(), AllocError> {
-    bytes.extend_from_slice(&[0, 0, 0, 0, 0, 0, 0, number])
-}
-
-/// The record up to its chain: so many Commits are known, the last one of this token, in epoch 1.
-fn add_front(
-    bytes: &mut Vec<u8>,
-    of: Written,
-    known: u8,
-    token: &[u8; 32],
-) -> Result<(), AllocError> {
-    bytes.extend_from_slice(&[of.version, b'E', of.id, of.u])?;
-    add_number(bytes, known)?;
-    add_number(bytes, known)?;
-    bytes.extend_from_slice(token)?;
-    add_number(bytes, 1)?;
-    add_number(bytes, 1)
-}
-
-/// The form of a state, which version 1 has not.
-fn add_form(bytes: &mut Vec<u8>, of: Written, form: u8) -> Result<(), AllocError> {
-    if of.version == 1 {
-        return Ok(());
+/// The bytes of a record.
+pub fn spelled(alloc: Global, of: Written, record: Record) -> Result<Vec<u8>, AllocError> {
+    let mut bytes = Vec::new(alloc);
+    for part in record {
+        put_part(&mut bytes, of, part)?;
     }
-    bytes.push(form)?;
-    Ok(())
-}
-
-/// The first state: 40 bytes of number and token before, its epoch, 68 bytes of batch, moment and token,
-/// no sessions, and 64 or 256 pages without items.
-fn add_first_state(bytes: &mut Vec<u8>, of: Written) -> Result<(), AllocError> {
-    add_form(bytes, of, 2)?;
-    add_zeros(bytes, 40)?;
-    add_number(bytes, 1)?;
-    add_zeros(bytes, 68)?;
-    bytes.extend_from_slice(&[3, 0, 0, 0, 0])?;
-    add_zeros(bytes, if of.version == 1 { 320 } else { 1280 })
-}
-
-/// The head, without its form, and the sessions of the state that batch `number` led to, the request of
-/// that number of client 1: it was answered STORED.
-fn add_head(
-    bytes: &mut Vec<u8>,
-    number: u8,
-    previous: &[u8; 32],
-    batch: &[u8; 32],
-    token: &[u8; 32],
-) -> Result<(), AllocError> {
-    add_number(bytes, number)?;
-    bytes.extend_from_slice(previous)?;
-    add_number(bytes, 1)?;
-    bytes.extend_from_slice(batch)?;
-    bytes.extend_from_slice(&[0, 0, 3, 232])?;
-    bytes.extend_from_slice(token)?;
-    bytes.extend_from_slice(&[3, 0, 0, 0, 1, 0, 1, 0, 0, 0, 0, 0, 0, 0, number, 0])
-}
-
-/// That of the state after batch 1, of the old form.
-fn add_old_head(bytes: &mut Vec<u8>, of: Written) -> Result<(), AllocError> {
-    add_form(bytes, of, 1)?;
-    add_head(bytes, 1, &[0; 32], &BATCH, &TOKEN)
-}
-
-/// The page of `a`, whose unique is this.
-fn add_page(bytes: &mut Vec<u8>, unique: u8) -> Result<(), AllocError> {
-    bytes.extend_from_slice(&[0, 0, 0, 0, 1, 1, b'a', 0, 0, 0, 0, 0])?;
-    add_number(bytes, unique)?;
-    bytes.extend_from_slice(&[0, 0, 0, 1, b'5'])
-}
-
-/// So many pages of so many bytes each.
-fn add_others(bytes: &mut Vec<u8>, pages: u8, each: usize) -> Result<(), AllocError> {
-    for _ in 0..pages {
-        add_zeros(bytes, each)?;
-    }
-    Ok(())
-}
-
-/// The page of `a` behind this mark, among others of so many bytes each: it is page 33 of 64, or 97 of 256.
-fn add_pages(
-    bytes: &mut Vec<u8>,
-    of: Written,
-    each: usize,
-    mark: &[u8],
-    unique: u8,
-) -> Result<(), AllocError> {
-    let (before, after) = if of.version == 1 { (33, 30) } else { (97, 158) };
-    add_others(bytes, before, each)?;
-    bytes.extend_from_slice(mark)?;
-    add_page(bytes, unique)?;
-    add_others(bytes, after, each)
-}
-
-/// Batch 1 and the state that it led to, as a member over the first state.
-fn add_member(bytes: &mut Vec<u8>, of: Written) -> Result<(), AllocError> {
-    bytes.extend_from_slice(&FIRST_BATCH)?;
-    add_old_head(bytes, of)?;
-    add_pages(bytes, of, 1, &[1], 64)
-}
-
-/// Batch 2 and the state that it led to, of today's form, as a member over that of batch 1.
-fn add_next_member(bytes: &mut Vec<u8>, of: Written) -> Result<(), AllocError> {
-    bytes.extend_from_slice(&SECOND_BATCH)?;
-    add_form(bytes, of, 2)?;
-    add_head(bytes, 2, &TOKEN, &NEXT_BATCH, &NEXT_TOKEN)?;
-    add_pages(bytes, of, 1, &[1], 128)
-}
-
-/// The state after batch 1.
-fn add_old_state(bytes: &mut Vec<u8>, of: Written) -> Result<(), AllocError> {
-    add_old_head(bytes, of)?;
-    add_pages(bytes, of, 5, &[], 64)
-}
-
-fn add_new(bytes: &mut Vec<u8>, of: Written) -> Result<(), AllocError> {
-    add_front(bytes, of, 0, &[0; 32])?;
-    add_first_state(bytes, of)?;
-    bytes.push(0)?;
-    Ok(())
-}
-
-/// The record of a new executor.
-pub fn new_record(alloc: Global, of: Written) -> Result<Vec<u8>, AllocError> {
-    let mut bytes = Vec::new(alloc);
-    add_new(&mut bytes, of)?;
-    Ok(bytes)
-}
-
-fn add_stopped(bytes: &mut Vec<u8>, of: Written) -> Result<(), AllocError> {
-    add_front(bytes, of, 0, &[0; 32])?;
-    add_first_state(bytes, of)?;
-    bytes.push(1)?;
-    add_member(bytes, of)
-}
-
-/// The record of one that was stopped when its batch 1 was complete, and of which nothing is decided.
-pub fn stopped_record(alloc: Global, of: Written) -> Result<Vec<u8>, AllocError> {
-    let mut bytes = Vec::new(alloc);
-    add_stopped(&mut bytes, of)?;
-    Ok(bytes)
-}
-
-fn add_committed(bytes: &mut Vec<u8>, of: Written) -> Result<(), AllocError> {
-    add_front(bytes, of, 1, &TOKEN)?;
-    add_old_state(bytes, of)
-}
-
-/// The record of one for which batch 1 was committed.
-pub fn committed_record(alloc: Global, of: Written) -> Result<Vec<u8>, AllocError> {
-    let mut bytes = Vec::new(alloc);
-    add_committed(&mut bytes, of)?;
-    bytes.push(0)?;
-    Ok(bytes)
-}
-
-/// The record of one that then executed batch 2.
-pub fn next_record(alloc: Global, of: Written) -> Result<Vec<u8>, AllocError> {
-    let mut bytes = Vec::new(alloc);
-    add_committed(&mut bytes, of)?;
-    bytes.push(1)?;
-    add_next_member(&mut bytes, of)?;
     Ok(bytes)
 }

@@ -1,9 +1,9 @@
 //! An executor that goes on from a record of version 1 hands its committed state to another one of the
 //! three that has nothing: the state keeps its old token there too.
 
-use crate::old_bytes::{TOKEN, Written, committed_record, stopped_record};
+use crate::old_bytes::{COMMITTED, STOPPED, TOKEN, Written, spelled};
 use crate::records::keeper_of;
-use crate::tests::{Executor, Kept, first_request, is_stored, record};
+use crate::tests::{Executor, Kept, is_stored, record, request};
 use decrees::{Ballot, Decree, Letter, Node};
 use exec_lines::{Body, Input};
 use exec_node::ExecNode;
@@ -39,7 +39,7 @@ fn one_that_has(alloc: Global) -> Result<Executor, Fault> {
         u: 1,
         id: HAS,
     };
-    let old = stopped_record(alloc, of)?;
+    let old = spelled(alloc, of, STOPPED)?;
     opened(alloc, HAS, keeper_of(alloc, old.as_slice())?)
 }
 
@@ -76,7 +76,7 @@ fn last_body(letters: Letters, to: u8) -> Result<Body, Fault> {
 
 /// Whether the one that needed the state answers client 1 of it.
 fn answers(alloc: Global, needs: &mut Executor) -> Result<bool, Fault> {
-    let want = Body::Want(first_request(alloc)?);
+    let want = Body::Want(request(alloc, 1)?);
     let letters = gets(alloc, NEEDS, needs, Node::Client(1), want)?;
     Ok(is_stored(letters.as_slice()))
 }
@@ -94,7 +94,7 @@ fn is_handed_over(alloc: Global, has: &mut Executor, needs: &mut Executor) -> Re
         u: 1,
         id: NEEDS,
     };
-    let expected = committed_record(alloc, of)?;
+    let expected = spelled(alloc, of, COMMITTED)?;
     let keeper: &Kept = needs.keeper();
     let kept = record(alloc, keeper)?;
     Ok(taken.is_empty() && kept == expected && answers(alloc, needs)?)

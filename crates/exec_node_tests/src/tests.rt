@@ -1,8 +1,9 @@
+use crate::old_records::ASK;
 use batches::Batch;
 use decrees::{Ballot, Decree, Letter, Node};
 use exec_lines::{Body, ExecutorRecord, Input};
 use exec_node::ExecNode;
-use executor::{Committed, Ended, Tentative, Work};
+use executor::{Base, Ended, Tentative, Work};
 use keeper::{Keeper, MemKeeper, ToText};
 use proto::{Fault, Reply};
 use sessions::Request;
@@ -38,63 +39,65 @@ pub fn first_keeper(alloc: Global) -> Result<Kept, Fault> {
     Ok(executor.end())
 }
 
-#[test]
-fn a_new_executor_has_a_record(rt: HostRuntime) -> Result<(), Fail> {
-    let keeper = first_keeper(rt.alloc())?;
-    let bytes = record(rt.alloc(), &keeper)?;
-    assert_eq!(rt; bytes.len(), 1471);
-    assert!(rt; matches!(bytes.as_slice(), [2, 0x45, 0, 0, ..]));
-    Ok(())
-}
-
-/// Whether it asks the verifier for the decree of place 1, and says nothing else.
-pub fn asks_for_the_first(letters: &[Letter<Body>]) -> bool {
-    match letters {
-        [letter] => {
+/// Whether the letters say just this to the verifier.
+pub fn says(letters: &[Letter<Body>], said: &[Ballot]) -> bool {
+    letters.len() == said.len()
+        && letters.iter().zip(said).all(|(letter, ballot)| {
             letter.to == Node::Verifier(0)
-                && matches!(&letter.body, Body::Ballot(Ballot::Ask { place: 1 }))
-        }
-        _ => false,
-    }
+                && matches!(&letter.body, Body::Ballot(own) if *own == *ballot)
+        })
+}
+
+/// Whether an executor is up that opens with the keeper's record, says this, and ends with this record.
+pub fn reopens(alloc: Global, keeper: Kept, said: &[Ballot], ends: &[u8]) -> Result<bool, Fault> {
+    let (executor, letters) = opened(alloc, keeper)?;
+    let is_well = executor.is_up() && says(letters.as_slice(), said);
+    drop(letters);
+    let kept = record(alloc, &executor.end())?;
+    Ok(is_well && kept.as_slice() == ends)
+}
+
+fn first_record(alloc: Global) -> Result<Vec<u8>, Fault> {
+    let keeper = first_keeper(alloc)?;
+    record(alloc, &keeper)
+}
+
+/// Whether a new executor has a record, and goes on from it.
+fn new_one_goes_on(alloc: Global) -> Result<bool, Fault> {
+    let before = first_record(alloc)?;
+    let is_new = before.len() == 1471 && matches!(before.as_slice(), [2, 0x45, 0, 0, ..]);
+    Ok(is_new && reopens(alloc, first_keeper(alloc)?, &[ASK], before.as_slice())?)
 }
 
 #[test]
-fn it_goes_on_from_its_record(rt: HostRuntime) -> Result<(), Fail> {
-    let keeper = first_keeper(rt.alloc())?;
-    let before = record(rt.alloc(), &keeper)?;
-    let (executor, letters) = opened(rt.alloc(), keeper)?;
-    let is_up = executor.is_up();
-    let keeper = executor.end();
-    let after = record(rt.alloc(), &keeper)?;
-    assert!(rt; is_up && asks_for_the_first(letters.as_slice()));
-    assert!(rt; before.as_slice() == after.as_slice());
+fn a_new_executor_has_a_record_and_goes_on_from_it(rt: HostRuntime) -> Result<(), Fail> {
+    assert_eq!(rt; new_one_goes_on(rt.alloc()), Ok(true));
     Ok(())
 }
 
-/// Why the first executor of three does not open with the record of this keeper, if so.
-fn refused(alloc: Global, keeper: Kept) -> Option<Fault> {
-    match ExecNode::open(alloc, 1, 0, keeper) {
+/// Why the first executor of three does not open with the record of the only one, if so.
+fn refused(alloc: Global) -> Result<Option<Fault>, Fault> {
+    match ExecNode::open(alloc, 1, 0, first_keeper(alloc)?) {
         Ok((executor, _)) => {
             drop(executor.end());
-            None
+            Ok(None)
         }
-        Err((fault, _)) => Some(fault),
+        Err((fault, _)) => Ok(Some(fault)),
     }
 }
 
 #[test]
 fn the_record_of_another_is_refused(rt: HostRuntime) -> Result<(), Fail> {
-    let keeper = first_keeper(rt.alloc())?;
-    assert_eq!(rt; refused(rt.alloc(), keeper), Some(Fault::BadRecord));
+    assert_eq!(rt; refused(rt.alloc()), Ok(Some(Fault::BadRecord)));
     Ok(())
 }
 
-/// The request of client 1 of number 1: `set a 5`.
-pub fn first_request(alloc: Global) -> Result<Request, Fault> {
+/// The request of client 1 of this number: `set a 5`.
+pub fn request(alloc: Global, number: u8) -> Result<Request, Fault> {
     read::<Request>(
         alloc,
         &[
-            0, 1, 0, 0, 0, 0, 0, 0, 0, 1, 2, 1, b'a', 0, 0, 0, 0, 0, 0, 0, 0, 0, 0, 0, 1, b'5',
+            0, 1, 0, 0, 0, 0, 0, 0, 0, number, 2, 1, b'a', 0, 0, 0, 0, 0, 0, 0, 0, 0, 0, 0, 1, b'5',
         ],
     )
 }
@@ -143,53 +146,37 @@ pub fn execute(alloc: Global, executor: &mut Executor) -> Result<Vec<Letter<Body
     executor.handle(alloc, Input::Finish)
 }
 
+/// Client 1 asks its first request, of which nothing is said yet.
+fn wants(alloc: Global, executor: &mut Executor) -> Result<bool, Fault> {
+    let body = Body::Want(request(alloc, 1)?);
+    Ok(receive(alloc, executor, Node::Client(1), body)?.is_empty())
+}
+
 /// Whether a request waits, is executed, and is answered after its state was decided.
 fn serves(alloc: Global, executor: &mut Executor) -> Result<bool, Fault> {
-    let request = first_request(alloc)?;
-    let waits = receive(alloc, executor, Node::Client(1), Body::Want(request))?;
-    let letters = execute(alloc, executor)?;
-    let Some((n, token)) = told(letters.as_slice()) else {
+    let waits = wants(alloc, executor)?;
+    let Some((1, token)) = told(execute(alloc, executor)?.as_slice()) else {
         return Ok(false);
     };
     let ballot = Ballot::Decided {
         place: 1,
-        decree: Decree::Commit { n, token },
+        decree: Decree::Commit { n: 1, token },
     };
     let answers = receive(alloc, executor, Node::Verifier(0), Body::Ballot(ballot))?;
-    Ok(waits.is_empty() && n == 1 && is_stored(answers.as_slice()))
+    Ok(waits && is_stored(answers.as_slice()))
 }
 
-#[test]
-fn a_request_is_answered_when_its_state_is_decided(rt: HostRuntime) -> Result<(), Fail> {
-    let (mut executor, _) = opened(rt.alloc(), MemKeeper::new())?;
-    let served = serves(rt.alloc(), &mut executor);
-    drop(executor.end());
-    assert!(rt; served?);
-    Ok(())
-}
-
-/// Whether a save that fails stops it: the state that was executed is told to none.
+/// Whether a save that fails stops it: the state that was executed is told to none, and its first record stays.
 fn stops(alloc: Global, executor: &mut Executor) -> Result<bool, Fault> {
-    let request = first_request(alloc)?;
-    drop(receive(alloc, executor, Node::Client(1), Body::Want(request))?);
+    wants(alloc, executor)?;
     executor.keeper().fail_next();
     let failed = matches!(execute(alloc, executor), Err(Fault::Stopped));
     let later = matches!(
         executor.handle(alloc, Input::Cut(1001)),
         Err(Fault::Stopped)
     );
-    Ok(failed && later && !executor.is_up())
-}
-
-#[test]
-fn a_failed_save_stops_it(rt: HostRuntime) -> Result<(), Fail> {
-    let (mut executor, _) = opened(rt.alloc(), MemKeeper::new())?;
-    let stopped = stops(rt.alloc(), &mut executor);
-    let keeper = executor.end();
-    let bytes = record(rt.alloc(), &keeper)?;
-    assert!(rt; stopped?);
-    assert_eq!(rt; bytes.len(), 1471);
-    Ok(())
+    let keeper: &Kept = executor.keeper();
+    Ok(failed && later && record(alloc, keeper)?.len() == 1471 && !executor.is_up())
 }
 
 /// Batch 1 of epoch 1, of that request.
@@ -198,47 +185,73 @@ pub const FIRST_BATCH: [u8; 51] = [
     0, 0, 0, 1, 2, 1, b'a', 0, 0, 0, 0, 0, 0, 0, 0, 0, 0, 0, 1, b'5',
 ];
 
-/// What the work makes in its only group.
-fn work_to_its_end(alloc: Global, work: Work) -> Result<Tentative, Fault> {
-    let mut work = work;
+fn make_steps(alloc: Global, work: &mut Work) -> Result<(), Fault> {
     for _ in 0..4u8 {
         drop(work.step(alloc, 0)?);
     }
+    Ok(())
+}
+
+/// What the work makes in its only group.
+fn work_to_its_end(alloc: Global, mut work: Work) -> Result<Tentative, Fault> {
+    make_steps(alloc, &mut work)?;
     match work.finish(alloc)? {
         Ended::Done(tentative) => Ok(tentative),
         Ended::On(_) => Err(Fault::NotOpen),
     }
 }
 
-/// What the batch makes of the first state.
-fn made(alloc: Global) -> Result<Tentative, Fault> {
-    let first = Committed::first(alloc)?;
-    let batch = read::<Batch>(alloc, &FIRST_BATCH)?;
-    if batch.n != first.as_base().number() + 1 {
+fn made_over(alloc: Global, base: &Base, batch: Batch) -> Result<Tentative, Fault> {
+    if batch.n != base.number() + 1 {
         return Err(Fault::BadRecord);
     }
-    match Work::begin(alloc, first.as_base(), batch, false)? {
+    match Work::begin(alloc, base, batch, false)? {
         Ended::Done(tentative) => Ok(tentative),
         Ended::On(work) => work_to_its_end(alloc, work),
     }
 }
 
-/// Whether a tentative state is refused where nothing is executed, and then taken for its batch.
+/// What the batch makes of the first state.
+fn made(alloc: Global) -> Result<Tentative, Fault> {
+    let base = Base::first(alloc)?;
+    made_over(alloc, &base, read::<Batch>(alloc, &FIRST_BATCH)?)
+}
+
+/// Whether a tentative state is refused if nothing is executed, and then taken for its batch.
 fn adopts(alloc: Global, executor: &mut Executor) -> Result<bool, Fault> {
     let early = executor.handle(alloc, Input::Adopt(made(alloc)?));
     let refused = matches!(early, Err(Fault::Unfit)) && executor.is_up();
-    let request = first_request(alloc)?;
-    drop(receive(alloc, executor, Node::Client(1), Body::Want(request))?);
+    wants(alloc, executor)?;
     drop(executor.handle(alloc, Input::Cut(1000))?);
     let letters = executor.handle(alloc, Input::Adopt(made(alloc)?))?;
     Ok(refused && matches!(told(letters.as_slice()), Some((1, _))))
 }
 
-#[test]
-fn it_adopts_what_was_made_of_its_work(rt: HostRuntime) -> Result<(), Fail> {
-    let (mut executor, _) = opened(rt.alloc(), MemKeeper::new())?;
-    let adopted = adopts(rt.alloc(), &mut executor);
+#[derive(Clone, Copy)]
+enum Row {
+    Serves,
+    Stops,
+    Adopts,
+}
+
+/// Whether a new executor does so.
+fn does(alloc: Global, row: Row) -> Result<bool, Fault> {
+    let (mut executor, _) = opened(alloc, MemKeeper::new())?;
+    let does = match row {
+        Row::Serves => serves(alloc, &mut executor),
+        Row::Stops => stops(alloc, &mut executor),
+        Row::Adopts => adopts(alloc, &mut executor),
+    };
     drop(executor.end());
-    assert!(rt; adopted?);
+    does
+}
+
+/// A request is answered when its state is decided, a failed save stops the executor, and it adopts what was made
+/// of its work.
+#[test]
+fn an_executor_serves_and_stops_and_adopts(rt: HostRuntime) -> Result<(), Fail> {
+    assert_eq!(rt; does(rt.alloc(), Row::Serves), Ok(true));
+    assert_eq!(rt; does(rt.alloc(), Row::Stops), Ok(true));
+    assert_eq!(rt; does(rt.alloc(), Row::Adopts), Ok(true));
     Ok(())
 }
