@@ -12,10 +12,10 @@ use Rattle.connections.specs.declared.connections.CommandNumber.{CommandNumber}
 use Rattle.connections.specs.declared.places.Place.{Place}
 use Rattle.connections.specs.declared.said.Said.{Said}
 use Rattle.connections.specs.Connection.{ConnectionView, IsTaken}
-use Rattle.connections.specs.Places.{is_of_connection, connection_at, place_in, is_here, FeedsHere, FeedsIn, FeedsAt, AnswersHere, AnswersIn, AnswersAt, TakesPlace, TakesWhere, TakesIn, TakesAt, left_in, left_at}
+use Rattle.connections.specs.Places.{is_of_connection, connection_at, place_in, is_here, FeedsHere, FeedsIn, FeedsAt, AnswersHere, AnswersIn, AnswersAt, TakesPlace, TakesWhere, TakesIn, TakesAt, left_place, left_in, left_at, HasSameOthers}
 use Rattle.memcached_spec.specs.Asked.{HasText}
 use Rattle.connections.specs.Connections.{ConnectionsView, AreBefore, AreReplied, IsConnections}
-use Rattle.connections.proofs.PlaceLemmas.{set_place, place_there, here_is}
+use Rattle.connections.proofs.PlaceLemmas.{set_place, other_place, place_there, here_is}
 use Rattle.connections.proofs.KeepLemmas.{left_keeps, failed_keeps, told_keeps, fed_keeps, replied_keeps}
 use Rattle.connections.proofs.TakeLemmas.{taken_keeps, before, in_turn, has_text}
 
@@ -55,6 +55,13 @@ left_gone at table = by (slice_get table at.key) refl
     by : (o : Option (Option ConnectionView)) → slice_get table at.key ≡ o → is_here at.number (left_in at table o) at.key ≡ false
     by None e = ap (λ (o : Option (Option ConnectionView)). is_of_connection at.number (connection_at o)) e
     by (Some p) e = by_place p (is_of_connection at.number p) e refl
+
+pub left_others : (at : Place) (table : List (Option ConnectionView)) → HasSameOthers at.key table (left_at at table)
+left_others at table = by (slice_get table at.key)
+  where
+    by : (o : Option (Option ConnectionView)) → HasSameOthers at.key table (left_in at table o)
+    by None = λ other differs. refl
+    by (Some p) = λ other differs. other_place table at.key (left_place at.number p) other differs
 
 -- where it is here nobody is at its place then
 pub left_none : (v : ConnectionsView) (at : Place) (c : ConnectionView) → place_in v.table at.key ≡ Some c → c.number ≡ at.number → left_at at v.table ≡ slice_set v.table at.key None
@@ -115,6 +122,13 @@ closed_leaves v at piece table said here f closes =
     let c = found v at here in
     let parts = fed_parts v at piece table (Ok said) c.0 c.1 f in
     ap (λ (t : List (Option ConnectionView)). place_in t at.key) parts.2 ∙ (set_place v.table at.key parts.0 (Some c.0) (place_there v.table at.key c.0 c.1) ∙ (parts.1.3 ∙ ap (λ (b : Bool). if not b then Some parts.1.0 else None) closes))
+
+pub fed_others : (at : Place) (piece : List ℕ) (old table : List (Option ConnectionView)) (result : Result Said Fault) → FeedsAt at piece old table result → HasSameOthers at.key old table
+fed_others at piece old table result f = by (slice_get old at.key) f
+  where
+    by : (o : Option (Option ConnectionView)) → FeedsIn at piece old table result o → HasSameOthers at.key old table
+    by None f = λ other differs. ap (λ (t : List (Option ConnectionView)). place_in t other) f.0
+    by (Some p) f = λ other differs. ap (λ (t : List (Option ConnectionView)). place_in t other) f.2 ∙ other_place old at.key f.0 other differs
 
 pub fed_names : (v : ConnectionsView) (at : Place) (piece : List ℕ) (table : List (Option ConnectionView)) (said : Said) → is_here at.number v.table at.key ≡ true → FeedsAt at piece v.table table (Ok said) → (said.key ≡ at.key) × (said.number ≡ at.number)
 fed_names v at piece table said here f =

@@ -1,5 +1,5 @@
 -- A place for a connection, and a table of places.
-use Rattle.std.specs.Prelude.{◌≡◌, ◌⊎◌, ℕ, ◌==◌, ◌&&◌, Bool, true, false, List, [], Option, Some, None, Result, Ok, Err, is_some, not, if◌then◌else◌, slice_get, slice_set}
+use Rattle.std.specs.Prelude.{◌≡◌, ◌≢◌, ◌⊎◌, ℕ, ◌==◌, ◌&&◌, Bool, true, false, List, [], Option, Some, None, Result, Ok, Err, is_some, not, if◌then◌else◌, slice_get, slice_set}
 use Rattle.base.specs.declared.fault.Fault.{Fault}
 use Rattle.base.specs.declared.fault.Fault.TheVariants as fault
 use Rattle.proto.specs.declared.reply.Reply as replies
@@ -122,6 +122,10 @@ left_in at old (Some place) = slice_set old at.key (left_place at.number place)
 -- the connection leaves, if it is here
 abbrev pub left_at : Place → List (Option ConnectionView) → List (Option ConnectionView)
 left_at at old = left_in at old (slice_get old at.key)
+
+-- at each other key is what was there
+abbrev pub HasSameOthers : ℕ → List (Option ConnectionView) → List (Option ConnectionView) → Type 0
+HasSameOthers key old new = (other : ℕ) → other ≢ key → place_in new other ≡ place_in old other
 
 -- no connection came or went
 abbrev pub IsGrown : List (Option ConnectionView) → List (Option ConnectionView) → Type 0

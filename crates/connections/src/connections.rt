@@ -46,7 +46,7 @@ impl Connections {
     ghost use Rattle.std.specs.Prelude.{◌≡◌, ◌<◌, ◌≤◌, ◌+◌, ◌++◌, ◌∷◌, ◌⊎◌, [], true, false, None, Some, IfOk, IfErr, OnOk, OnErr, OnSome, IfSome, IfNone, Err, is_some};
     ghost use Rattle.memcached_spec.specs.Asked.{HasText};
     ghost use Rattle.connections.specs.Connection.{new_connection};
-    ghost use Rattle.connections.specs.Places.{place_in, is_here, is_untaken_in, left_at};
+    ghost use Rattle.connections.specs.Places.{place_in, is_here, is_untaken_in, left_at, HasSameOthers};
     ghost use Rattle.connections.specs.History.{IsHistory, given_as};
     ghost use Rattle.connections.specs.Connections.{IsConnections, no_connections, HasSameLogs, PassesOn, AreBefore, AreReplied};
 
@@ -98,6 +98,7 @@ impl Connections {
         ensures err { OnErr result (self.new.given ≡ self.old.given) }
         ensures leaves { OnErr result (is_here at.number self.new.table at.key ≡ false) }
         ensures closes { IfOk result (λ said. said.closes ≡ true → place_in self.new.table at.key ≡ None) }
+        ensures same_others { HasSameOthers at.key self.old.table self.new.table }
         ensures others { (self.new.taken ≡ self.old.taken) × (self.new.replied ≡ self.old.replied) × (self.new.next ≡ self.old.next) }
     {
         if !table::is_here(&self.table, at) {
@@ -155,6 +156,7 @@ impl Connections {
     /// A connection leaves. If it is not here nothing changes.
     pub fn leave(&mut self, at: Place)
         ensures left { is_here at.number self.new.table at.key ≡ false }
+        ensures same_others { HasSameOthers at.key self.old.table self.new.table }
         ensures table { self.new ≡ record self.old { table = left_at at self.old.table } }
     {
         table::leave(&mut self.table, at);

@@ -1,7 +1,7 @@
 //! What is heard of connections.
 
-ghost use Rattle.std.specs.Prelude.{◌≡◌, true, false, OnErr};
-ghost use Rattle.connections.specs.Places.{is_here};
+ghost use Rattle.std.specs.Prelude.{◌≡◌, true, false, None, OnErr, IfOk};
+ghost use Rattle.connections.specs.Places.{place_in, is_here, left_at, HasSameOthers};
 ghost use Rattle.service.specs.Service.{Hears};
 
 use crate::note::Waiting;
@@ -21,6 +21,8 @@ pub fn line_up(connections: &Connections, line: &mut VecDeque<Waiting>, at: Plac
 fn has_room_for(connections: &mut Connections, line: &mut VecDeque<Waiting>, at: Place) -> bool
     ensures same { result ≡ true → connections.new ≡ connections.old }
     ensures leaves { result ≡ false → is_here at.number connections.new.table at.key ≡ false }
+    ensures left { result ≡ false → connections.new ≡ record connections.old { table = left_at at connections.old.table } }
+    ensures same_others { HasSameOthers at.key connections.old.table connections.new.table }
     ensures logs { connections.new ≡ record connections.old { table = connections.new.table } }
 {
     let has_room = line.reserve(1).is_ok();
@@ -41,6 +43,8 @@ pub fn hear_at(
 ) -> Result<Said, Fault>
     ensures hears { Hears at.key at.number piece.items connections.old connections.new result }
     ensures leaves { OnErr result (is_here at.number connections.new.table at.key ≡ false) }
+    ensures closes { IfOk result (λ said. said.closes ≡ true → place_in connections.new.table at.key ≡ None) }
+    ensures same_others { HasSameOthers at.key connections.old.table connections.new.table }
     ensures taken { connections.new.taken ≡ connections.old.taken }
     ensures replied { connections.new.replied ≡ connections.old.replied }
 {
@@ -64,7 +68,9 @@ pub fn write_at(
     count: usize,
     since: u64,
 ) -> bool
+    ensures same { result ≡ true → connections.new ≡ connections.old }
     ensures leaves { result ≡ false → is_here at.number connections.new.table at.key ≡ false }
+    ensures left { result ≡ false → connections.new ≡ record connections.old { table = left_at at connections.old.table } }
     ensures logs { connections.new ≡ record connections.old { table = connections.new.table } }
 {
     if !has_room_for(connections, line, at) {

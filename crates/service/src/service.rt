@@ -46,8 +46,8 @@ impl Model for Service {
 }
 
 impl Service {
-    ghost use Rattle.std.specs.Prelude.{◌≡◌, ◌++◌, ◌∷◌, ◌⊎◌, [], true, false, IfOk, OnOk, OnErr};
-    ghost use Rattle.connections.specs.Places.{is_here};
+    ghost use Rattle.std.specs.Prelude.{◌≡◌, ◌++◌, ◌∷◌, ◌⊎◌, [], true, false, None, IfOk, OnOk, OnErr};
+    ghost use Rattle.connections.specs.Places.{place_in, is_here, left_at, HasSameOthers};
     ghost use Rattle.connections.specs.Connections.{HasSameLogs, no_connections, IsConnections};
     ghost use Rattle.connections.specs.History.{IsHistory};
     ghost use Rattle.service.specs.Service.{IsService, HasMoments, HasEnsemble, HasSameRequests, Hears};
@@ -105,6 +105,8 @@ impl Service {
     ) -> Result<Said, Fault>
         ensures hears { Hears key number piece.items self.old.connections self.new.connections result }
         ensures leaves { OnErr result (is_here number self.new.connections.table key ≡ false) }
+        ensures closes { IfOk result (λ said. said.closes ≡ true → place_in self.new.connections.table key ≡ None) }
+        ensures same_others { HasSameOthers key self.old.connections.table self.new.connections.table }
         ensures requests { HasSameRequests self.old self.new }
     {
         let heard = hear_at(
@@ -124,7 +126,9 @@ impl Service {
     ///
     /// `false`: there is no memory for its place in the line. It has left, and is to be closed.
     pub fn written(&mut self, key: usize, number: u64, count: usize) -> bool
+        ensures same { result ≡ true → self.new.connections ≡ self.old.connections }
         ensures leaves { result ≡ false → is_here number self.new.connections.table key ≡ false }
+        ensures left { result ≡ false → self.new.connections.table ≡ left_at (record { key = key; number = number }) self.old.connections.table }
         ensures logs { HasSameLogs self.old.connections self.new.connections }
         ensures requests { HasSameRequests self.old self.new }
     {
@@ -142,6 +146,7 @@ impl Service {
     /// connection is not here nothing changes.
     pub fn leave(&mut self, key: usize, number: u64)
         ensures leaves { is_here number self.new.connections.table key ≡ false }
+        ensures left { self.new.connections.table ≡ left_at (record { key = key; number = number }) self.old.connections.table }
         ensures logs { HasSameLogs self.old.connections self.new.connections }
         ensures requests { HasSameRequests self.old self.new }
     {

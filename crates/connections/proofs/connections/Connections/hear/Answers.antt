@@ -1,8 +1,8 @@
 use Rattle.std.proofs.Common.{rules, ◌≡◌, true, ℕ, List, [], ◌∷◌, ◌++◌, sym, ap, ◌∙◌, subst}
 use Rattle.std.specs.Prelude.{Result, Ok, Err, OnErr}
-use Rattle.connections.specs.Places.{is_of_connection, is_here}
+use Rattle.connections.specs.Places.{is_of_connection, is_here, HasSameOthers}
 use Rattle.connections.specs.Connections.{ConnectionsView, IsConnections}
-use Rattle.connections.proofs.AtLemmas.{fed_at_keeps, failed_at_keeps, failed_leaves, closed_leaves}
+use Rattle.connections.proofs.AtLemmas.{fed_at_keeps, failed_at_keeps, failed_leaves, closed_leaves, fed_others}
 use Rattle.connections.proofs.KeepLemmas.{relogged}
 use Rattle.connections.proofs.connections.Connections.hear.Goals as goal
 
@@ -39,3 +39,11 @@ returns-clause-closes c =
     let v : ConnectionsView = record { table = s.table.items; next = s.next; heard = s.history.heard; given = s.history.given; passed = s.history.passed; taken = s.taken.items; replied = s.replied.items } in
     let here : is_here c.args.at.number s.table.items c.args.at.key ≡ true = search rules in
     closed_leaves v c.args.at c.args.piece.items c.feed.new.table.items c.in_ok-said.said here c.in_ok-said.ensures
+
+pub returns-in_err-said-clause-same_others : goal.returns-in_err-said-clause-same_others
+returns-in_err-said-clause-same_others c = subst (λ (v : ConnectionsView). HasSameOthers c.args.at.key v.table c.feed.new.table.items) c.self.view_is
+    (fed_others c.args.at c.args.piece.items c.self.inside.table.items c.feed.new.table.items _ c.in_err-said.ensures)
+
+pub returns-clause-same_others : goal.returns-clause-same_others
+returns-clause-same_others c = subst (λ (v : ConnectionsView). HasSameOthers c.args.at.key v.table c.feed.new.table.items) c.self.view_is
+    (fed_others c.args.at c.args.piece.items c.self.inside.table.items c.feed.new.table.items _ c.in_ok-said.ensures)
