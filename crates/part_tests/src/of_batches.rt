@@ -1,33 +1,36 @@
-ghost use Rattle.std.specs.Prelude.{◌≤◌};
+//! Requests that wait, and the batches that are cut of them.
 
-use crate::requests::{ask, keep};
+use crate::requests::{Says, ask, keep};
 use batches::{Batch, Gather};
-use proto::{Fault, Reply};
+use proto::Fault;
 use sessions::Sessions;
 use std::alloc::{AllocError, Global};
 use std::test::Fail;
 
-fn add(alloc: Global, gather: &mut Gather, client: u16, number: u64) -> Result<(), AllocError>
-    requires client { 1 ≤ client }
-    requires number { 1 ≤ number }
-{
-    gather.add(ask(alloc, client, number)?)
+/// The clients 1 to 64.
+const FIRST_64: [u16; 64] = [
+    1, 2, 3, 4, 5, 6, 7, 8, 9, 10, 11, 12, 13, 14, 15, 16, 17, 18, 19, 20, 21, 22, 23, 24, 25, 26,
+    27, 28, 29, 30, 31, 32, 33, 34, 35, 36, 37, 38, 39, 40, 41, 42, 43, 44, 45, 46, 47, 48, 49, 50,
+    51, 52, 53, 54, 55, 56, 57, 58, 59, 60, 61, 62, 63, 64,
+];
+
+/// A step of a row.
+enum Step {
+    /// Each of these clients asks, its first request.
+    Ask(&'static [u16]),
+    /// This client asks, the request of this number.
+    AskOne(u16, u64),
+    /// The reply to the client's request of this number is kept.
+    Keep(u16, u64),
+    /// A cut at this number finds requests of just these clients, in this order; so many wait on.
+    Cut(u64, &'static [u16], usize),
+    /// A cut at this number finds that there are no more numbers; so many wait on.
+    IsFull(u64, usize),
 }
 
-/// Clients 1 to this one ask, each its first request.
-fn add_clients(alloc: Global, gather: &mut Gather, last: u16) -> Result<(), AllocError>
-    requires { last ≤ 1000 }
-{
-    for client in 1..last + 1 {
-        add(alloc, gather, client, 1)?;
-    }
-    Ok(())
-}
-
-/// Adds the clients of the batch's requests.
-fn add_clients_of(batch: &Batch, clients: &mut Vec<u16>) -> Result<(), AllocError> {
-    for request in batch.requests.as_slice() {
-        clients.push(request.client)?;
+fn ask_all(alloc: Global, gather: &mut Gather, clients: &[u16]) -> Result<(), AllocError> {
+    for client in clients {
+        gather.add(ask(alloc, *client, 1)?)?;
     }
     Ok(())
 }
@@ -37,163 +40,138 @@ fn cut_again(
     alloc: Global,
     gather: &mut Gather,
     sessions: &Sessions,
+    n: u64,
 ) -> Result<Option<Batch>, Fault> {
-    match gather.cut(alloc, 1, 1, 1000, sessions) {
-        Err(Fault::NoMemory) => gather.cut(alloc, 1, 1, 1000, sessions),
+    let n = n.max(1);
+    match gather.cut(alloc, 1, n, 1000, sessions) {
+        Err(Fault::NoMemory) => gather.cut(alloc, 1, n, 1000, sessions),
         cut => cut,
     }
 }
 
-/// The clients of the next batch's requests.
-fn cut_clients(alloc: Global, gather: &mut Gather, sessions: &Sessions) -> Result<Vec<u16>, Fault> {
-    let mut clients = Vec::new(alloc);
-    if let Some(batch) = cut_again(alloc, gather, sessions)? {
-        add_clients_of(&batch, &mut clients)?;
+/// Whether the batch has this number, and requests of just these clients; of none there is no batch.
+fn is_batch(batch: &Option<Batch>, n: u64, clients: &[u16]) -> bool {
+    let Some(batch) = batch else {
+        return clients.is_empty();
+    };
+    let requests = batch.requests.as_slice();
+    for (request, client) in requests.iter().zip(clients.iter()) {
+        if request.client != *client {
+            return false;
+        }
     }
-    Ok(clients)
+    batch.n == n && requests.len() == clients.len()
 }
 
-/// Whether a cut finds requests of just these clients, in this order.
-fn cuts(
+/// Whether so many requests wait.
+fn wait(gather: &Gather, count: usize) -> bool {
+    gather.len() == count && gather.is_empty() == (count == 0)
+}
+
+/// Does the step: whether it gives what it has to.
+fn does(
     alloc: Global,
     gather: &mut Gather,
-    sessions: &Sessions,
-    clients: &[u16],
+    sessions: &mut Sessions,
+    step: &Step,
 ) -> Result<bool, Fault> {
-    Ok(cut_clients(alloc, gather, sessions)?.as_slice() == clients)
-}
-
-fn first_numbers(last: u16, numbers: &mut Vec<u16>) -> Result<(), AllocError>
-    requires { last ≤ 1000 }
-{
-    for number in 1..last + 1 {
-        numbers.push(number)?;
+    match step {
+        Step::Ask(clients) => ask_all(alloc, gather, *clients)?,
+        Step::AskOne(client, number) => gather.add(ask(alloc, *client, *number)?)?,
+        Step::Keep(client, number) => keep(alloc, sessions, *client, *number, Says::Stored)?,
+        Step::Cut(n, clients, left) => {
+            let batch = cut_again(alloc, gather, sessions, *n)?;
+            return Ok(is_batch(&batch, *n, *clients) && wait(gather, *left));
+        }
+        Step::IsFull(n, left) => {
+            let is_full = matches!(cut_again(alloc, gather, sessions, *n), Err(Fault::Full));
+            return Ok(is_full && wait(gather, *left));
+        }
     }
-    Ok(())
+    Ok(true)
 }
 
-/// Whether a cut finds the first requests of the clients 1 to 64.
-fn cuts_the_first_64(
+/// How many of the steps, one after the other, give what they have to; the next one does not.
+fn done(
     alloc: Global,
     gather: &mut Gather,
-    sessions: &Sessions,
-) -> Result<bool, Fault> {
-    let mut expected = Vec::new(alloc);
-    first_numbers(64, &mut expected)?;
-    cuts(alloc, gather, sessions, expected.as_slice())
+    sessions: &mut Sessions,
+    steps: &[Step],
+) -> Result<usize, Fault> {
+    for (place, step) in steps.iter().enumerate() {
+        if !does(alloc, gather, sessions, step)? {
+            return Ok(place);
+        }
+    }
+    Ok(steps.len())
 }
+
+/// The same of new sessions, where nothing waits.
+fn done_anew(alloc: Global, steps: &[Step]) -> Result<usize, Fault> {
+    let mut sessions = Sessions::new(alloc)?;
+    done(alloc, &mut Gather::new(alloc), &mut sessions, steps)
+}
+
+const SIXTY_FOUR: &[Step] = &[Step::Ask(&FIRST_64), Step::Cut(1, &FIRST_64, 0)];
+
+const A_65TH_WAITS: &[Step] = &[
+    Step::Ask(&FIRST_64),
+    Step::AskOne(65, 1),
+    Step::Cut(1, &FIRST_64, 1),
+    Step::Cut(1, &[65], 0),
+];
+
+const A_LATER_REQUEST: &[Step] = &[
+    Step::Keep(1, 1),
+    Step::Keep(3, 1),
+    Step::AskOne(1, 2),
+    Step::AskOne(2, 1),
+    Step::AskOne(1, 1),
+    Step::AskOne(1, 2),
+    Step::AskOne(3, 2),
+    Step::AskOne(3, 1),
+    Step::AskOne(2, 2),
+    // The second request of client 2 waits for its first.
+    Step::Cut(1, &[1, 3], 1),
+    Step::Keep(2, 2),
+    Step::Cut(1, &[], 0),
+];
+
+const NOTHING_FOUND: &[Step] = &[
+    Step::AskOne(1, 2),
+    Step::AskOne(2, 3),
+    Step::Cut(1, &[], 2),
+    Step::Keep(1, 1),
+    Step::Cut(1, &[1], 1),
+];
+
+const THE_LAST_BATCH: &[Step] = &[
+    Step::AskOne(1, 1),
+    Step::IsFull(288230376151711744, 1),
+    Step::Cut(288230376151711743, &[1], 0),
+];
+
+const ROWS: [(&str, &[Step]); 5] = [
+    ("sixty-four requests make one batch", SIXTY_FOUR),
+    ("a 65th client waits for the next batch", A_65TH_WAITS),
+    ("a later request goes last", A_LATER_REQUEST),
+    ("a cut that finds nothing changes nothing", NOTHING_FOUND),
+    ("the last batch has the number 2^58 - 1", THE_LAST_BATCH),
+];
 
 #[test]
-fn sixty_four_requests_make_one_batch(rt: HostRuntime) -> Result<(), Fail> {
-    let mut gather = Gather::new(rt.alloc());
-    add_clients(rt.alloc(), &mut gather, 64)?;
-    let sessions = Sessions::new(rt.alloc())?;
-    assert!(rt; cuts_the_first_64(rt.alloc(), &mut gather, &sessions)?);
-    assert!(rt; gather.is_empty());
-    Ok(())
-}
-
-/// Whether of 65 clients the first 64 are in a batch, and the last one in the next.
-fn cuts_65_in_two(alloc: Global) -> Result<bool, Fault> {
-    let mut gather = Gather::new(alloc);
-    add_clients(alloc, &mut gather, 65)?;
-    let sessions = Sessions::new(alloc)?;
-    Ok(
-        cuts_the_first_64(alloc, &mut gather, &sessions)?
-            && gather.len() == 1
-            && cuts(alloc, &mut gather, &sessions, &[65])?
-            && gather.is_empty(),
-    )
-}
-
-#[test]
-fn a_65th_client_waits_for_the_next_batch(rt: HostRuntime) -> Result<(), Fail> {
-    assert!(rt; cuts_65_in_two(rt.alloc())?);
+fn rows_of_batches(rt: HostRuntime) -> Result<(), Fail> {
+    for (name, steps) in &ROWS {
+        let done = done_anew(rt.alloc(), *steps)?;
+        assert!(rt; done == steps.len(), "{name}: {done}");
+    }
     Ok(())
 }
 
 /// `scripts/refusals` refuses each growth of it in turn.
 #[test]
 fn a_refused_cut_changes_nothing(rt: HostRuntime) -> Result<(), Fail> {
-    let cut = cuts_65_in_two(rt.alloc());
-    assert!(rt; cut == Ok(true) || cut == Err(Fault::NoMemory));
-    Ok(())
-}
-
-fn add_seven(alloc: Global, gather: &mut Gather) -> Result<(), AllocError> {
-    add(alloc, gather, 1, 2)?;
-    add(alloc, gather, 2, 1)?;
-    add(alloc, gather, 1, 1)?;
-    add(alloc, gather, 1, 2)?;
-    add(alloc, gather, 3, 2)?;
-    add(alloc, gather, 3, 1)?;
-    add(alloc, gather, 2, 2)
-}
-
-/// Keeps the first requests of the clients 1 and 3.
-fn keep_two(alloc: Global, sessions: &mut Sessions) -> Result<(), AllocError> {
-    keep(alloc, sessions, 1, 1, Reply::Stored)?;
-    keep(alloc, sessions, 3, 1, Reply::Stored)
-}
-
-#[test]
-fn a_later_request_goes_last(rt: HostRuntime) -> Result<(), Fail> {
-    let mut gather = Gather::new(rt.alloc());
-    let mut sessions = Sessions::new(rt.alloc())?;
-    keep_two(rt.alloc(), &mut sessions)?;
-    add_seven(rt.alloc(), &mut gather)?;
-    assert!(rt; cuts(rt.alloc(), &mut gather, &sessions, &[1, 3])?);
-    // The second request of client 2 waits for its first.
-    assert!(rt; gather.len() == 1);
-    keep(rt.alloc(), &mut sessions, 2, 2, Reply::Stored)?;
-    assert!(rt; cuts(rt.alloc(), &mut gather, &sessions, &[])?);
-    assert!(rt; gather.is_empty());
-    Ok(())
-}
-
-/// Adds the second request of client 1 and the third of client 2.
-fn add_two(alloc: Global, gather: &mut Gather) -> Result<(), AllocError> {
-    add(alloc, gather, 1, 2)?;
-    add(alloc, gather, 2, 3)
-}
-
-#[test]
-fn a_cut_that_finds_nothing_changes_nothing(rt: HostRuntime) -> Result<(), Fail> {
-    let mut gather = Gather::new(rt.alloc());
-    add_two(rt.alloc(), &mut gather)?;
-    let mut sessions = Sessions::new(rt.alloc())?;
-    assert!(rt; cuts(rt.alloc(), &mut gather, &sessions, &[])?);
-    assert!(rt; gather.len() == 2);
-    keep(rt.alloc(), &mut sessions, 1, 1, Reply::Stored)?;
-    assert!(rt; cuts(rt.alloc(), &mut gather, &sessions, &[1])?);
-    assert!(rt; gather.len() == 1);
-    Ok(())
-}
-
-/// The number of the batch that is cut, where one is.
-fn cut_at(alloc: Global, gather: &mut Gather, n: u64) -> Result<Option<u64>, Fault>
-    requires { 1 ≤ n }
-{
-    let batch = gather.cut(alloc, 1, n, 1000, &Sessions::new(alloc)?)?;
-    match batch {
-        Some(batch) => Ok(Some(batch.n)),
-        None => Ok(None),
-    }
-}
-
-#[test]
-fn the_last_batch_has_the_number_2_to_the_58_less_1(rt: HostRuntime) -> Result<(), Fail> {
-    let alloc = rt.alloc();
-    let mut gather = Gather::new(alloc);
-    add(alloc, &mut gather, 1, 1)?;
-    assert!(rt;
-        matches!(
-            cut_at(alloc, &mut gather, 288230376151711744),
-            Err(Fault::Full)
-        )
-    );
-    assert!(rt; gather.len() == 1);
-    assert!(rt; cut_at(alloc, &mut gather, 288230376151711743)? == Some(288230376151711743));
-    assert!(rt; gather.is_empty());
+    let done = done_anew(rt.alloc(), A_65TH_WAITS);
+    assert!(rt; done == Ok(A_65TH_WAITS.len()) || done == Err(Fault::NoMemory));
     Ok(())
 }

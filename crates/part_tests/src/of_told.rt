@@ -1,15 +1,16 @@
 //! Digests of what is kept of all clients, in which a long reply is its digest.
 
-ghost use Rattle.std.specs.Prelude.{◌≡◌, ◌≤◌, OnOk};
+ghost use Rattle.std.specs.Prelude.{◌≤◌, OnOk};
 ghost use Rattle.proto.specs.declared.block.TheConstants.{MOST_BLOCK_BYTES};
 ghost use Rattle.token.specs.Told.{AreDigestsOf};
 
+use crate::of_token::is_digested;
 use crate::requests::ask;
 use proto::{Block, Found, Key, Reply, Values};
 use sessions::{LastReply, Request, Sessions};
 use std::alloc::{AllocError, Global};
 use std::test::Fail;
-use token::{Digested, Form, HashedSessions, ReplyDigests, told_digest, told_digest_of};
+use token::{Form, HashedSessions, ReplyDigests, told_digest, told_digest_of};
 
 // What scripts/told_sessions prints, row by row.
 
@@ -43,6 +44,24 @@ const SHORT_AT_9: [u8; 32] = [
     0x7f, 0xce, 0x3e, 0x65, 0x6a, 0x6a, 0xc8, 0x48, 0x67, 0xfb, 0x75, 0x73, 0x87, 0x03, 0x52, 0xcf,
 ];
 
+/// A reply that a table can hold.
+#[derive(Clone, Copy)]
+enum Says {
+    Stored,
+    NotStored,
+    Exists,
+    NotFound,
+    Deleted,
+    Touched,
+    Number(u64),
+    /// What a gets found: two items of one byte.
+    Two,
+    /// What a get found: one item of so many bytes. 16 bytes more are the text of the reply.
+    One(u16),
+    TooLarge,
+    NotNumber,
+}
+
 /// What a get found under the key `k`: so many bytes `x`.
 fn found(alloc: Global, size: usize, unique: Option<u64>) -> Result<Found, AllocError>
     requires { size ≤ MOST_BLOCK_BYTES }
@@ -55,52 +74,91 @@ fn found(alloc: Global, size: usize, unique: Option<u64>) -> Result<Found, Alloc
     })
 }
 
-/// The reply to a get that found one item of so many bytes: 16 bytes more are its text.
-fn of_size(alloc: Global, size: usize) -> Result<Reply, AllocError>
-    requires { size ≤ MOST_BLOCK_BYTES }
-{
-    Ok(Reply::Values(Values::new(vec![in alloc; found(alloc, size, None)?]?)))
-}
-
-/// The reply to a gets that found two items.
-fn of_two(alloc: Global) -> Result<Reply, AllocError> {
+fn two(alloc: Global) -> Result<Values, AllocError> {
     let first = found(alloc, 1, Some(9))?;
     let second = found(alloc, 1, Some(9))?;
-    Ok(Reply::Values(Values::new(vec![in alloc; first, second]?)))
+    Ok(Values::new(vec![in alloc; first, second]?))
 }
+
+fn one(alloc: Global, size: u16) -> Result<Values, AllocError> {
+    Ok(Values::new(vec![in alloc; found(alloc, usize::from(size), None)?]?))
+}
+
+fn reply(alloc: Global, says: Says) -> Result<Reply, AllocError> {
+    Ok(match says {
+        Says::Stored => Reply::Stored,
+        Says::NotStored => Reply::NotStored,
+        Says::Exists => Reply::Exists,
+        Says::NotFound => Reply::NotFound,
+        Says::Deleted => Reply::Deleted,
+        Says::Touched => Reply::Touched,
+        Says::Number(number) => Reply::Number(number),
+        Says::Two => Reply::Values(two(alloc)?),
+        Says::One(size) => Reply::Values(one(alloc, size)?),
+        Says::TooLarge => Reply::TooLarge,
+        Says::NotNumber => Reply::NotNumber,
+    })
+}
+
+/// A reply that is kept: the client, the number of its request, and the reply.
+type Kept = (u16, u64, Says);
 
 /// Keeps the reply, and first its digest.
 fn keep_both(
     sessions: &mut Sessions,
     digests: &mut ReplyDigests,
     request: &Request,
-    kept: LastReply,
+    reply: Reply,
 ) -> Result<(), AllocError>
-    requires number { kept.number ≡ request.now.number }
-    requires digests { AreDigestsOf sessions.old digests.old }
+    requires { AreDigestsOf sessions.old digests.old }
     ensures { OnOk result (AreDigestsOf sessions.new digests.new) }
 {
+    let kept = LastReply {
+        number: request.number,
+        reply,
+    };
     digests.keep(request.client, &kept)?;
     sessions.keep(request, kept.reply)
 }
 
-/// Keeps the reply to the client's request of this number, and its digest.
+/// Keeps the reply and its digest, if there is one to be kept.
 fn keep(
     alloc: Global,
     sessions: &mut Sessions,
     digests: &mut ReplyDigests,
-    client: u16,
-    number: u64,
-    reply: Reply,
+    kept: Option<&Kept>,
 ) -> Result<(), AllocError>
-    requires client { 1 ≤ client }
-    requires number { 1 ≤ number }
-    requires digests { AreDigestsOf sessions.old digests.old }
+    requires { AreDigestsOf sessions.old digests.old }
     ensures { OnOk result (AreDigestsOf sessions.new digests.new) }
 {
-    let request = ask(alloc, client, number)?;
-    let number = request.number;
-    keep_both(sessions, digests, &request, LastReply { number, reply })
+    let Some((client, number, says)) = kept else {
+        return Ok(());
+    };
+    let request = ask(alloc, *client, *number)?;
+    keep_both(sessions, digests, &request, reply(alloc, *says)?)
+}
+
+/// Keeps these replies, of which there are ten at most. It is no loop, which would need an invariant in a proof
+/// of its own.
+fn keep_all(
+    alloc: Global,
+    sessions: &mut Sessions,
+    digests: &mut ReplyDigests,
+    kept: &[Kept],
+) -> Result<(), AllocError>
+    requires { AreDigestsOf sessions.old digests.old }
+    ensures { OnOk result (AreDigestsOf sessions.new digests.new) }
+{
+    keep(alloc, sessions, digests, kept.get(0))?;
+    keep(alloc, sessions, digests, kept.get(1))?;
+    keep(alloc, sessions, digests, kept.get(2))?;
+    keep(alloc, sessions, digests, kept.get(3))?;
+    keep(alloc, sessions, digests, kept.get(4))?;
+    keep(alloc, sessions, digests, kept.get(5))?;
+    keep(alloc, sessions, digests, kept.get(6))?;
+    keep(alloc, sessions, digests, kept.get(7))?;
+    keep(alloc, sessions, digests, kept.get(8))?;
+    keep(alloc, sessions, digests, kept.get(9))
 }
 
 /// Whether this is the told digest of the sessions, with their digests and without.
@@ -110,201 +168,166 @@ fn is_told(sessions: &Sessions, digests: &ReplyDigests, expected: &[u8; 32]) -> 
     told_digest(sessions, digests) == *expected && told_digest_of(sessions) == *expected
 }
 
-/// Whether the digest of the sessions in a state of the form of trees is this one, with no text beside it.
-fn is_told_of_trees(
-    alloc: Global,
-    sessions: &Sessions,
-    expected: &[u8; 32],
-) -> Result<bool, AllocError> {
-    let sessions = HashedSessions::new(sessions.clone()?);
-    let digested = Digested::of_sessions(alloc, Form::Tree, &sessions);
-    Ok(digested.digest() == expected && digested.text().is_none())
-}
-
-/// The same with digests that are made of the sessions, and in a state of the form of trees.
+/// The same with digests that are made of the sessions, and in a state of the form of trees, with no text
+/// beside it.
 fn is_told_anew(
     alloc: Global,
     sessions: &Sessions,
     expected: &[u8; 32],
 ) -> Result<bool, AllocError> {
     let digests = ReplyDigests::of(alloc, sessions)?;
-    Ok(is_told(sessions, &digests, expected) && is_told_of_trees(alloc, sessions, expected)?)
+    let hashed = HashedSessions::new(sessions.clone()?);
+    Ok(
+        is_told(sessions, &digests, expected)
+            && is_digested(alloc, Form::Tree, &hashed, expected, None)?,
+    )
 }
 
-#[test]
-fn no_session(rt: HostRuntime) -> Result<(), Fail> {
-    let sessions = Sessions::new(rt.alloc())?;
-    assert!(rt; is_told_anew(rt.alloc(), &sessions, &NO_SESSION)?);
-    Ok(())
+fn have_digests(digests: &ReplyDigests, clients: &[(u16, bool)]) -> bool {
+    for (client, has) in clients {
+        if digests.get(*client).is_some() != *has {
+            return false;
+        }
+    }
+    true
 }
 
-fn keep_plain(
+/// A row: what is kept before a copy is taken, and the digest of the copy, then and in the end; what is kept
+/// after it, and the digest in the end; and whether clients then have the digest of a long reply.
+struct Row {
+    name: &'static str,
+    first: &'static [Kept],
+    copied: &'static [u8; 32],
+    then: &'static [Kept],
+    told: &'static [u8; 32],
+    has: &'static [(u16, bool)],
+}
+
+const ROWS: [Row; 5] = [
+    Row {
+        name: "no session",
+        first: &[],
+        copied: &NO_SESSION,
+        then: &[],
+        told: &NO_SESSION,
+        has: &[],
+    },
+    Row {
+        name: "a session of each kind",
+        first: &[],
+        copied: &NO_SESSION,
+        then: &[
+            (1, 1000, Says::Stored),
+            (2, 1001, Says::NotStored),
+            (3, 1002, Says::Exists),
+            (4, 1003, Says::NotFound),
+            (5, 1004, Says::Deleted),
+            (10, 1009, Says::NotNumber),
+            (9, 1008, Says::TooLarge),
+            (8, 1007, Says::Two),
+            (7, 1006, Says::Number(u64::MAX)),
+            (6, 1005, Says::Touched),
+        ],
+        told: &EACH_KIND,
+        has: &[],
+    },
+    Row {
+        name: "replies near the limit",
+        first: &[],
+        copied: &NO_SESSION,
+        then: &[
+            (5, 1, Says::One(49)),
+            (4, 1, Says::One(48)),
+            (3, 1, Says::One(47)),
+        ],
+        told: &NEAR_THE_LIMIT,
+        has: &[(4, false), (5, true)],
+    },
+    Row {
+        name: "a long reply in place of another",
+        first: &[(5, 1, Says::One(49)), (9, 1, Says::One(5000))],
+        copied: &LONG_AT_9,
+        then: &[(9, 2, Says::One(5001))],
+        told: &LONGER_AT_9,
+        has: &[],
+    },
+    Row {
+        name: "a short reply in place of a long one",
+        first: &[(5, 1, Says::One(49)), (9, 1, Says::One(5000))],
+        copied: &LONG_AT_9,
+        then: &[(9, 3, Says::Stored)],
+        told: &SHORT_AT_9,
+        has: &[(9, false)],
+    },
+];
+
+/// Whether the row holds of these sessions, which are none as yet, and their digests.
+fn holds(
     alloc: Global,
     sessions: &mut Sessions,
     digests: &mut ReplyDigests,
-) -> Result<(), AllocError>
-    requires { AreDigestsOf sessions.old digests.old }
-    ensures { OnOk result (AreDigestsOf sessions.new digests.new) }
-{
-    keep(alloc, sessions, digests, 1, 1000, Reply::Stored)?;
-    keep(alloc, sessions, digests, 2, 1001, Reply::NotStored)?;
-    keep(alloc, sessions, digests, 3, 1002, Reply::Exists)?;
-    keep(alloc, sessions, digests, 4, 1003, Reply::NotFound)?;
-    keep(alloc, sessions, digests, 5, 1004, Reply::Deleted)
-}
-
-fn keep_others(
-    alloc: Global,
-    sessions: &mut Sessions,
-    digests: &mut ReplyDigests,
-) -> Result<(), AllocError>
-    requires { AreDigestsOf sessions.old digests.old }
-    ensures { OnOk result (AreDigestsOf sessions.new digests.new) }
-{
-    keep(alloc, sessions, digests, 10, 1009, Reply::NotNumber)?;
-    keep(alloc, sessions, digests, 9, 1008, Reply::TooLarge)?;
-    keep(alloc, sessions, digests, 8, 1007, of_two(alloc)?)?;
-    keep(alloc, sessions, digests, 7, 1006, Reply::Number(u64::MAX))?;
-    keep(alloc, sessions, digests, 6, 1005, Reply::Touched)
-}
-
-#[test]
-fn a_session_of_each_kind(rt: HostRuntime) -> Result<(), Fail> {
-    let alloc = rt.alloc();
-    let mut sessions = Sessions::new(alloc)?;
-    let mut digests = ReplyDigests::of(alloc, &sessions)?;
-    keep_plain(alloc, &mut sessions, &mut digests)?;
-    keep_others(alloc, &mut sessions, &mut digests)?;
-    assert!(rt; is_told(&sessions, &digests, &EACH_KIND));
-    assert!(rt; is_told_anew(alloc, &sessions, &EACH_KIND)?);
-    Ok(())
-}
-
-fn keep_near_the_limit(
-    alloc: Global,
-    sessions: &mut Sessions,
-    digests: &mut ReplyDigests,
-) -> Result<(), AllocError>
-    requires { AreDigestsOf sessions.old digests.old }
-    ensures { OnOk result (AreDigestsOf sessions.new digests.new) }
-{
-    keep(alloc, sessions, digests, 5, 1, of_size(alloc, 49)?)?;
-    keep(alloc, sessions, digests, 4, 1, of_size(alloc, 48)?)?;
-    keep(alloc, sessions, digests, 3, 1, of_size(alloc, 47)?)
-}
-
-#[test]
-fn replies_near_the_limit(rt: HostRuntime) -> Result<(), Fail> {
-    let alloc = rt.alloc();
-    let mut sessions = Sessions::new(alloc)?;
-    let mut digests = ReplyDigests::of(alloc, &sessions)?;
-    keep_near_the_limit(alloc, &mut sessions, &mut digests)?;
-    assert!(rt; is_told(&sessions, &digests, &NEAR_THE_LIMIT));
-    assert!(rt; is_told_anew(alloc, &sessions, &NEAR_THE_LIMIT)?);
-    assert!(rt; digests.get(4).is_none());
-    assert!(rt; digests.get(5).is_some());
-    Ok(())
-}
-
-/// Keeps the reply of client 9 that has this number, and tells whether the digest is then this.
-fn is_then_told(
-    alloc: Global,
-    sessions: &mut Sessions,
-    digests: &mut ReplyDigests,
-    number: u64,
-    reply: Reply,
-    expected: &[u8; 32],
+    row: &Row,
 ) -> Result<bool, AllocError>
-    requires number { 1 ≤ number }
-    requires digests { AreDigestsOf sessions.old digests.old }
-    ensures { OnOk result (AreDigestsOf sessions.new digests.new) }
+    requires { AreDigestsOf sessions.old digests.old }
 {
-    keep(alloc, sessions, digests, 9, number, reply)?;
-    Ok(is_told(sessions, digests, expected))
+    keep_all(alloc, sessions, digests, row.first)?;
+    let copied = is_told(sessions, digests, row.copied);
+    let copy = sessions.clone()?;
+    let copied_digests = digests.clone()?;
+    keep_all(alloc, sessions, digests, row.then)?;
+    Ok(
+        copied
+            && is_told(&copy, &copied_digests, row.copied)
+            && is_told(sessions, digests, row.told)
+            && have_digests(digests, row.has),
+    )
 }
 
-#[test]
-fn a_long_reply_in_place_of_another(rt: HostRuntime) -> Result<(), Fail> {
-    let alloc = rt.alloc();
+/// The same of new sessions; and whether their digest in the end is made anew.
+fn holds_anew(alloc: Global, row: &Row) -> Result<bool, AllocError> {
     let mut sessions = Sessions::new(alloc)?;
     let mut digests = ReplyDigests::of(alloc, &sessions)?;
-    keep(
-        alloc,
-        &mut sessions,
-        &mut digests,
-        5,
-        1,
-        of_size(alloc, 49)?,
-    )?;
-    let long = of_size(alloc, 5000)?;
-    assert!(rt; is_then_told(alloc, &mut sessions, &mut digests, 1, long, &LONG_AT_9)?);
-    let longer = of_size(alloc, 5001)?;
-    assert!(rt; is_then_told(alloc, &mut sessions, &mut digests, 2, longer, &LONGER_AT_9)?);
-    Ok(())
+    Ok(holds(alloc, &mut sessions, &mut digests, row)? && is_told_anew(alloc, &sessions, row.told)?)
 }
 
-#[test]
-fn a_short_reply_in_place_of_a_long_one(rt: HostRuntime) -> Result<(), Fail> {
-    let alloc = rt.alloc();
-    let mut sessions = Sessions::new(alloc)?;
-    let mut digests = ReplyDigests::of(alloc, &sessions)?;
-    keep(
-        alloc,
-        &mut sessions,
-        &mut digests,
-        5,
-        1,
-        of_size(alloc, 49)?,
-    )?;
-    keep(
-        alloc,
-        &mut sessions,
-        &mut digests,
-        9,
-        1,
-        of_size(alloc, 5000)?,
-    )?;
-    let (before, copy) = (sessions.clone()?, digests.clone()?);
-    let short = Reply::Stored;
-    assert!(rt; is_then_told(alloc, &mut sessions, &mut digests, 3, short, &SHORT_AT_9)?);
-    assert!(rt; digests.get(9).is_none());
-    assert!(rt; is_told(&before, &copy, &LONG_AT_9));
-    Ok(())
+fn keep_hashed(alloc: Global, sessions: &mut HashedSessions, kept: Kept) -> Result<(), AllocError> {
+    let (client, number, says) = kept;
+    let request = ask(alloc, client, number)?;
+    sessions.keep(&request, reply(alloc, says)?)
 }
 
-/// Keeps the reply of client 9 that has this number, and tells whether the digest is then this, with the
-/// digests that are kept and from scratch.
+/// Keeps the reply, and tells whether the digest is then this, with the digests that are kept and from
+/// scratch.
 fn is_hashed(
     alloc: Global,
     sessions: &mut HashedSessions,
-    number: u64,
-    reply: Reply,
+    kept: Kept,
     expected: &[u8; 32],
-) -> Result<bool, AllocError>
-    requires { 1 ≤ number }
-{
-    let request = ask(alloc, 9, number)?;
-    sessions.keep(&request, reply)?;
+) -> Result<bool, AllocError> {
+    keep_hashed(alloc, sessions, kept)?;
     Ok(sessions.told_digest() == *expected && told_digest_of(sessions.sessions()) == *expected)
 }
 
-/// Sessions of client 5 alone, with digests.
-fn hashed(alloc: Global) -> Result<HashedSessions, AllocError> {
-    let mut sessions = HashedSessions::new(Sessions::new(alloc)?);
+/// Whether sessions keep the digests of their replies: of client 5, and then of client 9 as well.
+fn are_hashed(alloc: Global, sessions: &mut HashedSessions) -> Result<bool, AllocError> {
     sessions.prepare(alloc, Form::Tree);
-    let request = ask(alloc, 5, 1)?;
-    sessions.keep(&request, of_size(alloc, 49)?)?;
-    Ok(sessions)
+    keep_hashed(alloc, sessions, (5, 1, Says::One(49)))?;
+    let long = is_hashed(alloc, sessions, (9, 1, Says::One(5000)), &LONG_AT_9)?
+        && is_hashed(alloc, sessions, (9, 2, Says::One(5001)), &LONGER_AT_9)?;
+    sessions.prepare(alloc, Form::Current);
+    sessions.prepare(alloc, Form::Tree);
+    Ok(long && is_hashed(alloc, sessions, (9, 3, Says::Stored), &SHORT_AT_9)?)
 }
 
 #[test]
-fn sessions_keep_the_digests_of_their_replies(rt: HostRuntime) -> Result<(), Fail> {
-    let alloc = rt.alloc();
-    let mut sessions = hashed(alloc)?;
-    assert!(rt; is_hashed(alloc, &mut sessions, 1, of_size(alloc, 5000)?, &LONG_AT_9)?);
-    assert!(rt; is_hashed(alloc, &mut sessions, 2, of_size(alloc, 5001)?, &LONGER_AT_9)?);
-    sessions.prepare(alloc, Form::Current);
-    sessions.prepare(alloc, Form::Tree);
-    assert!(rt; is_hashed(alloc, &mut sessions, 3, Reply::Stored, &SHORT_AT_9)?);
+fn rows_of_sessions(rt: HostRuntime) -> Result<(), Fail> {
+    for row in &ROWS {
+        assert!(rt; holds_anew(rt.alloc(), row)?, "{}", row.name);
+    }
+    let mut sessions = HashedSessions::new(Sessions::new(rt.alloc())?);
+    assert!(rt;
+        are_hashed(rt.alloc(), &mut sessions)?,
+        "sessions keep the digests"
+    );
     Ok(())
 }

@@ -1,47 +1,42 @@
-//! Requests of clients, made in steps of one value each: so their proofs are short.
-
-ghost use Rattle.std.specs.Prelude.{◌≤◌};
+//! Requests of clients, each to delete `k`, and the replies to them.
 
 use proto::{Command, Key, Reply, Update};
 use sessions::{Request, Sessions};
 use std::alloc::{AllocError, Global};
 
-/// The key `k`.
-fn key(alloc: Global) -> Result<Key, AllocError> {
-    Ok(Key::new(vec![in alloc; b'k']?))
-}
-
-fn command(alloc: Global) -> Result<Command, AllocError> {
-    Ok(Command::Update(Update::Delete { key: key(alloc)? }))
-}
-
-/// The client's request of this number, to delete `k`.
-pub fn ask(alloc: Global, client: u16, number: u64) -> Result<Request, AllocError>
-    requires client { 1 ≤ client }
-    requires number { 1 ≤ number }
-{
+/// The client's request of this number. Both begin at 1, so a 0 is taken as 1.
+pub fn ask(alloc: Global, client: u16, number: u64) -> Result<Request, AllocError> {
+    let key = Key::new(vec![in alloc; b'k']?);
     Ok(Request {
-        client,
-        number,
-        command: command(alloc)?,
+        client: client.max(1),
+        number: number.max(1),
+        command: Command::Update(Update::Delete { key }),
     })
 }
 
-fn keep_it(sessions: &mut Sessions, request: &Request, reply: Reply) -> Result<(), AllocError> {
-    sessions.keep(request, reply)
+/// A reply that a table can hold.
+#[derive(Clone, Copy)]
+pub enum Says {
+    Stored,
+    Deleted,
+    NotFound,
+    Number(u64),
 }
 
-/// Keeps the reply to the client's request of this number.
+/// Keeps this reply to the client's request of this number.
 pub fn keep(
     alloc: Global,
     sessions: &mut Sessions,
     client: u16,
     number: u64,
-    reply: Reply,
-) -> Result<(), AllocError>
-    requires client { 1 ≤ client }
-    requires number { 1 ≤ number }
-{
+    says: Says,
+) -> Result<(), AllocError> {
     let request = ask(alloc, client, number)?;
-    keep_it(sessions, &request, reply)
+    let reply = match says {
+        Says::Stored => Reply::Stored,
+        Says::Deleted => Reply::Deleted,
+        Says::NotFound => Reply::NotFound,
+        Says::Number(number) => Reply::Number(number),
+    };
+    sessions.keep(&request, reply)
 }
