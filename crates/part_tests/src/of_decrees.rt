@@ -1,3 +1,5 @@
+//! Votes and their verdicts, and logs of decrees.
+
 use base::Text;
 use decrees::{Decree, Log, Standing, Verdict, VoteKey, Votes};
 use proto::Fault;
@@ -5,26 +7,23 @@ use std::alloc::{AllocError, Global};
 use std::test::Fail;
 use token::Token;
 
-fn key(epoch: u64, n: u64, executor: u8) -> VoteKey {
-    let previous = [0; 32];
-    VoteKey {
+/// A vote for the token of this byte.
+fn add(votes: &mut Votes, epoch: u64, n: u64, executor: u8, byte: u8) -> Result<(), AllocError> {
+    let key = VoteKey {
         epoch,
         n,
         executor,
-        previous,
-    }
-}
-
-fn token(byte: u8) -> Token {
-    Token([byte; 32])
+        previous: [0; 32],
+    };
+    votes.add(key, Token([byte; 32]))
 }
 
 /// Adds these tokens for the first number, of the executors from 0 on, and later others of the same.
 fn add_votes(votes: &mut Votes, tokens: &[u8]) -> Result<(), AllocError> {
     let mut executor = 0;
     for byte in tokens {
-        votes.add(key(1, 1, executor), token(*byte))?;
-        votes.add(key(1, 1, executor), token(99))?;
+        add(votes, 1, 1, executor, *byte)?;
+        add(votes, 1, 1, executor, 99)?;
         executor = executor.wrapping_add(1);
     }
     Ok(())
@@ -38,110 +37,125 @@ fn verdict(alloc: Global, u: u8, tokens: &[u8]) -> Result<Verdict, AllocError> {
     Ok(votes.verdict(u.min(3), &Standing::first()))
 }
 
-#[test]
-fn verdicts(rt: HostRuntime) -> Result<(), Fail> {
-    let commit = Verdict::Commit(token(7));
-    let rows: [(u8, &[u8], Verdict); 9] = [
-        (0, &[], Verdict::Wait),
-        (0, &[7], commit),
-        (1, &[7, 7], commit),
-        (1, &[7, 8], Verdict::Wait),
-        (1, &[7, 8, 9], Verdict::Hopeless),
-        (2, &[7, 7, 8, 8], Verdict::Wait),
-        (2, &[7, 7, 8, 8, 9], Verdict::Hopeless),
-        (2, &[6, 7, 8, 9], Verdict::Hopeless),
-        (3, &[7, 7, 8, 8, 9, 9], Verdict::Hopeless),
-    ];
-    for (u, tokens, wanted) in rows {
-        assert_eq!(rt; verdict(rt.alloc(), u, tokens)?, wanted);
-    }
-    Ok(())
-}
+const COMMIT: Verdict = Verdict::Commit(Token([7; 32]));
 
-/// Votes of another epoch, of another number, and of one that is no executor of a set of one.
-fn add_others(votes: &mut Votes) -> Result<(), AllocError> {
-    votes.add(key(2, 1, 0), token(7))?;
-    votes.add(key(1, 2, 0), token(7))?;
-    votes.add(key(1, 1, 1), token(7))
-}
+/// How many may fail, the tokens of executors from 0 on, and the verdict.
+const VERDICTS: [(u8, &[u8], Verdict); 9] = [
+    (0, &[], Verdict::Wait),
+    (0, &[7], COMMIT),
+    (1, &[7, 7], COMMIT),
+    (1, &[7, 8], Verdict::Wait),
+    (1, &[7, 8, 9], Verdict::Hopeless),
+    (2, &[7, 7, 8, 8], Verdict::Wait),
+    (2, &[7, 7, 8, 8, 9], Verdict::Hopeless),
+    (2, &[6, 7, 8, 9], Verdict::Hopeless),
+    (3, &[7, 7, 8, 8, 9, 9], Verdict::Hopeless),
+];
 
-#[test]
-fn votes_that_do_not_count(rt: HostRuntime) -> Result<(), Fail> {
-    let mut votes = Votes::new(rt.alloc());
-    add_others(&mut votes)?;
-    assert!(rt; votes.verdict(0, &Standing::first()) == Verdict::Wait);
+/// The verdicts after votes of another epoch, of another number, and of one that is no executor of a set of
+/// one; and then, where the old ones are dropped, after one that counts.
+fn of_others(votes: &mut Votes) -> Result<[Verdict; 2], AllocError> {
+    add(votes, 2, 1, 0, 7)?;
+    add(votes, 1, 2, 0, 7)?;
+    add(votes, 1, 1, 1, 7)?;
+    let first = votes.verdict(0, &Standing::first());
     votes.drop_old(&Standing {
         n: 1,
-        token: token(7),
+        token: Token([7; 32]),
         epoch: 2,
         start: 1,
     });
-    votes.add(key(1, 1, 0), token(7))?;
-    assert!(rt; votes.verdict(0, &Standing::first()) == Verdict::Commit(token(7)));
-    Ok(())
+    add(votes, 1, 1, 0, 7)?;
+    Ok([first, votes.verdict(0, &Standing::first())])
 }
 
-#[test]
-fn a_log_and_what_it_stands_for(rt: HostRuntime) -> Result<(), Fail> {
-    let mut log = Log::new(rt.alloc());
-    let first = Decree::Commit {
-        n: 1,
-        token: token(5),
-    };
-    let second = Decree::Commit {
-        n: 2,
-        token: token(5),
-    };
-    let after = Standing {
-        n: 1,
-        token: token(5),
-        epoch: 3,
-        start: 2,
-    };
-    assert!(rt; log.learn(second) == Err(Fault::BadRecord));
-    assert!(rt; log.learn(Decree::Rollback) == Ok(()));
-    assert!(rt; log.learn(first) == Ok(()));
-    assert!(rt; log.learn(first) == Err(Fault::BadRecord));
-    assert!(rt; log.learn(Decree::Rollback) == Ok(()));
-    assert!(rt; log.known() == 3);
-    assert!(rt; log.decree(0).is_none() && log.decree(4).is_none());
-    assert!(rt; log.decree(2) == Some(first));
-    assert!(rt; log.standing() == after);
-    Ok(())
+const FIRST: Decree = Decree::Commit {
+    n: 1,
+    token: Token([5; 32]),
+};
+
+const SECOND: Decree = Decree::Commit {
+    n: 2,
+    token: Token([5; 32]),
+};
+
+/// Whether a new log learns this decree, or refuses it as one that may not come next.
+const LEARNED: [(Decree, Result<(), Fault>); 5] = [
+    (SECOND, Err(Fault::BadRecord)),
+    (Decree::Rollback, Ok(())),
+    (FIRST, Ok(())),
+    (FIRST, Err(Fault::BadRecord)),
+    (Decree::Rollback, Ok(())),
+];
+
+const AFTER: Standing = Standing {
+    n: 1,
+    token: Token([5; 32]),
+    epoch: 3,
+    start: 2,
+};
+
+/// Whether the decrees are learned or refused, and the log then is of those that were learned.
+fn learns(log: &mut Log) -> bool {
+    for (decree, result) in &LEARNED {
+        if log.learn(*decree) != *result {
+            return false;
+        }
+    }
+    let decrees = [log.decree(0), log.decree(2), log.decree(4)];
+    decrees == [None, Some(FIRST), None] && log.known() == 3 && log.standing() == AFTER
 }
 
-/// A log of 2,500 undone batches and one that was committed.
-fn log_of_2501(alloc: Global) -> Result<Log, Fault> {
-    let mut log = Log::new(alloc);
-    for _ in 0..2500 {
+/// 2,500 undone batches and one that is committed.
+fn learn_2501(log: &mut Log) -> Result<(), Fault> {
+    for _ in 0..2500usize {
         log.learn(Decree::Rollback)?;
     }
     log.learn(Decree::Commit {
         n: 1,
-        token: token(7),
-    })?;
-    Ok(log)
+        token: Token([7; 32]),
+    })
 }
 
-/// Its text.
-fn text_of_2501(alloc: Global) -> Result<Vec<u8>, AllocError> {
-    let mut text = vec![in alloc; 0u8; 2500]?;
-    text.extend_from_slice(b"\x01\x00\x00\x00\x00\x00\x00\x00\x01".as_slice())?;
-    text.extend_from_slice(&[7u8; 32])?;
-    Ok(text)
+/// The text of the last one: its mark, its number and its token.
+const LAST: &[u8] =
+    b"\x01\x00\x00\x00\x00\x00\x00\x00\x01\x07\x07\x07\x07\x07\x07\x07\x07\x07\x07\x07\x07\x07\x07\x07\x07\x07\x07\x07\x07\x07\x07\x07\x07\x07\x07\x07\x07\x07\x07\x07\x07";
+
+/// Whether the text is that of 2,500 undone batches, a byte 0 each, and of the last one.
+fn is_of_2501(text: &[u8]) -> bool {
+    let (undone, last) = text.split_at(text.len().min(2500));
+    for byte in undone {
+        if *byte != 0 {
+            return false;
+        }
+    }
+    undone.len() == 2500 && last == LAST
 }
 
-fn joined_text(alloc: Global, log: &Log) -> Result<Vec<u8>, AllocError> {
+/// Whether the log's text is, which has more than one piece.
+fn has_text_of_2501(alloc: Global, log: &mut Log) -> Result<bool, Fault> {
+    learn_2501(log)?;
     let mut text = Text::new(alloc);
     log.append_text(&mut text)?;
-    text.joined(alloc)
+    Ok(is_of_2501(text.joined(alloc)?.as_slice()))
 }
 
 #[test]
-fn a_text_of_more_than_one_piece(rt: HostRuntime) -> Result<(), Fail> {
-    let log = log_of_2501(rt.alloc())?;
-    let text = joined_text(rt.alloc(), &log)?;
-    let expected = text_of_2501(rt.alloc())?;
-    assert!(rt; text.as_slice() == expected.as_slice());
+fn verdicts_and_logs(rt: HostRuntime) -> Result<(), Fail> {
+    for (u, tokens, wanted) in &VERDICTS {
+        let found = verdict(rt.alloc(), *u, *tokens)?;
+        assert!(rt; found == *wanted, "{u} {}", tokens.len());
+    }
+    let others = of_others(&mut Votes::new(rt.alloc()))?;
+    assert!(rt;
+        others == [Verdict::Wait, COMMIT],
+        "votes that do not count"
+    );
+    assert!(rt;
+        learns(&mut Log::new(rt.alloc())),
+        "a log and what it stands for"
+    );
+    let is_text = has_text_of_2501(rt.alloc(), &mut Log::new(rt.alloc()))?;
+    assert!(rt; is_text, "a text of more than one piece");
     Ok(())
 }

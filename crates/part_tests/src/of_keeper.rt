@@ -1,3 +1,5 @@
+//! Records that a keeper keeps.
+
 ghost use Rattle.std.specs.Prelude.{◌≡◌, ◌∷◌, [], IfOk};
 
 use base::Text;
@@ -39,44 +41,76 @@ fn finds<R: ToText>(
     }
 }
 
-/// Whether the record is saved.
-fn saves(alloc: Global, keeper: &mut MemKeeper<Text>, bytes: &[u8]) -> Result<bool, AllocError> {
-    Ok(save_record(text(alloc, bytes)?, keeper).is_ok())
+/// A step of a row.
+enum Step {
+    /// Nothing is found.
+    FindsNone,
+    /// This is found, after so many saves that failed.
+    Finds(&'static [u8], u64),
+    /// The next save is set to fail.
+    FailNext,
+    /// This is saved, or its save fails.
+    Save(&'static [u8], bool),
+}
+
+fn does(alloc: Global, keeper: &mut MemKeeper<Text>, step: &Step) -> Result<bool, AllocError> {
+    match step {
+        Step::FindsNone => Ok(keeper.load().is_none()),
+        Step::Finds(bytes, failures) => {
+            Ok(keeper.failures() == *failures && finds(alloc, keeper, *bytes)?)
+        }
+        Step::FailNext => {
+            keeper.fail_next();
+            Ok(true)
+        }
+        Step::Save(bytes, is_saved) => {
+            Ok(save_record(text(alloc, *bytes)?, keeper).is_ok() == *is_saved)
+        }
+    }
+}
+
+/// Whether a new keeper does all steps, one after the other.
+fn does_all(alloc: Global, steps: &[Step]) -> Result<bool, AllocError> {
+    let mut keeper = MemKeeper::new();
+    for step in steps {
+        if !does(alloc, &mut keeper, step)? {
+            return Ok(false);
+        }
+    }
+    Ok(true)
+}
+
+const A_RECORD_IS_FOUND_WHOLE: &[Step] = &[
+    Step::FindsNone,
+    Step::Save(b"first", true),
+    Step::Save(b"second", true),
+    Step::Finds(b"second", 0),
+];
+
+const A_SAVE_THAT_FAILS_KEEPS_THE_OLD_RECORD: &[Step] = &[
+    Step::Save(b"first", true),
+    Step::FailNext,
+    Step::FailNext,
+    Step::Save(b"second", false),
+    Step::Finds(b"first", 1),
+    Step::Save(b"third", true),
+    Step::Finds(b"third", 1),
+];
+
+/// Whether a record of another kind is kept as it is.
+fn keeps_one_byte(alloc: Global) -> Result<bool, AllocError> {
+    let mut keeper = MemKeeper::new();
+    let is_saved = save_record(OneByte { byte: 7 }, &mut keeper).is_ok();
+    keeper.fail_next();
+    let is_refused = save_record(OneByte { byte: 8 }, &mut keeper).is_err();
+    let is_kept = matches!(keeper.load(), Some(OneByte { byte: 7 }));
+    Ok(is_saved && is_refused && is_kept && finds(alloc, &keeper, &[7])?)
 }
 
 #[test]
-fn a_record_is_found_whole(rt: HostRuntime) -> Result<(), Fail> {
-    let mut keeper = MemKeeper::new();
-    assert!(rt; keeper.load().is_none());
-    assert!(rt; saves(rt.alloc(), &mut keeper, b"first")?);
-    assert!(rt; saves(rt.alloc(), &mut keeper, b"second")?);
-    assert!(rt; finds(rt.alloc(), &keeper, b"second")?);
-    assert!(rt; keeper.failures() == 0);
-    Ok(())
-}
-
-#[test]
-fn a_save_that_fails_keeps_the_old_record(rt: HostRuntime) -> Result<(), Fail> {
-    let mut keeper = MemKeeper::new();
-    assert!(rt; saves(rt.alloc(), &mut keeper, b"first")?);
-    keeper.fail_next();
-    keeper.fail_next();
-    assert!(rt; !saves(rt.alloc(), &mut keeper, b"second")?);
-    assert!(rt; finds(rt.alloc(), &keeper, b"first")?);
-    assert!(rt; keeper.failures() == 1);
-    assert!(rt; saves(rt.alloc(), &mut keeper, b"third")?);
-    assert!(rt; finds(rt.alloc(), &keeper, b"third")?);
-    assert!(rt; keeper.failures() == 1);
-    Ok(())
-}
-
-#[test]
-fn a_record_of_another_kind_is_kept_as_it_is(rt: HostRuntime) -> Result<(), Fail> {
-    let mut keeper = MemKeeper::new();
-    assert!(rt; save_record(OneByte { byte: 7 }, &mut keeper).is_ok());
-    keeper.fail_next();
-    assert!(rt; save_record(OneByte { byte: 8 }, &mut keeper).is_err());
-    assert!(rt; matches!(keeper.load(), Some(OneByte { byte: 7 })));
-    assert!(rt; finds(rt.alloc(), &keeper, &[7])?);
+fn records(rt: HostRuntime) -> Result<(), Fail> {
+    assert!(rt; does_all(rt.alloc(), A_RECORD_IS_FOUND_WHOLE)?);
+    assert!(rt; does_all(rt.alloc(), A_SAVE_THAT_FAILS_KEEPS_THE_OLD_RECORD)?);
+    assert!(rt; keeps_one_byte(rt.alloc())?);
     Ok(())
 }

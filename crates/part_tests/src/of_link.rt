@@ -4,19 +4,10 @@ use link::{Link, MOST_ITEMS};
 use std::alloc::Global;
 use std::sync::atomic::{AtomicBool, Ordering};
 use std::sync::{Arc, Wait};
-use std::test::*;
+use std::test::Fail;
 use std::thread;
 use std::thread::Threads;
 use std::time::{Clock, Duration};
-
-#[test]
-fn one_put_and_one_take(rt: HostRuntime) -> Result<(), Fail> {
-    let mut link: Link<u64> = Link::new(rt.alloc())?;
-    let mut other = link.another()?;
-    assert!(rt; other.put(&rt, 7).is_ok());
-    assert_eq!(rt; link.take(&rt), Some(7));
-    Ok(())
-}
 
 /// Puts the numbers from 0 on, as many as a link holds: whether each went in.
 fn fill<R: Wait>(rt: &R, link: &mut Link<u64>) -> bool {
@@ -25,28 +16,38 @@ fn fill<R: Wait>(rt: &R, link: &mut Link<u64>) -> bool {
             return false;
         }
     }
+    MOST_ITEMS == 4096
+}
+
+/// Takes 4,096 items: whether they are the numbers from this one on.
+fn are_taken<R: Wait>(rt: &R, link: &mut Link<u64>, first: u64) -> bool {
+    for place in 0..4096u64 {
+        if link.take(rt) != Some(first.wrapping_add(place)) {
+            return false;
+        }
+    }
     true
+}
+
+/// Whether one more comes back from a full link at once, until an item is taken.
+fn comes_back<R: Wait>(rt: &R, link: &mut Link<u64>) -> bool {
+    fill(rt, link)
+        && link.try_put(rt, 4096) == Err(4096)
+        && link.take(rt) == Some(0)
+        && link.try_put(rt, 4096) == Ok(())
+        && link.try_put(rt, 4097) == Err(4097)
 }
 
 #[test]
 fn a_link_holds_4096_items(rt: HostRuntime) -> Result<(), Fail> {
-    assert_eq!(rt; MOST_ITEMS, 4096);
     let mut link: Link<u64> = Link::new(rt.alloc())?;
-    assert!(rt; fill(&rt, &mut link));
-    for item in 0..4096u64 {
-        assert_eq!(rt; link.take(&rt), Some(item));
-    }
-    Ok(())
-}
-
-#[test]
-fn one_more_comes_back_at_once(rt: HostRuntime) -> Result<(), Fail> {
-    let mut link: Link<u64> = Link::new(rt.alloc())?;
-    assert!(rt; fill(&rt, &mut link));
-    assert_eq!(rt; link.try_put(&rt, 4096), Err(4096));
-    assert_eq!(rt; link.take(&rt), Some(0));
-    assert_eq!(rt; link.try_put(&rt, 4096), Ok(()));
-    assert_eq!(rt; link.try_put(&rt, 4097), Err(4097));
+    let is_put = link.another()?.put(&rt, 7).is_ok();
+    assert!(rt; link.take(&rt) == Some(7) && is_put, "one put and one take");
+    assert!(rt;
+        fill(&rt, &mut link) && are_taken(&rt, &mut link, 0),
+        "4096"
+    );
+    assert!(rt; comes_back(&rt, &mut link), "one more comes back at once");
     Ok(())
 }
 
@@ -85,10 +86,8 @@ fn waits<R: Threads + Wait + Clock + Clone + Send + Drop + 'static>(
 fn one_more_waits_for_a_take(rt: HostRuntime) -> Result<(), Fail> {
     let mut link: Link<u64> = Link::new(rt.alloc())?;
     let other = link.another()?;
-    assert!(rt; fill(&rt, &mut link));
-    assert!(rt; waits(&rt, rt.alloc(), &mut link, other));
-    for item in 1..4097u64 {
-        assert_eq!(rt; link.take(&rt), Some(item));
-    }
+    let is_full = fill(&rt, &mut link);
+    let waited = waits(&rt, rt.alloc(), &mut link, other);
+    assert!(rt; is_full && waited && are_taken(&rt, &mut link, 1));
     Ok(())
 }
