@@ -41,5 +41,3 @@ mod of_told;
 mod of_view_change;
 #[cfg(test)]
 mod requests;
-#[cfg(test)]
-mod rows_of_97;

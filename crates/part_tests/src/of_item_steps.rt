@@ -33,7 +33,7 @@ fn make_steps<S: Store>(
     Ok(())
 }
 
-/// Adds the text of the command's reply.
+/// Makes the steps of a command, and adds the text of its reply.
 fn run<S: Store>(
     alloc: Global,
     store: &mut S,
@@ -44,11 +44,10 @@ fn run<S: Store>(
     let steps = steps_of(alloc, command)?;
     let mut answers = Vec::new(alloc);
     make_steps(alloc, store, at, steps.as_slice(), &mut answers)?;
-    if answers.len() == steps.len() {
-        let reply = reply_of(alloc, command, answers.as_slice())?;
-        write_reply(&reply, out)?;
+    if answers.len() != steps.len() {
+        return Ok(());
     }
-    Ok(())
+    write_reply(&reply_of(alloc, command, answers.as_slice())?, out)
 }
 
 /// Drops what is due; once more where a growth is refused.
@@ -78,79 +77,27 @@ fn run_turns<S: Store>(
 /// A command's lines, and the moment of the batch that it is.
 type Asked<'a> = (u32, &'a [u8]);
 
+/// Runs these lines, each as a batch at its moment, the first as batch 1.
 fn run_lines<S: Store>(
     alloc: Global,
     store: &mut S,
     lines: &[Asked],
     out: &mut Vec<u8>,
 ) -> Result<(), AllocError> {
-    for (i, (moment, line)) in lines.iter().enumerate() {
-        let turns = Reader::new(alloc).feed(alloc, *line)?;
+    let mut stamp = 0u64;
+    for (moment, line) in lines {
+        stamp = stamp.wrapping_add(64);
         let at = Stamp {
             moment: *moment,
-            stamp: (i as u64).wrapping_add(1).wrapping_mul(64),
+            stamp,
         };
-        run_turns(alloc, store, at, turns.as_slice(), out)?;
-    }
-    Ok(())
-}
-
-/// What these lines give, each as a batch at its moment, the first as batch 1.
-fn given(alloc: Global, lines: &[Asked]) -> Result<Vec<u8>, AllocError> {
-    let mut pages = Pages::new(alloc)?;
-    let mut out = Vec::new(alloc);
-    run_lines(alloc, &mut pages, lines, &mut out)?;
-    Ok(out)
-}
-
-#[test]
-fn a_gat_gives_its_items_another_due_time(rt: HostRuntime) -> Result<(), Fail> {
-    let out = given(
-        rt.alloc(),
-        &[
-            (1000, b"set a 3 0 1\r\n5\r\n"),
-            (1000, b"gat 10 a b\r\n"),
-            (1009, b"gets a\r\n"),
-            (1010, b"get a\r\n"),
-        ],
-    )?;
-    assert_eq!(rt;
-        out.as_slice(),
-        b"STORED\r\nVALUE a 3 1\r\n5\r\nEND\r\nVALUE a 3 1 64\r\n5\r\nEND\r\nEND\r\n".as_slice()
-    );
-    Ok(())
-}
-
-#[test]
-fn a_gats_is_done_key_by_key(rt: HostRuntime) -> Result<(), Fail> {
-    let out = given(
-        rt.alloc(),
-        &[
-            (1000, b"set a 3 5 1\r\n5\r\n"),
-            (1000, b"gats 0 a a\r\n"),
-            (9000, b"gats -1 a a\r\n"),
-            (9000, b"get a\r\n"),
-        ],
-    )?;
-    assert_eq!(rt;
-        out.as_slice(),
-        b"STORED\r\nVALUE a 3 1 64\r\n5\r\nVALUE a 3 1 64\r\n5\r\nEND\r\nVALUE a 3 1 64\r\n5\r\nEND\r\nEND\r\n".as_slice()
-    );
-    Ok(())
-}
-
-#[test]
-fn a_get_beside_a_gat_sees_the_item_in_both_orders(rt: HostRuntime) -> Result<(), Fail> {
-    let lines: [(u32, &[u8]); 2] = [(1000, b"gat 5 x y c\r\n"), (1000, b"get c\r\n")];
-    for (first, second) in [(0, 1), (1, 0)] {
-        let out = given(
-            rt.alloc(),
-            &[(1000, b"set c 0 0 1\r\n5\r\n"), lines[first], lines[second]],
+        run_turns(
+            alloc,
+            store,
+            at,
+            Reader::new(alloc).feed(alloc, *line)?.as_slice(),
+            out,
         )?;
-        assert_eq!(rt;
-            out.as_slice(),
-            b"STORED\r\nVALUE c 0 1\r\n5\r\nEND\r\nVALUE c 0 1\r\n5\r\nEND\r\n".as_slice()
-        );
     }
     Ok(())
 }
@@ -167,76 +114,17 @@ fn give<S: Store>(
     Ok(out.as_slice() == expected)
 }
 
-fn give_on_pages(alloc: Global, lines: &[Asked], expected: &[u8]) -> Result<bool, AllocError> {
-    let mut pages = Pages::new(alloc)?;
-    give(alloc, &mut pages, lines, expected)
-}
-
-/// Whether these lines give this, over pages and over a plain store.
+/// The same, over pages and over a plain store.
 fn give_on_both(alloc: Global, lines: &[Asked], expected: &[u8]) -> Result<bool, AllocError> {
-    let mut plain = PlainStore::new(alloc);
-    Ok(give(alloc, &mut plain, lines, expected)? && give_on_pages(alloc, lines, expected)?)
-}
-
-const NO_NUMBER: &[u8] =
-    b"STORED\r\nCLIENT_ERROR cannot increment or decrement non-numeric value\r\n";
-
-#[test]
-fn what_is_counted_is_below_2_to_the_64(rt: HostRuntime) -> Result<(), Fail> {
-    for line in [b"incr n 1\r\n", b"decr n 1\r\n", b"incr n 0\r\n"] {
-        let lines: [Asked; 2] = [
-            (1000, b"set n 0 0 20\r\n18446744073709551616\r\n"),
-            (1000, line.as_slice()),
-        ];
-        assert!(rt; give_on_both(rt.alloc(), &lines, NO_NUMBER)?);
-    }
-    Ok(())
-}
-
-fn add_all(out: &mut Vec<u8>, pieces: &[&[u8]]) -> Result<(), AllocError> {
-    for piece in pieces {
-        out.extend_from_slice(*piece)?;
-    }
-    Ok(())
-}
-
-fn joined(alloc: Global, pieces: &[&[u8]]) -> Result<Vec<u8>, AllocError> {
-    let mut out = Vec::new(alloc);
-    add_all(&mut out, pieces)?;
-    Ok(out)
-}
-
-/// Whether an item of this block, which is one byte short of the limit, takes one byte more, and then none.
-fn is_filled(alloc: Global, block: &[u8]) -> Result<bool, AllocError> {
-    let set = joined(alloc, &[b"set a 0 0 1048575\r\n", block, b"\r\n"])?;
-    let lines: [Asked; 4] = [
-        (1000, set.as_slice()),
-        (1000, b"append a 0 0 1\r\ny\r\n"),
-        (1000, b"append a 0 0 1\r\nz\r\n"),
-        (1000, b"get a\r\n"),
-    ];
-    let expected = joined(
-        alloc,
-        &[
-            b"STORED\r\nSTORED\r\nSERVER_ERROR object too large for cache\r\nVALUE a 0 1048576\r\n",
-            block,
-            b"y\r\nEND\r\n",
-        ],
-    )?;
-    let out = given(alloc, &lines)?;
-    Ok(out.as_slice() == expected.as_slice())
-}
-
-#[test]
-fn what_is_appended_fits_the_limit_of_a_block(rt: HostRuntime) -> Result<(), Fail> {
-    let block = vec![in rt.alloc(); b'x'; 1048575]?;
-    assert!(rt; is_filled(rt.alloc(), block.as_slice())?);
-    Ok(())
+    Ok(
+        give(alloc, &mut PlainStore::new(alloc), lines, expected)?
+            && give(alloc, &mut Pages::new(alloc)?, lines, expected)?,
+    )
 }
 
 /// Each command, once where it does something and once where it does not. The unique of what line `n`
 /// stores is `64 * n`.
-const EACH: [Asked<'static>; 25] = [
+const EACH: &[Asked<'static>] = &[
     (1000, b"set a 1 0 1\r\n5\r\n"),
     (1000, b"add a 1 0 1\r\n6\r\n"),
     (1000, b"add b 2 20 1\r\n6\r\n"),
@@ -267,16 +155,119 @@ const EACH: [Asked<'static>; 25] = [
 const EACH_GIVES: &[u8] =
     b"STORED\r\nNOT_STORED\r\nSTORED\r\nNOT_STORED\r\nSTORED\r\nSTORED\r\nSTORED\r\nNOT_STORED\r\n6794\r\n6793\r\nNOT_FOUND\r\nVALUE a 3 4 640\r\n6793\r\nVALUE b 2 1 192\r\n6\r\nEND\r\nEXISTS\r\nSTORED\r\nNOT_FOUND\r\nCLIENT_ERROR cannot increment or decrement non-numeric value\r\nTOUCHED\r\nNOT_FOUND\r\nVALUE b 2 1 192\r\n6\r\nVALUE a 4 1 896\r\nx\r\nEND\r\nVALUE a 4 1\r\nx\r\nVALUE b 2 1\r\n6\r\nEND\r\nEND\r\nSTORED\r\nDELETED\r\nNOT_FOUND\r\nEND\r\n";
 
+const NO_NUMBER: &[u8] =
+    b"STORED\r\nCLIENT_ERROR cannot increment or decrement non-numeric value\r\n";
+
+const SEEN_TWICE: &[u8] = b"STORED\r\nVALUE c 0 1\r\n5\r\nEND\r\nVALUE c 0 1\r\n5\r\nEND\r\n";
+
+/// A test's name, its lines, and what they give.
+type Row = (&'static str, &'static [Asked<'static>], &'static [u8]);
+
+const ROWS: [Row; 8] = [
+    (
+        "a gat gives its items another due time",
+        &[
+            (1000, b"set a 3 0 1\r\n5\r\n"),
+            (1000, b"gat 10 a b\r\n"),
+            (1009, b"gets a\r\n"),
+            (1010, b"get a\r\n"),
+        ],
+        b"STORED\r\nVALUE a 3 1\r\n5\r\nEND\r\nVALUE a 3 1 64\r\n5\r\nEND\r\nEND\r\n",
+    ),
+    (
+        "a gats is done key by key",
+        &[
+            (1000, b"set a 3 5 1\r\n5\r\n"),
+            (1000, b"gats 0 a a\r\n"),
+            (9000, b"gats -1 a a\r\n"),
+            (9000, b"get a\r\n"),
+        ],
+        b"STORED\r\nVALUE a 3 1 64\r\n5\r\nVALUE a 3 1 64\r\n5\r\nEND\r\nVALUE a 3 1 64\r\n5\r\nEND\r\nEND\r\n",
+    ),
+    (
+        "a get after a gat sees the item",
+        &[
+            (1000, b"set c 0 0 1\r\n5\r\n"),
+            (1000, b"gat 5 x y c\r\n"),
+            (1000, b"get c\r\n"),
+        ],
+        SEEN_TWICE,
+    ),
+    (
+        "a get before a gat sees the item",
+        &[
+            (1000, b"set c 0 0 1\r\n5\r\n"),
+            (1000, b"get c\r\n"),
+            (1000, b"gat 5 x y c\r\n"),
+        ],
+        SEEN_TWICE,
+    ),
+    (
+        "what is counted up is below 2^64",
+        &[
+            (1000, b"set n 0 0 20\r\n18446744073709551616\r\n"),
+            (1000, b"incr n 1\r\n"),
+        ],
+        NO_NUMBER,
+    ),
+    (
+        "what is counted down is below 2^64",
+        &[
+            (1000, b"set n 0 0 20\r\n18446744073709551616\r\n"),
+            (1000, b"decr n 1\r\n"),
+        ],
+        NO_NUMBER,
+    ),
+    (
+        "what 0 is added to is below 2^64",
+        &[
+            (1000, b"set n 0 0 20\r\n18446744073709551616\r\n"),
+            (1000, b"incr n 0\r\n"),
+        ],
+        NO_NUMBER,
+    ),
+    ("each command", EACH, EACH_GIVES),
+];
+
+fn joined(alloc: Global, front: &[u8], block: &[u8], back: &[u8]) -> Result<Vec<u8>, AllocError> {
+    let mut out = Vec::from_slice(alloc, front)?;
+    out.extend_from_slice(block)?;
+    out.extend_from_slice(back)?;
+    Ok(out)
+}
+
+/// Whether an item of this block, which is one byte short of the limit, takes one byte more, and then none.
+fn is_filled(alloc: Global, block: &[u8]) -> Result<bool, AllocError> {
+    let set = joined(alloc, b"set a 0 0 1048575\r\n", block, b"\r\n")?;
+    let lines: [Asked; 4] = [
+        (1000, set.as_slice()),
+        (1000, b"append a 0 0 1\r\ny\r\n"),
+        (1000, b"append a 0 0 1\r\nz\r\n"),
+        (1000, b"get a\r\n"),
+    ];
+    let expected = joined(
+        alloc,
+        b"STORED\r\nSTORED\r\nSERVER_ERROR object too large for cache\r\nVALUE a 0 1048576\r\n",
+        block,
+        b"y\r\nEND\r\n",
+    )?;
+    give(alloc, &mut Pages::new(alloc)?, &lines, expected.as_slice())
+}
+
 #[test]
-fn each_command_on_pages_and_on_a_plain_store(rt: HostRuntime) -> Result<(), Fail> {
-    assert!(rt; give_on_both(rt.alloc(), &EACH, EACH_GIVES)?);
+fn commands_on_pages_and_on_a_plain_store(rt: HostRuntime) -> Result<(), Fail> {
+    for (name, lines, expected) in &ROWS {
+        assert!(rt; give_on_both(rt.alloc(), *lines, *expected)?, "{name}");
+    }
+    let is_filled = is_filled(rt.alloc(), vec![in rt.alloc(); b'x'; 1048575]?.as_slice())?;
+    assert!(rt; is_filled, "what is appended fits the limit of a block");
     Ok(())
 }
 
 /// `scripts/refusals` refuses each growth of it in turn.
 #[test]
 fn a_refused_step_changes_nothing(rt: HostRuntime) -> Result<(), Fail> {
-    let gave = give_on_both(rt.alloc(), &EACH, EACH_GIVES);
+    let gave = give_on_both(rt.alloc(), EACH, EACH_GIVES);
     assert!(rt; gave == Ok(true) || gave.is_err());
     Ok(())
 }

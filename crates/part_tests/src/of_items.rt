@@ -1,119 +1,122 @@
+//! Which entries a drop of what is due looks at.
+
+use crate::changes::key;
 use item_steps::{Stamp, Step, apply};
 use items::{PlainStore, Store};
 use pages::{Layout, Pages};
-use proto::{Block, Key, StoreVerb, Update, is_key_text};
+use proto::{Block, StoreVerb, Update};
 use std::alloc::{AllocError, Global};
 use std::test::Fail;
 
-/// The key of one byte, or else `k`.
-fn key(alloc: Global, byte: u8) -> Result<Key, AllocError> {
-    let bytes = vec![in alloc; byte]?;
-    if is_key_text(bytes.as_slice()) {
-        return Ok(Key::new(bytes));
-    }
-    Ok(Key::new(vec![in alloc; b'k']?))
-}
-
-fn set(alloc: Global, byte: u8, exptime: i32) -> Result<Update, AllocError> {
-    Ok(Update::Store {
-        verb: StoreVerb::Set,
-        key: key(alloc, byte)?,
-        flags: 0,
-        exptime,
-        block: Block::from_slice(alloc, b"5")?,
-    })
-}
-
-fn touch(alloc: Global, byte: u8, exptime: i32) -> Result<Update, AllocError> {
-    Ok(Update::Touch {
-        key: key(alloc, byte)?,
-        exptime,
-    })
-}
-
+/// Sets an item at the key of one byte, or touches the one that is there.
 fn update<S: Store>(
     alloc: Global,
     store: &mut S,
-    update: &Update,
+    verb: Option<StoreVerb>,
+    byte: u8,
+    exptime: i32,
     moment: u32,
 ) -> Result<(), AllocError> {
-    apply(
-        alloc,
-        store,
-        &Step::Update(update.clone()?),
-        Stamp { moment, stamp: 64 },
-    )?;
+    let key = key(alloc, &[byte])?;
+    let update = match verb {
+        Some(verb) => Update::Store {
+            verb,
+            key,
+            flags: 0,
+            exptime,
+            block: Block::from_slice(alloc, b"5")?,
+        },
+        None => Update::Touch { key, exptime },
+    };
+    let stamp = Stamp { moment, stamp: 64 };
+    apply(alloc, store, &Step::Update(update), stamp)?;
     Ok(())
+}
+
+/// Sets it at moment 1000.
+fn set<S: Store>(alloc: Global, store: &mut S, byte: u8, exptime: i32) -> Result<(), AllocError> {
+    update(alloc, store, Some(StoreVerb::Set), byte, exptime, 1000)
 }
 
 /// The items `a`, `b`, `c`, `d`, set at moment 1000, and due at 1010, 1020, never and 2011.
 fn set_four<S: Store>(alloc: Global, store: &mut S) -> Result<(), AllocError> {
-    update(alloc, store, &set(alloc, b'a', 10)?, 1000)?;
-    update(alloc, store, &set(alloc, b'b', 20)?, 1000)?;
-    update(alloc, store, &set(alloc, b'c', 0)?, 1000)?;
-    update(alloc, store, &set(alloc, b'd', 1011)?, 1000)
+    set(alloc, store, b'a', 10)?;
+    set(alloc, store, b'b', 20)?;
+    set(alloc, store, b'c', 0)?;
+    set(alloc, store, b'd', 1011)
 }
 
 /// Whether the store has each of these keys of one byte, and no other.
 fn has_keys(store: &PlainStore, keys: &[u8]) -> bool {
-    store
-        .as_slice()
-        .iter()
-        .map(|entry| entry.key().as_slice()[0])
-        .eq(keys.iter().copied())
+    for (entry, key) in store.as_slice().iter().zip(keys.iter()) {
+        if entry.key().as_slice() != [*key].as_slice() {
+            return false;
+        }
+    }
+    store.as_slice().len() == keys.len()
 }
 
-/// Drops what is due: whether it looks at so many entries, and just these keys are left.
-fn drops(store: &mut PlainStore, moment: u32, looks: u64, left: &[u8]) -> Result<bool, AllocError> {
-    Ok(store.drop_due_counted(moment)? == looks && has_keys(store, left))
+/// Drops what is due at each of these moments: whether it looks at so many entries, and just these keys are
+/// left.
+fn drops(store: &mut PlainStore, rows: &[(u32, u64, &[u8])]) -> Result<bool, AllocError> {
+    for (moment, looks, left) in rows {
+        if store.drop_due_counted(*moment)? != *looks || !has_keys(store, *left) {
+            return Ok(false);
+        }
+    }
+    Ok(true)
 }
 
-/// `b` is due at 1015.
-fn touch_b<S: Store>(alloc: Global, store: &mut S) -> Result<(), AllocError> {
-    update(alloc, store, &touch(alloc, b'b', 5)?, 1010)
+/// Whether a drop looks at what it drops, and at one more, if there is one.
+fn looks_at_what_it_drops(alloc: Global, store: &mut PlainStore) -> Result<bool, AllocError> {
+    set_four(alloc, store)?;
+    let first = drops(store, &[(1009, 1, b"abcd"), (1010, 2, b"bcd")])?;
+    // `b` is then due at 1015.
+    update(alloc, store, None, b'b', 5, 1010)?;
+    Ok(
+        first
+            && drops(
+                store,
+                &[(1020, 2, b"cd"), (2011, 1, b"c"), (4000000000, 0, b"c")],
+            )?,
+    )
 }
 
-#[test]
-fn a_drop_looks_at_what_it_drops(rt: HostRuntime) -> Result<(), Fail> {
-    let mut store = PlainStore::new(rt.alloc());
-    set_four(rt.alloc(), &mut store)?;
-    assert!(rt; drops(&mut store, 1009, 1, b"abcd")?);
-    assert!(rt; drops(&mut store, 1010, 2, b"bcd")?);
-    touch_b(rt.alloc(), &mut store)?;
-    assert!(rt; drops(&mut store, 1020, 2, b"cd")?);
-    assert!(rt; drops(&mut store, 2011, 1, b"c")?);
-    assert!(rt; drops(&mut store, 4000000000, 0, b"c")?);
-    Ok(())
+/// At how many entries drops look.
+fn looks(alloc: Global, pages: &mut Pages) -> Result<[u64; 4], AllocError> {
+    set_four(alloc, pages)?;
+    let first = pages.drop_due_counted(1009)?;
+    let second = pages.drop_due_counted(1010)?;
+    // `b` is then due at 1015.
+    update(alloc, pages, None, b'b', 5, 1010)?;
+    let third = pages.drop_due_counted(1020)?;
+    Ok([first, second, third, pages.drop_due_counted(2011)?])
 }
 
-/// Each item is on a page of its own, of which a drop counts all items where something is due. Of each
-/// other page it counts one look.
-#[test]
-fn a_drop_looks_at_each_page(rt: HostRuntime) -> Result<(), Fail> {
-    let mut pages = Pages::new(rt.alloc())?;
-    set_four(rt.alloc(), &mut pages)?;
-    assert!(rt; pages.drop_due_counted(1009)? == 256);
-    assert!(rt; pages.drop_due_counted(1010)? == 257);
-    touch_b(rt.alloc(), &mut pages)?;
-    assert!(rt; pages.drop_due_counted(1020)? == 257);
-    assert!(rt; pages.drop_due_counted(2011)? == 257);
-    assert!(rt; pages.len() == 1);
-    assert!(rt; pages.seal(Layout::Sorted)?.len(99) == 1);
-    Ok(())
+/// Whether drops look at each page. Each item is on a page of its own, of which a drop counts all items where
+/// something is due. Of each other page it counts one look.
+fn looks_at_each_page(alloc: Global, mut pages: Pages) -> Result<bool, AllocError> {
+    let looks = looks(alloc, &mut pages)?;
+    let left = pages.len();
+    Ok(looks == [256, 257, 257, 257] && left == 1 && pages.seal(Layout::Sorted)?.len(99) == 1)
 }
 
 /// 94 items that are due at 1001 to 1050, each set four or five times.
 fn set_many(alloc: Global, store: &mut PlainStore) -> Result<(), AllocError> {
     for n in 0..400u32 {
         let byte = 33 + (n % 94) as u8;
-        update(
-            alloc,
-            store,
-            &set(alloc, byte, 1 + (7 * n % 50) as i32)?,
-            1000,
-        )?;
+        set(alloc, store, byte, 1 + (7 * n % 50) as i32)?;
     }
     Ok(())
+}
+
+fn are_alive(store: &PlainStore, moment: u32) -> bool {
+    for entry in store.as_slice() {
+        if !entry.value().is_alive(moment) {
+            return false;
+        }
+    }
+    true
 }
 
 /// Drops what is due: whether it looks at what it drops and at one more, if there is one, and all that is
@@ -124,24 +127,39 @@ fn drops_what_is_due(store: &mut PlainStore, moment: u32) -> Result<bool, AllocE
     let left = store.as_slice().len();
     let dropped = before.saturating_sub(left) as u64;
     let last = if left == 0 { 0 } else { 1 };
-    Ok(
-        looks == dropped.saturating_add(last)
-            && store
-                .as_slice()
-                .iter()
-                .all(|entry| entry.value().is_alive(moment)),
-    )
+    Ok(looks == dropped.saturating_add(last) && are_alive(store, moment))
+}
+
+/// How many of these drops look at what they drop, one after the other.
+fn dropped_at(store: &mut PlainStore, moments: &[u32]) -> Result<usize, AllocError> {
+    for (place, moment) in moments.iter().enumerate() {
+        if !drops_what_is_due(store, *moment)? {
+            return Ok(place);
+        }
+    }
+    Ok(moments.len())
+}
+
+/// How many items there are, how many drops look at what they drop, and how many items are left.
+fn counts_of_many(alloc: Global, store: &mut PlainStore) -> Result<[usize; 3], AllocError> {
+    set_many(alloc, store)?;
+    let before = store.as_slice().len();
+    let dropped = dropped_at(store, &[1000, 1005, 1031, 1032, 1049, 1050, 1051])?;
+    Ok([before, dropped, store.as_slice().len()])
 }
 
 #[test]
-fn many_are_dropped_at_once(rt: HostRuntime) -> Result<(), Fail> {
-    let mut store = PlainStore::new(rt.alloc());
-    set_many(rt.alloc(), &mut store)?;
-    assert!(rt; store.as_slice().len() == 94);
-    for moment in [1000u32, 1005, 1031, 1032, 1049, 1050, 1051].iter() {
-        assert!(rt; drops_what_is_due(&mut store, *moment)?, "at {moment}");
-    }
-    assert!(rt; store.as_slice().is_empty());
+fn a_drop_looks_at_what_it_drops(rt: HostRuntime) -> Result<(), Fail> {
+    let of_plain = looks_at_what_it_drops(rt.alloc(), &mut PlainStore::new(rt.alloc()))?;
+    let of_pages = looks_at_each_page(rt.alloc(), Pages::new(rt.alloc())?)?;
+    let of_many = counts_of_many(rt.alloc(), &mut PlainStore::new(rt.alloc()))?;
+    assert!(rt; of_plain, "a plain store");
+    assert!(rt; of_pages, "pages");
+    assert!(rt;
+        of_many == [94, 7, 0],
+        "many are dropped at once: {}",
+        of_many[1]
+    );
     Ok(())
 }
 
@@ -161,31 +179,35 @@ fn counted_again(store: &PlainStore) -> Result<(usize, usize, u64), AllocError> 
     }
 }
 
-/// Puts or touches, and again where that was refused. False where a refusal changed something.
-fn make(alloc: Global, store: &mut PlainStore, byte: u8, exptime: i32) -> Result<bool, AllocError> {
+/// Sets, and again where that was refused. False where a refusal changed something.
+fn sets(alloc: Global, store: &mut PlainStore, byte: u8, exptime: i32) -> Result<bool, AllocError> {
     let before = counted_again(store)?;
-    match set(alloc, byte, exptime) {
-        Ok(first) => {
-            if update(alloc, store, &first, 1000).is_ok() {
-                return Ok(true);
-            }
-        }
-        Err(_) => {}
+    if set(alloc, store, byte, exptime).is_ok() {
+        return Ok(true);
     }
     let same = counted_again(store)? == before;
-    update(alloc, store, &set(alloc, byte, exptime)?, 1000)?;
+    set(alloc, store, byte, exptime)?;
     Ok(same)
+}
+
+/// Sets 13 items, most of them twice, of which each fifth is never due.
+fn sets_twenty(alloc: Global, store: &mut PlainStore) -> Result<bool, AllocError> {
+    for n in 0..20u8 {
+        let exptime = if n % 5 == 4 { 0 } else { 10 + i32::from(n) };
+        if !sets(alloc, store, b'a' + n % 13, exptime)? {
+            return Ok(false);
+        }
+    }
+    Ok(true)
 }
 
 /// With `--fail-alloc N` one growth of it is refused, for each N.
 #[test]
 fn a_refused_put_changes_nothing(rt: HostRuntime) -> Result<(), Fail> {
     let mut store = PlainStore::new(rt.alloc());
-    for n in 0..20u8 {
-        let exptime = if n % 5 == 4 { 0 } else { 10 + i32::from(n) };
-        assert!(rt; make(rt.alloc(), &mut store, b'a' + n % 13, exptime)?);
-    }
-    assert!(rt; counted_again(&store)? == (13, 3, 10));
-    assert!(rt; store.drop_due_counted(1022)? == 6);
+    let is_same = sets_twenty(rt.alloc(), &mut store)?;
+    let counts = counted_again(&store)?;
+    let looks = store.drop_due_counted(1022)?;
+    assert!(rt; is_same && counts == (13, 3, 10) && looks == 6);
     Ok(())
 }

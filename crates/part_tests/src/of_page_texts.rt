@@ -1,7 +1,6 @@
 //! Single pages in each layout: their texts, what is dropped of them, and when their digests are made.
 
-use crate::changes::put_on_236;
-use crate::rows_of_97::put_rows;
+use crate::changes::{put_on_236, put_rows};
 use items::Store;
 use pages::{Layout, Page};
 use proto::Fault;
@@ -9,32 +8,34 @@ use sha2::{Digest, Sha256};
 use std::alloc::{AllocError, Global};
 use std::test::Fail;
 
-// What `scripts/page_trees` prints, row by row: of the texts of trees.
-
-const TEXT_OF_NONE: [u8; 32] = [
-    0xb4, 0x54, 0x82, 0x22, 0x4b, 0x43, 0x9a, 0x3d, 0x54, 0x8c, 0x65, 0x37, 0x89, 0x29, 0xb7, 0xdc,
-    0xc1, 0x6a, 0x42, 0x28, 0x85, 0x30, 0xb7, 0xb2, 0x0d, 0x5c, 0x81, 0x03, 0xcc, 0x87, 0x9d, 0x10,
-];
-
-const TEXT_OF_ONE: [u8; 32] = [
-    0xf9, 0xd0, 0x70, 0xc4, 0xfb, 0x0f, 0x45, 0x23, 0x11, 0x4c, 0xb2, 0x68, 0x56, 0x59, 0xa2, 0xa7,
-    0x1e, 0xbe, 0x64, 0x0f, 0x7d, 0x7d, 0xc7, 0x3f, 0x7e, 0x51, 0x47, 0xc5, 0xcb, 0x8f, 0x9f, 0xdc,
-];
-
-const TEXT_OF_TWO: [u8; 32] = [
-    0x87, 0xc3, 0xaf, 0x0d, 0xf7, 0x54, 0xdc, 0xe6, 0xf4, 0x31, 0xea, 0xa3, 0x9d, 0x4c, 0x41, 0x32,
-    0x20, 0x34, 0xba, 0x30, 0x9a, 0xf2, 0x22, 0xf0, 0xc4, 0x27, 0x55, 0x4e, 0x28, 0xbb, 0x0f, 0x46,
-];
-
-const TEXT_OF_THREE: [u8; 32] = [
-    0xbb, 0x2e, 0x8c, 0xf6, 0x27, 0x2b, 0xb1, 0x5c, 0xd4, 0x1b, 0x54, 0xad, 0x54, 0x2c, 0xa0, 0x8a,
-    0x73, 0x65, 0x64, 0xe3, 0x42, 0xee, 0xbf, 0x69, 0x3a, 0x1b, 0xe9, 0x75, 0x78, 0x14, 0x9f, 0xef,
+/// SHA-256 of the text of a tree, by how many items it has, from `scripts/page_trees`, row by row.
+const TEXTS: [[u8; 32]; 4] = [
+    [
+        0xb4, 0x54, 0x82, 0x22, 0x4b, 0x43, 0x9a, 0x3d, 0x54, 0x8c, 0x65, 0x37, 0x89, 0x29, 0xb7,
+        0xdc, 0xc1, 0x6a, 0x42, 0x28, 0x85, 0x30, 0xb7, 0xb2, 0x0d, 0x5c, 0x81, 0x03, 0xcc, 0x87,
+        0x9d, 0x10,
+    ],
+    [
+        0xf9, 0xd0, 0x70, 0xc4, 0xfb, 0x0f, 0x45, 0x23, 0x11, 0x4c, 0xb2, 0x68, 0x56, 0x59, 0xa2,
+        0xa7, 0x1e, 0xbe, 0x64, 0x0f, 0x7d, 0x7d, 0xc7, 0x3f, 0x7e, 0x51, 0x47, 0xc5, 0xcb, 0x8f,
+        0x9f, 0xdc,
+    ],
+    [
+        0x87, 0xc3, 0xaf, 0x0d, 0xf7, 0x54, 0xdc, 0xe6, 0xf4, 0x31, 0xea, 0xa3, 0x9d, 0x4c, 0x41,
+        0x32, 0x20, 0x34, 0xba, 0x30, 0x9a, 0xf2, 0x22, 0xf0, 0xc4, 0x27, 0x55, 0x4e, 0x28, 0xbb,
+        0x0f, 0x46,
+    ],
+    [
+        0xbb, 0x2e, 0x8c, 0xf6, 0x27, 0x2b, 0xb1, 0x5c, 0xd4, 0x1b, 0x54, 0xad, 0x54, 0x2c, 0xa0,
+        0x8a, 0x73, 0x65, 0x64, 0xe3, 0x42, 0xee, 0xbf, 0x69, 0x3a, 0x1b, 0xe9, 0x75, 0x78, 0x14,
+        0x9f, 0xef,
+    ],
 ];
 
 /// The page of so many items in this layout.
 fn page_of_rows(alloc: Global, layout: Layout, count: usize) -> Result<Page, AllocError> {
     let mut page = Page::new(alloc)?;
-    put_rows(alloc, &mut page, count)?;
+    put_rows(alloc, &mut page, 0, count)?;
     page.seal(layout)?;
     Ok(page)
 }
@@ -43,21 +44,6 @@ fn text_of(alloc: Global, page: &Page) -> Result<Vec<u8>, AllocError> {
     let mut text = Vec::new(alloc);
     page.put_text(&mut text)?;
     Ok(text)
-}
-
-/// Whether SHA-256 of the text of a tree of so many items is this.
-fn has_text(alloc: Global, count: usize, digest: &[u8; 32]) -> Result<bool, AllocError> {
-    let text = text_of(alloc, &page_of_rows(alloc, Layout::Tree, count)?)?;
-    Ok(Sha256::digest(text.as_slice()) == *digest)
-}
-
-#[test]
-fn texts_of_trees(rt: HostRuntime) -> Result<(), Fail> {
-    assert!(rt; has_text(rt.alloc(), 0, &TEXT_OF_NONE)?);
-    assert!(rt; has_text(rt.alloc(), 1, &TEXT_OF_ONE)?);
-    assert!(rt; has_text(rt.alloc(), 2, &TEXT_OF_TWO)?);
-    assert!(rt; has_text(rt.alloc(), 3, &TEXT_OF_THREE)?);
-    Ok(())
 }
 
 /// Whether the page that the bytes begin with has the layout that their mark tells, and its text and the
@@ -122,23 +108,18 @@ fn is_read_back(alloc: Global, page: &Page) -> Result<bool, Fault> {
     )
 }
 
-/// The same; and whether what is cut or changed of its text is told apart.
-fn is_strict(alloc: Global, layout: Layout, count: usize) -> Result<bool, Fault> {
+/// The same of a page of so many items in this layout; and whether what is cut or changed of its text is told
+/// apart, and the text of a tree has the digest of its row. The text of two is not changed, for the time.
+fn holds(alloc: Global, layout: Layout, count: usize) -> Result<bool, Fault> {
     let page = page_of_rows(alloc, layout, count)?;
     let mut text = text_of(alloc, &page)?;
-    Ok(is_read_back(alloc, &page)? && are_told_apart(alloc, text.as_mut_slice())?)
-}
-
-/// Whether that holds of pages of none, one and three items.
-fn are_strict(alloc: Global, layout: Layout) -> Result<bool, Fault> {
-    Ok(is_strict(alloc, layout, 0)? && is_strict(alloc, layout, 1)? && is_strict(alloc, layout, 3)?)
-}
-
-#[test]
-fn texts_that_are_cut_or_changed(rt: HostRuntime) -> Result<(), Fail> {
-    assert!(rt; are_strict(rt.alloc(), Layout::Sorted).is_ok_and(|strict| strict));
-    assert!(rt; are_strict(rt.alloc(), Layout::Tree).is_ok_and(|strict| strict));
-    Ok(())
+    let has_digest = layout == Layout::Sorted
+        || Sha256::digest(text.as_slice()) == TEXTS[count.min(3)];
+    Ok(
+        has_digest
+            && is_read_back(alloc, &page)?
+            && (count == 2 || are_told_apart(alloc, text.as_mut_slice())?),
+    )
 }
 
 /// Whether the text of this layout is none with the mark of the other one: its entries have another order.
@@ -154,10 +135,26 @@ const TWICE: &[u8] =
     b"\x06\x00\x00\x00\x02\x01\x61\x00\x00\x00\x00\x00\x00\x00\x00\x00\x00\x00\x00\x40\x00\x00\x00\x01\x35\x01\x61\x00\x00\x00\x00\x00\x00\x00\x00\x00\x00\x00\x00\x40\x00\x00\x00\x01\x35";
 
 #[test]
-fn texts_of_another_order(rt: HostRuntime) -> Result<(), Fail> {
-    assert!(rt; needs_its_mark(rt.alloc(), Layout::Sorted).is_ok_and(|needs| needs));
-    assert!(rt; needs_its_mark(rt.alloc(), Layout::Tree).is_ok_and(|needs| needs));
-    assert!(rt; taken(rt.alloc(), TWICE).is_ok_and(|taken| taken.is_none()));
+fn texts_of_pages(rt: HostRuntime) -> Result<(), Fail> {
+    for count in 0..4usize {
+        assert!(rt;
+            holds(rt.alloc(), Layout::Sorted, count)?,
+            "sorted, of {count}"
+        );
+        assert!(rt;
+            holds(rt.alloc(), Layout::Tree, count)?,
+            "a tree of {count}"
+        );
+    }
+    assert!(rt;
+        needs_its_mark(rt.alloc(), Layout::Sorted)?,
+        "in the order of a tree"
+    );
+    assert!(rt;
+        needs_its_mark(rt.alloc(), Layout::Tree)?,
+        "in the order of keys"
+    );
+    assert!(rt; taken(rt.alloc(), TWICE)? == None, "a key twice");
     Ok(())
 }
 
@@ -175,13 +172,6 @@ fn tells_its_keys(alloc: Global, page: &mut Page) -> Result<bool, AllocError> {
     Ok(sorted && tree && !page.is_own(alloc, 97)? && !page.is_own(alloc, 236)?)
 }
 
-#[test]
-fn keys_of_one_page(rt: HostRuntime) -> Result<(), Fail> {
-    let mut page = page_of_rows(rt.alloc(), Layout::Sorted, 3)?;
-    assert!(rt; tells_its_keys(rt.alloc(), &mut page)?);
-    Ok(())
-}
-
 /// A page of 100 items, of which every third is due at its number.
 fn page_of_100(alloc: Global, layout: Layout) -> Result<Page, AllocError> {
     let mut page = Page::new(alloc)?;
@@ -192,31 +182,23 @@ fn page_of_100(alloc: Global, layout: Layout) -> Result<Page, AllocError> {
     Ok(page)
 }
 
-/// Drops what is due: whether it counts so many entries, and leaves so many.
-fn drops(page: &mut Page, moment: u32, looks: u64, left: u64) -> Result<bool, AllocError> {
-    Ok(page.drop_due_counted(moment)? == looks && page.len() == left)
-}
+/// A drop from a page of 100 items: the moment, how many entries it counts, and how many items it leaves.
+type Drops = (u32, u64, u64);
 
 /// A tree counts what it drops: 17 items are due at 50, and 17 more at 99.
-#[test]
-fn a_drop_from_a_tree_looks_at_what_it_drops(rt: HostRuntime) -> Result<(), Fail> {
-    let mut page = page_of_100(rt.alloc(), Layout::Tree)?;
-    assert!(rt; drops(&mut page, 50, 17, 83)?);
-    assert!(rt; drops(&mut page, 50, 1, 83)?);
-    assert!(rt; drops(&mut page, 99, 17, 66)?);
-    assert!(rt; drops(&mut page, u32::MAX, 1, 66)?);
-    Ok(())
-}
+const OF_A_TREE: [Drops; 4] = [(50, 17, 83), (50, 1, 83), (99, 17, 66), (u32::MAX, 1, 66)];
 
 /// A sorted page counts all its items, and of its index what it drops and one more, if there is one.
-#[test]
-fn a_drop_from_a_sorted_page_looks_at_all(rt: HostRuntime) -> Result<(), Fail> {
-    let mut page = page_of_100(rt.alloc(), Layout::Sorted)?;
-    assert!(rt; drops(&mut page, 50, 118, 83)?);
-    assert!(rt; drops(&mut page, 50, 1, 83)?);
-    assert!(rt; drops(&mut page, 99, 100, 66)?);
-    assert!(rt; drops(&mut page, u32::MAX, 1, 66)?);
-    Ok(())
+const OF_A_SORTED_PAGE: [Drops; 4] = [(50, 118, 83), (50, 1, 83), (99, 100, 66), (u32::MAX, 1, 66)];
+
+/// Whether the page counts and leaves so many, one drop after the other.
+fn counts(page: &mut Page, drops: &[Drops]) -> Result<bool, AllocError> {
+    for (moment, looks, left) in drops {
+        if page.drop_due_counted(*moment)? != *looks || page.len() != *left {
+            return Ok(false);
+        }
+    }
+    Ok(true)
 }
 
 /// What the page weighs: as it is, in a tree, with its digest, in the same layout once more, and after a put.
@@ -251,13 +233,25 @@ fn keeps_its_digest(page: &mut Page) -> bool {
     page.digest() == before
 }
 
+/// Whether a sorted page of 100 items costs this to make its digest, and the digest is then as before.
+fn costs(alloc: Global, page: &mut Page) -> Result<bool, AllocError> {
+    let first = weights(alloc, page)?;
+    let is_kept = keeps_its_digest(page);
+    let sorted = sorted_weights(page)?;
+    put_on_236(alloc, page, 0)?;
+    Ok(is_kept && keeps_its_digest(page) && first == [0, 64, 0, 0, 64] && sorted == [0, 164, 0])
+}
+
 #[test]
-fn what_it_costs_to_make_a_digest(rt: HostRuntime) -> Result<(), Fail> {
-    let mut page = page_of_100(rt.alloc(), Layout::Sorted)?;
-    assert!(rt; weights(rt.alloc(), &mut page)? == [0, 64, 0, 0, 64]);
-    assert!(rt; keeps_its_digest(&mut page));
-    assert!(rt; sorted_weights(&mut page)? == [0, 164, 0]);
-    put_on_236(rt.alloc(), &mut page, 0)?;
-    assert!(rt; keeps_its_digest(&mut page));
+fn keys_drops_and_costs_of_pages(rt: HostRuntime) -> Result<(), Fail> {
+    let alloc = rt.alloc();
+    let keys = tells_its_keys(alloc, &mut page_of_rows(alloc, Layout::Sorted, 3)?)?;
+    let of_tree = counts(&mut page_of_100(alloc, Layout::Tree)?, &OF_A_TREE)?;
+    let of_sorted = counts(&mut page_of_100(alloc, Layout::Sorted)?, &OF_A_SORTED_PAGE)?;
+    let costs = costs(alloc, &mut page_of_100(alloc, Layout::Sorted)?)?;
+    assert!(rt; keys, "keys of one page");
+    assert!(rt; of_tree, "a drop from a tree looks at what it drops");
+    assert!(rt; of_sorted, "a drop from a sorted page looks at all");
+    assert!(rt; costs, "what it costs to make a digest");
     Ok(())
 }

@@ -1,11 +1,13 @@
+//! Stores of pages: their digests and roots, the texts of their pages, and which pages may differ.
+
 ghost use Rattle.std.specs.Prelude.{◌<◌};
 ghost use Rattle.pages.specs.Page.{page_count};
 
-use crate::changes::{Change, any_change, any_item, changed, key, new_state, nth_key};
+use crate::changes::{State, any_item, changed, key, new_state, nth_key, put_five};
 use base::{Entry, Text};
 use items::{Item, PlainStore, Store};
 use pages::{Layout, PAGES, Page, PageSet, Pages, Snapshot, page_of};
-use proto::{Block, Command, Key, Keys, Update};
+use proto::{Block, Key, Reader, Turn};
 use rand_core::SeedableRng;
 use rand_core::utils::NextWord;
 use rand_pcg::Lcg64Xsh32;
@@ -37,16 +39,22 @@ fn put_entry(hasher: &mut Sha256, key: &Key, item: &Item) {
     hasher.update(item.block.as_slice());
 }
 
-/// The digest of a page, from scratch: its text is spelled here. The mask is one less than the
-/// number of pages.
+/// How many entries are on a page. The mask is one less than the number of pages.
+fn count_on(entries: &[Entry<Key, Item>], number: usize, mask: usize) -> u64 {
+    let mut count = 0u64;
+    for entry in entries {
+        if page_of(entry.key()) & mask == number {
+            count = count.wrapping_add(1);
+        }
+    }
+    count
+}
+
+/// The digest of a page, from scratch: its text is spelled here.
 fn digest_of(entries: &[Entry<Key, Item>], number: usize, mask: usize) -> [u8; 32] {
-    let count = entries
-        .iter()
-        .filter(|entry| page_of(entry.key()) & mask == number)
-        .count();
     let mut hasher = Sha256::new();
     put_number(&mut hasher, 0, 1);
-    put_number(&mut hasher, count as u64, 4);
+    put_number(&mut hasher, count_on(entries, number, mask), 4);
     for entry in entries {
         if page_of(entry.key()) & mask == number {
             put_entry(&mut hasher, entry.key(), entry.value());
@@ -55,55 +63,93 @@ fn digest_of(entries: &[Entry<Key, Item>], number: usize, mask: usize) -> [u8; 3
     hasher.finalize()
 }
 
-/// The root over the digests of the pages of the old form, from scratch.
-fn old_root_of(entries: &[Entry<Key, Item>]) -> [u8; 32] {
+/// Whether the root of the pages of the old form is that of the plain store, from scratch.
+fn old_root_agrees(state: &State) -> bool {
     let mut digests = [[0u8; 32]; OLD_PAGES];
     for number in 0..OLD_PAGES {
-        digests[number] = digest_of(entries, number, OLD_PAGES - 1);
+        digests[number] = digest_of(state.1.as_slice(), number, OLD_PAGES - 1);
     }
-    token::root(&digests, OLD_HEIGHT)
-}
-
-fn old_root_agrees(kept: &Snapshot, plain: &PlainStore) -> bool {
-    kept.layout() == Layout::Sorted
-        && kept.has_old_texts()
-        && kept.old_root() == old_root_of(plain.as_slice())
-}
-
-/// Whether the pages are sorted, and the data of each item has so many bytes at most.
-fn has_data_within(kept: &Snapshot, most: usize) -> bool {
-    kept.layout() == Layout::Sorted && kept.has_data_within(most)
+    state.0.layout() == Layout::Sorted
+        && state.0.has_old_texts()
+        && state.0.old_root() == token::root(&digests, OLD_HEIGHT)
 }
 
 /// Whether each digest and the root are those of the plain store, from scratch.
-fn agree(kept: &Snapshot, plain: &PlainStore) -> bool {
+fn agree(state: &State) -> bool {
     let mut digests = [[0u8; 32]; PAGES];
     for number in 0..PAGES {
-        digests[number] = digest_of(plain.as_slice(), number, PAGES - 1);
-        if kept.digest(number) != digests[number] {
+        digests[number] = digest_of(state.1.as_slice(), number, PAGES - 1);
+        if state.0.digest(number) != digests[number] {
             return false;
         }
     }
-    kept.root() == token::root(&digests, HEIGHT)
+    state.0.root() == token::root(&digests, HEIGHT)
 }
 
-#[test]
-fn pages_of_keys(rt: HostRuntime) -> Result<(), Fail> {
-    let rows: [(&[u8], usize); 9] = [
-        (b"a", 97),
-        (b"b", 98),
-        (b"c", 99),
-        (b"n", 110),
-        (b"x", 120),
-        (b"y", 121),
-        (b"C", 67),
-        (b"E", 69),
-        (b"ab", 195),
-    ];
-    for (bytes, number) in rows.iter() {
-        assert_eq!(rt; page_of(&key(rt.alloc(), *bytes)?), *number);
+/// Keys and their pages.
+const PAGES_OF_KEYS: [(&[u8], usize); 9] = [
+    (b"a", 97),
+    (b"b", 98),
+    (b"c", 99),
+    (b"n", 110),
+    (b"x", 120),
+    (b"y", 121),
+    (b"C", 67),
+    (b"E", 69),
+    (b"ab", 195),
+];
+
+/// Keys of old page 33, in their order, and their pages today: the four pages that it is merged from have
+/// them in turns.
+const OF_OLD_PAGE_33: [(&[u8], usize); 8] = [
+    (b"!", 33),
+    (b"a", 97),
+    (b"a@", 161),
+    (b"a``", 33),
+    (b"pq", 225),
+    (b"q0", 161),
+    (b"qp", 225),
+    (b"~~e", 97),
+];
+
+fn is_on(alloc: Global, row: &(&[u8], usize)) -> Result<bool, AllocError> {
+    Ok(page_of(&key(alloc, row.0)?) == row.1)
+}
+
+/// The state with an item at the key.
+fn with_key(alloc: Global, state: &State, bytes: &[u8]) -> Result<State, AllocError> {
+    let mut pages = state.0.open()?;
+    put_five(alloc, &mut pages, bytes, 0, None)?;
+    let mut after = state.1.clone()?;
+    put_five(alloc, &mut after, bytes, 0, None)?;
+    Ok((pages.seal(Layout::Sorted)?, after))
+}
+
+/// Whether the pages are sorted, and the data of each item has so many bytes at most.
+fn has_data_within(state: &State, most: usize) -> bool {
+    state.0.layout() == Layout::Sorted && state.0.has_data_within(most)
+}
+
+/// Whether the keys, one after the other, are on their page, and leave the root of the old pages right.
+fn grow_by_keys(alloc: Global, state: &mut State) -> Result<bool, AllocError> {
+    for row in &OF_OLD_PAGE_33 {
+        *state = with_key(alloc, state, row.0)?;
+        if !is_on(alloc, row)? || !old_root_agrees(state) {
+            return Ok(false);
+        }
     }
-    Ok(())
+    Ok(true)
+}
+
+/// The same of a state without items; and whether the data of the items is within its bounds.
+fn grow(alloc: Global, state: &mut State) -> Result<bool, AllocError> {
+    let at_first = old_root_agrees(state) && has_data_within(state, 0);
+    Ok(
+        at_first
+            && grow_by_keys(alloc, state)?
+            && has_data_within(state, 1)
+            && !has_data_within(state, 0),
+    )
 }
 
 /// SHA-256 of 00 00000000, by another program.
@@ -118,32 +164,11 @@ const ONE: [u8; 32] = [
     0x44, 0xfa, 0xf5, 0xc8, 0x78, 0x5e, 0xa2, 0x32, 0xe9, 0x7d, 0xc1, 0x0c, 0x1d, 0x4f, 0xdf, 0x19,
 ];
 
-fn put_five(alloc: Global, pages: &mut Pages) -> Result<(), AllocError> {
-    let item = Item {
-        block: Block::from_slice(alloc, b"5")?,
-        flags: 0,
-        due: None,
-        unique: 64,
-    };
-    pages.put(key(alloc, b"a")?, item)
-}
-
 /// The pages with one item more.
-fn with_five(alloc: Global, kept: &Snapshot) -> Result<Snapshot, AllocError> {
+fn with_five(alloc: Global, kept: &Snapshot, due: Option<u64>) -> Result<Snapshot, AllocError> {
     let mut pages = kept.open()?;
-    put_five(alloc, &mut pages)?;
+    put_five(alloc, &mut pages, b"a", 0, due)?;
     pages.seal(Layout::Sorted)
-}
-
-#[test]
-fn digests_of_pages(rt: HostRuntime) -> Result<(), Fail> {
-    let kept = Pages::new(rt.alloc())?.seal(Layout::Sorted)?;
-    let after = with_five(rt.alloc(), &kept)?;
-    assert!(rt; after.digest(97) == ONE);
-    assert!(rt; after.digest(98) == EMPTY);
-    assert!(rt; kept.digest(97) == EMPTY);
-    assert!(rt; kept.len(97) == 0 && after.len(97) == 1);
-    Ok(())
 }
 
 /// The text of a page. Where it is kept its pieces are shared, so that the tail stays empty.
@@ -170,11 +195,6 @@ const TEXT_OF_ONE: &[u8] =
 /// The text of a page without items.
 const TEXT_OF_NONE: &[u8] = b"\x00\x00\x00\x00\x00";
 
-/// Whether page 97 has the text of one item, and page 98 that of none.
-fn has_its_texts(alloc: Global, kept: &Snapshot) -> Result<bool, AllocError> {
-    Ok(has_text(alloc, kept, 97, TEXT_OF_ONE)? && has_text(alloc, kept, 98, TEXT_OF_NONE)?)
-}
-
 /// Whether the texts of the pages 98 and 97 are put one behind the other.
 fn puts_its_texts(alloc: Global, kept: &Snapshot) -> Result<bool, AllocError> {
     let mut record = Text::new(alloc);
@@ -187,91 +207,98 @@ fn puts_its_texts(alloc: Global, kept: &Snapshot) -> Result<bool, AllocError> {
     )
 }
 
-#[test]
-fn texts_of_pages(rt: HostRuntime) -> Result<(), Fail> {
-    let after = with_five(rt.alloc(), &Pages::new(rt.alloc())?.seal(Layout::Sorted)?)?;
-    let shared = after.share()?;
-    assert!(rt; has_its_texts(rt.alloc(), &after)?);
-    assert!(rt; has_its_texts(rt.alloc(), &shared)?);
-    assert!(rt; puts_its_texts(rt.alloc(), &after)?);
-    Ok(())
+/// Whether page 97 has the text of one item, and page 98 that of none, one by one and one behind the other.
+fn has_its_texts(alloc: Global, kept: &Snapshot) -> Result<bool, AllocError> {
+    Ok(
+        has_text(alloc, kept, 97, TEXT_OF_ONE)?
+            && has_text(alloc, kept, 98, TEXT_OF_NONE)?
+            && puts_its_texts(alloc, kept)?,
+    )
+}
+
+/// Whether the pages with one item more have their digests and texts, and so have shared ones.
+fn is_right_with_five(alloc: Global, kept: &Snapshot) -> Result<bool, AllocError> {
+    let after = with_five(alloc, kept, None)?;
+    Ok(
+        [after.digest(97), after.digest(98), kept.digest(97)] == [ONE, EMPTY, EMPTY]
+            && [kept.len(97), after.len(97)] == [0, 1]
+            && has_its_texts(alloc, &after)?
+            && has_its_texts(alloc, &after.share()?)?,
+    )
 }
 
 /// The page of five keys, whose data has these sizes, by their order.
 const LARGE: usize = 219;
 
-fn with_data_of(alloc: Global, sizes: [usize; 5]) -> Result<Snapshot, AllocError> {
-    let names = [b"az", b"by", b"cx", b"dw", b"ev"];
-    let mut pages = Pages::new(alloc)?;
-    for i in 0..5usize {
-        let item = Item {
-            block: Block::new(vec![in alloc; i as u8; sizes[i].min(5000)]?)?,
-            flags: 0,
-            due: None,
-            unique: 64,
-        };
-        pages.put(key(alloc, names[i])?, item)?;
-    }
-    pages.seal(Layout::Sorted)
-}
+/// The five keys, the byte of their data, and its size.
+const FIVE: [(&[u8], u8, usize); 5] = [
+    (b"az", 0, 5000),
+    (b"by", 1, LEAST_SHARED_BYTES - 1),
+    (b"cx", 2, LEAST_SHARED_BYTES),
+    (b"dw", 3, 5),
+    (b"ev", 4, 5000),
+];
 
-/// Whether a page's text is the same in one piece and in several, and its digest that of it.
-fn is_one_text(alloc: Global, kept: &Snapshot) -> Result<bool, AllocError> {
-    let mut bytes = Vec::new(alloc);
-    kept.put_text(LARGE, &mut bytes)?;
-    let joined = text_of(alloc, kept, LARGE)?.joined(alloc)?;
-    let entries = kept.entries(alloc, LARGE)?;
-    Ok(
-        joined.as_slice() == bytes.as_slice()
-            && kept.digest(LARGE) == Sha256::digest(bytes.as_slice())
-            && kept.digest(LARGE) == digest_of(entries.as_slice(), LARGE, PAGES - 1),
-    )
-}
+/// The sizes of the pieces of their text. Before each data stand 3 bytes of the key and 17 of the item,
+/// before the first 5 of the page.
+const SIZES: [usize; 6] = [
+    25,
+    5000,
+    20 + (LEAST_SHARED_BYTES - 1) + 20,
+    LEAST_SHARED_BYTES,
+    20 + 5 + 20,
+    5000,
+];
 
-/// The sizes of the pieces of the text that is kept, and none where its tail is open.
-fn sizes_of(alloc: Global, kept: &Snapshot) -> Result<Vec<usize>, AllocError> {
-    let mut sizes = Vec::new(alloc);
-    let text = text_of(alloc, kept, LARGE)?;
-    let (pieces, tail) = text.parts();
-    if tail.is_empty() {
-        for piece in pieces {
-            sizes.push(piece.len())?;
-        }
-    }
-    Ok(sizes)
-}
-
-/// Whether the pieces of the text that is kept have these sizes.
-fn has_sizes(alloc: Global, kept: &Snapshot, sizes: &[usize]) -> Result<bool, AllocError> {
-    Ok(sizes_of(alloc, kept)?.as_slice() == sizes)
-}
-
-#[test]
-fn texts_share_large_data(rt: HostRuntime) -> Result<(), Fail> {
-    let least = LEAST_SHARED_BYTES;
-    let kept = with_data_of(rt.alloc(), [5000, least - 1, least, 5, 5000])?;
-    assert!(rt; is_one_text(rt.alloc(), &kept)?);
-    // Before each data stand 3 bytes of the key and 17 of the item, before the first 5 of the page.
-    let sizes = [25, 5000, 20 + (least - 1) + 20, least, 20 + 5 + 20, 5000];
-    assert!(rt; has_sizes(rt.alloc(), &kept, sizes.as_slice())?);
-    Ok(())
-}
-
-/// The page 97 with an item that is due at 10, and all others without.
-fn with_a_due_item(alloc: Global) -> Result<Snapshot, AllocError> {
+fn put_sized(
+    alloc: Global,
+    pages: &mut Pages,
+    bytes: &[u8],
+    byte: u8,
+    size: usize,
+) -> Result<(), AllocError> {
+    let key = key(alloc, bytes)?;
     let item = Item {
-        block: Block::from_slice(alloc, b"5")?,
+        block: Block::new(vec![in alloc; byte; size.min(5000)]?)?,
         flags: 0,
-        due: Some(10),
+        due: None,
         unique: 64,
     };
+    pages.put(key, item)
+}
+
+fn with_five_sizes(alloc: Global) -> Result<Snapshot, AllocError> {
     let mut pages = Pages::new(alloc)?;
-    pages.put(key(alloc, b"a")?, item)?;
+    for (bytes, byte, size) in &FIVE {
+        put_sized(alloc, &mut pages, *bytes, *byte, *size)?;
+    }
     pages.seal(Layout::Sorted)
 }
 
-fn one_key(alloc: Global, bytes: &[u8]) -> Result<Keys, AllocError> {
-    Ok(Keys::new(vec![in alloc; key(alloc, bytes)?]?))
+/// Whether the pieces of the text have these sizes, and its tail is empty.
+fn has_sizes(text: &Text, sizes: &[usize]) -> bool {
+    let (pieces, tail) = text.parts();
+    for (piece, size) in pieces.iter().zip(sizes.iter()) {
+        if piece.len() != *size {
+            return false;
+        }
+    }
+    tail.is_empty() && pieces.len() == sizes.len()
+}
+
+/// Whether the page's text is the same in one piece and in several, of the right sizes, and its digest that
+/// of it.
+fn shares_large_data(alloc: Global, kept: &Snapshot) -> Result<bool, AllocError> {
+    let mut bytes = Vec::new(alloc);
+    kept.put_text(LARGE, &mut bytes)?;
+    let text = text_of(alloc, kept, LARGE)?;
+    let entries = kept.entries(alloc, LARGE)?;
+    Ok(
+        has_sizes(&text, &SIZES)
+            && kept.digest(LARGE) == Sha256::digest(bytes.as_slice())
+            && kept.digest(LARGE) == digest_of(entries.as_slice(), LARGE, PAGES - 1)
+            && text.joined(alloc)?.as_slice() == bytes.as_slice(),
+    )
 }
 
 /// Which of the pages 97 to 101 are in the set.
@@ -285,47 +312,44 @@ fn marks(pages: &PageSet) -> [bool; 5] {
     ]
 }
 
-/// Adds a `get` of a key of page 98, and a `delete` of one of page 99.
-fn add_get_and_delete(alloc: Global, pages: &mut PageSet) -> Result<(), AllocError> {
-    pages.add_command(&Command::Get(one_key(alloc, b"b")?));
-    pages.add_command(&Command::Update(Update::Delete {
-        key: key(alloc, b"c")?,
-    }));
-    Ok(())
+fn add_commands(pages: &mut PageSet, turns: &[Turn]) {
+    for turn in turns {
+        if let Turn::Ask(command, _) = turn {
+            pages.add_command(command);
+        }
+    }
 }
 
-fn add_gat(alloc: Global, pages: &mut PageSet) -> Result<(), AllocError> {
-    pages.add_command(&Command::Gat(0, one_key(alloc, b"d")?));
-    Ok(())
+/// Commands on keys of the pages 98 to 101, and which of 97 to 101 may then differ.
+const MAY_DIFFER: [(&[u8], [bool; 5]); 4] = [
+    (b"", [true, false, false, false, false]),
+    (b"get b\r\ndelete c\r\n", [true, false, true, false, false]),
+    (b"gat 0 d\r\n", [true, false, true, true, false]),
+    (b"gats 0 e\r\n", [true, false, true, true, true]),
+];
+
+/// Whether just these pages may differ, one row after the other.
+fn may_differ(alloc: Global, pages: &mut PageSet) -> Result<bool, AllocError> {
+    for (lines, wanted) in &MAY_DIFFER {
+        add_commands(pages, Reader::new(alloc).feed(alloc, *lines)?.as_slice());
+        if marks(pages) != *wanted {
+            return Ok(false);
+        }
+    }
+    Ok(true)
 }
 
-fn add_gats(alloc: Global, pages: &mut PageSet) -> Result<(), AllocError> {
-    pages.add_command(&Command::Gats(0, one_key(alloc, b"e")?));
-    Ok(())
+/// Puts an item on page 97, and removes one that is not there: whether the item is there after that, and the
+/// page weighs its entries and 64 more, since it has no digest.
+fn are_stores(alloc: Global, pages: &mut Vec<Page>) -> Result<bool, AllocError> {
+    if pages.len() < 99 {
+        return Ok(false);
+    }
+    let there = put_and_remove(alloc, &mut pages[97])?;
+    Ok(there && pages[97].weight() == 65 && pages[98].weight() == 0)
 }
 
-#[test]
-fn pages_that_may_differ(rt: HostRuntime) -> Result<(), Fail> {
-    let kept = with_a_due_item(rt.alloc())?;
-    assert!(rt; marks(&kept.due_pages(9)) == [false, false, false, false, false]);
-    let mut may_differ = kept.due_pages(10);
-    assert!(rt; marks(&may_differ) == [true, false, false, false, false]);
-    add_get_and_delete(rt.alloc(), &mut may_differ)?;
-    assert!(rt; marks(&may_differ) == [true, false, true, false, false]);
-    add_gat(rt.alloc(), &mut may_differ)?;
-    assert!(rt; marks(&may_differ) == [true, false, true, true, false]);
-    add_gats(rt.alloc(), &mut may_differ)?;
-    assert!(rt; marks(&may_differ) == [true, false, true, true, true]);
-    Ok(())
-}
-
-#[test]
-fn a_new_set_of_pages_is_empty(rt: HostRuntime) -> Result<(), Fail> {
-    assert!(rt; marks(&PageSet::new()) == [false, false, false, false, false]);
-    Ok(())
-}
-
-/// Puts an item and removes one that is not there. Whether the item is there after that.
+/// Whether the item is there after that.
 fn put_and_remove(alloc: Global, page: &mut Page) -> Result<bool, AllocError> {
     let item = any_item(alloc, &mut Lcg64Xsh32::seed_from_u64(3))?;
     page.put(key(alloc, b"a")?, item)?;
@@ -333,117 +357,116 @@ fn put_and_remove(alloc: Global, page: &mut Page) -> Result<bool, AllocError> {
     Ok(page.get(&key(alloc, b"a")?).is_some())
 }
 
-#[test]
-fn parted_pages_are_stores(rt: HostRuntime) -> Result<(), Fail> {
-    let mut pages = Pages::new(rt.alloc())?.part()?;
-    let there = put_and_remove(rt.alloc(), &mut pages[97])?;
-    // A page without a digest weighs its entries and 64 more.
-    assert!(rt; there && pages[97].weight() == 65 && pages[98].weight() == 0);
+fn put_1000(alloc: Global, pages: &mut Pages) -> Result<(), AllocError> {
+    for n in 0..1000u32 {
+        put_five(alloc, pages, &nth_key(n), n, None)?;
+    }
     Ok(())
 }
 
-fn put_nth(alloc: Global, pages: &mut Pages, n: u32) -> Result<(), AllocError> {
-    let item = Item {
-        block: Block::from_slice(alloc, b"5")?,
-        flags: n,
-        due: None,
-        unique: 64,
-    };
-    pages.put(nth_key(alloc, n)?, item)
+/// How many of the 1,000 keys, one after the other, have the item that was put for them.
+fn found_of_1000(alloc: Global, pages: &Pages) -> Result<u32, AllocError> {
+    for n in 0..1000u32 {
+        match pages.get(&key(alloc, &nth_key(n))?) {
+            Some(item) if item.flags == n => {}
+            _ => return Ok(n),
+        }
+    }
+    Ok(1000)
 }
 
-/// Whether the key has the item that was put for it.
-fn has_nth(alloc: Global, pages: &Pages, n: u32) -> Result<bool, AllocError> {
-    let key = nth_key(alloc, n)?;
-    Ok(pages.get(&key).is_some_and(|item| item.flags == n))
+/// Whether 1,000 items are put and found on one page.
+fn has_1000(alloc: Global, mut pages: Pages) -> Result<bool, AllocError> {
+    put_1000(alloc, &mut pages)?;
+    let found = found_of_1000(alloc, &pages)?;
+    Ok(found == 1000 && pages.len() == 1000 && pages.seal(Layout::Sorted)?.len(236) == 1000)
+}
+
+/// Whether just the pages that a due item and these commands tell may differ.
+fn only_these_differ(alloc: Global, kept: &Snapshot) -> Result<bool, AllocError> {
+    let none = [false, false, false, false, false];
+    // Page 97 has an item that is due at 10.
+    let due = with_five(alloc, kept, Some(10))?;
+    Ok(
+        marks(&PageSet::new()) == none
+            && marks(&due.due_pages(9)) == none
+            && may_differ(alloc, &mut due.due_pages(10))?,
+    )
 }
 
 #[test]
-fn a_page_of_1000_items(rt: HostRuntime) -> Result<(), Fail> {
-    let mut pages = Pages::new(rt.alloc())?;
-    for n in 0..1000u32 {
-        put_nth(rt.alloc(), &mut pages, n)?;
+fn digests_texts_and_sets_of_pages(rt: HostRuntime) -> Result<(), Fail> {
+    let alloc = rt.alloc();
+    for row in &PAGES_OF_KEYS {
+        assert!(rt; is_on(alloc, row)?, "{}", row.1);
     }
-    assert_eq!(rt; pages.len(), 1000);
-    for n in 0..1000u32 {
-        assert!(rt; has_nth(rt.alloc(), &pages, n)?, "item {n}");
-    }
-    assert_eq!(rt; pages.seal(Layout::Sorted)?.len(236), 1000);
+    assert!(rt;
+        grow(alloc, &mut new_state(alloc, Layout::Sorted)?)?,
+        "roots of old pages"
+    );
+    assert!(rt;
+        shares_large_data(alloc, &with_five_sizes(alloc)?)?,
+        "texts share large data"
+    );
+    assert!(rt;
+        are_stores(alloc, &mut Pages::new(alloc)?.part()?)?,
+        "parted pages"
+    );
+    assert!(rt;
+        has_1000(alloc, Pages::new(alloc)?)?,
+        "a page of 1000 items"
+    );
+    let none = Pages::new(alloc)?.seal(Layout::Sorted)?;
+    let is_right = is_right_with_five(alloc, &none)?;
+    let only_these = only_these_differ(alloc, &none)?;
+    assert!(rt; is_right, "digests and texts");
+    assert!(rt; only_these, "pages that may differ");
     Ok(())
 }
 
-/// So many random steps, each from the last state.
+/// Ten random steps, each from the last state.
 fn add_states(
     alloc: Global,
     words: &mut Lcg64Xsh32,
-    states: &mut Vec<(Snapshot, PlainStore)>,
-    steps: u32,
+    states: &mut Vec<State>,
 ) -> Result<(), AllocError> {
-    for step in 0..steps {
-        let change = any_change(alloc, words)?;
-        if let Some((kept, plain)) = states.last() {
-            let next = changed(kept, plain, &change, Layout::Sorted)?;
+    for _ in 0..10usize {
+        if let Some(state) = states.last() {
+            let next = changed(alloc, words, state, Layout::Sorted)?;
             states.push(next)?;
         }
     }
     Ok(())
 }
 
-fn last_agrees(states: &[(Snapshot, PlainStore)]) -> bool {
-    states.last().is_some_and(|state| agree(&state.0, &state.1))
+fn last_agrees(states: &[State]) -> bool {
+    match states.last() {
+        Some(state) => agree(state),
+        None => false,
+    }
+}
+
+/// Ten steps, and some of the last ones undone: whether the state before and after that agrees.
+fn agrees_with_undo(
+    alloc: Global,
+    words: &mut Lcg64Xsh32,
+    states: &mut Vec<State>,
+) -> Result<[bool; 2], AllocError> {
+    add_states(alloc, words, states)?;
+    let before = last_agrees(states.as_slice());
+    let back = 1 + (words.next_word() % 9) as usize;
+    states.truncate(states.len().saturating_sub(back));
+    Ok([before, last_agrees(states.as_slice())])
 }
 
 /// 1,000 random steps, of which some of the last 10 are undone after every 10th.
 #[test]
 fn random_steps_with_undo(rt: HostRuntime) -> Result<(), Fail> {
-    let alloc = rt.alloc();
     let mut words = Lcg64Xsh32::seed_from_u64(20);
-    let mut states = vec![in alloc; new_state(alloc, Layout::Sorted)?]?;
+    let mut states = vec![in rt.alloc(); new_state(rt.alloc(), Layout::Sorted)?]?;
     for tens in 0..100u32 {
-        add_states(alloc, &mut words, &mut states, 10)?;
-        assert!(rt; last_agrees(states.as_slice()), "before undo {tens}");
-        let back = 1 + (words.next_word() % 9) as usize;
-        states.truncate(states.len().saturating_sub(back));
-        assert!(rt; last_agrees(states.as_slice()), "after undo {tens}");
+        let agree = agrees_with_undo(rt.alloc(), &mut words, &mut states)?;
+        assert!(rt; agree == [true, true], "{tens}: {agree:?}");
     }
-    Ok(())
-}
-
-/// Keys of old page 33, in their order: the four pages that it is merged from have them in turns.
-const OF_OLD_PAGE_33: [&[u8]; 8] = [b"!", b"a", b"a@", b"a``", b"pq", b"q0", b"qp", b"~~e"];
-
-/// The page of old page 33 on which each of them stands today.
-const THEIR_PAGES: [usize; 8] = [33, 97, 161, 33, 225, 161, 225, 97];
-
-fn page_of_bytes(alloc: Global, bytes: &[u8]) -> Result<usize, AllocError> {
-    Ok(page_of(&key(alloc, bytes)?))
-}
-
-/// The state with an item at the key.
-fn with_key(
-    alloc: Global,
-    state: &(Snapshot, PlainStore),
-    bytes: &[u8],
-) -> Result<(Snapshot, PlainStore), AllocError> {
-    let item = Item {
-        block: Block::from_slice(alloc, b"5")?,
-        flags: 0,
-        due: None,
-        unique: 64,
-    };
-    let change = Change::Put(key(alloc, bytes)?, item);
-    changed(&state.0, &state.1, &change, Layout::Sorted)
-}
-
-#[test]
-fn roots_of_old_pages(rt: HostRuntime) -> Result<(), Fail> {
-    let mut state = new_state(rt.alloc(), Layout::Sorted)?;
-    assert!(rt; old_root_agrees(&state.0, &state.1) && has_data_within(&state.0, 0));
-    for (bytes, number) in OF_OLD_PAGE_33.iter().zip(THEIR_PAGES.iter()) {
-        assert!(rt; page_of_bytes(rt.alloc(), *bytes)? == *number);
-        state = with_key(rt.alloc(), &state, *bytes)?;
-        assert!(rt; old_root_agrees(&state.0, &state.1));
-    }
-    assert!(rt; has_data_within(&state.0, 1) && !has_data_within(&state.0, 0));
     Ok(())
 }
