@@ -1,13 +1,15 @@
 //! Tentative states that are handed in, where another hand made them of the same batch.
 
-use crate::given::{batch, execute, order};
-use crate::seen::{LEADER, OTHER, U, begun, holds, none_begun, record, resumes, shows, told};
+use crate::given::Given::{Adopt, AdoptOverAnother, Order, Step};
+use crate::given::{E2, Told, batch, token_of};
+use crate::parts::{NOTHING, ONE_EXECUTED};
+use crate::script::Row::{Begun, Gives, NoneBegun, Resumes, ToldAsMade, Unfit};
+use crate::script::Script;
+use crate::seen::{OTHER, U, holds};
 use batches::Batch;
-use exec_lines::{Input, State};
 use executor::{Base, Ended, Tentative, Work};
 use proto::Fault;
 use std::alloc::Global;
-use std::test::Fail;
 
 /// Makes the one step of the work, and ends its group.
 fn made_of(alloc: Global, work: Work) -> Result<Tentative, Fault> {
@@ -36,93 +38,6 @@ pub fn made(alloc: Global, batch: Batch) -> Result<Tentative, Fault> {
     made_over(alloc, &base, batch)
 }
 
-/// Hands it in: it completes the work, and its token is told.
-fn is_adopted(alloc: Global, state: &mut State, tentative: Tentative) -> Result<(), Fault> {
-    let token = tentative.token();
-    let outcome = state.step(alloc, U, OTHER, Input::Adopt(tentative))?;
-    shows(alloc, &outcome, b"* T01 T11 T21")?;
-    holds(told(&outcome)? == token)
-}
-
-/// Hands it in, where it is `Unfit`.
-fn is_unfit(alloc: Global, state: &mut State, tentative: Tentative) -> Result<(), Fault> {
-    match state.step(alloc, U, OTHER, Input::Adopt(tentative)) {
-        Err(Fault::Unfit) => Ok(()),
-        Err(fault) => Err(fault),
-        Ok(_) => Err(Fault::NotOpen),
-    }
-}
-
-/// Hands it in where it is `Unfit`, after which the record is what it was.
-fn refuses(alloc: Global, state: &mut State, tentative: Tentative) -> Result<(), Fault> {
-    let before = record(alloc, state, OTHER);
-    let refused = is_unfit(alloc, state, tentative);
-    let after = record(alloc, state, OTHER)?;
-    refused?;
-    holds(before? == after)
-}
-
-fn completes(alloc: Global, state: &mut State) -> Result<(), Fault> {
-    drop(state.step(alloc, U, OTHER, order(alloc, 1, 1)?)?);
-    is_adopted(alloc, state, made(alloc, batch(alloc, 1, 1)?)?)?;
-    none_begun(state)?;
-    resumes(alloc, state, OTHER, b"> T01 T11 T21 A01 A11 A21")
-}
-
-#[test]
-fn a_state_of_the_batch_over_its_base_completes_the_work(rt: HostRuntime) -> Result<(), Fail> {
-    let mut state = State::first(rt.alloc())?;
-    let row = completes(rt.alloc(), &mut state);
-    state.end();
-    assert!(rt; row == Ok(()));
-    Ok(())
-}
-
-/// The batch of another epoch has another text.
-fn is_of_another_batch(alloc: Global, state: &mut State) -> Result<(), Fault> {
-    drop(state.step(alloc, U, OTHER, order(alloc, 1, 1)?)?);
-    refuses(alloc, state, made(alloc, batch(alloc, 2, 1)?)?)?;
-    begun(state, 1, 1, false)
-}
-
-#[test]
-fn a_state_of_another_batch_is_unfit(rt: HostRuntime) -> Result<(), Fail> {
-    let mut state = State::first(rt.alloc())?;
-    let row = is_of_another_batch(rt.alloc(), &mut state);
-    state.end();
-    assert!(rt; row == Ok(()));
-    Ok(())
-}
-
-fn is_too_late(alloc: Global, state: &mut State) -> Result<(), Fault> {
-    drop(state.step(alloc, U, OTHER, order(alloc, 1, 1)?)?);
-    drop(state.step(alloc, U, OTHER, Input::Step(0))?);
-    refuses(alloc, state, made(alloc, batch(alloc, 1, 1)?)?)
-}
-
-#[test]
-fn a_state_is_unfit_once_a_step_was_made(rt: HostRuntime) -> Result<(), Fail> {
-    let mut state = State::first(rt.alloc())?;
-    let row = is_too_late(rt.alloc(), &mut state);
-    state.end();
-    assert!(rt; row == Ok(()));
-    Ok(())
-}
-
-fn has_no_work(alloc: Global, state: &mut State) -> Result<(), Fault> {
-    refuses(alloc, state, made(alloc, batch(alloc, 1, 1)?)?)?;
-    resumes(alloc, state, OTHER, b"> A01 A11 A21")
-}
-
-#[test]
-fn a_state_is_unfit_without_work(rt: HostRuntime) -> Result<(), Fail> {
-    let mut state = State::first(rt.alloc())?;
-    let row = has_no_work(rt.alloc(), &mut state);
-    state.end();
-    assert!(rt; row == Ok(()));
-    Ok(())
-}
-
 /// The state after the batch, as a base.
 fn base_of(tentative: Tentative) -> Result<Base, Fault> {
     let base = tentative.as_base().share();
@@ -131,23 +46,79 @@ fn base_of(tentative: Tentative) -> Result<Base, Fault> {
 }
 
 /// What batch 2 makes of another state than that of number 1 that the executor has.
-fn made_over_another(alloc: Global) -> Result<Tentative, Fault> {
+pub fn made_over_another(alloc: Global) -> Result<Tentative, Fault> {
     let base = base_of(made(alloc, batch(alloc, 1, 1)?)?)?;
     made_over(alloc, &base, batch(alloc, 1, 2)?)
 }
 
-fn is_over_another(alloc: Global, state: &mut State) -> Result<(), Fault> {
-    execute(alloc, state, LEADER, 1, 1)?;
-    drop(state.step(alloc, U, OTHER, order(alloc, 1, 2)?)?);
-    refuses(alloc, state, made_over_another(alloc)?)?;
-    begun(state, 2, 1, false)
+/// Whether the token that was told of state 1 is that of the state that is handed in.
+pub fn told_as_made(alloc: Global, told: &Told) -> Result<(), Fault> {
+    let tentative = made(alloc, batch(alloc, 1, 1)?)?;
+    let token = tentative.token();
+    drop(tentative.undo());
+    holds(token_of(told, 1) == token)
 }
 
-#[test]
-fn a_state_over_another_base_is_unfit(rt: HostRuntime) -> Result<(), Fail> {
-    let mut state = State::first(rt.alloc())?;
-    let row = is_over_another(rt.alloc(), &mut state);
-    state.end();
-    assert!(rt; row == Ok(()));
-    Ok(())
-}
+pub const SCRIPTS: &[Script] = &[
+    (
+        "a_state_of_the_batch_over_its_base_completes_the_work",
+        U,
+        NOTHING,
+        (
+            OTHER,
+            &[
+                Gives(Order(E2, 1, 1), b"."),
+                Gives(Adopt(1), b"* T01 T11 T21"),
+                ToldAsMade,
+                NoneBegun,
+                Resumes(b"> T01 T11 T21 A01 A11 A21"),
+            ],
+        ),
+    ),
+    // The batch of another epoch has another text.
+    (
+        "a_state_of_another_batch_is_unfit",
+        U,
+        NOTHING,
+        (
+            OTHER,
+            &[
+                Gives(Order(E2, 1, 1), b"."),
+                Unfit(Adopt(2)),
+                Begun(1, 1, false),
+            ],
+        ),
+    ),
+    (
+        "a_state_is_unfit_once_a_step_was_made",
+        U,
+        NOTHING,
+        (
+            OTHER,
+            &[
+                Gives(Order(E2, 1, 1), b"."),
+                Gives(Step(0), b"."),
+                Unfit(Adopt(1)),
+            ],
+        ),
+    ),
+    (
+        "a_state_is_unfit_without_work",
+        U,
+        NOTHING,
+        (OTHER, &[Unfit(Adopt(1)), Resumes(b"> A01 A11 A21")]),
+    ),
+    (
+        "a_state_over_another_base_is_unfit",
+        U,
+        ONE_EXECUTED,
+        (
+            OTHER,
+            &[
+                Gives(Order(E2, 1, 2), b"."),
+                Unfit(AdoptOverAnother),
+                Begun(2, 1, false),
+            ],
+        ),
+    ),
+];

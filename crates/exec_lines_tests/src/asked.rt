@@ -1,68 +1,47 @@
 //! What clients ask.
 
-use crate::given::{execute, execute_and_commit, want};
-use crate::seen::{LEADER, does};
-use exec_lines::{Input, State};
-use proto::Fault;
-use std::alloc::Global;
-use std::test::Fail;
+use crate::given::Given::{Commit, Cut, Want};
+use crate::given::{C1, V0};
+use crate::parts::{NOTHING, ONE_COMMITTED, ONE_EXECUTED};
+use crate::script::Row::{Execute, Gives};
+use crate::script::Script;
+use crate::seen::{LEADER, U};
 
-fn waits(alloc: Global, state: &mut State) -> Result<(), Fault> {
-    does(alloc, state, LEADER, want(alloc, 1, 1)?, b".")?;
-    does(alloc, state, LEADER, Input::Cut(1000), b". O11 O21")
-}
-
-#[test]
-fn a_request_waits_for_a_batch(rt: HostRuntime) -> Result<(), Fail> {
-    let mut state = State::first(rt.alloc())?;
-    let row = waits(rt.alloc(), &mut state);
-    state.end();
-    assert!(rt; row == Ok(()));
-    Ok(())
-}
-
-fn is_answered_again(alloc: Global, state: &mut State) -> Result<(), Fault> {
-    execute_and_commit(alloc, state, 1, 1, 1)?;
-    does(alloc, state, LEADER, want(alloc, 1, 1)?, b". S11")?;
-    does(alloc, state, LEADER, Input::Cut(1000), b".")
-}
-
-#[test]
-fn a_request_that_ran_last_is_answered_again(rt: HostRuntime) -> Result<(), Fail> {
-    let mut state = State::first(rt.alloc())?;
-    let row = is_answered_again(rt.alloc(), &mut state);
-    state.end();
-    assert!(rt; row == Ok(()));
-    Ok(())
-}
-
-/// Its reply is not shown before the decree.
-fn is_not_answered(alloc: Global, state: &mut State) -> Result<(), Fault> {
-    execute(alloc, state, LEADER, 1, 1)?;
-    does(alloc, state, LEADER, want(alloc, 1, 1)?, b".")
-}
-
-#[test]
-fn a_request_that_is_not_committed_is_not_answered(rt: HostRuntime) -> Result<(), Fail> {
-    let mut state = State::first(rt.alloc())?;
-    let row = is_not_answered(rt.alloc(), &mut state);
-    state.end();
-    assert!(rt; row == Ok(()));
-    Ok(())
-}
-
-fn is_ignored(alloc: Global, state: &mut State) -> Result<(), Fault> {
-    execute_and_commit(alloc, state, 1, 1, 1)?;
-    execute_and_commit(alloc, state, 1, 2, 2)?;
-    does(alloc, state, LEADER, want(alloc, 1, 1)?, b".")?;
-    does(alloc, state, LEADER, want(alloc, 1, 2)?, b". S12")
-}
-
-#[test]
-fn a_past_request_is_ignored(rt: HostRuntime) -> Result<(), Fail> {
-    let mut state = State::first(rt.alloc())?;
-    let row = is_ignored(rt.alloc(), &mut state);
-    state.end();
-    assert!(rt; row == Ok(()));
-    Ok(())
-}
+pub const SCRIPTS: &[Script] = &[
+    (
+        "a_request_waits_for_a_batch",
+        U,
+        NOTHING,
+        (
+            LEADER,
+            &[Gives(Want(C1, 1), b"."), Gives(Cut, b". O11 O21")],
+        ),
+    ),
+    (
+        "a_request_that_ran_last_is_answered_again",
+        U,
+        ONE_COMMITTED,
+        (LEADER, &[Gives(Want(C1, 1), b". S11"), Gives(Cut, b".")]),
+    ),
+    // Its reply is not shown before the decree.
+    (
+        "a_request_that_is_not_committed_is_not_answered",
+        U,
+        ONE_EXECUTED,
+        (LEADER, &[Gives(Want(C1, 1), b".")]),
+    ),
+    (
+        "a_past_request_is_ignored",
+        U,
+        ONE_COMMITTED,
+        (
+            LEADER,
+            &[
+                Execute(C1, 2, b". O12 O22", b"* T02 T12 T22"),
+                Gives(Commit(V0, 2), b"* S12"),
+                Gives(Want(C1, 1), b"."),
+                Gives(Want(C1, 2), b". S12"),
+            ],
+        ),
+    ),
+];

@@ -1,100 +1,112 @@
 //! An executor that is behind, and one that has more.
 
-use crate::given::{commit, execute_and_commit, from_executor, want};
-use crate::seen::{LEADER, OTHER, U, does, holds, last_body, record, resumes, shows};
+use crate::given::Given::{Commit, CommitAt, Want};
+use crate::given::{C1, C2, C3, E0, E1, Given, NONE, NONE_TOLD, Told, V0, input, letter};
+use crate::parts::ONE_COMMITTED;
+use crate::script::Row::{Execute, Gives, Resumes};
+use crate::script::{Part, shows, wrong_row};
+use crate::seen::{LEADER, OTHER, U, holds, record};
+use decrees::Letter;
 use exec_lines::{Body, State};
 use proto::Fault;
 use std::alloc::Global;
 use std::test::Fail;
-use token::Token;
 use transfer::Parcel;
 use wire::{read, write};
 
 /// What is to hold of one that has more and a new one.
-#[derive(Clone, Copy)]
+#[derive(Clone, Copy, Debug, PartialEq, Eq)]
 enum Row {
-    /// The new one takes what the other one answers to its need.
+    /// The new one takes what the other one answers to its need, and a parcel changes nothing once it is
+    /// not behind.
     HandedOver,
-    /// A parcel changes nothing where it is not behind.
-    NotBehind,
-    /// Where the state of number 3 stands, one of number 2 changes nothing.
-    Older,
     /// Where a page that it needs is left out, nothing changes.
     LacksItsPage,
+    /// Where the state of number 3 stands, one of number 2 changes nothing.
+    Older,
     /// One that has no more than it does not answer.
     NoMore,
 }
 
-/// The new one hears of a commit of a state that it has not: it needs that of the others.
-fn need(alloc: Global, state: &mut State, n: u64, token: Token) -> Result<Body, Fault> {
-    let outcome = state.step(alloc, U, OTHER, commit(n, token))?;
-    shows(alloc, &outcome, b"* N00 N20")?;
-    last_body(outcome)
+/// What the last letter says.
+fn last_body(letters: Vec<Letter<Body>>) -> Result<Body, Fault> {
+    let mut letters = letters;
+    match letters.pop() {
+        Some(letter) => Ok(letter.body),
+        None => Err(Fault::NotOpen),
+    }
 }
 
-fn parcel_in(body: Body) -> Result<Parcel, Fault> {
-    match body {
+/// The new one hears of a commit of a state that it has not: it needs that of the others.
+fn need(alloc: Global, told: &mut Told, state: &mut State, commit: Given) -> Result<Body, Fault> {
+    let outcome = state.step(alloc, U, OTHER, input(alloc, told, commit)?)?;
+    shows(told, &outcome, b"* N00 N20")?;
+    last_body(outcome.letters)
+}
+
+/// What the one that has more answers.
+fn answer(
+    alloc: Global,
+    told: &mut Told,
+    more: &mut State,
+    need: Body,
+    expected: &[u8],
+) -> Result<Parcel, Fault> {
+    let outcome = more.step(alloc, U, LEADER, letter(E1, need))?;
+    shows(told, &outcome, expected)?;
+    match last_body(outcome.letters)? {
         Body::Parcel(parcel) => Ok(parcel),
         _ => Err(Fault::NotOpen),
     }
 }
 
-/// What the one that has more answers.
-fn answer(alloc: Global, more: &mut State, need: Body, expected: &[u8]) -> Result<Parcel, Fault> {
-    let outcome = more.step(alloc, U, LEADER, from_executor(OTHER, need))?;
-    shows(alloc, &outcome, expected)?;
-    parcel_in(last_body(outcome)?)
-}
-
-/// The new one becomes the state of the parcel, which is saved.
-fn takes(alloc: Global, state: &mut State, parcel: Parcel) -> Result<(), Fault> {
-    let input = from_executor(LEADER, Body::Parcel(parcel));
-    does(alloc, state, OTHER, input, b"*")
-}
-
-/// The parcel changes nothing.
-fn ignores(alloc: Global, state: &mut State, parcel: Parcel) -> Result<(), Fault> {
-    let before = record(alloc, state, OTHER)?;
-    let input = from_executor(LEADER, Body::Parcel(parcel));
-    does(alloc, state, OTHER, input, b".")?;
-    let after = record(alloc, state, OTHER)?;
-    holds(before == after)
+/// The new one gets the parcel. Either it is the state that is saved then, or nothing changes.
+fn gets(
+    alloc: Global,
+    told: &mut Told,
+    state: &mut State,
+    parcel: Parcel,
+    expected: &[u8],
+) -> Result<(), Fault> {
+    let before = record(alloc, (U, OTHER), state)?;
+    let outcome = state.step(alloc, U, OTHER, letter(E0, Body::Parcel(parcel)))?;
+    shows(told, &outcome, expected)?;
+    let is_same = record(alloc, (U, OTHER), state)? == before;
+    holds(is_same != outcome.saves)
 }
 
 /// What the one that has more answers after its batch 1 was committed.
-fn first_parcel(alloc: Global, more: &mut State, state: &mut State) -> Result<Parcel, Fault> {
-    let token = execute_and_commit(alloc, more, 1, 1, 1)?;
-    let need = need(alloc, state, 1, token)?;
-    resumes(alloc, state, OTHER, b"> A02 A12 A22 N00 N20")?;
-    answer(alloc, more, need, b". P11")
+fn first_parcel(
+    alloc: Global,
+    told: &mut Told,
+    more: &mut State,
+    state: &mut State,
+) -> Result<Parcel, Fault> {
+    holds(wrong_row(alloc, U, told, more, ONE_COMMITTED).is_none())?;
+    let need = need(alloc, told, state, Commit(V0, 1))?;
+    holds(wrong_row(alloc, U, told, state, BEHIND).is_none())?;
+    answer(alloc, told, more, need, b". P11")
 }
 
-/// It is not behind any more, and answers by the sessions of that state.
-fn is_handed_over(alloc: Global, more: &mut State, state: &mut State) -> Result<(), Fault> {
-    let parcel = first_parcel(alloc, more, state)?;
-    takes(alloc, state, parcel)?;
-    resumes(alloc, state, OTHER, b"> A02 A12 A22")?;
-    does(alloc, state, OTHER, want(alloc, 1, 1)?, b". S11")
-}
+const BEHIND: Part = (OTHER, &[Resumes(b"> A02 A12 A22 N00 N20")]);
 
-fn is_not_behind(alloc: Global, more: &mut State, state: &mut State) -> Result<(), Fault> {
-    let parcel = first_parcel(alloc, more, state)?;
+/// It is not behind any more, and answers by the sessions of the state that it took.
+const TAKEN: Part = (
+    OTHER,
+    &[Resumes(b"> A02 A12 A22"), Gives(Want(C1, 1), b". S11")],
+);
+
+fn is_handed_over(
+    alloc: Global,
+    told: &mut Told,
+    more: &mut State,
+    state: &mut State,
+) -> Result<(), Fault> {
+    let parcel = first_parcel(alloc, told, more, state)?;
     let copy = parcel.clone()?;
-    takes(alloc, state, parcel)?;
-    ignores(alloc, state, copy)
-}
-
-/// The new one hears of the commit of each batch, and gets the state after batch 2 too late.
-fn is_older(alloc: Global, more: &mut State, state: &mut State) -> Result<(), Fault> {
-    let one = execute_and_commit(alloc, more, 1, 1, 1)?;
-    let two = execute_and_commit(alloc, more, 2, 1, 2)?;
-    let early = need(alloc, state, 1, one)?;
-    let older = answer(alloc, more, early, b". P12")?;
-    let three = execute_and_commit(alloc, more, 3, 1, 3)?;
-    drop(need(alloc, state, 2, two)?);
-    let late = need(alloc, state, 3, three)?;
-    ignores(alloc, state, older)?;
-    takes(alloc, state, answer(alloc, more, late, b". P13")?)
+    gets(alloc, told, state, parcel, b"*")?;
+    holds(wrong_row(alloc, U, told, state, TAKEN).is_none())?;
+    gets(alloc, told, state, copy, b".")
 }
 
 /// How many bytes the record of a parcel has before the count of its pages: 85 of fields, and 16 of
@@ -111,67 +123,99 @@ fn without_pages(alloc: Global, parcel: &Parcel) -> Result<Parcel, Fault> {
     read::<Parcel>(alloc, bytes.as_slice())
 }
 
-fn lacks_its_page(alloc: Global, more: &mut State, state: &mut State) -> Result<(), Fault> {
-    let parcel = first_parcel(alloc, more, state)?;
-    ignores(alloc, state, without_pages(alloc, &parcel)?)?;
-    takes(alloc, state, parcel)
+fn lacks_its_page(
+    alloc: Global,
+    told: &mut Told,
+    more: &mut State,
+    state: &mut State,
+) -> Result<(), Fault> {
+    let parcel = first_parcel(alloc, told, more, state)?;
+    gets(alloc, told, state, without_pages(alloc, &parcel)?, b".")?;
+    gets(alloc, told, state, parcel, b"*")
 }
 
-fn has_no_more(alloc: Global, more: &mut State, state: &mut State) -> Result<(), Fault> {
-    let need = need(alloc, state, 1, Token([7; 32]))?;
-    does(alloc, more, LEADER, from_executor(OTHER, need), b".")
+const SECOND: Part = (
+    LEADER,
+    &[
+        Execute(C2, 1, b". O12 O22", b"* T02 T12 T22"),
+        Gives(Commit(V0, 2), b"* S21"),
+    ],
+);
+
+const THIRD: Part = (
+    LEADER,
+    &[
+        Execute(C3, 1, b". O13 O23", b"* T03 T13 T23"),
+        Gives(Commit(V0, 3), b"* S31"),
+    ],
+);
+
+/// The new one hears of the commit of each batch, and gets the state after batch 2 too late.
+fn is_older(
+    alloc: Global,
+    told: &mut Told,
+    more: &mut State,
+    state: &mut State,
+) -> Result<(), Fault> {
+    holds(wrong_row(alloc, U, told, more, ONE_COMMITTED).is_none())?;
+    holds(wrong_row(alloc, U, told, more, SECOND).is_none())?;
+    let early = need(alloc, told, state, Commit(V0, 1))?;
+    let older = answer(alloc, told, more, early, b". P12")?;
+    holds(wrong_row(alloc, U, told, more, THIRD).is_none())?;
+    drop(need(alloc, told, state, Commit(V0, 2))?);
+    let late = need(alloc, told, state, Commit(V0, 3))?;
+    gets(alloc, told, state, older, b".")?;
+    let newer = answer(alloc, told, more, late, b". P13")?;
+    gets(alloc, told, state, newer, b"*")
+}
+
+fn has_no_more(
+    alloc: Global,
+    told: &mut Told,
+    more: &mut State,
+    state: &mut State,
+) -> Result<(), Fault> {
+    let need = need(alloc, told, state, CommitAt(V0, 1, 1, NONE))?;
+    let outcome = more.step(alloc, U, LEADER, letter(E1, need))?;
+    shows(told, &outcome, b".")
 }
 
 fn is_so(alloc: Global, row: Row, more: &mut State, state: &mut State) -> Result<(), Fault> {
+    let mut told = NONE_TOLD;
     match row {
-        Row::HandedOver => is_handed_over(alloc, more, state),
-        Row::NotBehind => is_not_behind(alloc, more, state),
-        Row::Older => is_older(alloc, more, state),
-        Row::LacksItsPage => lacks_its_page(alloc, more, state),
-        Row::NoMore => has_no_more(alloc, more, state),
+        Row::HandedOver => is_handed_over(alloc, &mut told, more, state),
+        Row::LacksItsPage => lacks_its_page(alloc, &mut told, more, state),
+        Row::Older => is_older(alloc, &mut told, more, state),
+        Row::NoMore => has_no_more(alloc, &mut told, more, state),
     }
-}
-
-fn is_so_beside(alloc: Global, row: Row, more: &mut State) -> Result<(), Fault> {
-    let mut state = State::first(alloc)?;
-    let so = is_so(alloc, row, more, &mut state);
-    state.end();
-    so
 }
 
 fn is_row(alloc: Global, row: Row) -> Result<(), Fault> {
     let mut more = State::first(alloc)?;
-    let so = is_so_beside(alloc, row, &mut more);
+    let so = match State::first(alloc) {
+        Ok(mut state) => {
+            let so = is_so(alloc, row, &mut more, &mut state);
+            state.end();
+            so
+        }
+        Err(_) => Err(Fault::NoMemory),
+    };
     more.end();
     so
 }
 
+/// The first row that does not hold.
+fn first_wrong(alloc: Global) -> Option<Row> {
+    for row in [Row::HandedOver, Row::LacksItsPage, Row::Older, Row::NoMore] {
+        if is_row(alloc, row) != Ok(()) {
+            return Some(row);
+        }
+    }
+    None
+}
+
 #[test]
 fn one_that_is_behind_takes_the_state_that_stands(rt: HostRuntime) -> Result<(), Fail> {
-    assert!(rt; is_row(rt.alloc(), Row::HandedOver) == Ok(()));
-    Ok(())
-}
-
-#[test]
-fn a_parcel_is_ignored_where_it_is_not_behind(rt: HostRuntime) -> Result<(), Fail> {
-    assert!(rt; is_row(rt.alloc(), Row::NotBehind) == Ok(()));
-    Ok(())
-}
-
-#[test]
-fn a_parcel_of_an_older_state_is_ignored(rt: HostRuntime) -> Result<(), Fail> {
-    assert!(rt; is_row(rt.alloc(), Row::Older) == Ok(()));
-    Ok(())
-}
-
-#[test]
-fn a_parcel_that_lacks_a_page_is_ignored(rt: HostRuntime) -> Result<(), Fail> {
-    assert!(rt; is_row(rt.alloc(), Row::LacksItsPage) == Ok(()));
-    Ok(())
-}
-
-#[test]
-fn a_need_is_not_answered_by_one_that_has_no_more(rt: HostRuntime) -> Result<(), Fail> {
-    assert!(rt; is_row(rt.alloc(), Row::NoMore) == Ok(()));
+    assert_eq!(rt; first_wrong(rt.alloc()), None);
     Ok(())
 }

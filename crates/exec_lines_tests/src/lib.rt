@@ -22,11 +22,15 @@ mod obeying;
 #[cfg(test)]
 mod ordering;
 #[cfg(test)]
+mod parts;
+#[cfg(test)]
 mod records;
 #[cfg(test)]
 mod refusals;
 #[cfg(test)]
 mod refused_runs;
+#[cfg(test)]
+mod script;
 #[cfg(test)]
 mod seen;
 #[cfg(test)]

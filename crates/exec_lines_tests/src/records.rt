@@ -1,12 +1,16 @@
 //! Records of executors.
 
-use crate::given::{decided, execute, execute_and_commit};
+use crate::given::Given::{Commit, Rollback};
+use crate::given::{C1, C2, C3, NONE_TOLD, Told, V0};
+use crate::parts::{NOTHING, ONE_EXECUTED, ONE_OF_TWO};
 use crate::refusals::kept;
-use crate::seen::{LEADER, U, holds, record, resumes};
-use decrees::{Decree, Standing};
+use crate::script::Row::{CannotResume, Execute, Gives, GoesOn, Record, Resumes, Stopped};
+use crate::script::{Part, Place, Script, resumes, wrong_in, wrong_row};
+use crate::seen::{LEADER, U, holds, record};
+use decrees::Standing;
 use exec_lines::State;
 use executor::Committed;
-use keeper::{MemKeeper, ToText, save_record};
+use keeper::{MemKeeper, save_record};
 use proto::Fault;
 use rollback::Chain;
 use states::Version;
@@ -14,128 +18,92 @@ use std::alloc::{AllocError, Global};
 use std::test::Fail;
 use token::Token;
 
-/// The record at `u` 0, of executor 0.
-fn record_of_one(alloc: Global, state: &State) -> Result<Vec<u8>, AllocError> {
-    state.record(alloc, 0, 0)?.to_text(alloc)?.joined(alloc)
-}
+pub const SCRIPTS: &[Script] = &[
+    (
+        "the_record_of_a_new_executor_has_1471_bytes",
+        0,
+        NOTHING,
+        (LEADER, &[Record(1471, [2, 0x45])]),
+    ),
+    (
+        "an_executor_goes_on_from_its_record",
+        U,
+        ONE_EXECUTED,
+        (LEADER, &[GoesOn(b"> T01 T11 T21 A01 A11 A21")]),
+    ),
+    // Each member, the place after the decrees, and no need.
+    (
+        "one_that_goes_on_tells_the_tokens_of_its_members",
+        U,
+        NOTHING,
+        (
+            LEADER,
+            &[
+                Resumes(b"> A01 A11 A21"),
+                Execute(C1, 1, b". O11 O21", b"* T01 T11 T21"),
+                Gives(Commit(V0, 1), b"* S11"),
+                Resumes(b"> A02 A12 A22"),
+                Execute(C2, 1, b". O12 O22", b"* T02 T12 T22"),
+                Execute(C3, 1, b". O13 O23", b"* T03 T13 T23"),
+                Resumes(b"> T02 T12 T22 T03 T13 T23 A02 A12 A22"),
+            ],
+        ),
+    ),
+];
 
-fn is_short(alloc: Global, state: &State) -> Result<(), Fault> {
-    let record = record_of_one(alloc, state)?;
-    holds(record.len() == 1471 && record.get(..2) == Some(&[2, 0x45]))
-}
-
-#[test]
-fn the_record_of_a_new_executor_has_1471_bytes(rt: HostRuntime) -> Result<(), Fail> {
-    let state = State::first(rt.alloc())?;
-    let row = is_short(rt.alloc(), &state);
-    state.end();
-    assert!(rt; row == Ok(()));
-    Ok(())
-}
-
-/// The chain of the record of the executor.
-fn kept_chain(alloc: Global, state: &State) -> Result<Chain, Fault> {
-    let record = record(alloc, state, LEADER)?;
-    match record.get(68..) {
+/// An executor that has the chain of the record and knows no decree.
+fn restored(alloc: Global, kept: &[u8]) -> Result<State, Fault> {
+    match kept.get(68..) {
         Some(text) => {
             let (chain, _) = Chain::take(alloc, Version::Second, text)?;
-            Ok(chain)
+            Ok(State::restored(alloc, 0, Standing::first(), chain))
         }
         None => Err(Fault::BadRecord),
     }
 }
 
-/// Whether it has the same record and says the same.
-fn goes_on(alloc: Global, state: &State, kept: &[u8]) -> Result<(), Fault> {
-    let again = record(alloc, state, LEADER)?;
+fn has(
+    alloc: Global,
+    place: Place,
+    state: &State,
+    kept: &[u8],
+    expected: &[u8],
+) -> Result<(), Fault> {
+    let again = record(alloc, place, state)?;
     holds(again.as_slice() == kept)?;
-    resumes(alloc, state, LEADER, b"> T01 T11 T21 A01 A11 A21")
+    resumes(alloc, place, state, expected)
 }
 
-/// An executor of this chain that knows no decree.
-fn is_restored(alloc: Global, chain: Chain, kept: &[u8]) -> Result<(), Fault> {
-    let state = State::restored(alloc, 0, Standing::first(), chain);
-    let row = goes_on(alloc, &state, kept);
-    state.end();
+/// Whether one that is restored has the same record, and says this.
+pub fn goes_on(alloc: Global, place: Place, state: &State, expected: &[u8]) -> Result<(), Fault> {
+    let kept = record(alloc, place, state)?;
+    let again = restored(alloc, kept.as_slice())?;
+    let row = has(alloc, place, &again, kept.as_slice(), expected);
+    again.end();
     row
 }
 
-fn is_read_back(alloc: Global, state: &mut State) -> Result<(), Fault> {
-    execute(alloc, state, LEADER, 1, 1)?;
-    let kept = record(alloc, state, LEADER)?;
-    is_restored(alloc, kept_chain(alloc, state)?, kept.as_slice())
-}
-
-#[test]
-fn an_executor_goes_on_from_its_record(rt: HostRuntime) -> Result<(), Fail> {
-    let mut state = State::first(rt.alloc())?;
-    let row = is_read_back(rt.alloc(), &mut state);
-    state.end();
-    assert!(rt; row == Ok(()));
-    Ok(())
-}
+const ONE_MORE: Part = (LEADER, &[Execute(C3, 1, b". O13 O23", b"* T03 T13 T23")]);
 
 /// Whether a keeper lends the record as it was saved, after the executor went on.
-fn is_lent_as_it_was(alloc: Global, state: &mut State) -> Result<(), Fault> {
-    execute_and_commit(alloc, state, 1, 1, 1)?;
-    execute(alloc, state, LEADER, 2, 1)?;
-    let bytes = record(alloc, state, LEADER)?;
+fn is_lent_as_it_was(alloc: Global, told: &mut Told, state: &mut State) -> Result<(), Fault> {
+    holds(wrong_row(alloc, U, told, state, ONE_OF_TWO).is_none())?;
+    let bytes = record(alloc, (U, LEADER), state)?;
     let mut keeper = MemKeeper::new();
     save_record(state.record(alloc, U, LEADER)?, &mut keeper)?;
-    execute(alloc, state, LEADER, 3, 1)?;
-    holds(record(alloc, state, LEADER)? != bytes)?;
-    holds(kept(alloc, &keeper)? == bytes)
+    holds(wrong_row(alloc, U, told, state, ONE_MORE).is_none())?;
+    let is_other = record(alloc, (U, LEADER), state)? != bytes;
+    holds(is_other && kept(alloc, &keeper)? == bytes)
 }
 
 #[test]
 fn a_keeper_lends_the_record_as_it_was_saved(rt: HostRuntime) -> Result<(), Fail> {
     let mut state = State::first(rt.alloc())?;
-    let row = is_lent_as_it_was(rt.alloc(), &mut state);
+    let mut told = NONE_TOLD;
+    let row = is_lent_as_it_was(rt.alloc(), &mut told, &mut state);
     state.end();
     assert!(rt; row == Ok(()));
     Ok(())
-}
-
-/// What the letters of one that goes on tell: each member, the place after the decrees, and no need.
-fn tells_its_members(alloc: Global, state: &mut State) -> Result<(), Fault> {
-    resumes(alloc, state, LEADER, b"> A01 A11 A21")?;
-    execute_and_commit(alloc, state, 1, 1, 1)?;
-    resumes(alloc, state, LEADER, b"> A02 A12 A22")?;
-    execute(alloc, state, LEADER, 2, 1)?;
-    execute(alloc, state, LEADER, 3, 1)?;
-    resumes(
-        alloc,
-        state,
-        LEADER,
-        b"> T02 T12 T22 T03 T13 T23 A02 A12 A22",
-    )
-}
-
-#[test]
-fn one_that_goes_on_tells_the_tokens_of_its_members(rt: HostRuntime) -> Result<(), Fail> {
-    let mut state = State::first(rt.alloc())?;
-    let row = tells_its_members(rt.alloc(), &mut state);
-    state.end();
-    assert!(rt; row == Ok(()));
-    Ok(())
-}
-
-/// Where it knows as many decrees as can be counted, it asks for no more.
-fn asks_no_more(alloc: Global, state: &State) -> Result<(), Fault> {
-    match state.resumed(alloc, U, LEADER) {
-        Err(Fault::Stopped) => Ok(()),
-        Err(fault) => Err(fault),
-        Ok(_) => Err(Fault::NotOpen),
-    }
-}
-
-/// Where no epoch can follow, it obeys no rollback.
-fn turns_no_more(alloc: Global, state: &mut State) -> Result<(), Fault> {
-    match state.step(alloc, U, LEADER, decided(0, 1, Decree::Rollback)) {
-        Err(Fault::Stopped) => Ok(()),
-        Err(fault) => Err(fault),
-        Ok(_) => Err(Fault::NotOpen),
-    }
 }
 
 fn first_chain(alloc: Global) -> Result<Chain, AllocError> {
@@ -143,15 +111,21 @@ fn first_chain(alloc: Global) -> Result<Chain, AllocError> {
     Ok(chain)
 }
 
-#[test]
-fn one_that_knows_all_decrees_that_can_be_counted_is_stopped(rt: HostRuntime) -> Result<(), Fail> {
-    let chain = first_chain(rt.alloc())?;
-    let state = State::restored(rt.alloc(), u64::MAX, Standing::first(), chain);
-    let row = asks_no_more(rt.alloc(), &state);
-    state.end();
-    assert!(rt; row == Ok(()));
-    Ok(())
-}
+/// Where it knows as many decrees as can be counted, it asks for no more.
+const ASKS_NO_MORE: Script = (
+    "one_that_knows_all_decrees_that_can_be_counted_is_stopped",
+    U,
+    NOTHING,
+    (LEADER, &[CannotResume]),
+);
+
+/// Where no epoch can follow, it obeys no rollback.
+const TURNS_NO_MORE: Script = (
+    "a_rollback_of_the_last_epoch_that_can_be_counted_is_stopped",
+    U,
+    NOTHING,
+    (LEADER, &[Stopped(Rollback(V0, 1))]),
+);
 
 /// What stands in the last epoch that can be counted.
 const LAST: Standing = Standing {
@@ -162,13 +136,11 @@ const LAST: Standing = Standing {
 };
 
 #[test]
-fn a_rollback_of_the_last_epoch_that_can_be_counted_is_stopped(
-    rt: HostRuntime,
-) -> Result<(), Fail> {
-    let chain = first_chain(rt.alloc())?;
-    let mut state = State::restored(rt.alloc(), 0, LAST, chain);
-    let row = turns_no_more(rt.alloc(), &mut state);
-    state.end();
-    assert!(rt; row == Ok(()));
+fn one_whose_counter_is_at_its_limit_is_stopped(rt: HostRuntime) -> Result<(), Fail> {
+    let alloc = rt.alloc();
+    let all = State::restored(alloc, u64::MAX, Standing::first(), first_chain(alloc)?);
+    let wrong = wrong_in(alloc, all, ASKS_NO_MORE);
+    let last = State::restored(alloc, 0, LAST, first_chain(alloc)?);
+    assert_eq!(rt; (wrong, wrong_in(alloc, last, TURNS_NO_MORE)), (None, None));
     Ok(())
 }

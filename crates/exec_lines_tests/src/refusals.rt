@@ -3,31 +3,36 @@
 //! `scripts/refusals` refuses each growth in turn. `NoMemory` ends a row that was refused some, and
 //! `NotOpen` one in which something else does not hold.
 
-use crate::adopting::made;
-use crate::given::{batch, commit, decided, from_executor, order, want};
-use crate::seen::{LEADER, OTHER, U, are_letters, holds, told_in};
-use crate::told_kept::stand;
-use decrees::{Decree, Letter};
+use crate::given::Given::{Adopt, Commit, Cut, Finish, Order, Rollback, Stands, Step, Want};
+use crate::given::{C1, C2, C3, E0, E1, E2, Given, NONE, NONE_TOLD, Told, V0, input, letter};
+use crate::seen::{LEADER, OTHER, U, are_letters, holds, learn, text_of};
+use decrees::{Letter, Node};
 use exec_lines::{Body, ExecutorRecord, Input};
 use exec_node::ExecNode;
-use keeper::{Keeper, MemKeeper, ToText};
+use keeper::{Keeper, MemKeeper};
 use proto::Fault;
 use std::alloc::Global;
 use std::test::Fail;
-use token::Token;
 
 /// An executor's keeper.
 pub type Kept = MemKeeper<ExecutorRecord>;
 
 pub type Executor = ExecNode<Kept>;
 
-type Letters = Vec<Letter<Body>>;
+pub type Letters = Vec<Letter<Body>>;
+
+/// An input, and what it leaves: `*` where the record is another and else `.`, and then the letters.
+pub type Line = (Given, &'static [u8]);
+
+/// Lines of the executor of this number. If there is a node, it has sent what was said last, which comes
+/// before the lines and leaves this.
+type Lines = (u8, Option<(Node, &'static [u8])>, &'static [Line]);
 
 /// The bytes of the record that is kept.
 pub fn kept(alloc: Global, keeper: &Kept) -> Result<Vec<u8>, Fault> {
     match keeper.load() {
         None => Ok(Vec::new(alloc)),
-        Some(found) => Ok(found.to_text(alloc)?.joined(alloc)?),
+        Some(found) => Ok(text_of(alloc, found)?),
     }
 }
 
@@ -39,21 +44,18 @@ pub fn opens(alloc: Global, id: u8, keeper: Kept, expected: &[u8]) -> Result<Exe
     }
     let before = kept(alloc, &keeper)?;
     match ExecNode::open(alloc, U, id, keeper) {
-        Ok((executor, letters)) => match are_letters(alloc, b'>', letters.as_slice(), expected) {
-            Ok(true) => Ok(executor),
-            Ok(false) => ends(executor, Fault::NotOpen),
-            Err(_) => ends(executor, Fault::NoMemory),
-        },
+        Ok((executor, letters)) => {
+            if are_letters(b'>', letters.as_slice(), expected) {
+                return Ok(executor);
+            }
+            drop(executor.end());
+            Err(Fault::NotOpen)
+        }
         Err((fault, keeper)) => {
             holds(fault == Fault::NoMemory && kept(alloc, &keeper)? == before)?;
             Err(fault)
         }
     }
-}
-
-fn ends(executor: Executor, fault: Fault) -> Result<Executor, Fault> {
-    drop(executor.end());
-    Err(fault)
 }
 
 /// Whether it is stopped with the record of these bytes, and stays so.
@@ -63,8 +65,8 @@ fn is_stopped(alloc: Global, executor: &mut Executor, bytes: &[u8]) -> Result<bo
     Ok(stays && kept(alloc, executor.keeper())?.as_slice() == bytes)
 }
 
-/// What `handle` answered: the letters that were expected, after `*` where the record is another and
-/// else `.`; or `NoMemory`, and then it is stopped and has its old record.
+/// What `handle` answered: the letters that were expected; or `NoMemory`, and then it is stopped and has
+/// its old record.
 pub fn answered(
     alloc: Global,
     executor: &mut Executor,
@@ -72,109 +74,158 @@ pub fn answered(
     answer: Result<Letters, Fault>,
     expected: &[u8],
 ) -> Result<Letters, Fault> {
-    let letters = match answer {
-        Ok(letters) => letters,
+    match answer {
+        Ok(letters) => {
+            let is_old = kept(alloc, executor.keeper())?.as_slice() == before;
+            let first = if is_old { b'.' } else { b'*' };
+            holds(are_letters(first, letters.as_slice(), expected))?;
+            Ok(letters)
+        }
         Err(fault) => {
             holds(fault == Fault::NoMemory && is_stopped(alloc, executor, before)?)?;
-            return Err(fault);
+            Err(fault)
         }
-    };
-    let after = kept(alloc, executor.keeper())?;
-    let first = if after.as_slice() == before {
-        b'.'
-    } else {
-        b'*'
-    };
-    holds(are_letters(alloc, first, letters.as_slice(), expected)?)?;
-    Ok(letters)
-}
-
-pub fn gives(
-    alloc: Global,
-    executor: &mut Executor,
-    input: Input,
-    expected: &[u8],
-) -> Result<Letters, Fault> {
-    let before = match kept(alloc, executor.keeper()) {
-        Ok(before) => before,
-        Err(fault) => {
-            input.spend();
-            return Err(fault);
-        }
-    };
-    let answer = executor.handle(alloc, input);
-    answered(alloc, executor, before.as_slice(), answer, expected)
-}
-
-fn last_body(letters: Letters) -> Result<Body, Fault> {
-    let mut letters = letters;
-    match letters.pop() {
-        Some(letter) => Ok(letter.body),
-        None => Err(Fault::NotOpen),
     }
 }
 
-/// Want, Cut, Step, Finish, Decided: client 1 is answered, and once more where it asks again.
-fn serve(alloc: Global, leader: &mut Executor) -> Result<Token, Fault> {
-    drop(gives(alloc, leader, want(alloc, 1, 1)?, b".")?);
-    drop(gives(alloc, leader, Input::Cut(1000), b". O11 O21")?);
-    drop(gives(alloc, leader, Input::Step(0), b".")?);
-    let letters = gives(alloc, leader, Input::Finish, b"* T01 T11 T21")?;
-    let token = told_in(letters.as_slice())?;
-    drop(gives(alloc, leader, commit(1, token), b"* S11")?);
-    drop(gives(alloc, leader, want(alloc, 1, 1)?, b". S11")?);
-    Ok(token)
-}
-
-/// Order and Adopt, of another batch 1; and then the decree that commits the leader's.
-fn fall_behind(alloc: Global, other: &mut Executor, token: Token) -> Result<Body, Fault> {
-    drop(gives(alloc, other, order(alloc, 1, 1)?, b".")?);
-    let made = Input::Adopt(made(alloc, batch(alloc, 1, 1)?)?);
-    drop(gives(alloc, other, made, b"* T01 T11 T21")?);
-    last_body(gives(alloc, other, commit(1, token), b"* N00 N20")?)
-}
-
-/// Need and Parcel, and the question for the decrees that it lacks.
-fn hand_over(
+fn gives(
     alloc: Global,
-    leader: &mut Executor,
-    other: &mut Executor,
-    need: Body,
+    executor: &mut Executor,
+    told: &mut Told,
+    (given, expected): Line,
+) -> Result<Letters, Fault> {
+    let before = kept(alloc, executor.keeper())?;
+    let answer = executor.handle(alloc, input(alloc, told, given)?);
+    let letters = answered(alloc, executor, before.as_slice(), answer, expected)?;
+    learn(told, letters.as_slice());
+    Ok(letters)
+}
+
+/// Gives it the inputs of the lines. What it says last is kept.
+pub fn gives_all(
+    alloc: Global,
+    executor: &mut Executor,
+    told: &mut Told,
+    said: &mut Letters,
+    lines: &[Line],
 ) -> Result<(), Fault> {
-    let letters = gives(alloc, leader, from_executor(OTHER, need), b". P11")?;
-    let parcel = from_executor(LEADER, last_body(letters)?);
-    drop(gives(alloc, other, parcel, b"*")?);
-    drop(gives(alloc, other, decided(0, 5, Decree::Rollback), b". A02")?);
+    for line in lines {
+        *said = gives(alloc, executor, told, *line)?;
+    }
     Ok(())
 }
 
-/// A Rollback, by which a batch is undone that was begun.
-fn roll_back(alloc: Global, leader: &mut Executor) -> Result<(), Fault> {
-    drop(gives(alloc, leader, want(alloc, 2, 1)?, b".")?);
-    drop(gives(alloc, leader, Input::Cut(1001), b". O12 O22")?);
-    drop(gives(alloc, leader, decided(0, 2, Decree::Rollback), b"*")?);
+/// Hands it the last letter of what was said.
+fn hears(
+    alloc: Global,
+    executor: &mut Executor,
+    said: &mut Letters,
+    from: Node,
+    expected: &[u8],
+) -> Result<(), Fault> {
+    let Some(last) = said.pop() else {
+        return Err(Fault::NotOpen);
+    };
+    let before = kept(alloc, executor.keeper())?;
+    let answer = executor.handle(alloc, letter(from, last.body));
+    *said = answered(alloc, executor, before.as_slice(), answer, expected)?;
     Ok(())
+}
+
+const LINES: [Lines; 7] = [
+    // Order and Adopt, of another batch 1.
+    (
+        OTHER,
+        None,
+        &[(Order(E2, 1, 1), b"."), (Adopt(1), b"* T01 T11 T21")],
+    ),
+    // Want, Cut, Step, Finish, Decided: client 1 is answered, and once more where it asks again.
+    (
+        LEADER,
+        None,
+        &[
+            (Want(C1, 1), b"."),
+            (Cut, b". O11 O21"),
+            (Step(0), b"."),
+            (Finish, b"* T01 T11 T21"),
+            (Commit(V0, 1), b"* S11"),
+            (Want(C1, 1), b". S11"),
+        ],
+    ),
+    // The decree that commits the leader's batch 1, and the need.
+    (OTHER, None, &[(Commit(V0, 1), b"* N00 N20")]),
+    // The parcel.
+    (LEADER, Some((E1, b". P11")), &[]),
+    // The question for the decrees that it lacks.
+    (OTHER, Some((E0, b"*")), &[(Rollback(V0, 5), b". A02")]),
+    // A Rollback, by which a batch is undone that was begun.
+    (
+        LEADER,
+        None,
+        &[
+            (Want(C2, 1), b"."),
+            (Cut, b". O12 O22"),
+            (Rollback(V0, 2), b"*"),
+        ],
+    ),
+    // Executor 1 leads epoch 2, and then both its members are committed; and then another state stands.
+    (
+        OTHER,
+        None,
+        &[
+            (Stands(V0, 2, 1, 1, [2, 2]), b"*"),
+            (Want(C2, 1), b"."),
+            (Cut, b". O02 O22"),
+            (Step(0), b"."),
+            (Finish, b"* T02 T12 T22"),
+            (Want(C3, 1), b"."),
+            (Cut, b". O03 O23"),
+            (Step(0), b"."),
+            (Finish, b"* T03 T13 T23"),
+            (Stands(V0, 4, 3, 3, [2, 2]), b"* S21 S31"),
+            (Stands(V0, 7, 4, NONE, [4, 5]), b"* N03 N23"),
+        ],
+    ),
+];
+
+fn plays(
+    alloc: Global,
+    executor: &mut Executor,
+    told: &mut Told,
+    said: &mut Letters,
+    (_, heard, lines): Lines,
+) -> Result<(), Fault> {
+    if let Some((from, expected)) = heard {
+        hears(alloc, executor, said, from, expected)?;
+    }
+    gives_all(alloc, executor, told, said, lines)
 }
 
 fn play(alloc: Global, leader: &mut Executor, other: &mut Executor) -> Result<(), Fault> {
-    let token = serve(alloc, leader)?;
-    let need = fall_behind(alloc, other, token)?;
-    hand_over(alloc, leader, other, need)?;
-    roll_back(alloc, leader)?;
-    stand(alloc, other, token)
+    let mut told = NONE_TOLD;
+    let mut said = Vec::new(alloc);
+    for lines in LINES {
+        if lines.0 == LEADER {
+            plays(alloc, leader, &mut told, &mut said, lines)?;
+        } else {
+            plays(alloc, other, &mut told, &mut said, lines)?;
+        }
+    }
+    Ok(())
 }
 
-/// It goes on from its record.
-fn restart(alloc: Global, leader: Executor) -> Result<(), Fault> {
-    let again = opens(alloc, LEADER, leader.end(), b"> A03 A13 A23")?;
-    drop(again.end());
-    Ok(())
+/// Plays the lines with another one.
+fn play_with(alloc: Global, leader: &mut Executor) -> Result<(), Fault> {
+    let mut other = opens(alloc, OTHER, MemKeeper::new(), b">")?;
+    let played = play(alloc, leader, &mut other);
+    drop(other.end());
+    played
 }
 
 /// It goes on from its record also where it, or the other one, was refused some memory, which is there
 /// then.
-fn restart_after(alloc: Global, leader: Executor, fault: Fault) -> Result<(), Fault> {
-    match ExecNode::open(alloc, U, LEADER, leader.end()) {
+fn restart_after(alloc: Global, keeper: Kept, fault: Fault) -> Result<(), Fault> {
+    match ExecNode::open(alloc, U, LEADER, keeper) {
         Ok((again, _)) => {
             drop(again.end());
             Err(fault)
@@ -183,26 +234,21 @@ fn restart_after(alloc: Global, leader: Executor, fault: Fault) -> Result<(), Fa
     }
 }
 
-fn play_with(alloc: Global, leader: Executor) -> Result<(), Fault> {
-    let mut leader = leader;
-    let mut other = match opens(alloc, OTHER, MemKeeper::new(), b">") {
-        Ok(other) => other,
-        Err(fault) => {
-            drop(leader.end());
-            return Err(fault);
-        }
-    };
-    let played = play(alloc, &mut leader, &mut other);
-    drop(other.end());
-    match played {
-        Ok(()) => restart(alloc, leader),
-        Err(fault) => restart_after(alloc, leader, fault),
-    }
+/// It goes on from its record.
+pub fn restart(alloc: Global, keeper: Kept, expected: &[u8]) -> Result<(), Fault> {
+    let again = opens(alloc, LEADER, keeper, expected)?;
+    drop(again.end());
+    Ok(())
 }
 
 fn each_line(alloc: Global) -> Result<(), Fault> {
-    let leader = opens(alloc, LEADER, MemKeeper::new(), b">")?;
-    play_with(alloc, leader)
+    let mut leader = opens(alloc, LEADER, MemKeeper::new(), b">")?;
+    let played = play_with(alloc, &mut leader);
+    let keeper = leader.end();
+    match played {
+        Ok(()) => restart(alloc, keeper, b"> A03 A13 A23"),
+        Err(fault) => restart_after(alloc, keeper, fault),
+    }
 }
 
 #[test]

@@ -1,8 +1,12 @@
 //! Work that is run whole, on threads.
 
-use crate::given::{from_client, set_of};
-use crate::seen::{LEADER, U, begun, does, none_begun, shows, told};
-use exec_lines::{Body, Input, Outcome, State};
+use crate::given::Given::{Cut, Finish, Sets, Step};
+use crate::given::{C1, C2, NONE_TOLD, Told, token_of};
+use crate::parts::NOTHING;
+use crate::script::Row::{Begun, Gives, NoneBegun};
+use crate::script::{Part, shows, wrong_row};
+use crate::seen::{LEADER, U, holds};
+use exec_lines::State;
 use proto::Fault;
 use round::NoGate;
 use std::alloc::Global;
@@ -12,108 +16,100 @@ use std::thread::Threads;
 use token::Token;
 use workers::Workers;
 
-/// Begins a batch of two requests, which set two keys and are one group.
-fn begin_two(alloc: Global, state: &mut State) -> Result<(), Fault> {
-    let one = Body::Want(set_of(alloc, 1, 1, b'C')?);
-    does(alloc, state, LEADER, from_client(1, one), b".")?;
-    let other = Body::Want(set_of(alloc, 2, 1, b'E')?);
-    does(alloc, state, LEADER, from_client(2, other), b".")?;
-    does(alloc, state, LEADER, Input::Cut(1000), b". O11 O21")?;
-    begun(state, 1, 2, false)
-}
+/// What comes before two workers run the work, what that leaves to be done, and what comes after it.
+type Run = (Part, &'static [u8], Part);
 
-fn make_both(alloc: Global, state: &mut State) -> Result<Token, Fault> {
-    begin_two(alloc, state)?;
-    does(alloc, state, LEADER, Input::Step(1), b".")?;
-    does(alloc, state, LEADER, Input::Step(0), b".")?;
-    let outcome = state.step(alloc, U, LEADER, Input::Finish)?;
-    shows(alloc, &outcome, b"* T01 T11 T21")?;
-    told(&outcome)
-}
+/// A batch of two requests, which set two keys and are one group.
+const BOTH: Run = (
+    (
+        LEADER,
+        &[
+            Gives(Sets(C1, b'C'), b"."),
+            Gives(Sets(C2, b'E'), b"."),
+            Gives(Cut, b". O11 O21"),
+            Begun(1, 2, false),
+        ],
+    ),
+    b"* T01 T11 T21",
+    (LEADER, &[NoneBegun]),
+);
 
-/// The token where the two steps are made one by one.
-fn token_by_steps(alloc: Global) -> Result<Token, Fault> {
-    let mut state = State::first(alloc)?;
-    let token = make_both(alloc, &mut state);
-    state.end();
-    token
-}
+/// The two steps are made one by one, and nothing is left to run.
+const BY_STEPS: Run = (
+    (
+        LEADER,
+        &[
+            Gives(Sets(C1, b'C'), b"."),
+            Gives(Sets(C2, b'E'), b"."),
+            Gives(Cut, b". O11 O21"),
+            Begun(1, 2, false),
+            Gives(Step(1), b"."),
+            Gives(Step(0), b"."),
+            Gives(Finish, b"* T01 T11 T21"),
+        ],
+    ),
+    b".",
+    NOTHING,
+);
 
-/// Runs what was begun by two workers.
-fn run_by_two<R: Threads + Wait + Sync>(
+/// Work is not run whole once a step was made, which stays made.
+const AFTER_A_STEP: Run = (
+    (
+        LEADER,
+        &[
+            Gives(Sets(C1, b'C'), b"."),
+            Gives(Sets(C2, b'E'), b"."),
+            Gives(Cut, b". O11 O21"),
+            Begun(1, 2, false),
+            Gives(Step(0), b"."),
+        ],
+    ),
+    b".",
+    (
+        LEADER,
+        &[Gives(Step(1), b"."), Gives(Finish, b"* T01 T11 T21")],
+    ),
+);
+
+/// Nothing runs where nothing was begun.
+const NO_WORK: Run = (NOTHING, b".", NOTHING);
+
+fn runs<R: Threads + Wait + Sync>(
     rt: &R,
     alloc: Global,
+    told: &mut Told,
     state: &mut State,
-) -> Result<Outcome, Fault> {
+    (before, expected, after): Run,
+) -> Result<(), Fault> {
     let Some(two) = Workers::new(2) else {
         return Err(Fault::Unfit);
     };
-    Ok(state.run(rt, alloc, U, LEADER, two, &NoGate)?)
+    holds(wrong_row(alloc, U, told, state, before).is_none())?;
+    let outcome = state.run(rt, alloc, U, LEADER, two, &NoGate)?;
+    shows(told, &outcome, expected)?;
+    holds(wrong_row(alloc, U, told, state, after).is_none())
 }
 
-fn begin_and_run<R: Threads + Wait + Sync>(
-    rt: &R,
-    alloc: Global,
-    state: &mut State,
-) -> Result<Token, Fault> {
-    begin_two(alloc, state)?;
-    let outcome = run_by_two(rt, alloc, state)?;
-    none_begun(state)?;
-    shows(alloc, &outcome, b"* T01 T11 T21")?;
-    told(&outcome)
-}
-
-/// The token where two workers run the work.
-fn token_by_two<R: Threads + Wait + Sync>(rt: &R, alloc: Global) -> Result<Token, Fault> {
+/// The token that is told of state 1.
+fn token<R: Threads + Wait + Sync>(rt: &R, alloc: Global, run: Run) -> Result<Token, Fault> {
     let mut state = State::first(alloc)?;
-    let token = begin_and_run(rt, alloc, &mut state);
+    let mut told = NONE_TOLD;
+    let row = runs(rt, alloc, &mut told, &mut state, run);
     state.end();
-    token
+    row?;
+    Ok(token_of(&told, 1))
 }
 
 #[test]
 fn two_workers_come_to_the_token_of_single_steps(rt: HostRuntime) -> Result<(), Fail> {
-    let token = token_by_steps(rt.alloc())?;
-    assert!(rt; token_by_two(&rt, rt.alloc()) == Ok(token));
+    let token_by_steps = token(&rt, rt.alloc(), BY_STEPS)?;
+    assert!(rt; token(&rt, rt.alloc(), BOTH) == Ok(token_by_steps));
     Ok(())
 }
 
-fn runs_nothing<R: Threads + Wait + Sync>(
-    rt: &R,
-    alloc: Global,
-    state: &mut State,
-) -> Result<(), Fault> {
-    let outcome = run_by_two(rt, alloc, state)?;
-    shows(alloc, &outcome, b".")
-}
-
 #[test]
-fn nothing_runs_where_nothing_was_begun(rt: HostRuntime) -> Result<(), Fail> {
-    let mut state = State::first(rt.alloc())?;
-    let row = runs_nothing(&rt, rt.alloc(), &mut state);
-    state.end();
-    assert!(rt; row == Ok(()));
-    Ok(())
-}
-
-/// The step that was made stays made.
-fn runs_no_rest<R: Threads + Wait + Sync>(
-    rt: &R,
-    alloc: Global,
-    state: &mut State,
-) -> Result<(), Fault> {
-    begin_two(alloc, state)?;
-    does(alloc, state, LEADER, Input::Step(0), b".")?;
-    runs_nothing(rt, alloc, state)?;
-    does(alloc, state, LEADER, Input::Step(1), b".")?;
-    does(alloc, state, LEADER, Input::Finish, b"* T01 T11 T21")
-}
-
-#[test]
-fn work_is_not_run_whole_once_a_step_was_made(rt: HostRuntime) -> Result<(), Fail> {
-    let mut state = State::first(rt.alloc())?;
-    let row = runs_no_rest(&rt, rt.alloc(), &mut state);
-    state.end();
-    assert!(rt; row == Ok(()));
+fn work_is_not_run_whole_if_there_is_none_or_a_step_was_made(rt: HostRuntime) -> Result<(), Fail> {
+    token(&rt, rt.alloc(), NO_WORK)?;
+    token(&rt, rt.alloc(), AFTER_A_STEP)?;
     Ok(())
 }

@@ -1,64 +1,44 @@
-//! An executor that is told what stands, with its record, where memory may be refused.
+//! An executor that is told what stands, with its record.
 
-use crate::given::want;
-use crate::refusals::{Executor, gives, opens};
-use crate::seen::{LEADER, told_in};
-use crate::told::tells;
-use exec_lines::Input;
+use crate::given::Given::{Cut, Finish, Stands, Step, Want};
+use crate::given::{C1, C2, C3, NONE_TOLD, V0};
+use crate::refusals::{Executor, Line, gives_all, opens, restart};
+use crate::seen::LEADER;
 use keeper::MemKeeper;
 use proto::Fault;
 use std::alloc::Global;
 use std::test::Fail;
-use token::Token;
-
-/// The token of no state here.
-const OTHER_TOKEN: Token = Token([7; 32]);
-
-/// Executes a batch of this client's request 1, with these letters of the order and of the token.
-fn execute(
-    alloc: Global,
-    executor: &mut Executor,
-    client: u8,
-    letters: [&[u8]; 2],
-) -> Result<Token, Fault> {
-    let [ordered, ended] = letters;
-    drop(gives(alloc, executor, want(alloc, client, 1)?, b".")?);
-    drop(gives(alloc, executor, Input::Cut(1000), ordered)?);
-    drop(gives(alloc, executor, Input::Step(0), b".")?);
-    let letters = gives(alloc, executor, Input::Finish, ended)?;
-    told_in(letters.as_slice())
-}
-
-/// Executor 1, whose committed state 1 has this token, leads epoch 2, and then both its members are
-/// committed; and then another state stands.
-pub fn stand(alloc: Global, other: &mut Executor, token: Token) -> Result<(), Fault> {
-    drop(gives(alloc, other, tells(2, 1, token, [2, 2]), b"*")?);
-    execute(alloc, other, 2, [b". O02 O22", b"* T02 T12 T22"])?;
-    let three = execute(alloc, other, 3, [b". O03 O23", b"* T03 T13 T23"])?;
-    drop(gives(alloc, other, tells(4, 3, three, [2, 2]), b"* S21 S31")?);
-    let unknown = tells(7, 4, OTHER_TOKEN, [4, 5]);
-    drop(gives(alloc, other, unknown, b"* N03 N23")?);
-    Ok(())
-}
 
 /// Of a chain of three the second one stands.
-fn commits_two(alloc: Global, leader: &mut Executor) -> Result<(), Fault> {
-    execute(alloc, leader, 1, [b". O11 O21", b"* T01 T11 T21"])?;
-    let two = execute(alloc, leader, 2, [b". O12 O22", b"* T02 T12 T22"])?;
-    execute(alloc, leader, 3, [b". O13 O23", b"* T03 T13 T23"])?;
-    drop(gives(alloc, leader, tells(2, 2, two, [1, 1]), b"* S11 S21")?);
-    Ok(())
+const TWO_OF_THREE: &[Line] = &[
+    (Want(C1, 1), b"."),
+    (Cut, b". O11 O21"),
+    (Step(0), b"."),
+    (Finish, b"* T01 T11 T21"),
+    (Want(C2, 1), b"."),
+    (Cut, b". O12 O22"),
+    (Step(0), b"."),
+    (Finish, b"* T02 T12 T22"),
+    (Want(C3, 1), b"."),
+    (Cut, b". O13 O23"),
+    (Step(0), b"."),
+    (Finish, b"* T03 T13 T23"),
+    (Stands(V0, 2, 2, 2, [1, 1]), b"* S11 S21"),
+];
+
+fn play(alloc: Global, leader: &mut Executor) -> Result<(), Fault> {
+    let mut told = NONE_TOLD;
+    let mut said = Vec::new(alloc);
+    gives_all(alloc, leader, &mut told, &mut said, TWO_OF_THREE)
 }
 
 /// And it goes on from its record, with the third.
 fn restarts(alloc: Global) -> Result<(), Fault> {
     let mut leader = opens(alloc, LEADER, MemKeeper::new(), b">")?;
-    let played = commits_two(alloc, &mut leader);
+    let played = play(alloc, &mut leader);
     let keeper = leader.end();
     played?;
-    let again = opens(alloc, LEADER, keeper, b"> T03 T13 T23 A03 A13 A23")?;
-    drop(again.end());
-    Ok(())
+    restart(alloc, keeper, b"> T03 T13 T23 A03 A13 A23")
 }
 
 #[test]
