@@ -7,6 +7,7 @@ use crate::script::Row::{Begun, Gives, NoneBegun, Resumes, ToldAsMade, Unfit};
 use crate::script::Script;
 use crate::seen::{OTHER, U, holds};
 use batches::Batch;
+use exec_lines::State;
 use executor::{Base, Ended, Tentative, Work};
 use proto::Fault;
 use std::alloc::Global;
@@ -14,10 +15,13 @@ use std::alloc::Global;
 /// Makes the one step of the work, and ends its group.
 fn made_of(alloc: Global, work: Work) -> Result<Tentative, Fault> {
     let mut work = work;
-    work.step(alloc, 0)?;
+    let step = work.step(alloc, 0);
     match work.finish(alloc)? {
         Ended::Done(tentative) => Ok(tentative),
-        Ended::On(_) => Err(Fault::NotOpen),
+        Ended::On(_) => {
+            step?;
+            Err(Fault::NotOpen)
+        }
     }
 }
 
@@ -34,21 +38,19 @@ fn made_over(alloc: Global, base: &Base, batch: Batch) -> Result<Tentative, Faul
 
 /// What batch 1 makes of the first state.
 pub fn made(alloc: Global, batch: Batch) -> Result<Tentative, Fault> {
-    let base = Base::first(alloc)?;
-    made_over(alloc, &base, batch)
-}
-
-/// The state after the batch, as a base.
-fn base_of(tentative: Tentative) -> Result<Base, Fault> {
-    let base = tentative.as_base().share();
-    drop(tentative.undo());
-    Ok(base?)
+    let other = State::first(alloc)?;
+    let tentative = made_over(alloc, other.chain().tip(), batch);
+    other.end();
+    tentative
 }
 
 /// What batch 2 makes of another state than that of number 1 that the executor has.
 pub fn made_over_another(alloc: Global) -> Result<Tentative, Fault> {
-    let base = base_of(made(alloc, batch(alloc, 1, 1)?)?)?;
-    made_over(alloc, &base, batch(alloc, 1, 2)?)
+    let second = batch(alloc, 1, 2)?;
+    let first = made(alloc, batch(alloc, 1, 1)?)?;
+    let tentative = made_over(alloc, first.as_base(), second);
+    drop(first.undo());
+    tentative
 }
 
 /// Whether the token that was told of state 1 is that of the state that is handed in.

@@ -6,8 +6,7 @@ use crate::parts::ONE_COMMITTED;
 use crate::script::Row::{Execute, Gives, Resumes};
 use crate::script::{Part, shows, wrong_row};
 use crate::seen::{LEADER, OTHER, U, holds, record};
-use decrees::Letter;
-use exec_lines::{Body, State};
+use exec_lines::{Body, Input, State};
 use proto::Fault;
 use std::alloc::Global;
 use std::test::Fail;
@@ -15,7 +14,7 @@ use transfer::Parcel;
 use wire::{read, write};
 
 /// What is to hold of one that has more and a new one.
-#[derive(Clone, Copy, Debug, PartialEq, Eq)]
+#[derive(Clone, Copy)]
 enum Row {
     /// The new one takes what the other one answers to its need, and a parcel changes nothing once it is
     /// not behind.
@@ -28,10 +27,18 @@ enum Row {
     NoMore,
 }
 
-/// What the last letter says.
-fn last_body(letters: Vec<Letter<Body>>) -> Result<Body, Fault> {
-    let mut letters = letters;
-    match letters.pop() {
+/// What the last letter of the step says.
+fn says(
+    alloc: Global,
+    told: &mut Told,
+    state: &mut State,
+    id: u8,
+    input: Input,
+    expected: &[u8],
+) -> Result<Body, Fault> {
+    let mut outcome = state.step(alloc, U, id, input)?;
+    shows(told, &outcome, expected)?;
+    match outcome.letters.pop() {
         Some(letter) => Ok(letter.body),
         None => Err(Fault::NotOpen),
     }
@@ -39,39 +46,23 @@ fn last_body(letters: Vec<Letter<Body>>) -> Result<Body, Fault> {
 
 /// The new one hears of a commit of a state that it has not: it needs that of the others.
 fn need(alloc: Global, told: &mut Told, state: &mut State, commit: Given) -> Result<Body, Fault> {
-    let outcome = state.step(alloc, U, OTHER, input(alloc, told, commit)?)?;
-    shows(told, &outcome, b"* N00 N20")?;
-    last_body(outcome.letters)
+    let input = input(alloc, told, commit)?;
+    says(alloc, told, state, OTHER, input, b"* N00 N20")
 }
 
-/// What the one that has more answers.
-fn answer(
-    alloc: Global,
-    told: &mut Told,
-    more: &mut State,
-    need: Body,
-    expected: &[u8],
-) -> Result<Parcel, Fault> {
-    let outcome = more.step(alloc, U, LEADER, letter(E1, need))?;
-    shows(told, &outcome, expected)?;
-    match last_body(outcome.letters)? {
-        Body::Parcel(parcel) => Ok(parcel),
-        _ => Err(Fault::NotOpen),
-    }
-}
-
-/// The new one gets the parcel. Either it is the state that is saved then, or nothing changes.
+/// The new one gets the parcel. Either its state is saved then, or nothing changes.
 fn gets(
     alloc: Global,
     told: &mut Told,
     state: &mut State,
-    parcel: Parcel,
+    parcel: Body,
     expected: &[u8],
 ) -> Result<(), Fault> {
-    let before = record(alloc, (U, OTHER), state)?;
-    let outcome = state.step(alloc, U, OTHER, letter(E0, Body::Parcel(parcel)))?;
+    let input = letter(E0, parcel);
+    let before = record(alloc, (U, OTHER), state);
+    let outcome = state.step(alloc, U, OTHER, input)?;
     shows(told, &outcome, expected)?;
-    let is_same = record(alloc, (U, OTHER), state)? == before;
+    let is_same = record(alloc, (U, OTHER), state)? == before?;
     holds(is_same != outcome.saves)
 }
 
@@ -81,11 +72,13 @@ fn first_parcel(
     told: &mut Told,
     more: &mut State,
     state: &mut State,
-) -> Result<Parcel, Fault> {
+) -> Result<Body, Fault> {
     holds(wrong_row(alloc, U, told, more, ONE_COMMITTED).is_none())?;
     let need = need(alloc, told, state, Commit(V0, 1))?;
-    holds(wrong_row(alloc, U, told, state, BEHIND).is_none())?;
-    answer(alloc, told, more, need, b". P11")
+    let wrong = wrong_row(alloc, U, told, state, BEHIND);
+    let parcel = says(alloc, told, more, LEADER, letter(E1, need), b". P11")?;
+    holds(wrong.is_none())?;
+    Ok(parcel)
 }
 
 const BEHIND: Part = (OTHER, &[Resumes(b"> A02 A12 A22 N00 N20")]);
@@ -96,6 +89,18 @@ const TAKEN: Part = (
     &[Resumes(b"> A02 A12 A22"), Gives(Want(C1, 1), b". S11")],
 );
 
+/// A parcel, or the same one without its pages.
+fn copy(alloc: Global, body: &Body, whole: bool) -> Result<Body, Fault> {
+    let Body::Parcel(parcel) = body else {
+        return Err(Fault::NotOpen);
+    };
+    Ok(Body::Parcel(if whole {
+        parcel.clone()?
+    } else {
+        without_pages(alloc, parcel)?
+    }))
+}
+
 fn is_handed_over(
     alloc: Global,
     told: &mut Told,
@@ -103,10 +108,11 @@ fn is_handed_over(
     state: &mut State,
 ) -> Result<(), Fault> {
     let parcel = first_parcel(alloc, told, more, state)?;
-    let copy = parcel.clone()?;
+    let copy = copy(alloc, &parcel, true)?;
     gets(alloc, told, state, parcel, b"*")?;
-    holds(wrong_row(alloc, U, told, state, TAKEN).is_none())?;
-    gets(alloc, told, state, copy, b".")
+    let wrong = wrong_row(alloc, U, told, state, TAKEN);
+    gets(alloc, told, state, copy, b".")?;
+    holds(wrong.is_none())
 }
 
 /// How many bytes the record of a parcel has before the count of its pages: 85 of fields, and 16 of
@@ -130,7 +136,7 @@ fn lacks_its_page(
     state: &mut State,
 ) -> Result<(), Fault> {
     let parcel = first_parcel(alloc, told, more, state)?;
-    gets(alloc, told, state, without_pages(alloc, &parcel)?, b".")?;
+    gets(alloc, told, state, copy(alloc, &parcel, false)?, b".")?;
     gets(alloc, told, state, parcel, b"*")
 }
 
@@ -160,13 +166,20 @@ fn is_older(
     holds(wrong_row(alloc, U, told, more, ONE_COMMITTED).is_none())?;
     holds(wrong_row(alloc, U, told, more, SECOND).is_none())?;
     let early = need(alloc, told, state, Commit(V0, 1))?;
-    let older = answer(alloc, told, more, early, b". P12")?;
-    holds(wrong_row(alloc, U, told, more, THIRD).is_none())?;
-    drop(need(alloc, told, state, Commit(V0, 2))?);
-    let late = need(alloc, told, state, Commit(V0, 3))?;
+    let older = says(alloc, told, more, LEADER, letter(E1, early), b". P12")?;
+    let wrong = wrong_row(alloc, U, told, more, THIRD);
+    let second = is_needed(alloc, told, state);
+    let late = need(alloc, told, state, Commit(V0, 3));
     gets(alloc, told, state, older, b".")?;
-    let newer = answer(alloc, told, more, late, b". P13")?;
-    gets(alloc, told, state, newer, b"*")
+    let newer = says(alloc, told, more, LEADER, letter(E1, late?), b". P13")?;
+    gets(alloc, told, state, newer, b"*")?;
+    holds(wrong.is_none() && second == Ok(()))
+}
+
+/// The state of number 2 is needed.
+fn is_needed(alloc: Global, told: &mut Told, state: &mut State) -> Result<(), Fault> {
+    drop(need(alloc, told, state, Commit(V0, 2))?);
+    Ok(())
 }
 
 fn has_no_more(
@@ -204,18 +217,23 @@ fn is_row(alloc: Global, row: Row) -> Result<(), Fault> {
     so
 }
 
-/// The first row that does not hold.
-fn first_wrong(alloc: Global) -> Option<Row> {
-    for row in [Row::HandedOver, Row::LacksItsPage, Row::Older, Row::NoMore] {
-        if is_row(alloc, row) != Ok(()) {
-            return Some(row);
-        }
-    }
-    None
-}
+const ROWS: [(&str, Row); 4] = [
+    (
+        "one_that_is_behind_takes_the_state_that_stands",
+        Row::HandedOver,
+    ),
+    ("a_parcel_that_lacks_a_page_is_ignored", Row::LacksItsPage),
+    ("a_parcel_of_an_older_state_is_ignored", Row::Older),
+    (
+        "a_need_is_not_answered_by_one_that_has_no_more",
+        Row::NoMore,
+    ),
+];
 
 #[test]
-fn one_that_is_behind_takes_the_state_that_stands(rt: HostRuntime) -> Result<(), Fail> {
-    assert_eq!(rt; first_wrong(rt.alloc()), None);
+fn an_executor_that_is_behind_and_one_that_has_more(rt: HostRuntime) -> Result<(), Fail> {
+    for (name, row) in ROWS {
+        assert!(rt; is_row(rt.alloc(), row) == Ok(()), "{name}");
+    }
     Ok(())
 }

@@ -93,6 +93,8 @@ pub enum Given {
     Says(Node, Ballot),
     /// A reply.
     Replies(Node),
+    /// The last letter of the other executor, where two are played with.
+    Heard(Node),
 }
 
 /// The token of the state of this number.
@@ -182,5 +184,6 @@ pub fn input(alloc: Global, told: &Told, given: Given) -> Result<Input, Fault> {
                 reply: Reply::Stored,
             },
         ),
+        Given::Heard(_) => return Err(Fault::NotOpen),
     })
 }

@@ -3,10 +3,10 @@
 //! `scripts/refusals` refuses each growth in turn. `NoMemory` ends a row that was refused some, and
 //! `NotOpen` one in which something else does not hold.
 
-use crate::given::Given::{Adopt, Commit, Cut, Finish, Order, Rollback, Stands, Step, Want};
+use crate::given::Given::{Adopt, Commit, Cut, Finish, Heard, Order, Rollback, Stands, Step, Want};
 use crate::given::{C1, C2, C3, E0, E1, E2, Given, NONE, NONE_TOLD, Told, V0, input, letter};
 use crate::seen::{LEADER, OTHER, U, are_letters, holds, learn, text_of};
-use decrees::{Letter, Node};
+use decrees::Letter;
 use exec_lines::{Body, ExecutorRecord, Input};
 use exec_node::ExecNode;
 use keeper::{Keeper, MemKeeper};
@@ -24,9 +24,8 @@ pub type Letters = Vec<Letter<Body>>;
 /// An input, and what it leaves: `*` where the record is another and else `.`, and then the letters.
 pub type Line = (Given, &'static [u8]);
 
-/// Lines of the executor of this number. If there is a node, it has sent what was said last, which comes
-/// before the lines and leaves this.
-type Lines = (u8, Option<(Node, &'static [u8])>, &'static [Line]);
+/// Lines of the executor of this number.
+type Lines = (u8, &'static [Line]);
 
 /// The bytes of the record that is kept.
 pub fn kept(alloc: Global, keeper: &Kept) -> Result<Vec<u8>, Fault> {
@@ -36,33 +35,73 @@ pub fn kept(alloc: Global, keeper: &Kept) -> Result<Vec<u8>, Fault> {
     }
 }
 
-/// The executor `id` of three, and its first letters, after `>`. Where it is refused, its keeper has
-/// the record that it had.
-pub fn opens(alloc: Global, id: u8, keeper: Kept, expected: &[u8]) -> Result<Executor, Fault> {
+/// The executor `id` of three, and its first letters. It says nothing of what it does, so that the proofs of
+/// those who call it are short; so for `handle`.
+fn opened(alloc: Global, id: u8, keeper: Kept) -> Result<(Executor, Letters), (Fault, Kept)> {
     if id > OTHER {
-        return Err(Fault::NotOpen);
+        return Err((Fault::NotOpen, keeper));
     }
-    let before = kept(alloc, &keeper)?;
-    match ExecNode::open(alloc, U, id, keeper) {
-        Ok((executor, letters)) => {
-            if are_letters(b'>', letters.as_slice(), expected) {
-                return Ok(executor);
-            }
-            drop(executor.end());
-            Err(Fault::NotOpen)
-        }
-        Err((fault, keeper)) => {
-            holds(fault == Fault::NoMemory && kept(alloc, &keeper)? == before)?;
-            Err(fault)
-        }
-    }
+    ExecNode::open(alloc, U, id, keeper)
 }
 
-/// Whether it is stopped with the record of these bytes, and stays so.
-fn is_stopped(alloc: Global, executor: &mut Executor, bytes: &[u8]) -> Result<bool, Fault> {
-    let again = executor.handle(alloc, Input::Step(0));
-    let stays = matches!(again, Err(Fault::Stopped)) && !executor.is_up();
-    Ok(stays && kept(alloc, executor.keeper())?.as_slice() == bytes)
+fn handle(alloc: Global, executor: &mut Executor, input: Input) -> Result<Letters, Fault> {
+    executor.handle(alloc, input)
+}
+
+/// Why it was not opened: `NoMemory`, and then its keeper has the record that it had.
+fn refusal(alloc: Global, fault: Fault, keeper: &Kept, before: &[u8]) -> Result<Fault, Fault> {
+    let after = kept(alloc, keeper)?;
+    holds(fault == Fault::NoMemory && after.as_slice() == before)?;
+    Ok(fault)
+}
+
+/// The executor `id`, whose first letters are these, after `>`, or any.
+pub fn opens(
+    alloc: Global,
+    id: u8,
+    keeper: Kept,
+    expected: Option<&[u8]>,
+) -> Result<Executor, Fault> {
+    let before = kept(alloc, &keeper)?;
+    let (executor, letters) = match opened(alloc, id, keeper) {
+        Ok(opened) => opened,
+        Err((fault, keeper)) => {
+            return Err(refusal(alloc, fault, &keeper, before.as_slice())?);
+        }
+    };
+    let is_right = match expected {
+        Some(text) => are_letters(b'>', letters.as_slice(), text),
+        None => true,
+    };
+    if is_right {
+        return Ok(executor);
+    }
+    drop(executor.end());
+    Err(Fault::NotOpen)
+}
+
+/// Whether it is stopped, and stays so.
+fn is_stopped(alloc: Global, executor: &mut Executor) -> bool {
+    let again = handle(alloc, executor, Input::Step(0));
+    matches!(again, Err(Fault::Stopped)) && !executor.is_up()
+}
+
+fn has_record(alloc: Global, executor: &mut Executor, bytes: &[u8]) -> Result<bool, Fault> {
+    let kept = kept(alloc, executor.keeper())?;
+    Ok(kept.as_slice() == bytes)
+}
+
+/// The letters are those that were expected, after `*` where the record is another and else `.`.
+fn are_right(
+    alloc: Global,
+    executor: &mut Executor,
+    before: &[u8],
+    letters: &[Letter<Body>],
+    expected: &[u8],
+) -> Result<(), Fault> {
+    let is_old = has_record(alloc, executor, before)?;
+    let first = if is_old { b'.' } else { b'*' };
+    holds(are_letters(first, letters, expected))
 }
 
 /// What `handle` answered: the letters that were expected; or `NoMemory`, and then it is stopped and has
@@ -76,15 +115,24 @@ pub fn answered(
 ) -> Result<Letters, Fault> {
     match answer {
         Ok(letters) => {
-            let is_old = kept(alloc, executor.keeper())?.as_slice() == before;
-            let first = if is_old { b'.' } else { b'*' };
-            holds(are_letters(first, letters.as_slice(), expected))?;
+            are_right(alloc, executor, before, letters.as_slice(), expected)?;
             Ok(letters)
         }
         Err(fault) => {
-            holds(fault == Fault::NoMemory && is_stopped(alloc, executor, before)?)?;
+            let stops = is_stopped(alloc, executor) && has_record(alloc, executor, before)?;
+            holds(stops && fault == Fault::NoMemory)?;
             Err(fault)
         }
+    }
+}
+
+fn input_of(alloc: Global, told: &Told, said: &mut Letters, given: Given) -> Result<Input, Fault> {
+    let Given::Heard(from) = given else {
+        return input(alloc, told, given);
+    };
+    match said.pop() {
+        Some(last) => Ok(letter(from, last.body)),
+        None => Err(Fault::NotOpen),
     }
 }
 
@@ -92,10 +140,12 @@ fn gives(
     alloc: Global,
     executor: &mut Executor,
     told: &mut Told,
+    said: &mut Letters,
     (given, expected): Line,
 ) -> Result<Letters, Fault> {
     let before = kept(alloc, executor.keeper())?;
-    let answer = executor.handle(alloc, input(alloc, told, given)?);
+    let input = input_of(alloc, told, said, given)?;
+    let answer = handle(alloc, executor, input);
     let letters = answered(alloc, executor, before.as_slice(), answer, expected)?;
     learn(told, letters.as_slice());
     Ok(letters)
@@ -110,25 +160,8 @@ pub fn gives_all(
     lines: &[Line],
 ) -> Result<(), Fault> {
     for line in lines {
-        *said = gives(alloc, executor, told, *line)?;
+        *said = gives(alloc, executor, told, said, *line)?;
     }
-    Ok(())
-}
-
-/// Hands it the last letter of what was said.
-fn hears(
-    alloc: Global,
-    executor: &mut Executor,
-    said: &mut Letters,
-    from: Node,
-    expected: &[u8],
-) -> Result<(), Fault> {
-    let Some(last) = said.pop() else {
-        return Err(Fault::NotOpen);
-    };
-    let before = kept(alloc, executor.keeper())?;
-    let answer = executor.handle(alloc, letter(from, last.body));
-    *said = answered(alloc, executor, before.as_slice(), answer, expected)?;
     Ok(())
 }
 
@@ -136,13 +169,11 @@ const LINES: [Lines; 7] = [
     // Order and Adopt, of another batch 1.
     (
         OTHER,
-        None,
         &[(Order(E2, 1, 1), b"."), (Adopt(1), b"* T01 T11 T21")],
     ),
     // Want, Cut, Step, Finish, Decided: client 1 is answered, and once more where it asks again.
     (
         LEADER,
-        None,
         &[
             (Want(C1, 1), b"."),
             (Cut, b". O11 O21"),
@@ -153,15 +184,14 @@ const LINES: [Lines; 7] = [
         ],
     ),
     // The decree that commits the leader's batch 1, and the need.
-    (OTHER, None, &[(Commit(V0, 1), b"* N00 N20")]),
+    (OTHER, &[(Commit(V0, 1), b"* N00 N20")]),
     // The parcel.
-    (LEADER, Some((E1, b". P11")), &[]),
-    // The question for the decrees that it lacks.
-    (OTHER, Some((E0, b"*")), &[(Rollback(V0, 5), b". A02")]),
+    (LEADER, &[(Heard(E1), b". P11")]),
+    // And the question for the decrees that it lacks.
+    (OTHER, &[(Heard(E0), b"*"), (Rollback(V0, 5), b". A02")]),
     // A Rollback, by which a batch is undone that was begun.
     (
         LEADER,
-        None,
         &[
             (Want(C2, 1), b"."),
             (Cut, b". O12 O22"),
@@ -171,7 +201,6 @@ const LINES: [Lines; 7] = [
     // Executor 1 leads epoch 2, and then both its members are committed; and then another state stands.
     (
         OTHER,
-        None,
         &[
             (Stands(V0, 2, 1, 1, [2, 2]), b"*"),
             (Want(C2, 1), b"."),
@@ -188,67 +217,46 @@ const LINES: [Lines; 7] = [
     ),
 ];
 
-fn plays(
-    alloc: Global,
-    executor: &mut Executor,
-    told: &mut Told,
-    said: &mut Letters,
-    (_, heard, lines): Lines,
-) -> Result<(), Fault> {
-    if let Some((from, expected)) = heard {
-        hears(alloc, executor, said, from, expected)?;
-    }
-    gives_all(alloc, executor, told, said, lines)
-}
-
 fn play(alloc: Global, leader: &mut Executor, other: &mut Executor) -> Result<(), Fault> {
     let mut told = NONE_TOLD;
     let mut said = Vec::new(alloc);
-    for lines in LINES {
-        if lines.0 == LEADER {
-            plays(alloc, leader, &mut told, &mut said, lines)?;
+    for (id, lines) in LINES {
+        let executor = if id == LEADER {
+            &mut *leader
         } else {
-            plays(alloc, other, &mut told, &mut said, lines)?;
-        }
+            &mut *other
+        };
+        gives_all(alloc, executor, &mut told, &mut said, lines)?;
     }
     Ok(())
 }
 
 /// Plays the lines with another one.
 fn play_with(alloc: Global, leader: &mut Executor) -> Result<(), Fault> {
-    let mut other = opens(alloc, OTHER, MemKeeper::new(), b">")?;
+    let mut other = opens(alloc, OTHER, MemKeeper::new(), Some(b">"))?;
     let played = play(alloc, leader, &mut other);
     drop(other.end());
     played
 }
 
-/// It goes on from its record also where it, or the other one, was refused some memory, which is there
-/// then.
-fn restart_after(alloc: Global, keeper: Kept, fault: Fault) -> Result<(), Fault> {
-    match ExecNode::open(alloc, U, LEADER, keeper) {
-        Ok((again, _)) => {
-            drop(again.end());
-            Err(fault)
-        }
-        Err(_) => Err(Fault::NotOpen),
-    }
-}
-
-/// It goes on from its record.
-pub fn restart(alloc: Global, keeper: Kept, expected: &[u8]) -> Result<(), Fault> {
+/// It goes on from its record, with these letters or any.
+pub fn restart(alloc: Global, keeper: Kept, expected: Option<&[u8]>) -> Result<(), Fault> {
     let again = opens(alloc, LEADER, keeper, expected)?;
     drop(again.end());
     Ok(())
 }
 
+/// It goes on from its record also where it, or the other one, was refused some memory, which is there
+/// then.
 fn each_line(alloc: Global) -> Result<(), Fault> {
-    let mut leader = opens(alloc, LEADER, MemKeeper::new(), b">")?;
+    let mut leader = opens(alloc, LEADER, MemKeeper::new(), Some(b">"))?;
     let played = play_with(alloc, &mut leader);
     let keeper = leader.end();
-    match played {
-        Ok(()) => restart(alloc, keeper, b"> A03 A13 A23"),
-        Err(fault) => restart_after(alloc, keeper, fault),
+    if let Err(fault) = played {
+        holds(restart(alloc, keeper, None).is_ok())?;
+        return Err(fault);
     }
+    restart(alloc, keeper, Some(b"> A03 A13 A23"))
 }
 
 #[test]

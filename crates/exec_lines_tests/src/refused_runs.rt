@@ -61,7 +61,7 @@ pub fn row<R: Threads + Wait + Sync, G: Gate + Sync>(
     alloc: Global,
     gate: &G,
 ) -> Result<(), Fault> {
-    let mut leader = opens(alloc, LEADER, MemKeeper::new(), b">")?;
+    let mut leader = opens(alloc, LEADER, MemKeeper::new(), Some(b">"))?;
     let mut told = NONE_TOLD;
     let played = play(rt, alloc, &mut leader, &mut told, gate);
     drop(leader.end());

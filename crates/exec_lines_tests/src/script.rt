@@ -155,28 +155,23 @@ pub fn resumes(alloc: Global, (u, id): Place, state: &State, expected: &[u8]) ->
     holds(are_letters(b'>', letters.as_slice(), expected))
 }
 
-fn stand_for(bytes: &[u8], [known, n, epoch, start]: [u8; 4]) -> bool {
-    bytes.get(11) == Some(&known)
-        && bytes.get(19) == Some(&n)
-        && bytes.get(59) == Some(&epoch)
-        && bytes.get(67) == Some(&start)
-}
-
 /// What the decrees stand for is in the record.
-fn stands(alloc: Global, place: Place, state: &State, expected: [u8; 4]) -> Result<(), Fault> {
-    let bytes = record(alloc, place, state)?;
-    holds(stand_for(bytes.as_slice(), expected))
+fn looks(bytes: &[u8], row: Row) -> bool {
+    match row {
+        Row::Record(len, first) => bytes.len() == len && bytes.get(..2) == Some(&first),
+        Row::Stands([known, n, epoch, start]) => {
+            bytes.get(11) == Some(&known)
+                && bytes.get(19) == Some(&n)
+                && bytes.get(59) == Some(&epoch)
+                && bytes.get(67) == Some(&start)
+        }
+        _ => false,
+    }
 }
 
-fn has_record(
-    alloc: Global,
-    place: Place,
-    state: &State,
-    len: usize,
-    first: [u8; 2],
-) -> Result<(), Fault> {
+fn has_record(alloc: Global, place: Place, state: &State, row: Row) -> Result<(), Fault> {
     let bytes = record(alloc, place, state)?;
-    holds(bytes.len() == len && bytes.get(..2) == Some(&first))
+    holds(looks(bytes.as_slice(), row))
 }
 
 /// Whether such a batch was begun, and no step of it was made.
@@ -219,8 +214,7 @@ fn is_so(
         Row::Resumes(expected) => resumes(alloc, place, state, expected),
         Row::CannotResume => holds(resumes(alloc, place, state, b"") == Err(Fault::Stopped)),
         Row::GoesOn(expected) => goes_on(alloc, place, state, expected),
-        Row::Record(len, first) => has_record(alloc, place, state, len, first),
-        Row::Stands(expected) => stands(alloc, place, state, expected),
+        Row::Record(_, _) | Row::Stands(_) => has_record(alloc, place, state, row),
         Row::Begun(n, len, ordered) => begun(state, n, len, ordered),
         Row::NoneBegun => holds(state.job().is_none()),
         Row::ToldOver(n) => told_over(told, n),

@@ -34,11 +34,11 @@ fn play(alloc: Global, leader: &mut Executor) -> Result<(), Fault> {
 
 /// And it goes on from its record, with the third.
 fn restarts(alloc: Global) -> Result<(), Fault> {
-    let mut leader = opens(alloc, LEADER, MemKeeper::new(), b">")?;
+    let mut leader = opens(alloc, LEADER, MemKeeper::new(), Some(b">"))?;
     let played = play(alloc, &mut leader);
     let keeper = leader.end();
     played?;
-    restart(alloc, keeper, b"> T03 T13 T23 A03 A13 A23")
+    restart(alloc, keeper, Some(b"> T03 T13 T23 A03 A13 A23"))
 }
 
 #[test]
