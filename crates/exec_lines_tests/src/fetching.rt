@@ -75,10 +75,7 @@ fn first_parcel(
 ) -> Result<Body, Fault> {
     holds(wrong_row(alloc, U, told, more, ONE_COMMITTED).is_none())?;
     let need = need(alloc, told, state, Commit(V0, 1))?;
-    let wrong = wrong_row(alloc, U, told, state, BEHIND);
-    let parcel = says(alloc, told, more, LEADER, letter(E1, need), b". P11")?;
-    holds(wrong.is_none())?;
-    Ok(parcel)
+    says(alloc, told, more, LEADER, letter(E1, need), b". P11")
 }
 
 const BEHIND: Part = (OTHER, &[Resumes(b"> A02 A12 A22 N00 N20")]);
@@ -108,11 +105,12 @@ fn is_handed_over(
     state: &mut State,
 ) -> Result<(), Fault> {
     let parcel = first_parcel(alloc, told, more, state)?;
+    let behind = wrong_row(alloc, U, told, state, BEHIND);
     let copy = copy(alloc, &parcel, true)?;
-    gets(alloc, told, state, parcel, b"*")?;
-    let wrong = wrong_row(alloc, U, told, state, TAKEN);
-    gets(alloc, told, state, copy, b".")?;
-    holds(wrong.is_none())
+    let first = gets(alloc, told, state, parcel, b"*");
+    let taken = wrong_row(alloc, U, told, state, TAKEN);
+    let again = gets(alloc, told, state, copy, b".");
+    holds(behind.is_none() && first == Ok(()) && taken.is_none() && again == Ok(()))
 }
 
 /// How many bytes the record of a parcel has before the count of its pages: 85 of fields, and 16 of
@@ -136,8 +134,11 @@ fn lacks_its_page(
     state: &mut State,
 ) -> Result<(), Fault> {
     let parcel = first_parcel(alloc, told, more, state)?;
-    gets(alloc, told, state, copy(alloc, &parcel, false)?, b".")?;
-    gets(alloc, told, state, parcel, b"*")
+    let behind = wrong_row(alloc, U, told, state, BEHIND);
+    let copy = copy(alloc, &parcel, false)?;
+    let same = gets(alloc, told, state, copy, b".");
+    let taken = gets(alloc, told, state, parcel, b"*");
+    holds(behind.is_none() && same == Ok(()) && taken == Ok(()))
 }
 
 const SECOND: Part = (
@@ -170,10 +171,10 @@ fn is_older(
     let wrong = wrong_row(alloc, U, told, more, THIRD);
     let second = is_needed(alloc, told, state);
     let late = need(alloc, told, state, Commit(V0, 3));
-    gets(alloc, told, state, older, b".")?;
+    let same = gets(alloc, told, state, older, b".");
     let newer = says(alloc, told, more, LEADER, letter(E1, late?), b". P13")?;
     gets(alloc, told, state, newer, b"*")?;
-    holds(wrong.is_none() && second == Ok(()))
+    holds(wrong.is_none() && second == Ok(()) && same == Ok(()))
 }
 
 /// The state of number 2 is needed.

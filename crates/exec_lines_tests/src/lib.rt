@@ -1,5 +1,6 @@
-//! Tests of `exec_lines` by its public calls: a row for each thing that the table of an executor's
-//! steps says, with ample memory, where one of three executors may fail.
+//! Tests of `exec_lines` by its public calls, with ample memory, where mostly one of three executors may
+//! fail. Each thing that the table of an executor's steps says is a script: what an executor is given, row by
+//! row, and what it does then. The modules have the scripts, and `script` plays them.
 //!
 //! What a step does is compared as a short text, in which each letter has a mark, the number of the
 //! node that it goes to and what it tells of: see `seen`.
