@@ -49,10 +49,41 @@ fn handle(alloc: Global, executor: &mut Executor, input: Input) -> Result<Letter
 }
 
 /// Why it was not opened: `NoMemory`, and then its keeper has the record that it had.
-fn refusal(alloc: Global, fault: Fault, keeper: &Kept, before: &[u8]) -> Result<Fault, Fault> {
-    let after = kept(alloc, keeper)?;
-    holds(fault == Fault::NoMemory && after.as_slice() == before)?;
-    Ok(fault)
+fn refusal(alloc: Global, fault: Fault, keeper: &Kept, before: &[u8]) -> Fault {
+    match kept(alloc, keeper) {
+        Ok(after) if fault != Fault::NoMemory || after.as_slice() != before => Fault::NotOpen,
+        _ => fault,
+    }
+}
+
+/// The executor, if its first letters are these, after `>`, or any are.
+fn if_it_says(
+    executor: Executor,
+    letters: &[Letter<Body>],
+    expected: Option<&[u8]>,
+) -> Result<Executor, Fault> {
+    let is_right = match expected {
+        Some(text) => are_letters(b'>', letters, text),
+        None => true,
+    };
+    if is_right {
+        return Ok(executor);
+    }
+    drop(executor.end());
+    Err(Fault::NotOpen)
+}
+
+fn opens_over(
+    alloc: Global,
+    id: u8,
+    keeper: Kept,
+    before: &[u8],
+    expected: Option<&[u8]>,
+) -> Result<Executor, Fault> {
+    match opened(alloc, id, keeper) {
+        Ok((executor, letters)) => if_it_says(executor, letters.as_slice(), expected),
+        Err((fault, keeper)) => Err(refusal(alloc, fault, &keeper, before)),
+    }
 }
 
 /// The executor `id`, whose first letters are these, after `>`, or any.
@@ -63,21 +94,7 @@ pub fn opens(
     expected: Option<&[u8]>,
 ) -> Result<Executor, Fault> {
     let before = kept(alloc, &keeper)?;
-    let (executor, letters) = match opened(alloc, id, keeper) {
-        Ok(opened) => opened,
-        Err((fault, keeper)) => {
-            return Err(refusal(alloc, fault, &keeper, before.as_slice())?);
-        }
-    };
-    let is_right = match expected {
-        Some(text) => are_letters(b'>', letters.as_slice(), text),
-        None => true,
-    };
-    if is_right {
-        return Ok(executor);
-    }
-    drop(executor.end());
-    Err(Fault::NotOpen)
+    opens_over(alloc, id, keeper, before.as_slice(), expected)
 }
 
 /// Whether it is stopped, and stays so.
@@ -126,7 +143,13 @@ pub fn answered(
     }
 }
 
-fn input_of(alloc: Global, told: &Told, said: &mut Letters, given: Given) -> Result<Input, Fault> {
+/// The input. One that was heard is the last letter of what was said.
+pub fn input_of(
+    alloc: Global,
+    told: &Told,
+    said: &mut Letters,
+    given: Given,
+) -> Result<Input, Fault> {
     let Given::Heard(from) = given else {
         return input(alloc, told, given);
     };
