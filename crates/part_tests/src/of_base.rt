@@ -152,14 +152,20 @@ fn is_long_text(alloc: Global, text: &mut Text) -> Result<bool, AllocError> {
     has_it_twice(alloc, text)
 }
 
+fn holds_anew(alloc: Global, row: &Row) -> Result<bool, AllocError> {
+    let mut map = SortedMap::new(alloc);
+    holds(alloc, &mut map, row)
+}
+
+fn is_long(alloc: Global) -> Result<bool, AllocError> {
+    let mut text = Text::new(alloc);
+    is_long_text(alloc, &mut text)
+}
+
 #[test]
 fn maps_lists_and_texts(rt: HostRuntime) -> Result<(), Fail> {
     for row in &ROWS {
-        assert!(rt;
-            holds(rt.alloc(), &mut SortedMap::new(rt.alloc()), row)?,
-            "{}",
-            row.0
-        );
+        assert!(rt; holds_anew(rt.alloc(), row)?, "{}", row.0);
     }
     let lists = [
         is_list(rt.alloc(), &[])?,
@@ -171,7 +177,6 @@ fn maps_lists_and_texts(rt: HostRuntime) -> Result<(), Fail> {
         lists == [false, false, true, true],
         "a list keeps its limits"
     );
-    let is_text = is_long_text(rt.alloc(), &mut Text::new(rt.alloc()))?;
-    assert!(rt; is_text, "a text has what was put and shared");
+    assert!(rt; is_long(rt.alloc())?, "a text has what was put and shared");
     Ok(())
 }

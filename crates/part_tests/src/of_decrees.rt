@@ -140,22 +140,32 @@ fn has_text_of_2501(alloc: Global, log: &mut Log) -> Result<bool, Fault> {
     Ok(is_of_2501(text.joined(alloc)?.as_slice()))
 }
 
+fn counts_no_others(alloc: Global) -> bool {
+    let mut votes = Votes::new(alloc);
+    of_others(&mut votes) == Ok([Verdict::Wait, COMMIT])
+}
+
+fn is_learned(alloc: Global) -> bool {
+    let mut log = Log::new(alloc);
+    learns(&mut log)
+}
+
+fn is_text_of_2501(alloc: Global) -> bool {
+    let mut log = Log::new(alloc);
+    has_text_of_2501(alloc, &mut log) == Ok(true)
+}
+
 #[test]
 fn verdicts_and_logs(rt: HostRuntime) -> Result<(), Fail> {
     for (u, tokens, wanted) in &VERDICTS {
         let found = verdict(rt.alloc(), *u, *tokens)?;
         assert!(rt; found == *wanted, "{u} {}", tokens.len());
     }
-    let others = of_others(&mut Votes::new(rt.alloc()))?;
+    assert!(rt; counts_no_others(rt.alloc()), "votes that do not count");
+    assert!(rt; is_learned(rt.alloc()), "a log and what it stands for");
     assert!(rt;
-        others == [Verdict::Wait, COMMIT],
-        "votes that do not count"
+        is_text_of_2501(rt.alloc()),
+        "a text of more than one piece"
     );
-    assert!(rt;
-        learns(&mut Log::new(rt.alloc())),
-        "a log and what it stands for"
-    );
-    let is_text = has_text_of_2501(rt.alloc(), &mut Log::new(rt.alloc()))?;
-    assert!(rt; is_text, "a text of more than one piece");
     Ok(())
 }

@@ -254,13 +254,18 @@ fn is_filled(alloc: Global, block: &[u8]) -> Result<bool, AllocError> {
     give(alloc, &mut Pages::new(alloc)?, &lines, expected.as_slice())
 }
 
+/// Whether what is appended fits the limit of a block.
+fn fills_a_block(alloc: Global) -> Result<bool, AllocError> {
+    let block = vec![in alloc; b'x'; 1048575]?;
+    is_filled(alloc, block.as_slice())
+}
+
 #[test]
 fn commands_on_pages_and_on_a_plain_store(rt: HostRuntime) -> Result<(), Fail> {
     for (name, lines, expected) in &ROWS {
         assert!(rt; give_on_both(rt.alloc(), *lines, *expected)?, "{name}");
     }
-    let is_filled = is_filled(rt.alloc(), vec![in rt.alloc(); b'x'; 1048575]?.as_slice())?;
-    assert!(rt; is_filled, "what is appended fits the limit of a block");
+    assert!(rt; fills_a_block(rt.alloc()) == Ok(true), "a full block");
     Ok(())
 }
 

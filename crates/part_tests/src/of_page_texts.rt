@@ -242,16 +242,32 @@ fn costs(alloc: Global, page: &mut Page) -> Result<bool, AllocError> {
     Ok(is_kept && keeps_its_digest(page) && first == [0, 64, 0, 0, 64] && sorted == [0, 164, 0])
 }
 
+fn has_keys(alloc: Global) -> Result<bool, AllocError> {
+    let mut page = page_of_rows(alloc, Layout::Sorted, 3)?;
+    tells_its_keys(alloc, &mut page)
+}
+
+fn counts_of_100(alloc: Global, layout: Layout, drops: &[Drops]) -> Result<bool, AllocError> {
+    let mut page = page_of_100(alloc, layout)?;
+    counts(&mut page, drops)
+}
+
+fn has_costs(alloc: Global) -> Result<bool, AllocError> {
+    let mut page = page_of_100(alloc, Layout::Sorted)?;
+    costs(alloc, &mut page)
+}
+
 #[test]
 fn keys_drops_and_costs_of_pages(rt: HostRuntime) -> Result<(), Fail> {
-    let alloc = rt.alloc();
-    let keys = tells_its_keys(alloc, &mut page_of_rows(alloc, Layout::Sorted, 3)?)?;
-    let of_tree = counts(&mut page_of_100(alloc, Layout::Tree)?, &OF_A_TREE)?;
-    let of_sorted = counts(&mut page_of_100(alloc, Layout::Sorted)?, &OF_A_SORTED_PAGE)?;
-    let costs = costs(alloc, &mut page_of_100(alloc, Layout::Sorted)?)?;
-    assert!(rt; keys, "keys of one page");
-    assert!(rt; of_tree, "a drop from a tree looks at what it drops");
-    assert!(rt; of_sorted, "a drop from a sorted page looks at all");
-    assert!(rt; costs, "what it costs to make a digest");
+    assert!(rt; has_keys(rt.alloc())?, "keys of one page");
+    assert!(rt;
+        counts_of_100(rt.alloc(), Layout::Tree, &OF_A_TREE)?,
+        "a drop from a tree looks at what it drops"
+    );
+    assert!(rt;
+        counts_of_100(rt.alloc(), Layout::Sorted, &OF_A_SORTED_PAGE)?,
+        "a drop from a sorted page looks at all"
+    );
+    assert!(rt; has_costs(rt.alloc())?, "what it costs to make a digest");
     Ok(())
 }

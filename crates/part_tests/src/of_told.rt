@@ -319,15 +319,16 @@ fn are_hashed(alloc: Global, sessions: &mut HashedSessions) -> Result<bool, Allo
     Ok(long && is_hashed(alloc, sessions, (9, 3, Says::Stored), &SHORT_AT_9)?)
 }
 
+fn are_hashed_anew(alloc: Global) -> Result<bool, AllocError> {
+    let mut sessions = HashedSessions::new(Sessions::new(alloc)?);
+    are_hashed(alloc, &mut sessions)
+}
+
 #[test]
 fn rows_of_sessions(rt: HostRuntime) -> Result<(), Fail> {
     for row in &ROWS {
         assert!(rt; holds_anew(rt.alloc(), row)?, "{}", row.name);
     }
-    let mut sessions = HashedSessions::new(Sessions::new(rt.alloc())?);
-    assert!(rt;
-        are_hashed(rt.alloc(), &mut sessions)?,
-        "sessions keep the digests"
-    );
+    assert!(rt; are_hashed_anew(rt.alloc())?, "sessions keep the digests");
     Ok(())
 }
