@@ -23,102 +23,32 @@ impl<R: Wait> Gate for Order<'_, R> {
     fn outside(&self, _page: usize, _place: u32) {}
 }
 
-/// Where steps wait until another one came too, for ten seconds at most.
+/// Where each step waits for another one, and how long.
+#[derive(Clone, Copy)]
+pub enum Waits {
+    /// Inside its page's lock, for ten seconds at most.
+    Inside,
+    /// After its page's lock was given back, for ten seconds at most.
+    Outside,
+    /// Inside its page's lock, for a fifth of a second at most. It leaves then.
+    InsideShortly,
+}
+
+/// Counts the steps that saw another one where they waited.
 #[derive(Drop)]
-struct Meeting<'a, R: Clock> {
+pub struct Meeting<'a, R: Clock> {
     rt: &'a R,
+    waits: Waits,
     came: AtomicU64,
     met: AtomicU64,
 }
 
 impl<'a, R: Clock> Meeting<'a, R> {
-    fn new(rt: &'a R) -> Meeting<'a, R> {
+    pub fn new(rt: &'a R, waits: Waits) -> Meeting<'a, R> {
         Meeting {
             rt,
+            waits,
             came: AtomicU64::new(0),
-            met: AtomicU64::new(0),
-        }
-    }
-
-    fn wait(&self) {
-        self.came.fetch_add(1, SeqCst);
-        for _ in 0..100000u32 {
-            if self.came.load(SeqCst) > 1 {
-                self.met.fetch_add(1, SeqCst);
-                return;
-            }
-            thread::sleep(self.rt, Duration::from_micros(100));
-        }
-    }
-}
-
-/// Each step waits, inside its page's lock, until another was seen inside.
-#[derive(Drop)]
-pub struct Meets<'a, R: Clock> {
-    meeting: Meeting<'a, R>,
-}
-
-impl<'a, R: Clock> Meets<'a, R> {
-    pub fn new(rt: &'a R) -> Meets<'a, R> {
-        Meets {
-            meeting: Meeting::new(rt),
-        }
-    }
-
-    /// How many steps saw another one.
-    pub fn met(&self) -> u64 {
-        self.meeting.met.load(SeqCst)
-    }
-}
-
-impl<R: Clock> Gate for Meets<'_, R> {
-    fn inside(&self, _page: usize, _place: u32) {
-        self.meeting.wait();
-    }
-
-    fn outside(&self, _page: usize, _place: u32) {}
-}
-
-/// Each step waits, after its page's lock was given back, until another was seen there.
-#[derive(Drop)]
-pub struct MeetsOutside<'a, R: Clock> {
-    meeting: Meeting<'a, R>,
-}
-
-impl<'a, R: Clock> MeetsOutside<'a, R> {
-    pub fn new(rt: &'a R) -> MeetsOutside<'a, R> {
-        MeetsOutside {
-            meeting: Meeting::new(rt),
-        }
-    }
-
-    /// How many steps saw another one.
-    pub fn met(&self) -> u64 {
-        self.meeting.met.load(SeqCst)
-    }
-}
-
-impl<R: Clock> Gate for MeetsOutside<'_, R> {
-    fn inside(&self, _page: usize, _place: u32) {}
-
-    fn outside(&self, _page: usize, _place: u32) {
-        self.meeting.wait();
-    }
-}
-
-/// Each step stays inside for a fifth of a second, unless another comes inside as well.
-#[derive(Drop)]
-pub struct StaysInside<'a, R: Clock> {
-    rt: &'a R,
-    inside: AtomicU64,
-    met: AtomicU64,
-}
-
-impl<'a, R: Clock> StaysInside<'a, R> {
-    pub fn new(rt: &'a R) -> StaysInside<'a, R> {
-        StaysInside {
-            rt,
-            inside: AtomicU64::new(0),
             met: AtomicU64::new(0),
         }
     }
@@ -128,25 +58,37 @@ impl<'a, R: Clock> StaysInside<'a, R> {
         self.met.load(SeqCst)
     }
 
-    fn stay(&self) {
-        for _ in 0..200u32 {
-            if self.inside.load(SeqCst) > 1 {
+    /// Waits for another one, for so many times 100 microseconds at most.
+    fn wait(&self, times: u32) {
+        self.came.fetch_add(1, SeqCst);
+        for _ in 0..times {
+            if self.came.load(SeqCst) > 1 {
                 self.met.fetch_add(1, SeqCst);
                 return;
             }
-            thread::sleep(self.rt, Duration::from_millis(1));
+            thread::sleep(self.rt, Duration::from_micros(100));
         }
     }
 }
 
-impl<R: Clock> Gate for StaysInside<'_, R> {
+impl<R: Clock> Gate for Meeting<'_, R> {
     fn inside(&self, _page: usize, _place: u32) {
-        self.inside.fetch_add(1, SeqCst);
-        self.stay();
-        self.inside.fetch_sub(1, SeqCst);
+        match self.waits {
+            Waits::Inside => self.wait(100_000),
+            Waits::Outside => {}
+            Waits::InsideShortly => {
+                self.wait(2000);
+                self.came.fetch_sub(1, SeqCst);
+            }
+        }
     }
 
-    fn outside(&self, _page: usize, _place: u32) {}
+    fn outside(&self, _page: usize, _place: u32) {
+        match self.waits {
+            Waits::Outside => self.wait(100_000),
+            _ => {}
+        }
+    }
 }
 
 /// Counts what it is told, and what of it is wrong: that a step is on another page than that of its
@@ -186,22 +128,17 @@ impl Counts {
             self.wrong.load(SeqCst),
         )
     }
-
-    fn look(&self, is_right: bool) {
-        if !is_right {
-            self.wrong.fetch_add(1, SeqCst);
-        }
-    }
 }
 
 impl Gate for Counts {
     fn inside(&self, page: usize, place: u32) {
         self.inside.fetch_add(1, SeqCst);
-        self.look(is_on(page, place));
+        self.wrong.fetch_add(u64::from(!is_on(page, place)), SeqCst);
     }
 
     fn outside(&self, page: usize, place: u32) {
         let earlier = self.outside.fetch_add(1, SeqCst);
-        self.look(is_on(page, place) && earlier < self.inside.load(SeqCst));
+        let is_right = is_on(page, place) && earlier < self.inside.load(SeqCst);
+        self.wrong.fetch_add(u64::from(!is_right), SeqCst);
     }
 }

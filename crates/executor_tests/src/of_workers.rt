@@ -1,9 +1,9 @@
 ghost use Rattle.std.specs.Prelude.{◌≤◌};
 
 use crate::gates::Order;
-use crate::tasks::{add_gats, add_get, add_incr, add_set, set};
+use crate::tasks::{Does, add, add_all, step};
 use item_steps::{Answer, Stamp, Task, apply};
-use items::{Item, PlainStore};
+use items::PlainStore;
 use pages::{Page, Pages};
 use proto::{Command, Fault, Key, Reply, Update};
 use rand_core::SeedableRng;
@@ -19,14 +19,12 @@ use std::thread::Threads;
 use token::{Form, HashedSessions, sessions_digest, told_digest_of};
 use workers::{Workers, digest_all, run};
 
-fn is_same_item(a: &Item, b: &Item) -> bool {
-    a.block.as_slice() == b.block.as_slice() && a.unique == b.unique && a.due == b.due
-}
-
 fn is_same(a: &Answer, b: &Answer) -> bool {
     match (a, b) {
         (Answer::Seen(None), Answer::Seen(None)) => true,
-        (Answer::Seen(Some(a)), Answer::Seen(Some(b))) => is_same_item(a, b),
+        (Answer::Seen(Some(a)), Answer::Seen(Some(b))) => {
+            a.block.as_slice() == b.block.as_slice() && a.unique == b.unique && a.due == b.due
+        }
         (Answer::Did(Reply::Stored), Answer::Did(Reply::Stored)) => true,
         (Answer::Did(Reply::Number(a)), Answer::Did(Reply::Number(b))) => a == b,
         _ => false,
@@ -34,15 +32,12 @@ fn is_same(a: &Answer, b: &Answer) -> bool {
 }
 
 fn are_same(a: &[Answer], b: &[Answer]) -> bool {
-    a.len() == b.len() && a.iter().zip(b).all(|(a, b)| is_same(a, b))
-}
-
-/// The place of a request of the group at this base.
-fn place_of(base: Stamp, task: &Task) -> Stamp {
-    Stamp {
-        moment: base.moment,
-        stamp: base.stamp.wrapping_add(u64::from(task.place)),
+    for (one, other) in a.iter().zip(b) {
+        if !is_same(one, other) {
+            return false;
+        }
     }
+    a.len() == b.len()
 }
 
 /// The next step of a request on the plain store; its answer goes to the others.
@@ -53,8 +48,12 @@ fn replay_one(
     base: Stamp,
     answers: &mut Vec<Answer>,
 ) -> Result<(), AllocError> {
+    let at = Stamp {
+        moment: base.moment,
+        stamp: base.stamp.wrapping_add(u64::from(task.place)),
+    };
     if let Some(step) = task.steps.as_slice().get(answers.len()) {
-        answers.push(apply(alloc, plain, step, place_of(base, task))?)?;
+        answers.push(apply(alloc, plain, step, at)?)?;
     }
     Ok(())
 }
@@ -81,6 +80,16 @@ pub fn replay(
     Ok(())
 }
 
+/// Whether each request has these answers.
+fn are_answered(ran: &[Ran], expected: &[Vec<Answer>]) -> bool {
+    for (one, answers) in ran.iter().zip(expected) {
+        if !are_same(one.answers(), answers.as_slice()) {
+            return false;
+        }
+    }
+    ran.len() == expected.len()
+}
+
 /// Whether the requests were answered as on the plain store in this order.
 fn is_replay(
     alloc: Global,
@@ -89,14 +98,10 @@ fn is_replay(
     base: Stamp,
     order: &[u32],
     ran: &[Ran],
-) -> bool {
+) -> Result<bool, AllocError> {
     let mut replayed = Vec::new(alloc);
-    let done = replay(alloc, plain, group, base, order, &mut replayed).is_ok();
-    done && ran.len() == replayed.len()
-        && ran
-            .iter()
-            .zip(&replayed)
-            .all(|(a, b)| are_same(a.answers(), b))
+    replay(alloc, plain, group, base, order, &mut replayed)?;
+    Ok(are_answered(ran, replayed.as_slice()))
 }
 
 /// The same items, on pages and on the plain store.
@@ -106,53 +111,51 @@ struct Both {
     plain: PlainStore,
 }
 
-impl Both {
-    fn new(alloc: Global) -> Result<Both, AllocError> {
-        Ok(Both {
-            pages: Pages::new(alloc)?,
-            plain: PlainStore::new(alloc),
-        })
-    }
+/// Runs the group on the pages by that many workers. The order that the gate saw goes to `order`.
+fn run_on<R: Threads + Wait + Sync>(
+    rt: &R,
+    alloc: Global,
+    pages: &mut Pages,
+    group: Vec<Task>,
+    base: Stamp,
+    workers: Workers,
+    order: &mut Vec<u32>,
+) -> Result<Vec<Ran>, Fault> {
+    let before = mem::replace(pages, Pages::new(alloc)?);
+    let gate = Order {
+        rt,
+        places: Mutex::new(Vec::new(alloc)),
+    };
+    let (after, ran) = run(rt, alloc, before, group, base, workers, &gate)?;
+    *pages = after;
+    *order = gate.places.into_inner();
+    Ok(ran)
+}
 
-    /// Runs the group on the pages by that many workers. The order that the gate saw goes to `order`.
-    fn run<R: Threads + Wait + Sync>(
-        &mut self,
-        rt: &R,
-        alloc: Global,
-        group: Vec<Task>,
-        base: Stamp,
-        workers: Workers,
-        order: &mut Vec<u32>,
-    ) -> Result<Vec<Ran>, Fault> {
-        let pages = mem::replace(&mut self.pages, Pages::new(alloc)?);
-        let gate = Order {
-            rt,
-            places: Mutex::new(Vec::new(alloc)),
-        };
-        let (pages, ran) = run(rt, alloc, pages, group, base, workers, &gate)?;
-        self.pages = pages;
-        *order = gate.places.into_inner();
-        Ok(ran)
-    }
-
-    /// Runs the group by that many workers, and says whether the order that the gate saw gives the same
-    /// answers on the plain store.
-    fn is_replayed<R: Threads + Wait + Sync>(
-        &mut self,
-        rt: &R,
-        alloc: Global,
-        group: &Vec<Task>,
-        base: Stamp,
-        workers: usize,
-    ) -> Result<(Vec<Ran>, bool), Fault> {
-        let Some(workers) = Workers::new(workers) else {
-            return Err(Fault::Unfit);
-        };
-        let mut order = Vec::new(alloc);
-        let ran = self.run(rt, alloc, group.clone()?, base, workers, &mut order)?;
-        let same = is_replay(alloc, &mut self.plain, group, base, &order, &ran);
-        Ok((ran, same))
-    }
+/// Runs the group by that many workers, and says whether the order that the gate saw gives the same
+/// answers on the plain store, and no readers crossed.
+fn is_replayed<R: Threads + Wait + Sync>(
+    rt: &R,
+    alloc: Global,
+    both: &mut Both,
+    group: &Vec<Task>,
+    base: Stamp,
+    workers: usize,
+) -> Result<bool, Fault> {
+    let Some(workers) = Workers::new(workers) else {
+        return Err(Fault::Unfit);
+    };
+    let mut order = Vec::new(alloc);
+    let ran = run_on(
+        rt,
+        alloc,
+        &mut both.pages,
+        group.clone()?,
+        base,
+        workers,
+        &mut order,
+    )?;
+    Ok(is_replay(alloc, &mut both.plain, group, base, &order, &ran)? && !cross(&ran))
 }
 
 /// Where a round of this number begins.
@@ -171,139 +174,31 @@ fn is_new(answers: &[Answer], index: usize) -> bool {
     }
 }
 
-/// Two sets of `a` and `b`, at these places.
-fn add_sets(alloc: Global, group: &mut Vec<Task>, first: u32) -> Result<(), AllocError> {
-    add_set(alloc, group, first, b"a", b'1')?;
-    add_set(alloc, group, first.wrapping_add(1), b"b", b'1')
-}
-
-/// Two readers of `a` and `b` behind two other keys, in two orders, and two writers.
-fn add_crossing(alloc: Global, group: &mut Vec<Task>) -> Result<(), AllocError> {
-    add_get(alloc, group, 0, b"xyab")?;
-    add_get(alloc, group, 1, b"xyba")?;
-    add_sets(alloc, group, 2)
-}
-
-/// Whether `a` and `b` are set as on the plain store.
-fn are_set<R: Threads + Wait + Sync>(
-    rt: &R,
-    alloc: Global,
-    both: &mut Both,
-) -> Result<bool, Fault> {
-    let mut group = Vec::new(alloc);
-    add_sets(alloc, &mut group, 0)?;
-    let (_, same) = both.is_replayed(rt, alloc, &group, base_of(0), 1)?;
-    Ok(same)
-}
-
-/// Whether the first reader saw the new `a` and the old `b`, and the second the new `b` and the old `a`.
+/// Whether the first of two readers among four saw the new `a` and the old `b`, and the second the new
+/// `b` and the old `a`.
 fn cross(ran: &[Ran]) -> bool {
     match ran {
         [one, two, _, _] => {
             let (one, two) = (one.answers(), two.answers());
             is_new(one, 2) && !is_new(one, 3) && is_new(two, 2) && !is_new(two, 3)
         }
-        _ => true,
+        _ => false,
     }
-}
-
-/// Whether two readers that cross two writers never saw one write each in different orders.
-fn readers_agree<R: Threads + Wait + Sync>(
-    rt: &R,
-    alloc: Global,
-    both: &mut Both,
-) -> Result<bool, Fault> {
-    let mut group = Vec::new(alloc);
-    add_crossing(alloc, &mut group)?;
-    let (ran, same) = both.is_replayed(rt, alloc, &group, base_of(1), 4)?;
-    Ok(same && !cross(&ran))
-}
-
-fn set_and_read<R: Threads + Wait + Sync>(rt: &R, alloc: Global) -> Result<bool, Fault> {
-    let mut both = Both::new(alloc)?;
-    let set = are_set(rt, alloc, &mut both) == Ok(true);
-    Ok(set && readers_agree(rt, alloc, &mut both) == Ok(true))
-}
-
-#[test]
-fn readers_never_cross(rt: HostRuntime) -> Result<(), Fail> {
-    for _ in 0..500u32 {
-        assert!(rt; set_and_read(&rt, rt.alloc()) == Ok(true));
-    }
-    Ok(())
 }
 
 /// 64 requests: each other one gets a key of its own and then a shared one, the others count one up.
 fn add_mixed(alloc: Global, group: &mut Vec<Task>) -> Result<(), AllocError> {
     for place in 0..32u32 {
+        let own = b'A' + place as u8;
         let shared = b'0' + (place % 8) as u8;
-        add_get(alloc, group, 2 * place, &[b'A' + place as u8, shared])?;
-        add_incr(alloc, group, 2 * place + 1, &[shared])?;
+        add(
+            alloc,
+            group,
+            2 * place,
+            &[(Does::Get, &[own]), (Does::Get, &[shared])],
+        )?;
+        add(alloc, group, 2 * place + 1, &[(Does::Incr, &[shared])])?;
     }
-    Ok(())
-}
-
-/// Shared keys that count from 0.
-fn add_counters(alloc: Global, group: &mut Vec<Task>) -> Result<(), AllocError> {
-    for place in 0..8u32 {
-        add_set(alloc, group, place, &[b'0' + place as u8], b'0')?;
-    }
-    Ok(())
-}
-
-/// Whether the shared keys are set as on the plain store.
-fn are_counters_set<R: Threads + Wait + Sync>(
-    rt: &R,
-    alloc: Global,
-    both: &mut Both,
-) -> Result<bool, Fault> {
-    let mut group = Vec::new(alloc);
-    add_counters(alloc, &mut group)?;
-    let (_, same) = both.is_replayed(rt, alloc, &group, base_of(0), 16)?;
-    Ok(same)
-}
-
-/// Whether each of so many rounds of the group is replayed.
-fn rounds_agree<R: Threads + Wait + Sync>(
-    rt: &R,
-    alloc: Global,
-    both: &mut Both,
-    group: &Vec<Task>,
-    rounds: u64,
-) -> Result<bool, Fault> {
-    let mut all = true;
-    for number in 0..rounds {
-        let (_, same) = both.is_replayed(rt, alloc, group, base_of(number), 16)?;
-        all = all && same;
-    }
-    Ok(all)
-}
-
-fn mixed_rounds_agree<R: Threads + Wait + Sync>(
-    rt: &R,
-    alloc: Global,
-    both: &mut Both,
-    rounds: u64,
-) -> Result<bool, Fault> {
-    let mut group = Vec::new(alloc);
-    add_mixed(alloc, &mut group)?;
-    rounds_agree(rt, alloc, both, &group, rounds)
-}
-
-/// Whether each of so many rounds over one state is replayed.
-fn count_and_read<R: Threads + Wait + Sync>(
-    rt: &R,
-    alloc: Global,
-    rounds: u64,
-) -> Result<bool, Fault> {
-    let mut both = Both::new(alloc)?;
-    let set = are_counters_set(rt, alloc, &mut both) == Ok(true);
-    Ok(set && mixed_rounds_agree(rt, alloc, &mut both, rounds) == Ok(true))
-}
-
-#[test]
-fn orders_of_many_rounds_replay(rt: HostRuntime) -> Result<(), Fail> {
-    assert!(rt; count_and_read(&rt, rt.alloc(), 1000) == Ok(true));
     Ok(())
 }
 
@@ -320,63 +215,194 @@ fn add_touching(
     words: &mut Lcg64Xsh32,
 ) -> Result<(), AllocError> {
     for place in 0..32u32 {
-        add_gats(alloc, group, 2 * place, shared_key(words))?;
-        add_incr(alloc, group, 2 * place + 1, &[shared_key(words)])?;
+        let own = b'0' + 2 * place as u8;
+        let touches: [(Does, &[u8]); 3] = [
+            (Does::Touch, &[b'x', own]),
+            (Does::Touch, &[b'y', own]),
+            (Does::Touch, &[shared_key(words)]),
+        ];
+        add(alloc, group, 2 * place, &touches)?;
+        add(
+            alloc,
+            group,
+            2 * place + 1,
+            &[(Does::Incr, &[shared_key(words)])],
+        )?;
     }
     Ok(())
 }
 
-/// Whether a round of such requests is replayed.
-fn touching_agrees<R: Threads + Wait + Sync>(
-    rt: &R,
-    alloc: Global,
-    both: &mut Both,
-    words: &mut Lcg64Xsh32,
-    number: u64,
-) -> Result<bool, Fault> {
-    let mut group = Vec::new(alloc);
-    add_touching(alloc, &mut group, words)?;
-    let (_, same) = both.is_replayed(rt, alloc, &group, base_of(number), 16)?;
-    Ok(same)
+/// The steps of requests.
+type Asked = &'static [&'static [(Does, &'static [u8])]];
+
+/// The requests of a round.
+enum Group {
+    These(Asked),
+    Mixed,
+    Touching,
 }
 
-fn touching_rounds_agree<R: Threads + Wait + Sync>(
+/// Whether a round of such requests is replayed.
+fn is_round_replayed<R: Threads + Wait + Sync>(
     rt: &R,
     alloc: Global,
     both: &mut Both,
-    rounds: u64,
+    group: &Group,
+    words: &mut Lcg64Xsh32,
+    number: u64,
+    workers: usize,
+) -> Result<bool, Fault> {
+    let mut tasks = Vec::new(alloc);
+    match group {
+        Group::These(asked) => add_all(alloc, &mut tasks, 0, *asked)?,
+        Group::Mixed => add_mixed(alloc, &mut tasks)?,
+        Group::Touching => add_touching(alloc, &mut tasks, words)?,
+    }
+    is_replayed(rt, alloc, both, &tasks, base_of(number), workers)
+}
+
+/// Plays of a first round of number 0, and of others over the same state.
+struct Row {
+    name: &'static str,
+    plays: u32,
+    first: Group,
+    first_workers: usize,
+    then: Group,
+    numbers: (u64, u64),
+    workers: usize,
+}
+
+const SETS: Asked = &[&[(Does::Set(b'1'), b"a")], &[(Does::Set(b'1'), b"b")]];
+
+/// Shared keys that count from 0.
+const COUNTERS: Asked = &[
+    &[(Does::Set(b'0'), b"0")],
+    &[(Does::Set(b'0'), b"1")],
+    &[(Does::Set(b'0'), b"2")],
+    &[(Does::Set(b'0'), b"3")],
+    &[(Does::Set(b'0'), b"4")],
+    &[(Does::Set(b'0'), b"5")],
+    &[(Does::Set(b'0'), b"6")],
+    &[(Does::Set(b'0'), b"7")],
+];
+
+/// Two readers of `a` and `b` behind two other keys, in two orders, and two writers.
+const CROSSING: Asked = &[
+    &[
+        (Does::Get, b"x"),
+        (Does::Get, b"y"),
+        (Does::Get, b"a"),
+        (Does::Get, b"b"),
+    ],
+    &[
+        (Does::Get, b"x"),
+        (Does::Get, b"y"),
+        (Does::Get, b"b"),
+        (Does::Get, b"a"),
+    ],
+    &[(Does::Set(b'1'), b"a")],
+    &[(Does::Set(b'1'), b"b")],
+];
+
+const ROWS: [Row; 3] = [
+    Row {
+        name: "readers_never_cross",
+        plays: 500,
+        first: Group::These(SETS),
+        first_workers: 1,
+        then: Group::These(CROSSING),
+        numbers: (1, 2),
+        workers: 4,
+    },
+    Row {
+        name: "orders_of_many_rounds_replay",
+        plays: 1,
+        first: Group::These(COUNTERS),
+        first_workers: 16,
+        then: Group::Mixed,
+        numbers: (0, 1000),
+        workers: 16,
+    },
+    Row {
+        name: "orders_of_touching_rounds_replay",
+        plays: 1,
+        first: Group::These(COUNTERS),
+        first_workers: 16,
+        then: Group::Touching,
+        numbers: (0, 1000),
+        workers: 16,
+    },
+];
+
+/// Whether the rounds after the first one are replayed.
+fn are_replayed<R: Threads + Wait + Sync>(
+    rt: &R,
+    alloc: Global,
+    both: &mut Both,
+    row: &Row,
 ) -> Result<bool, Fault> {
     let mut words = Lcg64Xsh32::seed_from_u64(64);
-    let mut all = true;
-    for number in 0..rounds {
-        all = all && touching_agrees(rt, alloc, both, &mut words, number)?;
+    let mut all = is_round_replayed(
+        rt,
+        alloc,
+        both,
+        &row.first,
+        &mut words,
+        0,
+        row.first_workers,
+    )?;
+    for number in row.numbers.0..row.numbers.1 {
+        all = all
+            && is_round_replayed(rt, alloc, both, &row.then, &mut words, number, row.workers)?;
     }
     Ok(all)
 }
 
-/// Whether each of so many rounds over one state is replayed.
-fn count_and_touch<R: Threads + Wait + Sync>(
+fn is_play_replayed<R: Threads + Wait + Sync>(
     rt: &R,
     alloc: Global,
-    rounds: u64,
+    row: &Row,
 ) -> Result<bool, Fault> {
-    let mut both = Both::new(alloc)?;
-    let set = are_counters_set(rt, alloc, &mut both) == Ok(true);
-    Ok(set && touching_rounds_agree(rt, alloc, &mut both, rounds) == Ok(true))
+    let mut both = Both {
+        pages: Pages::new(alloc)?,
+        plain: PlainStore::new(alloc),
+    };
+    are_replayed(rt, alloc, &mut both, row)
+}
+
+/// How many plays of the row are replayed.
+fn replayed<R: Threads + Wait + Sync>(rt: &R, alloc: Global, row: &Row) -> Result<u32, Fault> {
+    let mut count = 0u32;
+    for _ in 0..row.plays {
+        count = count.saturating_add(u32::from(is_play_replayed(rt, alloc, row)?));
+    }
+    Ok(count)
 }
 
 #[test]
-fn orders_of_touching_rounds_replay(rt: HostRuntime) -> Result<(), Fail> {
-    assert!(rt; count_and_touch(&rt, rt.alloc(), 1000) == Ok(true));
+fn orders_of_rounds_replay(rt: HostRuntime) -> Result<(), Fail> {
+    for row in &ROWS {
+        assert_eq!(rt;
+            replayed(&rt, rt.alloc(), row),
+            Ok(row.plays),
+            "{}",
+            row.name
+        );
+    }
+    Ok(())
+}
+
+fn write(alloc: Global, pages: &mut Pages, key: &[u8]) -> Result<(), AllocError> {
+    let step = step(alloc, Does::Set(b'1'), key)?;
+    apply(alloc, pages, &step, base_of(1))?;
     Ok(())
 }
 
 /// Writes each of the 256 pages: those from 128 on by keys of one byte, and the others by keys of two.
 fn write_each(alloc: Global, pages: &mut Pages) -> Result<(), AllocError> {
-    for more in 0..128u8 {
-        let byte = 128 + more;
-        apply(alloc, pages, &set(alloc, &[byte], b'1')?, base_of(1))?;
-        apply(alloc, pages, &set(alloc, &[128, byte], b'1')?, base_of(1))?;
+    for byte in 128..=255u8 {
+        write(alloc, pages, &[byte])?;
+        write(alloc, pages, &[128, byte])?;
     }
     Ok(())
 }
@@ -418,7 +444,7 @@ fn digest_in(form: Form, sessions: &Sessions) -> [u8; 32] {
     }
 }
 
-/// Whether that many workers make the digests that one thread makes of these pages and sessions.
+/// Whether the workers make the digests that one thread makes of these pages and sessions.
 fn make_the_same<R: Threads + Sync>(
     rt: &R,
     alloc: Global,
@@ -428,94 +454,77 @@ fn make_the_same<R: Threads + Sync>(
     sessions: &HashedSessions,
     workers: Workers,
 ) -> bool {
-    for page in alone.iter_mut() {
-        page.refresh();
-    }
     let digested = digest_all(rt, alloc, pages, form, sessions, workers);
-    let same = pages
-        .iter()
-        .zip(&*alone)
-        .all(|(a, b)| a.digest() == b.digest());
-    pages.len() == 256 && same && *digested.digest() == digest_in(form, sessions.sessions())
+    let mut same = 0u32;
+    for (page, other) in pages.iter().zip(alone.iter_mut()) {
+        other.refresh();
+        same = same.saturating_add(u32::from(page.digest() == other.digest()));
+    }
+    pages.len() == 256 && same == 256 && *digested.digest() == digest_in(form, sessions.sessions())
 }
 
-fn make_the_same_of<R: Threads + Sync>(
-    rt: &R,
-    alloc: Global,
-    form: Form,
-    sessions: &HashedSessions,
-    workers: Workers,
-) -> Result<bool, AllocError> {
-    let mut pages = written_pages(alloc)?;
-    let mut alone = pages.clone()?;
-    Ok(make_the_same(
-        rt,
-        alloc,
-        pages.as_mut_slice(),
-        alone.as_mut_slice(),
-        form,
-        sessions,
-        workers,
-    ))
-}
-
-/// The same of the sessions of the clients below this one, in states of both forms of today.
-fn workers_make_the_same<R: Threads + Sync>(
+/// The same of the sessions of the clients below this one.
+fn make_the_same_below<R: Threads + Sync>(
     rt: &R,
     alloc: Global,
     end: u16,
-    workers: Workers,
-) -> Result<bool, AllocError> {
+    form: Form,
+    workers: usize,
+) -> Result<bool, Fault> {
+    let Some(workers) = Workers::new(workers) else {
+        return Err(Fault::Unfit);
+    };
     let sessions = HashedSessions::new(sessions_below(alloc, end)?);
-    Ok(
-        make_the_same_of(rt, alloc, Form::Current, &sessions, workers)?
-            && make_the_same_of(rt, alloc, Form::Tree, &sessions, workers)?,
-    )
+    let mut pages = written_pages(alloc)?;
+    let mut alone = pages.clone()?;
+    let (all, alone) = (pages.as_mut_slice(), alone.as_mut_slice());
+    Ok(make_the_same(rt, alloc, all, alone, form, &sessions, workers))
 }
+
+/// The end of the clients, and how many workers make the digests: in states of both forms of today. From
+/// 1,024 clients on the digest of the sessions is made by a thread of its own.
+const DIGESTS: [(u16, usize); 6] = [(3, 1), (3, 3), (3, 16), (1025, 1), (1025, 2), (1025, 16)];
 
 #[test]
 fn workers_make_the_digests_of_one_thread(rt: HostRuntime) -> Result<(), Fail> {
-    for count in [1usize, 3, 16] {
-        let workers = Workers::new(count).unwrap();
-        assert!(rt; workers_make_the_same(&rt, rt.alloc(), 3, workers)?);
-    }
-    Ok(())
-}
-
-/// From 1,024 clients on the digest of the sessions is made by a thread of its own.
-#[test]
-fn a_worker_makes_the_digest_of_many_sessions(rt: HostRuntime) -> Result<(), Fail> {
-    for count in [1usize, 2, 16] {
-        let workers = Workers::new(count).unwrap();
-        assert!(rt; workers_make_the_same(&rt, rt.alloc(), 1025, workers)?);
+    for (end, workers) in DIGESTS {
+        let current = make_the_same_below(&rt, rt.alloc(), end, Form::Current, workers);
+        let tree = make_the_same_below(&rt, rt.alloc(), end, Form::Tree, workers);
+        assert_eq!(rt;
+            (current, tree),
+            (Ok(true), Ok(true)),
+            "{} {}",
+            end,
+            workers
+        );
     }
     Ok(())
 }
 
 #[test]
 fn there_are_1_to_16_workers(rt: HostRuntime) -> Result<(), Fail> {
-    assert!(rt; Workers::new(0).is_none() && Workers::new(1).is_some());
-    assert!(rt; Workers::new(16).is_some() && Workers::new(17).is_none());
+    for (count, is_fit) in [(0usize, false), (1, true), (16, true), (17, false)] {
+        assert_eq!(rt; Workers::new(count).is_some(), is_fit, "{}", count);
+    }
     Ok(())
 }
 
 /// Two of these four requests have place 1.
-fn add_unfit(alloc: Global, group: &mut Vec<Task>) -> Result<(), AllocError> {
-    add_sets(alloc, group, 0)?;
-    add_sets(alloc, group, 1)
-}
-
-fn run_unfit<R: Threads + Wait + Sync>(rt: &R, alloc: Global) -> Result<(), Fault> {
+fn run_unfit<R: Threads + Wait + Sync>(
+    rt: &R,
+    alloc: Global,
+    workers: Workers,
+) -> Result<(), Fault> {
     let mut group = Vec::new(alloc);
-    add_unfit(alloc, &mut group)?;
-    let two = Workers::new(2).unwrap();
+    add_all(alloc, &mut group, 0, SETS)?;
+    add_all(alloc, &mut group, 1, SETS)?;
     run(
         rt,
         alloc,
         Pages::new(alloc)?,
         group,
         base_of(0),
-        two,
+        workers,
         &NoGate,
     )?;
     Ok(())
@@ -523,6 +532,7 @@ fn run_unfit<R: Threads + Wait + Sync>(rt: &R, alloc: Global) -> Result<(), Faul
 
 #[test]
 fn unfit_groups_are_refused(rt: HostRuntime) -> Result<(), Fail> {
-    assert!(rt; run_unfit(&rt, rt.alloc()) == Err(Fault::Unfit));
+    let two = Workers::new(2).unwrap();
+    assert_eq!(rt; run_unfit(&rt, rt.alloc(), two), Err(Fault::Unfit));
     Ok(())
 }

@@ -3,25 +3,13 @@
 use super::*;
 use rollback::{Chain, MOST_MEMBERS};
 use states::Version;
+use std::test::Fail;
 
-/// The batch of this number: one `set` of `a`, by the client of the same number.
-fn next_batch(alloc: Global, number: u8) -> Result<Vec<u8>, AllocError> {
-    let mut bytes = Vec::new(alloc);
-    bytes.extend_from_slice(&[
-        4, 0, 0, 0, 0, 0, 0, 0, 1, 0, 0, 0, 0, 0, 0, 0, number, 0, 0, 3, 232, 0, 0, 0, 1,
-    ])?;
-    add_set(&mut bytes, number, b'a')?;
-    Ok(bytes)
-}
-
-fn first_chain(alloc: Global) -> Result<Chain, AllocError> {
-    let (chain, _) = Chain::new(alloc, Committed::first(alloc)?)?;
-    Ok(chain)
-}
-
-/// Executes the batch of this number over a base.
+/// Executes the batch of this number over a base: one `set` of `a`, by the client of the same number.
 fn execute_next(alloc: Global, base: &Base, number: u8) -> Result<Tentative, Fault> {
-    let bytes = next_batch(alloc, number)?;
+    let mut bytes = Vec::new(alloc);
+    add_batch_head(&mut bytes, number, 1)?;
+    add_set(&mut bytes, number, b'a')?;
     run(alloc, base, bytes.as_slice(), false)
 }
 
@@ -42,195 +30,261 @@ fn push_next(alloc: Global, chain: &mut Chain, number: u8) -> Result<(), Fault> 
     push(chain, tentative)
 }
 
-fn push_most(alloc: Global, chain: &mut Chain) -> Result<(), Fault> {
-    for number in 1..5u8 {
-        push_next(alloc, chain, number)?;
-    }
-    Ok(())
+/// Pushes another member over the tip before the one that batch 1 makes of it.
+fn push_both(alloc: Global, chain: &mut Chain) -> Result<(), Fault> {
+    let other = execute_next(alloc, chain.tip(), 1)?;
+    let pushed = push_next(alloc, chain, 1);
+    let refused = push(chain, other);
+    pushed?;
+    refused
 }
 
-/// The decree that commits the member at the index.
-fn commit_of(chain: &Chain, index: usize) -> Decree {
-    match chain.members().get(index) {
+/// Commits by the decree of the member at the index, or by a rollback if there is none; tells how many
+/// replies came with what was committed.
+fn commit_by(chain: &mut Chain, index: usize) -> Option<usize> {
+    let decree = match chain.members().get(index) {
         None => Decree::Rollback,
         Some(member) => Decree::Commit {
             n: member.number(),
             token: member.token(),
         },
-    }
-}
-
-/// Commits the first member, and tells how many replies came with it.
-fn commit_next(chain: &mut Chain) -> Option<usize> {
-    let decree = commit_of(chain, 0);
+    };
     let replies = chain.commit_first(&decree)?;
     Some(replies.len())
 }
 
-/// Whether four members are taken, and a fifth one waits until one is committed.
-fn takes_four(alloc: Global, chain: &mut Chain) -> Result<bool, Fault> {
-    push_most(alloc, chain)?;
-    let full = matches!(push_next(alloc, chain, 5), Err(Fault::Full));
-    let waits = chain.len() == MOST_MEMBERS && chain.tip().number() == 4;
-    let committed = commit_next(chain) == Some(1) && chain.committed().number() == 1;
-    push_next(alloc, chain, 5)?;
-    Ok(full && waits && committed && chain.tip().number() == 5)
-}
-
-#[test]
-fn a_chain_takes_four_members(rt: HostRuntime) -> Result<(), Fail> {
-    let mut chain = first_chain(rt.alloc())?;
-    let taken = takes_four(rt.alloc(), &mut chain);
-    drop(chain.end());
-    assert!(rt; taken?);
-    Ok(())
-}
-
-/// Whether members are committed in their order, and by no decree of another one.
-fn commits_in_order(alloc: Global, chain: &mut Chain) -> Result<bool, Fault> {
-    push_most(alloc, chain)?;
-    let second = commit_of(chain, 1);
-    let early = chain.commit_first(&second).is_none() && chain.len() == MOST_MEMBERS;
-    let mut in_order = early;
-    for number in 1..5u64 {
-        let given = commit_next(chain);
-        in_order = in_order && given == Some(1) && chain.committed().number() == number;
-    }
-    Ok(in_order && chain.is_empty() && commit_next(chain).is_none())
-}
-
-#[test]
-fn members_are_committed_in_order(rt: HostRuntime) -> Result<(), Fail> {
-    let mut chain = first_chain(rt.alloc())?;
-    let committed = commits_in_order(rt.alloc(), &mut chain);
-    let last = chain.end();
-    assert!(rt; committed?);
-    assert!(rt; last.state().number() == 4 && last.replies().is_empty());
-    Ok(())
-}
-
-/// Whether a rollback commits nothing, and the members that are undone leave the committed state.
-fn rolls_back(alloc: Global, chain: &mut Chain) -> Result<bool, Fault> {
-    push_most(alloc, chain)?;
-    let kept = chain.commit_first(&Decree::Rollback).is_none() && chain.len() == MOST_MEMBERS;
-    chain.undo_all();
-    push_next(alloc, chain, 1)?;
-    Ok(kept && chain.len() == 1 && chain.committed().number() == 0)
-}
-
-#[test]
-fn a_rollback_undoes_all_members(rt: HostRuntime) -> Result<(), Fail> {
-    let mut chain = first_chain(rt.alloc())?;
-    let undone = rolls_back(rt.alloc(), &mut chain);
-    drop(chain.end());
-    assert!(rt; undone?);
-    Ok(())
-}
-
-/// Whether a tentative state over another one than the tip is refused.
-fn refuses_another(alloc: Global, chain: &mut Chain) -> Result<bool, Fault> {
-    let other = execute_next(alloc, chain.tip(), 1)?;
-    let pushed = push_next(alloc, chain, 1);
-    let refused = matches!(push(chain, other), Err(Fault::Unfit));
-    pushed?;
-    Ok(refused && chain.len() == 1)
-}
-
-#[test]
-fn a_member_over_another_state_is_refused(rt: HostRuntime) -> Result<(), Fail> {
-    let mut chain = first_chain(rt.alloc())?;
-    let refused = refuses_another(rt.alloc(), &mut chain);
-    drop(chain.end());
-    assert!(rt; refused?);
-    Ok(())
-}
-
+/// The record of a chain, which is at its end then.
 fn record_of(alloc: Global, chain: &Chain) -> Result<Vec<u8>, AllocError> {
     let mut record = Vec::new(alloc);
     chain.saved(alloc)?.put(alloc, &mut record)?;
     Ok(record)
 }
 
-/// Whether the record of a chain is that of its committed state, a count, and those of its members.
-fn is_in_parts(alloc: Global, chain: &mut Chain) -> Result<bool, Fault> {
-    let first = Committed::first(alloc)?;
-    let mut parts = Vec::new(alloc);
-    first.write(&mut parts)?;
-    parts.push(1)?;
-    push_next(alloc, chain, 1)?;
-    if let Some(member) = chain.members().first() {
-        member.write(&mut parts)?;
+/// The record of the chain of this version at the front of the bytes, and how many bytes stand behind it;
+/// nothing where there is no such chain.
+pub fn taken_chain(
+    alloc: Global,
+    version: Version,
+    bytes: &[u8],
+) -> Result<Option<(Vec<u8>, usize)>, Fault> {
+    match Chain::take(alloc, version, bytes) {
+        Ok((chain, rest)) => {
+            let record = record_of(alloc, &chain);
+            drop(chain.end());
+            Ok(Some((record?, rest.len())))
+        }
+        Err(Fault::BadRecord) => Ok(None),
+        Err(fault) => Err(fault),
     }
+}
+
+fn add_first_state(alloc: Global, parts: &mut Vec<u8>) -> Result<(), AllocError> {
+    let first = Committed::first(alloc)?;
+    first.write(parts)
+}
+
+/// The record of the first state, a count, and the record of the chain's one member.
+fn add_parts(alloc: Global, parts: &mut Vec<u8>, chain: &Chain) -> Result<(), AllocError> {
+    add_first_state(alloc, parts)?;
+    parts.push(1)?;
+    match chain.members() {
+        [member] => member.write(parts),
+        _ => Ok(()),
+    }
+}
+
+/// Whether they are the record of the chain.
+fn is_in_parts(alloc: Global, chain: &Chain) -> Result<bool, Fault> {
+    let mut parts = Vec::new(alloc);
+    add_parts(alloc, &mut parts, chain)?;
     Ok(record_of(alloc, chain)? == parts)
 }
 
-#[test]
-fn the_record_of_a_chain(rt: HostRuntime) -> Result<(), Fail> {
-    let mut chain = first_chain(rt.alloc())?;
-    let in_parts = is_in_parts(rt.alloc(), &mut chain);
-    drop(chain.end());
-    assert!(rt; in_parts?);
-    Ok(())
-}
-
-/// Whether a chain of this record is at the front of the bytes, and leaves so many of them.
-fn reads_back(alloc: Global, bytes: &[u8], record: &[u8], left: usize) -> Result<bool, Fault> {
-    let (chain, rest) = Chain::take(alloc, Version::Second, bytes)?;
-    let again = record_of(alloc, &chain);
-    drop(chain.end());
-    Ok(again?.as_slice() == record && rest.len() == left)
-}
-
-/// Whether no chain has a record at the front of the bytes.
-fn refuses(alloc: Global, bytes: &[u8]) -> bool {
-    match Chain::take(alloc, Version::Second, bytes) {
-        Ok((chain, _)) => {
-            drop(chain.end());
-            false
-        }
-        Err(fault) => fault == Fault::BadRecord,
-    }
-}
-
-/// Whether no chain is read from so many bytes of the record.
-fn refuses_front(alloc: Global, record: &[u8], len: usize) -> bool {
-    match record.get(..len) {
-        Some(front) => refuses(alloc, front),
-        None => false,
+/// Whether the chain is read from the bytes, and leaves so many of them.
+fn is_taken(alloc: Global, bytes: &[u8], record: &[u8], left: usize) -> Result<bool, Fault> {
+    match taken_chain(alloc, Version::Second, bytes)? {
+        Some((again, rest)) => Ok(again.as_slice() == record && rest == left),
+        None => Ok(false),
     }
 }
 
 /// How many proper fronts of a record are tried, beside the one that lacks its last byte.
 const FRONTS: usize = 24;
 
-/// Whether a chain over a later state is read back, with and without a rest, and from none of the
-/// fronts of its record that are tried.
-fn is_read_back(alloc: Global, chain: &mut Chain) -> Result<(bool, bool, bool), Fault> {
-    push_most(alloc, chain)?;
-    commit_next(chain);
-    let record = record_of(alloc, chain)?;
-    let mut longer = record.clone()?;
-    longer.extend_from_slice(b"rest")?;
-    let whole = reads_back(alloc, record.as_slice(), record.as_slice(), 0)?;
-    let front = reads_back(alloc, longer.as_slice(), record.as_slice(), 4)?;
-    let mut refused = refuses_front(alloc, record.as_slice(), record.len().wrapping_sub(1));
-    for part in 0..FRONTS {
-        let len = record.len().wrapping_mul(part) / FRONTS;
-        refused = refused && refuses_front(alloc, record.as_slice(), len);
+/// Whether no chain is read from the fronts of the record that are tried.
+fn refuses_fronts(alloc: Global, record: &[u8]) -> Result<bool, Fault> {
+    let mut refused = true;
+    for part in 0..=FRONTS {
+        let len = (record.len().wrapping_mul(part) / FRONTS).min(record.len().saturating_sub(1));
+        let front = record.get(..len).unwrap_or(record);
+        refused = refused && taken_chain(alloc, Version::Second, front)?.is_none();
     }
-    Ok((whole, front, refused))
+    Ok(refused)
+}
+
+/// Whether the chain is read back from its record, with and without a rest, and from no front of it.
+fn is_read_back(alloc: Global, chain: &Chain) -> Result<bool, Fault> {
+    let mut record = record_of(alloc, chain)?;
+    let len = record.len();
+    record.extend_from_slice(b"rest")?;
+    let (whole, longer) = (record.get(..len).unwrap_or(&[]), record.as_slice());
+    Ok(
+        is_taken(alloc, whole, whole, 0)?
+            && is_taken(alloc, longer, whole, 4)?
+            && refuses_fronts(alloc, whole)?,
+    )
+}
+
+/// A step of a row, and what comes of it.
+enum Step {
+    /// The batch of this number is executed over the tip, and what it makes is pushed.
+    Push(u8, Result<(), Fault>),
+    /// Another member is executed over the tip before, and then pushed.
+    PushBoth(Result<(), Fault>),
+    /// The decree of the member at this index commits: so many replies come with it.
+    Commit(usize, Option<usize>),
+    UndoAll,
+    /// It has so many members; the numbers of its tip and of its committed state.
+    Is(usize, u64, u64),
+    /// Its record is that of its parts.
+    IsInParts,
+    IsReadBack,
+}
+
+/// There is no member at this index, so the decree is a rollback.
+const ROLLBACK: Step = Step::Commit(9, None);
+
+/// Steps of a chain over the first state, and the number of the state in which it ends.
+const ROWS: [(&str, &[Step], u64); 6] = [
+    (
+        "a_chain_takes_four_members",
+        &[
+            Step::Push(1, Ok(())),
+            Step::Push(2, Ok(())),
+            Step::Push(3, Ok(())),
+            Step::Push(4, Ok(())),
+            Step::Push(5, Err(Fault::Full)),
+            Step::Is(MOST_MEMBERS, 4, 0),
+            Step::Commit(0, Some(1)),
+            Step::Is(3, 4, 1),
+            Step::Push(5, Ok(())),
+            Step::Is(MOST_MEMBERS, 5, 1),
+        ],
+        1,
+    ),
+    (
+        "members_are_committed_in_order",
+        &[
+            Step::Push(1, Ok(())),
+            Step::Push(2, Ok(())),
+            Step::Push(3, Ok(())),
+            Step::Push(4, Ok(())),
+            Step::Commit(1, None),
+            Step::Is(MOST_MEMBERS, 4, 0),
+            Step::Commit(0, Some(1)),
+            Step::Is(3, 4, 1),
+            Step::Commit(0, Some(1)),
+            Step::Is(2, 4, 2),
+            Step::Commit(0, Some(1)),
+            Step::Is(1, 4, 3),
+            Step::Commit(0, Some(1)),
+            Step::Is(0, 4, 4),
+            Step::Commit(0, None),
+        ],
+        4,
+    ),
+    (
+        "a_rollback_undoes_all_members",
+        &[
+            Step::Push(1, Ok(())),
+            Step::Push(2, Ok(())),
+            Step::Push(3, Ok(())),
+            Step::Push(4, Ok(())),
+            ROLLBACK,
+            Step::Is(MOST_MEMBERS, 4, 0),
+            Step::UndoAll,
+            Step::Push(1, Ok(())),
+            Step::Is(1, 1, 0),
+        ],
+        0,
+    ),
+    (
+        "a_member_over_another_state_is_refused",
+        &[Step::PushBoth(Err(Fault::Unfit)), Step::Is(1, 1, 0)],
+        0,
+    ),
+    (
+        "the_record_of_a_chain",
+        &[Step::Push(1, Ok(())), Step::Is(1, 1, 0), Step::IsInParts],
+        0,
+    ),
+    (
+        "a_chain_is_read_back",
+        &[
+            Step::Push(1, Ok(())),
+            Step::Push(2, Ok(())),
+            Step::Push(3, Ok(())),
+            Step::Push(4, Ok(())),
+            Step::Commit(0, Some(1)),
+            Step::Is(3, 4, 1),
+            Step::IsReadBack,
+        ],
+        1,
+    ),
+];
+
+fn is(chain: &Chain, len: usize, tip: u64, committed: u64) -> bool {
+    (chain.len(), chain.is_empty()) == (len, len == 0)
+        && (chain.tip().number(), chain.committed().number()) == (tip, committed)
+}
+
+/// Does the step: whether what comes of it is right.
+fn does(alloc: Global, chain: &mut Chain, step: &Step) -> Result<bool, Fault> {
+    match step {
+        Step::Push(number, given) => Ok(push_next(alloc, chain, *number) == *given),
+        Step::PushBoth(given) => Ok(push_both(alloc, chain) == *given),
+        Step::Commit(index, replies) => Ok(commit_by(chain, *index) == *replies),
+        Step::UndoAll => {
+            chain.undo_all();
+            Ok(true)
+        }
+        Step::Is(len, tip, committed) => Ok(is(chain, *len, *tip, *committed)),
+        Step::IsInParts => is_in_parts(alloc, chain),
+        Step::IsReadBack => is_read_back(alloc, chain),
+    }
+}
+
+/// How many of the steps are right, one after the other.
+fn done(alloc: Global, chain: &mut Chain, steps: &[Step]) -> Result<usize, Fault> {
+    for (place, step) in steps.iter().enumerate() {
+        if !does(alloc, chain, step)? {
+            return Ok(place);
+        }
+    }
+    Ok(steps.len())
+}
+
+/// How many steps of a chain over the first state are right, and the number of the state in which it
+/// ends; no replies are left there.
+fn played(alloc: Global, steps: &[Step]) -> Result<(usize, u64), Fault> {
+    let (mut chain, _) = Chain::new(alloc, Committed::first(alloc)?)?;
+    let done = done(alloc, &mut chain, steps);
+    let last = chain.end();
+    if !last.replies().is_empty() {
+        return Err(Fault::Unfit);
+    }
+    Ok((done?, last.state().number()))
 }
 
 #[test]
-fn a_chain_is_read_back(rt: HostRuntime) -> Result<(), Fail> {
-    let mut chain = first_chain(rt.alloc())?;
-    let read = is_read_back(rt.alloc(), &mut chain);
-    let members = chain.len();
-    drop(chain.end());
-    let (whole, front, refused) = read?;
-    assert!(rt; members == 3);
-    assert!(rt; whole);
-    assert!(rt; front);
-    assert!(rt; refused);
+fn chains_go_so(rt: HostRuntime) -> Result<(), Fail> {
+    for (name, steps, end) in ROWS {
+        assert_eq!(rt;
+            played(rt.alloc(), steps),
+            Ok((steps.len(), end)),
+            "{}",
+            name
+        );
+    }
     Ok(())
 }

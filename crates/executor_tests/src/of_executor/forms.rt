@@ -16,111 +16,99 @@ const FULL: u32 = 16;
 /// What a client asks.
 #[derive(Clone, Copy)]
 pub enum Asked {
-    /// To set the key of this number, which is due after so many seconds: 0 for never.
+    /// To set the key of this number, which is due after so many seconds: 0 for never. The clients after
+    /// it set the keys after it.
     Set(u32, u8),
     Delete(u32),
     /// To get so many keys, from number 1 on.
     Get(u32),
 }
 
-/// The head of a batch of epoch 1, with so many requests.
-fn add_head(bytes: &mut Vec<u8>, n: u64, moment: u32, count: u32) -> Result<(), AllocError> {
-    bytes.extend_from_slice(&[4, 0, 0, 0, 0, 0, 0, 0, 1])?;
-    bytes.extend_from_slice(&n.to_be_bytes())?;
-    bytes.extend_from_slice(&moment.to_be_bytes())?;
-    bytes.extend_from_slice(&count.to_be_bytes())
-}
-
 /// `k` and four digits.
 pub fn add_key(bytes: &mut Vec<u8>, number: u32) -> Result<(), AllocError> {
-    bytes.extend_from_slice(&[5, b'k'])?;
-    for place in [1000u32, 100, 10, 1] {
-        bytes.push(b'0' + (number / place % 10) as u8)?;
-    }
-    Ok(())
+    bytes.extend_from_slice(&[
+        5,
+        b'k',
+        b'0' + (number / 1000 % 10) as u8,
+        b'0' + (number / 100 % 10) as u8,
+        b'0' + (number / 10 % 10) as u8,
+        b'0' + (number % 10) as u8,
+    ])
 }
 
-fn add_set(bytes: &mut Vec<u8>, number: u32, exptime: u8) -> Result<(), AllocError> {
-    bytes.push(2)?;
-    add_key(bytes, number)?;
-    bytes.extend_from_slice(&[0, 0, 0, 0, 0, 0, 0, exptime, 0, 0, 0, 1, b'5'])
-}
-
-fn add_get(bytes: &mut Vec<u8>, count: u32) -> Result<(), AllocError> {
-    bytes.push(0)?;
-    bytes.extend_from_slice(&count.to_be_bytes())?;
+fn add_keys(bytes: &mut Vec<u8>, count: u32) -> Result<(), AllocError> {
     for number in 0..count {
         add_key(bytes, number.saturating_add(1))?;
     }
     Ok(())
 }
 
-/// A request of a client, of this number.
-fn add_request(bytes: &mut Vec<u8>, client: u8, n: u64, asked: Asked) -> Result<(), AllocError> {
-    bytes.extend_from_slice(&[0, client])?;
-    bytes.extend_from_slice(&n.to_be_bytes())?;
+/// What the client at this place asks.
+fn add_asked(bytes: &mut Vec<u8>, place: u8, asked: &Asked) -> Result<(), AllocError> {
     match asked {
-        Asked::Set(number, exptime) => add_set(bytes, number, exptime),
+        Asked::Set(first, exptime) => {
+            bytes.push(2)?;
+            add_key(bytes, first.wrapping_add(u32::from(place)))?;
+            bytes.extend_from_slice(&[0, 0, 0, 0, 0, 0, 0, *exptime, 0, 0, 0, 1, b'5'])
+        }
         Asked::Delete(number) => {
             bytes.push(8)?;
-            add_key(bytes, number)
+            add_key(bytes, *number)
         }
-        Asked::Get(count) => add_get(bytes, count),
+        Asked::Get(count) => {
+            bytes.push(0)?;
+            bytes.extend_from_slice(&count.to_be_bytes())?;
+            add_keys(bytes, *count)
+        }
     }
 }
 
-/// Batch `n`, from 1 to 16: 64 clients set 64 keys.
-fn full_batch(alloc: Global, n: u32) -> Result<Vec<u8>, AllocError> {
-    let mut bytes = Vec::new(alloc);
-    add_head(&mut bytes, u64::from(n), MOMENT, 64)?;
-    let before = 64u32.wrapping_mul(n).wrapping_sub(64);
-    for place in 0..64u8 {
-        let number = before.wrapping_add(u32::from(place));
-        add_request(&mut bytes, place + 1, u64::from(n), Asked::Set(number, 0))?;
-    }
-    Ok(bytes)
+/// The head of a batch of epoch 1, with so many requests.
+fn add_head(bytes: &mut Vec<u8>, n: u64, moment: u32, count: u8) -> Result<(), AllocError> {
+    bytes.extend_from_slice(&[4, 0, 0, 0, 0, 0, 0, 0, 1])?;
+    bytes.extend_from_slice(&n.to_be_bytes())?;
+    bytes.extend_from_slice(&moment.to_be_bytes())?;
+    bytes.extend_from_slice(&[0, 0, 0, count])
 }
 
-/// Batch `n`: the request of this number of client 1.
-fn one(
-    alloc: Global,
-    n: u64,
+/// The requests of this number of the clients from 1 to 64 at most.
+fn add_requests(
+    bytes: &mut Vec<u8>,
     number: u64,
-    moment: u32,
-    asked: Asked,
-) -> Result<Vec<u8>, AllocError> {
-    let mut bytes = Vec::new(alloc);
-    add_head(&mut bytes, n, moment, 1)?;
-    add_request(&mut bytes, 1, number, asked)?;
-    Ok(bytes)
-}
-
-/// The base that batch `n` of 64 sets makes.
-fn after_full(alloc: Global, base: &Base, n: u32) -> Result<Base, Fault> {
-    let bytes = full_batch(alloc, n)?;
-    let committed = committed(alloc, base, bytes.as_slice(), false)?;
-    Ok(committed.as_base().share()?)
-}
-
-/// The base with 1,024 items.
-fn filled(alloc: Global) -> Result<Base, Fault> {
-    let mut base = Base::first(alloc)?;
-    for n in 1..=FULL {
-        base = after_full(alloc, &base, n)?;
+    asked: &Asked,
+    count: u8,
+) -> Result<(), AllocError> {
+    for place in 0..count.min(64) {
+        bytes.extend_from_slice(&[0, place + 1])?;
+        bytes.extend_from_slice(&number.to_be_bytes())?;
+        add_asked(bytes, place, asked)?;
     }
-    Ok(base)
+    Ok(())
 }
 
-/// What a batch of the request of this number of client 1 makes.
-pub fn after_one(
+/// What a batch makes of the base: the requests of this number of the first clients.
+fn after_batch(
     alloc: Global,
     base: &Base,
     number: u64,
     moment: u32,
-    asked: Asked,
+    asked: &Asked,
+    count: u8,
 ) -> Result<Committed, Fault> {
-    let bytes = one(alloc, base.number().wrapping_add(1), number, moment, asked)?;
-    committed(alloc, base, bytes.as_slice(), false)
+    let mut bytes = Vec::new(alloc);
+    add_head(&mut bytes, base.number().wrapping_add(1), moment, count)?;
+    add_requests(&mut bytes, number, asked, count)?;
+    committed(alloc, base, bytes.as_slice())
+}
+
+/// The state with 1,024 items: in each batch 64 clients set 64 keys.
+fn filled(alloc: Global) -> Result<Committed, Fault> {
+    let mut last = Committed::first(alloc)?;
+    for n in 1..=FULL {
+        let asked = Asked::Set(64u32.wrapping_mul(n).wrapping_sub(64), 0);
+        last = after_batch(alloc, last.as_base(), u64::from(n), MOMENT, &asked, 64)?;
+    }
+    Ok(last)
 }
 
 fn count_items(state: &State) -> u64 {
@@ -131,8 +119,7 @@ fn count_items(state: &State) -> u64 {
     count
 }
 
-/// What one request makes of the state before.
-#[derive(Clone, Copy)]
+/// What one request of client 1 makes of the state before.
 pub struct Row {
     pub moment: u32,
     pub asked: Asked,
@@ -141,12 +128,22 @@ pub struct Row {
     pub token: [u8; 32],
 }
 
-impl Row {
-    pub fn is_of(&self, state: &State) -> bool {
-        state.form() == self.form
-            && count_items(state) == self.items
-            && state.token() == Token(self.token)
+/// The state that the row's request of this number makes of the base; nothing if it is not that of the
+/// row.
+pub fn next_of(
+    alloc: Global,
+    base: &Base,
+    number: u64,
+    row: &Row,
+) -> Result<Option<Committed>, Fault> {
+    let next = after_batch(alloc, base, number, row.moment, &row.asked, 1)?;
+    let state = next.state();
+    if (state.form(), count_items(state), state.token())
+        != (row.form, row.items, Token(row.token))
+    {
+        return Ok(None);
     }
+    Ok(Some(next))
 }
 
 /// A state of more than 1,024 items is followed by one of form 3, whatever the batch makes of them. What
@@ -226,31 +223,28 @@ const FILLED: [u8; 32] = [
     0x35, 0xe7, 0x26, 0xf1, 0x27, 0x08, 0x54, 0xec, 0x32, 0x46, 0x8a, 0xd2, 0x0d, 0xa1, 0xaa, 0xe4,
 ];
 
-/// The place of the first row that does not hold: nothing if there is none.
-fn first_wrong(alloc: Global, filled: Base) -> Result<Option<u64>, Fault> {
-    let mut base = filled;
+/// How many of the rows hold, one after the other.
+fn holding(alloc: Global, filled: Committed) -> Result<u64, Fault> {
+    let mut last = filled;
     let mut place = 0u64;
     for row in &ROWS {
-        place = place.wrapping_add(1);
-        let next = after_one(
-            alloc,
-            &base,
-            u64::from(FULL).wrapping_add(place),
-            row.moment,
-            row.asked,
-        )?;
-        if !row.is_of(next.state()) {
-            return Ok(Some(place));
+        let number = u64::from(FULL).saturating_add(place).saturating_add(1);
+        match next_of(alloc, last.as_base(), number, row)? {
+            None => return Ok(place),
+            Some(next) => last = next,
         }
-        base = next.as_base().share()?;
+        place = place.saturating_add(1);
     }
-    Ok(None)
+    Ok(place)
 }
 
 #[test]
 fn the_form_is_that_of_the_items_when_the_batch_begins(rt: HostRuntime) -> Result<(), Fail> {
-    let base = filled(rt.alloc())?;
-    assert!(rt; base.token() == Token(FILLED));
-    assert!(rt; first_wrong(rt.alloc(), base)?.is_none());
+    let filled = filled(rt.alloc())?;
+    let token = filled.state().token();
+    assert_eq!(rt;
+        (token, holding(rt.alloc(), filled)),
+        (Token(FILLED), Ok(6))
+    );
     Ok(())
 }

@@ -1,15 +1,14 @@
 //! A chain of version 1 whose state has 2,000 items, and the batch after it. Tokens are those that
 //! `scripts/state_tokens` prints.
 
-use super::Base;
-use super::forms::{Asked, MOMENT, Row, add_key, after_one};
-use super::old_bytes::add_zeros;
+use super::forms::{Asked, MOMENT, Row, add_key, next_of};
+use super::old_bytes::{Part, add_parts};
 use proto::Fault;
 use rollback::Chain;
 use states::Version;
 use std::alloc::{AllocError, Global};
 use std::test::Fail;
-use token::{Form, Token};
+use token::Form;
 
 const ITEMS: u32 = 2000;
 
@@ -48,25 +47,24 @@ fn add_page(bytes: &mut Vec<u8>, page: u32) -> Result<(), AllocError> {
 }
 
 /// The head of the state of number 1, and that there are no sessions.
-fn add_front(bytes: &mut Vec<u8>) -> Result<(), AllocError> {
-    bytes.extend_from_slice(&[0, 0, 0, 0, 0, 0, 0, 1])?;
-    add_zeros(bytes, 32)?;
-    bytes.extend_from_slice(&[0, 0, 0, 0, 0, 0, 0, 1])?;
-    bytes.extend_from_slice(&[9; 32])?;
-    bytes.extend_from_slice(&MOMENT.to_be_bytes())?;
-    bytes.extend_from_slice(&OLD_TOKEN)?;
-    bytes.extend_from_slice(&[3, 0, 0, 0, 0])
-}
+const FRONT: &[Part] = &[
+    Part::Bytes(&[0, 0, 0, 0, 0, 0, 0, 1]),
+    Part::Zeros(32),
+    Part::Bytes(&[0, 0, 0, 0, 0, 0, 0, 1]),
+    Part::Bytes(&[9; 32]),
+    Part::Bytes(&[0, 0, 3, 232]),
+    Part::Bytes(&OLD_TOKEN),
+    Part::Bytes(&[3, 0, 0, 0, 0]),
+];
 
 /// The chain of that state, without members.
-fn old_chain(alloc: Global) -> Result<Vec<u8>, AllocError> {
-    let mut bytes = Vec::new(alloc);
-    add_front(&mut bytes)?;
+fn add_chain(bytes: &mut Vec<u8>) -> Result<(), AllocError> {
+    add_parts(bytes, FRONT)?;
     for page in 0..64u32 {
-        add_page(&mut bytes, page)?;
+        add_page(bytes, page)?;
     }
     bytes.push(0)?;
-    Ok(bytes)
+    Ok(())
 }
 
 /// The state after one more `set`.
@@ -82,23 +80,23 @@ const AFTER: Row = Row {
     ],
 };
 
-/// Whether the batch after the base makes what it should.
-fn is_followed(alloc: Global, base: &Base) -> Result<bool, Fault> {
-    let next = after_one(alloc, base, 1, AFTER.moment, AFTER.asked)?;
-    Ok(AFTER.is_of(next.state()))
-}
-
-fn is_migrated(alloc: Global, bytes: &[u8]) -> Result<bool, Fault> {
+/// The form of the chain's state, how many bytes stand behind its record, and whether the batch after it
+/// makes what it should.
+fn migrated(alloc: Global, bytes: &[u8]) -> Result<(Form, usize, bool), Fault> {
     let (chain, rest) = Chain::take(alloc, Version::First, bytes)?;
     let form = chain.committed().form();
-    let followed = is_followed(alloc, chain.tip());
+    let next = next_of(alloc, chain.tip(), 1, &AFTER);
     drop(chain.end());
-    Ok(followed? && form == Form::Old && rest.is_empty())
+    Ok((form, rest.len(), next?.is_some()))
 }
 
 #[test]
 fn an_old_state_of_2000_items_is_followed_by_one_of_form_3(rt: HostRuntime) -> Result<(), Fail> {
-    let bytes = old_chain(rt.alloc())?;
-    assert!(rt; is_migrated(rt.alloc(), bytes.as_slice())?);
+    let mut bytes = Vec::new(rt.alloc());
+    add_chain(&mut bytes)?;
+    assert_eq!(rt;
+        migrated(rt.alloc(), bytes.as_slice()),
+        Ok((Form::Old, 0, true))
+    );
     Ok(())
 }

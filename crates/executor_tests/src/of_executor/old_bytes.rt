@@ -3,10 +3,9 @@
 //! states have the old form. Digests and tokens are those of another program.
 
 use super::*;
-use states::Version;
 
 /// The digest of batch 1.
-const BATCH: [u8; 32] = [
+pub const BATCH: [u8; 32] = [
     0x15, 0x66, 0x0c, 0x78, 0xa1, 0xb9, 0x7a, 0x4f, 0xa9, 0x3b, 0x8a, 0xd5, 0x7f, 0x94, 0x7b, 0xf2,
     0x5d, 0xe4, 0x9c, 0x34, 0x91, 0xe3, 0x92, 0x68, 0x4c, 0xd5, 0xec, 0x5d, 0xbe, 0xf1, 0xbc, 0xda,
 ];
@@ -29,115 +28,151 @@ const NEXT_TOKEN: [u8; 32] = [
     0xae, 0x52, 0x23, 0xaa, 0x43, 0x35, 0xb6, 0x58, 0x1b, 0xd1, 0xeb, 0xb3, 0xa9, 0x09, 0x43, 0x96,
 ];
 
-pub fn add_zeros(bytes: &mut Vec<u8>, count: usize) -> Result<(), AllocError> {
+/// A part of a record.
+pub enum Part {
+    Bytes(&'static [u8]),
+    Zeros(usize),
+    /// So many letters `x`.
+    Xs(usize),
+}
+
+fn add_same(bytes: &mut Vec<u8>, byte: u8, count: usize) -> Result<(), AllocError> {
     for _ in 0..count {
-        bytes.push(0)?;
+        bytes.push(byte)?;
     }
     Ok(())
 }
 
-/// The form of a state, which version 1 has not.
-pub fn add_form(bytes: &mut Vec<u8>, version: Version, form: u8) -> Result<(), AllocError> {
-    match version {
-        Version::First => {}
-        Version::Second => bytes.push(form)?,
+pub fn add_parts(bytes: &mut Vec<u8>, parts: &[Part]) -> Result<(), AllocError> {
+    for part in parts {
+        match part {
+            Part::Bytes(text) => bytes.extend_from_slice(*text)?,
+            Part::Zeros(count) => add_same(bytes, 0, *count)?,
+            Part::Xs(count) => add_same(bytes, b'x', *count)?,
+        }
     }
     Ok(())
 }
 
-/// The head, without its form, of the state that the batch of this number led to.
-pub fn add_head(
-    bytes: &mut Vec<u8>,
-    number: u8,
-    previous: &[u8; 32],
-    batch: &[u8; 32],
-    token: &[u8; 32],
-) -> Result<(), AllocError> {
-    bytes.extend_from_slice(&[0, 0, 0, 0, 0, 0, 0, number])?;
-    bytes.extend_from_slice(previous)?;
-    bytes.extend_from_slice(&[0, 0, 0, 0, 0, 0, 0, 1])?;
-    bytes.extend_from_slice(batch)?;
-    bytes.extend_from_slice(&[0, 0, 3, 232])?;
-    bytes.extend_from_slice(token)
-}
-
-/// The item of the key, whose unique is this.
-fn add_item(bytes: &mut Vec<u8>, key: u8, unique: u8) -> Result<(), AllocError> {
-    bytes.extend_from_slice(&[
-        1, key, 0, 0, 0, 0, 0, 0, 0, 0, 0, 0, 0, 0, unique, 0, 0, 0, 1, b'5',
-    ])
-}
-
-/// The one page of the first member that is not the same, with the mark before it, and those around it.
-fn add_pages(bytes: &mut Vec<u8>, version: Version) -> Result<(), AllocError> {
-    let (before, after) = match version {
-        Version::First => (33, 30),
-        Version::Second => (97, 158),
-    };
-    add_zeros(bytes, before)?;
-    bytes.extend_from_slice(&[1, 0, 0, 0, 0, 1])?;
-    add_item(bytes, b'a', 64)?;
-    add_zeros(bytes, after)
-}
-
-/// The member of batch 1.
-pub fn add_member(bytes: &mut Vec<u8>, version: Version) -> Result<(), AllocError> {
-    bytes.extend_from_slice(ONE_SET)?;
-    add_form(bytes, version, 1)?;
-    add_head(bytes, 1, &[0; 32], &BATCH, &TOKEN)?;
-    bytes.extend_from_slice(&[3, 0, 0, 0, 1, 0, 1, 0, 0, 0, 0, 0, 0, 0, 1, 0])?;
-    add_pages(bytes, version)
-}
-
-/// The one page of the second member that is not the same: in version 1 it has both keys.
-fn add_next_pages(bytes: &mut Vec<u8>, version: Version) -> Result<(), AllocError> {
-    add_zeros(bytes, 33)?;
-    match version {
-        Version::First => {
-            bytes.extend_from_slice(&[1, 0, 0, 0, 0, 2])?;
-            add_item(bytes, b'!', 128)?;
-            add_item(bytes, b'a', 64)?;
-            add_zeros(bytes, 30)
-        }
-        Version::Second => {
-            bytes.extend_from_slice(&[1, 0, 0, 0, 0, 1])?;
-            add_item(bytes, b'!', 128)?;
-            add_zeros(bytes, 222)
-        }
+/// The record of these parts, one list after the other.
+pub fn bytes_of(alloc: Global, record: &[&[Part]]) -> Result<Vec<u8>, AllocError> {
+    let mut bytes = Vec::new(alloc);
+    for parts in record {
+        add_parts(&mut bytes, parts)?;
     }
+    Ok(bytes)
 }
 
-/// The member of batch 2.
-fn add_next_member(bytes: &mut Vec<u8>, version: Version) -> Result<(), AllocError> {
-    bytes.extend_from_slice(&[
-        4, 0, 0, 0, 0, 0, 0, 0, 1, 0, 0, 0, 0, 0, 0, 0, 2, 0, 0, 3, 232, 0, 0, 0, 1,
-    ])?;
-    add_set(bytes, 2, b'!')?;
-    add_form(bytes, version, 1)?;
-    add_head(bytes, 2, &TOKEN, &NEXT_BATCH, &NEXT_TOKEN)?;
-    bytes.extend_from_slice(&[3, 0, 0, 0, 2, 0, 1, 0, 0, 0, 0, 0, 0, 0, 1, 0])?;
-    bytes.extend_from_slice(&[0, 2, 0, 0, 0, 0, 0, 0, 0, 1, 0])?;
-    add_next_pages(bytes, version)
-}
+/// The member of batch 1, with the one of 64 pages that is not the same, the mark before it, and the
+/// marks around it. Version 1 has no form.
+pub const OLD_MEMBER: &[Part] = &[
+    Part::Bytes(ONE_SET),
+    Part::Bytes(&[0, 0, 0, 0, 0, 0, 0, 1]),
+    Part::Zeros(32),
+    Part::Bytes(&[0, 0, 0, 0, 0, 0, 0, 1]),
+    Part::Bytes(&BATCH),
+    Part::Bytes(&[0, 0, 3, 232]),
+    Part::Bytes(&TOKEN),
+    Part::Bytes(&[3, 0, 0, 0, 1, 0, 1, 0, 0, 0, 0, 0, 0, 0, 1, 0]),
+    Part::Zeros(33),
+    Part::Bytes(&[1, 0, 0, 0, 0, 1]),
+    ITEM_A,
+    Part::Zeros(30),
+];
+
+/// The same in version 2, of the old form, with 256 pages.
+const MEMBER: &[Part] = &[
+    Part::Bytes(ONE_SET),
+    Part::Bytes(&[1, 0, 0, 0, 0, 0, 0, 0, 1]),
+    Part::Zeros(32),
+    Part::Bytes(&[0, 0, 0, 0, 0, 0, 0, 1]),
+    Part::Bytes(&BATCH),
+    Part::Bytes(&[0, 0, 3, 232]),
+    Part::Bytes(&TOKEN),
+    Part::Bytes(&[3, 0, 0, 0, 1, 0, 1, 0, 0, 0, 0, 0, 0, 0, 1, 0]),
+    Part::Zeros(97),
+    Part::Bytes(&[1, 0, 0, 0, 0, 1]),
+    ITEM_A,
+    Part::Zeros(158),
+];
+
+/// The item of `a`, whose unique is 64.
+const ITEM_A: Part = Part::Bytes(&[
+    1, b'a', 0, 0, 0, 0, 0, 0, 0, 0, 0, 0, 0, 0, 64, 0, 0, 0, 1, b'5',
+]);
+
+/// The item of `!`, whose unique is 128.
+const NEXT_ITEM: Part = Part::Bytes(&[
+    1, b'!', 0, 0, 0, 0, 0, 0, 0, 0, 0, 0, 0, 0, 128, 0, 0, 0, 1, b'5',
+]);
+
+/// Batch 2 at moment 1000, of one request: client 2 sets `!`.
+const BATCH_2: Part = Part::Bytes(&[
+    4, 0, 0, 0, 0, 0, 0, 0, 1, 0, 0, 0, 0, 0, 0, 0, 2, 0, 0, 3, 232, 0, 0, 0, 1, 0, 2, 0, 0, 0, 0,
+    0, 0, 0, 1, 2, 1, b'!', 0, 0, 0, 0, 0, 0, 0, 0, 0, 0, 0, 1, b'5',
+]);
+
+/// The sessions after it: two clients were answered `STORED`.
+const NEXT_SESSIONS: Part = Part::Bytes(&[
+    3, 0, 0, 0, 2, 0, 1, 0, 0, 0, 0, 0, 0, 0, 1, 0, 0, 2, 0, 0, 0, 0, 0, 0, 0, 1, 0,
+]);
+
+/// The member of batch 2. The one of 64 pages that is not the same has both keys.
+const OLD_NEXT: &[Part] = &[
+    BATCH_2,
+    Part::Bytes(&[0, 0, 0, 0, 0, 0, 0, 2]),
+    Part::Bytes(&TOKEN),
+    Part::Bytes(&[0, 0, 0, 0, 0, 0, 0, 1]),
+    Part::Bytes(&NEXT_BATCH),
+    Part::Bytes(&[0, 0, 3, 232]),
+    Part::Bytes(&NEXT_TOKEN),
+    NEXT_SESSIONS,
+    Part::Zeros(33),
+    Part::Bytes(&[1, 0, 0, 0, 0, 2]),
+    NEXT_ITEM,
+    ITEM_A,
+    Part::Zeros(30),
+];
+
+/// The same in version 2.
+const NEXT: &[Part] = &[
+    BATCH_2,
+    Part::Bytes(&[1, 0, 0, 0, 0, 0, 0, 0, 2]),
+    Part::Bytes(&TOKEN),
+    Part::Bytes(&[0, 0, 0, 0, 0, 0, 0, 1]),
+    Part::Bytes(&NEXT_BATCH),
+    Part::Bytes(&[0, 0, 3, 232]),
+    Part::Bytes(&NEXT_TOKEN),
+    NEXT_SESSIONS,
+    Part::Zeros(33),
+    Part::Bytes(&[1, 0, 0, 0, 0, 1]),
+    NEXT_ITEM,
+    Part::Zeros(222),
+];
 
 /// The first state: its number and token before, its epoch, 68 bytes of batch, moment and token, no
-/// sessions, and pages without items.
-fn add_first(bytes: &mut Vec<u8>, version: Version) -> Result<(), AllocError> {
-    add_form(bytes, version, 2)?;
-    add_zeros(bytes, 40)?;
-    bytes.extend_from_slice(&[0, 0, 0, 0, 0, 0, 0, 1])?;
-    add_zeros(bytes, 68)?;
-    bytes.extend_from_slice(&[3, 0, 0, 0, 0])?;
-    match version {
-        Version::First => add_zeros(bytes, 320),
-        Version::Second => add_zeros(bytes, 1280),
-    }
-}
+/// sessions, and 64 pages without items. Then the number of the chain's members.
+const OLD_FIRST: &[Part] = &[
+    Part::Zeros(40),
+    Part::Bytes(&[0, 0, 0, 0, 0, 0, 0, 1]),
+    Part::Zeros(68),
+    Part::Bytes(&[3, 0, 0, 0, 0]),
+    Part::Zeros(320),
+    Part::Bytes(&[2]),
+];
 
-/// The chain of both members over the first state.
-pub fn add_chain(bytes: &mut Vec<u8>, version: Version) -> Result<(), AllocError> {
-    add_first(bytes, version)?;
-    bytes.push(2)?;
-    add_member(bytes, version)?;
-    add_next_member(bytes, version)
-}
+/// The same in version 2, of the form of today.
+const FIRST: &[Part] = &[
+    Part::Bytes(&[2]),
+    Part::Zeros(40),
+    Part::Bytes(&[0, 0, 0, 0, 0, 0, 0, 1]),
+    Part::Zeros(68),
+    Part::Bytes(&[3, 0, 0, 0, 0]),
+    Part::Zeros(1280),
+    Part::Bytes(&[2]),
+];
+
+/// The chain of both members over the first state, in version 1 and in version 2.
+pub const OLD_CHAIN: [&[Part]; 3] = [OLD_FIRST, OLD_MEMBER, OLD_NEXT];
+
+pub const CHAIN: [&[Part]; 3] = [FIRST, MEMBER, NEXT];

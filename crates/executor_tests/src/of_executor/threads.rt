@@ -1,11 +1,12 @@
-//! Rows of batches that run on several threads.
+//! Batches that run on several threads, looked at by a gate or again and again.
 
 use super::*;
-use crate::gates::Meets;
+use crate::gates::{Meeting, Waits};
 use executor::execute;
 use proto::Values;
 use round::{Gate, NoGate};
 use std::sync::Wait;
+use std::test::Fail;
 use std::thread::Threads;
 use workers::Workers;
 
@@ -42,108 +43,6 @@ pub fn on_threads<R: Threads + Wait + Sync, G: Gate + Sync>(
     executed(rt, alloc, base, batch, ordered, workers, gate)
 }
 
-/// The replies of batch 1, which is run by four workers and committed.
-fn shown_by_four<R: Threads + Wait + Sync>(
-    rt: &R,
-    alloc: Global,
-    bytes: &[u8],
-    ordered: bool,
-) -> Result<[u8; 4], Fault> {
-    let base = Base::first(alloc)?;
-    match commit(on_threads(rt, alloc, &base, bytes, ordered, 4, &NoGate)?) {
-        None => Err(Fault::NotOpen),
-        Some(committed) => Ok(marks(committed.replies())),
-    }
-}
-
-#[test]
-fn two_groups_run_one_after_the_other(rt: HostRuntime) -> Result<(), Fail> {
-    assert!(rt; shown_by_four(&rt, rt.alloc(), TWO_GROUPS, false) == Ok(*b"s10s"));
-    Ok(())
-}
-
-#[test]
-fn an_ordered_batch_runs_in_its_order(rt: HostRuntime) -> Result<(), Fail> {
-    assert!(rt; shown_by_four(&rt, rt.alloc(), THIRD_KEY, true) == Ok(*b"s1s."));
-    Ok(())
-}
-
-#[test]
-fn a_batch_of_no_request_has_no_group(rt: HostRuntime) -> Result<(), Fail> {
-    assert!(rt; shown_by_four(&rt, rt.alloc(), NO_REQUEST, false) == Ok(*b"...."));
-    assert!(rt; shown_by_four(&rt, rt.alloc(), NO_REQUEST, true) == Ok(*b"...."));
-    Ok(())
-}
-
-/// The token of a batch over the first state by that many workers.
-fn token_by<R: Threads + Wait + Sync>(
-    rt: &R,
-    alloc: Global,
-    bytes: &[u8],
-    workers: usize,
-) -> Result<Token, Fault> {
-    let base = Base::first(alloc)?;
-    Ok(undone(on_threads(rt, alloc, &base, bytes, false, workers, &NoGate)?))
-}
-
-fn token_alone(alloc: Global, bytes: &[u8]) -> Result<Token, Fault> {
-    let base = Base::first(alloc)?;
-    token_of(alloc, &base, bytes)
-}
-
-/// Whether that many workers come to the token of one thread.
-fn is_same_by<R: Threads + Wait + Sync>(
-    rt: &R,
-    alloc: Global,
-    bytes: &[u8],
-    workers: usize,
-) -> Result<bool, Fault> {
-    Ok(token_by(rt, alloc, bytes, workers)? == token_alone(alloc, bytes)?)
-}
-
-#[test]
-fn workers_come_to_the_state_of_one_thread(rt: HostRuntime) -> Result<(), Fail> {
-    let bytes = full_batch(rt.alloc())?;
-    for workers in [1usize, 4, 16] {
-        assert!(rt; is_same_by(&rt, rt.alloc(), bytes.as_slice(), workers)?);
-    }
-    Ok(())
-}
-
-/// The token of work over the first state that is run to its end by that many workers.
-fn token_of_work<R: Threads + Wait + Sync>(
-    rt: &R,
-    alloc: Global,
-    bytes: &[u8],
-    workers: Workers,
-) -> Result<Token, Fault> {
-    let base = Base::first(alloc)?;
-    match begin(alloc, &base, bytes, false)? {
-        Ended::Done(tentative) => Ok(undone(tentative)),
-        Ended::On(work) if !work.is_untouched() => Err(Fault::Unfit),
-        Ended::On(work) => Ok(undone(work.run_on_threads(rt, alloc, workers, &NoGate)?)),
-    }
-}
-
-/// Whether work that four workers run to its end comes to the token of one thread.
-fn is_same_work<R: Threads + Wait + Sync>(
-    rt: &R,
-    alloc: Global,
-    bytes: &[u8],
-) -> Result<bool, Fault> {
-    let Some(four) = Workers::new(4) else {
-        return Err(Fault::Unfit);
-    };
-    Ok(token_of_work(rt, alloc, bytes, four)? == token_alone(alloc, bytes)?)
-}
-
-#[test]
-fn work_runs_to_its_end_on_threads(rt: HostRuntime) -> Result<(), Fail> {
-    let bytes = full_batch(rt.alloc())?;
-    assert!(rt; is_same_work(&rt, rt.alloc(), bytes.as_slice()) == Ok(true));
-    Ok(())
-}
-
 /// Runs two requests on two pages by two workers.
 fn run_two<R: Threads + Wait + Sync, G: Gate + Sync>(
     rt: &R,
@@ -156,7 +55,7 @@ fn run_two<R: Threads + Wait + Sync, G: Gate + Sync>(
 
 #[test]
 fn two_workers_are_inside_at_once(rt: HostRuntime) -> Result<(), Fail> {
-    let gate = Meets::new(&rt);
+    let gate = Meeting::new(&rt, Waits::Inside);
     assert!(rt; run_two(&rt, rt.alloc(), &gate).is_ok() && gate.met() == 2);
     Ok(())
 }
@@ -183,41 +82,25 @@ fn cross(replies: &[Answered]) -> bool {
 }
 
 /// Runs the batch by four workers, and says whether its readers crossed.
-fn is_crossed<R: Threads + Wait + Sync>(
-    rt: &R,
-    alloc: Global,
-    base: &Base,
-    bytes: &[u8],
-) -> Result<bool, Fault> {
-    match commit(on_threads(rt, alloc, base, bytes, false, 4, &NoGate)?) {
-        None => Err(Fault::NotOpen),
-        Some(committed) => Ok(cross(committed.replies())),
-    }
+fn is_crossed<R: Threads + Wait + Sync>(rt: &R, alloc: Global, base: &Base) -> Result<bool, Fault> {
+    let made = on_threads(rt, alloc, base, CROSSING, false, 4, &NoGate)?;
+    Ok(cross(commit(made)?.replies()))
 }
 
-/// Whether the readers ever crossed in so many runs of the batch.
-fn are_crossed<R: Threads + Wait + Sync>(
-    rt: &R,
-    alloc: Global,
-    base: &Base,
-    bytes: &[u8],
-    runs: u32,
-) -> Result<bool, Fault> {
-    for _ in 0..runs {
-        if is_crossed(rt, alloc, base, bytes)? {
-            return Ok(true);
+/// How often the readers did not cross, in 100 runs of the batch.
+fn uncrossed<R: Threads + Wait + Sync>(rt: &R, alloc: Global) -> Result<u32, Fault> {
+    let before = after(alloc, &[SET_OF_A_AND_B])?;
+    let mut uncrossed = 0u32;
+    for _ in 0..100u32 {
+        if !is_crossed(rt, alloc, before.as_base())? {
+            uncrossed = uncrossed.saturating_add(1);
         }
     }
-    Ok(false)
-}
-
-fn batches_cross<R: Threads + Wait + Sync>(rt: &R, alloc: Global) -> Result<bool, Fault> {
-    let base = base_after(alloc, SET_OF_A_AND_B)?;
-    are_crossed(rt, alloc, &base, CROSSING, 100)
+    Ok(uncrossed)
 }
 
 #[test]
 fn readers_never_cross_in_a_batch(rt: HostRuntime) -> Result<(), Fail> {
-    assert!(rt; batches_cross(&rt, rt.alloc()) == Ok(false));
+    assert_eq!(rt; uncrossed(&rt, rt.alloc()), Ok(100));
     Ok(())
 }
