@@ -156,22 +156,24 @@ pub fn resumes(alloc: Global, (u, id): Place, state: &State, expected: &[u8]) ->
 }
 
 /// What the decrees stand for is in the record.
-fn looks(bytes: &[u8], row: Row) -> bool {
-    match row {
-        Row::Record(len, first) => bytes.len() == len && bytes.get(..2) == Some(&first),
-        Row::Stands([known, n, epoch, start]) => {
-            bytes.get(11) == Some(&known)
-                && bytes.get(19) == Some(&n)
-                && bytes.get(59) == Some(&epoch)
-                && bytes.get(67) == Some(&start)
-        }
-        _ => false,
-    }
+fn stand_for(bytes: &[u8], [known, n, epoch, start]: [u8; 4]) -> bool {
+    bytes.get(11) == Some(&known)
+        && bytes.get(19) == Some(&n)
+        && bytes.get(59) == Some(&epoch)
+        && bytes.get(67) == Some(&start)
+}
+
+fn begins(bytes: &[u8], len: usize, first: [u8; 2]) -> bool {
+    bytes.len() == len && bytes.get(..2) == Some(&first)
 }
 
 fn has_record(alloc: Global, place: Place, state: &State, row: Row) -> Result<(), Fault> {
     let bytes = record(alloc, place, state)?;
-    holds(looks(bytes.as_slice(), row))
+    holds(match row {
+        Row::Record(len, first) => begins(bytes.as_slice(), len, first),
+        Row::Stands(expected) => stand_for(bytes.as_slice(), expected),
+        _ => false,
+    })
 }
 
 /// Whether such a batch was begun, and no step of it was made.

@@ -39,118 +39,158 @@ pub fn number(words: &[&str], at: usize, name: &str) -> Option<u64> {
     parsed(words.get(at.wrapping_add(1))?)
 }
 
-/// The token of 32 bytes that are this number.
-fn token(words: &[&str], at: usize, name: &str) -> Option<Token> {
-    let byte = u8::try_from(number(words, at, name)?).ok()?;
-    Some(Token([byte; 32]))
+/// What a letter says.
+#[derive(Clone, Copy)]
+enum Form {
+    Token,
+    Accept,
+    AcceptRollback,
+    Accepted,
+    AcceptedRollback,
+    Decided,
+    DecidedRollback,
+    Ask,
+    Change,
+    Promise,
+    PromiseRollback,
+    PromiseNothing,
+    Stands,
 }
 
-/// `rollback` or `commit 1 token 7`.
-fn decree(words: &[&str]) -> Option<Decree> {
-    if *words.first()? == "rollback" {
-        return Some(Decree::Rollback);
+/// The words of each form, where `#` is a number.
+const FORMS: [(Form, &str); 13] = [
+    (Form::Token, "token # of batch # epoch # over #"),
+    (Form::Accept, "accept view # place # commit # token #"),
+    (Form::AcceptRollback, "accept view # place # rollback"),
+    (Form::Accepted, "accepted view # place # commit # token #"),
+    (Form::AcceptedRollback, "accepted view # place # rollback"),
+    (Form::Decided, "decided place # commit # token #"),
+    (Form::DecidedRollback, "decided place # rollback"),
+    (Form::Ask, "ask place #"),
+    (Form::Change, "change view #"),
+    (
+        Form::Promise,
+        "promise view # knows # accepted view # commit # token #",
+    ),
+    (
+        Form::PromiseRollback,
+        "promise view # knows # accepted view # rollback",
+    ),
+    (
+        Form::PromiseNothing,
+        "promise view # knows # accepted nothing",
+    ),
+    (
+        Form::Stands,
+        "stands place # number # token # epoch # first #",
+    ),
+];
+
+/// The numbers of the words, if they are of this form.
+fn numbers(words: &[&str], form: &str) -> Option<[u64; 5]> {
+    let mut all = [0u64; 5];
+    let mut count = 0usize;
+    let mut rest = words.iter();
+    for name in form.split(' ') {
+        let word = *rest.next()?;
+        if name == "#" {
+            *all.get_mut(count)? = parsed(word)?;
+            count = count.wrapping_add(1);
+        } else if word != name {
+            return None;
+        }
     }
-    let n = number(words, 0, "commit")?;
-    let token = token(words, 2, "token")?;
+    if rest.next().is_none() {
+        Some(all)
+    } else {
+        None
+    }
+}
+
+/// The token of 32 bytes that are this number.
+fn token(number: u64) -> Option<Token> {
+    Some(Token([u8::try_from(number).ok()?; 32]))
+}
+
+fn commit(n: u64, of: u64) -> Option<Decree> {
+    let token = token(of)?;
     Some(Decree::Commit { n, token })
 }
 
-/// `nothing` or `view 0 commit 1 token 7`.
-fn accepted(words: &[&str]) -> Option<Option<(u64, Decree)>> {
-    if *words.first()? == "nothing" {
-        return Some(None);
-    }
-    let view = number(words, 0, "view")?;
-    let decree = decree(words.get(2..)?)?;
-    Some(Some((view, decree)))
-}
-
-/// `token 7 of batch 1 epoch 1 over 0`.
-fn token_said(words: &[&str]) -> Option<Ballot> {
-    let token = token(words, 0, "token")?;
-    let n = number(words, 3, "batch")?;
-    let epoch = number(words, 5, "epoch")?;
-    let previous = self::token(words, 7, "over")?;
-    Some(Ballot::Token {
-        epoch,
-        n,
-        previous,
-        token,
+/// The ballot of this form, of these numbers in the order of its words.
+fn said(form: Form, [a, b, c, d, e]: [u64; 5]) -> Option<Ballot> {
+    Some(match form {
+        Form::Token => Ballot::Token {
+            epoch: c,
+            n: b,
+            previous: token(d)?,
+            token: token(a)?,
+        },
+        Form::Accept => Ballot::Accept {
+            view: a,
+            place: b,
+            decree: commit(c, d)?,
+        },
+        Form::AcceptRollback => Ballot::Accept {
+            view: a,
+            place: b,
+            decree: Decree::Rollback,
+        },
+        Form::Accepted => Ballot::Accepted {
+            view: a,
+            place: b,
+            decree: commit(c, d)?,
+        },
+        Form::AcceptedRollback => Ballot::Accepted {
+            view: a,
+            place: b,
+            decree: Decree::Rollback,
+        },
+        Form::Decided => Ballot::Decided {
+            place: a,
+            decree: commit(b, c)?,
+        },
+        Form::DecidedRollback => Ballot::Decided {
+            place: a,
+            decree: Decree::Rollback,
+        },
+        Form::Ask => Ballot::Ask { place: a },
+        Form::Change => Ballot::Change { view: a },
+        Form::Promise => Ballot::Promise {
+            view: a,
+            known: b,
+            accepted: Some((c, commit(d, e)?)),
+        },
+        Form::PromiseRollback => Ballot::Promise {
+            view: a,
+            known: b,
+            accepted: Some((c, Decree::Rollback)),
+        },
+        Form::PromiseNothing => Ballot::Promise {
+            view: a,
+            known: b,
+            accepted: None,
+        },
+        Form::Stands => Ballot::Stands {
+            place: a,
+            standing: Standing {
+                n: b,
+                token: token(c)?,
+                epoch: d,
+                start: e,
+            },
+        },
     })
-}
-
-/// `accept view 0 place 1 rollback`.
-fn accept(words: &[&str]) -> Option<Ballot> {
-    let view = number(words, 1, "view")?;
-    let place = number(words, 3, "place")?;
-    let decree = decree(words.get(5..)?)?;
-    Some(Ballot::Accept {
-        view,
-        place,
-        decree,
-    })
-}
-
-/// `accepted view 0 place 1 rollback`.
-fn accepted_said(words: &[&str]) -> Option<Ballot> {
-    let view = number(words, 1, "view")?;
-    let place = number(words, 3, "place")?;
-    let decree = decree(words.get(5..)?)?;
-    Some(Ballot::Accepted {
-        view,
-        place,
-        decree,
-    })
-}
-
-/// `decided place 1 rollback`.
-fn decided(words: &[&str]) -> Option<Ballot> {
-    let place = number(words, 1, "place")?;
-    let decree = decree(words.get(3..)?)?;
-    Some(Ballot::Decided { place, decree })
-}
-
-/// `promise view 1 knows 0 accepted nothing`.
-fn promise(words: &[&str]) -> Option<Ballot> {
-    let view = number(words, 1, "view")?;
-    let known = number(words, 3, "knows")?;
-    let accepted = accepted(words.get(6..)?)?;
-    Some(Ballot::Promise {
-        view,
-        known,
-        accepted,
-    })
-}
-
-/// `stands place 1 number 1 token 7 epoch 1 first 1`.
-fn stands(words: &[&str]) -> Option<Ballot> {
-    let place = number(words, 1, "place")?;
-    let standing = Standing {
-        n: number(words, 3, "number")?,
-        token: token(words, 5, "token")?,
-        epoch: number(words, 7, "epoch")?,
-        start: number(words, 9, "first")?,
-    };
-    Some(Ballot::Stands { place, standing })
 }
 
 /// What a letter says.
 pub fn ballot(words: &[&str]) -> Option<Ballot> {
-    match *words.first()? {
-        "token" => token_said(words),
-        "accept" => accept(words),
-        "accepted" => accepted_said(words),
-        "decided" => decided(words),
-        "promise" => promise(words),
-        "stands" => stands(words),
-        "change" => Some(Ballot::Change {
-            view: number(words, 1, "view")?,
-        }),
-        "ask" => Some(Ballot::Ask {
-            place: number(words, 1, "place")?,
-        }),
-        _ => None,
+    for (form, text) in FORMS {
+        if let Some(numbers) = numbers(words, text) {
+            return said(form, numbers);
+        }
     }
+    None
 }
 
 fn digit(digit: u8) -> Option<u8> {
@@ -169,35 +209,20 @@ fn hexadecimal(word: &str) -> Option<u8> {
     }
 }
 
-fn push_times(byte: u8, times: u64, all: &mut Vec<u8>) -> Option<()> {
-    for _ in 0..times {
-        if all.push(byte).is_err() {
-            return None;
-        }
+/// Adds the bytes of a word: `07`, or `07x32` for 32 of them.
+fn push_bytes(word: &str, all: &mut Vec<u8>) -> Option<()> {
+    let (byte, times) = word.split_once('x').unwrap_or((word, "1"));
+    let byte = hexadecimal(byte)?;
+    for _ in 0..parsed(times)? {
+        all.push(byte).ok()?;
     }
     Some(())
 }
 
-/// The bytes of a word: `07`, or `07x32` for 32 of them.
-fn push_bytes(word: &str, all: &mut Vec<u8>) -> Option<()> {
-    match word.split_once('x') {
-        Some((byte, times)) => push_times(hexadecimal(byte)?, parsed(times)?, all),
-        None => push_times(hexadecimal(word)?, 1, all),
-    }
-}
-
-fn push_all(words: &[&str], all: &mut Vec<u8>) -> Option<()> {
+/// Adds bytes in hexadecimal: `01 56 00x8`.
+pub fn push_all(words: &[&str], all: &mut Vec<u8>) -> Option<()> {
     for word in words {
         push_bytes(*word, all)?;
     }
     Some(())
-}
-
-/// Bytes in hexadecimal: `01 56 00x8`.
-pub fn bytes(alloc: Global, words: &[&str]) -> Option<Vec<u8>> {
-    let mut all = Vec::new(alloc);
-    match push_all(words, &mut all) {
-        Some(()) => Some(all),
-        None => None,
-    }
 }

@@ -1,11 +1,10 @@
 //! The verifiers of a schedule, and what they have to answer.
 
-ghost use Rattle.std.specs.Prelude.{◌<◌, ◌≤◌, ◌*◌};
-
-use super::line::{ballot, bytes, node, number, verifier, words};
+use super::line::{ballot, node, number, push_all, verifier, words};
+use super::records::{handle, keeper_of, open, record};
 use base::Text;
 use decrees::{Ballot, Letter, Node};
-use keeper::{Keeper, MemKeeper};
+use keeper::MemKeeper;
 use proto::Fault;
 use std::alloc::Global;
 use std::mem;
@@ -21,11 +20,8 @@ enum Player {
 /// What an input is answered with.
 type Answered = Result<Vec<Letter<Ballot>>, Fault>;
 
-fn opened(alloc: Global, id: u8, u: u8, keeper: MemKeeper<Text>) -> (Player, Answered)
-    requires few { u < 4 }
-    requires member { id ≤ 2 * u }
-{
-    match Verifier::open(alloc, u, id, keeper) {
+fn opened(alloc: Global, id: u8, u: u8, keeper: MemKeeper<Text>) -> (Player, Answered) {
+    match open(alloc, u, id, keeper) {
         Ok((verifier, letters)) => (Player::Open(verifier), Ok(letters)),
         Err((fault, keeper)) => (Player::Closed(keeper), Err(fault)),
     }
@@ -41,9 +37,6 @@ impl Player {
 
     /// Opens the verifier of these numbers with the keeper that it had.
     fn open(&mut self, alloc: Global, id: u8, u: u8) -> Answered {
-        if 3 < u || 2 * u < id {
-            return Err(Fault::BadRecord);
-        }
         let player = mem::replace(self, Player::Closed(MemKeeper::new()));
         let (player, answer) = opened(alloc, id, u, player.into_keeper());
         *self = player;
@@ -52,7 +45,7 @@ impl Player {
 
     fn handle(&mut self, alloc: Global, input: Input) -> Option<Answered> {
         match self {
-            Player::Open(verifier) => Some(verifier.handle(alloc, input)),
+            Player::Open(verifier) => Some(handle(alloc, verifier, input)),
             Player::Closed(_) => None,
         }
     }
@@ -62,16 +55,6 @@ impl Player {
             Player::Open(verifier) => verifier.keeper(),
             Player::Closed(keeper) => keeper,
         }
-    }
-
-    /// Puts a keeper with this record in its place.
-    fn find(&mut self, alloc: Global, record: &[u8]) -> Option<()> {
-        let mut text = Text::new(alloc);
-        text.put(record).ok()?;
-        let mut keeper = MemKeeper::new();
-        let saved = keeper.save(text);
-        *self = Player::Closed(keeper);
-        saved.ok()
     }
 
     /// Whether it is as the words say: `stopped`, or `up in view 1 knows 0`.
@@ -142,18 +125,29 @@ impl Play {
     }
 
     /// The record of the verifier is of these bytes.
-    fn has(&mut self, id: u8, words: &[&str]) -> Option<()> {
+    fn has(&mut self, id: u8, bytes: &[u8]) -> Option<()> {
         let alloc = self.alloc;
-        let record = bytes(alloc, words)?;
-        let found = self.player(id)?.keeper().load()?.joined(alloc).ok()?;
-        let is_so = found == record;
+        let found = record(alloc, self.player(id)?.keeper()).ok()?;
+        let is_so = found.as_slice() == bytes;
         is_so.then_some(())
     }
 
-    fn find(&mut self, id: u8, words: &[&str]) -> Option<()> {
-        let alloc = self.alloc;
-        let record = bytes(alloc, words)?;
-        self.player(id)?.find(alloc, &record)
+    /// Puts a keeper with this record in its place.
+    fn find(&mut self, id: u8, bytes: &[u8]) -> Option<()> {
+        let keeper = keeper_of(self.alloc, bytes).ok()?;
+        *self.player(id)? = Player::Closed(keeper);
+        Some(())
+    }
+
+    /// The record of the verifier is of these bytes, or it finds one of them.
+    fn record(&mut self, id: u8, words: &[&str], finds: bool) -> Option<()> {
+        let mut bytes = Vec::new(self.alloc);
+        push_all(words, &mut bytes)?;
+        if finds {
+            self.find(id, bytes.as_slice())
+        } else {
+            self.has(id, bytes.as_slice())
+        }
     }
 
     fn is(&mut self, id: u8, words: &[&str]) -> Option<()> {
@@ -176,8 +170,8 @@ impl Play {
                 Some(())
             }
             "is" => self.is(id, more),
-            "has" => self.has(id, more),
-            "finds" => self.find(id, more),
+            "has" => self.record(id, more, false),
+            "finds" => self.record(id, more, true),
             _ => None,
         }
     }

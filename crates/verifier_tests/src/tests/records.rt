@@ -27,6 +27,31 @@ pub fn record(alloc: Global, keeper: &MemKeeper<Text>) -> Result<Vec<u8>, Fault>
     }
 }
 
+/// What `handle` answers. It says nothing of that, so that the proofs of those who call it are short; so for
+/// `open`.
+pub fn handle(
+    alloc: Global,
+    verifier: &mut Verifier<MemKeeper<Text>>,
+    input: Input,
+) -> Result<Vec<Letter<Ballot>>, Fault> {
+    verifier.handle(alloc, input)
+}
+
+type Opened = (Verifier<MemKeeper<Text>>, Vec<Letter<Ballot>>);
+
+/// The verifier `id` of `2 u + 1`, and its first letters.
+pub fn open(
+    alloc: Global,
+    u: u8,
+    id: u8,
+    keeper: MemKeeper<Text>,
+) -> Result<Opened, (Fault, MemKeeper<Text>)> {
+    if 3 < u || 2 * u < id {
+        return Err((Fault::BadRecord, keeper));
+    }
+    Verifier::open(alloc, u, id, keeper)
+}
+
 /// A step that saves the record, of which nothing but the view changes.
 fn save(alloc: Global, verifier: &mut Verifier<MemKeeper<Text>>) -> Result<(), Fault> {
     let change = Letter {
@@ -34,22 +59,23 @@ fn save(alloc: Global, verifier: &mut Verifier<MemKeeper<Text>>) -> Result<(), F
         to: Node::Verifier(1),
         body: Ballot::Change { view: u64::MAX - 1 },
     };
-    drop(verifier.handle(alloc, Input::Letter(change))?);
+    drop(handle(alloc, verifier, Input::Letter(change))?);
     Ok(())
 }
 
 /// Whether the record that the verifier saves is this one, but for the view.
 fn saves(alloc: Global, verifier: Verifier<MemKeeper<Text>>, bytes: &[u8]) -> Result<bool, Fault> {
     let mut verifier = verifier;
-    save(alloc, &mut verifier)?;
+    let step = save(alloc, &mut verifier);
     let saved = record(alloc, &verifier.end())?;
+    step?;
     Ok(saved.get(..4) == bytes.get(..4) && saved.get(12..) == bytes.get(12..))
 }
 
 /// Whether verifier 1 of three refuses the bytes, which are kept then, or goes on from them, if it may, as
 /// the one whose record they are.
 fn is_opened(alloc: Global, bytes: &[u8], may_be: bool) -> Result<bool, Fault> {
-    match Verifier::open(alloc, 1, 1, keeper_of(alloc, bytes)?) {
+    match open(alloc, 1, 1, keeper_of(alloc, bytes)?) {
         Ok((verifier, _)) => Ok(saves(alloc, verifier, bytes)? && may_be),
         Err((fault, keeper)) => {
             Ok(fault == Fault::BadRecord && record(alloc, &keeper)?.as_slice() == bytes)

@@ -2,7 +2,7 @@
 //! old record, with which it is opened again. `scripts/refusals` refuses each growth in turn. `NoMemory` ends a
 //! row that was refused some, and `NotOpen` one in which something else does not hold.
 
-use super::records::{keeper_of, record};
+use super::records::{handle, keeper_of, open, record};
 use base::Text;
 use decrees::{Ballot, Decree, Letter, Node, Standing};
 use keeper::MemKeeper;
@@ -138,19 +138,40 @@ fn holds(is_so: bool) -> Result<(), Fault> {
     if is_so { Ok(()) } else { Err(Fault::NotOpen) }
 }
 
-/// Whether it is stopped with the record of these bytes, and stays so.
-fn is_stopped(
+/// Whether it is stopped, and stays so.
+fn is_stopped(alloc: Global, verifier: &mut Verifier<MemKeeper<Text>>) -> bool {
+    let again = handle(alloc, verifier, Input::Suspect);
+    matches!(again, Err(Fault::Stopped)) && !verifier.is_up()
+}
+
+fn has_record(
     alloc: Global,
     verifier: &mut Verifier<MemKeeper<Text>>,
     bytes: &[u8],
 ) -> Result<bool, Fault> {
-    let again = verifier.handle(alloc, Input::Suspect);
-    let stays = matches!(again, Err(Fault::Stopped)) && !verifier.is_up();
-    Ok(stays && record(alloc, verifier.keeper())?.as_slice() == bytes)
+    let kept = record(alloc, verifier.keeper())?;
+    Ok(kept.as_slice() == bytes)
 }
 
-/// Does the input: the letters that were expected, and the record is another where it is to be saved; or
-/// `NoMemory`, and then it is stopped with its old record.
+/// Does the input, and gives the number of letters; or `NoMemory`, and then it is stopped with its old
+/// record.
+fn answers(
+    alloc: Global,
+    verifier: &mut Verifier<MemKeeper<Text>>,
+    input: Input,
+    before: &[u8],
+) -> Result<usize, Fault> {
+    match handle(alloc, verifier, input) {
+        Ok(sent) => Ok(sent.len()),
+        Err(fault) => {
+            let stops = is_stopped(alloc, verifier) && has_record(alloc, verifier, before)?;
+            holds(stops && fault == Fault::NoMemory)?;
+            Err(fault)
+        }
+    }
+}
+
+/// Does the input: the letters that were expected, and the record is another where it is to be saved.
 fn does(
     alloc: Global,
     verifier: &mut Verifier<MemKeeper<Text>>,
@@ -159,16 +180,9 @@ fn does(
     saves: bool,
 ) -> Result<(), Fault> {
     let before = record(alloc, verifier.keeper())?;
-    match verifier.handle(alloc, input) {
-        Ok(sent) => {
-            let after = record(alloc, verifier.keeper())?;
-            holds(sent.len() == letters && (before != after) == saves)
-        }
-        Err(fault) => {
-            holds(fault == Fault::NoMemory && is_stopped(alloc, verifier, before.as_slice())?)?;
-            Err(fault)
-        }
-    }
+    let sent = answers(alloc, verifier, input, before.as_slice())?;
+    let is_old = has_record(alloc, verifier, before.as_slice())?;
+    holds(sent == letters && is_old != saves)
 }
 
 fn all_of(
@@ -193,22 +207,34 @@ fn each_line(alloc: Global, verifier: &mut Verifier<MemKeeper<Text>>) -> Result<
     does(alloc, verifier, Input::Suspect, 3, true)
 }
 
-/// The verifier of the keeper; where it is refused, its keeper has the record that it had.
+/// Why it was not opened: `NoMemory`, and then its keeper has the record that it had.
+fn refusal(
+    alloc: Global,
+    fault: Fault,
+    keeper: &MemKeeper<Text>,
+    before: &[u8],
+) -> Result<Fault, Fault> {
+    let after = record(alloc, keeper)?;
+    holds(fault == Fault::NoMemory && after.as_slice() == before)?;
+    Ok(fault)
+}
+
+/// The verifier of the keeper, which has so many letters.
 fn opened(
     alloc: Global,
     keeper: MemKeeper<Text>,
     letters: usize,
 ) -> Result<Verifier<MemKeeper<Text>>, Fault> {
     let before = record(alloc, &keeper)?;
-    match Verifier::open(alloc, 1, 0, keeper) {
+    match open(alloc, 1, 0, keeper) {
         Ok((verifier, sent)) => {
-            holds(sent.len() == letters)?;
-            Ok(verifier)
+            if sent.len() == letters {
+                Ok(verifier)
+            } else {
+                Err(Fault::NotOpen)
+            }
         }
-        Err((fault, keeper)) => {
-            holds(fault == Fault::NoMemory && record(alloc, &keeper)? == before)?;
-            Err(fault)
-        }
+        Err((fault, keeper)) => Err(refusal(alloc, fault, &keeper, before.as_slice())?),
     }
 }
 
