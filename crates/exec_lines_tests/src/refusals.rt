@@ -244,12 +244,11 @@ fn play(alloc: Global, leader: &mut Executor, other: &mut Executor) -> Result<()
     let mut told = NONE_TOLD;
     let mut said = Vec::new(alloc);
     for (id, lines) in LINES {
-        let executor = if id == LEADER {
-            &mut *leader
+        if id == LEADER {
+            gives_all(alloc, leader, &mut told, &mut said, lines)?;
         } else {
-            &mut *other
-        };
-        gives_all(alloc, executor, &mut told, &mut said, lines)?;
+            gives_all(alloc, other, &mut told, &mut said, lines)?;
+        }
     }
     Ok(())
 }
