@@ -1,7 +1,7 @@
 //! An executor that is behind, and one that has more.
 
 use crate::given::Given::{Commit, CommitAt, Heard, Want};
-use crate::given::{C1, C2, C3, E0, E1, NONE, NONE_TOLD, Told, V0};
+use crate::given::{C1, C2, C3, E0, E1, NONE, Told, V0, none_told};
 use crate::parts::ONE_COMMITTED;
 use crate::refusals::{Letters, Line, input_of};
 use crate::script::Row::{Execute, Gives, Resumes};
@@ -167,6 +167,21 @@ const THIRD: Part = (
     ],
 );
 
+/// The one that has more answers a need with the state after batch 2, and goes on.
+fn older_parcel(
+    alloc: Global,
+    told: &mut Told,
+    more: &mut State,
+    state: &mut State,
+    early: &mut Letters,
+) -> Result<(), Fault> {
+    holds(wrong_row(alloc, U, told, more, ONE_COMMITTED).is_none())?;
+    holds(wrong_row(alloc, U, told, more, SECOND).is_none())?;
+    hears(alloc, told, (OTHER, state), early, (Commit(V0, 1), NEEDS))?;
+    hears(alloc, told, (LEADER, more), early, (Heard(E1), b". P12"))?;
+    holds(wrong_row(alloc, U, told, more, THIRD).is_none())
+}
+
 /// The new one hears of the commit of each batch, and gets the state after batch 2 too late.
 fn is_older(
     alloc: Global,
@@ -176,11 +191,7 @@ fn is_older(
     early: &mut Letters,
     late: &mut Letters,
 ) -> Result<(), Fault> {
-    holds(wrong_row(alloc, U, told, more, ONE_COMMITTED).is_none())?;
-    holds(wrong_row(alloc, U, told, more, SECOND).is_none())?;
-    hears(alloc, told, (OTHER, state), early, (Commit(V0, 1), NEEDS))?;
-    hears(alloc, told, (LEADER, more), early, (Heard(E1), b". P12"))?;
-    holds(wrong_row(alloc, U, told, more, THIRD).is_none())?;
+    older_parcel(alloc, told, more, state, early)?;
     hears(alloc, told, (OTHER, state), late, (Commit(V0, 2), NEEDS))?;
     hears(alloc, told, (OTHER, state), late, (Commit(V0, 3), NEEDS))?;
     gets(alloc, told, state, early, b".")?;
@@ -201,7 +212,7 @@ fn has_no_more(
 }
 
 fn is_so(alloc: Global, row: Row, more: &mut State, state: &mut State) -> Result<(), Fault> {
-    let mut told = NONE_TOLD;
+    let mut told = none_told();
     let mut said = Vec::new(alloc);
     let mut late = Vec::new(alloc);
     match row {

@@ -35,19 +35,13 @@ pub const V2: Node = Node::Verifier(2);
 /// What was told of each state, by its number: the token of the state before it, its own, and its epoch.
 pub type Told = [(Token, Token, u64); 10];
 
-/// What is known of the states before any was told.
-pub const NONE_TOLD: Told = [
-    (NO_TOKEN, FIRST_TOKEN, 1),
-    (NO_TOKEN, NO_TOKEN, 0),
-    (NO_TOKEN, NO_TOKEN, 0),
-    (NO_TOKEN, NO_TOKEN, 0),
-    (NO_TOKEN, NO_TOKEN, 0),
-    (NO_TOKEN, NO_TOKEN, 0),
-    (NO_TOKEN, NO_TOKEN, 0),
-    (NO_TOKEN, NO_TOKEN, 0),
-    (NO_TOKEN, NO_TOKEN, 0),
-    (NO_TOKEN, NO_TOKEN, 0),
-];
+/// What is known of the states before any was told. A function, since the table would be in the proof of each
+/// function that names a constant.
+pub fn none_told() -> Told {
+    let mut told = [(NO_TOKEN, NO_TOKEN, 0u64); 10];
+    told[0] = (NO_TOKEN, FIRST_TOKEN, 1);
+    told
+}
 
 /// The token of state 0.
 pub const FIRST_TOKEN: Token = Token([0; 32]);

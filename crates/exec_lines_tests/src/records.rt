@@ -1,9 +1,11 @@
 //! Records of executors.
 
+ghost use Rattle.std.specs.Prelude.{◌≤◌};
+
 use crate::given::Given::{Commit, Rollback};
-use crate::given::{C1, C2, C3, NONE_TOLD, Told, V0};
+use crate::given::{C1, C2, C3, Told, V0, none_told};
 use crate::parts::{NOTHING, ONE_EXECUTED, ONE_OF_TWO};
-use crate::refusals::kept;
+use crate::refusals::{Kept, kept};
 use crate::script::Row::{CannotResume, Execute, Gives, GoesOn, Record, Resumes, Stopped};
 use crate::script::{Part, Place, Script, resumes, wrong_in, wrong_row};
 use crate::seen::{LEADER, U, holds, record};
@@ -85,22 +87,48 @@ pub fn goes_on(alloc: Global, place: Place, state: &State, expected: &[u8]) -> R
 
 const ONE_MORE: Part = (LEADER, &[Execute(C3, 1, b". O13 O23", b"* T03 T13 T23")]);
 
-/// Whether a keeper lends the record as it was saved, after the executor went on.
-fn is_lent_as_it_was(alloc: Global, told: &mut Told, state: &mut State) -> Result<(), Fault> {
-    holds(wrong_row(alloc, U, told, state, ONE_OF_TWO).is_none())?;
-    let bytes = record(alloc, (U, LEADER), state)?;
-    let mut keeper = MemKeeper::new();
-    save_record(state.record(alloc, U, LEADER)?, &mut keeper)?;
+/// Whether the keeper's record is of these bytes, and that of the executor is another.
+fn differ(alloc: Global, state: &State, keeper: &Kept, bytes: &[u8]) -> Result<(), Fault> {
+    let now = record(alloc, (U, LEADER), state)?;
+    let lent = kept(alloc, keeper)?;
+    holds(now.as_slice() != bytes && lent.as_slice() == bytes)
+}
+
+fn saves(alloc: Global, state: &State, keeper: &mut Kept) -> Result<(), Fault> {
+    let record = state.record(alloc, U, LEADER)?;
+    save_record(record, keeper)
+}
+
+/// Saves the record, which has these bytes, and goes on.
+fn saves_and_goes_on(
+    alloc: Global,
+    told: &mut Told,
+    state: &mut State,
+    keeper: &mut Kept,
+    bytes: &[u8],
+) -> Result<(), Fault> {
+    saves(alloc, state, keeper)?;
     holds(wrong_row(alloc, U, told, state, ONE_MORE).is_none())?;
-    let is_other = record(alloc, (U, LEADER), state)? != bytes;
-    holds(is_other && kept(alloc, &keeper)? == bytes)
+    differ(alloc, state, keeper, bytes)
+}
+
+/// Whether a keeper lends the record as it was saved, after the executor went on.
+fn is_lent_as_it_was(alloc: Global, state: &mut State, keeper: &mut Kept) -> Result<(), Fault> {
+    let mut told = none_told();
+    holds(wrong_row(alloc, U, &mut told, state, ONE_OF_TWO).is_none())?;
+    let bytes = record(alloc, (U, LEADER), state)?;
+    saves_and_goes_on(alloc, &mut told, state, keeper, bytes.as_slice())
+}
+
+fn with_a_keeper(alloc: Global, state: &mut State) -> Result<(), Fault> {
+    let mut keeper = MemKeeper::new();
+    is_lent_as_it_was(alloc, state, &mut keeper)
 }
 
 #[test]
 fn a_keeper_lends_the_record_as_it_was_saved(rt: HostRuntime) -> Result<(), Fail> {
     let mut state = State::first(rt.alloc())?;
-    let mut told = NONE_TOLD;
-    let row = is_lent_as_it_was(rt.alloc(), &mut told, &mut state);
+    let row = with_a_keeper(rt.alloc(), &mut state);
     state.end();
     assert!(rt; row == Ok(()));
     Ok(())
@@ -135,12 +163,24 @@ const LAST: Standing = Standing {
     start: 1,
 };
 
+/// The first wrong row of one that goes on from these numbers and the first chain.
+fn wrong_from(
+    alloc: Global,
+    known: u64,
+    standing: Standing,
+    script: Script,
+) -> Result<Option<(usize, bool)>, AllocError>
+    requires { 1 ≤ standing.epoch }
+{
+    let chain = first_chain(alloc)?;
+    let state = State::restored(alloc, known, standing, chain);
+    Ok(wrong_in(alloc, state, script))
+}
+
 #[test]
 fn one_whose_counter_is_at_its_limit_is_stopped(rt: HostRuntime) -> Result<(), Fail> {
-    let alloc = rt.alloc();
-    let all = State::restored(alloc, u64::MAX, Standing::first(), first_chain(alloc)?);
-    let wrong = wrong_in(alloc, all, ASKS_NO_MORE);
-    let last = State::restored(alloc, 0, LAST, first_chain(alloc)?);
-    assert_eq!(rt; (wrong, wrong_in(alloc, last, TURNS_NO_MORE)), (None, None));
+    let all = wrong_from(rt.alloc(), u64::MAX, Standing::first(), ASKS_NO_MORE)?;
+    let last = wrong_from(rt.alloc(), 0, LAST, TURNS_NO_MORE)?;
+    assert_eq!(rt; (all, last), (None, None));
     Ok(())
 }

@@ -4,7 +4,7 @@
 //! `NotOpen` one in which something else does not hold.
 
 use crate::given::Given::{Adopt, Commit, Cut, Finish, Heard, Order, Rollback, Stands, Step, Want};
-use crate::given::{C1, C2, C3, E0, E1, E2, Given, NONE, NONE_TOLD, Told, V0, input, letter};
+use crate::given::{C1, C2, C3, E0, E1, E2, Given, NONE, Told, V0, input, letter, none_told};
 use crate::seen::{LEADER, OTHER, U, are_letters, holds, learn, text_of};
 use decrees::Letter;
 use exec_lines::{Body, ExecutorRecord, Input};
@@ -241,7 +241,7 @@ const LINES: [Lines; 7] = [
 ];
 
 fn play(alloc: Global, leader: &mut Executor, other: &mut Executor) -> Result<(), Fault> {
-    let mut told = NONE_TOLD;
+    let mut told = none_told();
     let mut said = Vec::new(alloc);
     for (id, lines) in LINES {
         if id == LEADER {

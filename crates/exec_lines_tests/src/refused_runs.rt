@@ -3,7 +3,7 @@
 //! something else does not hold.
 
 use crate::given::Given::{Commit, Cut, Sets};
-use crate::given::{C1, C2, NONE_TOLD, Told, V0};
+use crate::given::{C1, C2, Told, V0, none_told};
 use crate::refusals::{Executor, Letters, Line, answered, gives_all, kept, opens};
 use crate::seen::{LEADER, holds, learn};
 use keeper::MemKeeper;
@@ -62,7 +62,7 @@ pub fn row<R: Threads + Wait + Sync, G: Gate + Sync>(
     gate: &G,
 ) -> Result<(), Fault> {
     let mut leader = opens(alloc, LEADER, MemKeeper::new(), Some(b">"))?;
-    let mut told = NONE_TOLD;
+    let mut told = none_told();
     let played = play(rt, alloc, &mut leader, &mut told, gate);
     drop(leader.end());
     played

@@ -1,7 +1,7 @@
 //! Scripts: what an executor is given, row by row, and what it does then.
 
 use crate::adopting::told_as_made;
-use crate::given::{Given, NONE_TOLD, Told, input, token_of};
+use crate::given::{Given, Told, input, none_told, token_of};
 use crate::records::goes_on;
 use crate::seen::{are_letters, holds, learn, record};
 use decrees::Node;
@@ -245,7 +245,7 @@ pub fn wrong_row(
 /// The first wrong row of the script, and whether it is in the first part.
 pub fn wrong_in(alloc: Global, state: State, script: Script) -> Option<(usize, bool)> {
     let mut state = state;
-    let mut told = NONE_TOLD;
+    let mut told = none_told();
     let (_, u, first, second) = script;
     let wrong = match wrong_row(alloc, u, &mut told, &mut state, first) {
         Some(number) => Some((number, true)),

@@ -1,7 +1,7 @@
 //! Work that is run whole, on threads.
 
 use crate::given::Given::{Cut, Finish, Sets, Step};
-use crate::given::{C1, C2, NONE_TOLD, Told, token_of};
+use crate::given::{C1, C2, Told, none_told, token_of};
 use crate::parts::NOTHING;
 use crate::script::Row::{Begun, Gives, NoneBegun};
 use crate::script::{Part, shows, wrong_row};
@@ -93,7 +93,7 @@ fn runs<R: Threads + Wait + Sync>(
 /// The token that is told of state 1.
 fn token<R: Threads + Wait + Sync>(rt: &R, alloc: Global, run: Run) -> Result<Token, Fault> {
     let mut state = State::first(alloc)?;
-    let mut told = NONE_TOLD;
+    let mut told = none_told();
     let row = runs(rt, alloc, &mut told, &mut state, run);
     state.end();
     row?;

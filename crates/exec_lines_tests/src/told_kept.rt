@@ -1,7 +1,7 @@
 //! An executor that is told what stands, with its record.
 
 use crate::given::Given::{Cut, Finish, Stands, Step, Want};
-use crate::given::{C1, C2, C3, NONE_TOLD, V0};
+use crate::given::{C1, C2, C3, V0, none_told};
 use crate::refusals::{Executor, Line, gives_all, opens, restart};
 use crate::seen::LEADER;
 use keeper::MemKeeper;
@@ -27,7 +27,7 @@ const TWO_OF_THREE: &[Line] = &[
 ];
 
 fn play(alloc: Global, leader: &mut Executor) -> Result<(), Fault> {
-    let mut told = NONE_TOLD;
+    let mut told = none_told();
     let mut said = Vec::new(alloc);
     gives_all(alloc, leader, &mut told, &mut said, TWO_OF_THREE)
 }
