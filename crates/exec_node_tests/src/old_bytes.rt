@@ -130,32 +130,25 @@ const NEXT_HEAD: &[Piece] = &[
     Bytes(&[3, 0, 0, 0, 1, 0, 1, 0, 0, 0, 0, 0, 0, 0, 2, 0]),
 ];
 
-/// The pages of a state. That of `a`, whose unique is 64, is page 33 of 64, or 97 of 256.
-const PAGES: &[Piece] = &[
-    Zeros(165, 485),
-    Bytes(&[0, 0, 0, 0, 1, 1, b'a', 0, 0, 0, 0, 0]),
-    Number(64),
-    Bytes(&[0, 0, 0, 1, b'5']),
-    Zeros(150, 790),
-];
+/// The page of `a`, whose unique is 64. It is page 33 of 64, or 97 of 256.
+const PAGE: &[Piece] = &[Bytes(BEFORE_UNIQUE), Number(64), Bytes(AFTER_UNIQUE)];
 
-/// The pages of a member, of which only that of `a` is told: a byte says of each whether it is.
-const PAGES_TOLD: &[Piece] = &[
-    Zeros(33, 97),
-    Bytes(&[1, 0, 0, 0, 0, 1, 1, b'a', 0, 0, 0, 0, 0]),
-    Number(64),
-    Bytes(&[0, 0, 0, 1, b'5']),
-    Zeros(30, 158),
-];
+/// The same after the next batch, whose unique is 128.
+const NEXT_PAGE: &[Piece] = &[Bytes(BEFORE_UNIQUE), Number(128), Bytes(AFTER_UNIQUE)];
 
-/// Those of the next member, where the unique is 128.
-const NEXT_PAGES_TOLD: &[Piece] = &[
-    Zeros(33, 97),
-    Bytes(&[1, 0, 0, 0, 0, 1, 1, b'a', 0, 0, 0, 0, 0]),
-    Number(128),
-    Bytes(&[0, 0, 0, 1, b'5']),
-    Zeros(30, 158),
-];
+const BEFORE_UNIQUE: &[u8] = &[0, 0, 0, 0, 1, 1, b'a', 0, 0, 0, 0, 0];
+
+const AFTER_UNIQUE: &[u8] = &[0, 0, 0, 1, b'5'];
+
+/// The pages of a state before that of `a`, and after it: five bytes each.
+const BEFORE: &[Piece] = &[Zeros(165, 485)];
+
+const AFTER: &[Piece] = &[Zeros(150, 790)];
+
+/// Those of a member: a byte says of each whether it differs from that of the state before, and only that of `a` does.
+const SAME_BEFORE: &[Piece] = &[Zeros(33, 97), Bytes(&[1])];
+
+const SAME_AFTER: &[Piece] = &[Zeros(30, 158)];
 
 /// A chain of no members, or of one, which begins with its batch.
 const NO_MEMBER: &[Piece] = &[Bytes(&[0])];
@@ -168,19 +161,23 @@ const SECOND_MEMBER: &[Piece] = &[Bytes(&[1]), Bytes(&SECOND_BATCH)];
 pub const NEW: Record = &[FIRST, NO_MEMBER];
 
 /// Of one that was stopped when its batch 1 was complete, and of which nothing is decided.
-pub const STOPPED: Record = &[FIRST, FIRST_MEMBER, OLD_HEAD, PAGES_TOLD];
+pub const STOPPED: Record = &[FIRST, FIRST_MEMBER, OLD_HEAD, SAME_BEFORE, PAGE, SAME_AFTER];
 
 /// Of one for which batch 1 was committed.
-pub const COMMITTED: Record = &[ONE_COMMIT, OLD_HEAD, PAGES, NO_MEMBER];
+pub const COMMITTED: Record = &[ONE_COMMIT, OLD_HEAD, BEFORE, PAGE, AFTER, NO_MEMBER];
 
 /// Of one that then executed batch 2.
 pub const NEXT: Record = &[
     ONE_COMMIT,
     OLD_HEAD,
-    PAGES,
+    BEFORE,
+    PAGE,
+    AFTER,
     SECOND_MEMBER,
     NEXT_HEAD,
-    NEXT_PAGES_TOLD,
+    SAME_BEFORE,
+    NEXT_PAGE,
+    SAME_AFTER,
 ];
 
 static NOTHING: [u8; 1280] = [0; 1280];
