@@ -12,7 +12,7 @@ use Rattle.connections.specs.declared.connections.CommandNumber.{CommandNumber}
 use Rattle.connections.specs.declared.places.Place.{Place}
 use Rattle.connections.specs.declared.said.Said.{Said}
 use Rattle.connections.specs.Connection.{ConnectionView, IsTaken}
-use Rattle.connections.specs.Places.{is_of_connection, connection_at, place_in, is_here, FeedsHere, FeedsIn, FeedsAt, AnswersHere, AnswersIn, AnswersAt, TakesPlace, TakesWhere, TakesIn, TakesAt, left_place, left_in, left_at, HasSameOthers}
+use Rattle.connections.specs.Places.{is_of_connection, connection_at, place_in, is_here, FeedsHere, FeedsIn, FeedsAt, AnswersHere, AnswersIn, AnswersAt, TakesPlace, TakesWhere, TakesIn, TakesAt, left_place, left_in, left_at, HasSameOthers, IsGrown}
 use Rattle.memcached_spec.specs.Asked.{HasText}
 use Rattle.connections.specs.Connections.{ConnectionsView, AreBefore, AreReplied, IsConnections}
 use Rattle.connections.proofs.PlaceLemmas.{set_place, other_place, place_there, here_is}
@@ -123,12 +123,20 @@ closed_leaves v at piece table said here f closes =
     let parts = fed_parts v at piece table (Ok said) c.0 c.1 f in
     ap (λ (t : List (Option ConnectionView)). place_in t at.key) parts.2 ∙ (set_place v.table at.key parts.0 (Some c.0) (place_there v.table at.key c.0 c.1) ∙ (parts.1.3 ∙ ap (λ (b : Bool). if not b then Some parts.1.0 else None) closes))
 
+-- one place is set
+set_others : (old table : List (Option ConnectionView)) (key : ℕ) (p : Option ConnectionView) → table ≡ slice_set old key p → HasSameOthers key old table
+set_others old table key p is other differs = ap (λ (t : List (Option ConnectionView)). place_in t other) is ∙ other_place old key p other differs
+
+-- after places were added
+pub came_others : (old grown table : List (Option ConnectionView)) (key : ℕ) (p : Option ConnectionView) → IsGrown old grown → table ≡ slice_set grown key p → HasSameOthers key old table
+came_others old grown table key p more is other differs = set_others grown table key p is other differs ∙ more other
+
 pub fed_others : (at : Place) (piece : List ℕ) (old table : List (Option ConnectionView)) (result : Result Said Fault) → FeedsAt at piece old table result → HasSameOthers at.key old table
 fed_others at piece old table result f = by (slice_get old at.key) f
   where
     by : (o : Option (Option ConnectionView)) → FeedsIn at piece old table result o → HasSameOthers at.key old table
     by None f = λ other differs. ap (λ (t : List (Option ConnectionView)). place_in t other) f.0
-    by (Some p) f = λ other differs. ap (λ (t : List (Option ConnectionView)). place_in t other) f.2 ∙ other_place old at.key f.0 other differs
+    by (Some p) f = set_others old table at.key f.0 f.2
 
 pub fed_names : (v : ConnectionsView) (at : Place) (piece : List ℕ) (table : List (Option ConnectionView)) (said : Said) → is_here at.number v.table at.key ≡ true → FeedsAt at piece v.table table (Ok said) → (said.key ≡ at.key) × (said.number ≡ at.number)
 fed_names v at piece table said here f =
@@ -180,7 +188,21 @@ answer_leaves v at turn reply table said here f closes =
     let parts = answer_parts v at turn reply table (Some said) c.0 c.1 f in
     ap (λ (t : List (Option ConnectionView)). place_in t at.key) parts.2 ∙ (set_place v.table at.key parts.0 (Some c.0) (place_there v.table at.key c.0 c.1) ∙ (parts.1.3 ∙ ap (λ (b : Bool). if not b then Some parts.1.0 else None) closes))
 
+pub answered_others : (at : Place) (turn : ℕ) (reply : replies.Reply) (old table : List (Option ConnectionView)) (result : Option Said) → AnswersAt at turn reply old table result → HasSameOthers at.key old table
+answered_others at turn reply old table result f = by (slice_get old at.key) f
+  where
+    by : (o : Option (Option ConnectionView)) → AnswersIn at turn reply old table result o → HasSameOthers at.key old table
+    by None f = λ other differs. ap (λ (t : List (Option ConnectionView)). place_in t other) f.0
+    by (Some p) f = set_others old table at.key f.0 f.2
+
 -- ---- its command is taken
+
+pub taken_others : (at : Place) (old table : List (Option ConnectionView)) (result : Option Ready) → TakesAt at old table result → HasSameOthers at.key old table
+taken_others at old table result t = by (slice_get old at.key) t
+  where
+    by : (o : Option (Option ConnectionView)) → TakesIn at old table result o → HasSameOthers at.key old table
+    by None t = λ other differs. ap (λ (t : List (Option ConnectionView)). place_in t other) t.0
+    by (Some p) t = set_others old table at.key t.0 t.2
 
 pub takes_none : (at : Place) (old table : List (Option ConnectionView)) → TakesAt at old table None → table ≡ old
 takes_none at old table t = by (slice_get old at.key) refl t

@@ -46,7 +46,7 @@ impl Connections {
     ghost use Rattle.std.specs.Prelude.{◌≡◌, ◌<◌, ◌≤◌, ◌+◌, ◌++◌, ◌∷◌, ◌⊎◌, [], true, false, None, Some, IfOk, IfErr, OnOk, OnErr, OnSome, IfSome, IfNone, Err, is_some};
     ghost use Rattle.memcached_spec.specs.Asked.{HasText};
     ghost use Rattle.connections.specs.Connection.{new_connection};
-    ghost use Rattle.connections.specs.Places.{place_in, is_here, is_untaken_in, left_at, HasSameOthers};
+    ghost use Rattle.connections.specs.Places.{place_in, is_here, is_untaken_in, left_at, HasSameOthers, IsGrown};
     ghost use Rattle.connections.specs.History.{IsHistory, given_as};
     ghost use Rattle.connections.specs.Connections.{IsConnections, no_connections, HasSameLogs, PassesOn, AreBefore, AreReplied};
 
@@ -73,6 +73,8 @@ impl Connections {
         ensures here { OnOk result (place_in self.new.table at.key ≡ Some (new_connection at.number)) }
         ensures next { OnOk result ((self.old.next ≤ at.number) × (self.new.next ≡ at.number + 1)) }
         ensures err { OnErr result (self.new.next ≡ self.old.next) }
+        ensures same { OnErr result (IsGrown self.old.table self.new.table) }
+        ensures same_others { HasSameOthers at.key self.old.table self.new.table }
         ensures only { IfErr result (λ fault. (fault ≡ Fault.Unfit) ⊎ (fault ≡ Fault.Full) ⊎ (fault ≡ Fault.NoMemory)) }
     {
         if at.number < self.next || table::is_taken(&self.table, at.key) {
@@ -117,6 +119,7 @@ impl Connections {
         ensures first { IfSome result (λ ready. AreBefore self.old.taken at.number ready.turn) }
         ensures in_turn { IfSome result (λ ready. AreReplied self.old.replied at.number ready.turn) }
         ensures text { IfSome result (λ ready. HasText ready.command ready.quiet) }
+        ensures same_others { HasSameOthers at.key self.old.table self.new.table }
         ensures others { (self.new.heard ≡ self.old.heard) × (self.new.given ≡ self.old.given) × (self.new.passed ≡ self.old.passed) × (self.new.replied ≡ self.old.replied) × (self.new.next ≡ self.old.next) }
     {
         let ready = table::take(&mut self.table, at)?;
@@ -138,6 +141,7 @@ impl Connections {
         ensures passed { IfSome result (λ said. self.new.passed ≡ self.old.passed ++ given_as at.number said.bytes.items ∷ []) }
         ensures to { IfSome result (λ said. (said.key ≡ at.key) × (said.number ≡ at.number)) }
         ensures closes { IfSome result (λ said. said.closes ≡ true → place_in self.new.table at.key ≡ None) }
+        ensures same_others { HasSameOthers at.key self.old.table self.new.table }
         ensures others { (self.new.heard ≡ self.old.heard) × (self.new.taken ≡ self.old.taken) × (self.new.next ≡ self.old.next) }
     {
         if !table::is_here(&self.table, at) {
@@ -169,6 +173,7 @@ impl Connections {
         ensures given { IfSome result (λ said. self.new.given ≡ self.old.given ++ (at.number, said.bytes.items) ∷ []) }
         ensures passed { IfSome result (λ said. self.new.passed ≡ self.old.passed ++ given_as at.number said.bytes.items ∷ []) }
         ensures to { IfSome result (λ said. (said.key ≡ at.key) × (said.number ≡ at.number) × (said.closes ≡ true)) }
+        ensures left { OnSome result (self.new.table ≡ left_at at self.old.table) }
         ensures others { (self.new.heard ≡ self.old.heard) × (self.new.taken ≡ self.old.taken) × (self.new.replied ≡ self.old.replied) × (self.new.next ≡ self.old.next) }
     {
         if !table::is_here(&self.table, at) {

@@ -46,8 +46,9 @@ impl Model for Service {
 }
 
 impl Service {
-    ghost use Rattle.std.specs.Prelude.{◌≡◌, ◌++◌, ◌∷◌, ◌⊎◌, [], true, false, None, IfOk, OnOk, OnErr};
-    ghost use Rattle.connections.specs.Places.{place_in, is_here, left_at, HasSameOthers};
+    ghost use Rattle.std.specs.Prelude.{◌≡◌, ◌++◌, ◌∷◌, ◌⊎◌, [], true, false, None, Some, IfOk, IfErr, OnOk, OnErr};
+    ghost use Rattle.connections.specs.Connection.{new_connection};
+    ghost use Rattle.connections.specs.Places.{place_in, is_here, left_at, HasSameOthers, IsGrown};
     ghost use Rattle.connections.specs.Connections.{HasSameLogs, no_connections, IsConnections};
     ghost use Rattle.connections.specs.History.{IsHistory};
     ghost use Rattle.service.specs.Service.{IsService, HasMoments, HasEnsemble, HasSameRequests, Hears};
@@ -85,6 +86,10 @@ impl Service {
     /// After an error no connection has changed, and this one is to be closed. Unfit: the number is not above the
     /// others, or a connection is at the key; Full: the key is 65,536 or more; NoMemory: an allocation failed.
     pub fn come(&mut self, alloc: Global, key: usize, number: u64) -> Result<(), Fault>
+        ensures here { OnOk result (place_in self.new.connections.table key ≡ Some (new_connection number)) }
+        ensures same { OnErr result (IsGrown self.old.connections.table self.new.connections.table) }
+        ensures same_others { HasSameOthers key self.old.connections.table self.new.connections.table }
+        ensures only { IfErr result (λ fault. (fault ≡ Fault.Unfit) ⊎ (fault ≡ Fault.Full) ⊎ (fault ≡ Fault.NoMemory)) }
         ensures logs { HasSameLogs self.old.connections self.new.connections }
         ensures requests { HasSameRequests self.old self.new }
     {
