@@ -145,15 +145,29 @@ impl<'a, R: Threads + Wait + Sync> Site<'a, R> {
         laps.end_part(0);
         let tentative = self.run(batch)?;
         laps.end_part(1);
-        let saved = tentative.saved();
-        laps.end_part(3);
-        let Some(committed) = commit(tentative) else {
-            return Err(Fault::NotOpen);
-        };
-        self.committed = committed;
-        laps.end_part(2);
-        drop(saved?);
+        self.end(tentative, &mut laps)?;
         times.add(laps.times)?;
         Ok(())
+    }
+
+    /// Takes what is saved of the state, and commits it.
+    fn end(&mut self, tentative: Tentative, laps: &mut Laps) -> Result<(), Fault> {
+        let saved = tentative.saved();
+        laps.end_part(3);
+        let ended = self.go_on(tentative);
+        laps.end_part(2);
+        drop(saved?);
+        ended
+    }
+
+    /// Commits the state.
+    fn go_on(&mut self, tentative: Tentative) -> Result<(), Fault> {
+        match commit(tentative) {
+            Some(committed) => {
+                self.committed = committed;
+                Ok(())
+            }
+            None => Err(Fault::NotOpen),
+        }
     }
 }

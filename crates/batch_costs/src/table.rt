@@ -94,6 +94,39 @@ fn print_plan(rt: &HostRuntime, plan: &Plan) -> io::Result<()> {
     println!(rt; "{items} items of {bytes} bytes, {keys} keys, {workers} workers")
 }
 
+fn print_fill<R: Threads + Wait + Sync>(
+    rt: &HostRuntime,
+    site: &mut Site<R>,
+    plan: &Plan,
+) -> Result<(), Fault> {
+    let times = fill(rt, site, plan)?;
+    print_times(rt, "fill", &times)
+}
+
+const KINDS: [(&str, Kind); 10] = [
+    ("64 sets that overwrite", Kind::Overwrite),
+    ("64 sets that insert", Kind::Insert),
+    ("64 gets", Kind::Get),
+    ("1 set", Kind::OneSet),
+    ("1 get", Kind::OneGet),
+    ("64 deletes", Kind::Delete),
+    ("64 items become due", Kind::Due),
+    ("1 set of 100 KiB", Kind::SetLarge),
+    ("64 gets of 100 KiB", Kind::GetLarge),
+    ("64 sets beside 64 large replies", Kind::Overwrite),
+];
+
+fn print_kinds<R: Threads + Wait + Sync>(
+    rt: &HostRuntime,
+    site: &mut Site<R>,
+    plan: &Plan,
+) -> Result<(), Fault> {
+    for row in KINDS {
+        print_kind(rt, site, plan, row)?;
+    }
+    Ok(())
+}
+
 /// Executes the run, and prints what it took.
 pub fn print_table<R: Threads + Wait + Sync>(
     rt: &HostRuntime,
@@ -104,21 +137,6 @@ pub fn print_table<R: Threads + Wait + Sync>(
         return Err(Fault::Unfit);
     }
     let mut site = Site::new(rt, threads, plan.workers)?;
-    let times = fill(rt, &mut site, plan)?;
-    print_times(rt, "fill", &times)?;
-    for row in [
-        ("64 sets that overwrite", Kind::Overwrite),
-        ("64 sets that insert", Kind::Insert),
-        ("64 gets", Kind::Get),
-        ("1 set", Kind::OneSet),
-        ("1 get", Kind::OneGet),
-        ("64 deletes", Kind::Delete),
-        ("64 items become due", Kind::Due),
-        ("1 set of 100 KiB", Kind::SetLarge),
-        ("64 gets of 100 KiB", Kind::GetLarge),
-        ("64 sets beside 64 large replies", Kind::Overwrite),
-    ] {
-        print_kind(rt, &mut site, plan, row)?;
-    }
-    Ok(())
+    print_fill(rt, &mut site, plan)?;
+    print_kinds(rt, &mut site, plan)
 }

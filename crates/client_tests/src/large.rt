@@ -45,11 +45,20 @@ fn many_commands_of_one_piece_are_served_in_time(rt: HostRuntime) -> Result<(), 
     Ok(())
 }
 
+fn are_many_errors(alloc: Global, bytes: &[u8]) -> Result<bool, AllocError> {
+    let errors = many(alloc, b"ERROR\r\n")?;
+    Ok(bytes == errors.as_slice())
+}
+
+fn tells(alloc: Global, client: &mut Client) -> Result<(), Fault> {
+    let piece = many(alloc, b"frob\r\n")?;
+    let (letters, bytes) = handled(alloc, client, Input::Feed(piece))?;
+    holds(letters.is_empty() && are_many_errors(alloc, bytes.as_slice())?)
+}
+
 fn tells_many(alloc: Global) -> Result<(), Fault> {
     let mut client = Client::new(alloc, CLIENT, 1);
-    let piece = many(alloc, b"frob\r\n")?;
-    let (letters, bytes) = handled(alloc, &mut client, Input::Feed(piece))?;
-    holds(letters.is_empty() && bytes == many(alloc, b"ERROR\r\n")?)
+    tells(alloc, &mut client)
 }
 
 #[test]

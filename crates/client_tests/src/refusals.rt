@@ -3,13 +3,15 @@
 //! `scripts/refusals` refuses each in turn.
 
 use crate::handed::Handed::{Again, Deleted, Feed, Found, Hangup, Stored};
-use crate::seen::{Row, closes};
+use crate::seen::{Talk, is_held};
 use proto::Fault;
-use std::alloc::Global;
 use std::test::Fail;
 
-fn each_line(alloc: Global) -> Result<(), Fault> {
-    let rows: &[Row] = &[
+const EACH_LINE: Talk = Talk {
+    name: "each line",
+    u: 1,
+    closes: true,
+    rows: &[
         (Feed(b"frob\r\nset a 0 0 1\r\n5"), b"ERROR\r\n", b""),
         (
             Feed(b"\r\nget a\r\ndelete a noreply\r\n"),
@@ -21,19 +23,18 @@ fn each_line(alloc: Global) -> Result<(), Fault> {
         (Found(2), b"VALUE a 0 1\r\n5\r\nEND\r\n", b"3 delete a"),
         (Deleted(3), b"", b""),
         (Hangup, b"", b""),
-    ];
-    closes(alloc, rows)
-}
+    ],
+};
 
 #[test]
 fn each_line_answers_with_ample_memory(rt: HostRuntime) -> Result<(), Fail> {
-    assert!(rt; each_line(rt.alloc()) == Ok(()));
+    assert!(rt; is_held(rt.alloc(), &EACH_LINE) == Ok(()));
     Ok(())
 }
 
 #[test]
 fn a_refused_growth_stops_it(rt: HostRuntime) -> Result<(), Fail> {
-    let row = each_line(rt.alloc());
+    let row = is_held(rt.alloc(), &EACH_LINE);
     assert!(rt; row == Ok(()) || row == Err(Fault::NoMemory));
     Ok(())
 }

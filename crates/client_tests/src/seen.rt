@@ -126,36 +126,34 @@ pub fn handled(
     }
 }
 
-/// Plays one row before so many executors.
-pub fn plays(alloc: Global, client: &mut Client, executors: usize, row: Row) -> Result<(), Fault> {
+/// Rows of one connection, before `2 u + 1` executors.
+#[derive(Clone, Copy)]
+pub struct Talk {
+    pub name: &'static str,
+    /// How many executors may fail, 3 at most.
+    pub u: u8,
+    /// Whether it is closed in the end, which is no error.
+    pub closes: bool,
+    pub rows: &'static [Row<'static>],
+}
+
+fn plays(alloc: Global, client: &mut Client, executors: usize, row: &Row) -> Result<(), Fault> {
     let (handed, bytes, asked) = row;
-    let (letters, given) = handled(alloc, client, input(alloc, handed)?)?;
-    holds(given.as_slice() == bytes)?;
-    holds(are_asked(alloc, letters.as_slice(), executors, asked)?)
+    let (letters, given) = handled(alloc, client, input(alloc, *handed)?)?;
+    holds(given.as_slice() == *bytes)?;
+    holds(are_asked(alloc, letters.as_slice(), executors, *asked)?)
 }
 
-fn plays_all(
-    alloc: Global,
-    client: &mut Client,
-    executors: usize,
-    rows: &[Row],
-) -> Result<(), Fault> {
-    for row in rows {
-        plays(alloc, client, executors, *row)?;
+fn plays_all(alloc: Global, client: &mut Client, talk: &Talk) -> Result<(), Fault> {
+    let executors = 2 * usize::from(talk.u) + 1;
+    for row in talk.rows {
+        plays(alloc, client, executors, row)?;
     }
-    Ok(())
+    holds(client.is_up() && client.is_closed() == talk.closes)
 }
 
-/// Plays the rows before three executors. It is up then, and not closed.
-pub fn goes_on(alloc: Global, rows: &[Row]) -> Result<(), Fault> {
-    let mut client = Client::new(alloc, CLIENT, 1);
-    plays_all(alloc, &mut client, 3, rows)?;
-    holds(client.is_up() && !client.is_closed())
-}
-
-/// Plays the rows before three executors. It is closed then, which is no error.
-pub fn closes(alloc: Global, rows: &[Row]) -> Result<(), Fault> {
-    let mut client = Client::new(alloc, CLIENT, 1);
-    plays_all(alloc, &mut client, 3, rows)?;
-    holds(client.is_up() && client.is_closed())
+/// Plays the rows. It is up then, and closed or not.
+pub fn is_held(alloc: Global, talk: &Talk) -> Result<(), Fault> {
+    let mut client = Client::new(alloc, CLIENT, talk.u.min(3));
+    plays_all(alloc, &mut client, talk)
 }

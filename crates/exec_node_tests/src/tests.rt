@@ -53,8 +53,12 @@ pub fn reopens(alloc: Global, keeper: Kept, said: &[Ballot], ends: &[u8]) -> Res
     let (executor, letters) = opened(alloc, keeper)?;
     let is_well = executor.is_up() && says(letters.as_slice(), said);
     drop(letters);
+    Ok(ends_with(alloc, executor, ends)? && is_well)
+}
+
+fn ends_with(alloc: Global, executor: Executor, ends: &[u8]) -> Result<bool, Fault> {
     let kept = record(alloc, &executor.end())?;
-    Ok(is_well && kept.as_slice() == ends)
+    Ok(kept.as_slice() == ends)
 }
 
 fn first_record(alloc: Global) -> Result<Vec<u8>, Fault> {
@@ -192,13 +196,18 @@ fn make_steps(alloc: Global, work: &mut Work) -> Result<(), Fault> {
     Ok(())
 }
 
-/// What the work makes in its only group.
-fn work_to_its_end(alloc: Global, mut work: Work) -> Result<Tentative, Fault> {
-    make_steps(alloc, &mut work)?;
-    match work.finish(alloc)? {
+/// What the last group ends in.
+fn done_of(ended: Ended) -> Result<Tentative, Fault> {
+    match ended {
         Ended::Done(tentative) => Ok(tentative),
         Ended::On(_) => Err(Fault::NotOpen),
     }
+}
+
+/// What the work makes in its only group.
+fn work_to_its_end(alloc: Global, mut work: Work) -> Result<Tentative, Fault> {
+    make_steps(alloc, &mut work)?;
+    done_of(work.finish(alloc)?)
 }
 
 fn made_over(alloc: Global, base: &Base, batch: Batch) -> Result<Tentative, Fault> {

@@ -115,12 +115,18 @@ fn committed(alloc: Global, base: &Base, bytes: &[u8]) -> Result<Committed, Faul
     commit(run(alloc, base, bytes, false)?)
 }
 
+/// Makes the state that after these batches.
+fn go_on(alloc: Global, last: &mut Committed, batches: &[&[u8]]) -> Result<(), Fault> {
+    for bytes in batches {
+        *last = committed(alloc, last.as_base(), bytes)?;
+    }
+    Ok(())
+}
+
 /// The state after these batches over the first one.
 fn after(alloc: Global, batches: &[&[u8]]) -> Result<Committed, Fault> {
     let mut last = Committed::first(alloc)?;
-    for bytes in batches {
-        last = committed(alloc, last.as_base(), bytes)?;
-    }
+    go_on(alloc, &mut last, batches)?;
     Ok(last)
 }
 

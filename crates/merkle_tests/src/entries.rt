@@ -15,15 +15,15 @@ pub fn key(alloc: Global, bytes: &[u8]) -> Result<Key, AllocError> {
 
 pub fn item(
     alloc: Global,
-    data: &[u8],
+    bytes: &[u8],
     flags: u32,
     due: Option<u64>,
     unique: u64,
 ) -> Result<Item, AllocError>
-    requires { length data.now ≤ 16 }
+    requires { length bytes.now ≤ 16 }
 {
     Ok(Item {
-        block: Block::from_slice(alloc, data)?,
+        block: Block::from_slice(alloc, bytes)?,
         flags,
         due,
         unique,

@@ -46,19 +46,22 @@ fn text_of(alloc: Global, page: &Page) -> Result<Vec<u8>, AllocError> {
     Ok(text)
 }
 
-/// Whether the page that the bytes begin with has the layout that their mark tells, and its text and the
-/// bytes after it are those bytes; nothing if they begin with no page.
+/// Whether the page has the layout that the mark of the bytes tells, and its text and the rest are those
+/// bytes.
+fn begins(alloc: Global, bytes: &[u8], page: &Page, rest: &[u8]) -> Result<bool, AllocError> {
+    let mark = match page.layout() {
+        Layout::Sorted => 0u8,
+        Layout::Tree => 6,
+    };
+    let mut again = text_of(alloc, page)?;
+    again.extend_from_slice(rest)?;
+    Ok(again.as_slice() == bytes && bytes.first() == Some(&mark))
+}
+
+/// Whether the bytes begin with the page that is read of them; nothing if they begin with no page.
 fn taken(alloc: Global, bytes: &[u8]) -> Result<Option<bool>, Fault> {
     match Page::take(alloc, bytes) {
-        Ok((page, rest)) => {
-            let mark = match page.layout() {
-                Layout::Sorted => 0u8,
-                Layout::Tree => 6,
-            };
-            let mut again = text_of(alloc, &page)?;
-            again.extend_from_slice(rest)?;
-            Ok(Some(again.as_slice() == bytes && bytes.first() == Some(&mark)))
-        }
+        Ok((page, rest)) => Ok(Some(begins(alloc, bytes, &page, rest)?)),
         Err(Fault::BadRecord) => Ok(None),
         Err(fault) => Err(fault),
     }
@@ -95,11 +98,9 @@ fn are_told_apart(alloc: Global, bytes: &mut [u8]) -> Result<bool, Fault> {
     Ok(true)
 }
 
-/// Whether the page that is read of its text is the same, in the same layout, and leaves the bytes after it.
-fn is_read_back(alloc: Global, page: &Page) -> Result<bool, Fault> {
-    let mut text = text_of(alloc, page)?;
-    text.extend_from_slice(b"rest")?;
-    let (back, rest) = Page::take(alloc, text.as_slice())?;
+/// Whether the page that is read of these bytes is the same, in the same layout, and leaves `rest`.
+fn is_read(alloc: Global, page: &Page, bytes: &[u8]) -> Result<bool, Fault> {
+    let (back, rest) = Page::take(alloc, bytes)?;
     Ok(
         rest == b"rest".as_slice()
             && back.layout() == page.layout()
@@ -108,18 +109,25 @@ fn is_read_back(alloc: Global, page: &Page) -> Result<bool, Fault> {
     )
 }
 
-/// The same of a page of so many items in this layout; and whether what is cut or changed of its text is told
-/// apart, and the text of a tree has the digest of its row. The text of two is not changed, for the time.
+fn is_read_back(alloc: Global, page: &Page) -> Result<bool, Fault> {
+    let mut text = text_of(alloc, page)?;
+    text.extend_from_slice(b"rest")?;
+    is_read(alloc, page, text.as_slice())
+}
+
+/// Whether what is cut or changed of the page's text is told apart, and the text of a tree has the digest of
+/// its row. The text of two is not changed, for the time.
+fn has_text(alloc: Global, page: &Page, count: usize) -> Result<bool, Fault> {
+    let mut text = text_of(alloc, page)?;
+    let has_digest = page.layout() == Layout::Sorted
+        || Sha256::digest(text.as_slice()) == TEXTS[count.min(3)];
+    Ok(has_digest && (count == 2 || are_told_apart(alloc, text.as_mut_slice())?))
+}
+
+/// The same of a page of so many items in this layout; and whether it is read back.
 fn holds(alloc: Global, layout: Layout, count: usize) -> Result<bool, Fault> {
     let page = page_of_rows(alloc, layout, count)?;
-    let mut text = text_of(alloc, &page)?;
-    let has_digest = layout == Layout::Sorted
-        || Sha256::digest(text.as_slice()) == TEXTS[count.min(3)];
-    Ok(
-        has_digest
-            && is_read_back(alloc, &page)?
-            && (count == 2 || are_told_apart(alloc, text.as_mut_slice())?),
-    )
+    Ok(has_text(alloc, &page, count)? && is_read_back(alloc, &page)?)
 }
 
 /// Whether the text of this layout is none with the mark of the other one: its entries have another order.

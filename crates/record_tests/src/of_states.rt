@@ -1,7 +1,7 @@
 //! States that are read from records of both versions, their bytes by hand. Expected values are those of
-//! the program that wrote them.
+//! other programs.
 
-use crate::rows::turn;
+use crate::rows::{Part, bytes_of, turn};
 use proto::Fault;
 use states::{State, Version};
 use std::alloc::{AllocError, Global};
@@ -9,16 +9,6 @@ use std::test::Fail;
 use token::{Form, Token};
 
 mod old_limits;
-
-/// The record of the first state: 40 bytes of number and token before, its epoch, 68 bytes of batch,
-/// moment and token, no sessions, and 64 pages without items.
-fn add_old_first(bytes: &mut Vec<u8>) -> Result<(), AllocError> {
-    bytes.extend_from_slice(&[0; 40])?;
-    bytes.extend_from_slice(&[0, 0, 0, 0, 0, 0, 0, 1])?;
-    bytes.extend_from_slice(&[0; 68])?;
-    bytes.extend_from_slice(&[3, 0, 0, 0, 0])?;
-    bytes.extend_from_slice(&[0; 320])
-}
 
 /// The digest of the batch of one `set`.
 const BATCH: [u8; 32] = [
@@ -44,146 +34,212 @@ const TOKEN_OF_TREES: [u8; 32] = [
     0xd8, 0xea, 0xc0, 0xe8, 0xf5, 0xcf, 0x6c, 0x7f, 0x1b, 0x44, 0xae, 0xc6, 0x7e, 0x3f, 0x7e, 0xfd,
 ];
 
-/// The head, without its form, of the state after batch 1 of one `set` of `a` by client 1, and its
-/// sessions: client 1 was answered `STORED`.
-fn add_front(bytes: &mut Vec<u8>, token: &[u8; 32]) -> Result<(), AllocError> {
-    bytes.extend_from_slice(&[0, 0, 0, 0, 0, 0, 0, 1])?;
-    bytes.extend_from_slice(&[0; 32])?;
-    bytes.extend_from_slice(&[0, 0, 0, 0, 0, 0, 0, 1])?;
-    bytes.extend_from_slice(&BATCH)?;
-    bytes.extend_from_slice(&[0, 0, 3, 232])?;
-    bytes.extend_from_slice(token)?;
-    bytes.extend_from_slice(&[3, 0, 0, 0, 1, 0, 1, 0, 0, 0, 0, 0, 0, 0, 1, 0])
-}
-
-/// The page with `a`.
-const PAGE: [u8; 25] = [
-    0, 0, 0, 0, 1, 1, b'a', 0, 0, 0, 0, 0, 0, 0, 0, 0, 0, 0, 0, 64, 0, 0, 0, 1, b'5',
+/// The number and the token before of the state after batch 1, and its epoch.
+const AFTER_1: &[Part<'static>] = &[
+    (&[0, 0, 0, 0, 0, 0, 0, 1], 1),
+    (&[0], 32),
+    (&[0, 0, 0, 0, 0, 0, 0, 1], 1),
 ];
 
-/// The record of that state: `a` stands on page 33.
-fn add_old_set(bytes: &mut Vec<u8>) -> Result<(), AllocError> {
-    add_front(bytes, &TOKEN)?;
-    bytes.extend_from_slice(&[0; 165])?;
-    bytes.extend_from_slice(&PAGE)?;
-    bytes.extend_from_slice(&[0; 150])
+/// The batch of one `set` of `a` by client 1, and its moment.
+const OF_SET: &[Part<'static>] = &[(&BATCH, 1), (&[0, 0, 3, 232], 1)];
+
+/// Sessions: client 1 was answered `STORED`.
+const STORED: Part<'static> = (&[3, 0, 0, 0, 1, 0, 1, 0, 0, 0, 0, 0, 0, 0, 1, 0], 1);
+
+/// The page with `a`, behind its mark.
+const PAGE: Part<'static> = (
+    &[
+        0, 0, 0, 1, 1, b'a', 0, 0, 0, 0, 0, 0, 0, 0, 0, 0, 0, 0, 64, 0, 0, 0, 1, b'5',
+    ],
+    1,
+);
+
+/// Pages of today: `a` stands on page 97 of 256.
+const PAGES: &[Part<'static>] = &[(&[0; 5], 97), (&[0], 1), PAGE, (&[0; 5], 158)];
+
+/// The same pages of trees.
+const TREES: &[Part<'static>] = &[
+    (&[6, 0, 0, 0, 0], 97),
+    (&[6], 1),
+    PAGE,
+    (&[6, 0, 0, 0, 0], 158),
+];
+
+/// Lists of parts.
+type Record = &'static [&'static [Part<'static>]];
+
+/// The record of the first state in version 1: 40 bytes of number and token before, its epoch, 68 bytes
+/// of batch, moment and token, no sessions, and 64 pages without items.
+const OLD_FIRST: Record = &[&[
+    (&[0], 40),
+    (&[0, 0, 0, 0, 0, 0, 0, 1], 1),
+    (&[0], 68),
+    (&[3, 0, 0, 0, 0], 1),
+    (&[0; 5], 64),
+]];
+
+/// That of today.
+const FIRST: Record = &[&[
+    (&[2], 1),
+    (&[0], 40),
+    (&[0, 0, 0, 0, 0, 0, 0, 1], 1),
+    (&[0], 68),
+    (&[3, 0, 0, 0, 0], 1),
+    (&[0; 5], 256),
+]];
+
+/// The record after the `set` in version 1: `a` stands on page 33 of 64.
+const OLD_SET: Record = &[
+    AFTER_1,
+    OF_SET,
+    &[
+        (&TOKEN, 1),
+        STORED,
+        (&[0; 5], 33),
+        (&[0], 1),
+        PAGE,
+        (&[0; 5], 30),
+    ],
+];
+
+/// Those of each form today.
+const SET_OLD: Record = &[&[(&[1], 1)], AFTER_1, OF_SET, &[(&TOKEN, 1), STORED], PAGES];
+
+const SET_TODAY: Record = &[
+    &[(&[2], 1)],
+    AFTER_1,
+    OF_SET,
+    &[(&TOKEN_OF_TODAY, 1), STORED],
+    PAGES,
+];
+
+const SET_TREES: Record = &[
+    &[(&[3], 1)],
+    AFTER_1,
+    OF_SET,
+    &[(&TOKEN_OF_TREES, 1), STORED],
+    TREES,
+];
+
+/// What a state is told by here: its number, its token and its form.
+type Told = (u64, [u8; 32], Form);
+
+/// Bytes of a version; and what they are read as, and the record that is written of it then, if they are
+/// a record.
+#[derive(Clone, Copy)]
+struct Row {
+    name: &'static str,
+    version: Version,
+    record: Record,
+    read: Option<(Told, Record)>,
 }
 
-/// So many pages without items, which begin with this mark.
-fn add_empty(bytes: &mut Vec<u8>, mark: u8, count: u32) -> Result<(), AllocError> {
-    for _ in 0..count {
-        bytes.extend_from_slice(&[mark, 0, 0, 0, 0])?;
-    }
-    Ok(())
+const ROWS: [Row; 5] = [
+    Row {
+        name: "the_first_state_of_version_1",
+        version: Version::First,
+        record: OLD_FIRST,
+        read: Some(((0, [0; 32], Form::Current), FIRST)),
+    },
+    Row {
+        name: "a_later_state_of_version_1_keeps_its_token",
+        version: Version::First,
+        record: OLD_SET,
+        read: Some(((1, TOKEN, Form::Old), SET_OLD)),
+    },
+    Row {
+        name: "a_state_of_the_old_form",
+        version: Version::Second,
+        record: SET_OLD,
+        read: Some(((1, TOKEN, Form::Old), SET_OLD)),
+    },
+    Row {
+        name: "a_state_of_todays_form",
+        version: Version::Second,
+        record: SET_TODAY,
+        read: Some(((1, TOKEN_OF_TODAY, Form::Current), SET_TODAY)),
+    },
+    Row {
+        name: "a_state_of_trees",
+        version: Version::Second,
+        record: SET_TREES,
+        read: Some(((1, TOKEN_OF_TREES, Form::Tree), SET_TREES)),
+    },
+];
+
+/// Forms with the token or the pages of another one, and no form.
+const UNFIT: [Row; 3] = [
+    Row {
+        name: "todays_form_with_a_token_of_trees",
+        version: Version::Second,
+        record: &[
+            &[(&[2], 1)],
+            AFTER_1,
+            OF_SET,
+            &[(&TOKEN_OF_TREES, 1), STORED],
+            PAGES,
+        ],
+        read: None,
+    },
+    Row {
+        name: "trees_with_the_token_of_todays_form",
+        version: Version::Second,
+        record: &[
+            &[(&[3], 1)],
+            AFTER_1,
+            OF_SET,
+            &[(&TOKEN_OF_TODAY, 1), STORED],
+            TREES,
+        ],
+        read: None,
+    },
+    Row {
+        name: "no_form",
+        version: Version::Second,
+        record: &[
+            &[(&[4], 1)],
+            AFTER_1,
+            OF_SET,
+            &[(&TOKEN_OF_TREES, 1), STORED],
+            PAGES,
+        ],
+        read: None,
+    },
+];
+
+/// What a state is told by, and its record of today.
+fn told_of(alloc: Global, state: &State) -> Result<(Told, Vec<u8>), AllocError> {
+    let mut record = Vec::new(alloc);
+    state.put(&mut record)?;
+    let Token(token) = state.token();
+    Ok(((state.number(), token, state.form()), record))
 }
 
-/// That of today of this form and token: `a` stands on page 97.
-fn add_set(bytes: &mut Vec<u8>, form: u8, token: &[u8; 32]) -> Result<(), AllocError> {
-    let mark = if form == 3 { 6 } else { 0 };
-    bytes.push(form)?;
-    add_front(bytes, token)?;
-    add_empty(bytes, mark, 97)?;
-    bytes.push(mark)?;
-    bytes.extend_from_slice(&PAGE[1..])?;
-    add_empty(bytes, mark, 158)
-}
-
-fn old_first(alloc: Global) -> Result<Vec<u8>, AllocError> {
-    let mut bytes = Vec::new(alloc);
-    add_old_first(&mut bytes)?;
-    Ok(bytes)
-}
-
-fn old_set(alloc: Global) -> Result<Vec<u8>, AllocError> {
-    let mut bytes = Vec::new(alloc);
-    add_old_set(&mut bytes)?;
-    Ok(bytes)
-}
-
-/// The state's record of today.
-fn record_of(alloc: Global, state: &State) -> Result<Vec<u8>, AllocError> {
-    let mut bytes = Vec::new(alloc);
-    state.put(&mut bytes)?;
-    Ok(bytes)
-}
-
-/// What a state is told by here: its number, its token, and how long the rest of the bytes is.
-type Told = (u64, Token, usize);
-
-/// What the bytes of version 1 are read as, and the record of that of today.
-fn read_old(alloc: Global, bytes: &[u8]) -> Result<(Told, Form, Vec<u8>), Fault> {
-    let (state, rest) = State::take(alloc, Version::First, bytes)?;
-    let again = record_of(alloc, &state)?;
-    Ok((
-        (state.number(), state.token(), rest.len()),
-        state.form(),
-        again,
-    ))
-}
-
-/// What the bytes of today are read as.
-fn read_now(alloc: Global, bytes: &[u8]) -> Result<(Told, Form), Fault> {
-    let (state, rest) = State::take(alloc, Version::Second, bytes)?;
-    Ok(((state.number(), state.token(), rest.len()), state.form()))
-}
-
-/// Whether the bytes of version 1, and the record of today that begins with this byte and has this
-/// length, are read as one state of this form, told so.
-fn is_read_as(
-    alloc: Global,
-    bytes: &[u8],
-    told: Told,
-    form: Form,
-    begin: u8,
-    len: usize,
-) -> Result<bool, Fault> {
-    let (old_told, old_form, again) = read_old(alloc, bytes)?;
-    let (new_told, new_form) = read_now(alloc, again.as_slice())?;
-    Ok(
-        old_told == told
-            && new_told == told
-            && old_form == form
-            && new_form == form
-            && again.as_slice().first() == Some(&begin)
-            && again.len() == len,
-    )
-}
-
-fn is_first_read(alloc: Global) -> Result<bool, Fault> {
-    let bytes = old_first(alloc)?;
-    let told = (0, Token([0; 32]), 0);
-    is_read_as(alloc, bytes.as_slice(), told, Form::Current, 2, 1402)
-}
-
-#[test]
-fn the_first_state_of_version_1(rt: HostRuntime) -> Result<(), Fail> {
-    let bytes = old_first(rt.alloc())?;
-    assert!(rt; bytes.len() == 441);
-    assert!(rt; is_first_read(rt.alloc())?);
-    Ok(())
-}
-
-fn is_set_read(alloc: Global) -> Result<bool, Fault> {
-    let bytes = old_set(alloc)?;
-    let told = (1, Token(TOKEN), 0);
-    is_read_as(alloc, bytes.as_slice(), told, Form::Old, 1, 1433)
-}
-
-#[test]
-fn a_later_state_of_version_1_keeps_its_token(rt: HostRuntime) -> Result<(), Fail> {
-    let bytes = old_set(rt.alloc())?;
-    assert!(rt; bytes.len() == 472);
-    assert!(rt; is_set_read(rt.alloc())?);
-    Ok(())
-}
-
-/// Whether no state's record in this version is at the front of the bytes.
-fn is_refused(alloc: Global, version: Version, bytes: &[u8]) -> Result<bool, Fault> {
+/// What the bytes are read as, all of them; nothing where they are no record.
+fn read(alloc: Global, version: Version, bytes: &[u8]) -> Result<Option<(Told, Vec<u8>)>, Fault> {
     match State::take(alloc, version, bytes) {
-        Ok(_) => Ok(false),
-        Err(Fault::BadRecord) => Ok(true),
+        Ok((state, [])) => Ok(Some(told_of(alloc, &state)?)),
+        Ok(_) => Err(Fault::Unfit),
+        Err(Fault::BadRecord) => Ok(None),
         Err(fault) => Err(fault),
     }
+}
+
+/// Whether the bytes are read as the row says.
+fn is_read_as(alloc: Global, row: &Row, bytes: &[u8]) -> Result<bool, Fault> {
+    match (read(alloc, row.version, bytes)?, &row.read) {
+        (None, None) => Ok(true),
+        (Some((told, written)), Some((expected, record))) => {
+            Ok(told == *expected && written == bytes_of(alloc, *record)?)
+        }
+        _ => Ok(false),
+    }
+}
+
+fn is_so(alloc: Global, row: &Row) -> Result<bool, Fault> {
+    let bytes = bytes_of(alloc, row.record)?;
+    is_read_as(alloc, row, bytes.as_slice())
 }
 
 /// Whether the bytes are no record where they are cut here, and where this one of them is changed.
@@ -194,77 +250,36 @@ fn is_sealed_at(
     at: usize,
 ) -> Result<bool, Fault> {
     turn(bytes, at, 2);
-    let changed = is_refused(alloc, version, bytes);
+    let changed = read(alloc, version, bytes)?.is_none();
     turn(bytes, at, 2);
-    Ok(changed? && is_refused(alloc, version, bytes.get(..at).unwrap_or(&[]))?)
+    Ok(changed && read(alloc, version, bytes.get(..at).unwrap_or(&[]))?.is_none())
 }
 
-/// Whether the bytes are a record, and none where they are cut at each byte, and where each is changed.
+/// Whether they are none where they are cut at each byte, and where each is changed.
 fn is_sealed(alloc: Global, version: Version, bytes: &mut [u8]) -> Result<bool, Fault> {
     for at in 0..bytes.len() {
         if !is_sealed_at(alloc, version, bytes, at)? {
             return Ok(false);
         }
     }
-    Ok(!is_refused(alloc, version, bytes)?)
+    Ok(true)
 }
 
 #[test]
-fn a_record_of_version_1_that_is_cut_or_changed_is_refused(rt: HostRuntime) -> Result<(), Fail> {
-    let mut set = old_set(rt.alloc())?;
-    assert!(rt; is_sealed(rt.alloc(), Version::First, set.as_mut_slice())?);
+fn states_are_read_so(rt: HostRuntime) -> Result<(), Fail> {
+    for row in ROWS {
+        let mut bytes = bytes_of(rt.alloc(), row.record)?;
+        let is_read = is_read_as(rt.alloc(), &row, bytes.as_slice());
+        let is_sealed = is_sealed(rt.alloc(), row.version, bytes.as_mut_slice());
+        assert_eq!(rt; (is_read, is_sealed), (Ok(true), Ok(true)), "{}", row.name);
+    }
     Ok(())
 }
 
-#[test]
-fn the_first_state_that_is_cut_or_changed_is_refused(rt: HostRuntime) -> Result<(), Fail> {
-    let mut first = old_first(rt.alloc())?;
-    assert!(rt; is_sealed(rt.alloc(), Version::First, first.as_mut_slice())?);
-    Ok(())
-}
-
-/// Whether the record of today of this form and token is sealed.
-fn is_set_sealed(alloc: Global, form: u8, token: &[u8; 32]) -> Result<bool, Fault> {
-    let mut bytes = Vec::new(alloc);
-    add_set(&mut bytes, form, token)?;
-    is_sealed(alloc, Version::Second, bytes.as_mut_slice())
-}
-
-#[test]
-fn a_record_of_the_old_form_that_is_cut_or_changed_is_refused(rt: HostRuntime) -> Result<(), Fail> {
-    assert!(rt; is_set_sealed(rt.alloc(), 1, &TOKEN)?);
-    Ok(())
-}
-
-#[test]
-fn a_record_of_todays_form_that_is_cut_or_changed_is_refused(rt: HostRuntime) -> Result<(), Fail> {
-    assert!(rt; is_set_sealed(rt.alloc(), 2, &TOKEN_OF_TODAY)?);
-    Ok(())
-}
-
-#[test]
-fn a_record_of_trees_that_is_cut_or_changed_is_refused(rt: HostRuntime) -> Result<(), Fail> {
-    assert!(rt; is_set_sealed(rt.alloc(), 3, &TOKEN_OF_TREES)?);
-    Ok(())
-}
-
-/// Whether the record of today of this form and token is read as one of that form, and is written so again.
-fn is_set_again(alloc: Global, form: u8, token: &[u8; 32]) -> Result<bool, Fault> {
-    let mut bytes = Vec::new(alloc);
-    add_set(&mut bytes, form, token)?;
-    let (state, rest) = State::take(alloc, Version::Second, bytes.as_slice())?;
-    let again = record_of(alloc, &state)?;
-    Ok(rest.is_empty() && again.as_slice() == bytes.as_slice() && state.token() == Token(*token))
-}
-
-/// The record of a form has the token and the pages of that form alone.
 #[test]
 fn each_form_has_its_records(rt: HostRuntime) -> Result<(), Fail> {
-    assert!(rt; is_set_again(rt.alloc(), 1, &TOKEN)?);
-    assert!(rt; is_set_again(rt.alloc(), 2, &TOKEN_OF_TODAY)?);
-    assert!(rt; is_set_again(rt.alloc(), 3, &TOKEN_OF_TREES)?);
-    assert!(rt; is_set_again(rt.alloc(), 2, &TOKEN_OF_TREES) == Err(Fault::BadRecord));
-    assert!(rt; is_set_again(rt.alloc(), 3, &TOKEN_OF_TODAY) == Err(Fault::BadRecord));
-    assert!(rt; is_set_again(rt.alloc(), 4, &TOKEN_OF_TREES) == Err(Fault::BadRecord));
+    for row in UNFIT {
+        assert_eq!(rt; is_so(rt.alloc(), &row), Ok(true), "{}", row.name);
+    }
     Ok(())
 }

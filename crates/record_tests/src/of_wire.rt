@@ -1,6 +1,6 @@
 //! Records of `wire`, and of the small values of the crates above it.
 
-use crate::rows::first_wrong;
+use crate::rows::{Row, first_wrong};
 use batches::Batch;
 use decrees::Decree;
 use proto::{Command, Fault, Reply};
@@ -11,165 +11,131 @@ use std::test::Fail;
 use token::{Form, Token};
 use wire::{Entries, InnerText, TokenText};
 
-#[test]
-fn pages(rt: HostRuntime) -> Result<(), Fail> {
-    let rows = [
-        (
-            b"\x00\x00\x00\x00\x01\x01\x61\x00\x00\x00\x00\x00\x00\x00\x00\x00\x00\x00\x00\x40\x00\x00\x00\x01\x35".as_slice(),
-            true,
-        ),
-        (b"\x00\x00\x00\x00\x00".as_slice(), true),
-        (
-            b"\x00\x00\x00\x00\x02\x01\x61\x00\x00\x00\x00\x00\x00\x00\x00\x00\x00\x00\x00\x40\x00\x00\x00\x01\x35\x01\x62\x00\x00\x00\x00\x00\x00\x00\x00\x00\x00\x00\x00\x40\x00\x00\x00\x01\x35".as_slice(),
-            true,
-        ),
-        (
-            b"\x00\x00\x00\x00\x02\x01\x62\x00\x00\x00\x00\x00\x00\x00\x00\x00\x00\x00\x00\x40\x00\x00\x00\x01\x35\x01\x61\x00\x00\x00\x00\x00\x00\x00\x00\x00\x00\x00\x00\x40\x00\x00\x00\x01\x35".as_slice(),
-            false,
-        ),
-        (
-            b"\x00\x00\x00\x00\x02\x01\x61\x00\x00\x00\x00\x00\x00\x00\x00\x00\x00\x00\x00\x40\x00\x00\x00\x01\x35\x01\x61\x00\x00\x00\x00\x00\x00\x00\x00\x00\x00\x00\x00\x40\x00\x00\x00\x01\x35".as_slice(),
-            false,
-        ),
-        (
-            b"\x00\x00\x00\x00\x01\x01\x61\x00\x00\x00\x00\x00\x00\x00\x00\x00\x00\x00\x00\x40\x00\x00\x00\x01\x35\x00".as_slice(),
-            false,
-        ),
-        (
-            b"\x00\x00\x00\x00\x01\x01\x61\x00\x00\x00\x00\x00\x00\x00\x00\x00\x00\x00\x00\x40\x00\x00\x00\x01".as_slice(),
-            false,
-        ),
-        (b"\x01\x00\x00\x00\x00".as_slice(), false),
-    ];
-    assert_eq!(rt; first_wrong::<Entries>(rt.alloc(), rows.as_slice())?, None);
-    Ok(())
-}
+const PAGES: [Row<'static>; 8] = [
+    (
+        b"\x00\x00\x00\x00\x01\x01\x61\x00\x00\x00\x00\x00\x00\x00\x00\x00\x00\x00\x00\x40\x00\x00\x00\x01\x35",
+        true,
+    ),
+    (b"\x00\x00\x00\x00\x00", true),
+    (
+        b"\x00\x00\x00\x00\x02\x01\x61\x00\x00\x00\x00\x00\x00\x00\x00\x00\x00\x00\x00\x40\x00\x00\x00\x01\x35\x01\x62\x00\x00\x00\x00\x00\x00\x00\x00\x00\x00\x00\x00\x40\x00\x00\x00\x01\x35",
+        true,
+    ),
+    (
+        b"\x00\x00\x00\x00\x02\x01\x62\x00\x00\x00\x00\x00\x00\x00\x00\x00\x00\x00\x00\x40\x00\x00\x00\x01\x35\x01\x61\x00\x00\x00\x00\x00\x00\x00\x00\x00\x00\x00\x00\x40\x00\x00\x00\x01\x35",
+        false,
+    ),
+    (
+        b"\x00\x00\x00\x00\x02\x01\x61\x00\x00\x00\x00\x00\x00\x00\x00\x00\x00\x00\x00\x40\x00\x00\x00\x01\x35\x01\x61\x00\x00\x00\x00\x00\x00\x00\x00\x00\x00\x00\x00\x40\x00\x00\x00\x01\x35",
+        false,
+    ),
+    (
+        b"\x00\x00\x00\x00\x01\x01\x61\x00\x00\x00\x00\x00\x00\x00\x00\x00\x00\x00\x00\x40\x00\x00\x00\x01\x35\x00",
+        false,
+    ),
+    (
+        b"\x00\x00\x00\x00\x01\x01\x61\x00\x00\x00\x00\x00\x00\x00\x00\x00\x00\x00\x00\x40\x00\x00\x00\x01",
+        false,
+    ),
+    (b"\x01\x00\x00\x00\x00", false),
+];
 
-#[test]
-fn sessions_rise(rt: HostRuntime) -> Result<(), Fail> {
-    let rows = [
-        (
-            b"\x03\x00\x00\x00\x02\x00\x01\x00\x00\x00\x00\x00\x00\x00\x03\x00\x00\x02\x00\x00\x00\x00\x00\x00\x00\x01\x06\x00\x00\x00\x00\x00\x00\x00\x07".as_slice(),
-            true,
-        ),
-        (b"\x03\x00\x00\x00\x00".as_slice(), true),
-        (
-            b"\x03\x00\x00\x00\x02\x00\x02\x00\x00\x00\x00\x00\x00\x00\x03\x00\x00\x01\x00\x00\x00\x00\x00\x00\x00\x01\x00".as_slice(),
-            false,
-        ),
-        (
-            b"\x03\x00\x00\x00\x01\x00\x00\x00\x00\x00\x00\x00\x00\x00\x03\x00".as_slice(),
-            false,
-        ),
-    ];
-    assert_eq!(rt; first_wrong::<Sessions>(rt.alloc(), rows.as_slice())?, None);
-    Ok(())
-}
+/// The numbers of clients rise.
+const SESSIONS: [Row<'static>; 4] = [
+    (
+        b"\x03\x00\x00\x00\x02\x00\x01\x00\x00\x00\x00\x00\x00\x00\x03\x00\x00\x02\x00\x00\x00\x00\x00\x00\x00\x01\x06\x00\x00\x00\x00\x00\x00\x00\x07",
+        true,
+    ),
+    (b"\x03\x00\x00\x00\x00", true),
+    (
+        b"\x03\x00\x00\x00\x02\x00\x02\x00\x00\x00\x00\x00\x00\x00\x03\x00\x00\x01\x00\x00\x00\x00\x00\x00\x00\x01\x00",
+        false,
+    ),
+    (
+        b"\x03\x00\x00\x00\x01\x00\x00\x00\x00\x00\x00\x00\x00\x00\x03\x00",
+        false,
+    ),
+];
 
-#[test]
-fn commands(rt: HostRuntime) -> Result<(), Fail> {
-    let rows = [
-        (b"\x00\x00\x00\x00\x01\x01\x61".as_slice(), true),
-        (b"\x01\x00\x00\x00\x02\x01\x61\x01\x62".as_slice(), true),
-        (
-            b"\x02\x01\x61\x00\x00\x00\x07\xff\xff\xff\xff\x00\x00\x00\x01\x35".as_slice(),
-            true,
-        ),
-        (
-            b"\x03\x01\x61\x00\x00\x00\x07\xff\xff\xff\xff\x00\x00\x00\x01\x35".as_slice(),
-            true,
-        ),
-        (
-            b"\x04\x01\x61\x00\x00\x00\x07\xff\xff\xff\xff\x00\x00\x00\x01\x35".as_slice(),
-            true,
-        ),
-        (
-            b"\x05\x01\x61\x00\x00\x00\x07\xff\xff\xff\xff\x00\x00\x00\x01\x35".as_slice(),
-            true,
-        ),
-        (
-            b"\x06\x01\x61\x00\x00\x00\x07\xff\xff\xff\xff\x00\x00\x00\x01\x35".as_slice(),
-            true,
-        ),
-        (
-            b"\x07\x01\x61\x00\x00\x00\x07\x80\x00\x00\x00\x00\x00\x00\x00\x00\x00\x00\x00\x00\x00\x00\x40".as_slice(),
-            true,
-        ),
-        (b"\x08\x01\x61".as_slice(), true),
-        (b"\x09\x01\x61\x7f\xff\xff\xff".as_slice(), true),
-        (
-            b"\x0a\x01\x61\x00\x00\x00\x00\x00\x00\x00\xff".as_slice(),
-            true,
-        ),
-        (
-            b"\x0b\x01\x61\x00\x00\x00\x00\x00\x00\x00\xff".as_slice(),
-            true,
-        ),
-        (
-            b"\x0c\x00\x00\x00\x0a\x00\x00\x00\x02\x01\x61\x01\x62".as_slice(),
-            true,
-        ),
-        (
-            b"\x0d\xff\xff\xff\xff\x00\x00\x00\x01\x01\x61".as_slice(),
-            true,
-        ),
-        (b"\x0c\x00\x00\x00\x0a\x00\x00\x00\x00".as_slice(), false),
-        (
-            b"\x0c\x00\x00\x00\x01\x01\x61\x00\x00\x00\x0a".as_slice(),
-            false,
-        ),
-        (b"\x0c\x01\x61".as_slice(), false),
-        (
-            b"\x0e\x00\x00\x00\x0a\x00\x00\x00\x01\x01\x61".as_slice(),
-            false,
-        ),
-        (b"\x00\x00\x00\x00\x00".as_slice(), false),
-        (
-            b"\x02\x01\x61\x00\x00\x00\x07\xff\xff\xff\xff\x00\x00\x00\x01".as_slice(),
-            false,
-        ),
-        (b"\x08\x00".as_slice(), false),
-        (b"\x08\x01\x20".as_slice(), false),
-        (
-            b"\x02\x01\x61\x00\x00\x00\x07\xff\xff\xff\xff\x00\x01\x00\x01".as_slice(),
-            false,
-        ),
-    ];
-    assert_eq!(rt; first_wrong::<Command>(rt.alloc(), rows.as_slice())?, None);
-    Ok(())
-}
+const COMMANDS: [Row<'static>; 23] = [
+    (b"\x00\x00\x00\x00\x01\x01\x61", true),
+    (b"\x01\x00\x00\x00\x02\x01\x61\x01\x62", true),
+    (
+        b"\x02\x01\x61\x00\x00\x00\x07\xff\xff\xff\xff\x00\x00\x00\x01\x35",
+        true,
+    ),
+    (
+        b"\x03\x01\x61\x00\x00\x00\x07\xff\xff\xff\xff\x00\x00\x00\x01\x35",
+        true,
+    ),
+    (
+        b"\x04\x01\x61\x00\x00\x00\x07\xff\xff\xff\xff\x00\x00\x00\x01\x35",
+        true,
+    ),
+    (
+        b"\x05\x01\x61\x00\x00\x00\x07\xff\xff\xff\xff\x00\x00\x00\x01\x35",
+        true,
+    ),
+    (
+        b"\x06\x01\x61\x00\x00\x00\x07\xff\xff\xff\xff\x00\x00\x00\x01\x35",
+        true,
+    ),
+    (
+        b"\x07\x01\x61\x00\x00\x00\x07\x80\x00\x00\x00\x00\x00\x00\x00\x00\x00\x00\x00\x00\x00\x00\x40",
+        true,
+    ),
+    (b"\x08\x01\x61", true),
+    (b"\x09\x01\x61\x7f\xff\xff\xff", true),
+    (b"\x0a\x01\x61\x00\x00\x00\x00\x00\x00\x00\xff", true),
+    (b"\x0b\x01\x61\x00\x00\x00\x00\x00\x00\x00\xff", true),
+    (
+        b"\x0c\x00\x00\x00\x0a\x00\x00\x00\x02\x01\x61\x01\x62",
+        true,
+    ),
+    (b"\x0d\xff\xff\xff\xff\x00\x00\x00\x01\x01\x61", true),
+    (b"\x0c\x00\x00\x00\x0a\x00\x00\x00\x00", false),
+    (b"\x0c\x00\x00\x00\x01\x01\x61\x00\x00\x00\x0a", false),
+    (b"\x0c\x01\x61", false),
+    (b"\x0e\x00\x00\x00\x0a\x00\x00\x00\x01\x01\x61", false),
+    (b"\x00\x00\x00\x00\x00", false),
+    (
+        b"\x02\x01\x61\x00\x00\x00\x07\xff\xff\xff\xff\x00\x00\x00\x01",
+        false,
+    ),
+    (b"\x08\x00", false),
+    (b"\x08\x01\x20", false),
+    (
+        b"\x02\x01\x61\x00\x00\x00\x07\xff\xff\xff\xff\x00\x01\x00\x01",
+        false,
+    ),
+];
 
-#[test]
-fn replies(rt: HostRuntime) -> Result<(), Fail> {
-    let rows = [
-        (b"\x00".as_slice(), true),
-        (b"\x01".as_slice(), true),
-        (b"\x02".as_slice(), true),
-        (b"\x03".as_slice(), true),
-        (b"\x04".as_slice(), true),
-        (b"\x05".as_slice(), true),
-        (b"\x08".as_slice(), true),
-        (b"\x09".as_slice(), true),
-        (b"\x06\xff\xff\xff\xff\xff\xff\xff\xff".as_slice(), true),
-        (
-            b"\x07\x00\x00\x00\x01\x01\x61\x00\x00\x00\x00\x00\x00\x00\x01\x35\x01\x00\x00\x00\x00\x00\x00\x00\x40".as_slice(),
-            true,
-        ),
-        (
-            b"\x07\x00\x00\x00\x01\x01\x61\x00\x00\x00\x00\x00\x00\x00\x01\x35\x00".as_slice(),
-            true,
-        ),
-        (b"\x0a".as_slice(), false),
-        (b"".as_slice(), false),
-        (b"\x06\x00".as_slice(), false),
-        (
-            b"\x07\x00\x00\x00\x01\x01\x61\x00\x00\x00\x00\x00\x00\x00\x01\x35\x02\x00\x00\x00\x00\x00\x00\x00\x40".as_slice(),
-            false,
-        ),
-    ];
-    assert_eq!(rt; first_wrong::<Reply>(rt.alloc(), rows.as_slice())?, None);
-    Ok(())
-}
+const REPLIES: [Row<'static>; 15] = [
+    (b"\x00", true),
+    (b"\x01", true),
+    (b"\x02", true),
+    (b"\x03", true),
+    (b"\x04", true),
+    (b"\x05", true),
+    (b"\x08", true),
+    (b"\x09", true),
+    (b"\x06\xff\xff\xff\xff\xff\xff\xff\xff", true),
+    (
+        b"\x07\x00\x00\x00\x01\x01\x61\x00\x00\x00\x00\x00\x00\x00\x01\x35\x01\x00\x00\x00\x00\x00\x00\x00\x40",
+        true,
+    ),
+    (
+        b"\x07\x00\x00\x00\x01\x01\x61\x00\x00\x00\x00\x00\x00\x00\x01\x35\x00",
+        true,
+    ),
+    (b"\x0a", false),
+    (b"", false),
+    (b"\x06\x00", false),
+    (
+        b"\x07\x00\x00\x00\x01\x01\x61\x00\x00\x00\x00\x00\x00\x00\x01\x35\x02\x00\x00\x00\x00\x00\x00\x00\x40",
+        false,
+    ),
+];
 
 /// Batch 1 of epoch 1 at moment 1000: client 1's request 1 is `set a`.
 const BATCH: &[u8] =
@@ -179,57 +145,96 @@ const BATCH: &[u8] =
 const LONGER_BATCH: &[u8] =
     b"\x04\x00\x00\x00\x00\x00\x00\x00\x01\x00\x00\x00\x00\x00\x00\x00\x01\x00\x00\x03\xe8\x00\x00\x00\x01\x00\x01\x00\x00\x00\x00\x00\x00\x00\x01\x02\x01\x61\x00\x00\x00\x00\x00\x00\x00\x00\x00\x00\x00\x01\x35\x00";
 
+/// Those, and batches without requests of the numbers 1, 2^58 - 1, 0 and 2^58.
+const BATCHES: [Row<'static>; 6] = [
+    (BATCH, true),
+    (LONGER_BATCH, false),
+    (
+        b"\x04\x00\x00\x00\x00\x00\x00\x00\x01\x00\x00\x00\x00\x00\x00\x00\x01\x00\x00\x03\xe8\x00\x00\x00\x00",
+        true,
+    ),
+    (
+        b"\x04\x00\x00\x00\x00\x00\x00\x00\x01\x03\xff\xff\xff\xff\xff\xff\xff\x00\x00\x03\xe8\x00\x00\x00\x00",
+        true,
+    ),
+    (
+        b"\x04\x00\x00\x00\x00\x00\x00\x00\x01\x00\x00\x00\x00\x00\x00\x00\x00\x00\x00\x03\xe8\x00\x00\x00\x00",
+        false,
+    ),
+    (
+        b"\x04\x00\x00\x00\x00\x00\x00\x00\x01\x04\x00\x00\x00\x00\x00\x00\x00\x00\x00\x03\xe8\x00\x00\x00\x00",
+        false,
+    ),
+];
+
+/// `delete k`, as the first request of client 1 and of client 0, and as request 0 of client 1.
+const REQUESTS: [Row<'static>; 3] = [
+    (
+        b"\x00\x01\x00\x00\x00\x00\x00\x00\x00\x01\x08\x01\x6b",
+        true,
+    ),
+    (
+        b"\x00\x00\x00\x00\x00\x00\x00\x00\x00\x01\x08\x01\x6b",
+        false,
+    ),
+    (
+        b"\x00\x01\x00\x00\x00\x00\x00\x00\x00\x00\x08\x01\x6b",
+        false,
+    ),
+];
+
+const DECREES: [Row<'static>; 5] = [
+    (&[0], true),
+    (&[1; 41], true),
+    (&[1; 42], false),
+    (&[2; 41], false),
+    (&[0; 41], false),
+];
+
+/// What digests of inner nodes and tokens are made of: a mark, and fields of fixed lengths.
+const INNER_TEXTS: [Row<'static>; 2] = [(&[1; 65], true), (&[2; 65], false)];
+
+const TOKEN_TEXTS: [Row<'static>; 2] = [(&[2; 149], true), (&[1; 149], false)];
+
+/// How a state's record begins: form 1, 2 or 3, and fields of fixed lengths.
+const HEADS: [Row<'static>; 5] = [
+    (&[1; 117], true),
+    (&[2; 117], true),
+    (&[3; 117], true),
+    (&[4; 117], false),
+    (&[0; 117], false),
+];
+
+const ORIGINS: [Row<'static>; 2] = [(&[1; 85], true), (&[4; 85], false)];
+
+const FORMS: [Row<'static>; 5] = [
+    (&[1], true),
+    (&[2], true),
+    (&[3], true),
+    (&[4], false),
+    (&[0], false),
+];
+
+const VERSIONS: [Row<'static>; 4] = [(&[1], true), (&[2], true), (&[3], false), (&[0], false)];
+
+const TOKENS: [Row<'static>; 2] = [(&[7; 32], true), (&[7; 33], false)];
+
 #[test]
-fn a_batch_of_51_bytes(rt: HostRuntime) -> Result<(), Fail> {
-    let rows = [(BATCH, true), (LONGER_BATCH, false)];
+fn pages_sessions_commands_and_replies(rt: HostRuntime) -> Result<(), Fail> {
+    let alloc = rt.alloc();
+    assert_eq!(rt; first_wrong::<Entries>(alloc, &PAGES)?, None);
+    assert_eq!(rt; first_wrong::<Sessions>(alloc, &SESSIONS)?, None);
+    assert_eq!(rt; first_wrong::<Command>(alloc, &COMMANDS)?, None);
+    assert_eq!(rt; first_wrong::<Reply>(alloc, &REPLIES)?, None);
+    Ok(())
+}
+
+#[test]
+fn requests_and_batches(rt: HostRuntime) -> Result<(), Fail> {
+    let alloc = rt.alloc();
     assert_eq!(rt; BATCH.len(), 51);
-    assert_eq!(rt; first_wrong::<Batch>(rt.alloc(), rows.as_slice())?, None);
-    Ok(())
-}
-
-#[test]
-fn limits_of_a_batch(rt: HostRuntime) -> Result<(), Fail> {
-    let rows = [
-        // The numbers 1 and 2^58 - 1, and 0 and 2^58.
-        (
-            b"\x04\x00\x00\x00\x00\x00\x00\x00\x01\x00\x00\x00\x00\x00\x00\x00\x01\x00\x00\x03\xe8\x00\x00\x00\x00".as_slice(),
-            true,
-        ),
-        (
-            b"\x04\x00\x00\x00\x00\x00\x00\x00\x01\x03\xff\xff\xff\xff\xff\xff\xff\x00\x00\x03\xe8\x00\x00\x00\x00".as_slice(),
-            true,
-        ),
-        (
-            b"\x04\x00\x00\x00\x00\x00\x00\x00\x01\x00\x00\x00\x00\x00\x00\x00\x00\x00\x00\x03\xe8\x00\x00\x00\x00".as_slice(),
-            false,
-        ),
-        (
-            b"\x04\x00\x00\x00\x00\x00\x00\x00\x01\x04\x00\x00\x00\x00\x00\x00\x00\x00\x00\x03\xe8\x00\x00\x00\x00".as_slice(),
-            false,
-        ),
-    ];
-    assert_eq!(rt; first_wrong::<Batch>(rt.alloc(), rows.as_slice())?, None);
-    Ok(())
-}
-
-#[test]
-fn limits_of_a_request(rt: HostRuntime) -> Result<(), Fail> {
-    let rows = [
-        // `delete k`, the first request of client 1, and of client 0, and request 0 of client 1.
-        (
-            b"\x00\x01\x00\x00\x00\x00\x00\x00\x00\x01\x08\x01\x6b".as_slice(),
-            true,
-        ),
-        (
-            b"\x00\x00\x00\x00\x00\x00\x00\x00\x00\x01\x08\x01\x6b".as_slice(),
-            false,
-        ),
-        (
-            b"\x00\x01\x00\x00\x00\x00\x00\x00\x00\x00\x08\x01\x6b".as_slice(),
-            false,
-        ),
-    ];
-    assert_eq!(rt; first_wrong::<Request>(rt.alloc(), rows.as_slice())?, None);
+    assert_eq!(rt; first_wrong::<Request>(alloc, &REQUESTS)?, None);
+    assert_eq!(rt; first_wrong::<Batch>(alloc, &BATCHES)?, None);
     Ok(())
 }
 
@@ -261,71 +266,21 @@ fn a_batch_has_64_requests_at_most(rt: HostRuntime) -> Result<(), Fail> {
 }
 
 #[test]
-fn decrees(rt: HostRuntime) -> Result<(), Fail> {
-    let rows = [
-        ([0u8].as_slice(), true),
-        ([1u8; 41].as_slice(), true),
-        ([1u8; 42].as_slice(), false),
-        ([2u8; 41].as_slice(), false),
-        ([0u8; 41].as_slice(), false),
-    ];
-    assert_eq!(rt; first_wrong::<Decree>(rt.alloc(), rows.as_slice())?, None);
-    Ok(())
-}
-
-/// What digests of inner nodes and tokens are made of: a mark, and fields of fixed lengths.
-#[test]
-fn texts_to_be_digested(rt: HostRuntime) -> Result<(), Fail> {
-    let rows = [([1u8; 65].as_slice(), true), ([2u8; 65].as_slice(), false)];
-    assert_eq!(rt;
-        first_wrong::<InnerText>(rt.alloc(), rows.as_slice())?,
-        None
-    );
-    let rows = [
-        ([2u8; 149].as_slice(), true),
-        ([1u8; 149].as_slice(), false),
-    ];
-    assert_eq!(rt;
-        first_wrong::<TokenText>(rt.alloc(), rows.as_slice())?,
-        None
-    );
-    Ok(())
-}
-
-/// How a state's record begins: form 1, 2 or 3, and fields of fixed lengths.
-#[test]
-fn heads(rt: HostRuntime) -> Result<(), Fail> {
-    let rows = [
-        ([1u8; 117].as_slice(), true),
-        ([2u8; 117].as_slice(), true),
-        ([3u8; 117].as_slice(), true),
-        ([4u8; 117].as_slice(), false),
-        ([0u8; 117].as_slice(), false),
-    ];
-    assert_eq!(rt; first_wrong::<Head>(rt.alloc(), rows.as_slice())?, None);
-    let rows = [([1u8; 85].as_slice(), true), ([4u8; 85].as_slice(), false)];
-    assert_eq!(rt; first_wrong::<Origin>(rt.alloc(), rows.as_slice())?, None);
+fn decrees_and_texts_to_be_digested(rt: HostRuntime) -> Result<(), Fail> {
+    let alloc = rt.alloc();
+    assert_eq!(rt; first_wrong::<Decree>(alloc, &DECREES)?, None);
+    assert_eq!(rt; first_wrong::<InnerText>(alloc, &INNER_TEXTS)?, None);
+    assert_eq!(rt; first_wrong::<TokenText>(alloc, &TOKEN_TEXTS)?, None);
     Ok(())
 }
 
 #[test]
-fn marks_and_tokens(rt: HostRuntime) -> Result<(), Fail> {
-    let rows = [
-        ([1u8].as_slice(), true),
-        ([2u8].as_slice(), true),
-        ([3u8].as_slice(), true),
-        ([4u8].as_slice(), false),
-        ([0u8].as_slice(), false),
-    ];
-    assert_eq!(rt; first_wrong::<Form>(rt.alloc(), rows.as_slice())?, None);
-    let rows = [
-        ([1u8].as_slice(), true),
-        ([2u8].as_slice(), true),
-        ([3u8].as_slice(), false),
-        ([0u8].as_slice(), false),
-    ];
-    assert_eq!(rt; first_wrong::<Version>(rt.alloc(), rows.as_slice())?, None);
-    let rows = [([7u8; 32].as_slice(), true), ([7u8; 33].as_slice(), false)];
-    assert_eq!(rt; first_wrong::<Token>(rt.alloc(), rows.as_slice())?, None);
+fn heads_marks_and_tokens(rt: HostRuntime) -> Result<(), Fail> {
+    let alloc = rt.alloc();
+    assert_eq!(rt; first_wrong::<Head>(alloc, &HEADS)?, None);
+    assert_eq!(rt; first_wrong::<Origin>(alloc, &ORIGINS)?, None);
+    assert_eq!(rt; first_wrong::<Form>(alloc, &FORMS)?, None);
+    assert_eq!(rt; first_wrong::<Version>(alloc, &VERSIONS)?, None);
+    assert_eq!(rt; first_wrong::<Token>(alloc, &TOKENS)?, None);
     Ok(())
 }

@@ -1,11 +1,38 @@
 //! Rows of bytes that are a record, or none.
 
 use proto::Fault;
-use std::alloc::Global;
+use std::alloc::{AllocError, Global};
 use wire::{Record, read, write};
 
 /// Bytes, and whether they are a record.
 pub type Row<'a> = (&'a [u8], bool);
+
+/// A part of a record: bytes, and how often they stand there, one after the other.
+pub type Part<'a> = (&'a [u8], usize);
+
+fn add_part(bytes: &mut Vec<u8>, part: Part) -> Result<(), AllocError> {
+    for _ in 0..part.1 {
+        bytes.extend_from_slice(part.0)?;
+    }
+    Ok(())
+}
+
+/// Appends these parts.
+pub fn add_parts(bytes: &mut Vec<u8>, parts: &[Part]) -> Result<(), AllocError> {
+    for part in parts {
+        add_part(bytes, *part)?;
+    }
+    Ok(())
+}
+
+/// The bytes of these parts, one list after the other.
+pub fn bytes_of(alloc: Global, record: &[&[Part]]) -> Result<Vec<u8>, AllocError> {
+    let mut bytes = Vec::new(alloc);
+    for parts in record {
+        add_parts(&mut bytes, *parts)?;
+    }
+    Ok(bytes)
+}
 
 /// Whether the value whose record the bytes are is written as just these bytes; nothing where they are
 /// no record.
@@ -63,7 +90,7 @@ fn is_strict<T: Record + Drop>(alloc: Global, bytes: &[u8]) -> Result<bool, Faul
 
 /// Whether it is as the row says; and if the bytes are a record, they are written again, and no record is
 /// left of them by a cut.
-fn holds<T: Record + Drop>(alloc: Global, row: Row) -> Result<bool, Fault> {
+pub fn holds<T: Record + Drop>(alloc: Global, row: Row) -> Result<bool, Fault> {
     match read_again::<T>(alloc, row.0)? {
         None => Ok(!row.1),
         Some(is_same) => Ok(row.1 && is_same && is_strict::<T>(alloc, row.0)?),
@@ -78,4 +105,14 @@ pub fn first_wrong<T: Record + Drop>(alloc: Global, rows: &[Row]) -> Result<Opti
         }
     }
     Ok(None)
+}
+
+/// Whether these parts are a record of this kind, or none.
+pub fn is_so<T: Record + Drop>(
+    alloc: Global,
+    record: &[&[Part]],
+    has_record: bool,
+) -> Result<bool, Fault> {
+    let bytes = bytes_of(alloc, record)?;
+    holds::<T>(alloc, (bytes.as_slice(), has_record))
 }

@@ -87,10 +87,20 @@ fn is_token_refused(alloc: Global, own: &State, more: &State) -> Result<bool, Fa
     )
 }
 
-fn is_more_taken(alloc: Global, own: &State, more: &State) -> Result<bool, Fault> {
+/// What answers the need of the first state.
+fn whole(alloc: Global, more: &State) -> Result<Parcel, Fault> {
     let first = State::first(alloc)?;
-    let parcel = answered(alloc, &first, more)?;
-    is_taken(alloc, own, parcel.clone()?, more)
+    answered(alloc, &first, more)
+}
+
+/// A copy of it.
+fn copied(alloc: Global, more: &State) -> Result<Parcel, Fault> {
+    let parcel = whole(alloc, more)?;
+    Ok(parcel.clone()?)
+}
+
+fn is_more_taken(alloc: Global, own: &State, more: &State) -> Result<bool, Fault> {
+    is_taken(alloc, own, copied(alloc, more)?, more)
 }
 
 fn holds(alloc: Global, row: Row, own: &State, more: &State) -> Result<bool, Fault> {
@@ -108,115 +118,155 @@ fn holds(alloc: Global, row: Row, own: &State, more: &State) -> Result<bool, Fau
     }
 }
 
-fn holds_over(alloc: Global, row: Row, own: &State, rows: &[(u8, u8)]) -> Result<bool, Fault> {
-    let more = third(alloc, rows)?;
-    holds(alloc, row, own, &more)
-}
+/// Items: the byte of each key, and its data.
+type Items = &'static [(u8, u8)];
 
-/// Whether the row holds of the state of number 2 with the first items and the one of number 3 with
-/// the others.
-fn holds_of(alloc: Global, row: Row, own: &[(u8, u8)], more: &[(u8, u8)]) -> Result<bool, Fault> {
-    let own = second(alloc, own)?;
-    holds_over(alloc, row, &own, more)
-}
-
-fn holds_of_first(alloc: Global, more: &[(u8, u8)]) -> Result<bool, Fault> {
-    let first = State::first(alloc)?;
-    holds_over(alloc, Row::HandedOver, &first, more)
-}
-
-#[test]
-fn a_state_of_two_pages_is_handed_over_to_the_first_state(rt: HostRuntime) -> Result<(), Fail> {
-    assert!(rt; holds_of_first(rt.alloc(), &[(b'a', b'1'), (b'b', b'2')])?);
-    Ok(())
-}
-
-#[test]
-fn an_item_that_is_another_one_that_is_gone_and_a_new_one(rt: HostRuntime) -> Result<(), Fail> {
-    let own = &[(b'a', b'1'), (b'b', b'2'), (b'c', b'3')];
-    let more = &[(b'a', b'1'), (b'b', b'5'), (b'd', b'4')];
-    assert!(rt; holds_of(rt.alloc(), Row::HandedOver, own, more)?);
-    Ok(())
-}
-
-#[test]
-fn no_page_comes_along_where_only_the_sessions_differ(rt: HostRuntime) -> Result<(), Fail> {
-    let rows = &[(b'a', b'1')];
-    assert!(rt; holds_of(rt.alloc(), Row::WithoutPages, rows, rows)?);
-    Ok(())
-}
-
-#[test]
-fn a_parcel_that_lacks_a_page_is_refused(rt: HostRuntime) -> Result<(), Fail> {
-    assert!(rt;
-        holds_of(
-            rt.alloc(),
-            Row::LacksItsPage,
-            &[(b'a', b'1')],
-            &[(b'a', b'2')]
-        )?
-    );
-    Ok(())
-}
-
-#[test]
-fn a_parcel_of_another_number_is_refused(rt: HostRuntime) -> Result<(), Fail> {
-    assert!(rt;
-        holds_of(
-            rt.alloc(),
-            Row::OtherNumber,
-            &[(b'a', b'1')],
-            &[(b'a', b'2')]
-        )?
-    );
-    Ok(())
-}
-
-#[test]
-fn a_parcel_of_another_token_is_refused(rt: HostRuntime) -> Result<(), Fail> {
-    assert!(rt;
-        holds_of(
-            rt.alloc(),
-            Row::OtherToken,
-            &[(b'a', b'1')],
-            &[(b'a', b'2')]
-        )?
-    );
-    Ok(())
-}
-
-#[test]
-fn pages_that_are_there_already_are_no_harm(rt: HostRuntime) -> Result<(), Fail> {
-    let rows = &[(b'a', b'1'), (b'b', b'2')];
-    assert!(rt; holds_of(rt.alloc(), Row::MoreThanNeeded, rows, rows)?);
-    Ok(())
-}
-
-/// Whether a state whose pages have the one layout takes what one with the other layout answers.
-fn is_taken_across(
-    alloc: Global,
+/// The layouts of the pages of the state of number 2 and of the one of number 3, the items of each, and what
+/// is to hold of the two.
+#[derive(Clone, Copy)]
+struct Case {
+    name: &'static str,
     layouts: (Layout, Layout),
-    own: &[(u8, u8)],
-    more: &[(u8, u8)],
-) -> Result<bool, Fault> {
-    let own = second_in(alloc, layouts.0, own)?;
-    let more = third_in(alloc, layouts.1, more)?;
-    Ok(is_handed_over(alloc, &own, &more)? && is_part_refused(alloc, &own, &more)?)
+    own: Items,
+    more: Items,
+    row: Row,
 }
 
-/// In each direction, and between two states in trees. The pages with items differ by their digests, and
-/// come along.
+const SORTED: (Layout, Layout) = (Layout::Sorted, Layout::Sorted);
+
+const OWN: Items = &[(b'a', b'1'), (b'b', b'2'), (b'c', b'3')];
+
+/// One item is another, one is gone, and one is new.
+const MORE: Items = &[(b'a', b'1'), (b'b', b'5'), (b'd', b'4')];
+
+const ONE: Items = &[(b'a', b'1')];
+
+const OTHER: Items = &[(b'a', b'2')];
+
+const TWO: Items = &[(b'a', b'1'), (b'b', b'2')];
+
+const CASES: [Case; 12] = [
+    Case {
+        name: "an_item_that_is_another_one_that_is_gone_and_a_new_one",
+        layouts: SORTED,
+        own: OWN,
+        more: MORE,
+        row: Row::HandedOver,
+    },
+    Case {
+        name: "no_page_comes_along_where_only_the_sessions_differ",
+        layouts: SORTED,
+        own: ONE,
+        more: ONE,
+        row: Row::WithoutPages,
+    },
+    Case {
+        name: "a_parcel_that_lacks_a_page_is_refused",
+        layouts: SORTED,
+        own: ONE,
+        more: OTHER,
+        row: Row::LacksItsPage,
+    },
+    Case {
+        name: "a_parcel_of_another_number_is_refused",
+        layouts: SORTED,
+        own: ONE,
+        more: OTHER,
+        row: Row::OtherNumber,
+    },
+    Case {
+        name: "a_parcel_of_another_token_is_refused",
+        layouts: SORTED,
+        own: ONE,
+        more: OTHER,
+        row: Row::OtherToken,
+    },
+    Case {
+        name: "pages_that_are_there_already_are_no_harm",
+        layouts: SORTED,
+        own: TWO,
+        more: TWO,
+        row: Row::MoreThanNeeded,
+    },
+    // Pages in different layouts differ by their digests, and come along if they have items.
+    Case {
+        name: "to trees",
+        layouts: (Layout::Sorted, Layout::Tree),
+        own: OWN,
+        more: MORE,
+        row: Row::LacksItsPage,
+    },
+    Case {
+        name: "to trees from no items",
+        layouts: (Layout::Sorted, Layout::Tree),
+        own: &[],
+        more: MORE,
+        row: Row::LacksItsPage,
+    },
+    Case {
+        name: "from trees",
+        layouts: (Layout::Tree, Layout::Sorted),
+        own: OWN,
+        more: MORE,
+        row: Row::LacksItsPage,
+    },
+    Case {
+        name: "from trees of no items",
+        layouts: (Layout::Tree, Layout::Sorted),
+        own: &[],
+        more: MORE,
+        row: Row::LacksItsPage,
+    },
+    Case {
+        name: "between trees",
+        layouts: (Layout::Tree, Layout::Tree),
+        own: OWN,
+        more: MORE,
+        row: Row::LacksItsPage,
+    },
+    Case {
+        name: "between trees from no items",
+        layouts: (Layout::Tree, Layout::Tree),
+        own: &[],
+        more: MORE,
+        row: Row::LacksItsPage,
+    },
+];
+
+fn holds_over(alloc: Global, case: &Case, own: &State) -> Result<bool, Fault> {
+    let more = third_in(alloc, case.layouts.1, case.more)?;
+    holds(alloc, case.row, own, &more)
+}
+
+fn is_so(alloc: Global, case: &Case) -> Result<bool, Fault> {
+    let own = second_in(alloc, case.layouts.0, case.own)?;
+    holds_over(alloc, case, &own)
+}
+
 #[test]
-fn states_are_handed_over_between_forms(rt: HostRuntime) -> Result<(), Fail> {
-    let own = &[(b'a', b'1'), (b'b', b'2'), (b'c', b'3')];
-    let more = &[(b'a', b'1'), (b'b', b'5'), (b'd', b'4')];
-    for layouts in [
-        (Layout::Sorted, Layout::Tree),
-        (Layout::Tree, Layout::Sorted),
-        (Layout::Tree, Layout::Tree),
-    ] {
-        assert!(rt; is_taken_across(rt.alloc(), layouts, own, more)?);
-        assert!(rt; is_taken_across(rt.alloc(), layouts, &[], more)?);
+fn states_are_handed_over(rt: HostRuntime) -> Result<(), Fail> {
+    for case in CASES {
+        assert_eq!(rt; is_so(rt.alloc(), &case), Ok(true), "{}", case.name);
     }
+    Ok(())
+}
+
+/// Over the first state. Two pages have items.
+const OVER_FIRST: Case = Case {
+    name: "a_state_is_handed_over_to_the_first_state",
+    layouts: SORTED,
+    own: &[],
+    more: TWO,
+    row: Row::HandedOver,
+};
+
+fn is_so_over_first(alloc: Global) -> Result<bool, Fault> {
+    let first = State::first(alloc)?;
+    holds_over(alloc, &OVER_FIRST, &first)
+}
+
+#[test]
+fn a_state_is_handed_over_to_the_first_state(rt: HostRuntime) -> Result<(), Fail> {
+    assert_eq!(rt; is_so_over_first(rt.alloc()), Ok(true));
     Ok(())
 }

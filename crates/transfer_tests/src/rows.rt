@@ -96,10 +96,6 @@ pub fn third_in(alloc: Global, layout: Layout, rows: &[(u8, u8)]) -> Result<Stat
     Ok(State::of_parts(alloc, parts(3, sessions, pages)))
 }
 
-pub fn third(alloc: Global, rows: &[(u8, u8)]) -> Result<State, Fault> {
-    third_in(alloc, Layout::Sorted, rows)
-}
-
 /// What the state that has more answers to the need.
 fn answer_to(alloc: Global, need: &Need, more: &State) -> Result<Parcel, Fault> {
     if more.number() == 0 {

@@ -101,13 +101,18 @@ fn after_batch(
     committed(alloc, base, bytes.as_slice())
 }
 
-/// The state with 1,024 items: in each batch 64 clients set 64 keys.
-fn filled(alloc: Global) -> Result<Committed, Fault> {
-    let mut last = Committed::first(alloc)?;
+/// Makes the first state that with 1,024 items: in each batch 64 clients set 64 keys.
+fn fill(alloc: Global, last: &mut Committed) -> Result<(), Fault> {
     for n in 1..=FULL {
         let asked = Asked::Set(64u32.wrapping_mul(n).wrapping_sub(64), 0);
-        last = after_batch(alloc, last.as_base(), u64::from(n), MOMENT, &asked, 64)?;
+        *last = after_batch(alloc, last.as_base(), u64::from(n), MOMENT, &asked, 64)?;
     }
+    Ok(())
+}
+
+fn filled(alloc: Global) -> Result<Committed, Fault> {
+    let mut last = Committed::first(alloc)?;
+    fill(alloc, &mut last)?;
     Ok(last)
 }
 
@@ -223,15 +228,24 @@ const FILLED: [u8; 32] = [
     0x35, 0xe7, 0x26, 0xf1, 0x27, 0x08, 0x54, 0xec, 0x32, 0x46, 0x8a, 0xd2, 0x0d, 0xa1, 0xaa, 0xe4,
 ];
 
+/// Whether the row holds of the request of this number. The state is then the one after it.
+fn holds(alloc: Global, last: &mut Committed, number: u64, row: &Row) -> Result<bool, Fault> {
+    match next_of(alloc, last.as_base(), number, row)? {
+        None => Ok(false),
+        Some(next) => {
+            *last = next;
+            Ok(true)
+        }
+    }
+}
+
 /// How many of the rows hold, one after the other.
-fn holding(alloc: Global, filled: Committed) -> Result<u64, Fault> {
-    let mut last = filled;
+fn holding(alloc: Global, last: &mut Committed) -> Result<u64, Fault> {
     let mut place = 0u64;
     for row in &ROWS {
         let number = u64::from(FULL).saturating_add(place).saturating_add(1);
-        match next_of(alloc, last.as_base(), number, row)? {
-            None => return Ok(place),
-            Some(next) => last = next,
+        if !holds(alloc, last, number, row)? {
+            return Ok(place);
         }
         place = place.saturating_add(1);
     }
@@ -240,11 +254,9 @@ fn holding(alloc: Global, filled: Committed) -> Result<u64, Fault> {
 
 #[test]
 fn the_form_is_that_of_the_items_when_the_batch_begins(rt: HostRuntime) -> Result<(), Fail> {
-    let filled = filled(rt.alloc())?;
-    let token = filled.state().token();
-    assert_eq!(rt;
-        (token, holding(rt.alloc(), filled)),
-        (Token(FILLED), Ok(6))
-    );
+    let mut state = filled(rt.alloc())?;
+    let token = state.state().token();
+    let holding = holding(rt.alloc(), &mut state);
+    assert_eq!(rt; (token, holding), (Token(FILLED), Ok(6)));
     Ok(())
 }

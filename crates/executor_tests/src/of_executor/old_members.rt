@@ -143,7 +143,7 @@ struct Row {
     name: &'static str,
     version: Version,
     record: &'static [&'static [Part]],
-    taken: Option<([u8; 32], usize)>,
+    taken: Option<(Token, usize)>,
 }
 
 const ROWS: [Row; 6] = [
@@ -151,25 +151,25 @@ const ROWS: [Row; 6] = [
         name: "an_old_member_keeps_its_token",
         version: Version::First,
         record: &[OLD_MEMBER],
-        taken: Some((TOKEN, 0)),
+        taken: Some((Token(TOKEN), 0)),
     },
     Row {
         name: "an_old_member_keeps_its_token before a rest",
         version: Version::First,
         record: &[OLD_MEMBER, REST],
-        taken: Some((TOKEN, 4)),
+        taken: Some((Token(TOKEN), 4)),
     },
     Row {
         name: "a_batch_in_an_old_member_may_touch_and_get",
         version: Version::First,
         record: &[GAT],
-        taken: Some((GAT_TOKEN, 0)),
+        taken: Some((Token(GAT_TOKEN), 0)),
     },
     Row {
         name: "a_batch_in_an_old_member_has_blocks_of_65536_bytes_at_most: 65,536",
         version: Version::First,
         record: &[AT_LIMIT, AFTER_AT_LIMIT],
-        taken: Some((AT_LIMIT_TOKEN, 0)),
+        taken: Some((Token(AT_LIMIT_TOKEN), 0)),
     },
     Row {
         name: "a_batch_in_an_old_member_has_blocks_of_65536_bytes_at_most: 65,537",
@@ -181,21 +181,15 @@ const ROWS: [Row; 6] = [
         name: "a_batch_in_an_old_member_has_blocks_of_65536_bytes_at_most: 65,537 today",
         version: Version::Second,
         record: &[LONGER, AFTER_LONGER_TODAY],
-        taken: Some((TOKEN_TODAY, 0)),
+        taken: Some((Token(TOKEN_TODAY), 0)),
     },
 ];
 
 /// What is taken of the row's bytes over the first state.
-fn taken_of(alloc: Global, row: &Row) -> Result<Option<([u8; 32], usize)>, Fault> {
+fn taken_of(alloc: Global, row: &Row) -> Result<Option<(Token, usize)>, Fault> {
     let base = Base::first(alloc)?;
     let bytes = bytes_of(alloc, row.record)?;
-    match taken(alloc, row.version, &base, bytes.as_slice())? {
-        Some((token, left)) => {
-            let text = token.0;
-            Ok(Some((text, left)))
-        }
-        None => Ok(None),
-    }
+    taken(alloc, row.version, &base, bytes.as_slice())
 }
 
 #[test]

@@ -71,7 +71,7 @@ fn the_records_of_the_first_state_and_after_one_set(rt: HostRuntime) -> Result<(
 }
 
 /// The record of a tentative state, which is undone then.
-fn record_of(alloc: Global, tentative: Tentative) -> Result<Vec<u8>, AllocError> {
+fn record_of(alloc: Global, tentative: Tentative) -> Result<Vec<u8>, Fault> {
     let mut bytes = Vec::new(alloc);
     let written = tentative.write(&mut bytes);
     drop(tentative.undo());
@@ -82,7 +82,7 @@ fn record_of(alloc: Global, tentative: Tentative) -> Result<Vec<u8>, AllocError>
 /// The record of the member that a batch makes after these batches.
 fn member_after(alloc: Global, before: &[&[u8]], batch: &[u8]) -> Result<Vec<u8>, Fault> {
     let before = after(alloc, before)?;
-    Ok(record_of(alloc, run(alloc, before.as_base(), batch, false)?)?)
+    record_of(alloc, run(alloc, before.as_base(), batch, false)?)
 }
 
 /// Whether the bytes are the record of a member over the base, which then writes them again.

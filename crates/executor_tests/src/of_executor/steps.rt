@@ -59,11 +59,15 @@ fn latest_of(alloc: Global, state: &State, keys: &[u8; 3]) -> Result<[u64; 3], A
     ])
 }
 
+fn later_stamps(alloc: Global, full: &Committed) -> Result<[u64; 3], Fault> {
+    let later = committed(alloc, full.as_base(), SET_MORE)?;
+    Ok(latest_of(alloc, later.state(), b"_`a")?)
+}
+
 /// Those of three keys after the full batch, and of three after one more `set` of `a`.
 fn stamps(alloc: Global, full: &Committed) -> Result<([u64; 3], [u64; 3]), Fault> {
     let first = latest_of(alloc, full.state(), b"!_`")?;
-    let later = committed(alloc, full.as_base(), SET_MORE)?;
-    Ok((first, latest_of(alloc, later.state(), b"_`a")?))
+    Ok((first, later_stamps(alloc, full)?))
 }
 
 #[test]
@@ -78,18 +82,25 @@ fn stamps_are_64_times_the_number_and_the_place(rt: HostRuntime) -> Result<(), F
     Ok(())
 }
 
-fn step_of(alloc: Global, work: &mut Work) -> Result<(bool, Option<u32>, Option<u32>), AllocError> {
+/// What work tells of its first group: whether no step was made before the first one and some after it,
+/// and which place comes next before and after that step.
+type First = (bool, Option<u32>, Option<u32>);
+
+fn step_of(alloc: Global, work: &mut Work) -> Result<First, Fault> {
     let (untouched, next) = (work.is_untouched(), work.next_place());
     let made = work.step(alloc, 0)? && !work.is_untouched();
     Ok((untouched && made, next, work.next_place()))
 }
 
-/// What work tells of its first group: whether no step was made before the first one and some after it,
-/// and which place comes next before and after that step.
-fn first_step(alloc: Global, bytes: &[u8]) -> Result<(bool, Option<u32>, Option<u32>), Fault> {
+/// Work of a batch over the first state.
+fn first_work(alloc: Global, bytes: &[u8]) -> Result<Work, Fault> {
     let base = Base::first(alloc)?;
-    let mut work = work_of(alloc, &base, bytes)?;
-    Ok(step_of(alloc, &mut work)?)
+    work_of(alloc, &base, bytes)
+}
+
+fn first_step(alloc: Global, bytes: &[u8]) -> Result<First, Fault> {
+    let mut work = first_work(alloc, bytes)?;
+    step_of(alloc, &mut work)
 }
 
 #[test]
@@ -142,14 +153,17 @@ fn base_of_tentative(alloc: Global, bytes: &[u8]) -> Result<(Token, Base), Fault
     Ok((token, base?))
 }
 
+/// What a `get` finds over the base.
+fn found_over(alloc: Global, base: &Base) -> Result<[u8; 4], Fault> {
+    let committed = committed(alloc, base, GET_THREE)?;
+    Ok(marks(committed.replies()))
+}
+
 /// Whether that base has the number and the token of the state, and what a `get` finds over it.
 fn found_over_tentative(alloc: Global) -> Result<(bool, [u8; 4]), Fault> {
     let (token, base) = base_of_tentative(alloc, THIRD_KEY)?;
     let is_known = base.number() == 1 && base.token() == token;
-    Ok((
-        is_known,
-        marks(committed(alloc, &base, GET_THREE)?.replies()),
-    ))
+    Ok((is_known, found_over(alloc, &base)?))
 }
 
 #[test]

@@ -41,13 +41,18 @@ fn step_backwards(alloc: Global, work: &mut Work) -> Result<(), AllocError> {
     Ok(())
 }
 
-fn run_backwards(alloc: Global, work: Work) -> Result<Tentative, Fault> {
-    let mut work = work;
-    step_backwards(alloc, &mut work)?;
-    match work.finish(alloc)? {
+/// What the last group ends in.
+fn done_of(ended: Ended) -> Result<Tentative, Fault> {
+    match ended {
         Ended::Done(tentative) => Ok(tentative),
         Ended::On(_) => Err(Fault::NotOpen),
     }
+}
+
+fn run_backwards(alloc: Global, work: Work) -> Result<Tentative, Fault> {
+    let mut work = work;
+    step_backwards(alloc, &mut work)?;
+    done_of(work.finish(alloc)?)
 }
 
 fn run_begun<R: Threads + Wait + Sync>(

@@ -50,6 +50,12 @@ impl Player {
         }
     }
 
+    /// It finds this record when it is opened next.
+    fn find(&mut self, alloc: Global, bytes: &[u8]) -> Option<()> {
+        *self = Player::Closed(keeper_of(alloc, bytes).ok()?);
+        Some(())
+    }
+
     fn keeper(&mut self) -> &mut MemKeeper<Text> {
         match self {
             Player::Open(verifier) => verifier.keeper(),
@@ -132,19 +138,13 @@ impl Play {
         is_so.then_some(())
     }
 
-    /// Puts a keeper with this record in its place.
-    fn find(&mut self, id: u8, bytes: &[u8]) -> Option<()> {
-        let keeper = keeper_of(self.alloc, bytes).ok()?;
-        *self.player(id)? = Player::Closed(keeper);
-        Some(())
-    }
-
     /// The record of the verifier is of these bytes, or it finds one of them.
     fn record(&mut self, id: u8, words: &[&str], finds: bool) -> Option<()> {
         let mut bytes = Vec::new(self.alloc);
         push_all(words, &mut bytes)?;
+        let alloc = self.alloc;
         if finds {
-            self.find(id, bytes.as_slice())
+            self.player(id)?.find(alloc, bytes.as_slice())
         } else {
             self.has(id, bytes.as_slice())
         }

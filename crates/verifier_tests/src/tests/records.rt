@@ -4,7 +4,7 @@ use base::Text;
 use decrees::{Ballot, Letter, Node};
 use keeper::{Keeper, MemKeeper};
 use proto::Fault;
-use std::alloc::{AllocError, Global};
+use std::alloc::Global;
 use std::test::Fail;
 use verifier::{Input, Verifier};
 
@@ -63,12 +63,18 @@ fn save(alloc: Global, verifier: &mut Verifier<MemKeeper<Text>>) -> Result<(), F
     Ok(())
 }
 
-/// Whether the record that the verifier saves is this one, but for the view.
-fn saves(alloc: Global, verifier: Verifier<MemKeeper<Text>>, bytes: &[u8]) -> Result<bool, Fault> {
+/// The record that the verifier saves.
+fn saved(alloc: Global, verifier: Verifier<MemKeeper<Text>>) -> Result<Vec<u8>, Fault> {
     let mut verifier = verifier;
     let step = save(alloc, &mut verifier);
-    let saved = record(alloc, &verifier.end())?;
+    let saved = record(alloc, &verifier.end());
     step?;
+    saved
+}
+
+/// Whether it is this one, but for the view.
+fn saves(alloc: Global, verifier: Verifier<MemKeeper<Text>>, bytes: &[u8]) -> Result<bool, Fault> {
+    let saved = saved(alloc, verifier)?;
     Ok(saved.get(..4) == bytes.get(..4) && saved.get(12..) == bytes.get(12..))
 }
 
@@ -116,36 +122,22 @@ fn first_change(alloc: Global, bytes: &[u8]) -> Result<Option<usize>, Fault> {
 
 /// Verifier 1 of three is in view 7, has accepted a Commit of number 2 in view 4, and knows a Rollback and
 /// the Commit of number 1.
-fn known(alloc: Global) -> Result<Vec<u8>, AllocError> {
-    let mut bytes = Vec::new(alloc);
-    bytes.extend_from_slice(b"\x01\x56\x01\x01\x00\x00\x00\x00\x00\x00\x00\x07".as_slice())?;
-    bytes.extend_from_slice(b"\x01\x00\x00\x00\x00\x00\x00\x00\x04".as_slice())?;
-    bytes.extend_from_slice(b"\x01\x00\x00\x00\x00\x00\x00\x00\x02".as_slice())?;
-    bytes.extend_from_slice(&[9; 32])?;
-    bytes.extend_from_slice(
-        b"\x00\x00\x00\x02\x00\x01\x00\x00\x00\x00\x00\x00\x00\x01".as_slice(),
-    )?;
-    bytes.extend_from_slice(&[7; 32])?;
-    Ok(bytes)
-}
+const KNOWN: &[u8] = &[
+    1, 0x56, 1, 1, 0, 0, 0, 0, 0, 0, 0, 7, 1, 0, 0, 0, 0, 0, 0, 0, 4, 1, 0, 0, 0, 0, 0, 0, 0, 2, 9,
+    9, 9, 9, 9, 9, 9, 9, 9, 9, 9, 9, 9, 9, 9, 9, 9, 9, 9, 9, 9, 9, 9, 9, 9, 9, 9, 9, 9, 9, 9, 9, 0,
+    0, 0, 2, 0, 1, 0, 0, 0, 0, 0, 0, 0, 1, 7, 7, 7, 7, 7, 7, 7, 7, 7, 7, 7, 7, 7, 7, 7, 7, 7, 7, 7,
+    7, 7, 7, 7, 7, 7, 7, 7, 7, 7, 7, 7, 7,
+];
 
 /// Verifier 1 of three is in view 7 and has accepted a Rollback in view 4. It has forgotten a Rollback, the
 /// Commit of number 1 and a Rollback, and knows another Rollback and the Commit of number 2.
-fn trimmed(alloc: Global) -> Result<Vec<u8>, AllocError> {
-    let mut bytes = Vec::new(alloc);
-    bytes.extend_from_slice(b"\x02\x56\x01\x01\x00\x00\x00\x00\x00\x00\x00\x07".as_slice())?;
-    bytes.extend_from_slice(b"\x01\x00\x00\x00\x00\x00\x00\x00\x04\x00".as_slice())?;
-    bytes.extend_from_slice(b"\x00\x00\x00\x00\x00\x00\x00\x03".as_slice())?;
-    bytes.extend_from_slice(b"\x00\x00\x00\x00\x00\x00\x00\x01".as_slice())?;
-    bytes.extend_from_slice(&[7; 32])?;
-    bytes.extend_from_slice(b"\x00\x00\x00\x00\x00\x00\x00\x03".as_slice())?;
-    bytes.extend_from_slice(b"\x00\x00\x00\x00\x00\x00\x00\x02".as_slice())?;
-    bytes.extend_from_slice(
-        b"\x00\x00\x00\x02\x00\x01\x00\x00\x00\x00\x00\x00\x00\x02".as_slice(),
-    )?;
-    bytes.extend_from_slice(&[8; 32])?;
-    Ok(bytes)
-}
+const TRIMMED: &[u8] = &[
+    2, 0x56, 1, 1, 0, 0, 0, 0, 0, 0, 0, 7, 1, 0, 0, 0, 0, 0, 0, 0, 4, 0, 0, 0, 0, 0, 0, 0, 0, 3, 0,
+    0, 0, 0, 0, 0, 0, 1, 7, 7, 7, 7, 7, 7, 7, 7, 7, 7, 7, 7, 7, 7, 7, 7, 7, 7, 7, 7, 7, 7, 7, 7, 7,
+    7, 7, 7, 7, 7, 7, 7, 0, 0, 0, 0, 0, 0, 0, 3, 0, 0, 0, 0, 0, 0, 0, 2, 0, 0, 0, 2, 0, 1, 0, 0, 0,
+    0, 0, 0, 0, 2, 8, 8, 8, 8, 8, 8, 8, 8, 8, 8, 8, 8, 8, 8, 8, 8, 8, 8, 8, 8, 8, 8, 8, 8, 8, 8, 8,
+    8, 8, 8, 8, 8,
+];
 
 /// The first byte at which a front of the record is taken, or 0 where the whole is not.
 fn first_wrong_front(alloc: Global, bytes: &[u8]) -> Result<Option<usize>, Fault> {
@@ -157,28 +149,14 @@ fn first_wrong_front(alloc: Global, bytes: &[u8]) -> Result<Option<usize>, Fault
 
 #[test]
 fn no_front_of_a_record_is_one(rt: HostRuntime) -> Result<(), Fail> {
-    let bytes = known(rt.alloc())?;
-    assert_eq!(rt; first_wrong_front(rt.alloc(), &bytes)?, None);
-    Ok(())
-}
-
-#[test]
-fn no_front_of_a_trimmed_record_is_one(rt: HostRuntime) -> Result<(), Fail> {
-    let bytes = trimmed(rt.alloc())?;
-    assert_eq!(rt; first_wrong_front(rt.alloc(), &bytes)?, None);
+    assert_eq!(rt; first_wrong_front(rt.alloc(), KNOWN)?, None);
+    assert_eq!(rt; first_wrong_front(rt.alloc(), TRIMMED)?, None);
     Ok(())
 }
 
 #[test]
 fn a_changed_record_is_refused_or_is_another(rt: HostRuntime) -> Result<(), Fail> {
-    let bytes = known(rt.alloc())?;
-    assert_eq!(rt; first_change(rt.alloc(), &bytes)?, None);
-    Ok(())
-}
-
-#[test]
-fn a_changed_trimmed_record_is_refused_or_is_another(rt: HostRuntime) -> Result<(), Fail> {
-    let bytes = trimmed(rt.alloc())?;
-    assert_eq!(rt; first_change(rt.alloc(), &bytes)?, None);
+    assert_eq!(rt; first_change(rt.alloc(), KNOWN)?, None);
+    assert_eq!(rt; first_change(rt.alloc(), TRIMMED)?, None);
     Ok(())
 }

@@ -219,29 +219,34 @@ fn refusal(
     Ok(fault)
 }
 
-/// The verifier of the keeper, which has so many letters.
+/// The verifier of the keeper that has this record; it has so many letters.
+fn opened_over(
+    alloc: Global,
+    keeper: MemKeeper<Text>,
+    before: &[u8],
+    letters: usize,
+) -> Result<Verifier<MemKeeper<Text>>, Fault> {
+    match open(alloc, 1, 0, keeper) {
+        Ok((verifier, sent)) => {
+            holds(sent.len() == letters)?;
+            Ok(verifier)
+        }
+        Err((fault, keeper)) => Err(refusal(alloc, fault, &keeper, before)?),
+    }
+}
+
 fn opened(
     alloc: Global,
     keeper: MemKeeper<Text>,
     letters: usize,
 ) -> Result<Verifier<MemKeeper<Text>>, Fault> {
     let before = record(alloc, &keeper)?;
-    match open(alloc, 1, 0, keeper) {
-        Ok((verifier, sent)) => {
-            if sent.len() == letters {
-                Ok(verifier)
-            } else {
-                Err(Fault::NotOpen)
-            }
-        }
-        Err((fault, keeper)) => Err(refusal(alloc, fault, &keeper, before.as_slice())?),
-    }
+    opened_over(alloc, keeper, before.as_slice(), letters)
 }
 
-/// It is opened again with the record that it has, and asks the others for decrees.
-fn restarted(alloc: Global, verifier: Verifier<MemKeeper<Text>>) -> Result<(), Fault> {
-    let bytes = record(alloc, &verifier.end())?;
-    opened(alloc, keeper_of(alloc, &bytes)?, 2)?;
+/// One with this record is opened, and asks the others for decrees.
+fn restarted(alloc: Global, bytes: &[u8]) -> Result<(), Fault> {
+    drop(opened(alloc, keeper_of(alloc, bytes)?, 2)?);
     Ok(())
 }
 
@@ -249,7 +254,8 @@ fn restarted(alloc: Global, verifier: Verifier<MemKeeper<Text>>) -> Result<(), F
 fn row(alloc: Global) -> Result<(), Fault> {
     let mut verifier = opened(alloc, MemKeeper::new(), 0)?;
     let played = each_line(alloc, &mut verifier);
-    let again = restarted(alloc, verifier);
+    let bytes = record(alloc, &verifier.end())?;
+    let again = restarted(alloc, &bytes);
     holds(played.is_ok() || again.is_ok())?;
     played?;
     again
