@@ -115,7 +115,7 @@ fn committed(alloc: Global, base: &Base, bytes: &[u8]) -> Result<Committed, Faul
     commit(run(alloc, base, bytes, false)?)
 }
 
-/// Makes the state that after these batches.
+/// Executes these batches over the state, which is then the one after them.
 fn go_on(alloc: Global, last: &mut Committed, batches: &[&[u8]]) -> Result<(), Fault> {
     for bytes in batches {
         *last = committed(alloc, last.as_base(), bytes)?;

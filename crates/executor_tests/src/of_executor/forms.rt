@@ -101,7 +101,7 @@ fn after_batch(
     committed(alloc, base, bytes.as_slice())
 }
 
-/// Makes the first state that with 1,024 items: in each batch 64 clients set 64 keys.
+/// Executes batches over the first state, in each of which 64 clients set 64 keys: they make 1,024 items.
 fn fill(alloc: Global, last: &mut Committed) -> Result<(), Fault> {
     for n in 1..=FULL {
         let asked = Asked::Set(64u32.wrapping_mul(n).wrapping_sub(64), 0);
