@@ -63,33 +63,34 @@ pub fn bytes_of(alloc: Global, record: &[&[Part]]) -> Result<Vec<u8>, AllocError
     Ok(bytes)
 }
 
-/// The member of batch 1, with the one of 64 pages that is not the same, the mark before it, and the
-/// marks around it. Version 1 has no form.
-pub const OLD_MEMBER: &[Part] = &[
+/// The member of batch 1 is in three lists. Up to the number of its state: version 1 has no form, and in
+/// version 2 it is the old one.
+pub const OLD_MEMBER: &[Part] = &[Part::Bytes(ONE_SET), Part::Bytes(&[0, 0, 0, 0, 0, 0, 0, 1])];
+
+const MEMBER: &[Part] = &[
     Part::Bytes(ONE_SET),
-    Part::Bytes(&[0, 0, 0, 0, 0, 0, 0, 1]),
+    Part::Bytes(&[1, 0, 0, 0, 0, 0, 0, 0, 1]),
+];
+
+/// The rest of the head, and the sessions: client 1 was answered `STORED`.
+pub const AFTER_1: &[Part] = &[
     Part::Zeros(32),
     Part::Bytes(&[0, 0, 0, 0, 0, 0, 0, 1]),
     Part::Bytes(&BATCH),
     Part::Bytes(&[0, 0, 3, 232]),
     Part::Bytes(&TOKEN),
     Part::Bytes(&[3, 0, 0, 0, 1, 0, 1, 0, 0, 0, 0, 0, 0, 0, 1, 0]),
+];
+
+/// The one of 64 or 256 pages that is not the same, the mark before it, and the marks around it.
+pub const OLD_PAGES: &[Part] = &[
     Part::Zeros(33),
     Part::Bytes(&[1, 0, 0, 0, 0, 1]),
     ITEM_A,
     Part::Zeros(30),
 ];
 
-/// The same in version 2, of the old form, with 256 pages.
-const MEMBER: &[Part] = &[
-    Part::Bytes(ONE_SET),
-    Part::Bytes(&[1, 0, 0, 0, 0, 0, 0, 0, 1]),
-    Part::Zeros(32),
-    Part::Bytes(&[0, 0, 0, 0, 0, 0, 0, 1]),
-    Part::Bytes(&BATCH),
-    Part::Bytes(&[0, 0, 3, 232]),
-    Part::Bytes(&TOKEN),
-    Part::Bytes(&[3, 0, 0, 0, 1, 0, 1, 0, 0, 0, 0, 0, 0, 0, 1, 0]),
+const PAGES: &[Part] = &[
     Part::Zeros(97),
     Part::Bytes(&[1, 0, 0, 0, 0, 1]),
     ITEM_A,
@@ -112,21 +113,25 @@ const BATCH_2: Part = Part::Bytes(&[
     0, 0, 0, 1, 2, 1, b'!', 0, 0, 0, 0, 0, 0, 0, 0, 0, 0, 0, 1, b'5',
 ]);
 
-/// The sessions after it: two clients were answered `STORED`.
-const NEXT_SESSIONS: Part = Part::Bytes(&[
-    3, 0, 0, 0, 2, 0, 1, 0, 0, 0, 0, 0, 0, 0, 1, 0, 0, 2, 0, 0, 0, 0, 0, 0, 0, 1, 0,
-]);
+/// The same three of the member of batch 2.
+const OLD_NEXT: &[Part] = &[BATCH_2, Part::Bytes(&[0, 0, 0, 0, 0, 0, 0, 2])];
 
-/// The member of batch 2. The one of 64 pages that is not the same has both keys.
-const OLD_NEXT: &[Part] = &[
-    BATCH_2,
-    Part::Bytes(&[0, 0, 0, 0, 0, 0, 0, 2]),
+const NEXT: &[Part] = &[BATCH_2, Part::Bytes(&[1, 0, 0, 0, 0, 0, 0, 0, 2])];
+
+/// Two clients were answered `STORED`.
+const AFTER_2: &[Part] = &[
     Part::Bytes(&TOKEN),
     Part::Bytes(&[0, 0, 0, 0, 0, 0, 0, 1]),
     Part::Bytes(&NEXT_BATCH),
     Part::Bytes(&[0, 0, 3, 232]),
     Part::Bytes(&NEXT_TOKEN),
-    NEXT_SESSIONS,
+    Part::Bytes(&[
+        3, 0, 0, 0, 2, 0, 1, 0, 0, 0, 0, 0, 0, 0, 1, 0, 0, 2, 0, 0, 0, 0, 0, 0, 0, 1, 0,
+    ]),
+];
+
+/// The one of 64 pages has both keys.
+const OLD_NEXT_PAGES: &[Part] = &[
     Part::Zeros(33),
     Part::Bytes(&[1, 0, 0, 0, 0, 2]),
     NEXT_ITEM,
@@ -134,45 +139,44 @@ const OLD_NEXT: &[Part] = &[
     Part::Zeros(30),
 ];
 
-/// The same in version 2.
-const NEXT: &[Part] = &[
-    BATCH_2,
-    Part::Bytes(&[1, 0, 0, 0, 0, 0, 0, 0, 2]),
-    Part::Bytes(&TOKEN),
-    Part::Bytes(&[0, 0, 0, 0, 0, 0, 0, 1]),
-    Part::Bytes(&NEXT_BATCH),
-    Part::Bytes(&[0, 0, 3, 232]),
-    Part::Bytes(&NEXT_TOKEN),
-    NEXT_SESSIONS,
+const NEXT_PAGES: &[Part] = &[
     Part::Zeros(33),
     Part::Bytes(&[1, 0, 0, 0, 0, 1]),
     NEXT_ITEM,
     Part::Zeros(222),
 ];
 
-/// The first state: its number and token before, its epoch, 68 bytes of batch, moment and token, no
-/// sessions, and 64 pages without items. Then the number of the chain's members.
-const OLD_FIRST: &[Part] = &[
-    Part::Zeros(40),
-    Part::Bytes(&[0, 0, 0, 0, 0, 0, 0, 1]),
-    Part::Zeros(68),
-    Part::Bytes(&[3, 0, 0, 0, 0]),
-    Part::Zeros(320),
-    Part::Bytes(&[2]),
-];
-
-/// The same in version 2, of the form of today.
+/// The first state: its number and token before, its epoch, 68 bytes of batch, moment and token, and no
+/// sessions.
 const FIRST: &[Part] = &[
-    Part::Bytes(&[2]),
     Part::Zeros(40),
     Part::Bytes(&[0, 0, 0, 0, 0, 0, 0, 1]),
     Part::Zeros(68),
     Part::Bytes(&[3, 0, 0, 0, 0]),
-    Part::Zeros(1280),
-    Part::Bytes(&[2]),
 ];
 
-/// The chain of both members over the first state, in version 1 and in version 2.
-pub const OLD_CHAIN: [&[Part]; 3] = [OLD_FIRST, OLD_MEMBER, OLD_NEXT];
+/// The chain of both members over the first state, in version 1 and in version 2. Behind the 64 or 256
+/// pages of the first state is the number of members.
+pub const OLD_CHAIN: [&[Part]; 8] = [
+    FIRST,
+    &[Part::Zeros(320), Part::Bytes(&[2])],
+    OLD_MEMBER,
+    AFTER_1,
+    OLD_PAGES,
+    OLD_NEXT,
+    AFTER_2,
+    OLD_NEXT_PAGES,
+];
 
-pub const CHAIN: [&[Part]; 3] = [FIRST, MEMBER, NEXT];
+/// The first state has the form of today.
+pub const CHAIN: [&[Part]; 9] = [
+    &[Part::Bytes(&[2])],
+    FIRST,
+    &[Part::Zeros(1280), Part::Bytes(&[2])],
+    MEMBER,
+    AFTER_1,
+    PAGES,
+    NEXT,
+    AFTER_2,
+    NEXT_PAGES,
+];

@@ -4,7 +4,7 @@
 ghost use Rattle.std.specs.Prelude.{◌<◌, length};
 
 use super::chain::taken_chain;
-use super::old_bytes::{CHAIN, OLD_CHAIN, OLD_MEMBER, Part, TOKEN, bytes_of};
+use super::old_bytes::{AFTER_1, CHAIN, OLD_CHAIN, OLD_MEMBER, OLD_PAGES, Part, TOKEN, bytes_of};
 use super::*;
 use states::Version;
 use std::test::Fail;
@@ -150,13 +150,13 @@ const ROWS: [Row; 6] = [
     Row {
         name: "an_old_member_keeps_its_token",
         version: Version::First,
-        record: &[OLD_MEMBER],
+        record: &[OLD_MEMBER, AFTER_1, OLD_PAGES],
         taken: Some((Token(TOKEN), 0)),
     },
     Row {
         name: "an_old_member_keeps_its_token before a rest",
         version: Version::First,
-        record: &[OLD_MEMBER, REST],
+        record: &[OLD_MEMBER, AFTER_1, OLD_PAGES, REST],
         taken: Some((Token(TOKEN), 4)),
     },
     Row {
@@ -223,7 +223,7 @@ fn sealed(alloc: Global, base: &Base, bytes: &[u8]) -> Result<usize, Fault> {
 #[test]
 fn an_old_member_that_is_cut_or_changed_is_refused(rt: HostRuntime) -> Result<(), Fail> {
     let base = Base::first(rt.alloc())?;
-    let bytes = bytes_of(rt.alloc(), &[OLD_MEMBER])?;
+    let bytes = bytes_of(rt.alloc(), &[OLD_MEMBER, AFTER_1, OLD_PAGES])?;
     let sealed = sealed(rt.alloc(), &base, bytes.as_slice());
     assert_eq!(rt; (bytes.len(), sealed), (272, Ok(272)));
     Ok(())
