@@ -43,11 +43,12 @@ impl Model for Connections {
 }
 
 impl Connections {
-    ghost use Rattle.std.specs.Prelude.{◌≡◌, ◌<◌, ◌≤◌, ◌+◌, ◌++◌, ◌∷◌, ◌⊎◌, [], true, false, None, Some, IfOk, IfErr, OnOk, OnErr, OnSome, IfSome, IfNone, Err, is_some};
+    ghost use Rattle.std.specs.Prelude.{◌≡◌, ◌<◌, ◌≤◌, ◌+◌, ◌^◌, ◌++◌, ◌∷◌, ◌⊎◌, [], true, false, None, Some, IfOk, IfErr, OnOk, OnErr, OnSome, IfSome, IfNone, Err, is_some};
     ghost use Rattle.memcached_spec.specs.Asked.{HasText};
     ghost use Rattle.connections.specs.Connection.{new_connection};
     ghost use Rattle.connections.specs.Places.{place_in, is_here, is_untaken_in, left_at, HasSameOthers, IsGrown};
     ghost use Rattle.connections.specs.History.{IsHistory, given_as};
+    ghost use Rattle.connections.specs.declared.table.TheConstants.{MOST_PLACES};
     ghost use Rattle.connections.specs.Connections.{IsConnections, no_connections, HasSameLogs, PassesOn, AreBefore, AreReplied};
 
     /// No connection came.
@@ -66,8 +67,8 @@ impl Connections {
     /// A connection comes. Connections are numbered by rising numbers; the event loop may use a key again after
     /// its connection left.
     ///
-    /// After an error no connection has changed. Unfit: the number is not above those that came, or another
-    /// connection is at the key; Full: the key is 65,536 or more; NoMemory: an allocation failed.
+    /// After an error no connection has changed. Unfit: the number is not above those that came, or is 2^64 - 1, or
+    /// another connection is at the key; Full: the key is 65,536 or more; NoMemory: an allocation failed.
     pub fn come(&mut self, alloc: Global, at: Place) -> Result<(), Fault>
         ensures logs { HasSameLogs self.old self.new }
         ensures here { OnOk result (place_in self.new.table at.key ≡ Some (new_connection at.number)) }
@@ -75,9 +76,14 @@ impl Connections {
         ensures err { OnErr result (self.new.next ≡ self.old.next) }
         ensures same { OnErr result (IsGrown self.old.table self.new.table) }
         ensures same_others { HasSameOthers at.key self.old.table self.new.table }
+        ensures unfit { result ≡ Err Fault.Unfit → (at.number < self.old.next) ⊎ (is_some (place_in self.old.table at.key) ≡ true) ⊎ (at.number + 1 ≡ 2 ^ 64) }
+        ensures full { result ≡ Err Fault.Full → MOST_PLACES ≤ at.key }
         ensures only { IfErr result (λ fault. (fault ≡ Fault.Unfit) ⊎ (fault ≡ Fault.Full) ⊎ (fault ≡ Fault.NoMemory)) }
     {
-        if at.number < self.next || table::is_taken(&self.table, at.key) {
+        if at.number < self.next {
+            return Err(Fault::Unfit);
+        }
+        if table::is_taken(&self.table, at.key) {
             return Err(Fault::Unfit);
         }
         let next = at.number.checked_add(1).ok_or(Fault::Unfit)?;

@@ -46,11 +46,12 @@ impl Model for Service {
 }
 
 impl Service {
-    ghost use Rattle.std.specs.Prelude.{◌≡◌, ◌++◌, ◌∷◌, ◌⊎◌, [], true, false, None, Some, IfOk, IfErr, OnOk, OnErr};
+    ghost use Rattle.std.specs.Prelude.{◌≡◌, ◌<◌, ◌≤◌, ◌+◌, ◌^◌, ◌++◌, ◌∷◌, ◌⊎◌, [], true, false, None, Some, Err, is_some, IfOk, IfErr, OnOk, OnErr};
     ghost use Rattle.connections.specs.Connection.{new_connection};
     ghost use Rattle.connections.specs.Places.{place_in, is_here, left_at, HasSameOthers, IsGrown};
     ghost use Rattle.connections.specs.Connections.{HasSameLogs, no_connections, IsConnections};
     ghost use Rattle.connections.specs.History.{IsHistory};
+    ghost use Rattle.connections.specs.declared.table.TheConstants.{MOST_PLACES};
     ghost use Rattle.service.specs.Service.{IsService, HasMoments, HasEnsemble, HasSameRequests, Hears};
 
     /// A service where no connection came, over `2u + 1` executors, as many verifiers, and as many proxies as
@@ -84,11 +85,14 @@ impl Service {
     /// above those of all connections that came before.
     ///
     /// After an error no connection has changed, and this one is to be closed. Unfit: the number is not above the
-    /// others, or a connection is at the key; Full: the key is 65,536 or more; NoMemory: an allocation failed.
+    /// others, or is 2^64 - 1, or a connection is at the key; Full: the key is 65,536 or more; NoMemory: an allocation
+    /// failed.
     pub fn come(&mut self, alloc: Global, key: usize, number: u64) -> Result<(), Fault>
         ensures here { OnOk result (place_in self.new.connections.table key ≡ Some (new_connection number)) }
         ensures same { OnErr result (IsGrown self.old.connections.table self.new.connections.table) }
         ensures same_others { HasSameOthers key self.old.connections.table self.new.connections.table }
+        ensures unfit { result ≡ Err Fault.Unfit → (number < self.old.connections.next) ⊎ (is_some (place_in self.old.connections.table key) ≡ true) ⊎ (number + 1 ≡ 2 ^ 64) }
+        ensures full { result ≡ Err Fault.Full → MOST_PLACES ≤ key }
         ensures only { IfErr result (λ fault. (fault ≡ Fault.Unfit) ⊎ (fault ≡ Fault.Full) ⊎ (fault ≡ Fault.NoMemory)) }
         ensures logs { HasSameLogs self.old.connections self.new.connections }
         ensures requests { HasSameRequests self.old self.new }
