@@ -5,9 +5,14 @@ use std::marker::Model;
 use std::sync::Arc;
 
 /// A key and its value, behind one pointer. Clones of an entry share both.
-#[derive(Drop)]
 pub struct Entry<K, V> {
     both: Arc<(K, V), Global>,
+}
+
+impl<K: Drop, V: Drop> Drop for Entry<K, V> {
+    fn drop(self) {
+        let Entry { both: _ } = self;
+    }
 }
 
 impl<K, V> Model for Entry<K, V> {

@@ -10,9 +10,14 @@ use std::marker::Model;
 ///
 /// Contracts see it as the list of its keys and values, by rising keys. A struct round it, whose
 /// key is one type, is seen as std's map of that list (`FinMap.from_sorted`).
-#[derive(Drop)]
 pub struct SortedMap<K: MapKey, V> {
     entries: Vec<Entry<K, V>>,
+}
+
+impl<K: MapKey + Drop, V: Drop> Drop for SortedMap<K, V> {
+    fn drop(self) {
+        let SortedMap { entries: _ } = self;
+    }
 }
 
 impl<K: MapKey, V> Model for SortedMap<K, V> {

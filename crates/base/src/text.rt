@@ -13,11 +13,20 @@ pub type Piece = Arc<Vec<u8>, Global>;
 ///
 /// Contracts see it as the bytes that it has, however they are cut into pieces. A call that fails
 /// leaves the bytes as they were.
-#[derive(Drop)]
 pub struct Text {
     pieces: Vec<Piece>,
     tail: Vec<u8>,
     len: usize,
+}
+
+impl Drop for Text {
+    fn drop(self) {
+        let Text {
+            pieces: _,
+            tail: _,
+            len: _,
+        } = self;
+    }
 }
 
 impl Model for Text {

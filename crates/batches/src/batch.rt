@@ -17,7 +17,6 @@ pub const GREATEST_NUMBER: u64 = (1 << 58) - 1;
 pub type Requests = Listed<Request, 0, MOST_REQUESTS>;
 
 /// Requests that are executed together. Batches are numbered from 1 to `GREATEST_NUMBER`.
-#[derive(Drop)]
 pub struct Batch {
     pub epoch: u64,
     pub n: u64,
@@ -26,6 +25,17 @@ pub struct Batch {
     pub ghost first: { 1 ≤ n },
     pub ghost last: { n ≤ GREATEST_NUMBER },
     pub ghost few: { length requests ≤ MOST_REQUESTS },
+}
+
+impl Drop for Batch {
+    fn drop(self) {
+        let Batch {
+            epoch: _,
+            n: _,
+            moment: _,
+            requests: _,
+        } = self;
+    }
 }
 
 fn copied(requests: &Requests) -> Result<Requests, AllocError>

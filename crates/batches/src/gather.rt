@@ -8,9 +8,14 @@ use std::marker::Model;
 use std::mem;
 
 /// The requests that wait for a batch: at most one a client, in the order of arrival.
-#[derive(Drop)]
 pub struct Gather {
     held: IndexMap<u16, Request>,
+}
+
+impl Drop for Gather {
+    fn drop(self) {
+        let Gather { held: _ } = self;
+    }
 }
 
 impl Model for Gather {

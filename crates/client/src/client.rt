@@ -12,12 +12,22 @@ use std::alloc::Global;
 use std::marker::Model;
 
 /// The part of the server that a client talks with.
-#[derive(Drop)]
 pub struct Client {
     client: u16,
     u: u8,
     talk: Talk,
     stopped: bool,
+}
+
+impl Drop for Client {
+    fn drop(self) {
+        let Client {
+            client: _,
+            u: _,
+            talk: _,
+            stopped: _,
+        } = self;
+    }
 }
 
 impl Model for Client {

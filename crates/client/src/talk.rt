@@ -8,7 +8,6 @@ use proto::Reader;
 use std::alloc::Global;
 
 /// What a client's part of the server keeps.
-#[derive(Drop)]
 pub struct Talk {
     pub reader: Reader,
     /// What was read and not taken yet.
@@ -18,6 +17,18 @@ pub struct Talk {
     pub outstanding: Option<Asked>,
     /// Whether a Close was taken, or the client hung up.
     pub closed: bool,
+}
+
+impl Drop for Talk {
+    fn drop(self) {
+        let Talk {
+            reader: _,
+            waiting: _,
+            last: _,
+            outstanding: _,
+            closed: _,
+        } = self;
+    }
 }
 
 impl Talk {

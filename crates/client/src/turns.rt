@@ -9,9 +9,14 @@ use std::marker::Model;
 
 /// Turns that wait, in order. The first one is taken without a move of the others, so that all of them
 /// together are taken in linear time.
-#[derive(Drop)]
 pub struct Turns {
     turns: VecDeque<Turn>,
+}
+
+impl Drop for Turns {
+    fn drop(self) {
+        let Turns { turns: _ } = self;
+    }
 }
 
 impl Model for Turns {

@@ -79,11 +79,11 @@ told_at_keeps v at table given ok here left is =
 
 -- ---- it reads
 
-fed_parts : (v : ConnectionsView) (at : Place) (piece : List ℕ) (table : List (Option ConnectionView)) (result : Result Said Fault) (c : ConnectionView) → place_in v.table at.key ≡ Some c → FeedsAt at piece v.table table result
+pub fed_parts : (v : ConnectionsView) (at : Place) (piece : List ℕ) (table : List (Option ConnectionView)) (result : Result Said Fault) (c : ConnectionView) → place_in v.table at.key ≡ Some c → FeedsAt at piece v.table table result
     → (p : Option ConnectionView) × FeedsHere at piece c p result × (table ≡ slice_set v.table at.key p)
 fed_parts v at piece table result c e f = subst (λ (o : Option (Option ConnectionView)). FeedsIn at piece v.table table result o) (place_there v.table at.key c e) f
 
-if_some : (b : Bool) (now d : ConnectionView) → (if b then Some now else None) ≡ Some d → d ≡ now
+pub if_some : (b : Bool) (now d : ConnectionView) → (if b then Some now else None) ≡ Some d → d ≡ now
 if_some true now d e = let s : ◌≡◌ {A = Option ConnectionView} (Some now) (Some d) = e in sym (cc s)
 if_some false now d e = let s : ◌≡◌ {A = Option ConnectionView} None (Some d) = e in absurd (cc s)
 
@@ -146,7 +146,7 @@ fed_names v at piece table said here f =
 
 -- ---- it takes a reply
 
-answer_parts : (v : ConnectionsView) (at : Place) (turn : ℕ) (reply : replies.Reply) (table : List (Option ConnectionView)) (result : Option Said) (c : ConnectionView) → place_in v.table at.key ≡ Some c → AnswersAt at turn reply v.table table result
+pub answer_parts : (v : ConnectionsView) (at : Place) (turn : ℕ) (reply : replies.Reply) (table : List (Option ConnectionView)) (result : Option Said) (c : ConnectionView) → place_in v.table at.key ≡ Some c → AnswersAt at turn reply v.table table result
     → (p : Option ConnectionView) × AnswersHere at turn reply c p result × (table ≡ slice_set v.table at.key p)
 answer_parts v at turn reply table result c e f = subst (λ (o : Option (Option ConnectionView)). AnswersIn at turn reply v.table table result o) (place_there v.table at.key c e) f
 
@@ -208,7 +208,7 @@ pub takes_none : (at : Place) (old table : List (Option ConnectionView)) → Tak
 takes_none at old table t = by (slice_get old at.key) refl t
   where
     same : (c : ConnectionView) (b : Bool) (now : Option ConnectionView) → TakesWhere b c now None → now ≡ Some c
-    same c true now t = t
+    same c true now t = t.0
     same c false now t = t.0
 
     by_place : (p now : Option ConnectionView) → TakesPlace at.number p now None → now ≡ p

@@ -5,4 +5,5 @@ pub mod MoveLemmas
 pub mod KeepLemmas
 pub mod TakeLemmas
 pub mod AtLemmas
+pub mod OwedLemmas
 pub mod HistoryLemmas

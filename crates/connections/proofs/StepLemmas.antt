@@ -31,7 +31,7 @@ go_asks t bytes (Say notice ∷ turns) = go_asks t (bytes ++ notice_text notice)
 go_asks t bytes (Close notice ∷ turns) = inl (refl, refl, refl)
 go_asks t bytes (Ask command quiet ∷ turns) = inr (_, refl, refl, refl)
 
-where_asks : (t : Talk) (bytes : List ℕ) (o : Option Asked) (closed : Bool) → Asks t (go_where 0 1 t bytes o closed)
+pub where_asks : (t : Talk) (bytes : List ℕ) (o : Option Asked) (closed : Bool) → Asks t (go_where 0 1 t bytes o closed)
 where_asks t bytes None false = go_asks t bytes t.waiting
 where_asks t bytes None true = inl (refl, refl, refl)
 where_asks t bytes (Some a) closed = inl (refl, refl, refl)

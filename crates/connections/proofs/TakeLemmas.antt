@@ -109,7 +109,7 @@ module _ (v : ConnectionsView) (ok : IsConnections v) (key : ℕ) (c : Connectio
   abbrev pub now : ConnectionsView
   now = record v { table = slice_set v.table key (Some next); taken = v.taken ++ entry ∷ [] }
 
-  same_talk : next ≡ record { number = c.number; talk = c.talk; command = None }
+  same_talk : next ≡ record { number = c.number; talk = c.talk; command = None; unwritten = c.unwritten }
   same_talk = t.now_is
 
   old_or_new : (e : CommandNumber × Command) → Contains now.taken e → Contains v.taken e ⊎ (entry ≡ e)

@@ -1,5 +1,5 @@
 -- A connection, as contracts see it, and what its calls do.
-use Rattle.std.specs.Prelude.{◌≡◌, ℕ, Bool, List, [], ◌∷◌, Option, Some, None}
+use Rattle.std.specs.Prelude.{◌≡◌, ℕ, ◌+◌, ◌-◌, ◌^◌, ◌<◌, min, length, Bool, List, [], ◌∷◌, Option, Some, None}
 use Rattle.proto.specs.declared.command.Command.{Command}
 use Rattle.proto.specs.declared.reply.Reply as replies
 use Rattle.decrees.specs.declared.node.Letter.{Letter}
@@ -10,15 +10,18 @@ use Rattle.client.specs.declared.talk.Talk.{Talk}
 use Rattle.client.specs.Talk.{Given, new_talk, unmoved}
 use Rattle.client.specs.Step.{IsFed, on_reply}
 use Rattle.connections.specs.declared.connection.Ready.{Ready}
+use Rattle.connections.specs.declared.connection.TheConstants.{MOST_UNWRITTEN}
 
 pub record ConnectionView : Type 0 where
   pub number : ℕ
   pub talk : Talk
   -- the outstanding command, until it is taken
   pub command : Option Command
+  -- how many bytes it was given that are not written yet, at most 2^64 - 1
+  pub unwritten : ℕ
 
 abbrev pub new_connection : ℕ → ConnectionView
-new_connection number = record { number = number; talk = new_talk; command = None }
+new_connection number = record { number = number; talk = new_talk; command = None; unwritten = 0 }
 
 -- a command that was not taken is the outstanding one
 abbrev pub IsOf : Option Command → Option Asked → Type 0
@@ -62,7 +65,7 @@ or_else (Some command) old = Some command
 
 -- the connection after a step of its part, which leaves this
 abbrev pub after_given : ConnectionView → Given → ConnectionView
-after_given c g = record { number = c.number; talk = g.talk; command = or_else (wanted_command g.letters) c.command }
+after_given c g = record { number = c.number; talk = g.talk; command = or_else (wanted_command g.letters) c.command; unwritten = min (c.unwritten + length g.bytes) (2 ^ 64 - 1) }
 
 -- it reads a piece, and is given these bytes
 abbrev pub IsFedTo : ConnectionView → List ℕ → ConnectionView → List ℕ → Type 0
@@ -85,4 +88,6 @@ pub record IsTaken (c : ConnectionView) (ready : Ready) (now : ConnectionView) :
   pub command : asked.request.command ≡ ready.command
   pub quiet : asked.quiet ≡ ready.quiet
   pub untaken : c.command ≡ Some ready.command
-  pub now_is : now ≡ record { number = c.number; talk = c.talk; command = None }
+  -- little waits to be written
+  pub few : c.unwritten < MOST_UNWRITTEN
+  pub now_is : now ≡ record { number = c.number; talk = c.talk; command = None; unwritten = c.unwritten }

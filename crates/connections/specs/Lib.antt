@@ -1,5 +1,6 @@
 pub mod Connection
 pub mod Places
+pub mod Owed
 pub mod Logs
 pub mod History
 pub mod Connections

@@ -1,9 +1,10 @@
 -- A place for a connection, and a table of places.
-use Rattle.std.specs.Prelude.{◌≡◌, ◌≢◌, ◌⊎◌, ℕ, ◌==◌, ◌&&◌, Bool, true, false, List, [], Option, Some, None, Result, Ok, Err, is_some, not, if◌then◌else◌, slice_get, slice_set}
+use Rattle.std.specs.Prelude.{◌≡◌, ◌≢◌, ◌⊎◌, ℕ, ◌-◌, ◌≤◌, ◌==◌, ◌&&◌, Bool, true, false, List, [], Option, Some, None, Result, Ok, Err, is_some, not, if◌then◌else◌, slice_get, slice_set}
 use Rattle.base.specs.declared.fault.Fault.{Fault}
 use Rattle.base.specs.declared.fault.Fault.TheVariants as fault
 use Rattle.proto.specs.declared.reply.Reply as replies
 use Rattle.connections.specs.declared.connection.Ready.{Ready}
+use Rattle.connections.specs.declared.connection.TheConstants.{MOST_UNWRITTEN}
 use Rattle.connections.specs.declared.places.Place.{Place}
 use Rattle.connections.specs.declared.said.Said.{Said}
 use Rattle.connections.specs.Connection.{ConnectionView, IsFedTo, ConnectionAnswers, IsTaken}
@@ -61,8 +62,9 @@ AnswersPlace at turn reply (Some c) new result = AnswersHere at turn reply c new
 
 -- ---- a command is taken
 
+-- where none is taken there is none to be taken, or too much waits to be written
 abbrev pub TakesHere : ConnectionView → Option ConnectionView → Option Ready → Type 0
-TakesHere c new None = new ≡ Some c
+TakesHere c new None = (new ≡ Some c) × ((c.command ≡ None) ⊎ (MOST_UNWRITTEN ≤ c.unwritten))
 TakesHere c new (Some ready) = (now : ConnectionView) × IsTaken c ready now × (new ≡ Some now)
 
 abbrev pub TakesWhere : Bool → ConnectionView → Option ConnectionView → Option Ready → Type 0
@@ -122,6 +124,23 @@ left_in at old (Some place) = slice_set old at.key (left_place at.number place)
 -- the connection leaves, if it is here
 abbrev pub left_at : Place → List (Option ConnectionView) → List (Option ConnectionView)
 left_at at old = left_in at old (slice_get old at.key)
+
+-- ---- bytes of it are written
+
+abbrev pub after_written : ℕ → ConnectionView → ConnectionView
+after_written count c = record c { unwritten = c.unwritten - count }
+
+abbrev pub written_place : ℕ → ℕ → Option ConnectionView → Option ConnectionView
+written_place number count None = None
+written_place number count (Some c) = Some (if c.number == number then after_written count c else c)
+
+abbrev pub written_in : Place → ℕ → List (Option ConnectionView) → Option (Option ConnectionView) → List (Option ConnectionView)
+written_in at count old None = old
+written_in at count old (Some place) = slice_set old at.key (written_place at.number count place)
+
+-- so many bytes of the connection are written, if it is here
+abbrev pub written_at : Place → ℕ → List (Option ConnectionView) → List (Option ConnectionView)
+written_at at count old = written_in at count old (slice_get old at.key)
 
 -- at each other key is what was there
 abbrev pub HasSameOthers : ℕ → List (Option ConnectionView) → List (Option ConnectionView) → Type 0

@@ -12,7 +12,6 @@ use std::marker::Model;
 pub const MOST_UNWRITTEN: usize = 262_144;
 
 /// A connection's part of the server. It has at most one command outstanding.
-#[derive(Drop)]
 pub struct Connection {
     number: u64,
     client: Client,
@@ -20,6 +19,17 @@ pub struct Connection {
     command: Option<Command>,
     /// How many bytes it was given that are not written yet.
     unwritten: usize,
+}
+
+impl Drop for Connection {
+    fn drop(self) {
+        let Connection {
+            number: _,
+            client: _,
+            command: _,
+            unwritten: _,
+        } = self;
+    }
 }
 
 /// A command to be asked of a client proxy.
@@ -38,16 +48,17 @@ impl Model for Connection {
 
     ghost Value = { ConnectionView };
 
-    ghost view = { λ c. record { number = c.number; talk = c.client.talk; command = c.command } };
+    ghost view = { λ c. record { number = c.number; talk = c.client.talk; command = c.command; unwritten = c.unwritten } };
 
     ghost invariant = { λ c. (c.client.client ≡ 1) × (c.client.u ≡ 0) × IsOf c.command c.client.talk.outstanding };
 }
 
 impl Connection {
-    ghost use Rattle.std.specs.Prelude.{◌≡◌, ◌⊎◌, [], None, IfOk, IfErr, IfSome, IfNone, IsOk, IsTrue, is_some, not, OnErr, false};
+    ghost use Rattle.std.specs.Prelude.{◌≡◌, ◌⊎◌, ◌≤◌, ◌-◌, [], None, IfOk, IfErr, IfSome, IfNone, IsOk, IsTrue, is_some, not, OnErr, false};
     ghost use Rattle.client.specs.Step.{IsFed};
     ghost use Rattle.client.specs.Talk.{Given};
     ghost use Rattle.connections.specs.Connection.{IsFedTo, ConnectionAnswers, IsTaken, turn_of, new_connection};
+    ghost use Rattle.connections.specs.declared.connection.TheConstants.{MOST_UNWRITTEN};
 
     /// The connection of this number, of which nothing came yet.
     pub fn new(alloc: Global, number: u64) -> Connection
@@ -124,6 +135,7 @@ impl Connection {
     /// `MOST_UNWRITTEN` bytes or more are not written yet.
     pub fn take(&mut self) -> Option<Ready>
         ensures none { IfNone result (self.new ≡ self.old) }
+        ensures why { IfNone result ((self.old.command ≡ None) ⊎ (MOST_UNWRITTEN ≤ self.old.unwritten)) }
         ensures some { IfSome result (λ ready. IsTaken self.old ready self.new) }
     {
         if MOST_UNWRITTEN <= self.unwritten {
@@ -148,7 +160,7 @@ impl Connection {
 
     /// So many of the bytes that it was given are written.
     pub fn written(&mut self, count: usize)
-        ensures { self.new ≡ self.old }
+        ensures { self.new ≡ record self.old { unwritten = self.old.unwritten - count } }
     {
         self.unwritten = self.unwritten.saturating_sub(count);
     }

@@ -20,7 +20,6 @@ pub struct CommandNumber {
 }
 
 /// The connections that are here, by the event loop's keys, with the history of all that ever came.
-#[derive(Drop)]
 pub struct Connections {
     table: Vec<Option<Connection>>,
     /// The least number that the next connection may have.
@@ -30,6 +29,18 @@ pub struct Connections {
     taken: Log<CommandNumber, Command>,
     /// The replies that came back.
     replied: Log<CommandNumber, Reply>,
+}
+
+impl Drop for Connections {
+    fn drop(self) {
+        let Connections {
+            table: _,
+            next: _,
+            history: _,
+            taken: _,
+            replied: _,
+        } = self;
+    }
 }
 
 impl Model for Connections {
@@ -46,7 +57,8 @@ impl Connections {
     ghost use Rattle.std.specs.Prelude.{◌≡◌, ◌<◌, ◌≤◌, ◌+◌, ◌^◌, ◌++◌, ◌∷◌, ◌⊎◌, [], true, false, None, Some, IfOk, IfErr, OnOk, OnErr, OnSome, IfSome, IfNone, Err, is_some};
     ghost use Rattle.memcached_spec.specs.Asked.{HasText};
     ghost use Rattle.connections.specs.Connection.{new_connection};
-    ghost use Rattle.connections.specs.Places.{place_in, is_here, is_untaken_in, left_at, HasSameOthers, IsGrown};
+    ghost use Rattle.connections.specs.Places.{place_in, is_here, is_untaken_in, left_at, written_at, HasSameOthers, IsGrown};
+    ghost use Rattle.connections.specs.Owed.{ReadsFurther, AnswersOn, BecomesAt, IsTakenAt, HasNoneToTake};
     ghost use Rattle.connections.specs.History.{IsHistory, given_as};
     ghost use Rattle.connections.specs.declared.table.TheConstants.{MOST_PLACES};
     ghost use Rattle.connections.specs.Connections.{IsConnections, no_connections, HasSameLogs, PassesOn, AreBefore, AreReplied};
@@ -105,6 +117,8 @@ impl Connections {
         ensures not_here { is_here at.number self.old.table at.key ≡ false → (result ≡ Err Fault.Unfit) × (self.new ≡ self.old) }
         ensures err { OnErr result (self.new.given ≡ self.old.given) }
         ensures leaves { OnErr result (is_here at.number self.new.table at.key ≡ false) }
+        ensures left { OnErr result (self.new.table ≡ left_at at self.old.table) }
+        ensures reads { IfOk result (λ said. BecomesAt ReadsFurther at self.old.table self.new.table) }
         ensures closes { IfOk result (λ said. said.closes ≡ true → place_in self.new.table at.key ≡ None) }
         ensures same_others { HasSameOthers at.key self.old.table self.new.table }
         ensures others { (self.new.taken ≡ self.old.taken) × (self.new.replied ≡ self.old.replied) × (self.new.next ≡ self.old.next) }
@@ -121,6 +135,8 @@ impl Connections {
     /// Takes the command of a connection that was not taken. `None`: there is none, or the connection is not here.
     pub fn take(&mut self, at: Place) -> Option<Ready>
         ensures none { IfNone result (self.new ≡ self.old) }
+        ensures why { IfNone result (HasNoneToTake at self.old.table) }
+        ensures there { IfSome result (λ ready. IsTakenAt at self.old.table self.new.table ready) }
         ensures taken { IfSome result (λ ready. self.new.taken ≡ self.old.taken ++ (record { connection = at.number; turn = ready.turn }, ready.command) ∷ []) }
         ensures first { IfSome result (λ ready. AreBefore self.old.taken at.number ready.turn) }
         ensures in_turn { IfSome result (λ ready. AreReplied self.old.replied at.number ready.turn) }
@@ -142,6 +158,7 @@ impl Connections {
     pub fn answer(&mut self, alloc: Global, at: Place, turn: u64, reply: Reply) -> Option<Said>
         ensures none { IfNone result (self.new ≡ self.old) }
         ensures here { is_some result ≡ is_here at.number self.old.table at.key }
+        ensures answers { IfSome result (λ said. BecomesAt (AnswersOn turn) at self.old.table self.new.table) }
         ensures replied { OnSome result (self.new.replied ≡ self.old.replied ++ (record { connection = at.number; turn = turn }, reply) ∷ []) }
         ensures given { IfSome result (λ said. self.new.given ≡ self.old.given ++ (at.number, said.bytes.items) ∷ []) }
         ensures passed { IfSome result (λ said. self.new.passed ≡ self.old.passed ++ given_as at.number said.bytes.items ∷ []) }
@@ -194,7 +211,7 @@ impl Connections {
     /// So many of the bytes that a connection was given are written. If it is not here nothing changes. While 256 KB
     /// or more are not written its command is not taken.
     pub fn written(&mut self, at: Place, count: usize)
-        ensures { self.new ≡ self.old }
+        ensures { self.new ≡ record self.old { table = written_at at count self.old.table } }
     {
         table::written(&mut self.table, at, count);
     }

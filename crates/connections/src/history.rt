@@ -6,7 +6,6 @@ use http_server::Log;
 use std::marker::Model;
 
 /// All that ever came of connections, and all that they were given. It is known to the proof alone: a log has no bytes.
-#[derive(Drop)]
 pub struct History {
     /// What came of each connection.
     heard: Log<u64, Vec<u8>>,
@@ -14,6 +13,16 @@ pub struct History {
     given: Log<u64, Vec<u8>>,
     /// Both, in one order: of a connection, and whether it was given this.
     passed: Log<(u64, bool), Vec<u8>>,
+}
+
+impl Drop for History {
+    fn drop(self) {
+        let History {
+            heard: _,
+            given: _,
+            passed: _,
+        } = self;
+    }
 }
 
 impl Model for History {

@@ -2,7 +2,7 @@
 
 ghost use Rattle.std.specs.Prelude.{◌≡◌, ◌⊎◌, None, IfOk, IfErr, if◌then◌else◌};
 ghost use Rattle.connections.specs.Connection.{IsFedTo};
-ghost use Rattle.connections.specs.Places.{is_of_connection, is_untaken, stays_open, IsSaid, AnswersOne, FeedsPlace, AnswersPlace, TakesPlace, left_place};
+ghost use Rattle.connections.specs.Places.{is_of_connection, is_untaken, stays_open, IsSaid, AnswersOne, FeedsPlace, AnswersPlace, TakesPlace, left_place, written_place};
 
 use crate::connection::{Connection, Ready};
 use crate::said::Said;
@@ -159,7 +159,7 @@ pub fn leave(place: &mut Option<Connection>, number: u64)
 
 /// So many bytes of the connection of this number are written, if it is there.
 pub fn written(place: &mut Option<Connection>, number: u64, count: usize)
-    ensures { place.new ≡ place.old }
+    ensures { place.new ≡ written_place number count place.old }
 {
     if let Some(connection) = place {
         if connection.number() == number {

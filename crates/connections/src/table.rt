@@ -1,7 +1,7 @@
 //! A table of places.
 
 ghost use Rattle.std.specs.Prelude.{◌≡◌, ◌<◌, ◌≤◌, ◌⊎◌, length, slice_set, is_some, Some, Err, OnOk, IfErr};
-ghost use Rattle.connections.specs.Places.{place_in, FeedsAt, AnswersAt, TakesAt, left_at, IsGrown};
+ghost use Rattle.connections.specs.Places.{place_in, FeedsAt, AnswersAt, TakesAt, left_at, written_at, IsGrown};
 ghost use Rattle.connections.specs.Places.{is_here as is_here_in, is_untaken_in};
 
 use crate::connection::{Connection, Ready};
@@ -121,7 +121,7 @@ pub fn leave(table: &mut Vec<Option<Connection>>, at: Place)
 
 /// So many bytes of the connection are written, if it is here.
 pub fn written(table: &mut Vec<Option<Connection>>, at: Place, count: usize)
-    ensures { table.new.items ≡ table.old.items }
+    ensures { table.new.items ≡ written_at at count table.old.items }
 {
     if let Some(place) = table.get_mut(at.key) {
         places::written(place, at.number, count);

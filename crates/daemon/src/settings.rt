@@ -52,7 +52,7 @@ fn connections_option<'a>(alloc: Global) -> Arg<'a> {
     Arg::new(alloc, "connections")
         .long("connections")
         .value_name("N")
-        .value_parser(value_parser!(u16).range(1..=10000))
+        .value_parser(value_parser!(u16).range(1..=i64::from(MOST_CONNECTIONS)))
         .default_value("1024")
         .help("The most connections at once")
 }

@@ -23,12 +23,22 @@ const MOST_KNOWN: u64 = u64::MAX - 1;
 /// is below `2^64`.
 ///
 /// It keeps their text too, in pieces that a record of them shares.
-#[derive(Drop)]
 pub struct Log {
     start: Start,
     decrees: Vec<Decree>,
     text: LogText,
     standing: Standing,
+}
+
+impl Drop for Log {
+    fn drop(self) {
+        let Log {
+            start: _,
+            decrees: _,
+            text: _,
+            standing: _,
+        } = self;
+    }
 }
 
 impl Model for Log {

@@ -17,10 +17,18 @@ const JOINED: usize = 32 * PIECE;
 
 /// Texts of decrees in joined pieces, then in pieces of 1,024 decrees, and a tail. A text that appends
 /// it shares the pieces, fewer than 64 and one for each 32,768 decrees, and copies the tail.
-#[derive(Drop)]
 pub struct LogText {
     joined: Text,
     recent: Text,
+}
+
+impl Drop for LogText {
+    fn drop(self) {
+        let LogText {
+            joined: _,
+            recent: _,
+        } = self;
+    }
 }
 
 impl Model for LogText {

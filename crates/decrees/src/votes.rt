@@ -29,9 +29,14 @@ pub enum Verdict {
 }
 
 /// Votes in the order of their arrival, at most one of a name: the first one stays.
-#[derive(Drop)]
 pub struct Votes {
     votes: IndexMap<VoteKey, Token>,
+}
+
+impl Drop for Votes {
+    fn drop(self) {
+        let Votes { votes: _ } = self;
+    }
 }
 
 impl Model for Votes {

@@ -1,5 +1,5 @@
 -- A proxy is a client of the world.
-use Rattle.std.proofs.Common.{◌≡◌, ◌⊎◌, inl, inr, ⊎_elim, ℕ, zero, suc, Bool, true, false, List, [], ◌∷◌, ◌++◌, length, map, Option, None, Some, slice_get, slice_set, refl, sym, ap, ◌∙◌, subst}
+use Rattle.std.proofs.Common.{◌≡◌, ◌⊎◌, inl, inr, ⊎_elim, ℕ, zero, suc, Bool, true, false, List, [], ◌∷◌, ◌++◌, Option, None, Some, slice_get, slice_set, refl, sym, ap, ◌∙◌, subst}
 use Rattle.std.specs.Prelude.{Contains, ◌==◌}
 use Rattle.std.proofs.lemmas.List.Elements.{Contains-append_left, Contains-append_right}
 use Rattle.std.proofs.lemmas.Bool.{eqb-true}
@@ -26,7 +26,7 @@ use Rattle.ensemble.specs.declared.answer.Answer.{Answer}
 use Rattle.ensemble.specs.Nodes.{NodesView, ProxyAnswers, IsPosted, AsksAgain}
 use Rattle.ensemble.specs.Ensemble.{HasSent, IsLike, client_of}
 use Rattle.ensemble.proofs.Lists.{grown, set_cases, length_set, place_of, map_get, get_map, map_set}
-use Rattle.ensemble.proofs.Goes.{stays, moves_by, SameProxies, same_proxies, Goes, goes_nowhere}
+use Rattle.ensemble.proofs.Goes.{moves_by, SameProxies, same_proxies, Goes, goes_nowhere}
 
 abbrev client_in : ClientSlot → ClientView
 client_in slot = slot.client

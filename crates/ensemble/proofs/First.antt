@@ -1,5 +1,5 @@
 -- What is true of an ensemble whose replicas were just opened.
-use Rattle.std.proofs.Common.{◌≡◌, ⊎_elim, ℕ, zero, suc, ◌+◌, Bool, true, List, [], ◌∷◌, ◌++◌, length, map, None, Some, slice_get, refl, sym, ap, ◌∙◌, subst, arith}
+use Rattle.std.proofs.Common.{◌≡◌, ⊎_elim, ℕ, zero, suc, ◌+◌, Bool, true, List, [], ◌∷◌, ◌++◌, length, map, None, Some, slice_get, refl, sym, ap, ◌∙◌, subst}
 use Rattle.std.specs.Prelude.{Contains}
 use Rattle.std.proofs.lemmas.List.{length-append}
 use Rattle.std.proofs.Math.Numerals.{add-one}
@@ -19,7 +19,7 @@ use Rattle.worlds.proofs.FirstLemmas.{reached_first}
 use Rattle.proxies.specs.Proxy.{ProxyView}
 use Rattle.hosts.specs.Host.{HostView}
 use Rattle.ensemble.specs.First.{first_proxies_of, first_host, first_hosts, first_nodes}
-use Rattle.ensemble.specs.Ensemble.{EnsembleView, HasSent, IsPast, IsEnsemble, client_of}
+use Rattle.ensemble.specs.Ensemble.{IsPast, IsEnsemble, client_of}
 use Rattle.ensemble.proofs.Lists.{in_none}
 use Rattle.ensemble.proofs.Past.{past_now}
 use Rattle.ensemble.proofs.Asks.{at_end}
@@ -73,7 +73,7 @@ begins_empty : (early late : List ((ℕ × ℕ) × Bool)) → [] ≡ early ++ la
 begins_empty [] late is = refl
 begins_empty (x ∷ early) late is = absurd (cc is)
 
-pub first_is_ensemble : (c : ConfigView) → IsEnsemble (record { nodes = first_nodes c; asked = []; answered = []; order = [] })
+pub first_is_ensemble : (c : ConfigView) → IsEnsemble (record { nodes = first_nodes c; asked = []; answered = []; order = []; refused = 0 })
 first_is_ensemble c = record {
   config = c;
   events = [];

@@ -1,5 +1,5 @@
 -- How nodes and a world that is like them go on.
-use Rattle.std.proofs.Common.{◌≡◌, ◌⊎◌, inl, inr, ⊎_elim, ℕ, zero, suc, Bool, true, false, List, [], ◌∷◌, ◌++◌, length, map, Option, None, Some, slice_get, slice_set, refl, sym, ap, ◌∙◌, subst, arith}
+use Rattle.std.proofs.Common.{◌≡◌, ⊎_elim, ℕ, Bool, true, false, List, [], ◌∷◌, ◌++◌, length, Some, slice_get, refl, sym, ap, ◌∙◌, subst}
 use Rattle.std.specs.Prelude.{Contains}
 use Rattle.std.proofs.lemmas.List.{append-nil}
 use Rattle.std.proofs.lemmas.List.Concat.{flat_map-append}
@@ -165,7 +165,7 @@ in_longer xs y x c = Contains-append_left xs (y ∷ []) x c
 
 -- one request was answered
 pub ensemble_answers : (e : EnsembleView) (n : NodesView) (h : IsEnsemble e) (g : Goes e.nodes n h.now) (client number : ℕ) (reply : replies.Reply) → WasSent g.world.letters client number reply
-    → IsEnsemble (record { nodes = n; asked = e.asked; answered = e.answered ++ ((client, number), reply) ∷ []; order = e.order ++ ((client, number), true) ∷ [] })
+    → IsEnsemble (record { nodes = n; asked = e.asked; answered = e.answered ++ ((client, number), reply) ∷ []; order = e.order ++ ((client, number), true) ∷ []; refused = e.refused })
 unfolding ensemble_stays
 ensemble_answers e n h g client number reply sent =
     let stays = ensemble_stays e n h g in

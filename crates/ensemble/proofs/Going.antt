@@ -1,11 +1,11 @@
 -- Each call leaves an ensemble of which the same is true.
-use Rattle.std.proofs.Common.{◌≡◌, ◌≢◌, ◌⊎◌, inl, inr, ⊎_elim, ℕ, zero, suc, ◌+◌, ◌<◌, ◌^◌, Bool, true, false, List, [], ◌∷◌, ◌++◌, length, map, Option, None, Some, slice_get, slice_set, refl, sym, ap, ◌∙◌, subst, arith}
+use Rattle.std.proofs.Common.{◌≡◌, ◌≢◌, ◌⊎◌, inl, inr, ⊎_elim, ℕ, suc, ◌+◌, ◌<◌, ◌^◌, Bool, true, false, List, [], ◌∷◌, ◌++◌, length, Option, None, Some, slice_get, slice_set, refl, sym, ap, ◌∙◌, subst, arith}
 use Rattle.std.specs.Prelude.{Contains, ◌==◌}
 use Rattle.std.specs.declared.alloc.Global.{Global}
 use Rattle.std.specs.declared.vec.Vec.{Vec}
 use Rattle.std.proofs.lemmas.List.{append-nil}
 use Rattle.std.proofs.lemmas.List.Concat.{flat_map-append}
-use Rattle.std.proofs.lemmas.List.Elements.{Contains-append_left, Contains-append_cases, Contains-push, Contains-push_cases}
+use Rattle.std.proofs.lemmas.List.Elements.{Contains-append_left, Contains-push, Contains-push_cases}
 use Rattle.std.proofs.lemmas.Bool.{eqb-true}
 use Rattle.proto.specs.declared.command.Command.{Command}
 use Rattle.proto.specs.declared.reply.Reply as replies
@@ -28,7 +28,6 @@ use Rattle.worlds.specs.Slots.{ClientSlot}
 use Rattle.worlds.specs.Runs.{RunIsSteps}
 use Rattle.worlds.specs.World.{WorldView, WorldNext, with_client}
 use Rattle.memcached_spec.specs.Fed.{fed_by, fed_to}
-use Rattle.worlds.specs.Asked.{WasSent}
 use Rattle.proxies.specs.Proxy.{ProxyView, asks, talk_of, AskIsFed, AnswerIsReplied, AgainIsAsked}
 use Rattle.hosts.specs.Host.{HostSettles, HostTakes, HostReopens, HostCollects}
 use Rattle.ensemble.specs.declared.answer.Answer.{Answer}
@@ -37,7 +36,7 @@ use Rattle.memcached_spec.specs.Asked.{HasText}
 use Rattle.ensemble.specs.Ensemble.{EnsembleView, IsLogged, IsLike, IsPast, IsEnsemble, asks_of, asked_turn, turns_of, client_of, answer_log, order_log}
 use Rattle.ensemble.proofs.Lists.{set_split, length_set, in_head, in_tail}
 use Rattle.ensemble.proofs.Past.{Order, longer_split, past_now}
-use Rattle.ensemble.proofs.Goes.{Moves, Goes, goes_nowhere, AreSent, still_sent, still_past, reached_more, ensemble_answers, ensemble_stays}
+use Rattle.ensemble.proofs.Goes.{Goes, goes_nowhere, AreSent, still_sent, still_past, reached_more, ensemble_answers, ensemble_stays}
 use Rattle.ensemble.proofs.Hosts.{host_goes, acts_takes, acts_cut, acts_opens, acts_collects, acts_advances, runs_goes}
 use Rattle.ensemble.proofs.Verifiers.{suspect_goes, trim_goes, open_verifier_goes, reached_goes}
 use Rattle.ensemble.proofs.Clients.{slot_of, client_given, posted_from, like_client, answered_goes, again_goes}
@@ -58,14 +57,14 @@ shorter n w l rest is like = record {
 
 module _ (law : AnswerIsReplied) (e : EnsembleView) (h : IsEnsemble e) where
   abbrev After : NodesView → Option Answer → Type 0
-  After n answer = IsEnsemble (record { nodes = n; asked = e.asked; answered = e.answered ++ answer_log answer; order = e.order ++ order_log answer })
+  After n answer = IsEnsemble (record { nodes = n; asked = e.asked; answered = e.answered ++ answer_log answer; order = e.order ++ order_log answer; refused = e.refused })
 
   -- it went on from what is left when a letter was taken
   silent : (mail : List (Letter Body)) (n : NodesView) (answer : Option Answer) → Goes (record e.nodes { mail = mail }) n h.now → answer ≡ None → After n answer
   silent mail n answer g none =
       let whole : Goes e.nodes n h.now = record { world = g.world; moves = g.moves; like = g.like; same_u = g.same_u; proxies = g.proxies } in
       subst (λ (o : Option Answer). After n o) (sym none)
-      (subst (λ (logs : List ((ℕ × ℕ) × replies.Reply) × List ((ℕ × ℕ) × Bool)). IsEnsemble (record { nodes = n; asked = e.asked; answered = logs.0; order = logs.1 }))
+      (subst (λ (logs : List ((ℕ × ℕ) × replies.Reply) × List ((ℕ × ℕ) × Bool)). IsEnsemble (record { nodes = n; asked = e.asked; answered = logs.0; order = logs.1; refused = e.refused }))
       (λ i. (sym (append-nil e.answered) i, sym (append-nil e.order) i)) (ensemble_stays e n h whole))
 
   to_proxy : (l : Letter Body) (rest : List (Letter Body)) (client number : ℕ) (reply : replies.Reply) (proxies : List ProxyView) (answer : Option Answer) → IsLike (record e.nodes { mail = rest }) h.now → Contains h.now.letters l → l.to ≡ node.Client client → l.body ≡ body.Reply number reply
@@ -158,7 +157,7 @@ spelled_next client index fed bytes asked a spells text of = by (suc index == cl
 
 pub asks_goes : AskIsFed → Global → (e : EnsembleView) (h : IsEnsemble e) (mid n : NodesView) (number : ℕ) (command : Command) (quiet : Bool) (r : Request) → HasText command quiet
     → IsAskedBy e.nodes.proxies number command quiet mid.proxies r → mid ≡ record e.nodes { proxies = mid.proxies } → IsPosted mid number r n
-    → IsEnsemble (record { nodes = n; asked = e.asked ++ (r, quiet) ∷ []; answered = e.answered; order = e.order ++ ((number, r.number), false) ∷ [] })
+    → IsEnsemble (record { nodes = n; asked = e.asked ++ (r, quiet) ∷ []; answered = e.answered; order = e.order ++ ((number, r.number), false) ∷ []; refused = e.refused })
 asks_goes law alloc e h mid n number command quiet r text a is posted =
     let p = a.proxy in
     let own = text.0 in
@@ -198,7 +197,7 @@ asks_goes law alloc e h mid n number command quiet r text a is posted =
     (λ (old : Contains e.order ((p, k), true)). h.ordered_answers p k old)
     (λ (same : ◌≡◌ {A = (ℕ × ℕ) × Bool} ((number, r.number), false) ((p, k), true)). absurd (let kinds : false ≡ true = ap (λ (x : (ℕ × ℕ) × Bool). x.1) same in cc kinds))
     (Contains-push_cases e.order ((number, r.number), false) ((p, k), true) c) in
-    subst (λ (x : NodesView). IsEnsemble (record { nodes = x; asked = e.asked ++ entry ∷ []; answered = e.answered; order = order })) (sym n_is) (record {
+    subst (λ (x : NodesView). IsEnsemble (record { nodes = x; asked = e.asked ++ entry ∷ []; answered = e.answered; order = order; refused = e.refused })) (sym n_is) (record {
       config = h.config;
       events = h.events ++ event ∷ [];
       now = now;
@@ -246,13 +245,13 @@ asks_logged e h proxies number command quiet r now a is =
 -- where nothing is answered
 pub deliver_none : AnswerIsReplied → (e : EnsembleView) (h : IsEnsemble e) (n : NodesView) (answer : Option Answer) → Delivers e.nodes n answer → answer ≡ None → IsEnsemble (record e { nodes = n })
 deliver_none law e h n answer d none =
-    subst (λ (logs : List ((ℕ × ℕ) × replies.Reply) × List ((ℕ × ℕ) × Bool)). IsEnsemble (record { nodes = n; asked = e.asked; answered = logs.0; order = logs.1 }))
+    subst (λ (logs : List ((ℕ × ℕ) × replies.Reply) × List ((ℕ × ℕ) × Bool)). IsEnsemble (record { nodes = n; asked = e.asked; answered = logs.0; order = logs.1; refused = e.refused }))
     (λ i. (append-nil e.answered i, append-nil e.order i))
-    (subst (λ (o : Option Answer). IsEnsemble (record { nodes = n; asked = e.asked; answered = e.answered ++ answer_log o; order = e.order ++ order_log o })) none (deliver_goes law e h n answer d))
+    (subst (λ (o : Option Answer). IsEnsemble (record { nodes = n; asked = e.asked; answered = e.answered ++ answer_log o; order = e.order ++ order_log o; refused = e.refused })) none (deliver_goes law e h n answer d))
 
 -- where one is
 pub deliver_some : AnswerIsReplied → (e : EnsembleView) (h : IsEnsemble e) (n : NodesView) (answer : Option Answer) (a : Answer) (log : List ((ℕ × ℕ) × replies.Reply)) (order : Order) → Delivers e.nodes n answer → answer ≡ Some a
-    → log ≡ e.answered ++ ((a.proxy, a.number), a.reply) ∷ [] → order ≡ e.order ++ ((a.proxy, a.number), true) ∷ [] → IsEnsemble (record { nodes = n; asked = e.asked; answered = log; order = order })
+    → log ≡ e.answered ++ ((a.proxy, a.number), a.reply) ∷ [] → order ≡ e.order ++ ((a.proxy, a.number), true) ∷ [] → IsEnsemble (record { nodes = n; asked = e.asked; answered = log; order = order; refused = e.refused })
 deliver_some law e h n answer a log order d some is in_order =
-    subst (λ (logs : List ((ℕ × ℕ) × replies.Reply) × List ((ℕ × ℕ) × Bool)). IsEnsemble (record { nodes = n; asked = e.asked; answered = logs.0; order = logs.1 })) (λ i. (sym is i, sym in_order i))
-    (subst (λ (o : Option Answer). IsEnsemble (record { nodes = n; asked = e.asked; answered = e.answered ++ answer_log o; order = e.order ++ order_log o })) some (deliver_goes law e h n answer d))
+    subst (λ (logs : List ((ℕ × ℕ) × replies.Reply) × List ((ℕ × ℕ) × Bool)). IsEnsemble (record { nodes = n; asked = e.asked; answered = logs.0; order = logs.1; refused = e.refused })) (λ i. (sym is i, sym in_order i))
+    (subst (λ (o : Option Answer). IsEnsemble (record { nodes = n; asked = e.asked; answered = e.answered ++ answer_log o; order = e.order ++ order_log o; refused = e.refused })) some (deliver_goes law e h n answer d))

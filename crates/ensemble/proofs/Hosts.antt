@@ -1,8 +1,8 @@
 -- What a host does is an event of its executor, or none.
-use Rattle.std.proofs.Common.{◌≡◌, ◌⊎◌, inl, inr, ⊎_elim, ℕ, zero, suc, Bool, true, false, List, [], ◌∷◌, ◌++◌, length, map, Option, None, Some, slice_get, slice_set, refl, sym, ap, ◌∙◌, subst, arith, append_assoc}
+use Rattle.std.proofs.Common.{◌≡◌, inl, inr, ⊎_elim, ℕ, suc, Bool, true, false, List, [], ◌∷◌, ◌++◌, length, Option, None, Some, slice_get, slice_set, refl, sym, ap, ◌∙◌, subst, arith, append_assoc}
 use Rattle.std.specs.Prelude.{Contains}
 use Rattle.std.proofs.lemmas.List.{append-nil}
-use Rattle.std.proofs.lemmas.List.Elements.{Contains-append_left, Contains-append_right, Contains-append_cases, Contains-push_cases}
+use Rattle.std.proofs.lemmas.List.Elements.{Contains-append_left, Contains-append_right, Contains-push_cases}
 use Rattle.decrees.specs.declared.node.Letter.{Letter}
 use Rattle.decrees.specs.declared.node.Node.{Node}
 use Rattle.decrees.specs.declared.node.Node.TheVariants as node
@@ -17,10 +17,10 @@ use Rattle.events.specs.declared.event.Replica.TheVariants.{Executor}
 use Rattle.worlds.specs.Slot.{Slot}
 use Rattle.worlds.specs.Slots.{ExecutorSettles, ExecutorReopens}
 use Rattle.worlds.specs.Runs.{ExecutorSettlesAll, AllGetOn, RunIsSteps}
-use Rattle.worlds.specs.World.{WorldView, WorldNext, ExecutorAtGiven, ExecutorGiven, ExecutorAtOpened, NodeReached, IsDelivered, letter_at, with_executor}
+use Rattle.worlds.specs.World.{WorldView, WorldNext, ExecutorAtGiven, ExecutorGiven, ExecutorAtOpened, NodeReached, IsDelivered, with_executor}
 use Rattle.memcached_spec.specs.Fed.{fed_by}
 use Rattle.worlds.proofs.FirstLemmas.{get_seam, set_seam}
-use Rattle.hosts.specs.Host.{HostView, is_order, HostSettles, HostTakesWhere, HostTakes, HostForgets, HostObeys, HostRuns, HostReopens, HostCollects}
+use Rattle.hosts.specs.Host.{HostView, is_order, HostSettles, HostTakesWhere, HostTakes, HostRuns, HostReopens, HostCollects}
 use Rattle.ensemble.specs.Nodes.{NodesView, MayGrow, AtHostIn, AtHost, HostMoves, HostAdvances, AllRan, RunsAll}
 use Rattle.ensemble.specs.Ensemble.{HasSent, IsLike}
 use Rattle.ensemble.proofs.Lists.{grown, set_get, set_same, set_twice, set_cases, in_none, place_of, map_get, map_set}

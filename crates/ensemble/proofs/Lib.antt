@@ -10,4 +10,7 @@ mod GhostVec
 mod First
 mod Going
 mod Sending
+mod Cutting
+mod Served
+mod Trimming
 pub mod Crossing

@@ -1,6 +1,6 @@
 -- What had been asked and answered at a moment stays so as a world goes on.
-use Rattle.std.proofs.Common.{◌≡◌, ◌⊎◌, inl, inr, ⊎_elim, ℕ, zero, suc, ◌-◌, Bool, true, false, List, [], ◌∷◌, ◌++◌, length, map, Option, Some, slice_get, refl, sym, ap, ◌∙◌, subst, arith, append_assoc}
-use Rattle.std.specs.Prelude.{Contains, ◌==◌, ◌≢◌, filter, if◌then◌else◌}
+use Rattle.std.proofs.Common.{◌≡◌, ◌⊎◌, inl, inr, ⊎_elim, ℕ, zero, suc, ◌-◌, Bool, true, false, List, [], ◌∷◌, ◌++◌, length, map, Some, slice_get, refl, sym, ap, ◌∙◌, subst, arith, append_assoc}
+use Rattle.std.specs.Prelude.{Contains, ◌==◌}
 use Rattle.std.proofs.lemmas.List.{append-nil}
 use Rattle.std.proofs.lemmas.Bool.{eqb-true}
 use Rattle.proto.specs.declared.command.Command.{Command}
@@ -16,7 +16,7 @@ use Rattle.worlds.specs.Laws.{IsReached}
 use Rattle.worlds.specs.Asked.{WasSent}
 use Rattle.memcached_spec.specs.Fed.{fed_to}
 use Rattle.memcached_spec.specs.Asked as spelled
-use Rattle.ensemble.specs.Ensemble.{IsPast, is_of, asks_of, asked_turn, turns_of}
+use Rattle.ensemble.specs.Ensemble.{IsPast, asks_of, asked_turn, turns_of}
 use Rattle.ensemble.proofs.Lists.{in_head, in_tail}
 
 abbrev pub Order : Type 0

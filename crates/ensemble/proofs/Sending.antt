@@ -11,7 +11,7 @@ use Rattle.client.specs.Talk.{client_letter, wants, wants_below}
 use Rattle.ensemble.specs.Nodes.{NodesView, MayGrow, IsPosted}
 use Rattle.ensemble.proofs.Lists.{in_none}
 
-below_or_last : (n m : ℕ) → n < suc m → (n < m) ⊎ (n ≡ m)
+pub below_or_last : (n m : ℕ) → n < suc m → (n < m) ⊎ (n ≡ m)
 below_or_last zero zero below = inr refl
 below_or_last zero (suc m) below = inl (omega arith)
 below_or_last (suc n) zero below = absurd (omega (arith, below))

@@ -1,5 +1,5 @@
 -- What an ensemble keeps, and what is always true of it.
-use Rattle.std.specs.Prelude.{◌≡◌, ◌⊎◌, ℕ, zero, suc, ◌<◌, ◌≤◌, ◌==◌, Bool, true, false, List, [], ◌∷◌, ◌++◌, length, map, Option, None, Some, Contains, slice_get, filter, refl}
+use Rattle.std.specs.Prelude.{◌≡◌, ℕ, suc, ◌==◌, Bool, true, false, List, [], ◌∷◌, ◌++◌, length, map, Option, None, Some, Contains, slice_get, filter, refl}
 use Rattle.std.specs.Coded.{Coded, code_by, coded×, coded_ℕ, coded_bool, coded_list}
 use Rattle.proto.specs.declared.command.Command.{Command}
 use Rattle.proto.specs.declared.reply.Reply as replies
@@ -31,14 +31,16 @@ pub record EnsembleView : Type 0 where
   pub answered : List ((ℕ × ℕ) × replies.Reply)
   -- in which order: the proxy and the request's number, and whether that is its answer
   pub order : List ((ℕ × ℕ) × Bool)
+  -- how often something was not done for want of memory, or since a bound was reached
+  pub refused : ℕ
 
 -- an ensemble is identified by what it has
 abbrev pub ensemble_code : Coded NodesView → Coded Request → Coded (replies.Reply) → Coded EnsembleView
 ensemble_code nodes request reply =
-    code_by (((NodesView × List (Request × Bool)) × List ((ℕ × ℕ) × replies.Reply)) × List ((ℕ × ℕ) × Bool))
-    (coded× (coded× (coded× nodes (coded_list (coded× request coded_bool))) (coded_list (coded× (coded× coded_ℕ coded_ℕ) reply))) (coded_list (coded× (coded× coded_ℕ coded_ℕ) coded_bool)))
-    (λ e. (((e.nodes, e.asked), e.answered), e.order))
-    (λ p. record { nodes = p.0.0.0; asked = p.0.0.1; answered = p.0.1; order = p.1 })
+    code_by ((((NodesView × List (Request × Bool)) × List ((ℕ × ℕ) × replies.Reply)) × List ((ℕ × ℕ) × Bool)) × ℕ)
+    (coded× (coded× (coded× (coded× nodes (coded_list (coded× request coded_bool))) (coded_list (coded× (coded× coded_ℕ coded_ℕ) reply))) (coded_list (coded× (coded× coded_ℕ coded_ℕ) coded_bool))) coded_ℕ)
+    (λ e. ((((e.nodes, e.asked), e.answered), e.order), e.refused))
+    (λ p. record { nodes = p.0.0.0.0; asked = p.0.0.0.1; answered = p.0.0.1; order = p.0.1; refused = p.1 })
     (λ _. refl)
 
 -- ---- logs

@@ -1,3 +1,6 @@
 pub mod Nodes
 pub mod First
+pub mod Shown
+pub mod Served
+pub mod Trimming
 pub mod Ensemble

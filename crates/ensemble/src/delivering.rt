@@ -1,6 +1,6 @@
 //! Letters that come.
 
-ghost use Rattle.std.specs.Prelude.{◌≡◌, None};
+ghost use Rattle.std.specs.Prelude.{◌≡◌, ◌≤◌, None};
 ghost use Rattle.verifier.specs.declared.input.Input.TheVariants as verifier_input;
 ghost use Rattle.hosts.specs.Host.{HostTakes};
 ghost use Rattle.ensemble.specs.Nodes.{AtHost, AtVerifier, VerifierGets, ProxyGets};
@@ -8,6 +8,7 @@ ghost use Rattle.ensemble.specs.Nodes.{AtHost, AtVerifier, VerifierGets, ProxyGe
 use crate::answer::Answer;
 use crate::nodes::Nodes;
 use crate::posting::{post, post_ballots};
+use crate::refusing::refuse;
 use decrees::{Ballot, Letter, Node};
 use exec_lines::Body;
 use hosts::ExecutorHost;
@@ -17,17 +18,26 @@ use std::alloc::Global;
 use verifier::Input;
 use worlds::VerifierPlace;
 
-/// The host of this number gets the letter, if it is there: what its executor sends.
+/// The host of this number gets the letter, if it is there: what its executor sends. An order that cannot be held is
+/// lost, which is counted.
 fn to_executor(
     alloc: Global,
     executors: &mut Vec<ExecutorHost>,
     id: u8,
     letter: Letter<Body>,
+    refused: &mut u64,
 ) -> Vec<Letter<Body>>
-    ensures { AtHost (λ h left sent. HostTakes h letter left sent) id executors.old.items executors.new.items result.items }
+    ensures takes { AtHost (λ h left sent. HostTakes h letter left sent) id executors.old.items executors.new.items result.items }
+    ensures counted { refused.old ≤ refused.new }
 {
     match executors.get_mut(usize::from(id)) {
-        Some(host) => host.take(alloc, letter),
+        Some(host) => {
+            let (is_taken, sent) = host.take(alloc, letter);
+            if !is_taken {
+                refuse(refused);
+            }
+            sent
+        }
         None => Vec::new(alloc),
     }
 }
@@ -65,34 +75,37 @@ fn to_proxy(proxies: &mut Vec<Proxy>, client: u16, number: u64, reply: Reply) ->
 }
 
 impl Nodes {
-    ghost use Rattle.std.specs.Prelude.{◌≡◌, None};
+    ghost use Rattle.std.specs.Prelude.{◌≡◌, ◌≤◌, None};
     ghost use Rattle.verifier.specs.declared.input.Input.TheVariants as verifier_input;
     ghost use Rattle.hosts.specs.Host.{HostTakes};
     ghost use Rattle.ensemble.specs.Nodes.{HostMoves, VerifierMoves, VerifierGets, VerifiersReached, ProxyReached, NodesReached, Delivers};
 
     /// The executor of this number gets the letter.
-    fn reach_executor(&mut self, alloc: Global, id: u8, letter: Letter<Body>)
-        ensures { HostMoves (λ h left sent. HostTakes h letter left sent) id self.old self.new }
+    fn reach_executor(&mut self, alloc: Global, id: u8, letter: Letter<Body>, refused: &mut u64)
+        ensures moves { HostMoves (λ h left sent. HostTakes h letter left sent) id self.old self.new }
+        ensures counted { refused.old ≤ refused.new }
     {
-        let sent = to_executor(alloc, &mut self.executors, id, letter);
-        post(&mut self.mail, sent);
+        let sent = to_executor(alloc, &mut self.executors, id, letter, refused);
+        post(&mut self.mail, sent, refused);
     }
 
     /// The verifier of this number gets the ballot.
-    fn reach_ballot(&mut self, alloc: Global, id: u8, letter: Letter<Ballot>)
-        ensures { VerifierMoves (VerifierGets (verifier_input.Letter letter)) id self.old self.new }
+    fn reach_ballot(&mut self, alloc: Global, id: u8, letter: Letter<Ballot>, refused: &mut u64)
+        ensures moves { VerifierMoves (VerifierGets (verifier_input.Letter letter)) id self.old self.new }
+        ensures counted { refused.old ≤ refused.new }
     {
         let sent = to_verifier(alloc, &mut self.verifiers, id, letter);
-        post_ballots(alloc, &mut self.mail, sent.as_slice());
+        post_ballots(alloc, &mut self.mail, sent.as_slice(), refused);
     }
 
     /// The verifier of this number gets the letter, if it is a ballot.
-    fn reach_verifier(&mut self, alloc: Global, id: u8, letter: Letter<Body>)
-        ensures { VerifiersReached self.old letter id letter.body self.new }
+    fn reach_verifier(&mut self, alloc: Global, id: u8, letter: Letter<Body>, refused: &mut u64)
+        ensures reached { VerifiersReached self.old letter id letter.body self.new }
+        ensures counted { refused.old ≤ refused.new }
     {
         let Letter { from, to, body } = letter;
         match body {
-            Body::Ballot(body) => self.reach_ballot(alloc, id, Letter { from, to, body }),
+            Body::Ballot(body) => self.reach_ballot(alloc, id, Letter { from, to, body }, refused),
             _ => (),
         }
     }
@@ -108,27 +121,29 @@ impl Nodes {
     }
 
     /// The letter comes to the node that it names: what it answers.
-    fn reach(&mut self, alloc: Global, letter: Letter<Body>) -> Option<Answer>
-        ensures { NodesReached self.old letter letter.to self.new result }
+    fn reach(&mut self, alloc: Global, letter: Letter<Body>, refused: &mut u64) -> Option<Answer>
+        ensures reached { NodesReached self.old letter letter.to self.new result }
+        ensures counted { refused.old ≤ refused.new }
     {
         match letter.to {
             Node::Client(client) => self.reach_proxy(client, letter.body),
             Node::Executor(id) => {
-                self.reach_executor(alloc, id, letter);
+                self.reach_executor(alloc, id, letter, refused);
                 None
             }
             Node::Verifier(id) => {
-                self.reach_verifier(alloc, id, letter);
+                self.reach_verifier(alloc, id, letter, refused);
                 None
             }
         }
     }
 
-    /// The first letter that is under way comes: what it answers.
-    pub fn deliver(&mut self, alloc: Global) -> Option<Answer>
-        ensures { Delivers self.old self.new result }
+    /// The first letter that is under way comes: what it answers. What is lost by it is counted.
+    pub fn deliver(&mut self, alloc: Global, refused: &mut u64) -> Option<Answer>
+        ensures delivers { Delivers self.old self.new result }
+        ensures counted { refused.old ≤ refused.new }
     {
         let letter = self.mail.pop_front()?;
-        self.reach(alloc, letter)
+        self.reach(alloc, letter, refused)
     }
 }

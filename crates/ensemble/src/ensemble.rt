@@ -5,6 +5,8 @@ ghost use Rattle.std.specs.Prelude.{◌≡◌};
 use crate::answer::Answer;
 use crate::nodes::Nodes;
 use crate::progress::Progress;
+use crate::refusing::refuse;
+use crate::times::{Stopwatch, Times};
 use http_server::Log;
 use proto::{Command, Fault, Reply};
 use serving::Seen;
@@ -20,12 +22,15 @@ use worlds::Replica;
 pub struct Ensemble {
     pub(crate) nodes: Nodes,
     pub(crate) progress: Progress,
+    pub(crate) stopwatch: Stopwatch,
     /// Each request that was asked, and whether its reply is left out.
     pub(crate) asked: Log<Request, bool>,
     /// Each answer: the proxy and the request's number, and the reply.
     pub(crate) answered: Log<(u16, u64), Reply>,
     /// In which order requests were asked and answered: the proxy and the request's number, and whether that is its answer.
     pub(crate) order: Log<(u16, u64), bool>,
+    /// How often something was refused.
+    pub(crate) refused: u64,
 }
 
 impl Model for Ensemble {
@@ -38,15 +43,18 @@ impl Model for Ensemble {
 
     ghost coded = { ensemble_code of_nodes.the_row.coded of_request.the_row.coded of_reply.the_row.coded };
 
-    ghost view = { λ e. record { nodes = e.nodes; asked = e.asked.items; answered = e.answered.items; order = e.order.items } };
+    ghost view = { λ e. record { nodes = e.nodes; asked = e.asked.items; answered = e.answered.items; order = e.order.items; refused = e.refused } };
 
-    ghost invariant = { λ e. IsEnsemble (record { nodes = e.nodes; asked = e.asked.items; answered = e.answered.items; order = e.order.items }) };
+    ghost invariant = { λ e. IsEnsemble (record { nodes = e.nodes; asked = e.asked.items; answered = e.answered.items; order = e.order.items; refused = 0 }) };
 }
 
 impl Ensemble {
-    ghost use Rattle.std.specs.Prelude.{◌≡◌, ◌++◌, ◌∷◌, [], IfOk, IfErr, OnErr, IsTrue, ◌⊎◌, Err, false};
+    ghost use Rattle.std.specs.Prelude.{◌≡◌, ◌<◌, ◌≤◌, ◌-◌, ◌^◌, ◌++◌, ◌∷◌, [], IfOk, IfErr, OnErr, IsTrue, ◌⊎◌, Err, true, false, length};
+    ghost use Rattle.verifier.specs.declared.input.Input.TheVariants.{Suspect};
     ghost use Rattle.proto.specs.declared.command.Command.{Command};
-    ghost use Rattle.ensemble.specs.Nodes.{IsFree};
+    ghost use Rattle.ensemble.specs.Nodes.{IsFree, VerifierMoves, VerifierGets};
+    ghost use Rattle.ensemble.specs.Shown.{is_free_at, is_up_at, latest_epoch, is_quiet};
+    ghost use Rattle.ensemble.specs.Served.{IsUnderWay, letters_again, VerifierPosts};
     ghost use Rattle.memcached_spec.specs.Asked.{HasText};
     ghost use Rattle.ensemble.specs.Ensemble.{IsEnsemble, IsLogged, answer_log};
 
@@ -60,18 +68,23 @@ impl Ensemble {
 
     /// Whether the proxy of this number is there and has nothing outstanding, so that it may ask.
     pub fn is_free(&self, proxy: u16) -> bool
-        ensures { IsTrue result → IsFree self.now.nodes.proxies proxy }
+        ensures free { IsTrue result → IsFree self.now.nodes.proxies proxy }
+        ensures exact { result ≡ is_free_at self.now.nodes.proxies proxy }
     {
         self.nodes.is_free(proxy)
     }
 
     /// How many proxies there are.
-    pub fn proxies(&self) -> usize {
+    pub fn proxies(&self) -> usize
+        ensures { result ≡ length self.now.nodes.proxies }
+    {
         self.nodes.proxies.len()
     }
 
     /// The proxy of this number, which is free, asks the command: the number of the request. `quiet`: the
-    /// reply is left out of what the connection is given. The reply comes from `work`.
+    /// reply is left out of what the connection is given. The reply comes from `work`. The request is sent to the
+    /// executor that leads, or to all if that is down. If there is no memory for its letters they are lost, which is
+    /// counted (`refused`).
     ///
     /// After an error nothing has changed. Stopped: the proxy has no number left; NoMemory: an allocation
     /// failed.
@@ -88,34 +101,42 @@ impl Ensemble {
         ensures answered { self.new.answered ≡ self.old.answered }
         ensures order { IfOk result (λ number. self.new.order ≡ self.old.order ++ ((proxy, number), false) ∷ []) }
         ensures err { OnErr result (self.new ≡ self.old) }
+        ensures counted { self.old.refused ≤ self.new.refused }
+        ensures sent { IfOk result (λ number. self.new.refused ≡ self.old.refused → self.old.refused < 2 ^ 64 - 1 → IsUnderWay self.old.nodes self.new.nodes proxy number command) }
     {
         let request = self.nodes.ask(proxy, command, quiet)?;
         let number = request.number;
         self.asked = self.asked.and(&request, &quiet);
         self.order = self.order.and(&(proxy, number), &false);
-        self.nodes.send(alloc, proxy, request);
+        self.nodes.send(alloc, proxy, request, &mut self.refused);
         self.progress.is_at_rest = false;
         Ok(number)
     }
 
-    /// What the proxy of this number has outstanding is sent once more, if it has something outstanding and
-    /// there is memory for it.
+    /// What the proxy of this number has outstanding is sent to all executors once more, if it has something
+    /// outstanding. If there is no memory for that it is lost, which is counted (`refused`).
     pub fn again(&mut self, alloc: Global, proxy: u16)
         ensures asked { self.new.asked ≡ self.old.asked }
         ensures answered { self.new.answered ≡ self.old.answered }
         ensures order { self.new.order ≡ self.old.order }
+        ensures counted { self.old.refused ≤ self.new.refused }
+        ensures sent { self.new.refused ≡ self.old.refused → self.old.refused < 2 ^ 64 - 1 → self.new.nodes.mail ≡ self.old.nodes.mail ++ letters_again self.old.nodes proxy }
     {
-        self.nodes.again(alloc, proxy);
+        self.nodes.again(alloc, proxy, &mut self.refused);
         self.progress.is_at_rest = false;
     }
 
-    /// Tells the verifier of this number, if it is there and up, that the leader is suspected.
+    /// Tells the verifier of this number, if it is there and up, that the leader is suspected. If there is no memory
+    /// for what it sends, that is lost, which is counted (`refused`).
     pub fn suspect(&mut self, alloc: Global, verifier: u8)
         ensures asked { self.new.asked ≡ self.old.asked }
         ensures answered { self.new.answered ≡ self.old.answered }
         ensures order { self.new.order ≡ self.old.order }
+        ensures told { VerifierMoves (VerifierGets Suspect) verifier self.old.nodes self.new.nodes }
+        ensures counted { self.old.refused ≤ self.new.refused }
+        ensures sent { self.new.refused ≡ self.old.refused → self.old.refused < 2 ^ 64 - 1 → VerifierPosts (VerifierGets Suspect) verifier self.old.nodes self.new.nodes }
     {
-        self.nodes.suspect(alloc, verifier);
+        self.nodes.suspect(alloc, verifier, &mut self.refused);
         self.progress.is_at_rest = false;
     }
 
@@ -124,8 +145,9 @@ impl Ensemble {
         ensures asked { self.new.asked ≡ self.old.asked }
         ensures answered { self.new.answered ≡ self.old.answered }
         ensures order { self.new.order ≡ self.old.order }
+        ensures counted { self.old.refused ≤ self.new.refused }
     {
-        self.nodes.open_executor(alloc, id);
+        self.nodes.open_executor(alloc, id, &mut self.refused);
         self.progress.is_at_rest = false;
     }
 
@@ -134,27 +156,46 @@ impl Ensemble {
         ensures asked { self.new.asked ≡ self.old.asked }
         ensures answered { self.new.answered ≡ self.old.answered }
         ensures order { self.new.order ≡ self.old.order }
+        ensures counted { self.old.refused ≤ self.new.refused }
     {
-        self.nodes.open_verifier(alloc, id);
+        self.nodes.open_verifier(alloc, id, &mut self.refused);
         self.progress.is_at_rest = false;
     }
 
+    /// One thing more was refused.
+    pub(crate) fn refuse(&mut self)
+        ensures same { self.new ≡ record self.old { refused = self.new.refused } }
+        ensures counted { self.old.refused ≤ self.new.refused }
+        ensures more { self.old.refused < 2 ^ 64 - 1 → self.old.refused < self.new.refused }
+    {
+        refuse(&mut self.refused);
+    }
+
     /// Opens the replica with its keeper, if it is there and down: whether it is up then. It goes on from its
-    /// record.
+    /// record. If it is not up then that is counted (`refused`).
     pub fn restart(&mut self, alloc: Global, replica: Replica) -> bool
         ensures asked { self.new.asked ≡ self.old.asked }
         ensures answered { self.new.answered ≡ self.old.answered }
         ensures order { self.new.order ≡ self.old.order }
+        ensures up { result ≡ is_up_at self.new.nodes replica }
+        ensures counted { self.old.refused ≤ self.new.refused }
+        ensures opened { self.new.refused ≡ self.old.refused → self.old.refused < 2 ^ 64 - 1 → result ≡ true }
     {
         match replica {
             Replica::Executor(id) => self.open_executor(alloc, id),
             Replica::Verifier(id) => self.open_verifier(alloc, id),
         }
-        self.is_up(replica)
+        let is_up = self.is_up(replica);
+        if !is_up {
+            self.refuse();
+        }
+        is_up
     }
 
     /// Whether the replica is there and up.
-    pub fn is_up(&self, replica: Replica) -> bool {
+    pub fn is_up(&self, replica: Replica) -> bool
+        ensures { result ≡ is_up_at self.now.nodes replica }
+    {
         match replica {
             Replica::Executor(id) => self.nodes.is_executor_up(id),
             Replica::Verifier(id) => match self.nodes.verifiers.get(usize::from(id)) {
@@ -165,14 +206,26 @@ impl Ensemble {
     }
 
     /// The latest epoch of the executors that are up: 1 if none is. Each Rollback raises it.
-    pub fn epoch(&self) -> u64 {
+    pub fn epoch(&self) -> u64
+        ensures { result ≡ latest_epoch self.now.nodes.executors }
+    {
         self.nodes.epoch()
     }
 
-    /// Whether nothing is under way and nothing is left to be done: no reply will come unless something is
-    /// asked, asked again, suspected or opened.
-    pub fn is_idle(&self) -> bool {
-        self.progress.is_at_rest
+    /// Whether nothing is to be done at once: no letter is under way, no executor has a job, and no order is held
+    /// that an executor could obey now.
+    pub fn is_idle(&self) -> bool
+        ensures { result ≡ is_quiet self.now.nodes }
+    {
+        self.nodes.is_quiet()
+    }
+
+    /// How often something was not done for want of memory, or since a bound was reached: letters or an order were
+    /// lost, a replica that was to be opened is down, or `work` left something to be done. It stays at 2^64 - 1.
+    pub fn refused(&self) -> u64
+        ensures { result ≡ self.now.refused }
+    {
+        self.refused
     }
 
     /// How many steps all executors have made. A decree that an executor obeys is a step.
@@ -185,14 +238,23 @@ impl Ensemble {
         self.progress.seen()
     }
 
+    /// How long the parts of the way of batches took since this was last asked. None: no batch was run.
+    pub fn take_times(&mut self) -> Option<Times>
+        ensures { self.new ≡ self.old }
+    {
+        self.stopwatch.take()
+    }
+
     /// Ends all replicas.
     pub fn end(self) {
         let Ensemble {
             nodes,
             progress,
+            stopwatch: _,
             asked,
             answered,
             order,
+            refused: _,
         } = self;
         nodes.end();
         drop(progress);

@@ -61,12 +61,24 @@ fn run_each<R: Threads + Wait + Sync>(
 }
 
 impl Nodes {
-    ghost use Rattle.std.specs.Prelude.{◌≤◌};
+    ghost use Rattle.std.specs.Prelude.{◌≡◌, ◌≤◌};
+    ghost use Rattle.std.specs.List.{list_any};
+    ghost use Rattle.hosts.specs.Orders.{has_due};
     ghost use Rattle.ensemble.specs.Nodes.{RunsAll};
+    ghost use Rattle.ensemble.specs.Shown.{has_job};
 
     /// Whether an executor has a job.
-    pub fn has_jobs(&self) -> bool {
+    pub fn has_jobs(&self) -> bool
+        ensures { result ≡ list_any has_job self.now.executors }
+    {
         self.executors.iter().any(|host| host.job_len().is_some())
+    }
+
+    /// Whether a host holds an order that its executor could obey now.
+    pub fn has_due(&self) -> bool
+        ensures { result ≡ list_any has_due self.now.executors }
+    {
+        self.executors.iter().any(|host| host.has_due())
     }
 
     /// How many threads are worth starting for the jobs that there are.

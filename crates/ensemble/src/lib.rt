@@ -2,8 +2,10 @@
 //!
 //! It stands on `hosts` and `worlds`, which hold the replicas, and on `proxies`, which ask. The layer above uses
 //! `Ensemble`: `ask` hands in a command, and `work` has the replicas work until nothing more can be done, and
-//! gives the replies. Whatever is called, what stands there is what events lead a world to (`shows`). There is
-//! no socket and no clock here, and no thread but those that run the jobs of several executors at once.
+//! gives the replies. Whatever is called, what stands there is what events lead a world to (`shows`). `refused`
+//! counts what was not done for want of memory or because a bound was reached: a call that did not raise it did
+//! all that it is for, and after such a `work` the replicas are at rest. There is no socket here, and no clock
+//! but for figures, and no thread but those that run the jobs of several executors at once.
 #![tactic(auto)]
 
 mod answer;
@@ -15,12 +17,15 @@ mod nodes;
 mod opening;
 mod posting;
 mod progress;
+mod refusing;
 mod showing;
 mod tending;
+mod times;
 mod working;
 
 pub use answer::Answer;
 pub use ensemble::Ensemble;
 pub use pages::PAGES;
 pub use serving::Seen;
+pub use times::Times;
 pub use worlds::{Config, Replica};

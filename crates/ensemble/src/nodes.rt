@@ -1,8 +1,9 @@
 //! All nodes, and the letters that are under way.
 
 ghost use Rattle.std.specs.Prelude.{◌≡◌, ◌<◌};
+ghost use Rattle.ensemble.specs.Shown.{later_epoch};
 
-use decrees::Letter;
+use decrees::{Letter, Node};
 use exec_lines::Body;
 use hosts::ExecutorHost;
 use proxies::Proxy;
@@ -38,6 +39,16 @@ impl Model for Nodes {
     ghost invariant = { λ n. n.u < 4 };
 }
 
+/// The later one of these epochs.
+fn later(latest: u64, epoch: Option<u64>) -> u64
+    ensures { result ≡ later_epoch latest epoch }
+{
+    match epoch {
+        Some(epoch) => latest.max(epoch),
+        None => latest,
+    }
+}
+
 /// Ends these executors.
 pub fn end_executors(mut executors: Vec<ExecutorHost>) {
     while let Some(host) = executors.pop() {
@@ -47,7 +58,8 @@ pub fn end_executors(mut executors: Vec<ExecutorHost>) {
 }
 
 impl Nodes {
-    ghost use Rattle.std.specs.Prelude.{◌≡◌, ◌<◌, ◌+◌, ◌*◌};
+    ghost use Rattle.std.specs.Prelude.{◌≡◌, ◌<◌, ◌+◌, ◌*◌, slice_get};
+    ghost use Rattle.ensemble.specs.Shown.{has_job_in, is_host_up, is_quiet as quiet, has_letters as letters, latest_epoch, leader_of};
 
     /// How many executors there are, and as many verifiers.
     pub fn members(&self) -> u8
@@ -57,7 +69,9 @@ impl Nodes {
     }
 
     /// Whether the executor of this number is up and has a job.
-    pub fn has_job(&self, id: u8) -> bool {
+    pub fn has_job(&self, id: u8) -> bool
+        ensures { result ≡ has_job_in (slice_get self.now.executors id) }
+    {
         match self.executors.get(usize::from(id)) {
             Some(host) => host.job_len().is_some(),
             None => false,
@@ -65,7 +79,9 @@ impl Nodes {
     }
 
     /// Whether the executor of this number is up.
-    pub fn is_executor_up(&self, id: u8) -> bool {
+    pub fn is_executor_up(&self, id: u8) -> bool
+        ensures { result ≡ is_host_up (slice_get self.now.executors id) }
+    {
         match self.executors.get(usize::from(id)) {
             Some(host) => host.is_up(),
             None => false,
@@ -73,23 +89,50 @@ impl Nodes {
     }
 
     /// The latest epoch of the executors that are up. The first is 1.
-    pub fn epoch(&self) -> u64 {
+    pub fn epoch(&self) -> u64
+        ensures { result ≡ latest_epoch self.now.executors }
+    {
         let mut latest = 1u64;
         for host in &self.executors {
-            if let Some(epoch) = host.epoch() {
-                latest = latest.max(epoch);
-            }
+            latest = later(latest, host.epoch());
         }
         latest
     }
 
     /// The number of the executor that leads this epoch: they take turns.
     pub fn leader(&self) -> u8
-        ensures { result < 2 * self.now.u + 1 }
+        ensures leads { result ≡ leader_of self.now }
+        ensures member { result < 2 * self.now.u + 1 }
     {
         let members = u64::from(self.members());
         let id = self.epoch().saturating_sub(1) % members;
         u8::try_from(id).unwrap_or(0)
+    }
+
+    /// Whether nothing is to be done at once: no letter is under way, no executor has a job, and no order is held
+    /// that an executor could obey now.
+    pub fn is_quiet(&self) -> bool
+        ensures { result ≡ quiet self.now }
+    {
+        !self.has_letters() && !self.has_jobs() && !self.has_due()
+    }
+
+    /// Whether the first letter tells an executor of a decree.
+    pub fn is_decree_next(&self) -> bool {
+        match self.mail.front() {
+            Some(letter) => match (letter.to, &letter.body) {
+                (Node::Executor(_), Body::Ballot(_)) => true,
+                _ => false,
+            },
+            None => false,
+        }
+    }
+
+    /// Whether a letter is under way.
+    pub fn has_letters(&self) -> bool
+        ensures { result ≡ letters self.now }
+    {
+        !self.mail.is_empty()
     }
 
     /// Ends all of them.

@@ -8,6 +8,7 @@ ghost use Rattle.ensemble.specs.First.{first_proxies_of, first_hosts, first_host
 use crate::ensemble::Ensemble;
 use crate::nodes::{Nodes, end_executors};
 use crate::progress::Progress;
+use crate::times::Stopwatch;
 use hosts::ExecutorHost;
 use http_server::Log;
 use proto::Fault;
@@ -108,14 +109,17 @@ fn opened_nodes(alloc: Global, config: &Config) -> Result<Nodes, AllocError>
 
 impl Ensemble {
     ghost use Rattle.std.specs.Prelude.{◌≡◌, ◌⊎◌, IfOk, IfErr, []};
+    ghost use Rattle.ensemble.specs.First.{first_nodes};
 
     /// All replicas are opened, each with a keeper in memory that has no record, and there are as many proxies
     /// as the config has clients. NoMemory, the only error: there is no memory for it, and all that was opened
     /// is ended.
     pub fn open(alloc: Global, config: &Config) -> Result<Ensemble, Fault>
+        ensures nodes { IfOk result (λ ensemble. ensemble.nodes ≡ first_nodes config.now) }
         ensures asked { IfOk result (λ ensemble. ensemble.asked ≡ []) }
         ensures answered { IfOk result (λ ensemble. ensemble.answered ≡ []) }
         ensures order { IfOk result (λ ensemble. ensemble.order ≡ []) }
+        ensures refused { IfOk result (λ ensemble. ensemble.refused ≡ 0) }
         ensures only { IfErr result (λ fault. fault ≡ Fault.NoMemory) }
     {
         let progress = Progress::new(alloc, 2 * config.u() + 1)?;
@@ -123,9 +127,11 @@ impl Ensemble {
         Ok(Ensemble {
             nodes,
             progress,
+            stopwatch: Stopwatch::NEW,
             asked: Log::new(),
             answered: Log::new(),
             order: Log::new(),
+            refused: 0,
         })
     }
 }

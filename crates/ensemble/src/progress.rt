@@ -5,7 +5,6 @@ use serving::Seen;
 use std::alloc::{AllocError, Global};
 
 /// How far all executors have come.
-#[derive(Drop)]
 pub struct Progress {
     /// Whether nothing is under way, and nothing was left to be done.
     pub is_at_rest: bool,
@@ -17,6 +16,18 @@ pub struct Progress {
     last: Vec<u64>,
     /// How many batches were cut. It wraps.
     pub cuts: u64,
+}
+
+impl Drop for Progress {
+    fn drop(self) {
+        let Progress {
+            is_at_rest: _,
+            rests: _,
+            steps: _,
+            last: _,
+            cuts: _,
+        } = self;
+    }
 }
 
 impl Progress {

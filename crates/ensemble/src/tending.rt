@@ -5,6 +5,7 @@ ghost use Rattle.exec_lines.specs.declared.input.Input.TheVariants as executor_i
 ghost use Rattle.verifier.specs.declared.input.Input.TheVariants as verifier_input;
 ghost use Rattle.hosts.specs.Host.{HostSettles, HostReopens, HostCollects};
 ghost use Rattle.ensemble.specs.Nodes.{AtHost, AtVerifier, HostAdvances, VerifierGets, VerifierOpens, VerifierTrims};
+ghost use Rattle.ensemble.specs.Trimming.{trim_place, VerifierTrimsDue};
 
 use crate::nodes::Nodes;
 use crate::posting::{post, post_ballots};
@@ -95,14 +96,17 @@ fn suspect(alloc: Global, verifiers: &mut Vec<VerifierPlace>, id: u8) -> Vec<Let
 }
 
 /// The place up to which the verifier may forget decrees, if it is up and its log is long.
-fn due(place: &VerifierPlace) -> Option<u64> {
+fn due(place: &VerifierPlace) -> Option<u64>
+    ensures { result ≡ trim_place place.now }
+{
     let node = place.node()?;
     due_trim(node.start(), node.known())
 }
 
 /// The verifier forgets old decrees, if its log is long: what it sends.
 fn trim(alloc: Global, place: &mut VerifierPlace) -> Vec<Letter<Ballot>>
-    ensures { VerifierTrims place.old place.new result.items }
+    ensures trims { VerifierTrims place.old place.new result.items }
+    ensures due { VerifierTrimsDue place.old place.new result.items }
 {
     match due(place) {
         Some(place_of_trim) => place.settle(
@@ -117,7 +121,8 @@ fn trim(alloc: Global, place: &mut VerifierPlace) -> Vec<Letter<Ballot>>
 
 /// The verifier of this number does so, if it is there.
 fn trim_at(alloc: Global, verifiers: &mut Vec<VerifierPlace>, id: u8) -> Vec<Letter<Ballot>>
-    ensures { AtVerifier VerifierTrims id verifiers.old.items verifiers.new.items result.items }
+    ensures trims { AtVerifier VerifierTrims id verifiers.old.items verifiers.new.items result.items }
+    ensures due { AtVerifier VerifierTrimsDue id verifiers.old.items verifiers.new.items result.items }
 {
     match verifiers.get_mut(usize::from(id)) {
         Some(place) => trim(alloc, place),
@@ -126,75 +131,87 @@ fn trim_at(alloc: Global, verifiers: &mut Vec<VerifierPlace>, id: u8) -> Vec<Let
 }
 
 impl Nodes {
-    ghost use Rattle.std.specs.Prelude.{◌≡◌, ◌⊎◌};
+    ghost use Rattle.std.specs.Prelude.{◌≡◌, ◌⊎◌, ◌<◌, ◌≤◌, ◌-◌, ◌^◌, false};
     ghost use Rattle.exec_lines.specs.declared.input.Input.TheVariants as executor_input;
     ghost use Rattle.verifier.specs.declared.input.Input.TheVariants as verifier_input;
     ghost use Rattle.hosts.specs.Host.{HostSettles, HostReopens, HostCollects};
     ghost use Rattle.ensemble.specs.Nodes.{HostMoves, VerifierMoves, HostAdvances, VerifierGets, VerifierOpens, VerifierTrims};
+    ghost use Rattle.ensemble.specs.Served.{VerifierPosts, NoBatchAt};
+    ghost use Rattle.ensemble.specs.Trimming.{VerifierTrimsDue};
 
     /// The executor of this number gets the order that its host holds, if its turn has come: whether it has.
-    pub fn take_held(&mut self, alloc: Global, id: u8) -> bool
-        ensures { HostMoves HostAdvances id self.old self.new }
+    pub fn take_held(&mut self, alloc: Global, id: u8, refused: &mut u64) -> bool
+        ensures moves { HostMoves HostAdvances id self.old self.new }
+        ensures counted { refused.old ≤ refused.new }
     {
         let (has_taken, sent) = take_held(alloc, &mut self.executors, id);
-        post(&mut self.mail, sent);
+        post(&mut self.mail, sent, refused);
         has_taken
     }
 
     /// The executor of this number is to cut a batch, at this moment in seconds: whether anything was sent or
     /// is to be run now.
-    pub fn cut(&mut self, alloc: Global, id: u8, moment: u32) -> bool
-        ensures { HostMoves (λ h left sent. HostSettles h (executor_input.Cut moment) left sent) id self.old self.new }
+    pub fn cut(&mut self, alloc: Global, id: u8, moment: u32, refused: &mut u64) -> bool
+        ensures moves { HostMoves (λ h left sent. HostSettles h (executor_input.Cut moment) left sent) id self.old self.new }
+        ensures counted { refused.old ≤ refused.new }
+        ensures nothing { result ≡ false → NoBatchAt id self.old self.new }
     {
         let sent = cut(alloc, &mut self.executors, id, moment);
         let has_sent = !sent.is_empty();
-        post(&mut self.mail, sent);
+        post(&mut self.mail, sent, refused);
         has_sent || self.has_job(id)
     }
 
     /// What the executor of this number sent when it ran its job is under way.
-    pub fn collect(&mut self, alloc: Global, id: u8)
-        ensures { HostMoves HostCollects id self.old self.new }
+    pub fn collect(&mut self, alloc: Global, id: u8, refused: &mut u64)
+        ensures moves { HostMoves HostCollects id self.old self.new }
+        ensures counted { refused.old ≤ refused.new }
     {
         let sent = collect(alloc, &mut self.executors, id);
-        post(&mut self.mail, sent);
+        post(&mut self.mail, sent, refused);
     }
 
     /// The executor of this number is opened, if it is there and down.
-    pub fn open_executor(&mut self, alloc: Global, id: u8)
-        ensures { HostMoves (λ h left sent. HostReopens self.old.u id h left sent) id self.old self.new ⊎ (self.new ≡ self.old) }
+    pub fn open_executor(&mut self, alloc: Global, id: u8, refused: &mut u64)
+        ensures counted { refused.old ≤ refused.new }
+        ensures moves { HostMoves (λ h left sent. HostReopens self.old.u id h left sent) id self.old self.new ⊎ (self.new ≡ self.old) }
     {
         if 2 * self.u < id {
             return;
         }
         let sent = open_executor(alloc, self.u, &mut self.executors, id);
-        post(&mut self.mail, sent);
+        post(&mut self.mail, sent, refused);
     }
 
     /// The verifier of this number is opened, if it is there and down.
-    pub fn open_verifier(&mut self, alloc: Global, id: u8)
-        ensures { VerifierMoves (VerifierOpens self.old.u id) id self.old self.new ⊎ (self.new ≡ self.old) }
+    pub fn open_verifier(&mut self, alloc: Global, id: u8, refused: &mut u64)
+        ensures counted { refused.old ≤ refused.new }
+        ensures moves { VerifierMoves (VerifierOpens self.old.u id) id self.old self.new ⊎ (self.new ≡ self.old) }
     {
         if 2 * self.u < id {
             return;
         }
         let sent = open_verifier(alloc, self.u, &mut self.verifiers, id);
-        post_ballots(alloc, &mut self.mail, sent.as_slice());
+        post_ballots(alloc, &mut self.mail, sent.as_slice(), refused);
     }
 
     /// The verifier of this number is told that the leader is suspected.
-    pub fn suspect(&mut self, alloc: Global, id: u8)
-        ensures { VerifierMoves (VerifierGets verifier_input.Suspect) id self.old self.new }
+    pub fn suspect(&mut self, alloc: Global, id: u8, refused: &mut u64)
+        ensures moves { VerifierMoves (VerifierGets verifier_input.Suspect) id self.old self.new }
+        ensures counted { refused.old ≤ refused.new }
+        ensures posted { refused.new ≡ refused.old → refused.old < 2 ^ 64 - 1 → VerifierPosts (VerifierGets verifier_input.Suspect) id self.old self.new }
     {
         let sent = suspect(alloc, &mut self.verifiers, id);
-        post_ballots(alloc, &mut self.mail, sent.as_slice());
+        post_ballots(alloc, &mut self.mail, sent.as_slice(), refused);
     }
 
     /// The verifier of this number forgets old decrees, if its log is long.
-    pub fn trim(&mut self, alloc: Global, id: u8)
-        ensures { VerifierMoves VerifierTrims id self.old self.new }
+    pub fn trim(&mut self, alloc: Global, id: u8, refused: &mut u64)
+        ensures moves { VerifierMoves VerifierTrims id self.old self.new }
+        ensures due { VerifierMoves VerifierTrimsDue id self.old self.new }
+        ensures counted { refused.old ≤ refused.new }
     {
         let sent = trim_at(alloc, &mut self.verifiers, id);
-        post_ballots(alloc, &mut self.mail, sent.as_slice());
+        post_ballots(alloc, &mut self.mail, sent.as_slice(), refused);
     }
 }

@@ -4,7 +4,9 @@ ghost use Rattle.std.specs.Prelude.{◌≡◌};
 
 use crate::answer::Answer;
 use crate::ensemble::Ensemble;
+use crate::refusing::refuse;
 use std::alloc::Global;
+use std::rt::Clock;
 use std::sync::Wait;
 use std::thread::Threads;
 use worlds::a_run_is_steps;
@@ -16,7 +18,11 @@ const MOST_LETTERS: u32 = 1 << 20;
 const MOST_ROUNDS: u32 = 4096;
 
 impl Ensemble {
-    ghost use Rattle.std.specs.Prelude.{◌≡◌, ◌++◌, [], map};
+    ghost use Rattle.std.specs.Prelude.{◌≡◌, ◌<◌, ◌≤◌, ◌+◌, ◌-◌, ◌*◌, ◌^◌, ◌++◌, [], true, false, map};
+    ghost use Rattle.ensemble.specs.Shown.{has_letters, is_quiet};
+    ghost use Rattle.ensemble.specs.Nodes.{VerifierMoves};
+    ghost use Rattle.ensemble.specs.Trimming.{VerifierTrimsDue, AreTrimmedBelow};
+    ghost use Rattle.ensemble.specs.Served.{NoBatchAt, NoBatchBelow, IsAtRest};
     ghost use Rattle.ensemble.specs.Ensemble.{answer_entry, answer_log, order_entry, order_log, Answers};
 
     /// The first letter that is under way comes: what it answers.
@@ -24,8 +30,9 @@ impl Ensemble {
         ensures asked { self.new.asked ≡ self.old.asked }
         ensures answered { self.new.answered ≡ self.old.answered ++ answer_log result }
         ensures order { self.new.order ≡ self.old.order ++ order_log result }
+        ensures counted { self.old.refused ≤ self.new.refused }
     {
-        let answer = self.nodes.deliver(alloc)?;
+        let answer = self.nodes.deliver(alloc, &mut self.refused)?;
         self.answered = self
             .answered
             .and(&(answer.proxy, answer.number), &answer.reply);
@@ -33,13 +40,17 @@ impl Ensemble {
         Some(answer)
     }
 
-    /// The first letter comes; what it answers comes behind these. False: no letter is under way, or there is
-    /// no memory for an answer, and nothing was done.
-    fn deliver_to(&mut self, alloc: Global, answers: &mut Vec<Answer>) -> bool
+    /// The first letter comes; what it answers comes behind these. False: no letter is under way, or it is a decree and
+    /// none is wanted, or there is no memory for an answer, and nothing was done.
+    fn deliver_to(&mut self, alloc: Global, decrees: bool, answers: &mut Vec<Answer>) -> bool
         ensures asked { self.new.asked ≡ self.old.asked }
         ensures answered { Answers self.old.answered self.old.order answers.old.items self.new.answered self.new.order answers.new.items }
+        ensures counted { self.old.refused ≤ self.new.refused }
     {
-        if self.nodes.mail.is_empty() || answers.reserve(1).is_err() {
+        if !decrees && self.nodes.is_decree_next() {
+            return false;
+        }
+        if !self.nodes.has_letters() || answers.reserve(1).is_err() {
             return false;
         }
         if let Some(answer) = self.deliver(alloc) {
@@ -48,17 +59,31 @@ impl Ensemble {
         true
     }
 
-    /// All letters come, and those that they lead to; what they answer comes behind these. It ends early if
-    /// there is no memory for an answer; then the letters stay under way.
-    fn deliver_all(&mut self, alloc: Global, answers: &mut Vec<Answer>)
+    /// All letters come, and those that they lead to, or if no `decrees` are wanted all before the first of these. What
+    /// they answer comes behind these answers. It ends early if there is no memory for an answer; then the letters stay
+    /// under way.
+    fn deliver_all(&mut self, alloc: Global, decrees: bool, answers: &mut Vec<Answer>)
         ensures asked { self.new.asked ≡ self.old.asked }
         ensures answered { Answers self.old.answered self.old.order answers.old.items self.new.answered self.new.order answers.new.items }
+        ensures counted { self.old.refused ≤ self.new.refused }
     {
         for _ in 0..MOST_LETTERS {
-            if !self.deliver_to(alloc, answers) {
+            if !self.deliver_to(alloc, decrees, answers) {
                 return;
             }
         }
+    }
+
+    /// All letters come. How long that takes up to the first decree, and from then on, is counted.
+    fn deliver_timed<C: Clock>(&mut self, clock: &C, alloc: Global, answers: &mut Vec<Answer>)
+        ensures asked { self.new.asked ≡ self.old.asked }
+        ensures answered { Answers self.old.answered self.old.order answers.old.items self.new.answered self.new.order answers.new.items }
+        ensures counted { self.old.refused ≤ self.new.refused }
+    {
+        self.deliver_all(alloc, false, answers);
+        self.stopwatch.decide(clock);
+        self.deliver_all(alloc, true, answers);
+        self.stopwatch.settle(clock);
     }
 
     /// The executor of this number gets the order that its host holds, if its turn has come: whether it has.
@@ -66,8 +91,9 @@ impl Ensemble {
         ensures asked { self.new.asked ≡ self.old.asked }
         ensures answered { self.new.answered ≡ self.old.answered }
         ensures order { self.new.order ≡ self.old.order }
+        ensures counted { self.old.refused ≤ self.new.refused }
     {
-        self.nodes.take_held(alloc, id)
+        self.nodes.take_held(alloc, id, &mut self.refused)
     }
 
     /// Each executor gets the order whose turn has come: whether there was one.
@@ -75,6 +101,7 @@ impl Ensemble {
         ensures asked { self.new.asked ≡ self.old.asked }
         ensures answered { self.new.answered ≡ self.old.answered }
         ensures order { self.new.order ≡ self.old.order }
+        ensures counted { self.old.refused ≤ self.new.refused }
     {
         let mut has_taken = false;
         for id in 0..self.members() {
@@ -90,6 +117,7 @@ impl Ensemble {
         ensures asked { self.new.asked ≡ self.old.asked }
         ensures answered { self.new.answered ≡ self.old.answered }
         ensures order { self.new.order ≡ self.old.order }
+        ensures counted { self.old.refused ≤ self.new.refused }
     {
         a_run_is_steps();
         self.nodes.run_jobs(rt, alloc);
@@ -100,20 +128,29 @@ impl Ensemble {
         ensures asked { self.new.asked ≡ self.old.asked }
         ensures answered { self.new.answered ≡ self.old.answered }
         ensures order { self.new.order ≡ self.old.order }
+        ensures counted { self.old.refused ≤ self.new.refused }
     {
-        self.nodes.collect(alloc, id);
+        self.nodes.collect(alloc, id, &mut self.refused);
     }
 
     /// All jobs are run, and what that sends is under way: whether there was a job.
-    fn run_jobs<R: Threads + Wait + Sync>(&mut self, rt: &R, alloc: Global) -> bool
+    fn run_jobs<R: Threads + Wait + Sync, C: Clock>(
+        &mut self,
+        rt: &R,
+        clock: &C,
+        alloc: Global,
+    ) -> bool
         ensures asked { self.new.asked ≡ self.old.asked }
         ensures answered { self.new.answered ≡ self.old.answered }
         ensures order { self.new.order ≡ self.old.order }
+        ensures counted { self.old.refused ≤ self.new.refused }
     {
         if !self.nodes.has_jobs() {
             return false;
         }
+        self.stopwatch.begin(clock);
         self.run(rt, alloc);
+        self.stopwatch.run(clock);
         for id in 0..self.members() {
             self.collect(alloc, id);
         }
@@ -125,8 +162,11 @@ impl Ensemble {
         ensures asked { self.new.asked ≡ self.old.asked }
         ensures answered { self.new.answered ≡ self.old.answered }
         ensures order { self.new.order ≡ self.old.order }
+        ensures counted { self.old.refused ≤ self.new.refused }
+        ensures nothing { result ≡ false → NoBatchAt id self.old.nodes self.new.nodes }
+        ensures same_u { self.new.nodes.u ≡ self.old.nodes.u }
     {
-        self.nodes.cut(alloc, id, moment)
+        self.nodes.cut(alloc, id, moment, &mut self.refused)
     }
 
     /// Each executor is to cut a batch of what waits; one that does not lead does nothing. The result is
@@ -135,6 +175,8 @@ impl Ensemble {
         ensures asked { self.new.asked ≡ self.old.asked }
         ensures answered { self.new.answered ≡ self.old.answered }
         ensures order { self.new.order ≡ self.old.order }
+        ensures counted { self.old.refused ≤ self.new.refused }
+        ensures nothing { result ≡ false → NoBatchBelow (2 * self.new.nodes.u + 1) self.new.nodes }
     {
         let mut has_cut = false;
         for id in 0..self.members() {
@@ -151,8 +193,10 @@ impl Ensemble {
         ensures asked { self.new.asked ≡ self.old.asked }
         ensures answered { self.new.answered ≡ self.old.answered }
         ensures order { self.new.order ≡ self.old.order }
+        ensures counted { self.old.refused ≤ self.new.refused }
+        ensures due { VerifierMoves VerifierTrimsDue id self.old.nodes self.new.nodes }
     {
-        self.nodes.trim(alloc, id);
+        self.nodes.trim(alloc, id, &mut self.refused);
     }
 
     /// Each verifier whose log is long forgets old decrees. `work` does so too.
@@ -160,6 +204,8 @@ impl Ensemble {
         ensures asked { self.new.asked ≡ self.old.asked }
         ensures answered { self.new.answered ≡ self.old.answered }
         ensures order { self.new.order ≡ self.old.order }
+        ensures counted { self.old.refused ≤ self.new.refused }
+        ensures told { AreTrimmedBelow (2 * self.old.nodes.u + 1) self.old.nodes self.new.nodes }
     {
         for id in 0..self.members() {
             self.trim_at(alloc, id);
@@ -167,77 +213,93 @@ impl Ensemble {
     }
 
     /// How many executors there are, and as many verifiers.
-    fn members(&self) -> u8 {
+    fn members(&self) -> u8
+        ensures { result ≡ 2 * self.now.nodes.u + 1 }
+    {
         self.nodes.members()
     }
 
-    /// All letters come, and then the next thing is done that can be: whether there was any.
-    fn go_on<R: Threads + Wait + Sync>(
+    /// All letters come, and then the next thing is done that can be: whether there was any. If there is no memory for
+    /// an answer nothing is done, and letters stay under way.
+    fn go_on<R: Threads + Wait + Sync, C: Clock>(
         &mut self,
         rt: &R,
+        clock: &C,
         alloc: Global,
         moment: u32,
         answers: &mut Vec<Answer>,
     ) -> bool
         ensures asked { self.new.asked ≡ self.old.asked }
         ensures answered { Answers self.old.answered self.old.order answers.old.items self.new.answered self.new.order answers.new.items }
+        ensures counted { self.old.refused ≤ self.new.refused }
+        ensures nothing { result ≡ false → has_letters self.new.nodes ≡ false → NoBatchBelow (2 * self.new.nodes.u + 1) self.new.nodes }
     {
-        self.deliver_all(alloc, answers);
-        if !self.nodes.mail.is_empty() {
+        self.deliver_timed(clock, alloc, answers);
+        if self.nodes.has_letters() {
             return false;
         }
-        self.take_orders(alloc) || self.run_jobs(rt, alloc) || self.cut(alloc, moment)
+        self.take_orders(alloc) || self.run_jobs(rt, clock, alloc) || self.cut(alloc, moment)
     }
 
-    /// It goes on until nothing more can be done, or there is no memory for an answer, or after a great many
-    /// rounds: whether more can be done.
-    fn go_on_to_the_end<R: Threads + Wait + Sync>(
+    /// It goes on until nothing more can be done, or there is no memory for an answer: whether one of these came about.
+    /// False: it ended after a great many rounds.
+    fn go_on_to_the_end<R: Threads + Wait + Sync, C: Clock>(
         &mut self,
         rt: &R,
+        clock: &C,
         alloc: Global,
         moment: u32,
         answers: &mut Vec<Answer>,
     ) -> bool
         ensures asked { self.new.asked ≡ self.old.asked }
         ensures answered { Answers self.old.answered self.old.order answers.old.items self.new.answered self.new.order answers.new.items }
+        ensures counted { self.old.refused ≤ self.new.refused }
+        ensures nothing { result ≡ true → has_letters self.new.nodes ≡ false → NoBatchBelow (2 * self.new.nodes.u + 1) self.new.nodes }
     {
         for _ in 0..MOST_ROUNDS {
-            if !self.go_on(rt, alloc, moment, answers) {
-                return !self.nodes.mail.is_empty();
+            if !self.go_on(rt, clock, alloc, moment, answers) {
+                return true;
             }
         }
-        true
+        false
     }
 
     /// The replicas work until nothing more can be done: the answers. A batch that is cut is of this moment,
-    /// in seconds. It ends early if there is no memory for an answer, or after a great many rounds; then
-    /// `is_idle` is false, and the next call goes on.
-    pub fn work<R: Threads + Wait + Sync>(
+    /// in seconds. It ends early if there is no memory for an answer, or after a great many rounds; then that is
+    /// counted (`refused`), and the next call goes on. What is lost on the way for want of memory is counted, too.
+    pub fn work<R: Threads + Wait + Sync, C: Clock>(
         &mut self,
         rt: &R,
+        clock: &C,
         alloc: Global,
         moment: u32,
     ) -> Vec<Answer>
         ensures asked { self.new.asked ≡ self.old.asked }
         ensures answered { self.new.answered ≡ self.old.answered ++ map answer_entry result.items }
         ensures order { self.new.order ≡ self.old.order ++ map order_entry result.items }
+        ensures counted { self.old.refused ≤ self.new.refused }
+        ensures rest { self.new.refused ≡ self.old.refused → self.old.refused < 2 ^ 64 - 1 → IsAtRest self.new.nodes }
     {
         let mut answers = Vec::new(alloc);
         self.trim(alloc);
-        let has_more = self.go_on_to_the_end(rt, alloc, moment, &mut answers);
-        self.look(has_more);
+        let is_done = self.go_on_to_the_end(rt, clock, alloc, moment, &mut answers);
+        self.look(is_done);
         answers
     }
 
-    /// Notes how far the executors have come, and whether more can be done.
-    fn look(&mut self, has_more: bool)
-        ensures { self.new ≡ self.old }
+    /// Notes how far the executors have come, and whether more can be done. It is counted if it can.
+    fn look(&mut self, is_done: bool)
+        ensures same { self.new ≡ record self.old { refused = self.new.refused } }
+        ensures counted { self.old.refused ≤ self.new.refused }
+        ensures done { self.new.refused ≡ self.old.refused → self.old.refused < 2 ^ 64 - 1 → is_done ≡ true }
+        ensures quiet { self.new.refused ≡ self.old.refused → self.old.refused < 2 ^ 64 - 1 → is_quiet self.old.nodes ≡ true }
     {
         self.progress.look_at(self.nodes.executors.as_slice());
-        if has_more {
-            self.progress.is_at_rest = false;
-        } else {
+        if is_done && self.nodes.is_quiet() {
             self.progress.rest();
+        } else {
+            self.progress.is_at_rest = false;
+            refuse(&mut self.refused);
         }
     }
 }

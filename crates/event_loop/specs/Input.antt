@@ -11,3 +11,10 @@ IsPieceRead old new (Bytes bytes has_more) = Consumes old new bytes.items × (by
 IsPieceRead old new Nothing = Keeps old new
 IsPieceRead old new Interrupted = Keeps old new
 IsPieceRead old new End = ⊤
+
+-- the bytes that are given
+abbrev pub bytes_of_piece : Piece → List ℕ
+bytes_of_piece (Bytes bytes has_more) = bytes.items
+bytes_of_piece Nothing = []
+bytes_of_piece Interrupted = []
+bytes_of_piece End = []

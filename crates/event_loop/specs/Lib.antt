@@ -1,1 +1,4 @@
 pub mod Input
+pub mod Socket
+pub mod Sockets
+pub mod Traffic

@@ -1,11 +1,12 @@
 //! What an event loop counts of its work, and what other threads see of it.
 
 use crate::service::Serve;
+use figures::Histogram;
 use std::sync::atomic::{AtomicBool, Ordering};
 use std::sync::{Mutex, MutexGuard, Wait};
 
 /// Counts since the start. Each stays at 2^64 - 1.
-#[derive(Clone, Copy, Debug, PartialEq, Eq, Default)]
+#[derive(Clone, Copy, Debug, PartialEq, Eq)]
 pub struct Counts {
     /// Connections that are open now.
     pub open: u64,
@@ -19,6 +20,21 @@ pub struct Counts {
     pub bytes_read: u64,
     /// Bytes that were written to connections.
     pub bytes_written: u64,
+    /// From when bytes of a connection were read to when all that answers them was written.
+    pub reply_times: Histogram,
+}
+
+impl Counts {
+    /// Nothing was counted.
+    pub const NONE: Counts = Counts {
+        open: 0,
+        accepted: 0,
+        refused: 0,
+        failed: 0,
+        bytes_read: 0,
+        bytes_written: 0,
+        reply_times: Histogram::NONE,
+    };
 }
 
 /// The sum of both, or 2^64 - 1 if that is less.
@@ -40,7 +56,7 @@ impl Shared {
         Shared {
             is_stopping: AtomicBool::new(false),
             has_ended: AtomicBool::new(false),
-            counts: Mutex::new(Counts::default()),
+            counts: Mutex::new(Counts::NONE),
         }
     }
 

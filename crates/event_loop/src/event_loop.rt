@@ -1,15 +1,23 @@
 //! The listeners, the sockets, and the turns that they have.
 
+ghost use Rattle.std.specs.Prelude.{◌≡◌, ◌≤◌, ◌↔◌, ◌-◌, ◌+◌, ◌⊎◌, ◌++◌, ◌∷◌, [], ◌<◌, true, length, IsTrue};
+ghost use Rattle.slab.specs.Slab.{slab_len};
+ghost use Rattle.event_loop.specs.Sockets.{AreAllGiven, IsTurnOfFirst};
+ghost use Rattle.event_loop.specs.declared.message.Heard.TheVariants.{Came};
+
 use crate::counts::{Counts, Shared, plus};
+use crate::leavers::{Leaver, Leavers};
 use crate::listeners::{Accepted, Listeners};
 use crate::message::{Heard, Said};
-use crate::socket::{After, Socket};
+use crate::refused::Refused;
+use crate::socket::{After, Readiness};
+use crate::sockets::Sockets;
+use mio::event::Event;
 use mio::net::{TcpListener, TcpStream};
 use mio::{Events, Interest, Poll, Token, Waker};
-use slab::Slab;
 use std::alloc::{AllocError, Global};
 use std::io::Write;
-use std::net::Net;
+use std::net::{Net, Shutdown};
 use std::time::Duration;
 use std::{io, mem};
 
@@ -29,39 +37,74 @@ const MOST_PIECE_BYTES: usize = 262144;
 /// Which connections are let in.
 #[derive(Clone, Copy)]
 pub struct Admission {
-    /// So many at once.
+    /// So many at once. Those whose other side sends no more do not count. When a connection is to be accepted and
+    /// more than `most` of these are here, those that were found so first are ended.
     pub most: usize,
     /// What any other one is given before it is closed.
     pub refusal: &'static [u8],
 }
 
+impl Admission {
+    /// So many sockets are here at once, at most: those that count, as many whose other side sends no more, and as many
+    /// of which this was found since connections were last accepted. Their keys are below it.
+    pub fn most_sockets(&self) -> usize {
+        self.most.saturating_mul(3)
+    }
+}
+
 /// The listeners, the sockets, and what is to be told of them.
-#[derive(Drop)]
 pub struct EventLoop {
     alloc: Global,
     poll: Poll,
     listeners: Listeners,
     admission: Admission,
-    /// As many as were accepted is the number of the next connection.
     counts: Counts,
     /// The counts that other threads see.
     shown: Counts,
-    sockets: Slab<Socket>,
-    /// The keys of the sockets that have a turn, each once. Both lists have room for all sockets.
-    listed: Vec<usize>,
-    /// The list whose sockets had their turns.
-    spare: Vec<usize>,
+    /// When the bytes were read to which all that answers them was written since times were last counted.
+    answered: Vec<u64>,
+    sockets: Sockets<TcpStream>,
+    leavers: Leavers,
+    refused: Refused<TcpStream>,
     /// What is to be told to the service.
     heard: Vec<Heard>,
     buffer: Vec<u8>,
+    /// A socket had more to write after its last turn.
+    is_writing: bool,
     /// Memory ran out in the last turns, so the next are at the next tick.
     is_short: bool,
 }
 
+impl Drop for EventLoop {
+    fn drop(self) {
+        let EventLoop {
+            alloc: _,
+            poll: _,
+            listeners: _,
+            admission: _,
+            counts: _,
+            shown: _,
+            answered: _,
+            sockets: _,
+            leavers: _,
+            refused: _,
+            heard: _,
+            buffer: _,
+            is_writing: _,
+            is_short: _,
+        } = self;
+    }
+}
+
 /// What a wait gave.
-#[derive(Drop)]
 pub struct Ready {
     events: Events,
+}
+
+impl Drop for Ready {
+    fn drop(self) {
+        let Ready { events: _ } = self;
+    }
 }
 
 impl Ready {
@@ -88,13 +131,15 @@ impl EventLoop {
             poll,
             listeners,
             admission,
-            counts: Counts::default(),
-            shown: Counts::default(),
-            sockets: Slab::new(alloc),
-            listed: Vec::new(alloc),
-            spare: Vec::new(alloc),
+            counts: Counts::NONE,
+            shown: Counts::NONE,
+            answered: Vec::new(alloc),
+            sockets: Sockets::new(alloc),
+            leavers: Leavers::new(alloc),
+            refused: Refused::new(alloc),
             heard: Vec::new(alloc),
             buffer: vec![in alloc; 0u8; MOST_PIECE_BYTES]?,
+            is_writing: false,
             is_short: false,
         })
     }
@@ -113,35 +158,63 @@ impl EventLoop {
             if self.listeners.note(token) {
                 continue;
             }
-            if let Some(socket) = self.sockets.get_mut(token.0) {
-                let may_read = event.is_readable() || event.is_error();
-                socket.note(may_read, event.is_writable(), event.is_read_closed());
-                list(&mut self.listed, token.0, socket);
-            }
+            self.note(token.0, readiness(event));
         }
         Ok(())
     }
 
-    /// Whether something is to be done although nothing more becomes ready.
-    pub fn has_more(&self) -> bool {
-        !self.is_short && (!self.listed.is_empty() || self.listeners.is_any_due())
+    /// Notes what an event tells of the socket of this key. If its other side sends no more, it leaves its place.
+    fn note(&mut self, key: usize, ready: Readiness)
+        ensures few { length self.new.leavers ≤ length self.old.leavers + 1 }
+        ensures heard { self.new.heard.items ≡ self.old.heard.items }
+    {
+        if let Some(number) = self.sockets.note(key, ready) {
+            // There is room for all sockets.
+            let _ = self.leavers.add(Leaver { key, number });
+        }
+    }
+
+    /// Whether something is to be done although nothing more becomes ready: a socket takes more, or, if more may be
+    /// told to the service, something was heard or a socket or a listener has more.
+    pub fn has_more(&self, may_tell: bool) -> bool
+        ensures owed { may_tell ≡ true → 0 < length self.now.heard.items → result ≡ true }
+    {
+        let has_turns = self.is_writing || may_tell && 0 < self.sockets.listed_count();
+        may_tell && !self.heard.is_empty()
+            || !self.is_short && (has_turns || may_tell && self.listeners.is_any_due())
     }
 
     /// Whether something waits for a tick.
     pub fn is_stuck(&self) -> bool {
-        self.is_short || self.listeners.is_any_stuck()
+        self.is_short || self.listeners.is_any_stuck() || self.refused.is_any()
     }
 
     /// A tenth of a second has passed.
     pub fn tick(&mut self) {
         self.is_short = false;
+        self.refused.tick(self.buffer.as_mut_slice());
         self.listeners.try_again();
     }
 
-    /// Accepts the connections that wait.
+    /// Accepts the connections that wait. It comes after the turns: of those whose other side sends no more, who is
+    /// owed nothing is gone by then.
     pub fn accept(&mut self) {
+        self.end_leavers();
         for at in 0..self.listeners.len() {
             self.accept_at(at);
+        }
+    }
+
+    /// Ends the first of those whose other side sends no more, as far as there are too many.
+    fn end_leavers(&mut self)
+        ensures few { length self.new.leavers ≤ self.new.admission.most }
+        ensures heard { self.new.heard.items ≡ self.old.heard.items }
+    {
+        for _ in 0..self.leavers.len() {
+            let Some(first) = self.leavers.take_beyond(self.admission.most) else {
+                return;
+            };
+            self.sockets.end(first.key, first.number);
         }
     }
 
@@ -162,15 +235,13 @@ impl EventLoop {
 
     /// Lets the connection in, or tells it that there is no room for it. If memory runs out it is closed.
     fn admit(&mut self, mut stream: TcpStream) {
-        if self.admission.most <= self.sockets.len() {
-            // What does not go out at once is lost: nothing waits for a connection that is not let in.
-            let _ = stream.write(self.admission.refusal);
-            self.counts.refused = plus(self.counts.refused, 1);
+        if self.is_full() {
+            self.refuse(stream);
             return;
         }
         // Small replies leave at once.
         let _ = stream.set_nodelay(true);
-        let key = self.sockets.vacant_key();
+        let key = self.sockets.next_key();
         let both = Interest::READABLE | Interest::WRITABLE;
         if self.make_room().is_ok()
             && self
@@ -183,78 +254,105 @@ impl EventLoop {
         }
     }
 
+    /// Whether there is no place for one more connection.
+    fn is_full(&self) -> bool
+        ensures { IsTrue result ↔ self.now.admission.most ≤ slab_len self.now.sockets.all - length self.now.leavers }
+    {
+        self.admission.most <= self.sockets.len().saturating_sub(self.leavers.len())
+    }
+
+    /// Tells the connection that there is no room for it.
+    fn refuse(&mut self, mut stream: TcpStream) {
+        // What does not go out at once is lost: nothing waits for a connection that is not let in.
+        let _ = stream.write(self.admission.refusal);
+        if stream.shutdown(Shutdown::Write).is_ok() {
+            self.refused.keep(stream);
+        }
+        self.counts.refused = plus(self.counts.refused, 1);
+    }
+
     /// Makes room for one more socket.
     fn make_room(&mut self) -> Result<(), AllocError> {
-        let most = self.sockets.len().saturating_add(1);
-        self.sockets.reserve(1)?;
-        self.listed.reserve(most)?;
-        self.spare.reserve(most)?;
+        self.sockets.reserve()?;
+        self.leavers.reserve(self.sockets.len().saturating_add(1))?;
         self.heard.reserve(1)
     }
 
     /// Puts the connection under the key, which is the next one.
-    fn insert(&mut self, key: usize, stream: TcpStream) {
-        let number = self.counts.accepted;
-        let socket = Socket::new(self.alloc, stream, number);
-        if self.sockets.insert(socket).is_ok()
-            && self.heard.push(Heard::Came { key, number }).is_ok()
-        {
+    fn insert(&mut self, key: usize, stream: TcpStream)
+        ensures { (self.new.heard.items ≡ self.old.heard.items) ⊎ (self.new.heard.items ≡ self.old.heard.items ++ Came key self.old.sockets.next ∷ []) }
+    {
+        if let Some(number) = self.sockets.insert(self.alloc, stream) {
+            let _ = self.heard.push(Heard::Came { key, number });
             self.counts.accepted = plus(self.counts.accepted, 1);
         }
     }
 
     /// Takes what the service says. The sockets that it is for are listed for a turn.
-    pub fn give(&mut self, said: Vec<Said>) {
-        for one in said {
-            let key = one.key;
-            if let Some(socket) = self.sockets.get_mut(key) {
-                if socket.number() == one.number {
-                    socket.hear(one);
-                    list(&mut self.listed, key, socket);
-                }
-            }
-        }
+    pub fn give(&mut self, said: Vec<Said>)
+        ensures given { AreAllGiven self.old.sockets said.items self.new.sockets }
+        ensures heard { self.new.heard.items ≡ self.old.heard.items }
+    {
+        self.sockets.give_all(said);
     }
 
-    /// Gives each listed socket its turn: what waits is written and, if `reads`, the next bytes are read.
-    pub fn turn(&mut self, reads: bool) {
-        mem::swap(&mut self.listed, &mut self.spare);
-        let has_room = self.heard.reserve(self.spare.len()).is_ok();
+    /// Gives each listed socket its turn: what waits is written and, if `reads`, the next bytes are read. It is so late in
+    /// microseconds of the caller's clock.
+    pub fn turn(&mut self, micros: u64, reads: bool) {
+        self.is_writing = false;
+        let count = self.sockets.listed_count();
+        let has_room = self.heard.reserve(count).is_ok();
         if !has_room {
             self.is_short = true;
         }
-        for at in 0..self.spare.len() {
-            if at < self.spare.len() {
-                let key = self.spare[at];
-                self.turn_of(key, reads && has_room);
-            }
+        for _ in 0..count {
+            self.turn_first(micros, reads && has_room);
         }
-        self.spare.clear();
     }
 
-    /// The turn of one socket.
-    fn turn_of(&mut self, key: usize, reads: bool) {
-        let Some(socket) = self.sockets.get_mut(key) else {
+    /// The turn of the socket that was listed first.
+    fn turn_first(&mut self, micros: u64, reads: bool)
+        ensures { IsTurnOfFirst self.old.sockets self.new.sockets self.old.heard.items self.new.heard.items }
+    {
+        let buffer = self.buffer.as_mut_slice();
+        let Some(turned) = self
+            .sockets
+            .turn_first(self.alloc, micros, reads, buffer, &mut self.heard)
+        else {
             return;
         };
-        socket.is_listed = false;
-        let buffer = self.buffer.as_mut_slice();
-        let after = socket.turn(self.alloc, key, reads, buffer, &mut self.heard);
-        let moved = socket.take_moved();
-        self.counts.bytes_read = plus(self.counts.bytes_read, moved.read);
-        self.counts.bytes_written = plus(self.counts.bytes_written, moved.written);
-        match after {
-            After::Rest => {}
-            After::Again => list(&mut self.listed, key, socket),
-            After::NoMemory => {
-                self.is_short = true;
-                list(&mut self.listed, key, socket);
-            }
+        self.counts.bytes_read = plus(self.counts.bytes_read, turned.moved.read);
+        self.counts.bytes_written = plus(self.counts.bytes_written, turned.moved.written);
+        if let Some(since) = turned.moved.answered {
+            // If there is no memory for it the time is not counted.
+            let _ = self.answered.push(since);
+        }
+        match turned.after {
+            After::Rest | After::Reads => {}
+            After::Writes => self.is_writing = true,
+            After::NoMemory => self.is_short = true,
             After::Gone => {
-                self.sockets.try_remove(key);
+                if let Some(number) = turned.leaver {
+                    self.leavers.remove(number);
+                }
                 self.listeners.try_again();
             }
         }
+    }
+
+    /// Whether something was answered in full whose time is not counted.
+    pub fn has_answered(&self) -> bool {
+        !self.answered.is_empty()
+    }
+
+    /// It is so late now: the times of what was answered in full are counted.
+    pub fn count_times(&mut self, micros: u64) {
+        for since in self.answered.iter() {
+            self.counts
+                .reply_times
+                .observe(micros.saturating_sub(*since));
+        }
+        self.answered.clear();
     }
 
     /// Shows the counts to other threads. Whether they see those of now.
@@ -267,19 +365,28 @@ impl EventLoop {
     }
 
     /// How much there is to be told to the service.
-    pub fn heard_count(&self) -> usize {
+    pub fn heard_count(&self) -> usize
+        ensures { result ≡ length self.now.heard.items }
+    {
         self.heard.len()
     }
 
     /// What happened since this was last called, in order.
-    pub fn take_heard(&mut self) -> Vec<Heard> {
+    pub fn take_heard(&mut self) -> Vec<Heard>
+        ensures all { result.items ≡ self.old.heard.items }
+        ensures none { self.new.heard.items ≡ [] }
+        ensures sockets { self.new.sockets ≡ self.old.sockets }
+    {
         mem::replace(&mut self.heard, Vec::new(self.alloc))
     }
 }
 
-/// Lists the socket for a turn, once.
-fn list(listed: &mut Vec<usize>, key: usize, socket: &mut Socket) {
-    if !socket.is_listed {
-        socket.is_listed = listed.push(key).is_ok();
+/// What the event tells.
+fn readiness(event: &Event) -> Readiness {
+    Readiness {
+        is_readable: event.is_readable(),
+        is_writable: event.is_writable(),
+        is_read_closed: event.is_read_closed(),
+        is_broken: event.is_error() || event.is_write_closed(),
     }
 }

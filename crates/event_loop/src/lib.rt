@@ -4,23 +4,34 @@
 //! little happened and the service is idle, the event loop's own thread answers. A connection is read only when its last
 //! bytes are done with and all that was said to it is written, so one that never reads holds up nobody.
 //!
-//! It stands on `mio` (sockets that do not block) and `link` (messages between the threads). The layer above
-//! implements `Serve` and calls `serve`. What sockets give and take no contract says; the clauses here are of the
-//! parts: `read_once` gives the next bytes of its reader, `Output::write` writes the first bytes that wait and drops
-//! just those, and a socket is read only when none of its bytes are outstanding.
+//! It stands on `mio` (sockets that do not block), `link` (messages between the threads), `slab` and `http_server`
+//! (its `Log`, a history that takes no memory). The layer above implements `Serve` and calls `serve`.
+//!
+//! `Socket` and `Sockets` are generic in their stream, so their contracts say which bytes move. What is told of a
+//! socket is what its reads gave, in order, under its number (`Socket::turn`, `IsSocket`). What is written is a
+//! beginning of what was said (`Buffered`). A socket that is gone was told as left, unless the service closed it. What is
+//! said joins the socket of its key and number and no other (`Sockets::give_all`). A socket that is here has a turn, or
+//! nothing is to be done for it until an event comes or the service says something (`IsSockets`). What the system does
+//! with a socket no contract says, nor what the loops of the two threads do while they wait.
 #![tactic(auto)]
 
+mod buffered;
 mod counts;
 mod event_loop;
 mod input;
+mod leavers;
 mod listeners;
 mod loop_thread;
 mod message;
+mod moments;
 mod output;
+mod refused;
 mod service;
 mod service_thread;
 mod serving;
 mod socket;
+mod sockets;
+mod turns;
 
 pub use counts::{Counts, Watch};
 pub use event_loop::Admission;

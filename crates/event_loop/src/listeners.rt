@@ -42,9 +42,14 @@ pub enum Accepted {
 }
 
 /// All listeners of an event loop.
-#[derive(Drop)]
 pub struct Listeners {
     ports: Vec<Port>,
+}
+
+impl Drop for Listeners {
+    fn drop(self) {
+        let Listeners { ports: _ } = self;
+    }
 }
 
 impl Listeners {

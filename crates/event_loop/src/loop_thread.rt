@@ -1,10 +1,18 @@
 //! The thread of the event loop.
 
+ghost use Rattle.std.specs.Prelude.{ℕ, ◌≡◌, ◌⊎◌, ◌<◌, ◌+◌, ◌-◌, ◌^◌, []};
+ghost use Rattle.std.specs.declared.alloc.Global.{Global};
+ghost use Rattle.std.specs.declared.vec.Vec.{Vec};
+ghost use Rattle.link.specs.Lines.{IsPut};
+ghost use Rattle.event_loop.specs.declared.message.Heard as message;
+ghost use Rattle.event_loop.specs.declared.message.ToService.TheVariants.{Heard};
+
 use crate::counts::Shared;
 use crate::event_loop::{EventLoop, Ready};
 use crate::message::{FromService, ToService};
+use crate::moments::Moments;
 use crate::service::Serve;
-use crate::service_thread::{MOST_TAKEN, micros, seconds};
+use crate::service_thread::MOST_TAKEN;
 use link::Link;
 use std::io;
 use std::rt::Clock;
@@ -20,10 +28,10 @@ const TICK: u64 = 100;
 const MOST_IN_PLACE: usize = 2;
 
 /// The event loop's ends of the links to the service.
-#[derive(Drop)]
 pub struct LoopEnds {
     to_service: Link<ToService>,
     from_service: Link<FromService>,
+    moments: Moments,
     /// So many messages are not done with. No more are put while they are `MOST_TAKEN`, so the links never fill up.
     unanswered: usize,
     /// Whether the service wants ticks.
@@ -32,12 +40,30 @@ pub struct LoopEnds {
     is_shown: bool,
 }
 
+impl Drop for LoopEnds {
+    fn drop(self) {
+        let LoopEnds {
+            to_service: _,
+            from_service: _,
+            moments: _,
+            unanswered: _,
+            is_waiting: _,
+            is_shown: _,
+        } = self;
+    }
+}
+
 impl LoopEnds {
     /// No message is under way.
-    pub fn new(to_service: Link<ToService>, from_service: Link<FromService>) -> LoopEnds {
+    pub fn new(
+        to_service: Link<ToService>,
+        from_service: Link<FromService>,
+        moments: Moments,
+    ) -> LoopEnds {
         LoopEnds {
             to_service,
             from_service,
+            moments,
             unanswered: 0,
             is_waiting: false,
             is_shown: true,
@@ -49,9 +75,23 @@ impl LoopEnds {
         self.unanswered < MOST_TAKEN
     }
 
-    fn put<R: Wait>(&mut self, rt: &R, message: ToService) {
+    /// Puts the message. It is lost only if the service's thread is gone.
+    fn put<R: Wait>(&mut self, rt: &R, message: ToService)
+        ensures put { IsPut self.old.to_service message self.new.to_service ⊎ (self.new.to_service ≡ self.old.to_service) }
+        ensures counted { self.old.unanswered < 2 ^ 64 - 1 → self.new.unanswered ≡ self.old.unanswered + 1 }
+    {
         self.unanswered = self.unanswered.saturating_add(1);
         let _ = self.to_service.put(rt, message);
+    }
+
+    /// Puts all that was heard.
+    fn hand_on<R: Wait + Clock>(&mut self, rt: &R, event_loop: &mut EventLoop)
+        ensures put { (heard : Vec message.Heard Global) × (moment : ℕ) × (heard.items ≡ event_loop.old.heard.items) × (IsPut self.old.to_service (Heard heard moment) self.new.to_service ⊎ (self.new.to_service ≡ self.old.to_service)) }
+        ensures none { event_loop.new.heard.items ≡ [] }
+    {
+        let heard = event_loop.take_heard();
+        let micros = self.moments.micros(rt);
+        self.put(rt, ToService::Heard { heard, micros });
     }
 
     /// Hands on all that the service has said.
@@ -93,7 +133,7 @@ impl Ticks {
 
 /// How long to wait for sockets, or none if there is no limit.
 fn limit(event_loop: &EventLoop, ends: &LoopEnds) -> Option<Duration> {
-    if ends.has_room() && event_loop.has_more() {
+    if event_loop.has_more(ends.has_room()) {
         Some(Duration::from_millis(0))
     } else if ends.is_waiting || event_loop.is_stuck() || !ends.is_shown {
         Some(Duration::from_millis(TICK))
@@ -117,6 +157,14 @@ fn tick<R: Wait + Clock>(
     }
 }
 
+/// Gives the sockets their turns, and counts the times of what was answered in full by them.
+fn turn<R: Clock>(rt: &R, event_loop: &mut EventLoop, moments: Moments, reads: bool) {
+    event_loop.turn(moments.micros(rt), reads);
+    if event_loop.has_answered() {
+        event_loop.count_times(moments.micros(rt));
+    }
+}
+
 /// Lets the service answer here what happened, if that is little and the service is idle. Whether it did.
 fn answer_in_place<R: Threads + Wait + Sync + Clock, S: Serve>(
     rt: &R,
@@ -133,17 +181,17 @@ fn answer_in_place<R: Threads + Wait + Sync + Clock, S: Serve>(
     // What the service said before goes first.
     ends.take_all(rt, event_loop);
     let service = &mut *guard;
-    service.set_micros(micros(rt));
+    service.set_micros(ends.moments.micros(rt));
     service.hear(event_loop.take_heard());
-    let said = service.work(rt, seconds(rt));
-    service.set_micros(micros(rt));
+    let said = service.work(rt, rt, ends.moments.seconds(rt));
+    service.set_micros(ends.moments.micros(rt));
     ends.is_waiting = service.is_waiting();
     let has_work = service.has_work();
     drop(guard);
     event_loop.give(said);
-    event_loop.turn(false);
+    turn(rt, event_loop, ends.moments, false);
     if has_work {
-        ends.put(rt, ToService::Heard(event_loop.take_heard()));
+        ends.hand_on(rt, event_loop);
     }
     true
 }
@@ -160,13 +208,12 @@ fn round<R: Threads + Wait + Sync + Clock, S: Serve>(
     ends.take_all(rt, event_loop);
     let reads = ends.has_room();
     // Sockets that are over make room for those that wait to be accepted.
-    event_loop.turn(reads);
+    turn(rt, event_loop, ends.moments, reads);
     if reads {
         event_loop.accept();
     }
     if reads && 0 < event_loop.heard_count() && !answer_in_place(rt, service, event_loop, ends) {
-        let heard = event_loop.take_heard();
-        ends.put(rt, ToService::Heard(heard));
+        ends.hand_on(rt, event_loop);
     }
     Ok(())
 }

@@ -4,41 +4,32 @@ ghost use Rattle.std.specs.Prelude.{◌≤◌, IfSome};
 ghost use Rattle.event_loop.specs.declared.service_thread.TheConstants.{MOST_TAKEN};
 
 use crate::message::{FromService, ToService};
+use crate::moments::Moments;
 use crate::service::Serve;
 use link::Link;
 use mio::Waker;
 use std::rt::Clock;
 use std::sync::{Mutex, Wait};
 use std::thread::Threads;
-use std::time::{Duration, SystemTime};
 
 /// So many messages are taken before the service works, at most.
 pub const MOST_TAKEN: usize = 64;
 
-/// The time since the start of 1970, or none if the clock cannot be read.
-fn since_1970<R: Clock>(rt: &R) -> Duration {
-    let Ok(now) = SystemTime::now(rt) else {
-        return Duration::from_secs(0);
-    };
-    now.duration_since(SystemTime::UNIX_EPOCH)
-        .unwrap_or(Duration::from_secs(0))
-}
-
-/// The seconds of the clock, or 0 if it cannot be read.
-pub fn seconds<R: Clock>(rt: &R) -> u32 {
-    u32::try_from(since_1970(rt).as_secs()).unwrap_or(u32::MAX)
-}
-
-/// The microseconds of the clock, or 0 if it cannot be read.
-pub fn micros<R: Clock>(rt: &R) -> u64 {
-    u64::try_from(since_1970(rt).as_micros()).unwrap_or(u64::MAX)
-}
-
 /// The service's ends of the links to the event loop.
-#[derive(Drop)]
 pub struct ServiceEnds {
     pub inbox: Link<ToService>,
     pub outbox: Link<FromService>,
+    pub moments: Moments,
+}
+
+impl Drop for ServiceEnds {
+    fn drop(self) {
+        let ServiceEnds {
+            inbox: _,
+            outbox: _,
+            moments: _,
+        } = self;
+    }
 }
 
 /// What a round of the service's thread leaves.
@@ -63,7 +54,10 @@ impl Outcome {
 /// Hands on one message. Whether the service goes on.
 fn hand_in<S: Serve>(service: &mut S, message: ToService) -> bool {
     match message {
-        ToService::Heard(heard) => service.hear(heard),
+        ToService::Heard { heard, micros } => {
+            service.set_micros(micros);
+            service.hear(heard);
+        }
         ToService::Tick => service.tick(),
         ToService::Stop => return false,
     }
@@ -97,7 +91,7 @@ fn round<R: Threads + Wait + Sync + Clock, S: Serve>(
     first: Option<ToService>,
 ) -> Outcome {
     let mut answered = 0;
-    service.set_micros(micros(rt));
+    service.set_micros(ends.moments.micros(rt));
     if let Some(message) = first {
         if !hand_in(service, message) {
             return Outcome::STOP;
@@ -108,8 +102,9 @@ fn round<R: Threads + Wait + Sync + Clock, S: Serve>(
         return Outcome::STOP;
     };
     answered += more;
-    let said = service.work(rt, seconds(rt));
-    service.set_micros(micros(rt));
+    service.set_micros(ends.moments.micros(rt));
+    let said = service.work(rt, rt, ends.moments.seconds(rt));
+    service.set_micros(ends.moments.micros(rt));
     let has_said = 0 < answered || !said.is_empty();
     if has_said {
         let message = FromService {

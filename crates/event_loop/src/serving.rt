@@ -3,6 +3,7 @@
 use crate::counts::{Shared, Watch};
 use crate::event_loop::{Admission, EventLoop, Ready};
 use crate::loop_thread::{LoopEnds, LoopSide, run_loop};
+use crate::moments::Moments;
 use crate::service::Serve;
 use crate::service_thread::{ServiceEnds, run_service};
 use link::Link;
@@ -49,7 +50,7 @@ struct Parts {
 }
 
 impl Parts {
-    fn new<R: Net>(
+    fn new<R: Net + Clock>(
         rt: &R,
         alloc: Global,
         listeners: Vec<TcpListener>,
@@ -61,13 +62,18 @@ impl Parts {
         let mut from_service = Link::new(alloc)?;
         let inbox = to_service.another()?;
         let outbox = from_service.another()?;
+        let moments = Moments::begin(rt);
         Ok(Parts {
             loop_side: LoopSide {
                 event_loop,
                 ready: Ready::new(alloc)?,
-                ends: LoopEnds::new(to_service, from_service),
+                ends: LoopEnds::new(to_service, from_service, moments),
             },
-            service_ends: ServiceEnds { inbox, outbox },
+            service_ends: ServiceEnds {
+                inbox,
+                outbox,
+                moments,
+            },
             waker,
         })
     }

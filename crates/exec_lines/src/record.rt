@@ -18,13 +18,24 @@ use wire::Record;
 const MARKS: [u8; 2] = [2, b'E'];
 
 /// What is saved of an executor's state.
-#[derive(Drop)]
 pub struct Saved {
     pub u: u8,
     pub id: u8,
     pub known: u64,
     pub standing: Standing,
     pub chain: SavedChain,
+}
+
+impl Drop for Saved {
+    fn drop(self) {
+        let Saved {
+            u: _,
+            id: _,
+            known: _,
+            standing: _,
+            chain: _,
+        } = self;
+    }
 }
 
 /// A record that was made of a state, or one whose bytes were read.
@@ -38,9 +49,14 @@ enum Kept {
 /// written only when it is asked for its text.
 ///
 /// Contracts see the text that it stands for.
-#[derive(Drop)]
 pub struct ExecutorRecord {
     kept: Kept,
+}
+
+impl Drop for ExecutorRecord {
+    fn drop(self) {
+        let ExecutorRecord { kept: _ } = self;
+    }
 }
 
 impl Model for ExecutorRecord {

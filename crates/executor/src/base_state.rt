@@ -10,9 +10,14 @@ use std::alloc::{AllocError, Global};
 use token::Token;
 
 /// A state to execute a batch over. It shows no reply. `Tentative` and `Committed` lend theirs.
-#[derive(Drop)]
 pub struct Base {
     pub(crate) state: State,
+}
+
+impl Drop for Base {
+    fn drop(self) {
+        let Base { state: _ } = self;
+    }
 }
 
 impl Base {

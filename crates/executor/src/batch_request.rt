@@ -18,12 +18,22 @@ use std::mem;
 
 /// A request that runs: its place in the batch, the group that it is in, its steps, and the answers
 /// to those that were made.
-#[derive(Drop)]
 pub struct BatchRequest {
     place: u32,
     group: usize,
     steps: Steps,
     answers: Vec<Answer>,
+}
+
+impl Drop for BatchRequest {
+    fn drop(self) {
+        let BatchRequest {
+            place: _,
+            group: _,
+            steps: _,
+            answers: _,
+        } = self;
+    }
 }
 
 impl Model for BatchRequest {

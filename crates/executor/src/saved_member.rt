@@ -20,12 +20,22 @@ use wire::{Record, Sink};
 /// reply, and can be dropped.
 ///
 /// Contracts see the text that it stands for.
-#[derive(Drop)]
 pub struct SavedMember {
     before: Base,
     batch: Batch,
     after: Base,
     may_differ: PageSet,
+}
+
+impl Drop for SavedMember {
+    fn drop(self) {
+        let SavedMember {
+            before: _,
+            batch: _,
+            after: _,
+            may_differ: _,
+        } = self;
+    }
 }
 
 impl Model for SavedMember {

@@ -44,10 +44,18 @@ impl Model for Tentative {
 }
 
 /// A state that the verifiers decided on, and the replies of the batch that led to it.
-#[derive(Drop)]
 pub struct Committed {
     pub(crate) base: Base,
     pub(crate) replies: Vec<Answered>,
+}
+
+impl Drop for Committed {
+    fn drop(self) {
+        let Committed {
+            base: _,
+            replies: _,
+        } = self;
+    }
 }
 
 impl Model for Committed {

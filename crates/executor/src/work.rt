@@ -38,7 +38,6 @@ use workers::Workers;
 
 /// A batch that is being executed over its base: its requests run group by group, and the steps of
 /// one group in any order that the caller asks for. It may be dropped.
-#[derive(Drop)]
 pub struct Work {
     base: Base,
     batch: Batch,
@@ -48,6 +47,20 @@ pub struct Work {
     pages: Pages,
     running: Vec<BatchRequest>,
     group: usize,
+}
+
+impl Drop for Work {
+    fn drop(self) {
+        let Work {
+            base: _,
+            batch: _,
+            ordered: _,
+            form: _,
+            pages: _,
+            running: _,
+            group: _,
+        } = self;
+    }
 }
 
 impl Model for Work {

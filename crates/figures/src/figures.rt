@@ -53,6 +53,19 @@ pub struct Batches {
     pub rolled_back: u64,
 }
 
+/// What the parts of a batch's way took. Each of the last three is one time for all batches of a round.
+#[derive(Clone, Copy, Debug, PartialEq, Eq)]
+pub struct BatchParts {
+    /// From when a command could be asked to when a proxy asked it.
+    pub wait: Histogram,
+    /// While executors ran batches.
+    pub execute: Histogram,
+    /// From then to the first decree that an executor was told.
+    pub agree: Histogram,
+    /// From then until no letter was under way.
+    pub commit: Histogram,
+}
+
 /// The replicas.
 #[derive(Clone, Copy, Debug, PartialEq, Eq)]
 pub struct Replicas {
@@ -81,6 +94,8 @@ pub struct Memory {
     pub item_bytes: u64,
     /// Resident memory of the process in bytes. 0: it is not known.
     pub resident_bytes: u64,
+    /// How often the service was refused memory, or stopped at a bound, and left something undone.
+    pub refusals: u64,
 }
 
 /// All that a server counts, and where it stands. It can be copied.
@@ -95,10 +110,11 @@ pub struct Figures {
     pub batches: Batches,
     pub replicas: Replicas,
     pub memory: Memory,
-    /// From a command's last byte to its reply.
+    /// From when bytes of a connection were read to when all that answers them was written.
     pub reply_times: Histogram,
-    /// From a batch's cut to its replies.
+    /// The rounds of the service that answered a command.
     pub batch_times: Histogram,
+    pub batch_parts: BatchParts,
 }
 
 impl Connections {
@@ -128,6 +144,16 @@ impl Batches {
     };
 }
 
+impl BatchParts {
+    /// There was no batch.
+    pub const NONE: BatchParts = BatchParts {
+        wait: Histogram::NONE,
+        execute: Histogram::NONE,
+        agree: Histogram::NONE,
+        commit: Histogram::NONE,
+    };
+}
+
 impl Replicas {
     /// No replica is there.
     pub const NONE: Replicas = Replicas {
@@ -147,6 +173,7 @@ impl Memory {
         items: 0,
         item_bytes: 0,
         resident_bytes: 0,
+        refusals: 0,
     };
 }
 
@@ -162,6 +189,7 @@ impl Figures {
         memory: Memory::NONE,
         reply_times: Histogram::NONE,
         batch_times: Histogram::NONE,
+        batch_parts: BatchParts::NONE,
     };
 
     /// A command was answered.

@@ -16,7 +16,7 @@ mod outcome;
 pub use asked::{Asked, found_in};
 pub use commands::{Commands, Outcomes};
 pub use count::{one_more, plus};
-pub use figures::{Batches, Connections, Figures, Keys, Memory, Replicas};
+pub use figures::{BatchParts, Batches, Connections, Figures, Keys, Memory, Replicas};
 pub use histogram::{BOUNDS, BUCKETS, Histogram};
 pub use kind::{ALL_KINDS, KINDS, Kind};
 pub use node::{MOST_NODES, NodeFigures};

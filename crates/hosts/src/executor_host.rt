@@ -36,12 +36,12 @@ impl Model for ExecutorHost {
 }
 
 impl ExecutorHost {
-    ghost use Rattle.std.specs.Prelude.{◌≡◌, ◌<◌, ◌≤◌, ◌*◌, [], is_some};
+    ghost use Rattle.std.specs.Prelude.{◌≡◌, ◌<◌, ◌≤◌, ◌*◌, ◌++◌, ◌∷◌, [], true, is_some};
     ghost use Rattle.exec_lines.specs.declared.input.Input.TheVariants.{Cut};
     ghost use Rattle.worlds.specs.declared.slot.Slot.TheVariants.{Down};
     ghost use Rattle.worlds.specs.World.{nothing_kept};
     ghost use Rattle.worlds.specs.Status.{node_at};
-    ghost use Rattle.hosts.specs.Host.{HostSettles, HostTakes, HostRuns, HostReopens, HostCollects};
+    ghost use Rattle.hosts.specs.Host.{HostSettles, HostTakes, HostRuns, HostReopens, HostCollects, is_order as of_order};
 
     /// The host of an executor that was never opened: it is down, and nothing is kept.
     pub fn unopened(alloc: Global) -> ExecutorHost
@@ -64,15 +64,17 @@ impl ExecutorHost {
         self.place.restart(alloc, u, id)
     }
 
-    /// Gives the executor a letter, or holds it if it is an order; the result is what the executor sends.
-    pub fn take(&mut self, alloc: Global, letter: Letter<Body>) -> Vec<Letter<Body>>
-        ensures { HostTakes self.old letter self.new result.items }
+    /// Gives the executor a letter, or holds it if it is an order: whether that was done, and what the executor
+    /// sends. False: it is an order, and it is lost, since `MOST_HELD` orders wait or there is no memory for it.
+    pub fn take(&mut self, alloc: Global, letter: Letter<Body>) -> (bool, Vec<Letter<Body>>)
+        ensures takes { HostTakes self.old letter self.new result.1.items }
+        ensures held { result.0 ≡ true → of_order letter.body ≡ true → self.new.held ≡ self.old.held ++ letter ∷ [] }
     {
         if is_order(&letter) {
-            hold(&mut self.held, letter);
-            return Vec::new(alloc);
+            let is_held = hold(&mut self.held, letter);
+            return (is_held, Vec::new(alloc));
         }
-        self.place.settle(alloc, Input::Letter(letter))
+        (true, self.place.settle(alloc, Input::Letter(letter)))
     }
 
     /// The executor is to cut a batch, at this moment in seconds; the result is what it sends.

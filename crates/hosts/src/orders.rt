@@ -1,38 +1,57 @@
 //! Orders whose turn has come.
 
-ghost use Rattle.std.specs.Prelude.{IfSome, IfNone};
+ghost use Rattle.std.specs.Prelude.{◌≡◌, IfSome, IfNone, is_some};
 ghost use Rattle.hosts.specs.Host.{HostForgets, HostObeys};
+ghost use Rattle.hosts.specs.Orders.{is_busy as busy, awaited_of, has_due as due, StayHeld};
 
 use crate::executor_host::ExecutorHost;
-use crate::held::take_order;
+use crate::held::{has_order, take_order};
 use decrees::Letter;
-use exec_lines::{Body, Input};
+use exec_lines::{Body, Input, State};
 use rollback::MOST_MEMBERS;
 use std::alloc::Global;
 use worlds::ExecutorPlace;
 
+/// Whether it executes a batch, or its chain has no room.
+fn is_busy(state: &State) -> bool
+    ensures { result ≡ busy state.now }
+{
+    MOST_MEMBERS <= state.report().chain || state.next_work().is_some()
+}
+
 /// The epoch and the number of the order that the executor could obey now: it is up, it executes nothing, and
 /// its chain has room.
-fn awaited(place: &ExecutorPlace) -> Option<(u64, u64)> {
+fn awaited(place: &ExecutorPlace) -> Option<(u64, u64)>
+    ensures { result ≡ awaited_of place.now }
+{
     let state = place.node()?.state();
-    let report = state.report();
-    if MOST_MEMBERS <= report.chain || state.next_work().is_some() {
+    if is_busy(state) {
         return None;
     }
+    let report = state.report();
     let tip = report.number.saturating_add(report.chain as u64);
     Some((report.epoch, tip.saturating_add(1)))
 }
 
 impl ExecutorHost {
+    /// Whether an order is held that the executor could obey now.
+    pub fn has_due(&self) -> bool
+        ensures { result ≡ due self.now }
+    {
+        match awaited(&self.place) {
+            Some((epoch, number)) => has_order(self.held.as_slice(), epoch, number),
+            None => false,
+        }
+    }
+
     /// Gives the executor the order that it waits for, if it is held; the result is what the executor sends.
     /// Orders whose turn is over are let go.
     pub fn take_held(&mut self, alloc: Global) -> Option<Vec<Letter<Body>>>
         ensures none { IfNone result (HostForgets self.old self.new) }
         ensures some { IfSome result (λ sent. HostObeys self.old self.new sent.items) }
+        ensures taken { is_some result ≡ due self.old }
+        ensures later { StayHeld (awaited_of self.old.slot) self.old.held self.new.held }
     {
-        if self.held.is_empty() {
-            return None;
-        }
         let (epoch, number) = awaited(&self.place)?;
         let order = take_order(&mut self.held, epoch, number)?;
         Some(self.place.settle(alloc, Input::Letter(order)))

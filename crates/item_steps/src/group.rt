@@ -7,9 +7,14 @@ use std::alloc::AllocError;
 use std::marker::Model;
 
 /// The steps of one request, in order.
-#[derive(Drop)]
 pub struct Steps {
     steps: Vec<Step>,
+}
+
+impl Drop for Steps {
+    fn drop(self) {
+        let Steps { steps: _ } = self;
+    }
 }
 
 impl Model for Steps {
@@ -45,9 +50,14 @@ pub struct Task {
 }
 
 /// The requests that run at once.
-#[derive(Drop)]
 pub struct Group {
     tasks: Vec<Task>,
+}
+
+impl Drop for Group {
+    fn drop(self) {
+        let Group { tasks: _ } = self;
+    }
 }
 
 impl Model for Group {

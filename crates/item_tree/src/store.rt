@@ -6,10 +6,15 @@ use std::alloc::{AllocError, Global};
 use std::marker::Model;
 
 /// Items in a Merkle tree over the paths of their keys. Clones share all.
-#[derive(Drop)]
 pub struct ItemTree {
     pub(crate) items: MerkleMap<Key, Item>,
     alloc: Global,
+}
+
+impl Drop for ItemTree {
+    fn drop(self) {
+        let ItemTree { items: _, alloc: _ } = self;
+    }
 }
 
 impl Model for ItemTree {

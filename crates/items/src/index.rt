@@ -20,10 +20,15 @@ use std::cmp::Ordering;
 use std::marker::Model;
 
 /// A due time, and the entry that is due then, shared with the store that has it.
-#[derive(Drop)]
 pub(crate) struct Due {
     time: u64,
     entry: Entry<Key, Item>,
+}
+
+impl Drop for Due {
+    fn drop(self) {
+        let Due { time: _, entry: _ } = self;
+    }
 }
 
 impl Model for Due {

@@ -5,13 +5,23 @@ use proto::Block;
 use std::alloc::AllocError;
 
 /// What is kept under a key.
-#[derive(Drop)]
 pub struct Item {
     pub block: Block,
     pub flags: u32,
     /// The moment at which it is dropped, if there is one.
     pub due: Option<u64>,
     pub unique: u64,
+}
+
+impl Drop for Item {
+    fn drop(self) {
+        let Item {
+            block: _,
+            flags: _,
+            due: _,
+            unique: _,
+        } = self;
+    }
 }
 
 impl Item {

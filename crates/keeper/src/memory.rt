@@ -7,11 +7,20 @@ use std::marker::Model;
 
 /// Keeps its record in memory: the very value that it was given, for which it takes no memory. For
 /// tests of what a node does when a save fails, it can be told to fail the next one.
-#[derive(Drop)]
 pub struct MemKeeper<R: ToText> {
     saved: Option<R>,
     failures: u64,
     fails_next: bool,
+}
+
+impl<R: ToText + Drop> Drop for MemKeeper<R> {
+    fn drop(self) {
+        let MemKeeper {
+            saved: _,
+            failures: _,
+            fails_next: _,
+        } = self;
+    }
 }
 
 impl<R: ToText> Model for MemKeeper<R> {

@@ -7,6 +7,7 @@ use proto::{Command, Reader, Turn, write_reply};
 use std::alloc::{AllocError, Global};
 use std::collections::VecDeque;
 use std::mem;
+use std::rt::Clock;
 use std::sync::Wait;
 use std::thread::Threads;
 
@@ -254,7 +255,12 @@ impl Serve for Stub {
         }
     }
 
-    fn work<R: Threads + Wait + Sync>(&mut self, _rt: &R, _seconds: u32) -> Vec<Said> {
+    fn work<R: Threads + Wait + Sync, C: Clock>(
+        &mut self,
+        _rt: &R,
+        _clock: &C,
+        _seconds: u32,
+    ) -> Vec<Said> {
         if self.said.is_empty() {
             self.go_on(Waits::Work);
         }

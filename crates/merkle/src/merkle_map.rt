@@ -20,12 +20,21 @@ use wire::Sink;
 /// times. Clones share the tree, and a write copies the forks on one path.
 ///
 /// Contracts see it as the list of its keys with their values, in the order of their paths.
-#[derive(Drop)]
 pub struct MerkleMap<K: TreeKey, V: TreeValue<K>> {
     tree: Tree<K, V>,
     /// The first due time of its entries.
     due: Option<u64>,
     len: u64,
+}
+
+impl<K: TreeKey + Drop, V: TreeValue<K> + Drop> Drop for MerkleMap<K, V> {
+    fn drop(self) {
+        let MerkleMap {
+            tree: _,
+            due: _,
+            len: _,
+        } = self;
+    }
 }
 
 impl<K: TreeKey, V: TreeValue<K>> Model for MerkleMap<K, V> {

@@ -103,6 +103,10 @@ samples_text f metric.NodeUp = all_nodes_text metric.NodeUp f.replicas
 samples_text f metric.NodeStops = all_nodes_text metric.NodeStops f.replicas
 samples_text f metric.ReplySeconds = histogram_text metric.ReplySeconds f.reply_times
 samples_text f metric.BatchSeconds = histogram_text metric.BatchSeconds f.batch_times
+samples_text f metric.BatchWaitSeconds = histogram_text metric.BatchWaitSeconds f.batch_parts.wait
+samples_text f metric.BatchExecuteSeconds = histogram_text metric.BatchExecuteSeconds f.batch_parts.execute
+samples_text f metric.BatchAgreeSeconds = histogram_text metric.BatchAgreeSeconds f.batch_parts.agree
+samples_text f metric.BatchCommitSeconds = histogram_text metric.BatchCommitSeconds f.batch_parts.commit
 
 abbrev pub family_text : Figures → Metric → List ℕ
 family_text f m = metric_head m ++ samples_text f m

@@ -13,14 +13,22 @@ metric_name metric.NodeUp = codes "eve_node_up"
 metric_name metric.NodeStops = codes "eve_node_stops_total"
 metric_name metric.ReplySeconds = codes "eve_reply_seconds"
 metric_name metric.BatchSeconds = codes "eve_batch_seconds"
+metric_name metric.BatchWaitSeconds = codes "eve_batch_wait_seconds"
+metric_name metric.BatchExecuteSeconds = codes "eve_batch_execute_seconds"
+metric_name metric.BatchAgreeSeconds = codes "eve_batch_agree_seconds"
+metric_name metric.BatchCommitSeconds = codes "eve_batch_commit_seconds"
 
 abbrev pub metric_help : Metric → List ℕ
 metric_help (metric.Plain p) = plain_help p
 metric_help metric.Commands = codes "Commands that were answered, by command and outcome."
 metric_help metric.NodeUp = codes "Whether the executor or verifier is up."
 metric_help metric.NodeStops = codes "Times that the executor or verifier was found down."
-metric_help metric.ReplySeconds = codes "Time from when a command is ready in the service to its reply."
+metric_help metric.ReplySeconds = codes "Time from when bytes were read to when their replies were written."
 metric_help metric.BatchSeconds = codes "Time of a round of the service that answered commands."
+metric_help metric.BatchWaitSeconds = codes "Time that a command waited for a proxy to ask it."
+metric_help metric.BatchExecuteSeconds = codes "Time in a round while executors ran batches."
+metric_help metric.BatchAgreeSeconds = codes "Time in a round from there to the first decree."
+metric_help metric.BatchCommitSeconds = codes "Time in a round from there until all letters had come."
 
 abbrev pub metric_type_of : Metric → MetricType
 metric_type_of (metric.Plain p) = plain_type p
@@ -29,3 +37,7 @@ metric_type_of metric.NodeUp = Gauge
 metric_type_of metric.NodeStops = Counter
 metric_type_of metric.ReplySeconds = Histogram
 metric_type_of metric.BatchSeconds = Histogram
+metric_type_of metric.BatchWaitSeconds = Histogram
+metric_type_of metric.BatchExecuteSeconds = Histogram
+metric_type_of metric.BatchAgreeSeconds = Histogram
+metric_type_of metric.BatchCommitSeconds = Histogram

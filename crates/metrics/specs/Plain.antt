@@ -27,6 +27,7 @@ plain_name plain.Suspicions = codes "eve_suspicions_total"
 plain_name plain.Items = codes "eve_items"
 plain_name plain.ItemBytes = codes "eve_item_bytes"
 plain_name plain.ResidentMemory = codes "eve_resident_memory_bytes"
+plain_name plain.Refusals = codes "eve_refusals_total"
 
 abbrev pub plain_help : Plain → List ℕ
 plain_help plain.UptimeSeconds = codes "Seconds since the start."
@@ -49,6 +50,7 @@ plain_help plain.Suspicions = codes "Times that the leader was suspected."
 plain_help plain.Items = codes "Items in one state."
 plain_help plain.ItemBytes = codes "Bytes of the keys and values of all items in one state."
 plain_help plain.ResidentMemory = codes "Resident memory of the process, 0 if it is not known."
+plain_help plain.Refusals = codes "Times that the service was refused memory and left something undone."
 
 abbrev pub plain_type : Plain → MetricType
 plain_type plain.UptimeSeconds = Gauge
@@ -71,6 +73,7 @@ plain_type plain.Suspicions = Counter
 plain_type plain.Items = Gauge
 plain_type plain.ItemBytes = Gauge
 plain_type plain.ResidentMemory = Gauge
+plain_type plain.Refusals = Counter
 
 abbrev pub plain_value : Figures → Plain → ℕ
 plain_value f plain.UptimeSeconds = f.uptime_seconds
@@ -93,3 +96,4 @@ plain_value f plain.Suspicions = f.replicas.suspicions
 plain_value f plain.Items = f.memory.items
 plain_value f plain.ItemBytes = f.memory.item_bytes
 plain_value f plain.ResidentMemory = f.memory.resident_bytes
+plain_value f plain.Refusals = f.memory.refusals

@@ -259,6 +259,10 @@ fn write_samples(metric: Metric, figures: &Figures, out: &mut Vec<u8>) -> Result
         Metric::NodeUp | Metric::NodeStops => write_all_nodes(metric, &figures.replicas, out),
         Metric::ReplySeconds => write_histogram(metric, &figures.reply_times, out),
         Metric::BatchSeconds => write_histogram(metric, &figures.batch_times, out),
+        Metric::BatchWaitSeconds => write_histogram(metric, &figures.batch_parts.wait, out),
+        Metric::BatchExecuteSeconds => write_histogram(metric, &figures.batch_parts.execute, out),
+        Metric::BatchAgreeSeconds => write_histogram(metric, &figures.batch_parts.agree, out),
+        Metric::BatchCommitSeconds => write_histogram(metric, &figures.batch_parts.commit, out),
     }
 }
 
@@ -283,7 +287,7 @@ fn write_families(
     Ok(())
 }
 
-/// The figures in Prometheus' text form, version 0.0.4. Some 14 KB.
+/// The figures in Prometheus' text form, version 0.0.4. Some 18 KB.
 ///
 /// It fails if an allocation fails.
 #[tactic(auto, unfolding(crate::specs::Families::metrics_text))]

@@ -7,7 +7,7 @@ use crate::metric_type::MetricType;
 use crate::plain::Plain;
 
 /// How many metrics there are.
-pub const METRICS: usize = 25;
+pub const METRICS: usize = 30;
 
 /// A metric: one value, or one for each of its labels.
 #[derive(Clone, Copy, Debug, PartialEq, Eq)]
@@ -18,6 +18,10 @@ pub enum Metric {
     NodeStops,
     ReplySeconds,
     BatchSeconds,
+    BatchWaitSeconds,
+    BatchExecuteSeconds,
+    BatchAgreeSeconds,
+    BatchCommitSeconds,
 }
 
 /// All metrics, in the order in which they are shown.
@@ -45,8 +49,13 @@ pub const ALL_METRICS: [Metric; METRICS] = [
     Metric::Plain(Plain::Items),
     Metric::Plain(Plain::ItemBytes),
     Metric::Plain(Plain::ResidentMemory),
+    Metric::Plain(Plain::Refusals),
     Metric::ReplySeconds,
     Metric::BatchSeconds,
+    Metric::BatchWaitSeconds,
+    Metric::BatchExecuteSeconds,
+    Metric::BatchAgreeSeconds,
+    Metric::BatchCommitSeconds,
 ];
 
 impl Metric {
@@ -61,6 +70,10 @@ impl Metric {
             Metric::NodeStops => "eve_node_stops_total",
             Metric::ReplySeconds => "eve_reply_seconds",
             Metric::BatchSeconds => "eve_batch_seconds",
+            Metric::BatchWaitSeconds => "eve_batch_wait_seconds",
+            Metric::BatchExecuteSeconds => "eve_batch_execute_seconds",
+            Metric::BatchAgreeSeconds => "eve_batch_agree_seconds",
+            Metric::BatchCommitSeconds => "eve_batch_commit_seconds",
         }
     }
 
@@ -74,8 +87,12 @@ impl Metric {
             Metric::NodeUp => "Whether the executor or verifier is up.",
             Metric::NodeStops => "Times that the executor or verifier was found down.",
             Metric::ReplySeconds =>
-                "Time from when a command is ready in the service to its reply.",
+                "Time from when bytes were read to when their replies were written.",
             Metric::BatchSeconds => "Time of a round of the service that answered commands.",
+            Metric::BatchWaitSeconds => "Time that a command waited for a proxy to ask it.",
+            Metric::BatchExecuteSeconds => "Time in a round while executors ran batches.",
+            Metric::BatchAgreeSeconds => "Time in a round from there to the first decree.",
+            Metric::BatchCommitSeconds => "Time in a round from there until all letters had come.",
         }
     }
 
@@ -90,6 +107,10 @@ impl Metric {
             Metric::NodeStops => MetricType::Counter,
             Metric::ReplySeconds => MetricType::Histogram,
             Metric::BatchSeconds => MetricType::Histogram,
+            Metric::BatchWaitSeconds => MetricType::Histogram,
+            Metric::BatchExecuteSeconds => MetricType::Histogram,
+            Metric::BatchAgreeSeconds => MetricType::Histogram,
+            Metric::BatchCommitSeconds => MetricType::Histogram,
         }
     }
 }

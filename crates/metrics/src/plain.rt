@@ -29,6 +29,7 @@ pub enum Plain {
     Items,
     ItemBytes,
     ResidentMemory,
+    Refusals,
 }
 
 impl Plain {
@@ -57,6 +58,7 @@ impl Plain {
             Plain::Items => "eve_items",
             Plain::ItemBytes => "eve_item_bytes",
             Plain::ResidentMemory => "eve_resident_memory_bytes",
+            Plain::Refusals => "eve_refusals_total",
         }
     }
 
@@ -87,6 +89,8 @@ impl Plain {
             Plain::Items => "Items in one state.",
             Plain::ItemBytes => "Bytes of the keys and values of all items in one state.",
             Plain::ResidentMemory => "Resident memory of the process, 0 if it is not known.",
+            Plain::Refusals =>
+                "Times that the service was refused memory and left something undone.",
         }
     }
 
@@ -115,6 +119,7 @@ impl Plain {
             Plain::Items => MetricType::Gauge,
             Plain::ItemBytes => MetricType::Gauge,
             Plain::ResidentMemory => MetricType::Gauge,
+            Plain::Refusals => MetricType::Counter,
         }
     }
 
@@ -143,6 +148,7 @@ impl Plain {
             Plain::Items => figures.memory.items,
             Plain::ItemBytes => figures.memory.item_bytes,
             Plain::ResidentMemory => figures.memory.resident_bytes,
+            Plain::Refusals => figures.memory.refusals,
         }
     }
 }

@@ -15,9 +15,14 @@ use std::marker::Model;
 use token::PAGES;
 
 /// `PAGES` pages that are written.
-#[derive(Drop)]
 pub(crate) struct OwnPages {
     pages: Vec<Page>,
+}
+
+impl Drop for OwnPages {
+    fn drop(self) {
+        let OwnPages { pages: _ } = self;
+    }
 }
 
 impl Model for OwnPages {

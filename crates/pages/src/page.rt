@@ -37,7 +37,6 @@ const PAGE_WEIGHT: usize = 64;
 ///
 /// It shares all with its clones, and a write copies what it changes, so a clone keeps what it had. What
 /// is known of its digest is kept until a write.
-#[derive(Drop)]
 pub struct Page {
     alloc: Global,
     kept: Kept,
@@ -47,6 +46,17 @@ pub struct Page {
     /// along where the pages are parted and joined again. It spares time and no more: the tree of
     /// any other pages would do as well. In a box, so that the other pages stay small.
     tree: Option<Box<Tree>>,
+}
+
+impl Drop for Page {
+    fn drop(self) {
+        let Page {
+            alloc: _,
+            kept: _,
+            sealed: _,
+            tree: _,
+        } = self;
+    }
 }
 
 impl Model for Page {

@@ -52,9 +52,14 @@ impl Held {
 }
 
 /// A store of `PAGES` pages. Those of a snapshot are shared until the first write.
-#[derive(Drop)]
 pub struct Pages {
     held: Held,
+}
+
+impl Drop for Pages {
+    fn drop(self) {
+        let Pages { held: _ } = self;
+    }
 }
 
 impl Model for Pages {

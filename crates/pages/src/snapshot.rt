@@ -28,11 +28,20 @@ use token::PAGES;
 use wire::Sink;
 
 /// Pages that are kept as they are, all in one layout, and the root over their digests.
-#[derive(Drop)]
 pub struct Snapshot {
     pages: Arc<Vec<Page>, Global>,
     layout: Layout,
     root: [u8; 32],
+}
+
+impl Drop for Snapshot {
+    fn drop(self) {
+        let Snapshot {
+            pages: _,
+            layout: _,
+            root: _,
+        } = self;
+    }
 }
 
 impl Model for Snapshot {

@@ -24,12 +24,21 @@ use wire::{Sink, put_page, share_text};
 /// Its entries are shared with its clones. Where they are, the first write copies the pointers to
 /// them, so a clone keeps what it had. The digest of the items and, where there was memory for it,
 /// the text that it is of are kept until a write; clones share that text.
-#[derive(Drop)]
 pub(crate) struct SortedPage {
     alloc: Global,
     store: Arc<PlainStore, Global>,
     /// Of the page's text; none where it is to be recomputed.
     digested: Option<Digested>,
+}
+
+impl Drop for SortedPage {
+    fn drop(self) {
+        let SortedPage {
+            alloc: _,
+            store: _,
+            digested: _,
+        } = self;
+    }
 }
 
 impl Model for SortedPage {

@@ -16,9 +16,14 @@ const NODES: usize = 2 * PAGES;
 ///
 /// Node 1 is the root, and the nodes below node `n` are `2n` and `2n + 1`. The leaves are the last
 /// `PAGES`.
-#[derive(Drop)]
 pub(crate) struct Tree {
     nodes: Vec<[u8; 32]>,
+}
+
+impl Drop for Tree {
+    fn drop(self) {
+        let Tree { nodes: _ } = self;
+    }
 }
 
 impl Model for Tree {

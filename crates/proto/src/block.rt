@@ -11,9 +11,14 @@ pub const MOST_BLOCK_BYTES: usize = 1_048_576;
 
 /// The data of an item, or the block of a storage line: at most `MOST_BLOCK_BYTES` bytes. Clones
 /// share the bytes.
-#[derive(Drop)]
 pub struct Block {
     bytes: Piece,
+}
+
+impl Drop for Block {
+    fn drop(self) {
+        let Block { bytes: _ } = self;
+    }
 }
 
 impl Model for Block {

@@ -16,9 +16,14 @@ pub const MOST_KEY_BYTES: usize = 250;
 pub const MOST_KEYS: usize = 64;
 
 /// A key: 1 to `MOST_KEY_BYTES` bytes, each a printing one that is no space (protocol.txt, "Keys").
-#[derive(Drop)]
 pub struct Key {
     bytes: Vec<u8>,
+}
+
+impl Drop for Key {
+    fn drop(self) {
+        let Key { bytes: _ } = self;
+    }
 }
 
 impl Model for Key {

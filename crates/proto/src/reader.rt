@@ -13,10 +13,18 @@ use std::marker::Model;
 
 /// Reads a client's stream. It keeps what came of the next turn: at most `MOST_BLOCK_BYTES`,
 /// `MOST_LINE_BYTES` and two more. The bytes of a block above the limit are only counted.
-#[derive(Drop)]
 pub struct Reader {
     stage: Stage,
     closed: bool,
+}
+
+impl Drop for Reader {
+    fn drop(self) {
+        let Reader {
+            stage: _,
+            closed: _,
+        } = self;
+    }
 }
 
 impl Model for Reader {

@@ -6,12 +6,22 @@ use base::Listed;
 use std::alloc::AllocError;
 
 /// One item that a `get` found, and its unique for a `gets`.
-#[derive(Drop)]
 pub struct Found {
     pub key: Key,
     pub flags: u32,
     pub block: Block,
     pub unique: Option<u64>,
+}
+
+impl Drop for Found {
+    fn drop(self) {
+        let Found {
+            key: _,
+            flags: _,
+            block: _,
+            unique: _,
+        } = self;
+    }
 }
 
 /// What a line of `get` found, in the order of its keys: at most as many items as it has keys.

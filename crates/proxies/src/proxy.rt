@@ -9,11 +9,20 @@ use std::alloc::AllocError;
 use std::marker::Model;
 
 /// A client of the replicas that asks for others. It has at most one request outstanding.
-#[derive(Drop)]
 pub struct Proxy {
     client: u16,
     last: u64,
     asked: Option<Asked>,
+}
+
+impl Drop for Proxy {
+    fn drop(self) {
+        let Proxy {
+            client: _,
+            last: _,
+            asked: _,
+        } = self;
+    }
 }
 
 impl Model for Proxy {

@@ -20,10 +20,18 @@ use wire::{Record, Sink};
 /// What a record needs of a chain. It shares all of it with the chain, and can be dropped.
 ///
 /// Contracts see the text that it stands for.
-#[derive(Drop)]
 pub struct SavedChain {
     committed: State,
     members: Vec<SavedMember>,
+}
+
+impl Drop for SavedChain {
+    fn drop(self) {
+        let SavedChain {
+            committed: _,
+            members: _,
+        } = self;
+    }
 }
 
 impl Model for SavedChain {

@@ -11,10 +11,15 @@ use std::alloc::{AllocError, Global};
 use std::marker::Brand;
 
 /// The word that the tickets of one round are drawn from.
-#[derive(Drop)]
 pub struct TicketWord {
     table: Table<u8, View, (), Counts, Global>,
     pub ghost one_word: { table.shared.table_id.words ≡ 1 },
+}
+
+impl Drop for TicketWord {
+    fn drop(self) {
+        let TicketWord { table: _ } = self;
+    }
 }
 
 impl TicketWord {

@@ -1,10 +1,15 @@
 //! The service, as the event loop uses it.
 
+ghost use Rattle.std.specs.Prelude.{◌≡◌};
+ghost use Rattle.server.specs.Answering.{message_of, IsLastMessage, IsSaidOf};
+
 use event_loop::{Heard, Said, Serve};
 use figures::Figures;
-use service::Service;
+use service::{Fault, Service};
 use std::alloc::Global;
+use std::marker::Model;
 use std::mem;
+use std::rt::Clock;
 use std::sync::Wait;
 use std::thread::Threads;
 
@@ -25,7 +30,9 @@ pub struct Answering {
 }
 
 /// What the service says, as a message to the event loop.
-fn message(said: service::Said) -> Said {
+fn message(said: service::Said) -> Said
+    ensures { result ≡ message_of said }
+{
     let service::Said {
         key,
         number,
@@ -43,7 +50,9 @@ fn message(said: service::Said) -> Said {
 }
 
 /// No bytes, to a connection that is to be closed.
-fn last(alloc: Global, key: usize, number: u64) -> Said {
+fn last(alloc: Global, key: usize, number: u64) -> Said
+    ensures { IsLastMessage key number result }
+{
     Said {
         key,
         number,
@@ -53,9 +62,39 @@ fn last(alloc: Global, key: usize, number: u64) -> Said {
     }
 }
 
+/// What a connection is told after the service heard a piece of it.
+fn said_of(alloc: Global, key: usize, number: u64, heard: Result<service::Said, Fault>) -> Said
+    ensures { IsSaidOf key number heard result }
+{
+    match heard {
+        Ok(said) => message(said),
+        Err(_) => last(alloc, key, number),
+    }
+}
+
+impl Model for Answering {
+    ghost use Rattle.service.specs.contracts.service.Service as of_service;
+    ghost use Rattle.event_loop.specs.contracts.message.Said as of_said;
+    ghost use Rattle.server.specs.contracts.answering.Lost as of_lost;
+    ghost use Rattle.server.specs.Answering.{AnsweringView, answering_code};
+
+    ghost Value = { AnsweringView };
+
+    ghost coded = { answering_code of_service.the_row.coded of_said.the_row.coded of_lost.the_row.coded };
+
+    ghost view = { λ a. record { service = a.service; said = a.said.items; lost = a.lost.items } };
+}
+
 impl Answering {
-    /// A service of which nothing was heard, for at most so many connections at once.
-    pub fn new(alloc: Global, service: Service, most: usize) -> Result<Answering, Service> {
+    ghost use Rattle.std.specs.Prelude.{◌≡◌, ◌⊎◌, ◌++◌, ◌∷◌, [], map, IfOk, IfErr};
+    ghost use Rattle.server.specs.Answering.{Says, SaysEach, Closings, HandsBytes, HandsLeft, HandsWritten};
+
+    /// A service of which nothing was heard, for at most so many connections at once. If there is no memory for these
+    /// the service is given back.
+    pub fn new(alloc: Global, service: Service, most: usize) -> Result<Answering, Service>
+        ensures made { IfOk result (λ a. a ≡ record { service = service; said = []; lost = [] }) }
+        ensures back { IfErr result (λ s. s ≡ service) }
+    {
         match Vec::with_capacity(alloc, most) {
             Ok(lost) => Ok(Answering {
                 alloc,
@@ -68,7 +107,9 @@ impl Answering {
     }
 
     /// The service itself.
-    pub fn into_service(self) -> Service {
+    pub fn into_service(self) -> Service
+        ensures { result ≡ self.service }
+    {
         let Answering {
             alloc: _,
             service,
@@ -81,34 +122,43 @@ impl Answering {
     }
 
     /// What was counted.
-    pub fn figures(&mut self) -> Figures {
+    pub fn figures(&mut self) -> Figures
+        ensures same { self.new ≡ self.old }
+    {
         self.service.figures(self.alloc)
     }
 
     /// A piece of a connection comes.
-    fn hear_bytes(&mut self, key: usize, number: u64, bytes: Vec<u8>) {
-        let said = match self.service.hear(self.alloc, key, number, bytes) {
-            Ok(said) => message(said),
-            Err(_) => last(self.alloc, key, number),
-        };
+    fn hear_bytes(&mut self, key: usize, number: u64, bytes: Vec<u8>)
+        ensures { HandsBytes key number bytes.items self.old self.new }
+    {
+        let heard = self.service.hear(self.alloc, key, number, bytes);
+        let said = said_of(self.alloc, key, number, heard);
         self.say(said);
     }
 
     /// So much of what a connection was given is written.
-    fn hear_written(&mut self, key: usize, number: u64, count: usize) {
+    fn hear_written(&mut self, key: usize, number: u64, count: usize)
+        ensures { HandsWritten key number count self.old self.new }
+    {
         if !self.service.written(key, number, count) {
             self.say(last(self.alloc, key, number));
         }
     }
 
     /// The connection has left.
-    fn leave(&mut self, key: usize, number: u64) {
+    fn leave(&mut self, key: usize, number: u64)
+        ensures { HandsLeft key number self.old self.new }
+    {
         self.service.leave(key, number);
         self.lost.retain(|lost| lost.number != number);
     }
 
     /// One more is said. If memory for it runs out the connection is lost.
-    fn say(&mut self, said: Said) {
+    fn say(&mut self, said: Said)
+        ensures says { Says self.old said self.new }
+        ensures lost { (self.new.lost ≡ self.old.lost) ⊎ (self.new.lost ≡ self.old.lost ++ record { key = said.key; number = said.number } ∷ []) }
+    {
         if let Err(refused) = self.said.push(said) {
             let Said { key, number, .. } = refused.value;
             self.service.leave(key, number);
@@ -116,8 +166,19 @@ impl Answering {
         }
     }
 
+    /// All of these are said.
+    fn say_all(&mut self, given: Vec<service::Said>)
+        ensures { SaysEach self.old (map message_of given.items) self.new }
+    {
+        for said in given {
+            self.say(message(said));
+        }
+    }
+
     /// Closes those that are lost, as far as there is memory.
-    fn close_lost(&mut self) {
+    fn close_lost(&mut self)
+        ensures { Closings self.old self.new }
+    {
         for _ in 0..self.lost.len() {
             if let Some(lost) = self.lost.pop() {
                 self.say(last(self.alloc, lost.key, lost.number));
@@ -126,42 +187,79 @@ impl Answering {
     }
 }
 
+impl Answering {
+    ghost use Rattle.server.specs.Answering.{HandsIn};
+
+    /// One message of the event loop is handed in. A connection that the service does not take is closed when it says
+    /// something.
+    fn hand_in(&mut self, one: Heard)
+        ensures { HandsIn one self.old self.new }
+    {
+        match one {
+            Heard::Came { key, number } => {
+                let _ = self.service.come(self.alloc, key, number);
+            }
+            Heard::Bytes { key, number, bytes } => self.hear_bytes(key, number, bytes),
+            Heard::Written { key, number, count } => self.hear_written(key, number, count),
+            Heard::Left { key, number } => self.leave(key, number),
+        }
+    }
+}
+
 impl Serve for Answering {
-    fn set_micros(&mut self, micros: u64) {
+    ghost use denote.Param.Send.{IsSync};
+    ghost use Rattle.std.specs.Prelude.{◌≡◌, ◌⊎◌, [], false};
+    ghost use Rattle.service.specs.Steps.{NoneWaits};
+    ghost use Rattle.service.specs.Owed.{AllWait};
+    ghost use Rattle.server.specs.Answering.{HandsInAll, HandsOut};
+
+    fn set_micros(&mut self, micros: u64)
+        ensures { self.new ≡ self.old }
+    {
         self.service.set_micros(micros);
     }
 
-    /// A connection that the service does not take is closed when it says something.
-    fn hear(&mut self, heard: Vec<Heard>) {
+    fn hear(&mut self, heard: Vec<Heard>)
+        ensures { HandsInAll heard.items self.old self.new }
+    {
         for one in heard {
-            match one {
-                Heard::Came { key, number } => {
-                    let _ = self.service.come(self.alloc, key, number);
-                }
-                Heard::Bytes { key, number, bytes } => self.hear_bytes(key, number, bytes),
-                Heard::Written { key, number, count } => self.hear_written(key, number, count),
-                Heard::Left { key, number } => self.leave(key, number),
-            }
+            self.hand_in(one);
         }
     }
 
-    fn work<R: Threads + Wait + Sync>(&mut self, rt: &R, seconds: u32) -> Vec<Said> {
+    fn work<R: Threads + Wait + Sync, C: Clock>(
+        &mut self,
+        rt: &R,
+        clock: &C,
+        seconds: u32,
+    ) -> Vec<Said>
+        requires { IsSync R.row }
+        ensures { HandsOut self.old result.items self.new }
+    {
         self.close_lost();
-        for said in self.service.work(rt, self.alloc, seconds) {
-            self.say(message(said));
-        }
+        let given = self.service.work(rt, clock, self.alloc, seconds);
+        self.say_all(given);
         mem::replace(&mut self.said, Vec::new(self.alloc))
     }
 
-    fn tick(&mut self) {
+    fn tick(&mut self)
+        ensures connections { self.new.service.connections ≡ self.old.service.connections }
+        ensures said { self.new.said ≡ self.old.said }
+        ensures lost { self.new.lost ≡ self.old.lost }
+    {
         self.service.tick(self.alloc);
     }
 
-    fn has_work(&self) -> bool {
+    fn has_work(&self) -> bool
+        ensures no { result ≡ false → (self.now.service.line ≡ []) ⊎ AllWait self.now.service.waiting }
+    {
         self.service.is_ready()
     }
 
-    fn is_waiting(&self) -> bool {
+    fn is_waiting(&self) -> bool
+        ensures service { result ≡ false → (self.now.service.line ≡ []) × NoneWaits self.now.service.waiting }
+        ensures lost { result ≡ false → self.now.lost ≡ [] }
+    {
         self.service.is_waiting() || !self.lost.is_empty()
     }
 }

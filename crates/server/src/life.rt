@@ -24,6 +24,9 @@ const PROXIES: u16 = 64;
 /// What a connection is given for which `serve` has no room.
 const TOO_MANY: &[u8] = b"SERVER_ERROR too many sessions\r\n";
 
+// The event loop tells of written bytes once so many were said. A connection that has as many asks nothing until then.
+const _: () = prove!(event_loop::MOST_UNWRITTEN == service::MOST_UNWRITTEN);
+
 /// How a server is to serve.
 #[derive(Clone, Copy)]
 pub struct Options {
@@ -36,11 +39,11 @@ pub struct Options {
     ghost few: { u < 4 },
 }
 
-/// The service over its replicas, for the event loop.
-fn open(alloc: Global, options: Options) -> Result<Answering, ServeFault> {
+/// The service over its replicas, for an event loop of at most so many sockets at once.
+fn open(alloc: Global, options: Options, most: usize) -> Result<Answering, ServeFault> {
     let config = Config::new(options.u, PROXIES)?;
     let service = Service::open(alloc, &config)?;
-    match Answering::new(alloc, service, options.connections) {
+    match Answering::new(alloc, service, most) {
         Ok(answering) => Ok(answering),
         Err(service) => {
             service.end();
@@ -90,7 +93,7 @@ fn serve_all<
         most: options.connections,
         refusal: options.refusal,
     };
-    let answering = open(alloc, options)?;
+    let answering = open(alloc, options, admission.most_sockets())?;
     let (answering, served) = event_loop::serve(rt, alloc, listeners, admission, answering, beside);
     let service = answering.into_service();
     match served {

@@ -37,6 +37,7 @@ impl<'a> Watcher<'a> {
         let mut figures = service.figures();
         drop(service);
         figures.connections = connections(counts);
+        figures.reply_times = counts.reply_times;
         figures
     }
 

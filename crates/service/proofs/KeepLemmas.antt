@@ -15,9 +15,10 @@ use Rattle.ensemble.specs.declared.answer.Answer.{Answer}
 use Rattle.ensemble.specs.Ensemble.{EnsembleView, answer_entry, order_entry}
 use Rattle.service.specs.declared.assignment.Assignment.{Assignment}
 use Rattle.service.specs.declared.assignment.Outstanding.{Outstanding}
+use Rattle.service.specs.declared.note.Waiting.{Waiting}
 use Rattle.service.specs.declared.asking.Asking.{Asking}
 use Rattle.service.specs.declared.asking.Asking.TheVariants.{Nothing, Asked, Failed}
-use Rattle.service.specs.Service.{ServiceView, asked_keys, before_ask, IsAnsweredEarlier, command_number_of, IsAssigned, IsService, Waits, asked_as, assigned_as, assigned, AreLogged, AnswersTo, Gives, GivesNothing, GivesOne, given_entry, passed_entry}
+use Rattle.service.specs.Service.{ServiceView, ReplicasView, none_shown, asked_keys, before_ask, IsAnsweredEarlier, command_number_of, IsAssigned, IsService, Waits, asked_as, assigned_as, assigned, AreLogged, AnswersTo, Gives, GivesNothing, GivesOne, given_entry, passed_entry}
 use Rattle.service.proofs.OrderLemmas.{Order, asked_push, answers_ask_nothing, before_same, before_last, asked_below, asked_count}
 use Rattle.service.specs.Steps.{NoneWaits, KeepsWaits, AddsWait, EndsWait, KeepsTaken, IsAskedOf, AsksFor, Settles}
 
@@ -83,6 +84,14 @@ keeps v now ok taken replied asked answered same answers order waits = record {
   waits = λ a w. subst (λ (xs : List Assignment). Contains xs a) (sym same) (ok.waits a (waits a w));
 }
 
+-- another line
+pub lined : (v : ServiceView) (line : List Waiting) → IsService v → IsService (record v { line = line })
+lined v line ok = keeps v (record v { line = line }) ok (λ e i. i) refl refl (λ x i. i) refl [] (sym (append-nil v.order)) (λ a w. w)
+
+-- whatever is seen of the replicas
+pub seen : (v : ServiceView) (replicas : ReplicasView) → IsService v → IsService (record v { replicas = replicas })
+seen v replicas ok = keeps v (record v { replicas = replicas }) ok (λ e i. i) refl refl (λ x i. i) refl [] (sym (append-nil v.order)) (λ a w. w)
+
 -- the connections alone went on
 pub connections_keep : (v : ServiceView) (now : ConnectionsView) → IsService v → now.taken ≡ v.connections.taken → now.replied ≡ v.connections.replied → IsService (record v { connections = now })
 connections_keep v now ok taken replied = keeps v (record v { connections = now }) ok (λ e i. subst (λ (xs : List (CommandNumber × Command)). Contains xs e) (sym taken) i) replied refl (λ x i. i) refl [] (sym (append-nil v.order)) (λ a w. w)
@@ -112,9 +121,9 @@ are_logged answers old new order order_now is ordered a i = (
 
 -- ---- a command is asked
 
-module _ (v : ServiceView) (ok : IsService v) (at : Place) (proxy : ℕ) (next : ConnectionsView) (e f : EnsembleView) (same_asked : e.asked ≡ v.asked) (same_answered : e.answered ≡ v.answered) (same_order : e.order ≡ v.order) (a : Assignment) (waiting : List (Option Outstanding)) (is : IsAskedOf at proxy v.connections next e f a) (adds : AddsWait v.waiting a waiting) where
+module _ (v : ServiceView) (ok : IsService v) (at : Place) (proxy : ℕ) (next : ConnectionsView) (e f : EnsembleView) (same_asked : e.asked ≡ v.asked) (same_answered : e.answered ≡ v.answered) (same_order : e.order ≡ v.order) (a : Assignment) (waiting : List (Option Outstanding)) (line : List Waiting) (is : IsAskedOf at proxy v.connections next e f a) (adds : AddsWait v.waiting a waiting) where
   abbrev pub now : ServiceView
-  now = record { connections = next; asked = f.asked; answered = f.answered; order = f.order; assignments = v.assignments ++ a ∷ []; waiting = waiting }
+  now = record { connections = next; asked = f.asked; answered = f.answered; order = f.order; assignments = v.assignments ++ a ∷ []; waiting = waiting; line = line; replicas = none_shown }
 
   abbrev entry : Request × Bool
   entry = (is.logged.request, is.quiet)
@@ -231,21 +240,21 @@ module _ (v : ServiceView) (ok : IsService v) (at : Place) (proxy : ℕ) (next :
   }
 
 -- whatever came of it
-pub assign_keeps : (v : ServiceView) (at : Place) (proxy : ℕ) (next : ConnectionsView) (e f : EnsembleView) (asking : Asking) (pool waiting : List (Option Outstanding)) (assignments : List Assignment) (said said_now : List Said) → IsService v → e.asked ≡ v.asked → e.answered ≡ v.answered → e.order ≡ v.order → pool ≡ v.waiting
-    → AsksFor at proxy v.connections e next f asking → Settles asking pool waiting v.assignments assignments said said_now
-    → IsService (record { connections = next; asked = f.asked; answered = f.answered; order = f.order; assignments = assignments; waiting = waiting })
-assign_keeps v at proxy next e f Nothing pool waiting assignments said said_now ok a b o same asks settles =
+pub assign_keeps : (v : ServiceView) (at : Place) (proxy : ℕ) (next : ConnectionsView) (e f : EnsembleView) (asking : Asking) (pool waiting : List (Option Outstanding)) (assignments : List Assignment) (said said_now : List Said) (key : ℕ) (line : List Waiting) → IsService v → e.asked ≡ v.asked → e.answered ≡ v.answered → e.order ≡ v.order → pool ≡ v.waiting
+    → AsksFor at proxy v.connections e next f asking → Settles key asking pool waiting v.assignments assignments said said_now
+    → IsService (record { connections = next; asked = f.asked; answered = f.answered; order = f.order; assignments = assignments; waiting = waiting; line = line; replicas = none_shown })
+assign_keeps v at proxy next e f Nothing pool waiting assignments said said_now key line ok a b o same asks settles =
     keeps v _ ok asks.0.taken asks.0.replied (ap (λ (x : EnsembleView). x.asked) asks.0.same ∙ a) (λ x i. subst (λ (xs : List ((ℕ × ℕ) × replies.Reply)). Contains xs x) (sym (ap (λ (y : EnsembleView). y.answered) asks.0.same ∙ b)) i) settles.1 [] (ap (λ (y : EnsembleView). y.order) asks.0.same ∙ (o ∙ sym (append-nil v.order))) (λ y w. subst (λ (ws : List (Option Outstanding)). Waits ws y) (settles.0 ∙ same) w)
-assign_keeps v at proxy next e f (Failed g) pool waiting assignments said said_now ok a b o same asks settles =
+assign_keeps v at proxy next e f (Failed g) pool waiting assignments said said_now key line ok a b o same asks settles =
     keeps v _ ok asks.0.taken asks.0.replied (ap (λ (x : EnsembleView). x.asked) asks.0.same ∙ a) (λ x i. subst (λ (xs : List ((ℕ × ℕ) × replies.Reply)). Contains xs x) (sym (ap (λ (y : EnsembleView). y.answered) asks.0.same ∙ b)) i) settles.1 [] (ap (λ (y : EnsembleView). y.order) asks.0.same ∙ (o ∙ sym (append-nil v.order))) (λ y w. subst (λ (ws : List (Option Outstanding)). Waits ws y) (settles.0 ∙ same) w)
-assign_keeps v at proxy next e f (Asked x) pool waiting assignments said said_now ok a b o same asks settles =
-    subst (λ (xs : List Assignment). IsService (record { connections = next; asked = f.asked; answered = f.answered; order = f.order; assignments = xs; waiting = waiting })) (sym settles.1) (asked_keeps v ok at proxy next e f a b o x waiting asks (subst (λ (ws : List (Option Outstanding)). AddsWait ws x waiting) same settles.0))
+assign_keeps v at proxy next e f (Asked x) pool waiting assignments said said_now key line ok a b o same asks settles =
+    subst (λ (xs : List Assignment). IsService (record { connections = next; asked = f.asked; answered = f.answered; order = f.order; assignments = xs; waiting = waiting; line = line; replicas = none_shown })) (sym settles.1) (asked_keeps v ok at proxy next e f a b o x waiting line asks (subst (λ (ws : List (Option Outstanding)). AddsWait ws x waiting) same settles.0))
 
-pub assign_gives : (at : Place) (proxy : ℕ) (old next : ConnectionsView) (e f : EnsembleView) (asking : Asking) (was waiting : List (Option Outstanding)) (before assignments : List Assignment) (said said_now : List Said)
-    → AsksFor at proxy old e next f asking → Settles asking was waiting before assignments said said_now → Gives old said next said_now
-assign_gives at proxy old next e f Nothing was waiting before assignments said said_now asks settles = ([], settles.2 ∙ sym (append-nil said), asks.1 ∙ sym (append-nil old.given), asks.2 ∙ sym (append-nil old.passed))
-assign_gives at proxy old next e f (Asked x) was waiting before assignments said said_now asks settles = ([], settles.2 ∙ sym (append-nil said), asks.bytes.given ∙ sym (append-nil old.given), asks.bytes.passed ∙ sym (append-nil old.passed))
-assign_gives at proxy old next e f (Failed g) was waiting before assignments said said_now asks settles = (g ∷ [], settles.2, asks.1, asks.2)
+pub assign_gives : (at : Place) (proxy : ℕ) (old next : ConnectionsView) (e f : EnsembleView) (asking : Asking) (was waiting : List (Option Outstanding)) (before assignments : List Assignment) (said said_now : List Said) (key : ℕ)
+    → AsksFor at proxy old e next f asking → Settles key asking was waiting before assignments said said_now → Gives old said next said_now
+assign_gives at proxy old next e f Nothing was waiting before assignments said said_now key asks settles = ([], settles.2 ∙ sym (append-nil said), asks.1 ∙ sym (append-nil old.given), asks.2 ∙ sym (append-nil old.passed))
+assign_gives at proxy old next e f (Asked x) was waiting before assignments said said_now key asks settles = ([], settles.2 ∙ sym (append-nil said), asks.bytes.given ∙ sym (append-nil old.given), asks.bytes.passed ∙ sym (append-nil old.passed))
+assign_gives at proxy old next e f (Failed g) was waiting before assignments said said_now key asks settles = (g ∷ [], settles.2, asks.1, asks.2)
 
 pub assign_hears : (at : Place) (proxy : ℕ) (old next : ConnectionsView) (e f : EnsembleView) (asking : Asking) → AsksFor at proxy old e next f asking → next.heard ≡ old.heard
 assign_hears at proxy old next e f Nothing asks = asks.0.heard

@@ -3,3 +3,4 @@ pub mod KeepLemmas
 pub mod Crossing
 mod OrderLemmas
 pub mod MomentLemmas
+pub mod OwedLemmas

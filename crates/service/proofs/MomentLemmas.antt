@@ -155,12 +155,12 @@ answered_moments v now said said_now were order assignments answered gives is = 
     one_passed now.order now.assignments now.answered v.connections.passed (passed_entry one.0) kept (subst (WasMoment now.order now.assignments now.answered) one.3 is) early late (sym one.3 ∙ split))
     gives
 
-pub assigned_moments : (v now : ServiceView) (at : Place) (proxy : ℕ) (e f : EnsembleView) (asking : Asking) (pool : List (Option Outstanding)) (said said_now : List Said) → HasMoments v → e.answered ≡ v.answered → e.order ≡ v.order → now.order ≡ f.order → now.answered ≡ f.answered
-    → AsksFor at proxy v.connections e now.connections f asking → Settles asking pool now.waiting v.assignments now.assignments said said_now → WasMoment now.order now.assignments now.answered now.connections.passed → HasMoments now
-assigned_moments v now at proxy e f Nothing pool said said_now were answered order order_now answered_now asks settles is =
+pub assigned_moments : (v now : ServiceView) (at : Place) (proxy : ℕ) (e f : EnsembleView) (asking : Asking) (pool : List (Option Outstanding)) (said said_now : List Said) (key : ℕ) → HasMoments v → e.answered ≡ v.answered → e.order ≡ v.order → now.order ≡ f.order → now.answered ≡ f.answered
+    → AsksFor at proxy v.connections e now.connections f asking → Settles key asking pool now.waiting v.assignments now.assignments said said_now → WasMoment now.order now.assignments now.answered now.connections.passed → HasMoments now
+assigned_moments v now at proxy e f Nothing pool said said_now key were answered order order_now answered_now asks settles is =
     same_moments v now were asks.2 (order_now ∙ (ap (λ (x : EnsembleView). x.order) asks.0.same ∙ order)) settles.1 (answered_now ∙ (ap (λ (x : EnsembleView). x.answered) asks.0.same ∙ answered))
-assigned_moments v now at proxy e f (Asked a) pool said said_now were answered order order_now answered_now asks settles is =
+assigned_moments v now at proxy e f (Asked a) pool said said_now key were answered order order_now answered_now asks settles is =
     moments_stay v now were asks.bytes.passed (((proxy, a.number), false) ∷ []) (order_now ∙ (asks.ordered ∙ ap (λ (o : Order). o ++ ((proxy, a.number), false) ∷ []) order)) (a ∷ []) settles.1
     (λ x i. subst (λ (xs : Replies). Contains xs x) (sym (answered_now ∙ (asks.answered ∙ answered))) i)
-assigned_moments v now at proxy e f (Failed given) pool said said_now were answered order order_now answered_now asks settles is =
+assigned_moments v now at proxy e f (Failed given) pool said said_now key were answered order order_now answered_now asks settles is =
     answered_moments v now said said_now were (order_now ∙ (ap (λ (x : EnsembleView). x.order) asks.0.same ∙ order)) settles.1 (answered_now ∙ (ap (λ (x : EnsembleView). x.answered) asks.0.same ∙ answered)) (inr (given, settles.2, asks.1, asks.2)) is

@@ -1,19 +1,23 @@
 -- What proxies wait for, as places are set.
-use Rattle.std.proofs.Common.{◌≡◌, ◌⊎◌, inl, inr, ⊎_elim, ℕ, zero, suc, Bool, true, false, List, [], ◌∷◌, ◌++◌, Option, Some, None, refl, sym, ap, ◌∙◌, subst, slice_get, slice_set}
-use Rattle.std.specs.Prelude.{◌≢◌, ◌==◌, ◌&&◌, if◌then◌else◌}
+use Rattle.std.proofs.Common.{◌≡◌, ◌⊎◌, inl, inr, ⊎_elim, ℕ, zero, suc, Bool, true, false, List, [], ◌∷◌, ◌++◌, Option, Some, None, refl, sym, ap, ◌∙◌, subst, length, slice_get, slice_set}
+use Rattle.std.specs.Prelude.{◌≢◌, ◌==◌, ◌&&◌, replicate, if◌then◌else◌}
 use Rattle.std.proofs.lemmas.Bool.{eqb-true}
 use Rattle.connections.proofs.PlaceLemmas.{set_other, same_or_not}
-use Rattle.connections.proofs.TakeLemmas.{get_pushed}
 use Rattle.service.specs.declared.assignment.Assignment.{Assignment}
 use Rattle.service.specs.declared.assignment.Outstanding.{Outstanding}
 use Rattle.service.specs.Service.{Waits}
-use Rattle.service.specs.Steps.{NoneWaits, KeepsWaits, AddsWait, EndsWait, is_request_of, assignment_of, TakesOne, TakesWaitIn, TakesWaitAt, SetsWaitIn, SetsWaitAt}
+use Rattle.service.specs.Steps.{NoneWaits, KeepsWaits, AddsWait, EndsWait, is_request_of, assignment_of, owed_of, TakesOne, TakesWaitIn, TakesWaitAt, SetsWaitIn, SetsWaitAt}
 
-pub none_pushed : (xs : List (Option Outstanding)) → NoneWaits xs → NoneWaits (xs ++ None ∷ [])
-none_pushed xs none a w = ⊎_elim
-    (λ (old : slice_get xs w.0 ≡ Some (Some w.1)). none a (w.0, w.1, old, w.3))
-    (λ new. let e : ◌≡◌ {A = Option Outstanding} None (Some w.1) = new.1 in absurd (cc e))
-    (get_pushed xs None w.0 (Some w.1) w.2)
+-- so many that wait for nothing
+pub none_of : (n : ℕ) → NoneWaits (replicate n None)
+none_of zero a w = let e : ◌≡◌ {A = Option (Option Outstanding)} None (Some (Some w.1)) = w.2 in absurd (cc e)
+none_of (suc n) a (zero, o, at, is) = let e : ◌≡◌ {A = Option (Option Outstanding)} (Some None) (Some (Some o)) = at in absurd (cc e)
+none_of (suc n) a (suc i, o, at, is) = none_of n a (i, o, at, is)
+
+pub set_length : (xs : List (Option Outstanding)) (i : ℕ) (p : Option Outstanding) → length (slice_set xs i p) ≡ length xs
+set_length [] i p = refl
+set_length (x ∷ xs) zero p = refl
+set_length (x ∷ xs) (suc i) p = ap suc (set_length xs i p)
 
 -- what is at a place after it was set
 set_there : (xs : List (Option Outstanding)) (i : ℕ) (p q : Option Outstanding) → slice_get (slice_set xs i p) i ≡ Some q → q ≡ p
@@ -38,6 +42,17 @@ set_waits xs i p a w = ⊎_elim
 pub adds_set : (xs : List (Option Outstanding)) (i : ℕ) (o : Outstanding) → AddsWait xs o.assignment (slice_set xs i (Some o))
 adds_set xs i o a w = ⊎_elim (λ (old : Waits xs a). inl old) (λ (new : assignment_of (Some o) ≡ Some a). inr (let s : ◌≡◌ {A = Option Assignment} (Some o.assignment) (Some a) = new in sym (cc s))) (set_waits xs i (Some o) a w)
 
+abbrev of_owed : Option (ℕ × Assignment) → Option Assignment
+of_owed None = None
+of_owed (Some z) = Some z.1
+
+is_of_owed : (p : Option Outstanding) → assignment_of p ≡ of_owed (owed_of p)
+is_of_owed None = refl
+is_of_owed (Some o) = refl
+
+same_assignment : (p q : Option Outstanding) → owed_of p ≡ owed_of q → assignment_of p ≡ assignment_of q
+same_assignment p q same = is_of_owed p ∙ (ap of_owed same ∙ sym (is_of_owed q))
+
 pub keeps_set : (xs ys : List (Option Outstanding)) (i : ℕ) → SetsWaitAt i xs ys → KeepsWaits xs ys
 keeps_set xs ys i s = by (slice_get xs i) refl s
   where
@@ -45,7 +60,7 @@ keeps_set xs ys i s = by (slice_get xs i) refl s
     by None e s a w = subst (λ (zs : List (Option Outstanding)). Waits zs a) s w
     by (Some place) e s a w = ⊎_elim
         (λ (old : Waits xs a). old)
-        (λ (new : assignment_of s.0 ≡ Some a). let t = is_some_of place a (sym s.1 ∙ new) in (i, t.0, e ∙ ap (λ (p : Option Outstanding). Some p) t.1, t.2))
+        (λ (new : assignment_of s.0 ≡ Some a). let t = is_some_of place a (same_assignment place s.0 (sym s.1) ∙ new) in (i, t.0, e ∙ ap (λ (p : Option Outstanding). Some p) t.1, t.2))
         (set_waits xs i s.0 a (subst (λ (zs : List (Option Outstanding)). Waits zs a) s.2 w))
 
 both_true : (a b : Bool) → (a && b) ≡ true → (a ≡ true) × (b ≡ true)

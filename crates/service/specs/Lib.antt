@@ -1,3 +1,4 @@
+pub mod Owed
 pub mod Pause
 pub mod Service
 pub mod Steps

@@ -1,5 +1,6 @@
 -- A service, as contracts see it, and what always holds of it.
-use Rattle.std.specs.Prelude.{◌≡◌, ◌⊎◌, ℕ, zero, suc, ◌≤◌, ◌<◌, Bool, true, false, List, [], ◌∷◌, ◌++◌, map, Option, Some, Result, Ok, Err, Contains, slice_get}
+use Rattle.std.specs.Prelude.{◌≡◌, ◌⊎◌, ℕ, zero, suc, ◌-◌, ◌^◌, ◌≤◌, ◌<◌, Bool, true, false, List, [], ◌∷◌, ◌++◌, map, Option, Some, Result, Ok, Err, Contains, slice_get, refl}
+use Rattle.std.specs.Coded.{Coded, code_by, coded×, coded_ℕ, coded_bool, coded_list, coded_option}
 use Rattle.proto.specs.declared.command.Command.{Command}
 use Rattle.proto.specs.declared.reply.Reply as replies
 use Rattle.sessions.specs.declared.request.Request.{Request}
@@ -10,9 +11,21 @@ use Rattle.connections.specs.History.{Passed, heard_as, given_as, heard_among, g
 use Rattle.memcached_spec.specs.Asked.{IsAsked}
 use Rattle.base.specs.declared.fault.Fault.{Fault}
 use Rattle.ensemble.specs.declared.answer.Answer.{Answer}
+use Rattle.ensemble.specs.Served.{IsAtRest}
 use Rattle.ensemble.specs.Ensemble.{EnsembleView, IsEnsemble, answer_entry, order_entry}
 use Rattle.service.specs.declared.assignment.Assignment.{Assignment}
 use Rattle.service.specs.declared.assignment.Outstanding.{Outstanding}
+use Rattle.service.specs.declared.note.Waiting.{Waiting}
+
+-- what is seen of the replicas
+pub record ReplicasView : Type 0 where
+  pub ensemble : EnsembleView
+  -- how often something was left undone, there or in the service, since memory was refused or a bound was reached
+  pub refused : ℕ
+
+-- nothing is seen of them. What always holds does not speak of them
+abbrev pub none_shown : ReplicasView
+none_shown = record { ensemble = record { nodes = record { u = 0; proxies = []; executors = []; verifiers = []; mail = [] }; asked = []; answered = []; order = []; refused = 0 }; refused = 0 }
 
 pub record ServiceView : Type 0 where
   pub connections : ConnectionsView
@@ -26,6 +39,18 @@ pub record ServiceView : Type 0 where
   pub assignments : List Assignment
   -- what proxies wait for
   pub waiting : List (Option Outstanding)
+  -- who waits for a proxy, in order. Some may have left
+  pub line : List Waiting
+  pub replicas : ReplicasView
+
+-- a service is identified by what it has
+abbrev pub service_code : Coded ConnectionsView → Coded Request → Coded (replies.Reply) → Coded Assignment → Coded Outstanding → Coded Waiting → Coded EnsembleView → Coded ServiceView
+service_code connections request reply assignment outstanding waiting ensemble =
+    code_by ((((((((ConnectionsView × List (Request × Bool)) × List ((ℕ × ℕ) × replies.Reply)) × List ((ℕ × ℕ) × Bool)) × List Assignment) × List (Option Outstanding)) × List Waiting) × EnsembleView) × ℕ)
+    (coded× (coded× (coded× (coded× (coded× (coded× (coded× (coded× connections (coded_list (coded× request coded_bool))) (coded_list (coded× (coded× coded_ℕ coded_ℕ) reply))) (coded_list (coded× (coded× coded_ℕ coded_ℕ) coded_bool))) (coded_list assignment)) (coded_list (coded_option outstanding))) (coded_list waiting)) ensemble) coded_ℕ)
+    (λ v. ((((((((v.connections, v.asked), v.answered), v.order), v.assignments), v.waiting), v.line), v.replicas.ensemble), v.replicas.refused))
+    (λ p. record { connections = p.0.0.0.0.0.0.0.0; asked = p.0.0.0.0.0.0.0.1; answered = p.0.0.0.0.0.0.1; order = p.0.0.0.0.0.1; assignments = p.0.0.0.0.1; waiting = p.0.0.0.1; line = p.0.0.1; replicas = record { ensemble = p.0.1; refused = p.1 } })
+    (λ _. refl)
 
 -- what is given, by the number of its connection
 abbrev pub given_entry : Said → ℕ × List ℕ
@@ -154,6 +179,10 @@ GivesOne v said now said_now = (given : Said) × (said_now ≡ said ++ given ∷
 -- each of these was logged
 abbrev pub AreLogged : List Answer → List ((ℕ × ℕ) × replies.Reply) → List ((ℕ × ℕ) × Bool) → Type 0
 AreLogged answers log order = (a : Answer) → Contains answers a → Contains log (answer_entry a) × Contains order (order_entry a)
+
+-- if nothing more was refused the replicas can do nothing more at once
+abbrev pub RestsUnlessRefused : ReplicasView → ReplicasView → Type 0
+RestsUnlessRefused old new = new.refused ≡ old.refused → old.refused < 2 ^ 64 - 1 → IsAtRest new.ensemble.nodes
 
 -- a connection took the reply to its command, if it was here
 pub record AnswersTo (a : Assignment) (reply : replies.Reply) (v now : ConnectionsView) (said said_now : List Said) : Type 0 where

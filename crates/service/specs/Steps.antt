@@ -1,17 +1,20 @@
 -- What proxies wait for, and how a command is asked.
-use Rattle.std.specs.Prelude.{◌≡◌, ◌⊎◌, ℕ, ◌==◌, ◌&&◌, Bool, false, List, [], ◌∷◌, ◌++◌, Option, Some, None, Contains, slice_get, slice_set, if◌then◌else◌}
+use Rattle.std.specs.Prelude.{◌≡◌, ◌⊎◌, ℕ, ◌≤◌, ◌==◌, ◌&&◌, Bool, false, List, [], ◌∷◌, ◌++◌, Option, Some, None, Contains, slice_get, slice_set, if◌then◌else◌}
 use Rattle.proto.specs.declared.command.Command.{Command}
 use Rattle.connections.specs.declared.connections.CommandNumber.{CommandNumber}
 use Rattle.connections.specs.declared.places.Place.{Place}
 use Rattle.connections.specs.declared.said.Said.{Said}
 use Rattle.connections.specs.Connections.{ConnectionsView, AreBefore, AreReplied}
-use Rattle.connections.specs.Places.{is_here}
+use Rattle.connections.specs.declared.connection.Ready.{Ready}
+use Rattle.connections.specs.Owed.{IsTakenAt, HasNoneToTake}
+use Rattle.connections.specs.Places.{is_here, place_in, HasSameOthers}
 use Rattle.ensemble.specs.Ensemble.{EnsembleView, IsLogged}
 use Rattle.service.specs.declared.assignment.Assignment.{Assignment}
 use Rattle.service.specs.declared.assignment.Outstanding.{Outstanding}
 use Rattle.service.specs.declared.asking.Asking.{Asking}
 use Rattle.service.specs.declared.asking.Asking.TheVariants.{Nothing, Asked, Failed}
 use Rattle.service.specs.Service.{Waits, given_entry, passed_entry}
+use Rattle.service.specs.Owed.{WaitsNow}
 
 abbrev pub NoneWaits : List (Option Outstanding) → Type 0
 NoneWaits waiting = (a : Assignment) → Waits waiting a → ⊥
@@ -26,6 +29,11 @@ abbrev pub assignment_of : Option Outstanding → Option Assignment
 assignment_of None = None
 assignment_of (Some o) = Some o.assignment
 
+-- with where its connection is
+abbrev pub owed_of : Option Outstanding → Option (ℕ × Assignment)
+owed_of None = None
+owed_of (Some o) = Some (o.key, o.assignment)
+
 -- what is there is taken, if it is this request
 abbrev pub TakesOne : ℕ → ℕ → Option Outstanding → Option Outstanding → Option Outstanding → Type 0
 TakesOne proxy number place now result = (result ≡ (if is_request_of proxy number place then place else None)) × (now ≡ (if is_request_of proxy number place then None else place))
@@ -37,10 +45,10 @@ TakesWaitIn at proxy number old new result (Some place) = (now : Option Outstand
 abbrev pub TakesWaitAt : ℕ → ℕ → ℕ → List (Option Outstanding) → List (Option Outstanding) → Option Outstanding → Type 0
 TakesWaitAt at proxy number old new result = TakesWaitIn at proxy number old new result (slice_get old at)
 
--- the place has the same assignment
+-- the place has the same assignment, of a connection at the same key
 abbrev pub SetsWaitIn : ℕ → List (Option Outstanding) → List (Option Outstanding) → Option (Option Outstanding) → Type 0
 SetsWaitIn at old new None = new ≡ old
-SetsWaitIn at old new (Some place) = (now : Option Outstanding) × (assignment_of now ≡ assignment_of place) × (new ≡ slice_set old at now)
+SetsWaitIn at old new (Some place) = (now : Option Outstanding) × (owed_of now ≡ owed_of place) × (new ≡ slice_set old at now)
 
 abbrev pub SetsWaitAt : ℕ → List (Option Outstanding) → List (Option Outstanding) → Type 0
 SetsWaitAt at old new = SetsWaitIn at old new (slice_get old at)
@@ -82,9 +90,14 @@ pub record IsAskedOf (at : Place) (proxy : ℕ) (v now : ConnectionsView) (e f :
   pub first : AreBefore v.taken at.number a.turn
   pub earlier : AreReplied v.replied at.number a.turn
   pub logged : IsLogged e.asked proxy a.number command quiet f.asked
+  pub counted : e.refused ≤ f.refused
   pub answered : f.answered ≡ e.answered
   pub ordered : f.order ≡ e.order ++ ((proxy, a.number), false) ∷ []
   pub bytes : HasSameBytes v now
+  pub ready : Ready
+  pub there : IsTakenAt at v.table now.table ready
+  pub turn_is : ready.turn ≡ a.turn
+  pub others : HasSameOthers at.key v.table now.table
 
 -- no command of the connection was taken, or it is not here any more
 abbrev pub TakesNone : Place → ConnectionsView → ConnectionsView → Type 0
@@ -98,9 +111,9 @@ pub record AsksNothing (v now : ConnectionsView) (e f : EnsembleView) : Type 0 w
   pub replied : now.replied ≡ v.replied
 
 abbrev pub AsksFor : Place → ℕ → ConnectionsView → EnsembleView → ConnectionsView → EnsembleView → Asking → Type 0
-AsksFor at proxy v e now f Nothing = AsksNothing v now e f × (now.given ≡ v.given) × (now.passed ≡ v.passed) × TakesNone at v now
+AsksFor at proxy v e now f Nothing = AsksNothing v now e f × (now.given ≡ v.given) × (now.passed ≡ v.passed) × TakesNone at v now × (now ≡ v) × HasNoneToTake at v.table
 AsksFor at proxy v e now f (Asked a) = IsAskedOf at proxy v now e f a
-AsksFor at proxy v e now f (Failed said) = AsksNothing v now e f × (now.given ≡ v.given ++ given_entry said ∷ []) × (now.passed ≡ v.passed ++ passed_entry said ∷ [])
+AsksFor at proxy v e now f (Failed said) = AsksNothing v now e f × (now.given ≡ v.given ++ given_entry said ∷ []) × (now.passed ≡ v.passed ++ passed_entry said ∷ []) × HasSameOthers at.key v.table now.table × (place_in now.table at.key ≡ None)
 
 -- the connection leaves
 pub record LeavesFor (v now : ConnectionsView) : Type 0 where
@@ -108,13 +121,12 @@ pub record LeavesFor (v now : ConnectionsView) : Type 0 where
   pub heard : now.heard ≡ v.heard
   pub replied : now.replied ≡ v.replied
 
-abbrev pub Fails : Place → ConnectionsView → ConnectionsView → Asking → Type 0
-Fails at v now Nothing = LeavesFor v now × (now.given ≡ v.given) × (now.passed ≡ v.passed) × (is_here at.number now.table at.key ≡ false)
-Fails at v now (Asked a) = ⊥
-Fails at v now (Failed said) = LeavesFor v now × (now.given ≡ v.given ++ given_entry said ∷ []) × (now.passed ≡ v.passed ++ passed_entry said ∷ [])
+-- what a connection that leaves for want of memory is told
+abbrev pub Fails : Place → ConnectionsView → ConnectionsView → Said → Type 0
+Fails at v now said = LeavesFor v now × (now.given ≡ v.given ++ given_entry said ∷ []) × (now.passed ≡ v.passed ++ passed_entry said ∷ []) × HasSameOthers at.key v.table now.table × (place_in now.table at.key ≡ None)
 
--- what came of it is kept: what proxies wait for, which command was asked, and what is given
-abbrev pub Settles : Asking → List (Option Outstanding) → List (Option Outstanding) → List Assignment → List Assignment → List Said → List Said → Type 0
-Settles Nothing old new before now said said_now = (new ≡ old) × (now ≡ before) × (said_now ≡ said)
-Settles (Asked a) old new before now said said_now = AddsWait old a new × (now ≡ before ++ a ∷ []) × (said_now ≡ said)
-Settles (Failed given) old new before now said said_now = (new ≡ old) × (now ≡ before) × (said_now ≡ said ++ given ∷ [])
+-- what came of it for the connection at this key is kept: what proxies wait for, which command was asked, and what is given
+abbrev pub Settles : ℕ → Asking → List (Option Outstanding) → List (Option Outstanding) → List Assignment → List Assignment → List Said → List Said → Type 0
+Settles key Nothing old new before now said said_now = (new ≡ old) × (now ≡ before) × (said_now ≡ said)
+Settles key (Asked a) old new before now said said_now = AddsWait old a new × (now ≡ before ++ a ∷ []) × (said_now ≡ said) × WaitsNow key a old new
+Settles key (Failed given) old new before now said said_now = (new ≡ old) × (now ≡ before) × (said_now ≡ said ++ given ∷ [])

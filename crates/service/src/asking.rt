@@ -1,7 +1,9 @@
 //! How a command is asked of a proxy.
 
-ghost use Rattle.std.specs.Prelude.{◌≡◌};
-ghost use Rattle.service.specs.Steps.{AsksFor};
+ghost use Rattle.std.specs.Prelude.{◌≡◌, true};
+ghost use Rattle.connections.specs.Places.{is_here};
+ghost use Rattle.ensemble.specs.Nodes.{IsFree};
+ghost use Rattle.service.specs.Steps.{AsksFor, Fails};
 
 use crate::assignment::Assignment;
 use crate::note::Note;
@@ -21,19 +23,20 @@ pub enum Asking {
     Failed(Said),
 }
 
-/// The connection is closed, since memory ran out for its command.
-fn failed(alloc: Global, connections: &mut Connections, at: Place) -> Asking
+/// The connection, which is here, leaves, since memory ran out for its command: what it is told.
+fn failed(alloc: Global, connections: &mut Connections, at: Place) -> Said
+    requires { is_here at.number connections.old.table at.key ≡ true }
     ensures { Fails at connections.old connections.new result }
 {
     match connections.drop_out(alloc, at) {
-        Some(said) => Asking::Failed(said),
-        None => Asking::Nothing,
+        Some(said) => said,
+        // It is here.
+        None => unreachable!(),
     }
 }
 
-ghost use Rattle.service.specs.Steps.{Fails};
-
-/// The command of the connection, if it has one that may be asked, is asked of the proxy. It is noted for its count.
+/// The command of the connection, if it has one that may be asked, is asked of the proxy, which is free. It is noted
+/// for its count.
 pub fn ask(
     alloc: Global,
     connections: &mut Connections,
@@ -42,11 +45,9 @@ pub fn ask(
     proxy: u16,
     note: &mut Note,
 ) -> Asking
+    requires { IsFree ensemble.old.nodes.proxies proxy }
     ensures { AsksFor at proxy connections.old ensemble.old connections.new ensemble.new result }
 {
-    if !ensemble.is_free(proxy) {
-        return Asking::Nothing;
-    }
     let Some(ready) = connections.take(at) else {
         return Asking::Nothing;
     };
@@ -63,6 +64,6 @@ pub fn ask(
             proxy,
             number,
         }),
-        Err(_) => failed(alloc, connections, at),
+        Err(_) => Asking::Failed(failed(alloc, connections, at)),
     }
 }

@@ -1,7 +1,9 @@
 //! What is heard of connections.
 
-ghost use Rattle.std.specs.Prelude.{◌≡◌, true, false, None, OnErr, IfOk};
-ghost use Rattle.connections.specs.Places.{place_in, is_here, left_at, HasSameOthers};
+ghost use Rattle.std.specs.Prelude.{◌≡◌, ◌<◌, true, false, None, OnErr, IfOk};
+ghost use Rattle.std.specs.VecDeque.{deque_len, deque_capacity};
+ghost use Rattle.connections.specs.Places.{place_in, is_here, is_untaken_in, left_at, written_at, HasSameOthers};
+ghost use Rattle.service.specs.Owed.{line_with, StillRemembers};
 ghost use Rattle.service.specs.Service.{Hears};
 
 use crate::note::Waiting;
@@ -10,8 +12,12 @@ use proto::Fault;
 use std::alloc::Global;
 use std::collections::VecDeque;
 
-/// Puts a connection into the line if a command of it waits for a proxy, since this moment in microseconds.
-pub fn line_up(connections: &Connections, line: &mut VecDeque<Waiting>, at: Place, since: u64) {
+/// Puts a connection into the line if a command of it waits for a proxy, since this moment in microseconds. There is
+/// room for it.
+pub fn line_up(connections: &Connections, line: &mut VecDeque<Waiting>, at: Place, since: u64)
+    requires { deque_len line.old < deque_capacity line.old }
+    ensures { line.new.items ≡ line_with (is_untaken_in at.number connections.now.table at.key) line.old.items (record { at = at; since = since }) }
+{
     if connections.is_ready(at) {
         let _ = line.push_back(Waiting { at, since });
     }
@@ -19,11 +25,14 @@ pub fn line_up(connections: &Connections, line: &mut VecDeque<Waiting>, at: Plac
 
 /// Makes room in the line for one more. `false`: there is no memory for it, and this connection has left.
 fn has_room_for(connections: &mut Connections, line: &mut VecDeque<Waiting>, at: Place) -> bool
+    ensures line { line.new.items ≡ line.old.items }
+    ensures room { result ≡ true → deque_len line.new < deque_capacity line.new }
     ensures same { result ≡ true → connections.new ≡ connections.old }
     ensures leaves { result ≡ false → is_here at.number connections.new.table at.key ≡ false }
     ensures left { result ≡ false → connections.new ≡ record connections.old { table = left_at at connections.old.table } }
     ensures same_others { HasSameOthers at.key connections.old.table connections.new.table }
     ensures logs { connections.new ≡ record connections.old { table = connections.new.table } }
+    ensures remembers { result ≡ false → StillRemembers line.old.items line.new.items connections.old.table connections.new.table }
 {
     let has_room = line.reserve(1).is_ok();
     if !has_room {
@@ -47,15 +56,13 @@ pub fn hear_at(
     ensures same_others { HasSameOthers at.key connections.old.table connections.new.table }
     ensures taken { connections.new.taken ≡ connections.old.taken }
     ensures replied { connections.new.replied ≡ connections.old.replied }
+    ensures remembers { StillRemembers line.old.items line.new.items connections.old.table connections.new.table }
 {
     if !has_room_for(connections, line, at) {
         return Err(Fault::NoMemory);
     }
-    let was_ready = connections.is_ready(at);
     let said = connections.hear(alloc, at, piece)?;
-    if !was_ready {
-        line_up(connections, line, at, micros);
-    }
+    line_up(connections, line, at, micros);
     Ok(said)
 }
 
@@ -68,10 +75,11 @@ pub fn write_at(
     count: usize,
     since: u64,
 ) -> bool
-    ensures same { result ≡ true → connections.new ≡ connections.old }
+    ensures written { result ≡ true → connections.new ≡ record connections.old { table = written_at at count connections.old.table } }
     ensures leaves { result ≡ false → is_here at.number connections.new.table at.key ≡ false }
     ensures left { result ≡ false → connections.new ≡ record connections.old { table = left_at at connections.old.table } }
     ensures logs { connections.new ≡ record connections.old { table = connections.new.table } }
+    ensures remembers { StillRemembers line.old.items line.new.items connections.old.table connections.new.table }
 {
     if !has_room_for(connections, line, at) {
         return false;

@@ -7,10 +7,15 @@ use std::alloc::Global;
 const PAGES_AT_ONCE: usize = 8;
 
 /// How many bytes the keys and the data of items had when each page was last looked at.
-#[derive(Drop)]
 pub struct ItemBytes {
     pages: [u64; PAGES],
     next: usize,
+}
+
+impl Drop for ItemBytes {
+    fn drop(self) {
+        let ItemBytes { pages: _, next: _ } = self;
+    }
 }
 
 impl ItemBytes {

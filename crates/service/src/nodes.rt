@@ -7,10 +7,18 @@ use ensemble::Replica;
 use std::alloc::{AllocError, Global};
 
 /// The pause of each node: executors first, then verifiers.
-#[derive(Drop)]
 pub struct Nodes {
     members: u8,
     pauses: Vec<Pause>,
+}
+
+impl Drop for Nodes {
+    fn drop(self) {
+        let Nodes {
+            members: _,
+            pauses: _,
+        } = self;
+    }
 }
 
 impl Nodes {

@@ -18,15 +18,18 @@ pub struct Waiting {
 pub struct Note {
     /// None: the command was not taken.
     pub asked: Option<Asked>,
-    /// When it began to wait, in microseconds of the caller's clock.
-    pub since: u64,
+    /// How long it waited for a proxy, in microseconds.
+    pub waited: u64,
 }
 
 impl Note {
-    /// Of a command that began to wait then.
-    pub fn new(since: u64) -> Note
-        ensures since { result.since ≡ since }
+    /// Of a command that waited so long.
+    pub fn new(waited: u64) -> Note
+        ensures waited { result.waited ≡ waited }
     {
-        Note { asked: None, since }
+        Note {
+            asked: None,
+            waited,
+        }
     }
 }

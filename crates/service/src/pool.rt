@@ -1,7 +1,8 @@
-//! The client proxies: which are free, and what the others wait for.
+//! The client proxies, and what they wait for.
 
-ghost use Rattle.std.specs.Prelude.{◌≡◌, ◌<◌, Some, slice_set};
-ghost use Rattle.service.specs.Steps.{NoneWaits, is_request_of, assignment_of, TakesOne, TakesWaitAt, SetsWaitAt};
+ghost use Rattle.std.specs.Prelude.{◌≡◌, ◌<◌, ◌-◌, Some, None, IfSome, IfNone, true, false, slice_get, slice_set};
+ghost use Rattle.service.specs.Steps.{NoneWaits, is_request_of, owed_of, TakesOne, TakesWaitAt, SetsWaitAt};
+ghost use Rattle.service.specs.Owed.{AllWait, OneWaits};
 
 use crate::assignment::Outstanding;
 use serving::{Seen, Urge};
@@ -10,20 +11,25 @@ use std::marker::Model;
 
 /// The proxies, by their numbers from 1. The place of a proxy is its number less 1. Contracts see what they wait
 /// for.
-#[derive(Drop)]
 pub struct Pool {
-    /// The numbers of those that are free. There is room for all.
-    free: Vec<u16>,
     waiting: Vec<Option<Outstanding>>,
 }
 
+impl Drop for Pool {
+    fn drop(self) {
+        let Pool { waiting: _ } = self;
+    }
+}
+
 impl Model for Pool {
-    ghost use Rattle.std.specs.Prelude.{List, Option};
+    ghost use Rattle.std.specs.Prelude.{List, Option, ◌<◌, ◌^◌, length};
     ghost use Rattle.service.specs.declared.assignment.Outstanding.{Outstanding};
 
     ghost Value = { List (Option Outstanding) };
 
     ghost view = { λ p. p.waiting.items };
+
+    ghost invariant = { λ p. length p.waiting.items < 2 ^ 16 };
 }
 
 /// The proxy at this place waits for this.
@@ -76,7 +82,7 @@ fn take_at(
 /// One more tick for what is there: what is due.
 fn tick_one(place: &mut Option<Outstanding>, u: u8, seen: Seen) -> Urge
     requires { u < 4 }
-    ensures { assignment_of place.new ≡ assignment_of place.old }
+    ensures { owed_of place.new ≡ owed_of place.old }
 {
     match place {
         Some(outstanding) => outstanding.patience.tick(u, seen),
@@ -97,7 +103,7 @@ fn tick_at(waiting: &mut Vec<Option<Outstanding>>, at: usize, u: u8, seen: Seen)
 
 /// What is there is asked again: the number of its proxy.
 fn ask_one(place: &mut Option<Outstanding>, seen: Seen) -> Option<u16>
-    ensures { assignment_of place.new ≡ assignment_of place.old }
+    ensures { owed_of place.new ≡ owed_of place.old }
 {
     match place {
         Some(outstanding) => {
@@ -118,30 +124,51 @@ fn ask_at(waiting: &mut Vec<Option<Outstanding>>, at: usize, seen: Seen) -> Opti
     }
 }
 
-/// The proxy is free, if it gave back what it waited for.
-fn give_back(free: &mut Vec<u16>, proxy: u16, is_done: bool) {
-    if is_done {
-        let _ = free.push(proxy);
-    }
-}
-
 /// The place of the proxy of this number.
-fn place_of(proxy: u16) -> usize {
+fn place_of(proxy: u16) -> usize
+    ensures { result ≡ proxy - 1 }
+{
     usize::from(proxy.saturating_sub(1))
 }
 
+/// The place of the first proxy that waits for nothing.
+fn first_free(waiting: &[Option<Outstanding>]) -> Option<usize>
+    ensures some { IfSome result (λ at. slice_get waiting.now at ≡ Some None) }
+    ensures none { IfNone result (AllWait waiting.now) }
+{
+    for at in 0..waiting.len() {
+        if waiting[at].is_none() {
+            return Some(at);
+        }
+    }
+    None
+}
+
+/// Whether a proxy waits.
+fn any_waits(waiting: &Vec<Option<Outstanding>>) -> bool
+    ensures no { result ≡ false → NoneWaits waiting.now.items }
+    ensures yes { result ≡ true → OneWaits waiting.now.items }
+{
+    for at in 0..waiting.len() {
+        if waiting[at].is_some() {
+            return true;
+        }
+    }
+    false
+}
+
 impl Pool {
-    ghost use Rattle.std.specs.Prelude.{◌≡◌, ◌<◌, IfOk};
-    ghost use Rattle.service.specs.Steps.{KeepsWaits, AddsWait, EndsWait, NoneWaits};
+    ghost use Rattle.std.specs.Prelude.{◌≡◌, ◌<◌, ◌-◌, Some, true, false, slice_set, IfOk, IfSome, IfNone};
+    ghost use Rattle.service.specs.Steps.{KeepsWaits, AddsWait, EndsWait, NoneWaits, TakesWaitAt, SetsWaitAt};
+    ghost use Rattle.service.specs.Owed.{IsFreeIn, AllWait, OneWaits};
 
     /// So many proxies, all free.
     pub fn new(alloc: Global, count: u16) -> Result<Pool, AllocError>
         ensures { IfOk result (λ pool. NoneWaits pool) }
     {
-        let mut free = Vec::with_capacity(alloc, usize::from(count))?;
-        let mut waiting = Vec::with_capacity(alloc, usize::from(count))?;
-        add_free(&mut free, &mut waiting, count)?;
-        Ok(Pool { free, waiting })
+        Ok(Pool {
+            waiting: vec![in alloc; None; usize::from(count)]?,
+        })
     }
 
     /// How many proxies there are.
@@ -149,33 +176,27 @@ impl Pool {
         self.waiting.len()
     }
 
-    /// Whether a proxy is free.
-    pub fn has_free(&self) -> bool {
-        !self.free.is_empty()
+    /// The number of the first proxy that waits for nothing. `None`: each waits.
+    pub fn free(&self) -> Option<u16>
+        ensures some { IfSome result (λ proxy. IsFreeIn self.now proxy) }
+        ensures none { IfNone result (AllWait self.now) }
+    {
+        let at = first_free(self.waiting.as_slice())?;
+        Some((at + 1) as u16)
     }
 
     /// Whether a proxy waits for a reply.
-    pub fn is_waiting(&self) -> bool {
-        self.free.len() < self.waiting.len()
-    }
-
-    /// The number of a free proxy, which is free no longer.
-    pub fn take(&mut self) -> Option<u16>
-        ensures { self.new ≡ self.old }
+    pub fn is_waiting(&self) -> bool
+        ensures no { result ≡ false → NoneWaits self.now }
+        ensures yes { result ≡ true → OneWaits self.now }
     {
-        self.free.pop()
-    }
-
-    /// The proxy is free again.
-    pub fn put_back(&mut self, proxy: u16)
-        ensures { self.new ≡ self.old }
-    {
-        let _ = self.free.push(proxy);
+        any_waits(&self.waiting)
     }
 
     /// The proxy of the assignment waits for the reply to it.
     pub fn wait_for(&mut self, outstanding: Outstanding)
-        ensures { AddsWait self.old outstanding.assignment self.new }
+        ensures adds { AddsWait self.old outstanding.assignment self.new }
+        ensures at { self.new ≡ slice_set self.old (outstanding.assignment.proxy - 1) (Some outstanding) }
     {
         let at = place_of(outstanding.assignment.proxy);
         wait_at(&mut self.waiting, at, outstanding);
@@ -184,41 +205,26 @@ impl Pool {
     /// The request of this number of the proxy is answered: what it was. The proxy is free again. `None`, and
     /// nothing changes: the proxy does not wait for that.
     pub fn answered(&mut self, proxy: u16, number: u64) -> Option<Outstanding>
-        ensures { EndsWait self.old proxy number self.new result }
+        ensures ends { EndsWait self.old proxy number self.new result }
+        ensures at { TakesWaitAt (proxy - 1) proxy number self.old self.new result }
     {
-        let outstanding = take_at(&mut self.waiting, place_of(proxy), proxy, number);
-        give_back(&mut self.free, proxy, outstanding.is_some());
-        outstanding
+        take_at(&mut self.waiting, place_of(proxy), proxy, number)
     }
 
     /// One more tick for the proxy at this place, with `2u + 1` executors and the server so far: what is due.
     pub fn tick(&mut self, at: usize, u: u8, seen: Seen) -> Urge
         requires { u < 4 }
-        ensures { KeepsWaits self.old self.new }
+        ensures keeps { KeepsWaits self.old self.new }
+        ensures sets { SetsWaitAt at self.old self.new }
     {
         tick_at(&mut self.waiting, at, u, seen)
     }
 
     /// The proxy at this place asks again, and the server is so far: its number. `None`: it waits for nothing.
     pub fn ask_again(&mut self, at: usize, seen: Seen) -> Option<u16>
-        ensures { KeepsWaits self.old self.new }
+        ensures keeps { KeepsWaits self.old self.new }
+        ensures sets { SetsWaitAt at self.old self.new }
     {
         ask_at(&mut self.waiting, at, seen)
     }
-}
-
-/// Adds so many proxies, which are free.
-fn add_free(
-    free: &mut Vec<u16>,
-    waiting: &mut Vec<Option<Outstanding>>,
-    count: u16,
-) -> Result<(), AllocError>
-    requires { NoneWaits waiting.old.items }
-    ensures { NoneWaits waiting.new.items }
-{
-    for below in 0..count {
-        free.push(count - below)?;
-        waiting.push(None)?;
-    }
-    Ok(())
 }

@@ -29,30 +29,44 @@ pub struct Service {
     pub(crate) u: u8,
     pub(crate) suspicions: u64,
     pub(crate) counting: Counting,
+    /// How often something was left undone here for want of memory.
+    pub(crate) refused: u64,
     /// Which command was asked as which request, each with its proxy.
     pub(crate) assignments: Log<Assignment, u16>,
 }
 
 impl Model for Service {
-    ghost use Rattle.std.specs.Prelude.{◌<◌};
-    ghost use Rattle.service.specs.Service.{ServiceView, IsService, HasMoments, assigned};
+    ghost use Rattle.std.specs.Prelude.{◌<◌, ◌+◌};
+    ghost use Rattle.connections.specs.contracts.connections.Connections as of_connections;
+    ghost use Rattle.sessions.specs.contracts.request.Request as of_request;
+    ghost use Rattle.proto.specs.contracts.reply.Reply as of_reply;
+    ghost use Rattle.service.specs.contracts.assignment.Assignment as of_assignment;
+    ghost use Rattle.service.specs.contracts.assignment.Outstanding as of_outstanding;
+    ghost use Rattle.service.specs.contracts.note.Waiting as of_waiting;
+    ghost use Rattle.ensemble.specs.contracts.ensemble.Ensemble as of_ensemble;
+    ghost use Rattle.service.specs.Service.{ServiceView, IsService, HasMoments, assigned, none_shown, service_code};
+    ghost use Rattle.service.specs.Owed.{Remembers};
 
     ghost Value = { ServiceView };
 
-    ghost view = { λ s. record { connections = s.connections; asked = s.ensemble.asked; answered = s.ensemble.answered; order = s.ensemble.order; assignments = assigned s.assignments.items; waiting = s.pool } };
+    ghost coded = { service_code of_connections.the_row.coded of_request.the_row.coded of_reply.the_row.coded of_assignment.the_row.coded of_outstanding.the_row.coded of_waiting.the_row.coded of_ensemble.the_row.coded };
 
-    ghost invariant = { λ s. IsService (record { connections = s.connections; asked = s.ensemble.asked; answered = s.ensemble.answered; order = s.ensemble.order; assignments = assigned s.assignments.items; waiting = s.pool })
-        × HasMoments (record { connections = s.connections; asked = s.ensemble.asked; answered = s.ensemble.answered; order = s.ensemble.order; assignments = assigned s.assignments.items; waiting = s.pool }) × (s.u < 4) };
+    ghost view = { λ s. record { connections = s.connections; asked = s.ensemble.asked; answered = s.ensemble.answered; order = s.ensemble.order; assignments = assigned s.assignments.items; waiting = s.pool; line = s.line.items; replicas = record { ensemble = s.ensemble; refused = s.refused + s.ensemble.refused } } };
+
+    ghost invariant = { λ s. IsService (record { connections = s.connections; asked = s.ensemble.asked; answered = s.ensemble.answered; order = s.ensemble.order; assignments = assigned s.assignments.items; waiting = s.pool; line = s.line.items; replicas = none_shown })
+        × HasMoments (record { connections = s.connections; asked = s.ensemble.asked; answered = s.ensemble.answered; order = s.ensemble.order; assignments = assigned s.assignments.items; waiting = s.pool; line = s.line.items; replicas = none_shown }) × (s.u < 4) × Remembers s.line.items s.pool s.connections.table };
 }
 
 impl Service {
-    ghost use Rattle.std.specs.Prelude.{◌≡◌, ◌<◌, ◌≤◌, ◌+◌, ◌^◌, ◌++◌, ◌∷◌, ◌⊎◌, [], true, false, None, Some, Err, is_some, IfOk, IfErr, OnOk, OnErr};
+    ghost use Rattle.std.specs.Prelude.{◌≡◌, ◌≢◌, ◌<◌, ◌≤◌, ◌+◌, ◌-◌, ◌^◌, ◌++◌, ◌∷◌, ◌⊎◌, ℕ, [], min, true, false, None, Some, Err, is_some, IfOk, IfErr, OnOk, OnErr};
     ghost use Rattle.connections.specs.Connection.{new_connection};
-    ghost use Rattle.connections.specs.Places.{place_in, is_here, left_at, HasSameOthers, IsGrown};
+    ghost use Rattle.connections.specs.Places.{place_in, is_here, left_at, written_at, HasSameOthers, IsGrown};
     ghost use Rattle.connections.specs.Connections.{HasSameLogs, no_connections, IsConnections};
     ghost use Rattle.connections.specs.History.{IsHistory};
     ghost use Rattle.connections.specs.declared.table.TheConstants.{MOST_PLACES};
     ghost use Rattle.service.specs.Service.{IsService, HasMoments, HasEnsemble, HasSameRequests, Hears};
+    ghost use Rattle.service.specs.Steps.{NoneWaits};
+    ghost use Rattle.service.specs.Owed.{Remembers, AllWait, IsFreeIn};
 
     /// A service where no connection came, over `2u + 1` executors, as many verifiers, and as many proxies as
     /// the config has clients.
@@ -76,7 +90,8 @@ impl Service {
             nodes,
             u: config.u(),
             suspicions: 0,
-            counting: Counting::new(alloc, members),
+            counting: Counting::new(members),
+            refused: 0,
             assignments: Log::new(),
         })
     }
@@ -135,7 +150,7 @@ impl Service {
     ///
     /// `false`: there is no memory for its place in the line. It has left, and is to be closed.
     pub fn written(&mut self, key: usize, number: u64, count: usize) -> bool
-        ensures same { result ≡ true → self.new.connections ≡ self.old.connections }
+        ensures written { result ≡ true → self.new.connections ≡ record self.old.connections { table = written_at (record { key = key; number = number }) count self.old.connections.table } }
         ensures leaves { result ≡ false → is_here number self.new.connections.table key ≡ false }
         ensures left { result ≡ false → self.new.connections.table ≡ left_at (record { key = key; number = number }) self.old.connections.table }
         ensures logs { HasSameLogs self.old.connections self.new.connections }
@@ -163,13 +178,32 @@ impl Service {
     }
 
     /// Whether `work` has something to do at once: a command waits, and a proxy is free.
-    pub fn is_ready(&self) -> bool {
-        !self.line.is_empty() && self.pool.has_free()
+    pub fn is_ready(&self) -> bool
+        ensures no { result ≡ false → (self.now.line ≡ []) ⊎ AllWait self.now.waiting }
+        ensures yes { result ≡ true → (proxy : ℕ) × IsFreeIn self.now.waiting proxy }
+    {
+        !self.line.is_empty() && self.pool.free().is_some()
     }
 
     /// Whether something waits for a tick: a request is not answered, or a node is down.
-    pub fn is_waiting(&self) -> bool {
-        !self.line.is_empty() || self.pool.is_waiting() || self.is_any_down()
+    pub fn is_waiting(&self) -> bool
+        ensures no { result ≡ false → (self.now.line ≡ []) × NoneWaits self.now.waiting }
+    {
+        if !self.line.is_empty() {
+            return true;
+        }
+        if self.pool.is_waiting() {
+            return true;
+        }
+        self.is_any_down()
+    }
+
+    /// How often something was left undone for want of memory, or since a bound was reached: see `Ensemble::refused`.
+    /// It stays at 2^64 - 1.
+    pub fn refused(&self) -> u64
+        ensures { result ≡ min self.now.replicas.refused (2 ^ 64 - 1) }
+    {
+        self.refused.saturating_add(self.ensemble.refused())
     }
 
     /// What it has come through.
@@ -196,6 +230,7 @@ impl Service {
         self.counting.look(alloc, &self.ensemble);
         let mut figures = self.counting.figures;
         self.show_replicas(&mut figures);
+        figures.memory.refusals = self.refused();
         figures
     }
 
@@ -206,6 +241,7 @@ impl Service {
         ensures moments { HasMoments self.now }
         ensures service { IsService self.now }
         ensures ensemble { HasEnsemble self.now }
+        ensures remembers { Remembers self.now.line self.now.waiting self.now.connections.table }
     {
         self.connections.always();
         self.ensemble.shows();
@@ -222,6 +258,7 @@ impl Service {
             u: _,
             suspicions: _,
             counting,
+            refused: _,
             assignments: _,
         } = self;
         drop(counting);

@@ -2,6 +2,7 @@
 
 ghost use Rattle.std.specs.Prelude.{◌≡◌, ◌<◌};
 ghost use Rattle.service.specs.Steps.{KeepsWaits};
+ghost use Rattle.service.specs.Owed.{KeepsOwed};
 
 use crate::pool::Pool;
 use crate::replicas::note_node;
@@ -13,6 +14,7 @@ use std::alloc::Global;
 /// The proxy at this place asks again.
 fn ask_again(alloc: Global, pool: &mut Pool, ensemble: &mut Ensemble, at: usize, seen: Seen)
     ensures waits { KeepsWaits pool.old pool.new }
+    ensures owed { KeepsOwed pool.old pool.new }
     ensures asked { ensemble.new.asked ≡ ensemble.old.asked }
     ensures answered { ensemble.new.answered ≡ ensemble.old.answered }
     ensures order { ensemble.new.order ≡ ensemble.old.order }
@@ -33,6 +35,7 @@ fn tick_at(
 ) -> bool
     requires { u < 4 }
     ensures waits { KeepsWaits pool.old pool.new }
+    ensures owed { KeepsOwed pool.old pool.new }
     ensures asked { ensemble.new.asked ≡ ensemble.old.asked }
     ensures answered { ensemble.new.answered ≡ ensemble.old.answered }
     ensures order { ensemble.new.order ≡ ensemble.old.order }

@@ -1,9 +1,13 @@
 //! What was asked is carried out.
 
-ghost use Rattle.std.specs.Prelude.{◌≡◌, ◌<◌};
+ghost use Rattle.std.specs.Prelude.{List, Option, true, ◌≡◌, ◌<◌, ◌≤◌, ◌-◌, ◌^◌, IfSome};
 ghost use Rattle.std.specs.Vec.{vec_len, vec_capacity};
+ghost use Rattle.std.specs.VecDeque.{deque_len, deque_capacity};
+ghost use Rattle.ensemble.specs.Nodes.{IsFree};
+ghost use Rattle.service.specs.declared.assignment.Outstanding.{Outstanding as OutstandingView};
 ghost use Rattle.service.specs.Service.{AnswersTo, assigned};
 ghost use Rattle.service.specs.Steps.{Settles};
+ghost use Rattle.service.specs.Owed.{IsFreeIn, RepliesAt, EndsWaitAt, Remembers};
 
 use crate::asking::{Asking, ask};
 use crate::assignment::{Assignment, Outstanding};
@@ -12,66 +16,104 @@ use crate::note::{Note, Waiting};
 use crate::pool::Pool;
 use crate::service::Service;
 use connections::{Connections, Said};
-use ensemble::Answer;
+use ensemble::{Answer, Ensemble};
 use http_server::Log;
 use proto::Reply;
 use serving::Patience;
 use std::alloc::Global;
 use std::collections::VecDeque;
+use std::rt::Clock;
 use std::sync::Wait;
 use std::thread::Threads;
 
 /// The most rounds of one call. A connection that asks many commands at once is given the replies so far.
 const MOST_ROUNDS: usize = 4;
 
-/// The most that a round gives: one for each proxy that cannot ask, and one for each that is answered.
-const MOST_SAID: usize = 128;
-
-/// Makes room for all that a round gives, and for those that line up in it.
-fn has_room(said: &mut Vec<Said>, line: &mut VecDeque<Waiting>) -> bool
-    ensures { said.new.items ≡ said.old.items }
+/// Makes room for all that a round with so many proxies gives: one for each that cannot ask, and one for each that is
+/// answered. And for those that line up in it.
+fn has_room(said: &mut Vec<Said>, line: &mut VecDeque<Waiting>, proxies: usize) -> bool
+    ensures said { said.new.items ≡ said.old.items }
+    ensures line { line.new.items ≡ line.old.items }
 {
-    said.reserve(MOST_SAID).is_ok() && line.reserve(MOST_SAID).is_ok()
+    said.reserve(proxies.saturating_mul(2)).is_ok() && line.reserve(proxies).is_ok()
 }
 
-/// A free proxy, and the first of the line. `None`: there is none of either, and nothing changes.
-fn next_pair(pool: &mut Pool, line: &mut VecDeque<Waiting>) -> Option<(u16, Waiting)>
-    ensures { pool.new ≡ pool.old }
+/// One thing more was left undone for want of memory. The count stays at 2^64 - 1.
+fn refuse(refused: &mut u64)
+    ensures counted { refused.old ≤ refused.new }
+    ensures more { refused.old < 2 ^ 64 - 1 → refused.old < refused.new }
 {
-    if line.is_empty() {
-        return None;
-    }
-    let proxy = pool.take()?;
-    match line.pop_front() {
-        Some(waiting) => Some((proxy, waiting)),
-        None => {
-            pool.put_back(proxy);
-            None
-        }
+    *refused = refused.saturating_add(1);
+}
+
+/// Makes room for one that is given, and for one that lines up.
+fn has_room_for_one(said: &mut Vec<Said>, line: &mut VecDeque<Waiting>) -> bool
+    ensures said { said.new.items ≡ said.old.items }
+    ensures line { line.new.items ≡ line.old.items }
+    ensures room_said { result ≡ true → vec_len said.new < vec_capacity said.new }
+    ensures room_line { result ≡ true → deque_len line.new < deque_capacity line.new }
+{
+    said.reserve(1).is_ok() && line.reserve(1).is_ok()
+}
+
+/// The number of a proxy that waits for nothing, if there is one.
+fn free_proxy(pool: &Pool, ensemble: &Ensemble) -> Option<u16>
+    ensures pool { IfSome result (λ proxy. IsFreeIn pool.now proxy) }
+    ensures free { IfSome result (λ proxy. IsFree ensemble.now.nodes.proxies proxy) }
+{
+    let proxy = pool.free()?;
+    if ensemble.is_free(proxy) {
+        Some(proxy)
+    } else {
+        None
     }
 }
 
-/// The connection that asked takes the reply, if it is here. If there is no memory for what it is given it leaves.
-fn answer_to(
+/// The connection that asked takes the reply, if it is here. There is room for what it is given.
+fn give_reply(
     alloc: Global,
     connections: &mut Connections,
     outstanding: &Outstanding,
     reply: Reply,
     said: &mut Vec<Said>,
 )
-    ensures { AnswersTo outstanding.now.assignment reply connections.old connections.new said.old.items said.new.items }
+    requires { vec_len said.old < vec_capacity said.old }
+    ensures answers { AnswersTo outstanding.now.assignment reply connections.old connections.new said.old.items said.new.items }
+    ensures table { RepliesAt (record { key = outstanding.now.key; number = outstanding.now.assignment.connection }) outstanding.now.assignment.turn connections.old.table connections.new.table }
 {
     let at = outstanding.place();
-    if said.reserve(1).is_err() {
-        connections.leave(at);
-        return;
-    }
     if let Some(given) = connections.answer(alloc, at, outstanding.assignment.turn, reply) {
         said.push_reserved(given);
     }
 }
 
-/// Keeps what came of it that a command was to be asked of the proxy, of a connection that is at this key.
+/// The connection that asked takes the reply, if it is here, and joins the line with its next command. If there is no
+/// memory for what it is given, or for its place in the line, it leaves.
+fn answer_to(
+    alloc: Global,
+    connections: &mut Connections,
+    line: &mut VecDeque<Waiting>,
+    outstanding: &Outstanding,
+    reply: Reply,
+    said: &mut Vec<Said>,
+    since: u64,
+    refused: &mut u64,
+)
+    ensures answers { AnswersTo outstanding.now.assignment reply connections.old connections.new said.old.items said.new.items }
+    ensures counted { refused.old ≤ refused.new }
+    ensures remembers { (pool pool_now : List (Option OutstandingView)) → EndsWaitAt pool outstanding.now pool_now → Remembers line.old.items pool connections.old.table → Remembers line.new.items pool_now connections.new.table }
+{
+    let at = outstanding.place();
+    if !has_room_for_one(said, line) {
+        connections.leave(at);
+        refuse(refused);
+        return;
+    }
+    give_reply(alloc, connections, outstanding, reply, said);
+    line_up(connections, line, at, since);
+}
+
+/// Keeps what came of it that a command was to be asked, of a connection that is at this key.
 #[tactic(auto, using(crate::proofs::KeepLemmas::assigned_more))]
 fn settle(
     pool: &mut Pool,
@@ -80,14 +122,13 @@ fn settle(
     patience: Patience,
     note: Note,
     key: usize,
-    proxy: u16,
     asking: Asking,
 )
     requires { vec_len said.old < vec_capacity said.old }
-    ensures { Settles asking pool.old pool.new (assigned assignments.old.items) (assigned assignments.new.items) said.old.items said.new.items }
+    ensures { Settles key asking pool.old pool.new (assigned assignments.old.items) (assigned assignments.new.items) said.old.items said.new.items }
 {
     match asking {
-        Asking::Nothing => pool.put_back(proxy),
+        Asking::Nothing => {}
         Asking::Asked(assignment) => {
             *assignments = assignments.and(&assignment, &assignment.proxy);
             pool.wait_for(Outstanding {
@@ -98,30 +139,34 @@ fn settle(
             });
         }
         Asking::Failed(given) => {
-            pool.put_back(proxy);
             said.push_reserved(given);
         }
     }
 }
 
 impl Service {
-    ghost use Rattle.std.specs.Prelude.{◌≡◌, ◌++◌, map, Contains};
+    ghost use Rattle.std.specs.Prelude.{◌≡◌, ◌≤◌, ◌++◌, map, Contains};
     ghost use Rattle.ensemble.specs.Ensemble.{answer_entry, order_entry};
-    ghost use Rattle.service.specs.Service.{Gives, AreLogged, given_entry, passed_entry};
+    ghost use Rattle.service.specs.Service.{Gives, AreLogged, RestsUnlessRefused, given_entry, passed_entry};
 
     /// The first of the line asks its command, if a proxy is free: whether one was.
     fn assign(&mut self, alloc: Global, said: &mut Vec<Said>) -> bool
         ensures given { Gives self.old.connections said.old.items self.new.connections said.new.items }
         ensures heard { self.new.connections.heard ≡ self.old.connections.heard }
+        ensures counted { self.old.replicas.refused ≤ self.new.replicas.refused }
     {
         if said.reserve(1).is_err() {
+            refuse(&mut self.refused);
             return false;
         }
-        let Some((proxy, waiting)) = next_pair(&mut self.pool, &mut self.line) else {
+        let Some(proxy) = free_proxy(&self.pool, &self.ensemble) else {
+            return false;
+        };
+        let Some(waiting) = self.line.pop_front() else {
             return false;
         };
         let seen = self.ensemble.seen();
-        let mut note = Note::new(waiting.since);
+        let mut note = Note::new(self.counting.since(waiting.since));
         let asking = ask(
             alloc,
             &mut self.connections,
@@ -137,7 +182,6 @@ impl Service {
             Patience::new(seen),
             note,
             waiting.at.key,
-            proxy,
             asking,
         );
         self.connections.always();
@@ -148,6 +192,7 @@ impl Service {
     fn assign_all(&mut self, alloc: Global, said: &mut Vec<Said>)
         ensures given { Gives self.old.connections said.old.items self.new.connections said.new.items }
         ensures heard { self.new.connections.heard ≡ self.old.connections.heard }
+        ensures counted { self.old.replicas.refused ≤ self.new.replicas.refused }
     {
         for _ in 0..self.pool.count() {
             if !self.assign(alloc, said) {
@@ -164,6 +209,8 @@ impl Service {
         ensures heard { self.new.connections.heard ≡ self.old.connections.heard }
         ensures answered { self.new.answered ≡ self.old.answered }
         ensures order { self.new.order ≡ self.old.order }
+        ensures counted { self.old.replicas.refused ≤ self.new.replicas.refused }
+        ensures ensemble { self.new.replicas.ensemble ≡ self.old.replicas.ensemble }
     {
         let Answer {
             proxy,
@@ -175,12 +222,15 @@ impl Service {
             return;
         };
         self.counting.answer(outstanding.note, &reply);
-        answer_to(alloc, &mut self.connections, &outstanding, reply, said);
-        line_up(
-            &self.connections,
+        answer_to(
+            alloc,
+            &mut self.connections,
             &mut self.line,
-            outstanding.place(),
+            &outstanding,
+            reply,
+            said,
             self.counting.micros(),
+            &mut self.refused,
         );
         self.connections.always();
     }
@@ -190,6 +240,8 @@ impl Service {
         requires { AreLogged answers.items self.old.answered self.old.order }
         ensures given { Gives self.old.connections said.old.items self.new.connections said.new.items }
         ensures heard { self.new.connections.heard ≡ self.old.connections.heard }
+        ensures counted { self.old.replicas.refused ≤ self.new.replicas.refused }
+        ensures ensemble { self.new.replicas.ensemble ≡ self.old.replicas.ensemble }
     {
         while let Some(answer) = answers.pop() {
             self.answer(alloc, answer, said);
@@ -197,34 +249,50 @@ impl Service {
     }
 
     /// The replicas work: what they answer.
-    fn execute<R: Threads + Wait + Sync>(
+    fn execute<R: Threads + Wait + Sync, C: Clock>(
         &mut self,
         rt: &R,
+        clock: &C,
         alloc: Global,
         moment: u32,
     ) -> Vec<Answer>
         ensures logged { AreLogged result.items self.new.answered self.new.order }
         ensures connections { self.new.connections ≡ self.old.connections }
+        ensures counted { self.old.replicas.refused ≤ self.new.replicas.refused }
+        ensures rest { RestsUnlessRefused self.old.replicas self.new.replicas }
     {
-        self.ensemble.work(rt, alloc, moment)
+        self.ensemble.work(rt, clock, alloc, moment)
+    }
+
+    /// Counts how long the parts of the batches took that were carried out since this was last called.
+    fn count_times(&mut self)
+        ensures { self.new ≡ self.old }
+    {
+        if let Some(times) = self.ensemble.take_times() {
+            self.counting.work(times);
+        }
     }
 
     /// Asks the replicas what waits, and gives what they answer: whether more may be asked at once.
-    fn round<R: Threads + Wait + Sync>(
+    fn round<R: Threads + Wait + Sync, C: Clock>(
         &mut self,
         rt: &R,
+        clock: &C,
         alloc: Global,
         moment: u32,
         said: &mut Vec<Said>,
     ) -> bool
         ensures given { Gives self.old.connections said.old.items self.new.connections said.new.items }
         ensures heard { self.new.connections.heard ≡ self.old.connections.heard }
+        ensures counted { self.old.replicas.refused ≤ self.new.replicas.refused }
+        ensures rest { RestsUnlessRefused self.old.replicas self.new.replicas }
     {
-        if !has_room(said, &mut self.line) {
+        if !has_room(said, &mut self.line, self.pool.count()) {
+            refuse(&mut self.refused);
             return false;
         }
         self.assign_all(alloc, said);
-        let answers = self.execute(rt, alloc, moment);
+        let answers = self.execute(rt, clock, alloc, moment);
         let goes_on = !answers.is_empty();
         self.answer_all(alloc, answers, said);
         goes_on && !self.line.is_empty()
@@ -232,23 +300,28 @@ impl Service {
 
     /// Asks what waits, carries it out, and gives what was answered, at this moment in seconds. A reply may be
     /// followed by the next command of its connection, which is asked in the same call, up to 4 of them; `is_ready`
-    /// tells whether more could be asked at once. If memory is wanted a connection is closed, or what waits waits on.
-    pub fn work<R: Threads + Wait + Sync>(
+    /// tells whether more could be asked at once. If memory is wanted a connection is closed, or what waits waits on, and
+    /// that is counted (`refused`). If nothing was counted the replicas are at rest then: they can do nothing more at once.
+    pub fn work<R: Threads + Wait + Sync, C: Clock>(
         &mut self,
         rt: &R,
+        clock: &C,
         alloc: Global,
         moment: u32,
     ) -> Vec<Said>
         ensures given { self.new.connections.given ≡ self.old.connections.given ++ map given_entry result.items }
         ensures passed { self.new.connections.passed ≡ self.old.connections.passed ++ map passed_entry result.items }
         ensures heard { self.new.connections.heard ≡ self.old.connections.heard }
+        ensures counted { self.old.replicas.refused ≤ self.new.replicas.refused }
+        ensures rest { RestsUnlessRefused self.old.replicas self.new.replicas }
     {
         let mut said = Vec::new(alloc);
         for _ in 0..MOST_ROUNDS {
-            if !self.round(rt, alloc, moment, &mut said) {
+            if !self.round(rt, clock, alloc, moment, &mut said) {
                 break;
             }
         }
+        self.count_times();
         said
     }
 }

@@ -18,11 +18,16 @@ use crate::plan::{Plan, plan_of};
 use crate::play::play;
 use std::io;
 use std::process::ExitCode;
+use std::rt::Clock;
 use std::sync::Wait;
 use std::thread::Threads;
 
 /// Makes the play, and prints what came of it: the status.
-fn follow<R: Threads + Wait + Sync>(rt: &HostRuntime, threads: &R, plan: Plan) -> io::Result<u8> {
+fn follow<R: Threads + Wait + Sync + Clock>(
+    rt: &HostRuntime,
+    threads: &R,
+    plan: Plan,
+) -> io::Result<u8> {
     let Plan { u, seed, calls } = plan;
     let Some(shown) = play(threads, rt.alloc(), plan) else {
         println!(rt; "cannot play u {u}, seed {seed}")?;
@@ -40,7 +45,7 @@ fn follow<R: Threads + Wait + Sync>(rt: &HostRuntime, threads: &R, plan: Plan) -
 }
 
 /// Makes the plays of all lines, up to the first whose status is not 0: the last status.
-fn follow_all<R: Threads + Wait + Sync>(rt: &HostRuntime, threads: &R) -> io::Result<u8> {
+fn follow_all<R: Threads + Wait + Sync + Clock>(rt: &HostRuntime, threads: &R) -> io::Result<u8> {
     for line in rt.lines(rt.alloc()) {
         let line = line?;
         let status = match plan_of(line.as_str()) {

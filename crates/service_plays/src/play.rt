@@ -6,6 +6,7 @@ use crate::plan::Plan;
 use random::Words;
 use service::{Config, Said, Service};
 use std::alloc::Global;
+use std::rt::Clock;
 use std::sync::Wait;
 use std::thread::Threads;
 
@@ -125,20 +126,24 @@ impl Stage {
     }
 
     /// The replicas work, and the clients are given what is answered.
-    fn work<R: Threads + Wait + Sync>(&mut self, threads: &R, alloc: Global) {
-        for said in self.service.work(threads, alloc, self.moment) {
+    fn work<R: Threads + Wait + Sync + Clock>(&mut self, threads: &R, alloc: Global) {
+        for said in self.service.work(threads, threads, alloc, self.moment) {
             take(&mut self.peers, &mut self.judge, &said);
         }
     }
 
     /// The counter begins at 0, set by a connection of its own.
-    fn set_up<R: Threads + Wait + Sync>(&mut self, threads: &R, alloc: Global) -> Option<()> {
+    fn set_up<R: Threads + Wait + Sync + Clock>(
+        &mut self,
+        threads: &R,
+        alloc: Global,
+    ) -> Option<()> {
         let text = Vec::from_slice(alloc, b"set n 0 0 1\r\n0\r\n").ok()?;
         self.last = 1;
         self.service.come(alloc, PEERS, 1).ok()?;
         let said = self.service.hear(alloc, PEERS, 1, text).ok()?;
         drop(said);
-        drop(self.service.work(threads, alloc, self.moment));
+        drop(self.service.work(threads, threads, alloc, self.moment));
         self.service.leave(PEERS, 1);
         Some(())
     }
@@ -173,7 +178,7 @@ impl Stage {
     }
 
     /// One call at random.
-    fn call<R: Threads + Wait + Sync>(&mut self, threads: &R, alloc: Global) {
+    fn call<R: Threads + Wait + Sync + Clock>(&mut self, threads: &R, alloc: Global) {
         match self.words.below(16) {
             0 => self.service.tick(alloc),
             1 | 2 | 3 | 4 => self.work(threads, alloc),
@@ -214,7 +219,7 @@ impl Stage {
     }
 
     /// All is answered, unless that takes too many ticks.
-    fn finish<R: Threads + Wait + Sync>(&mut self, threads: &R, alloc: Global) {
+    fn finish<R: Threads + Wait + Sync + Clock>(&mut self, threads: &R, alloc: Global) {
         for _ in 0..MOST_TICKS {
             if !self.is_waiting() {
                 return;
@@ -238,7 +243,7 @@ fn stops(alloc: Global, service: &mut Service) -> u64 {
 }
 
 /// All calls, and what came of them.
-fn drive<R: Threads + Wait + Sync>(
+fn drive<R: Threads + Wait + Sync + Clock>(
     threads: &R,
     alloc: Global,
     stage: &mut Stage,
@@ -268,7 +273,11 @@ fn drive<R: Threads + Wait + Sync>(
 }
 
 /// A play. `None`: there is no such service, or no memory for it.
-pub fn play<R: Threads + Wait + Sync>(threads: &R, alloc: Global, plan: Plan) -> Option<Shown> {
+pub fn play<R: Threads + Wait + Sync + Clock>(
+    threads: &R,
+    alloc: Global,
+    plan: Plan,
+) -> Option<Shown> {
     let mut stage = Stage::open(alloc, plan)?;
     let is_set = stage.set_up(threads, alloc).is_some();
     let shown = drive(threads, alloc, &mut stage, plan);

@@ -30,9 +30,14 @@ impl Clone for LastReply {
 }
 
 /// The last reply of each client. Clones share what is kept.
-#[derive(Drop)]
 pub struct Sessions {
     entries: Arc<SortedMap<u16, LastReply>, Global>,
+}
+
+impl Drop for Sessions {
+    fn drop(self) {
+        let Sessions { entries: _ } = self;
+    }
 }
 
 impl Model for Sessions {

@@ -20,13 +20,24 @@ use wire::Sink;
 
 /// A state of the server: its items and sessions, and the token by which it is known. Beside the
 /// sessions it keeps their digest and, where there is memory for it, their text.
-#[derive(Drop)]
 pub struct State {
     origin: Origin,
     token: Token,
     sessions: HashedSessions,
     digested: Digested,
     pages: Snapshot,
+}
+
+impl Drop for State {
+    fn drop(self) {
+        let State {
+            origin: _,
+            token: _,
+            sessions: _,
+            digested: _,
+            pages: _,
+        } = self;
+    }
 }
 
 /// What a state is made of, without its token.

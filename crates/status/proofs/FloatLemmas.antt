@@ -1,6 +1,7 @@
 -- The figures as JSON have no float.
 use Rattle.std.proofs.Common.{◌≡◌, ℕ, List, [], ◌∷◌, map, false, refl}
 use Rattle.figures.specs.declared.figures.Figures.{Figures}
+use Rattle.figures.specs.declared.figures.BatchParts.{BatchParts}
 use Rattle.figures.specs.declared.figures.Replicas.{Replicas}
 use Rattle.figures.specs.declared.histogram.Histogram.{Histogram}
 use Rattle.figures.specs.declared.commands.Commands.{Commands}
@@ -9,7 +10,7 @@ use Rattle.figures.specs.declared.kind.TheConstants.{ALL_KINDS}
 use Rattle.figures.specs.declared.node.NodeFigures.{NodeFigures}
 use Rattle.serde_json.specs.Written.{has_float, items_have_float}
 use Rattle.serde_json.specs.View.{items_of}
-use Rattle.status.specs.Data.{whole, outcomes_data, all_commands_data, connections_data, keys_data, batches_data, memory_data, node_data, histogram_data, replicas_data, figures_data}
+use Rattle.status.specs.Data.{whole, outcomes_data, all_commands_data, connections_data, keys_data, batches_data, memory_data, node_data, histogram_data, batch_parts_data, replicas_data, figures_data}
 
 no_float_in_wholes : (counts : List ℕ) → items_have_float (items_of (map whole counts)) ≡ false
 no_float_in_wholes [] = refl
@@ -36,10 +37,19 @@ no_float_in_histogram : (h : Histogram) → has_float (histogram_data h) ≡ fal
 unfolding histogram_data
 no_float_in_histogram h = rw (no_float_in_wholes h.counts) refl
 
+no_float_in_batch_parts : (p : BatchParts) → has_float (batch_parts_data p) ≡ false
+unfolding batch_parts_data
+no_float_in_batch_parts p =
+    rw (no_float_in_histogram p.wait)
+    (rw (no_float_in_histogram p.execute)
+    (rw (no_float_in_histogram p.agree)
+    (rw (no_float_in_histogram p.commit) refl)))
+
 pub no_float : (f : Figures) → has_float (figures_data f) ≡ false
 unfolding figures_data connections_data keys_data batches_data memory_data all_commands_data
 no_float f =
     rw (no_float_in_commands f.commands ALL_KINDS)
     (rw (no_float_in_replicas f.replicas)
     (rw (no_float_in_histogram f.reply_times)
-    (rw (no_float_in_histogram f.batch_times) refl)))
+    (rw (no_float_in_histogram f.batch_times)
+    (rw (no_float_in_batch_parts f.batch_parts) refl))))

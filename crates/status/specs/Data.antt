@@ -6,6 +6,7 @@ use Rattle.figures.specs.declared.figures.Figures.{Figures}
 use Rattle.figures.specs.declared.figures.Connections.{Connections}
 use Rattle.figures.specs.declared.figures.Keys.{Keys}
 use Rattle.figures.specs.declared.figures.Batches.{Batches}
+use Rattle.figures.specs.declared.figures.BatchParts.{BatchParts}
 use Rattle.figures.specs.declared.figures.Memory.{Memory}
 use Rattle.figures.specs.declared.figures.Replicas.{Replicas}
 use Rattle.figures.specs.declared.commands.Commands.{Commands}
@@ -45,7 +46,8 @@ batches_data x = object (member (codes "committed") (whole x.committed)
 unfoldable pub memory_data : Memory → Data
 memory_data x = object (member (codes "item_bytes") (whole x.item_bytes)
     (member (codes "items") (whole x.items)
-    (member (codes "resident_bytes") (whole x.resident_bytes) no_members)))
+    (member (codes "refusals") (whole x.refusals)
+    (member (codes "resident_bytes") (whole x.resident_bytes) no_members))))
 
 -- how often a command of the kind had each outcome
 unfoldable pub outcomes_data : Commands → Kind → Data
@@ -78,9 +80,16 @@ replicas_data r = object (member (codes "epoch") (whole r.epoch)
 unfoldable pub all_commands_data : Commands → Data
 all_commands_data c = commands_data c ALL_KINDS
 
+unfoldable pub batch_parts_data : BatchParts → Data
+batch_parts_data p = object (member (codes "agree") (histogram_data p.agree)
+    (member (codes "commit") (histogram_data p.commit)
+    (member (codes "execute") (histogram_data p.execute)
+    (member (codes "wait") (histogram_data p.wait) no_members))))
+
 -- all figures
 unfoldable pub figures_data : Figures → Data
-figures_data f = object (member (codes "batch_times") (histogram_data f.batch_times)
+figures_data f = object (member (codes "batch_parts") (batch_parts_data f.batch_parts)
+    (member (codes "batch_times") (histogram_data f.batch_times)
     (member (codes "batches") (batches_data f.batches)
     (member (codes "commands") (all_commands_data f.commands)
     (member (codes "connections") (connections_data f.connections)
@@ -88,4 +97,4 @@ figures_data f = object (member (codes "batch_times") (histogram_data f.batch_ti
     (member (codes "memory") (memory_data f.memory)
     (member (codes "replicas") (replicas_data f.replicas)
     (member (codes "reply_times") (histogram_data f.reply_times)
-    (member (codes "uptime_seconds") (whole f.uptime_seconds) no_members)))))))))
+    (member (codes "uptime_seconds") (whole f.uptime_seconds) no_members))))))))))

@@ -6,8 +6,8 @@ ghost use Rattle.serde_json.specs.View.{view};
 ghost use Rattle.status.specs.Data as spec;
 
 use figures::{
-    ALL_KINDS, Batches, Commands, Connections, Figures, Histogram, Keys, Kind, Memory, NodeFigures,
-    Outcome, Replicas,
+    ALL_KINDS, BatchParts, Batches, Commands, Connections, Figures, Histogram, Keys, Kind, Memory,
+    NodeFigures, Outcome, Replicas,
 };
 use serde_json::{Value, json};
 use std::alloc::{AllocError, Global};
@@ -37,7 +37,7 @@ fn batches_json(alloc: Global, batches: &Batches) -> Result<Value, AllocError>
 fn memory_json(alloc: Global, memory: &Memory) -> Result<Value, AllocError>
     ensures { IfOk result (λ v. view v ≡ spec.memory_data memory.now) }
 {
-    json!(in alloc; {"items": memory.items, "item_bytes": memory.item_bytes, "resident_bytes": memory.resident_bytes})
+    json!(in alloc; {"items": memory.items, "item_bytes": memory.item_bytes, "resident_bytes": memory.resident_bytes, "refusals": memory.refusals})
 }
 
 /// How often a command of the kind had each outcome.
@@ -110,6 +110,18 @@ fn histogram_json(alloc: Global, histogram: &Histogram) -> Result<Value, AllocEr
     json!(in alloc; {"counts": wholes_json(alloc, histogram.counts.as_slice())?, "sum": histogram.sum})
 }
 
+#[tactic(auto, unfolding(crate::specs::Data::batch_parts_data))]
+fn batch_parts_json(alloc: Global, parts: &BatchParts) -> Result<Value, AllocError>
+    ensures { IfOk result (λ v. view v ≡ spec.batch_parts_data parts.now) }
+{
+    json!(in alloc; {
+        "wait": histogram_json(alloc, &parts.wait)?,
+        "execute": histogram_json(alloc, &parts.execute)?,
+        "agree": histogram_json(alloc, &parts.agree)?,
+        "commit": histogram_json(alloc, &parts.commit)?
+    })
+}
+
 /// All figures.
 #[tactic(auto, unfolding(crate::specs::Data::figures_data))]
 fn figures_json(alloc: Global, figures: &Figures) -> Result<Value, AllocError>
@@ -124,7 +136,8 @@ fn figures_json(alloc: Global, figures: &Figures) -> Result<Value, AllocError>
         "replicas": replicas_json(alloc, &figures.replicas)?,
         "memory": memory_json(alloc, &figures.memory)?,
         "reply_times": histogram_json(alloc, &figures.reply_times)?,
-        "batch_times": histogram_json(alloc, &figures.batch_times)?
+        "batch_times": histogram_json(alloc, &figures.batch_times)?,
+        "batch_parts": batch_parts_json(alloc, &figures.batch_parts)?
     })
 }
 

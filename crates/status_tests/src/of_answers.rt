@@ -117,5 +117,6 @@ fn numbers_of_the_data(rt: HostRuntime) -> Result<(), Fail> {
     assert!(rt; number_at(alloc, "/replicas/executors/0/stops") == Some(2));
     assert!(rt; number_at(alloc, "/reply_times/counts/1") == Some(1));
     assert!(rt; number_at(alloc, "/batch_times/sum") == Some(1234567));
+    assert!(rt; number_at(alloc, "/batch_parts/agree/sum") == Some(300));
     Ok(())
 }

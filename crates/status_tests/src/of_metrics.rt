@@ -39,13 +39,13 @@ fn have_line(alloc: Global, wanted: &[u8]) -> bool {
     }
 }
 
-/// 25 metrics with two lines each; 20 values, 32 of commands, 18 of each histogram. Each node that is
-/// there has a line of two metrics.
+/// 30 metrics with two lines each; 21 values, 32 of commands, 18 of each of six histograms. Each node that
+/// is there has a line of two metrics.
 #[test]
 fn each_line_is_of_the_form(rt: HostRuntime) -> Result<(), Fail> {
     let alloc = rt.alloc();
-    assert!(rt; are_form(alloc, &Figures::NONE, 50 + 20 + 32 + 36));
-    assert!(rt; are_form(alloc, &some_figures(), 50 + 20 + 32 + 36 + 12));
+    assert!(rt; are_form(alloc, &Figures::NONE, 60 + 21 + 32 + 108));
+    assert!(rt; are_form(alloc, &some_figures(), 60 + 21 + 32 + 108 + 12));
     Ok(())
 }
 
@@ -85,5 +85,9 @@ fn lines_of_histograms(rt: HostRuntime) -> Result<(), Fail> {
     assert!(rt; have_line(alloc, b"eve_reply_seconds_sum 0.000101"));
     assert!(rt; have_line(alloc, b"eve_reply_seconds_count 2"));
     assert!(rt; have_line(alloc, b"eve_batch_seconds_sum 1.234567"));
+    assert!(rt; have_line(alloc, b"eve_batch_wait_seconds_sum 0.000001"));
+    assert!(rt; have_line(alloc, b"eve_batch_execute_seconds_sum 0.000020"));
+    assert!(rt; have_line(alloc, b"eve_batch_agree_seconds_sum 0.000300"));
+    assert!(rt; have_line(alloc, b"eve_batch_commit_seconds_sum 0.004000"));
     Ok(())
 }

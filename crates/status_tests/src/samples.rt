@@ -3,7 +3,7 @@
 use figures::{Asked, Figures, Kind, NodeFigures};
 use proto::Reply;
 
-/// Three executors of which one is down, some commands, two times in each histogram.
+/// Three executors of which one is down, some commands, some times.
 pub fn some_figures() -> Figures {
     let mut figures = Figures::NONE;
     figures.uptime_seconds = 7;
@@ -23,5 +23,9 @@ pub fn some_figures() -> Figures {
     figures.reply_times.observe(50);
     figures.reply_times.observe(51);
     figures.batch_times.observe(1_234_567);
+    figures.batch_parts.wait.observe(1);
+    figures.batch_parts.execute.observe(20);
+    figures.batch_parts.agree.observe(300);
+    figures.batch_parts.commit.observe(4_000);
     figures
 }

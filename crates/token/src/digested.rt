@@ -25,11 +25,16 @@ use wire::{Record, Sink, put_page, share_text};
 ///
 /// Contracts see it as the digest and the text. That these belong together stands in the contract
 /// of the call that made it (`IsDigested`).
-#[derive(Drop)]
 pub struct Digested {
     digest: [u8; 32],
     /// All of it in pieces: its tail is sealed.
     text: Option<Arc<Text, Global>>,
+}
+
+impl Drop for Digested {
+    fn drop(self) {
+        let Digested { digest: _, text: _ } = self;
+    }
 }
 
 impl Model for Digested {

@@ -15,10 +15,18 @@ use std::marker::Model;
 /// reply is hashed once and not with every batch. Clones share both.
 ///
 /// Contracts see the sessions alone: whether there are digests makes no difference but to time.
-#[derive(Drop)]
 pub struct HashedSessions {
     sessions: Sessions,
     digests: Option<ReplyDigests>,
+}
+
+impl Drop for HashedSessions {
+    fn drop(self) {
+        let HashedSessions {
+            sessions: _,
+            digests: _,
+        } = self;
+    }
 }
 
 impl Model for HashedSessions {

@@ -17,9 +17,14 @@ use std::sync::Arc;
 ///
 /// Contracts see the digest of each client that has one. That they are those of some sessions is the
 /// contract of the calls (`AreDigestsOf`).
-#[derive(Drop)]
 pub struct ReplyDigests {
     digests: Arc<SortedMap<u16, [u8; 32]>, Global>,
+}
+
+impl Drop for ReplyDigests {
+    fn drop(self) {
+        let ReplyDigests { digests: _ } = self;
+    }
 }
 
 impl Model for ReplyDigests {

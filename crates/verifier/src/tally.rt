@@ -14,9 +14,14 @@ pub struct Tallied {
 }
 
 /// The acceptances of the next place, at most one of a sender in a view: the first one stays.
-#[derive(Drop)]
 pub struct Tally {
     heard: Vec<Tallied>,
+}
+
+impl Drop for Tally {
+    fn drop(self) {
+        let Tally { heard: _ } = self;
+    }
 }
 
 impl Model for Tally {

@@ -29,9 +29,14 @@ pub enum Choice {
 }
 
 /// The promises that a leader has in its view, at most one of a sender: the first one stays.
-#[derive(Drop)]
 pub struct Promises {
     promises: Vec<Promise>,
+}
+
+impl Drop for Promises {
+    fn drop(self) {
+        let Promises { promises: _ } = self;
+    }
 }
 
 impl Model for Promises {

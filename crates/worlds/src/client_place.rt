@@ -9,10 +9,18 @@ use std::alloc::{AllocError, Global};
 use std::marker::Model;
 
 /// A client's part of the server, and the bytes that its client was given so far.
-#[derive(Drop)]
 pub struct ClientPlace {
     pub(crate) client: Client,
     given: Vec<u8>,
+}
+
+impl Drop for ClientPlace {
+    fn drop(self) {
+        let ClientPlace {
+            client: _,
+            given: _,
+        } = self;
+    }
 }
 
 impl Model for ClientPlace {

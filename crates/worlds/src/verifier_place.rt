@@ -33,9 +33,14 @@ impl KeptNode for Verifier<MemKeeper<Text>> {
 }
 
 /// The place of a verifier: one that is there was never stopped.
-#[derive(Drop)]
 pub struct VerifierPlace {
     pub(crate) slot: KeptSlot<KeptVerifier>,
+}
+
+impl Drop for VerifierPlace {
+    fn drop(self) {
+        let VerifierPlace { slot: _ } = self;
+    }
 }
 
 impl Model for VerifierPlace {

@@ -1,21 +1,32 @@
-use Rattle.std.proofs.Common.{ℕ, [], ◌∷◌, ◌++◌, List, inr, sym, ap, ◌∙◌}
-use Rattle.connections.specs.declared.said.Said.{Said}
-use Rattle.connections.specs.History.{given_as}
+use Rattle.std.proofs.Common.{◌≡◌, List, Option, refl, sym, ap, ◌∙◌, subst}
+use Rattle.connections.specs.declared.places.Place.{Place}
+use Rattle.connections.specs.Connection.{ConnectionView}
+use Rattle.connections.specs.Connections.{ConnectionsView}
+use Rattle.connections.specs.Places.{is_untaken_in, left_at}
+use Rattle.service.specs.declared.note.Waiting.{Waiting}
+use Rattle.service.specs.Owed.{Remembers, line_with}
+use Rattle.service.proofs.OwedLemmas.{replied_remembers, leaves_remembers}
 use Rattle.service.proofs.working.answer_to.Goals as goal
 
-pub returns-in-Some : goal.returns-in-Some
-returns-in-Some c =
-    let v = c.args.connections.now in
-    let given = c.in-Some.given in
-    let number = sym c.in-Some.ensures.to.1 in
-    record {
-      heard = c.in-Some.ensures.others.0;
-      taken = c.in-Some.ensures.others.1;
-      replied = inr (c.in-Some.ensures.replied ∙ ap (λ (n : ℕ). v.replied ++ (record { connection = n; turn = c.args.outstanding.now.assignment.turn }, c.args.reply) ∷ []) c.place-at.ensures.number);
-      gives = inr (
-        given,
-        c.push_reserved.ensures.items ∙ ap (λ (said : List Said). said ++ given ∷ []) c.reserve.ensures.items,
-        c.in-Some.ensures.given ∙ ap (λ (n : ℕ). v.given ++ (n, given.bytes.items) ∷ []) number,
-        c.in-Some.ensures.passed ∙ ap (λ (n : ℕ). v.passed ++ given_as n given.bytes.items ∷ []) number,
-      );
-    }
+abbrev Table : Type 0
+Table = List (Option ConnectionView)
+
+pub returns-then-not-has_room_for_one-clause-remembers : goal.returns-then-not-has_room_for_one-clause-remembers
+returns-then-not-has_room_for_one-clause-remembers c = λ pool pool_now ends r.
+    let o = c.args.outstanding.now in
+    let table = c.args.connections.now.table in
+    let asker : Place = record { key = o.key; number = o.assignment.connection } in
+    let left : c.leave.new.self.table ≡ left_at asker table = ap (λ (v : ConnectionsView). v.table) c.leave.ensures.table ∙ (λ i. left_at (record { key = c.place-at.ensures.key i; number = c.place-at.ensures.number i }) table) in
+    subst (λ (line : List Waiting). Remembers line pool_now c.leave.new.self.table) (sym c.has_room_for_one.ensures.line)
+    (leaves_remembers c.args.line.now.items pool pool_now o ends table c.leave.new.self.table left r)
+
+pub returns-clause-remembers : goal.returns-clause-remembers
+returns-clause-remembers c = λ pool pool_now ends r.
+    let o = c.args.outstanding.now in
+    let line = c.args.line.now.items in
+    let now = c.give_reply.new.connections.table in
+    let w : Waiting = record { at = record { key = o.key; number = o.assignment.connection }; since = c.args.since } in
+    let joins : c.line_up.new.line.items ≡ line_with (is_untaken_in o.assignment.connection now o.key) line w = c.line_up.ensures
+    ∙ (λ i. line_with (is_untaken_in (c.place-at.ensures.number i) now (c.place-at.ensures.key i)) (c.has_room_for_one.ensures.line i) (record { at = record { key = c.place-at.ensures.key i; number = c.place-at.ensures.number i }; since = c.args.since })) in
+    subst (λ (l : List Waiting). Remembers l pool_now now) (sym joins)
+    (replied_remembers line pool pool_now o ends c.args.connections.now.table now w refl c.give_reply.ensures.table r)

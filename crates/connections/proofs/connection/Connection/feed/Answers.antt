@@ -1,4 +1,5 @@
-use Rattle.std.proofs.Common.{ℕ, Option, refl, sym, ◌∙◌, subst}
+use Rattle.std.proofs.Common.{rules, ◌≡◌, ℕ, ◌+◌, ◌-◌, ◌^◌, length, Option, refl, sym, ◌∙◌, subst}
+use Rattle.std.specs.Prelude.{min}
 use Rattle.proto.specs.declared.command.Command.{Command}
 use Rattle.client.specs.Step.{IsFed}
 use Rattle.client.specs.Talk.{Given}
@@ -23,6 +24,7 @@ returns-in-Ok-clause-ok c =
     let old = c.self.inside.client in
     let g : Given = record { talk = c.handle.new.self.talk; letters = c.in-Ok.letters.items; bytes = c.in-Ok.bytes.items } in
     let step : IsFed 0 1 old.talk c.args.piece.items g = subst (λ (z : ℕ × ℕ). IsFed z.0 z.1 old.talk c.args.piece.items g) (λ i. (inv.1 i, inv.0 i)) c.in-Ok.ensures.done in
-    let now : ConnectionView = record { number = c.self.inside.number; talk = c.handle.new.self.talk; command = c.put_wanted.new.command } in
+    let now : ConnectionView = record { number = c.self.inside.number; talk = c.handle.new.self.talk; command = c.put_wanted.new.command; unwritten = c.saturating_add-self-inside.result } in
+    let unwritten_is : c.saturating_add-self-inside.result ≡ min (c.self.inside.unwritten + length g.bytes) (2 ^ 64 - 1) = search rules in
     subst (λ (v : ConnectionView). IsFedTo v c.args.piece.items now c.in-Ok.bytes.items) c.self.view_is
-    (g, step, λ i. record { number = c.self.inside.number; talk = g.talk; command = c.put_wanted.ensures i }, refl)
+    (g, step, λ i. record { number = c.self.inside.number; talk = g.talk; command = c.put_wanted.ensures i; unwritten = unwritten_is i }, refl)

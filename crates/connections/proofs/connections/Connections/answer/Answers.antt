@@ -2,6 +2,8 @@ use Rattle.std.proofs.Common.{rules, ◌≡◌, true, sym, ap, ◌∙◌, subst}
 use Rattle.connections.specs.Places.{is_here}
 use Rattle.connections.specs.Connections.{ConnectionsView, IsConnections}
 use Rattle.connections.proofs.AtLemmas.{answered_at_keeps, answer_leaves}
+use Rattle.connections.specs.Owed.{AnswersOn, BecomesAt}
+use Rattle.connections.proofs.OwedLemmas.{answers_at}
 use Rattle.connections.proofs.KeepLemmas.{relogged}
 use Rattle.connections.proofs.connections.Connections.answer.Goals as goal
 
@@ -20,3 +22,10 @@ returns-clause-closes c =
     let v : ConnectionsView = record { table = s.table.items; next = s.next; heard = s.history.heard; given = s.history.given; passed = s.history.passed; taken = s.taken.items; replied = s.replied.items } in
     let here : is_here c.args.at.number s.table.items c.args.at.key ≡ true = search rules in
     answer_leaves v c.args.at c.args.turn c.args.reply c.answer.new.table.items c.in_ok-said.said here c.in_ok-said.ensures
+
+pub returns-clause-answers : goal.returns-clause-answers
+returns-clause-answers c =
+    let s = c.self.inside in
+    let v : ConnectionsView = record { table = s.table.items; next = s.next; heard = s.history.heard; given = s.history.given; passed = s.history.passed; taken = s.taken.items; replied = s.replied.items } in
+    let here : is_here c.args.at.number s.table.items c.args.at.key ≡ true = search rules in
+    subst (λ (x : ConnectionsView). BecomesAt (AnswersOn c.args.turn) c.args.at x.table c.answer.new.table.items) c.self.view_is (answers_at v c.args.at c.args.turn c.args.reply c.answer.new.table.items c.in_ok-said.said here c.in_ok-said.ensures)

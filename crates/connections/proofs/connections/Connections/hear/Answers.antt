@@ -1,8 +1,10 @@
-use Rattle.std.proofs.Common.{rules, ◌≡◌, true, ℕ, List, [], ◌∷◌, ◌++◌, sym, ap, ◌∙◌, subst}
+use Rattle.std.proofs.Common.{rules, ◌≡◌, true, false, ℕ, List, [], ◌∷◌, ◌++◌, sym, ap, ◌∙◌, subst}
 use Rattle.std.specs.Prelude.{Result, Ok, Err, OnErr}
-use Rattle.connections.specs.Places.{is_of_connection, is_here, HasSameOthers}
+use Rattle.connections.specs.Places.{is_of_connection, is_here, left_at, HasSameOthers}
 use Rattle.connections.specs.Connections.{ConnectionsView, IsConnections}
 use Rattle.connections.proofs.AtLemmas.{fed_at_keeps, failed_at_keeps, failed_leaves, closed_leaves, fed_others}
+use Rattle.connections.specs.Owed.{ReadsFurther, BecomesAt}
+use Rattle.connections.proofs.OwedLemmas.{reads_at, failed_table, left_same}
 use Rattle.connections.proofs.KeepLemmas.{relogged}
 use Rattle.connections.proofs.connections.Connections.hear.Goals as goal
 
@@ -47,3 +49,22 @@ returns-in_err-said-clause-same_others c = subst (λ (v : ConnectionsView). HasS
 pub returns-clause-same_others : goal.returns-clause-same_others
 returns-clause-same_others c = subst (λ (v : ConnectionsView). HasSameOthers c.args.at.key v.table c.feed.new.table.items) c.self.view_is
     (fed_others c.args.at c.args.piece.items c.self.inside.table.items c.feed.new.table.items _ c.in_ok-said.ensures)
+
+pub returns-in_err-said-clause-left : goal.returns-in_err-said-clause-left
+returns-in_err-said-clause-left c =
+    let s = c.self.inside in
+    let v : ConnectionsView = record { table = s.table.items; next = s.next; heard = s.history.heard; given = s.history.given; passed = s.history.passed; taken = s.taken.items; replied = s.replied.items } in
+    let here : is_here c.args.at.number s.table.items c.args.at.key ≡ true = search rules in
+    on_err _ _ (subst (λ (x : ConnectionsView). c.feed.new.table.items ≡ left_at c.args.at x.table) c.self.view_is (failed_table v c.args.at c.args.piece.items c.feed.new.table.items _ here c.in_err-said.ensures))
+
+pub returns-then-not-is_here-clause-left : goal.returns-then-not-is_here-clause-left
+returns-then-not-is_here-clause-left c =
+    let not_here : is_here c.args.at.number c.args.self.now.table c.args.at.key ≡ false = search rules in
+    sym (left_same c.args.at c.args.self.now.table not_here)
+
+pub returns-clause-reads : goal.returns-clause-reads
+returns-clause-reads c =
+    let s = c.self.inside in
+    let v : ConnectionsView = record { table = s.table.items; next = s.next; heard = s.history.heard; given = s.history.given; passed = s.history.passed; taken = s.taken.items; replied = s.replied.items } in
+    let here : is_here c.args.at.number s.table.items c.args.at.key ≡ true = search rules in
+    subst (λ (x : ConnectionsView). BecomesAt ReadsFurther c.args.at x.table c.feed.new.table.items) c.self.view_is (reads_at v c.args.at c.args.piece.items c.feed.new.table.items c.in_ok-said.said here c.in_ok-said.ensures)

@@ -2,6 +2,8 @@ use Rattle.std.proofs.Common.{List, Option, None, Some, sym, ap, ◌∙◌, subs
 use Rattle.std.specs.Prelude.{IfNone}
 use Rattle.connections.specs.Connection.{ConnectionView}
 use Rattle.connections.specs.Connections.{ConnectionsView, IsConnections, AreBefore, AreReplied}
+use Rattle.connections.specs.Owed.{IsTakenAt, HasNoneToTake}
+use Rattle.connections.proofs.OwedLemmas.{took_at, none_to_take}
 use Rattle.connections.proofs.AtLemmas.{takes_none, took_keeps, took_before, took_in_turn, took_text}
 use Rattle.connections.proofs.connections.Connections.take.Goals as goal
 
@@ -46,3 +48,11 @@ returns-clause-text c =
     let s = c.self.inside in
     let v : ConnectionsView = record { table = s.table.items; next = s.next; heard = s.history.heard; given = s.history.given; passed = s.history.passed; taken = s.taken.items; replied = s.replied.items } in
     took_text v c.args.at c.take.new.table.items c.in_ok-ready.ready c.self.invariant c.in_ok-ready.ensures
+
+pub returns-in_err-ready-clause-why : goal.returns-in_err-ready-clause-why
+returns-in_err-ready-clause-why c =
+    if_none _ _ (subst (λ (x : ConnectionsView). HasNoneToTake c.args.at x.table) c.self.view_is (none_to_take c.args.at c.self.inside.table.items c.take.new.table.items c.in_err-ready.ensures))
+
+pub returns-clause-there : goal.returns-clause-there
+returns-clause-there c =
+    subst (λ (x : ConnectionsView). IsTakenAt c.args.at x.table c.take.new.table.items c.in_ok-ready.ready) c.self.view_is (took_at c.args.at c.self.inside.table.items c.take.new.table.items c.in_ok-ready.ready c.in_ok-ready.ensures)

@@ -1,4 +1,5 @@
-use Rattle.std.proofs.Common.{◌≡◌}
+use Rattle.std.proofs.Common.{◌≡◌, ◌≤◌, false}
+use Rattle.ensemble.specs.Served.{NoBatchBelow}
 use Rattle.ensemble.proofs.ensemble.Ensemble.cut.Given as goal
 
 abbrev pub invariant-loop-id : goal.invariant-loop-id
@@ -6,4 +7,7 @@ invariant-loop-id l = record {
   asked : l.self.asked ≡ l.fn.self.asked;
   answered : l.self.answered ≡ l.fn.self.answered;
   order : l.self.order ≡ l.fn.self.order;
+  counted : l.fn.self.refused ≤ l.self.refused;
+  same_u : l.self.nodes.u ≡ l.fn.self.nodes.u;
+  nothing : l.has_cut ≡ false → NoBatchBelow l.id l.self.nodes;
 }

@@ -5,10 +5,10 @@ use Rattle.ensemble.proofs.ensemble.Ensemble.deliver.Goals as goal
 
 pub invariant_of-self : goal.invariant_of-self
 invariant_of-self c =
-    let old : EnsembleView = record { nodes = c.self.inside.nodes; asked = c.self.inside.asked.items; answered = c.self.inside.answered.items; order = c.self.inside.order.items } in
-    deliver_none answer_is_replied old c.self.invariant c.deliver.new.self c.deliver.result c.deliver.ensures c.in_err-answer.was
+    let old : EnsembleView = record { nodes = c.self.inside.nodes; asked = c.self.inside.asked.items; answered = c.self.inside.answered.items; order = c.self.inside.order.items; refused = 0 } in
+    deliver_none answer_is_replied old c.self.invariant c.deliver.new.self c.deliver.result c.deliver.ensures.delivers c.in_err-answer.was
 
 pub invariant_of-self-2 : goal.invariant_of-self-2
 invariant_of-self-2 c =
-    let old : EnsembleView = record { nodes = c.self.inside.nodes; asked = c.self.inside.asked.items; answered = c.self.inside.answered.items; order = c.self.inside.order.items } in
-    deliver_some answer_is_replied old c.self.invariant c.deliver.new.self c.deliver.result c.in_ok-answer.answer c.and-self-inside.result.items c.and-self-inside-2.result.items c.deliver.ensures c.in_ok-answer.was c.and-self-inside.ensures c.and-self-inside-2.ensures
+    let old : EnsembleView = record { nodes = c.self.inside.nodes; asked = c.self.inside.asked.items; answered = c.self.inside.answered.items; order = c.self.inside.order.items; refused = 0 } in
+    deliver_some answer_is_replied old c.self.invariant c.deliver.new.self c.deliver.result c.in_ok-answer.answer c.and-self-inside.result.items c.and-self-inside-2.result.items c.deliver.ensures.delivers c.in_ok-answer.was c.and-self-inside.ensures c.and-self-inside-2.ensures

@@ -1,4 +1,4 @@
-use Rattle.std.proofs.Common.{refl, ◌∙◌}
+use Rattle.std.proofs.Common.{refl, ◌∙◌, arith}
 use Rattle.ensemble.proofs.Logs.{none_came, more_came}
 use Rattle.ensemble.proofs.ensemble.Ensemble.deliver_all.Goals as goal
 
@@ -6,12 +6,14 @@ pub loop-init : goal.loop-init
 loop-init c = record {
   asked = refl;
   answered = none_came _ _ _ _ _ _ refl refl refl;
+  counted = omega arith;
 }
 
 pub loop-preserved : goal.loop-preserved
 loop-preserved c = record {
   asked = c.deliver_to.ensures.asked ∙ c.loop.invariant.asked;
   answered = more_came _ _ _ _ _ _ _ _ _ c.loop.invariant.answered c.deliver_to.ensures.answered;
+  counted = (let before = c.loop.invariant.counted in let after = c.deliver_to.ensures.counted in omega (arith, before, after));
 }
 
 pub returns-then-not-deliver_to-clause-asked : goal.returns-then-not-deliver_to-clause-asked

@@ -1,4 +1,4 @@
-use Rattle.std.proofs.Common.{refl, ◌∙◌}
+use Rattle.std.proofs.Common.{refl, ◌∙◌, arith}
 use Rattle.ensemble.proofs.Logs.{none_came, more_came}
 use Rattle.ensemble.proofs.ensemble.Ensemble.go_on_to_the_end.Goals as goal
 
@@ -6,12 +6,14 @@ pub loop-init : goal.loop-init
 loop-init g c = record {
   asked = refl;
   answered = none_came _ _ _ _ _ _ refl refl refl;
+  counted = omega arith;
 }
 
 pub loop-preserved : goal.loop-preserved
 loop-preserved g c = record {
   asked = c.go_on.ensures.asked ∙ c.loop.invariant.asked;
   answered = more_came _ _ _ _ _ _ _ _ _ c.loop.invariant.answered c.go_on.ensures.answered;
+  counted = (let before = c.loop.invariant.counted in let after = c.go_on.ensures.counted in omega (arith, before, after));
 }
 
 pub returns-then-not-go_on-clause-asked : goal.returns-then-not-go_on-clause-asked

@@ -1,6 +1,3 @@
-use Rattle.std.proofs.Common.{List, [], sym, subst}
-use Rattle.ensemble.specs.Nodes.{NodesView}
-use Rattle.ensemble.specs.Ensemble.{IsEnsemble}
 use Rattle.ensemble.proofs.First.{first_is_ensemble}
 use Rattle.ensemble.proofs.ensemble.Ensemble.open.Goals as goal
 

@@ -1,8 +1,18 @@
+use Rattle.std.proofs.Common.{◌≡◌, ◌<◌, ◌^◌, ◌-◌, subst}
+use Rattle.verifier.specs.declared.input.Input.TheVariants.{Suspect}
+use Rattle.ensemble.specs.Nodes.{VerifierMoves, VerifierGets}
+use Rattle.ensemble.specs.Served.{VerifierPosts}
 use Rattle.ensemble.specs.Ensemble.{EnsembleView}
 use Rattle.ensemble.proofs.Going.{suspect_at_goes}
 use Rattle.ensemble.proofs.ensemble.Ensemble.suspect.Goals as goal
 
 pub invariant_of-self : goal.invariant_of-self
 invariant_of-self c =
-    let old : EnsembleView = record { nodes = c.self.inside.nodes; asked = c.self.inside.asked.items; answered = c.self.inside.answered.items; order = c.self.inside.order.items } in
-    suspect_at_goes old c.suspect.new.self c.self.invariant c.args.verifier c.suspect.ensures
+    let old : EnsembleView = record { nodes = c.self.inside.nodes; asked = c.self.inside.asked.items; answered = c.self.inside.answered.items; order = c.self.inside.order.items; refused = 0 } in
+    suspect_at_goes old c.suspect.new.self c.self.invariant c.args.verifier c.suspect.ensures.moves
+
+pub returns-clause-told : goal.returns-clause-told
+returns-clause-told c = subst (λ (e : EnsembleView). VerifierMoves (VerifierGets Suspect) c.args.verifier e.nodes c.suspect.new.self) c.self.view_is c.suspect.ensures.moves
+
+pub returns-clause-sent : goal.returns-clause-sent
+returns-clause-sent c = subst (λ (e : EnsembleView). c.suspect.new.refused ≡ e.refused → e.refused < 2 ^ 64 - 1 → VerifierPosts (VerifierGets Suspect) c.args.verifier e.nodes c.suspect.new.self) c.self.view_is c.suspect.ensures.posted

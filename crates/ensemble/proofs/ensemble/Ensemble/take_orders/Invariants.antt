@@ -1,4 +1,4 @@
-use Rattle.std.proofs.Common.{◌≡◌}
+use Rattle.std.proofs.Common.{◌≡◌, ◌≤◌}
 use Rattle.ensemble.proofs.ensemble.Ensemble.take_orders.Given as goal
 
 abbrev pub invariant-loop-id : goal.invariant-loop-id
@@ -6,4 +6,5 @@ invariant-loop-id l = record {
   asked : l.self.asked ≡ l.fn.self.asked;
   answered : l.self.answered ≡ l.fn.self.answered;
   order : l.self.order ≡ l.fn.self.order;
+  counted : l.fn.self.refused ≤ l.self.refused;
 }

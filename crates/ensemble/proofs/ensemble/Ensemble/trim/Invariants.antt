@@ -1,4 +1,5 @@
-use Rattle.std.proofs.Common.{◌≡◌}
+use Rattle.std.proofs.Common.{◌≡◌, ◌≤◌}
+use Rattle.ensemble.specs.Trimming.{AreTrimmedBelow}
 use Rattle.ensemble.proofs.ensemble.Ensemble.trim.Given as goal
 
 abbrev pub invariant-loop-id : goal.invariant-loop-id
@@ -6,4 +7,6 @@ invariant-loop-id l = record {
   asked : l.self.asked ≡ l.fn.self.asked;
   answered : l.self.answered ≡ l.fn.self.answered;
   order : l.self.order ≡ l.fn.self.order;
+  told : AreTrimmedBelow l.id l.fn.self.nodes l.self.nodes;
+  counted : l.fn.self.refused ≤ l.self.refused;
 }

@@ -1,8 +1,14 @@
+use Rattle.std.proofs.Common.{subst}
+use Rattle.ensemble.specs.Nodes.{VerifierMoves}
+use Rattle.ensemble.specs.Trimming.{VerifierTrimsDue}
 use Rattle.ensemble.specs.Ensemble.{EnsembleView}
 use Rattle.ensemble.proofs.Going.{trim_at_goes}
 use Rattle.ensemble.proofs.ensemble.Ensemble.trim_at.Goals as goal
 
 pub invariant_of-self : goal.invariant_of-self
 invariant_of-self c =
-    let old : EnsembleView = record { nodes = c.self.inside.nodes; asked = c.self.inside.asked.items; answered = c.self.inside.answered.items; order = c.self.inside.order.items } in
-    trim_at_goes old c.trim.new.self c.self.invariant c.args.id c.trim.ensures
+    let old : EnsembleView = record { nodes = c.self.inside.nodes; asked = c.self.inside.asked.items; answered = c.self.inside.answered.items; order = c.self.inside.order.items; refused = 0 } in
+    trim_at_goes old c.trim.new.self c.self.invariant c.args.id c.trim.ensures.moves
+
+pub returns-clause-due : goal.returns-clause-due
+returns-clause-due c = subst (λ (e : EnsembleView). VerifierMoves VerifierTrimsDue c.args.id e.nodes c.trim.new.self) c.self.view_is c.trim.ensures.due

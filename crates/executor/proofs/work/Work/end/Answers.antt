@@ -50,13 +50,26 @@ invariant_of-result c = (tentative, subst (AreSameBeside c.may_differ-differing.
 
 pub returns-clause-tentative : goal.returns-clause-tentative
 returns-clause-tentative c =
-    let view : ◌≡◌ {A = TentativeView} (record { before = c.self.inside.base.state; batch = c.self.inside.batch; after = c.followed_by-after.result; replies = c.args.replies.items })
-    (tentative_of (record { base = c.self.inside.base.state; batch = c.self.inside.batch; ordered = c.self.inside.ordered; progress = record { items = c.self.inside.pages; running = c.self.inside.running.items; group = c.self.inside.group } })) =
-    (λ i. record { before = c.self.inside.base.state; batch = c.self.inside.batch; after = after c.before i; replies = replies c.before i }) in
+    let s = c.self.inside in
+    let made = state_made s.base.state s.batch (record { items = s.pages; running = s.running.items; group = s.group }) in
+    let sessions = c.requires.sessions ∙ ap (λ (v : WorkView). kept_after v.base.sessions (replies_of v.base v.batch v.progress.running)) (sym c.self.view_is) in
+    let after_is : c.followed_by-after.result ≡ made = c.followed_by-after.ensures.followed ∙ (λ i. state_after s.base.state s.batch (sessions i) (c.in_ok-sealed.ensures i).items) in
+    let replies_are : c.args.replies.items ≡ replies_of s.base.state s.batch s.running.items = c.requires.replies ∙ ap (λ (v : WorkView). replies_of v.base v.batch v.progress.running) (sym c.self.view_is) in
+    let view : ◌≡◌ {A = TentativeView} (record { before = s.base.state; batch = s.batch; after = c.followed_by-after.result; replies = c.args.replies.items })
+    (tentative_of (record { base = s.base.state; batch = s.batch; ordered = s.ordered; progress = record { items = s.pages; running = s.running.items; group = s.group } })) =
+    (λ i. record { before = s.base.state; batch = s.batch; after = after_is i; replies = replies_are i }) in
     view ∙ ap tentative_of c.self.view_is
 
 pub returns-clause-round : goal.returns-clause-round
-returns-clause-round c = subst (λ (v : WorkView). Round v.base v.batch v.ordered c.followed_by-after.result c.args.replies.items) c.self.view_is (round c.before)
+returns-clause-round c =
+    let s = c.self.inside in
+    let sessions = c.requires.sessions ∙ ap (λ (v : WorkView). kept_after v.base.sessions (replies_of v.base v.batch v.progress.running)) (sym c.self.view_is) in
+    let after_is : c.followed_by-after.result ≡ state_made s.base.state s.batch (record { items = s.pages; running = s.running.items; group = s.group }) = c.followed_by-after.ensures.followed ∙ (λ i. state_after s.base.state s.batch (sessions i) (c.in_ok-sealed.ensures i).items) in
+    let replies_are : c.args.replies.items ≡ replies_of s.base.state s.batch s.running.items = c.requires.replies ∙ ap (λ (v : WorkView). replies_of v.base v.batch v.progress.running) (sym c.self.view_is) in
+    let done = subst (λ (v : WorkView). IsTrue (is_group_done v.progress)) (sym c.self.view_is) c.requires.done in
+    let last = subst (λ (v : WorkView). IsLast v.progress.running (Some v.progress.group)) (sym c.self.view_is) c.requires.last in
+    subst (λ (v : WorkView). Round v.base v.batch v.ordered c.followed_by-after.result c.args.replies.items) c.self.view_is
+    (completed s.base.state s.batch s.ordered _ c.self.invariant.0.worked done last c.followed_by-after.result c.args.replies.items after_is replies_are)
 
 pub returns-clause-made : goal.returns-clause-made
 returns-clause-made c = record {

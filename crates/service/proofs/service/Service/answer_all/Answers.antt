@@ -1,4 +1,4 @@
-use Rattle.std.proofs.Common.{ℕ, List, sym, ◌∙◌, subst, Bool}
+use Rattle.std.proofs.Common.{arith, ℕ, List, sym, ◌∙◌, subst, Bool}
 use Rattle.std.specs.Prelude.{Contains}
 use Rattle.std.proofs.lemmas.List.Elements.{Contains-append_left, Contains-push}
 use Rattle.proto.specs.declared.reply.Reply as replies
@@ -13,6 +13,8 @@ loop-answer-preserved c = record {
       (c.loop-answer.invariant.logged a (subst (λ (xs : List Answer). Contains xs a) (sym c.in-Some.ensures.items) (Contains-append_left c.pop.new.self.items _ a i)));
   given = gives_on c.args.self.now.connections c.loop-answer.self.connections c.answer.new.self.connections c.args.said.now.items c.loop-answer.said.items c.answer.new.said.items c.loop-answer.invariant.given c.answer.ensures.given;
   heard = c.answer.ensures.heard ∙ c.loop-answer.invariant.heard;
+  counted = let a = c.loop-answer.invariant.counted in let b = c.answer.ensures.counted in omega (arith, a, b);
+  ensemble = c.answer.ensures.ensemble ∙ c.loop-answer.invariant.ensemble;
 }
 
 -- the answer that is taken was logged

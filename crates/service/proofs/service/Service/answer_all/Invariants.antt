@@ -1,4 +1,4 @@
-use Rattle.std.proofs.Common.{◌≡◌, length}
+use Rattle.std.proofs.Common.{◌≡◌, ◌≤◌, length}
 use Rattle.service.specs.Service.{Gives, AreLogged}
 use Rattle.service.proofs.service.Service.answer_all.Given as goal
 
@@ -7,6 +7,8 @@ invariant-loop-answer l = record {
   logged : AreLogged l.answers.items l.self.answered l.self.order;
   given : Gives l.initial.self.connections l.initial.said.items l.self.connections l.said.items;
   heard : l.self.connections.heard ≡ l.initial.self.connections.heard;
+  counted : l.initial.self.replicas.refused ≤ l.self.replicas.refused;
+  ensemble : l.self.replicas.ensemble ≡ l.initial.self.replicas.ensemble;
 }
 
 abbrev pub decreases-loop-answer : goal.decreases-loop-answer

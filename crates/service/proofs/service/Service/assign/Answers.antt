@@ -1,15 +1,32 @@
-use Rattle.std.proofs.Common.{refl}
-use Rattle.service.specs.Service.{ServiceView, assigned}
-use Rattle.service.proofs.MomentLemmas.{assigned_moments, moment_now}
-use Rattle.service.proofs.KeepLemmas.{assign_keeps}
+use Rattle.std.proofs.Common.{rules, ◌≡◌, List, ◌∷◌, ◌++◌, Option, None, refl, sym, ap, ◌∙◌, subst}
+use Rattle.std.specs.Prelude.{option_to_list}
+use Rattle.service.specs.declared.note.Waiting.{Waiting}
+use Rattle.service.specs.Service.{ServiceView, none_shown, assigned}
+use Rattle.service.specs.Owed.{Remembers}
+use Rattle.service.proofs.MomentLemmas.{same_moments, assigned_moments, moment_now}
+use Rattle.service.proofs.KeepLemmas.{assign_keeps, lined}
+use Rattle.service.proofs.OwedLemmas.{assign_remembers}
 use Rattle.service.proofs.service.Service.assign.Goals as goal
+
+-- nobody was in the line
+pub invariant_of-self-in_default-pop_front : goal.invariant_of-self-in_default-pop_front
+invariant_of-self-in_default-pop_front c =
+    let s = c.self.inside in
+    let v : ServiceView = record { connections = s.connections; asked = s.ensemble.asked; answered = s.ensemble.answered; order = s.ensemble.order; assignments = assigned s.assignments.items; waiting = s.pool; line = s.line.items; replicas = none_shown } in
+    let none : c.pop_front.result ≡ None = search rules in
+    let same : s.line.items ≡ c.pop_front.new.self.items = c.pop_front.ensures.items ∙ ap (λ (w : Option Waiting). option_to_list w ++ c.pop_front.new.self.items) none in
+    (lined v c.pop_front.new.self.items c.self.invariant.0, c.self.invariant.1, c.self.invariant.2, subst (λ (line : List Waiting). Remembers line s.pool s.connections.table) same c.self.invariant.3)
 
 pub invariant_of-self-2 : goal.invariant_of-self-2
 invariant_of-self-2 c =
     let s = c.self.inside in
-    let v : ServiceView = record { connections = s.connections; asked = s.ensemble.asked; answered = s.ensemble.answered; order = s.ensemble.order; assignments = assigned s.assignments.items; waiting = s.pool } in
+    let v : ServiceView = record { connections = s.connections; asked = s.ensemble.asked; answered = s.ensemble.answered; order = s.ensemble.order; assignments = assigned s.assignments.items; waiting = s.pool; line = s.line.items; replicas = none_shown } in
     let next = c.ask-asking.new.connections in
     let f = c.ask-asking.new.ensemble in
-    let now : ServiceView = record { connections = next; asked = f.asked; answered = f.answered; order = f.order; assignments = assigned c.settle.new.assignments.items; waiting = c.settle.new.pool } in
-    let ok = assign_keeps v _ _ next s.ensemble f c.ask-asking.result c.next_pair.new.pool c.settle.new.pool (assigned c.settle.new.assignments.items) _ _ c.self.invariant.0 refl refl refl c.next_pair.ensures c.ask-asking.ensures c.settle.ensures in
-    (ok, assigned_moments v now _ _ s.ensemble f c.ask-asking.result c.next_pair.new.pool _ _ c.self.invariant.1 refl refl refl refl c.ask-asking.ensures c.settle.ensures (moment_now now ok c.always.ensures.connections c.always.ensures.history), c.self.invariant.2)
+    let w : Waiting = c.in-Some-pop_front.waiting in
+    let line = c.pop_front.new.self.items in
+    let now : ServiceView = record { connections = next; asked = f.asked; answered = f.answered; order = f.order; assignments = assigned c.settle.new.assignments.items; waiting = c.settle.new.pool; line = line; replicas = none_shown } in
+    let popped : s.line.items ≡ w ∷ line = c.in-Some-pop_front.ensures.items in
+    let ok = assign_keeps v _ _ next s.ensemble f c.ask-asking.result s.pool c.settle.new.pool (assigned c.settle.new.assignments.items) _ _ w.at.key line c.self.invariant.0 refl refl refl refl c.ask-asking.ensures c.settle.ensures in
+    let remembers = assign_remembers line w s.pool c.settle.new.pool s.connections next c.in-Some.proxy s.ensemble f c.ask-asking.result _ _ _ _ c.in-Some.ensures.pool c.ask-asking.ensures c.settle.ensures (subst (λ (l : List Waiting). Remembers l s.pool s.connections.table) popped c.self.invariant.3) in
+    (ok, assigned_moments v now _ _ s.ensemble f c.ask-asking.result s.pool _ _ w.at.key c.self.invariant.1 refl refl refl refl c.ask-asking.ensures c.settle.ensures (moment_now now ok c.always.ensures.connections c.always.ensures.history), c.self.invariant.2, remembers)

@@ -1,4 +1,4 @@
-use Rattle.std.proofs.Common.{◌≡◌}
+use Rattle.std.proofs.Common.{◌≡◌, ◌≤◌}
 use Rattle.service.specs.Service.{Gives}
 use Rattle.service.proofs.service.Service.assign_all.Given as goal
 
@@ -6,4 +6,5 @@ abbrev pub invariant-loop : goal.invariant-loop
 invariant-loop l = record {
   given : Gives l.initial.self.connections l.initial.said.items l.self.connections l.said.items;
   heard : l.self.connections.heard ≡ l.initial.self.connections.heard;
+  counted : l.initial.self.replicas.refused ≤ l.self.replicas.refused;
 }

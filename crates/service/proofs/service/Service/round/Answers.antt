@@ -11,7 +11,7 @@ returns-clause-given g c =
     let before = c.args.self.now.connections in
     let between = c.assign_all.new.self.connections in
     let after = c.answer_all.new.self.connections in
-    let of_inside : Gives c.self.inside.connections c.args.said.now.items between c.assign_all.new.said.items = subst (λ (said : List Said). Gives c.self.inside.connections said between c.assign_all.new.said.items) c.has_room.ensures c.assign_all.ensures.given in
+    let of_inside : Gives c.self.inside.connections c.args.said.now.items between c.assign_all.new.said.items = subst (λ (said : List Said). Gives c.self.inside.connections said between c.assign_all.new.said.items) c.has_room.ensures.said c.assign_all.ensures.given in
     let asked : Gives before c.args.said.now.items between c.assign_all.new.said.items = subst (λ (x : ServiceView). Gives x.connections c.args.said.now.items between c.assign_all.new.said.items) c.self.view_is of_inside in
     let answered : Gives between c.assign_all.new.said.items after c.answer_all.new.said.items = subst (λ (x : ConnectionsView). Gives x c.assign_all.new.said.items after c.answer_all.new.said.items) c.execute-answers.ensures.connections c.answer_all.ensures.given in
     gives_on before between after c.args.said.now.items c.assign_all.new.said.items c.answer_all.new.said.items asked answered

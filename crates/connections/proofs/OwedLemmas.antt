@@ -1,0 +1,208 @@
+-- What becomes of a connection's outstanding command in each call.
+use Rattle.std.proofs.Common.{◌≡◌, ◌⊎◌, inl, inr, ⊎_elim, ℕ, ◌+◌, ◌-◌, ◌^◌, ◌≤◌, ◌<◌, Bool, true, false, List, length, Option, Some, None, refl, sym, ap, ◌∙◌, subst, arith, slice_get, slice_set}
+use Rattle.std.specs.Prelude.{◌≢◌, ◌==◌, min, is_some, not, Result, Ok, Err, if◌then◌else◌}
+use Rattle.std.proofs.lemmas.Bool.{cond_both, eq-eqb, eqb-true}
+use Rattle.std.proofs.Math.Nat.{le-min}
+use Rattle.base.specs.declared.fault.Fault.{Fault}
+use Rattle.proto.specs.declared.command.Command.{Command}
+use Rattle.proto.specs.declared.reply.Reply as replies
+use Rattle.proto.specs.Text.{given_text}
+use Rattle.client.specs.declared.asked.Asked.{Asked}
+use Rattle.client.specs.declared.talk.Talk.{Talk}
+use Rattle.client.specs.Talk.{Given, unmoved, go_on}
+use Rattle.client.specs.Step.{is_asked, on_reply, answered_to}
+use Rattle.connections.specs.declared.connection.Ready.{Ready}
+use Rattle.connections.specs.declared.connection.TheConstants.{MOST_UNWRITTEN}
+use Rattle.connections.specs.declared.places.Place.{Place}
+use Rattle.connections.specs.declared.said.Said.{Said}
+use Rattle.connections.specs.Connection.{ConnectionView, IsFedTo, ConnectionAnswers, wanted_command, or_else, after_given, answer_given}
+use Rattle.connections.specs.Places.{place_in, is_of_connection, connection_at, is_here, FeedsAt, AnswersAt, TakesWhere, TakesPlace, TakesIn, TakesAt, left_in, left_at, after_written, written_place, written_in, written_at, HasSameOthers}
+use Rattle.connections.specs.Connections.{ConnectionsView, IsHere, IsConnections}
+use Rattle.connections.specs.Owed.{HasSameOutstanding, HasCommand, ReadsFurther, AnswersOn, BecomesAt, IsTakenAt, HasNoneToTake}
+use Rattle.connections.proofs.PlaceLemmas.{set_place, other_place, place_there, same_or_not}
+use Rattle.connections.proofs.StepLemmas.{Asks, where_asks, fed_asks}
+use Rattle.connections.proofs.AtLemmas.{found, set_same, left_none, fed_parts, answer_parts, if_some, takes_some}
+
+-- ---- one connection
+
+-- what waits to be written grows
+behind : (a b : ℕ) → MOST_UNWRITTEN ≤ a → MOST_UNWRITTEN ≤ min (a + b) (2 ^ 64 - 1)
+behind a b le = le-min (omega (arith, le)) (omega arith)
+
+-- a step that asks nothing, or the next command
+goes_on : (c : ConnectionView) (g : Given) → Asks c.talk g → HasSameOutstanding c (after_given c g) ⊎ HasCommand (after_given c g)
+goes_on c g (inl h) = inl (h.2, ap (λ (o : Option Command). or_else o c.command) h.0)
+goes_on c g (inr h) = inr (ap (λ (o : Option Command). is_some (or_else o c.command)) h.1)
+
+pub fed_reads : (c d : ConnectionView) (piece bytes : List ℕ) → IsFedTo c piece d bytes → ReadsFurther c d
+fed_reads c d piece bytes f =
+    let g : Given = f.0 in
+    subst (ReadsFurther c) (sym f.2) (record {
+      number = refl;
+      behind = behind c.unwritten (length g.bytes);
+      owes = goes_on c g (fed_asks c.talk piece g f.1);
+    })
+
+-- what a reply leads to
+abbrev Replies : ConnectionView → ℕ → Given → Type 0
+Replies c turn g = (HasSameOutstanding c (after_given c g) × (HasCommand c ⊎ (is_asked c.talk.outstanding turn ≡ false))) ⊎ ((after_given c g).talk.outstanding ≡ None) ⊎ HasCommand (after_given c g)
+
+still : (c : ConnectionView) (turn : ℕ) → HasCommand c ⊎ (is_asked c.talk.outstanding turn ≡ false) → Replies c turn (unmoved c.talk)
+still c turn why = inl ((refl, refl), why)
+
+moves : (c : ConnectionView) (turn : ℕ) (t : Talk) (g : Given) → t.outstanding ≡ None → Asks t g → Replies c turn g
+moves c turn t g none (inl h) = inr (inl (h.2 ∙ none))
+moves c turn t g none (inr h) = inr (inr (ap (λ (o : Option Command). is_some (or_else o c.command)) h.1))
+
+replies_on : (c : ConnectionView) (turn : ℕ) (reply : replies.Reply) → Replies c turn (on_reply 0 1 c.talk turn reply)
+replies_on c turn reply = by c.talk.outstanding refl
+  where
+    by : (o : Option Asked) → c.talk.outstanding ≡ o → Replies c turn (answered_to 0 1 c.talk turn reply o)
+    by None e = still c turn (inr (ap (λ (x : Option Asked). is_asked x turn) e))
+    by (Some a) e =
+        let t : Talk = record c.talk { outstanding = None } in
+        cond_both (a.request.number == turn) (go_on 0 1 t (given_text reply a.quiet)) (unmoved c.talk) (Replies c turn)
+        (λ _. moves c turn t (go_on 0 1 t (given_text reply a.quiet)) refl (where_asks t (given_text reply a.quiet) t.outstanding t.closed))
+        (λ differs. still c turn (inr (ap (λ (x : Option Asked). is_asked x turn) e ∙ differs)))
+
+given_on : (c : ConnectionView) (turn : ℕ) (reply : replies.Reply) (o : Option Command) → c.command ≡ o → Replies c turn (answer_given c turn reply o)
+given_on c turn reply None e = replies_on c turn reply
+given_on c turn reply (Some command) e = still c turn (inl (ap (λ (x : Option Command). is_some x) e))
+
+pub answers_on : (c d : ConnectionView) (turn : ℕ) (reply : replies.Reply) (bytes : List ℕ) → ConnectionAnswers c turn reply d bytes → AnswersOn turn c d
+answers_on c d turn reply bytes a =
+    let g : Given = a.0 in
+    subst (AnswersOn turn c) (sym a.2) (record {
+      number = refl;
+      behind = behind c.unwritten (length g.bytes);
+      owes = subst (Replies c turn) (sym a.1) (given_on c turn reply c.command refl);
+    })
+
+-- ---- one place of the table
+
+pub reads_at : (v : ConnectionsView) (at : Place) (piece : List ℕ) (table : List (Option ConnectionView)) (said : Said) → is_here at.number v.table at.key ≡ true → FeedsAt at piece v.table table (Ok said) → BecomesAt ReadsFurther at v.table table
+reads_at v at piece table said here f d e =
+    let c = found v at here in
+    let parts = fed_parts v at piece table (Ok said) c.0 c.1 f in
+    let there : place_in table at.key ≡ parts.0 = ap (λ (t : List (Option ConnectionView)). place_in t at.key) parts.2 ∙ set_place v.table at.key parts.0 (Some c.0) (place_there v.table at.key c.0 c.1) in
+    let is : d ≡ parts.1.0 = if_some (not said.closes) parts.1.0 d (sym parts.1.3 ∙ (sym there ∙ e)) in
+    (c.0, c.1, c.2, subst (ReadsFurther c.0) (sym is) (fed_reads c.0 parts.1.0 piece said.bytes.items parts.1.1))
+
+pub answers_at : (v : ConnectionsView) (at : Place) (turn : ℕ) (reply : replies.Reply) (table : List (Option ConnectionView)) (said : Said) → is_here at.number v.table at.key ≡ true → AnswersAt at turn reply v.table table (Some said) → BecomesAt (AnswersOn turn) at v.table table
+answers_at v at turn reply table said here f d e =
+    let c = found v at here in
+    let parts = answer_parts v at turn reply table (Some said) c.0 c.1 f in
+    let there : place_in table at.key ≡ parts.0 = ap (λ (t : List (Option ConnectionView)). place_in t at.key) parts.2 ∙ set_place v.table at.key parts.0 (Some c.0) (place_there v.table at.key c.0 c.1) in
+    let kept : (if not said.closes then Some parts.1.0 else None) ≡ Some d = sym parts.1.3 ∙ (sym there ∙ e) in
+    ⊎_elim
+    (λ step. let is : d ≡ parts.1.0 = if_some (not said.closes) parts.1.0 d kept in
+    (c.0, c.1, c.2, subst (AnswersOn turn c.0) (sym is) (answers_on c.0 parts.1.0 turn reply said.bytes.items step.0)))
+    (λ last. let none : ◌≡◌ {A = Option ConnectionView} None (Some d) = sym (ap (λ (b : Bool). if not b then Some parts.1.0 else None) last.closes) ∙ kept in absurd (cc none))
+    parts.1.1
+
+pub took_at : (at : Place) (old table : List (Option ConnectionView)) (ready : Ready) → TakesAt at old table (Some ready) → IsTakenAt at old table ready
+took_at at old table ready t =
+    let k = takes_some at old table ready t in
+    record {
+      was = k.was;
+      next = k.next;
+      at_key = k.at_key;
+      number = k.number;
+      is = k.is;
+      there = ap (λ (x : List (Option ConnectionView)). place_in x at.key) k.set ∙ set_place old at.key (Some k.next) (Some k.was) (place_there old at.key k.was k.at_key);
+    }
+
+pub none_to_take : (at : Place) (old table : List (Option ConnectionView)) → TakesAt at old table None → HasNoneToTake at old
+none_to_take at old table t c e number =
+    let p = subst (λ (o : Option (Option ConnectionView)). TakesIn at old table None o) (place_there old at.key c e) t in
+    (subst (λ (b : Bool). TakesWhere b c p.0 None) (eq-eqb c.number at.number number) p.1).1
+
+-- ---- it leaves
+
+-- if it is not here nothing changes
+pub left_same : (at : Place) (table : List (Option ConnectionView)) → is_here at.number table at.key ≡ false → left_at at table ≡ table
+left_same at table not_here = by (slice_get table at.key) refl
+  where
+    by : (o : Option (Option ConnectionView)) → slice_get table at.key ≡ o → left_in at table o ≡ table
+    by None e = refl
+    by (Some p) e =
+        let b : is_of_connection at.number p ≡ false = sym (ap (λ (o : Option (Option ConnectionView)). is_of_connection at.number (connection_at o)) e) ∙ not_here in
+        ap (λ (x : Bool). slice_set table at.key (if x then None else p)) b ∙ set_same table at.key p e
+
+pub failed_table : (v : ConnectionsView) (at : Place) (piece : List ℕ) (table : List (Option ConnectionView)) (fault : Fault) → is_here at.number v.table at.key ≡ true → FeedsAt at piece v.table table (Err fault) → table ≡ left_at at v.table
+failed_table v at piece table fault here f =
+    let c = found v at here in
+    let parts = fed_parts v at piece table (Err fault) c.0 c.1 f in
+    parts.2 ∙ (ap (slice_set v.table at.key) parts.1.0 ∙ sym (left_none v at c.0 c.1 c.2))
+
+-- who is at its key then is another one, and was there
+pub left_own : (at : Place) (table : List (Option ConnectionView)) (d : ConnectionView) → place_in (left_at at table) at.key ≡ Some d → (d.number ≢ at.number) × (place_in table at.key ≡ Some d)
+left_own at table d = by (slice_get table at.key) refl
+  where
+    by_place : (p : Option ConnectionView) (b : Bool) → slice_get table at.key ≡ Some p → is_of_connection at.number p ≡ b → place_in (slice_set table at.key (if b then None else p)) at.key ≡ Some d → (d.number ≢ at.number) × (place_in table at.key ≡ Some d)
+    by_place p true e is there = let none : ◌≡◌ {A = Option ConnectionView} None (Some d) = sym (set_place table at.key None p e) ∙ there in absurd (cc none)
+    by_place p false e is there =
+        let same : p ≡ Some d = sym (set_place table at.key p p e) ∙ there in
+        (λ number. let clash : true ≡ false = sym (eq-eqb d.number at.number number) ∙ (ap (is_of_connection at.number) (sym same) ∙ is) in absurd (cc clash), ap connection_at e ∙ same)
+
+    by : (o : Option (Option ConnectionView)) → slice_get table at.key ≡ o → place_in (left_in at table o) at.key ≡ Some d → (d.number ≢ at.number) × (place_in table at.key ≡ Some d)
+    by None e there = let none : ◌≡◌ {A = Option ConnectionView} None (Some d) = sym (ap connection_at e) ∙ there in absurd (cc none)
+    by (Some p) e there = by_place p (is_of_connection at.number p) e refl there
+
+-- ---- bytes are written
+
+-- who is there then was there, and less of it waits to be written
+pub record WasWritten (at : Place) (count key : ℕ) (table : List (Option ConnectionView)) (d : ConnectionView) : Type 0 where
+  pub was : ConnectionView
+  pub there : place_in table key ≡ Some was
+  pub became : (d ≡ was) ⊎ ((d ≡ after_written count was) × (was.number ≡ at.number) × (key ≡ at.key))
+
+pub written_back : (at : Place) (count key : ℕ) (table : List (Option ConnectionView)) (d : ConnectionView) → place_in (written_at at count table) key ≡ Some d → WasWritten at count key table d
+written_back at count key table d = by (slice_get table at.key) refl
+  where
+    by_number : (c : ConnectionView) (b : Bool) → key ≡ at.key → place_in table key ≡ Some c → (c.number == at.number) ≡ b → (if b then after_written count c else c) ≡ d → WasWritten at count key table d
+    by_number c true same e is became = record { was = c; there = e; became = inr (sym became, eqb-true c.number at.number is, same) }
+    by_number c false same e is became = record { was = c; there = e; became = inl (sym became) }
+
+    by_place : (p : Option ConnectionView) → key ≡ at.key → slice_get table at.key ≡ Some p → written_place at.number count p ≡ Some d → WasWritten at count key table d
+    by_place None same e there = let none : ◌≡◌ {A = Option ConnectionView} None (Some d) = there in absurd (cc none)
+    by_place (Some c) same e there =
+        by_number c (c.number == at.number) same (ap (place_in table) same ∙ ap connection_at e) refl (let s : ◌≡◌ {A = Option ConnectionView} (Some (if c.number == at.number then after_written count c else c)) (Some d) = there in cc s)
+
+    by : (o : Option (Option ConnectionView)) → slice_get table at.key ≡ o → place_in (written_in at count table o) key ≡ Some d → WasWritten at count key table d
+    by None e there = record { was = d; there = there; became = inl refl }
+    by (Some p) e there = ⊎_elim
+        (λ (same : key ≡ at.key). by_place p same e (sym (set_place table at.key (written_place at.number count p) p e) ∙ (sym (ap (place_in (slice_set table at.key (written_place at.number count p))) same) ∙ there)))
+        (λ (differs : key ≢ at.key). record { was = d; there = sym (other_place table at.key (written_place at.number count p) key differs) ∙ there; became = inl refl })
+        (same_or_not key at.key)
+
+pub written_others : (at : Place) (count : ℕ) (table : List (Option ConnectionView)) → HasSameOthers at.key table (written_at at count table)
+written_others at count table = by (slice_get table at.key)
+  where
+    by : (o : Option (Option ConnectionView)) → HasSameOthers at.key table (written_in at count table o)
+    by None = λ other differs. refl
+    by (Some p) = λ other differs. other_place table at.key (written_place at.number count p) other differs
+
+written_here : (v : ConnectionsView) (table : List (Option ConnectionView)) (at : Place) (count key : ℕ) (d : ConnectionView) → IsConnections v → WasWritten at count key v.table d → IsHere (record v { table = table }) d
+written_here v table at count key d ok w =
+    let h = ok.here key w.was w.there in
+    let same : IsHere (record v { table = table }) w.was = record { below = h.below; talks = h.talks; counted = h.counted } in
+    let less : IsHere (record v { table = table }) (after_written count w.was) = record { below = h.below; talks = h.talks; counted = h.counted } in
+    ⊎_elim (λ is. subst (IsHere (record v { table = table })) (sym is) same) (λ is. subst (IsHere (record v { table = table })) (sym is.0) less) w.became
+
+number_of : (at : Place) (count key : ℕ) (table : List (Option ConnectionView)) (d : ConnectionView) (w : WasWritten at count key table d) → w.was.number ≡ d.number
+number_of at count key table d w = ⊎_elim (λ is. sym (ap (λ (c : ConnectionView). c.number) is)) (λ is. sym (ap (λ (c : ConnectionView). c.number) is.0)) w.became
+
+pub written_keeps : (v : ConnectionsView) (at : Place) (count : ℕ) → IsConnections v → IsConnections (record v { table = written_at at count v.table })
+written_keeps v at count ok = record {
+  here = λ key d e. written_here v (written_at at count v.table) at count key d ok (written_back at count key v.table d e);
+  one_place = λ i j c d at_i at_j same.
+      let a = written_back at count i v.table c at_i in
+      let b = written_back at count j v.table d at_j in
+      ok.one_place i j a.was b.was a.there b.there (number_of at count i v.table c a ∙ (same ∙ sym (number_of at count j v.table d b)));
+  answered = ok.answered;
+  fresh = ok.fresh;
+  asked = ok.asked;
+  below = ok.below;
+  once = ok.once;
+}

@@ -1,0 +1,3 @@
+pub mod SocketLemmas
+pub mod SocketsLemmas
+pub mod TrafficLemmas

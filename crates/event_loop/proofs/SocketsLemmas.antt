@@ -1,0 +1,128 @@
+-- What a change of one socket does to the table.
+use Rattle.std.proofs.Common.{◌≡◌, ◌≢◌, ℕ, false, List, [], ◌∷◌, ◌++◌, refl, ap, sym, ◌∙◌, subst, rules, ◌<◌, ◌+◌, length, arith, inl, inr}
+use Rattle.std.specs.Prelude.{Option, Some, None, IsSome, Contains}
+use Rattle.std.proofs.lemmas.Bool.{cases_eq}
+use Rattle.slab.specs.Slab.{Slab, get, with_value, Updates}
+use Rattle.slab.proofs.SlabLemmas.{Updates-with_value, Contains-cons_cases}
+use Rattle.event_loop.specs.declared.message.Said.{Said}
+use Rattle.event_loop.specs.Traffic.{Traffic}
+use Rattle.event_loop.specs.Socket.{SocketView, SocketRests, new_socket}
+use Rattle.event_loop.specs.Sockets.{TurnsView, SocketsView, IsPlaced, Lists, IsSameButListed, SocketHears, HearsListed, IsGiven, AreAllGiven}
+
+module _ (all : Slab SocketView) (key : ℕ) (s : SocketView) (e : get all key ≡ Some s) where
+  same : (s' : SocketView) → get all key ≡ Some s' → s ≡ s'
+  same s' e' = cc (sym e ∙ e')
+
+  there : IsSome (get all key)
+  there = subst (λ (o : Option SocketView). IsSome o) (sym e) (search rules)
+
+  pub put : (t : SocketView) → Updates all (with_value all key t) key (Some t)
+  put t = Updates-with_value all key t there
+
+  -- what holds of the socket that is here and of the one in its place
+  pub put_here : (R : SocketView → SocketView → Type 0) (t : SocketView) → R s t → (s' : SocketView) → get all key ≡ Some s' → (x : SocketView) × (get (with_value all key t) key ≡ Some x) × R s' x
+  put_here R t r s' e' = (t, (put t).changed, subst (λ (z : SocketView). R z t) (same s' e') r)
+
+  -- the socket in its place is removed
+  module _ (t : SocketView) (all' : Slab SocketView) (u : Updates (with_value all key t) all' key None) where
+    pub others_gone : (other : ℕ) → other ≢ key → get all' other ≡ get all other
+    others_gone other differs = u.others other differs ∙ (put t).others other differs
+
+-- what holds of each socket holds after a change of one
+pub placed_after : (all all' : Slab SocketView) (key : ℕ) (slot : Option SocketView) (turns turns' : TurnsView) (next next' : ℕ) → Updates all all' key slot → ((k : ℕ) (x : SocketView) → get all k ≡ Some x → IsPlaced k turns next x) → ((k : ℕ) (x : SocketView) → k ≢ key → IsPlaced k turns next x → IsPlaced k turns' next' x) → ((x : SocketView) → slot ≡ Some x → IsPlaced key turns' next' x) → (k : ℕ) (x : SocketView) → get all' k ≡ Some x → IsPlaced k turns' next' x
+placed_after all all' key slot turns turns' next next' u was moves here k x found =
+    elim (cases_eq k key) [
+      | inl at ↦ subst (λ (i : ℕ). IsPlaced i turns' next' x) (sym at) (here x (sym u.changed ∙ ap (get all') (sym at) ∙ found))
+      | inr differs ↦ moves k x differs (was k x (sym (u.others k differs) ∙ found))
+    ]
+
+-- room for more changes nothing
+pub placed_roomy : (all all' : Slab SocketView) (capacity : ℕ) (turns : TurnsView) (next : ℕ) → all' ≡ record all { capacity = capacity } → ((k : ℕ) (x : SocketView) → get all k ≡ Some x → IsPlaced k turns next x) → (k : ℕ) (x : SocketView) → get all' k ≡ Some x → IsPlaced k turns next x
+placed_roomy all all' capacity turns next same was k x found = was k x (sym (ap (λ (a : Slab SocketView). get a k) same) ∙ found)
+
+-- one more, of which nothing is known
+pub placed_new : (all all' : Slab SocketView) (key : ℕ) (turns : TurnsView) (next : ℕ) (traffic : Traffic) → traffic.waits ≡ [] → Updates all all' key (Some (new_socket next traffic)) → ((k : ℕ) (x : SocketView) → get all k ≡ Some x → IsPlaced k turns next x) → (k : ℕ) (x : SocketView) → get all' k ≡ Some x → IsPlaced k turns (next + 1) x
+placed_new all all' key turns next traffic none u was =
+    placed_after all all' key (Some (new_socket next traffic)) turns turns next (next + 1) u was
+    (λ k x differs q. record { number = omega (arith, q.number); listed = q.listed; rests = q.rests })
+    (λ x same. let is : new_socket next traffic ≡ x = cc same in subst (λ (z : SocketView). IsPlaced key turns (next + 1) z) is (record {
+      number = omega arith;
+      listed = λ i. absurd (cc i);
+      rests = λ kept i. record { is_here = λ over. elim over [ inl e ↦ absurd (cc e) | inr e ↦ absurd (cc e.0) ]; writes = λ w. absurd (omega (arith, w.waits, ap (λ (l : List ℕ). length l) none)); reads = λ r. absurd (cc r.is_readable); is_told = λ e. omega arith };
+    }))
+
+-- a socket that changed was listed
+pub placed_listed : (all : Slab SocketView) (key : ℕ) (s h t : SocketView) (turns turns' : TurnsView) (next : ℕ) → get all key ≡ Some s → ((k : ℕ) (x : SocketView) → get all k ≡ Some x → IsPlaced k turns next x) → h.number ≡ s.number → h.is_listed ≡ s.is_listed → Lists key turns h turns' t → (k : ℕ) (x : SocketView) → get (with_value all key t) k ≡ Some x → IsPlaced k turns' next x
+placed_listed all key s h t turns turns' next e was n l p =
+    placed_after all (with_value all key t) key (Some t) turns turns' next next (put all key s e t) was
+    (λ k x differs q. record { number = q.number; listed = λ i. p.kept k (q.listed i); rests = λ none i. q.rests (p.before none) i })
+    (λ x same. let is : t ≡ x = cc same in subst (λ (z : SocketView). IsPlaced key turns' next z) is (record {
+      number = subst (λ (m : ℕ). m < next) (sym (ap (λ (z : SocketView). z.number) p.others ∙ n)) (was key s e).number;
+      listed = λ i. p.here (λ j. (was key s e).listed (sym l ∙ j)) i;
+      rests = λ none i. absurd (cc (sym none ∙ p.lost i));
+    }))
+
+-- a socket was looked at
+pub placed_same : (all : Slab SocketView) (key : ℕ) (s : SocketView) (turns : TurnsView) (next : ℕ) → get all key ≡ Some s → ((k : ℕ) (x : SocketView) → get all k ≡ Some x → IsPlaced k turns next x) → (k : ℕ) (x : SocketView) → get (with_value all key s) k ≡ Some x → IsPlaced k turns next x
+placed_same all key s turns next e was =
+    placed_after all (with_value all key s) key (Some s) turns turns next next (put all key s e s) was (λ k x differs q. q) (λ x same. was key x (e ∙ same))
+
+-- the first key was taken out of the turns
+module _ (turns popped : TurnsView) (key : ℕ) (first : turns ≡ record popped { keys = key ∷ popped.keys }) (next : ℕ) where
+  placed_other : (k : ℕ) (x : SocketView) → k ≢ key → IsPlaced k turns next x → IsPlaced k popped next x
+  placed_other k x differs q =
+      record {
+        number = q.number;
+        listed = λ i. elim (Contains-cons_cases key k popped.keys (subst (λ (t : TurnsView). Contains t.keys k) first (q.listed i))) [ inl same ↦ absurd (differs (sym same)) | inr later ↦ later ];
+        rests = λ none i. q.rests (ap (λ (t : TurnsView). t.has_lost) first ∙ none) i;
+      }
+
+  module _ (all : Slab SocketView) (was : (k : ℕ) (x : SocketView) → get all k ≡ Some x → IsPlaced k turns next x) where
+    -- no socket has it
+    pub placed_none : get all key ≡ None → (k : ℕ) (x : SocketView) → get all k ≡ Some x → IsPlaced k popped next x
+    placed_none none k x found =
+        elim (cases_eq k key) [
+          | inl at ↦ let clash : ◌≡◌ {A = Option SocketView} None (Some x) = sym none ∙ ap (get all) (sym at) ∙ found in absurd (cc clash)
+          | inr differs ↦ placed_other k x differs (was k x found)
+        ]
+
+    module _ (s t : SocketView) (e : get all key ≡ Some s) where
+      -- its socket is gone
+      pub placed_gone : (all' : Slab SocketView) → Updates (with_value all key t) all' key None → (k : ℕ) (x : SocketView) → get all' k ≡ Some x → IsPlaced k popped next x
+      placed_gone all' u = placed_after all all' key None turns popped next next (record { changed = u.changed; others = others_gone all key s e t all' u }) was placed_other (λ x same. absurd (cc same))
+
+      -- its socket rests
+      pub placed_resting : t.number ≡ s.number → t.is_listed ≡ false → SocketRests t → (k : ℕ) (x : SocketView) → get (with_value all key t) k ≡ Some x → IsPlaced k popped next x
+      placed_resting n l r =
+          placed_after all (with_value all key t) key (Some t) turns popped next next (put all key s e t) was placed_other
+          (λ x same. let is : t ≡ x = cc same in subst (λ (z : SocketView). IsPlaced key popped next z) is (record {
+            number = subst (λ (m : ℕ). m < next) (sym n) (was key s e).number;
+            listed = λ i. absurd (cc (sym l ∙ i));
+            rests = λ none i. r;
+          }))
+
+      -- its socket has one more turn
+      pub placed_again : (h : SocketView) (more : TurnsView) → h.number ≡ s.number → h.is_listed ≡ false → Lists key popped h more t → (k : ℕ) (x : SocketView) → get (with_value all key t) k ≡ Some x → IsPlaced k more next x
+      placed_again h more n l p =
+          placed_after all (with_value all key t) key (Some t) turns more next next (put all key s e t) was
+          (λ k x differs q. let o = placed_other k x differs q in record { number = o.number; listed = λ i. p.kept k (o.listed i); rests = λ none i. o.rests (p.before none) i })
+          (λ x same. let is : t ≡ x = cc same in subst (λ (z : SocketView). IsPlaced key more next z) is (record {
+            number = subst (λ (m : ℕ). m < next) (sym (ap (λ (z : SocketView). z.number) p.others ∙ n)) (was key s e).number;
+            listed = λ i. p.here (λ j. absurd (cc (sym l ∙ j))) i;
+            rests = λ none i. absurd (cc (sym none ∙ p.lost i));
+          }))
+
+pub given_here : (old : SocketsView) (said : Said) (s h t : SocketView) (turns : TurnsView) → get old.all said.key ≡ Some s → s.number ≡ said.number → SocketHears s said h → IsSameButListed h t → IsGiven old said (record { all = with_value old.all said.key t; turns = turns; next = old.next })
+given_here old said s h t turns e n hears listed =
+    let u = put old.all said.key s e t in
+    record {
+      others = u.others;
+      unknown = λ none. absurd (none s e n);
+      joins = λ s' e' n'. put_here old.all said.key s e (λ a b. HearsListed a said b) t (h, hears, listed) s' e';
+      next = refl;
+    }
+
+-- one more was given
+pub given_more : (all : List Said) (said : Said) (a b c : SocketsView) → AreAllGiven a all b → IsGiven b said c → AreAllGiven a (all ++ said ∷ []) c
+given_more [] said a b c p q = (c, subst (λ (v : SocketsView). IsGiven v said c) p q, refl)
+given_more (first ∷ rest) said a b c p q = (p.0, p.1, given_more rest said p.0 b c p.2 q)

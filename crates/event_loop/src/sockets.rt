@@ -1,0 +1,201 @@
+//! The sockets of an event loop, and those of them that have a turn.
+
+ghost use Rattle.std.specs.Prelude.{◌≡◌, ◌≢◌, ◌+◌, ℕ, [], true, false, Some, None, IfSome, IfNone, length};
+ghost use Rattle.slab.specs.Slab.{get, slab_len, Updates};
+ghost use Rattle.event_loop.specs.Socket.{SocketView, new_socket};
+ghost use Rattle.event_loop.specs.Sockets.{IsGiven, AreAllGiven, NotesListed, IsSameButListed, IsTurnOfFirst};
+
+use crate::message::{Heard, Said};
+use crate::socket::{After, Moved, Readiness, Socket};
+use crate::turns::Turns;
+use slab::Slab;
+use std::alloc::{AllocError, Global};
+use std::io::{Read, Write};
+use std::marker::Model;
+
+/// What came of the turn of a socket.
+#[derive(Clone, Copy)]
+pub struct Turned {
+    pub after: After,
+    pub moved: Moved,
+    /// Its number, if the other side sends no more.
+    pub leaver: Option<u64>,
+}
+
+/// Sockets, each under its key. A key is used again once its socket is gone, a number never.
+pub struct Sockets<S: Read + Write> {
+    all: Slab<Socket<S>>,
+    /// There is room for all.
+    turns: Turns,
+    /// The number of the next one.
+    next: u64,
+}
+
+impl<S: Read + Write + Drop> Drop for Sockets<S> {
+    fn drop(self) {
+        let Sockets {
+            all: _,
+            turns: _,
+            next: _,
+        } = self;
+    }
+}
+
+impl<S: Read + Write> Model for Sockets<S> {
+    ghost use Rattle.event_loop.specs.Sockets.{SocketsView, IsSockets};
+
+    ghost Value = { SocketsView };
+
+    ghost view = { λ s. record { all = s.all; turns = s.turns; next = s.next } };
+
+    ghost invariant = { λ s. IsSockets (record { all = s.all; turns = s.turns; next = s.next }) };
+}
+
+impl<S: Read + Write + Drop> Sockets<S> {
+    /// There is none.
+    pub fn new(alloc: Global) -> Sockets<S>
+        ensures none { (key : ℕ) → get result.all key ≡ None }
+        ensures turns { result.turns ≡ record { keys = []; has_lost = false } }
+        ensures next { result.next ≡ 0 }
+    {
+        Sockets {
+            all: Slab::new(alloc),
+            turns: Turns::new(alloc),
+            next: 0,
+        }
+    }
+
+    /// How many there are.
+    pub fn len(&self) -> usize
+        ensures { result ≡ slab_len self.now.all }
+    {
+        self.all.len()
+    }
+
+    /// The key of the next one.
+    pub fn next_key(&self) -> usize
+        ensures { result ≡ self.now.all.vacant_key }
+    {
+        self.all.vacant_key()
+    }
+
+    /// How many turns there are to be.
+    pub fn listed_count(&self) -> usize
+        ensures { result ≡ length self.now.turns.keys }
+    {
+        self.turns.len()
+    }
+
+    /// Makes room for one more. The only error is a failed allocation.
+    pub fn reserve(&mut self) -> Result<(), AllocError>
+        ensures all { self.new.all ≡ record self.old.all { capacity = self.new.all.capacity } }
+        ensures turns { self.new.turns ≡ self.old.turns }
+        ensures next { self.new.next ≡ self.old.next }
+    {
+        self.all.reserve(1)?;
+        self.turns.reserve(self.all.len().saturating_add(1))
+    }
+
+    /// One more, under the next key and number: its number. None if memory runs out.
+    pub fn insert(&mut self, alloc: Global, stream: S) -> Option<u64>
+        ensures here { IfSome result (λ number. (number ≡ self.old.next) × Updates self.old.all self.new.all self.old.all.vacant_key (Some (new_socket number (record { remaining = S.remaining stream; contents = S.contents stream; got = []; said = []; waits = [] })))) }
+        ensures next { IfSome result (λ number. self.new.next ≡ self.old.next + 1) }
+        ensures none { IfNone result ((key : ℕ) → get self.new.all key ≡ get self.old.all key) }
+        ensures same_next { IfNone result (self.new.next ≡ self.old.next) }
+    {
+        let number = self.next;
+        if number == u64::MAX {
+            return None;
+        }
+        if self.all.reserve(1).is_err() {
+            return None;
+        }
+        self.all.insert_reserved(Socket::new(alloc, stream, number));
+        self.next += 1;
+        Some(number)
+    }
+
+    /// Gives what the service says to the socket of this key and number, if it is here. It has a turn then.
+    pub fn give(&mut self, said: Said)
+        ensures { IsGiven self.old said self.new }
+    {
+        let key = said.key;
+        if let Some(socket) = self.all.get_mut(key) {
+            let is_meant = socket.number() == said.number;
+            if is_meant {
+                socket.hear(said);
+                self.turns.list(key, socket);
+            }
+        }
+    }
+
+    /// Gives all that the service says, in order.
+    pub fn give_all(&mut self, all: Vec<Said>)
+        ensures { AreAllGiven self.old all.items self.new }
+    {
+        for said in all {
+            self.give(said);
+        }
+    }
+
+    /// Notes what an event tells of the socket of this key, and lists it for a turn. Its number, if the other side
+    /// sends no more and no event told so before.
+    pub fn note(&mut self, key: usize, ready: Readiness) -> Option<u64>
+        ensures others { (other : ℕ) → other ≢ key → get self.new.all other ≡ get self.old.all other }
+        ensures notes { (s : SocketView) → get self.old.all key ≡ Some s → (t : SocketView) × (get self.new.all key ≡ Some t) × NotesListed s ready t }
+        ensures number { IfSome result (λ number. (s : SocketView) × (get self.old.all key ≡ Some s) × (s.number ≡ number)) }
+        ensures next { self.new.next ≡ self.old.next }
+    {
+        let socket = self.all.get_mut(key)?;
+        let leaver = socket.note(ready);
+        self.turns.list(key, socket);
+        leaver
+    }
+
+    /// Ends the connection of this key and number, if it is here. It has a turn then, and tells so.
+    pub fn end(&mut self, key: usize, number: u64)
+        ensures others { (other : ℕ) → other ≢ key → get self.new.all other ≡ get self.old.all other }
+        ensures unknown { ((s : SocketView) → get self.old.all key ≡ Some s → s.number ≢ number) → get self.new.all key ≡ get self.old.all key }
+        ensures ends { (s : SocketView) → get self.old.all key ≡ Some s → s.number ≡ number → (t : SocketView) × (get self.new.all key ≡ Some t) × IsSameButListed (record s { has_ended = true }) t }
+        ensures next { self.new.next ≡ self.old.next }
+    {
+        if let Some(socket) = self.all.get_mut(key) {
+            let is_meant = socket.number() == number;
+            if is_meant {
+                socket.end();
+                self.turns.list(key, socket);
+            }
+        }
+    }
+
+    /// The turn of the socket that was listed first: it writes what waits, reads once if `reads`, and tells what happened.
+    /// None if none is listed, or the socket is gone. It is so late in microseconds of the caller's clock.
+    pub fn turn_first(
+        &mut self,
+        alloc: Global,
+        micros: u64,
+        reads: bool,
+        buffer: &mut [u8],
+        heard: &mut Vec<Heard>,
+    ) -> Option<Turned>
+        ensures { IsTurnOfFirst self.old self.new heard.old.items heard.new.items }
+    {
+        let key = self.turns.take_first()?;
+        let socket = self.all.get_mut(key)?;
+        socket.set_listed(false);
+        let after = socket.turn(alloc, key, reads, buffer, heard);
+        let turned = Turned {
+            after,
+            moved: socket.take_moved(micros),
+            leaver: socket.leaver(),
+        };
+        match after {
+            After::Gone => {
+                self.all.try_remove(key);
+            }
+            After::Rest => {}
+            _ => self.turns.list(key, socket),
+        }
+        Some(turned)
+    }
+}

@@ -1,0 +1,7 @@
+use Rattle.std.proofs.Common.{◌≡◌, [], subst}
+use Rattle.service.specs.Steps.{NoneWaits}
+use Rattle.server.specs.Answering.{AnsweringView}
+use Rattle.server.proofs.answering.AnsweringServe.is_waiting.Goals as goal
+
+pub returns-else-is_waiting-clause-service : goal.returns-else-is_waiting-clause-service
+returns-else-is_waiting-clause-service c none = subst (λ (v : AnsweringView). (v.service.line ≡ []) × NoneWaits v.service.waiting) c.self.view_is (c.is_waiting.ensures.no c.if-is_waiting.false)

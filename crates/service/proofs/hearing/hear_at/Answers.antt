@@ -1,0 +1,22 @@
+use Rattle.std.proofs.Common.{rules, ◌≡◌, ℕ, false, List, Option, refl, sym, ap, ◌∙◌, subst}
+use Rattle.connections.specs.Connection.{ConnectionView}
+use Rattle.connections.specs.Connections.{ConnectionsView}
+use Rattle.service.specs.declared.note.Waiting.{Waiting}
+use Rattle.service.specs.Owed.{StillRemembers}
+use Rattle.service.proofs.OwedLemmas.{left_remembers, heard_remembers}
+use Rattle.service.proofs.hearing.hear_at.Goals as goal
+
+abbrev Table : Type 0
+Table = List (Option ConnectionView)
+
+pub returns-in_err-said-clause-remembers : goal.returns-in_err-said-clause-remembers
+returns-in_err-said-clause-remembers c =
+    let same : c.has_room_for.new.connections ≡ c.args.connections.now = search rules in
+    subst (λ (z : List Waiting × Table). StillRemembers c.args.line.now.items z.0 z.1 c.hear.new.self.table) (λ i. (sym c.has_room_for.ensures.line i, (same i).table))
+    (left_remembers c.args.line.now.items c.has_room_for.new.connections.table c.hear.new.self.table c.args.at c.in_err-said.ensures.left)
+
+pub returns-clause-remembers : goal.returns-clause-remembers
+returns-clause-remembers c =
+    let same : c.has_room_for.new.connections ≡ c.args.connections.now = search rules in
+    subst (λ (z : List Waiting × List Waiting × Table). StillRemembers z.0 z.1 z.2 c.hear.new.self.table) (λ i. (c.has_room_for.ensures.line i, sym c.line_up.ensures i, (same i).table))
+    (heard_remembers c.has_room_for.new.line.items c.has_room_for.new.connections.table c.hear.new.self.table c.args.at (record { at = c.args.at; since = c.args.micros }) refl c.hear.ensures.same_others c.in_ok-said.ensures.reads)

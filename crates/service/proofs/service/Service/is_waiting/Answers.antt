@@ -1,0 +1,16 @@
+use Rattle.std.proofs.Common.{◌≡◌, List, [], sym, ◌∙◌, subst}
+use Rattle.std.specs.Prelude.{length}
+use Rattle.std.proofs.lemmas.Bool.{eqb-true}
+use Rattle.std.proofs.lemmas.List.{nil_from_length}
+use Rattle.service.specs.declared.note.Waiting.{Waiting}
+use Rattle.service.specs.Service.{ServiceView}
+use Rattle.service.specs.Steps.{NoneWaits}
+use Rattle.service.proofs.service.Service.is_waiting.Goals as goal
+
+pub returns : goal.returns
+returns c = record {
+  no = λ up.
+      let line = c.self.inside.line in
+      let none : length line.items ≡ 0 = sym line.ok.0 ∙ eqb-true line.len 0 (sym c.is_empty.ensures ∙ c.if-not-is_empty.false) in
+      subst (λ (v : ServiceView). (v.line ≡ []) × NoneWaits v.waiting) c.self.view_is (nil_from_length line.items none, c.is_waiting.ensures.no c.if-is_waiting.false);
+}

@@ -1,0 +1,21 @@
+use Rattle.std.proofs.Common.{ℕ, [], ◌∷◌, ◌++◌, List, inr, sym, ap, ◌∙◌}
+use Rattle.connections.specs.declared.said.Said.{Said}
+use Rattle.connections.specs.History.{given_as}
+use Rattle.service.proofs.working.give_reply.Goals as goal
+
+pub returns-in-Some-clause-answers : goal.returns-in-Some-clause-answers
+returns-in-Some-clause-answers c =
+    let v = c.args.connections.now in
+    let given = c.in-Some.given in
+    let number = sym c.in-Some.ensures.to.1 in
+    record {
+      heard = c.in-Some.ensures.others.0;
+      taken = c.in-Some.ensures.others.1;
+      replied = inr (c.in-Some.ensures.replied ∙ ap (λ (n : ℕ). v.replied ++ (record { connection = n; turn = c.args.outstanding.now.assignment.turn }, c.args.reply) ∷ []) c.place-at.ensures.number);
+      gives = inr (
+        given,
+        c.push_reserved.ensures.items,
+        c.in-Some.ensures.given ∙ ap (λ (n : ℕ). v.given ++ (n, given.bytes.items) ∷ []) number,
+        c.in-Some.ensures.passed ∙ ap (λ (n : ℕ). v.passed ++ given_as n given.bytes.items ∷ []) number,
+      );
+    }
