@@ -178,14 +178,14 @@ module _ (v : ServiceView) (talks : IsConnections v.connections) (logs : IsHisto
       )
 
 pub linearizable : (v : ServiceView) → IsConnections v.connections → IsHistory (history_of v.connections) → HasMoments v → IsService v → HasEnsemble v → WorldsAreOfOneServer → IsLinearizableService v
-linearizable v talks logs moments ok over law =
-    let serving = is_serving v talks ok over law in
-    let w = serving.over.world in
-    let in_turn = are_in_turn v talks ok serving.over in
+linearizable v talks logs moments ok some_world law =
+    let serving : IsServing v = is_serving v talks ok some_world law in
     record {
       serving = serving;
-      in_turn = in_turn;
-      one_order = λ distinct.
+      in_turn = λ over. are_in_turn v talks ok over;
+      one_order = λ over distinct.
+          let w = over.world in
+          let in_turn = are_in_turn v talks ok over in
           let run = has_run_in_turn law w.config w.events w.now w.through v.assignments distinct in_turn in
-          has_order v talks logs ok serving.over run.0 run.1 moments run.2 run.3;
+          has_order v talks logs ok over run.0 run.1 moments run.2 run.3;
     }

@@ -19,7 +19,7 @@ use Rattle.connections.specs.declared.connections.CommandNumber.{CommandNumber}
 use Rattle.connections.specs.Connections.{bytes_of_connection, WasReplied, IsConnections}
 use Rattle.service.specs.declared.assignment.Assignment.{Assignment}
 use Rattle.service.specs.Service.{ServiceView, IsService, HasEnsemble, command_number_of, asked_as, assigned_as}
-use Rattle.service_laws.specs.Serving.{IsAssignment, WasAnsweredFor, IsConnectionServed, IsServedByOne, IsServing}
+use Rattle.service_laws.specs.Serving.{IsAssignment, WasAnsweredFor, IsConnectionServed, IsServedByOne, IsServedIn, IsServing}
 use Rattle.service_laws.proofs.AskedLemmas.{place_of, asks, asked_by, asked_once}
 use Rattle.service_laws.proofs.RunLemmas.{has_run}
 
@@ -84,5 +84,8 @@ module _ (v : ServiceView) (talks : IsConnections v.connections) (ok : IsService
       let r = has_run law over.world.config over.world.events over.world.now over.world.through distinct in
       (r.0, record { is_run = r.1; served = is_served r.0 r.1; one_reply = one_reply r.0 r.1 })
 
-  pub is_serving : WorldsAreOfOneServer → IsServing v
-  is_serving law = record { over = over; each = is_assignment; none_else = is_assigned; once = ok.once; for_one = for_one; one_run = served_by_one law }
+  pub served_in : WorldsAreOfOneServer → IsServedIn v over
+  served_in law = record { each = is_assignment; none_else = is_assigned; one_run = served_by_one law }
+
+pub is_serving : (v : ServiceView) → IsConnections v.connections → IsService v → HasEnsemble v → WorldsAreOfOneServer → IsServing v
+is_serving v talks ok over law = record { has_world = over; in_each = λ each. served_in v talks ok each law; once = ok.once; for_one = for_one v talks ok over }

@@ -16,7 +16,7 @@ use Rattle.connections.specs.Connections.{bytes_of_connection}
 use Rattle.connections.specs.History.{Passed, heard_among, given_among}
 use Rattle.server_laws.specs.Saved.{DigestsAreDistinct}
 use Rattle.service.specs.declared.assignment.Assignment.{Assignment}
-use Rattle.service.specs.Service.{ServiceView}
+use Rattle.service.specs.Service.{ServiceView, HasEnsemble}
 use Rattle.service_laws.specs.Serving.{IsServing}
 
 -- the command was executed in the run's round at this place
@@ -54,8 +54,8 @@ AreAskedInTurn events worlds assignments = (b : Assignment) (t : ℕ) → Contai
 abbrev pub AreCuts : List Passed → List Line → Type 0
 AreCuts passed lines = (early late : List Passed) → passed ≡ early ++ late → (before after : List Line) × (lines ≡ before ++ after) × IsConnectionOrder (heard_among early) (given_among early) before
 
--- The history of all connections, here or gone, is linearizable: what they asked and were given is what one server does in one order of item steps, which keeps the order of each connection and real time, if digests tell apart the states that executors had.
+-- The history of all connections, here or gone, is linearizable: what they asked and were given is what one server does in one order of item steps, which keeps the order of each connection and real time. It is, if some world explains it in which digests tell apart the states that executors had.
 pub record IsLinearizableService (v : ServiceView) : Type 0 where
   pub serving : IsServing v
-  pub in_turn : AreAskedInTurn serving.over.world.events serving.over.world.through.worlds v.assignments
-  pub one_order : DigestsAreDistinct serving.over.world.through.worlds → (lines : List Line) × IsConnectionOrder v.connections.heard v.connections.given lines × AreCuts v.connections.passed lines
+  pub in_turn : (over : HasEnsemble v) → AreAskedInTurn over.world.events over.world.through.worlds v.assignments
+  pub one_order : (over : HasEnsemble v) → DigestsAreDistinct over.world.through.worlds → (lines : List Line) × IsConnectionOrder v.connections.heard v.connections.given lines × AreCuts v.connections.passed lines

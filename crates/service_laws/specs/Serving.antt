@@ -37,16 +37,21 @@ pub record IsServedByOne (v : ServiceView) (over : HasEnsemble v) (run : List Ex
   -- a command has one reply
   pub one_reply : (connection turn : ℕ) (r s : replies.Reply) → WasAnsweredFor run v.assignments connection turn r → WasAnsweredFor run v.assignments connection turn s → r ≡ s
 
--- What a service was given and gave, at any moment.
-pub record IsServing (v : ServiceView) : Type 0 where
-  -- its replicas and proxies are a world that events lead to
-  pub over : HasEnsemble v
+-- What a service was given and gave, next to this world, which explains it.
+pub record IsServedIn (v : ServiceView) (over : HasEnsemble v) : Type 0 where
   pub each : (a : Assignment) → Contains v.assignments a → IsAssignment v over.world.events a
   -- proxies asked nothing else
   pub none_else : (proxy number : ℕ) (command : Command) → IsAsked (fed_to proxy over.world.events) number command → (a : Assignment) × Contains v.assignments a × (a.proxy ≡ proxy) × (a.number ≡ number)
+  -- if digests tell apart the states that executors had, there is one run
+  pub one_run : DigestsAreDistinct over.world.through.worlds → (run : List Executed) × IsServedByOne v over run
+
+-- What a service was given and gave, at any moment.
+pub record IsServing (v : ServiceView) : Type 0 where
+  -- its replicas and proxies are a world that events lead to
+  pub has_world : HasEnsemble v
+  -- and this holds in each world that explains what it has shown
+  pub in_each : (over : HasEnsemble v) → IsServedIn v over
   -- a command is asked once
   pub once : (i j : ℕ) (a b : Assignment) → slice_get v.assignments i ≡ Some a → slice_get v.assignments j ≡ Some b → a.connection ≡ b.connection → a.turn ≡ b.turn → i ≡ j
   -- a request is asked for one command
   pub for_one : (i j : ℕ) (a b : Assignment) → slice_get v.assignments i ≡ Some a → slice_get v.assignments j ≡ Some b → a.proxy ≡ b.proxy → a.number ≡ b.number → i ≡ j
-  -- if digests tell apart the states that executors had, there is one run
-  pub one_run : DigestsAreDistinct over.world.through.worlds → (run : List Executed) × IsServedByOne v over run
