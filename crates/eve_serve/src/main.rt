@@ -9,7 +9,7 @@ mod given;
 
 use crate::given::read_words;
 use server::{Incidents, ServeFault, Service, serve};
-use service_laws::service_is_linearizable;
+use service_laws::{replicas_agree_and_keep, service_is_linearizable};
 use std::io;
 use std::net::{Ipv4Addr, SocketAddr, SocketAddrV4, TcpListener};
 use std::process::ExitCode;
@@ -55,10 +55,11 @@ fn report(rt: &HostRuntime, incidents: Incidents) -> io::Result<()> {
     eprintln!(rt; "suspected {suspicions} times, rolled back {rollbacks} times")
 }
 
-/// Ends the service that has served: what it has come through. The history of its connections is linearizable: so says
-/// `service_is_linearizable`, which does nothing.
+/// Ends the service that has served: what it has come through. The history of its connections is linearizable, and its
+/// replicas agree and keep what they decided. Two laws say so, which do nothing.
 fn end(service: Service) -> Incidents {
     service_is_linearizable(&service);
+    replicas_agree_and_keep(&service);
     let incidents = service.incidents();
     service.end();
     incidents

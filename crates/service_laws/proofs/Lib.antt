@@ -7,3 +7,4 @@ pub mod Turns
 pub mod Past
 pub mod InTurn
 pub mod Cuts
+pub mod ReplicaLemmas

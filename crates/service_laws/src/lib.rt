@@ -1,12 +1,15 @@
 //! What a service has shown so far is what one memcached server shows.
 //!
 //! It stands on `service`, whose invariant ties what connections were given to what client proxies were answered,
-//! on `ensemble`, whose invariant is a world that events lead to, and on `server_laws`, whose law gives the world's one
-//! run. The program uses `service_is_linearizable`, whose clause holds that of `serves`.
+//! on `ensemble`, whose invariant is a world that events lead to, and on `worlds` and `server_laws`, whose laws say what
+//! such a world decides and keeps, and that it has one run. The programs call `service_is_linearizable`, whose clause
+//! holds that of `serves`, and `replicas_agree_and_keep`.
 #![tactic(auto)]
 
 mod law;
 mod orders;
+mod replicas;
 
 pub use law::serves;
 pub use orders::service_is_linearizable;
+pub use replicas::replicas_agree_and_keep;
