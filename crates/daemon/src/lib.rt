@@ -14,9 +14,9 @@ mod stamped;
 mod told;
 
 pub use laws::lines_add_up;
-pub use lines::{NO_TARGET, tell, tell_listening};
+pub use lines::{NO_TARGET, tell, tell_listening, tell_start, tell_status};
 pub use report::{Due, Report, Totals};
 pub use resident::resident_pages;
-pub use settings::{MOST_CONNECTIONS, Settings, read_settings};
+pub use settings::{MOST_CONNECTIONS, Settings, VERSION, read_settings};
 pub use stamped::{Stamped, seconds};
 pub use told::Told;

@@ -1,12 +1,24 @@
 //! The lines of the log.
 
 use crate::report::Due;
+use crate::settings::{Settings, VERSION};
 use figures::{NodeFigures, Replicas};
 use log::{Log, info, warn};
 use std::net::SocketAddr;
 
 /// All lines are of one program, so they name no module.
 pub const NO_TARGET: &str = "";
+
+/// Tells what runs, as it begins.
+pub fn tell_start<R: Log>(rt: &R, settings: &Settings) {
+    let (u, connections) = (settings.u, settings.connections);
+    info!(rt; target: NO_TARGET, "eve_cached {VERSION} with u {u}: at most {connections} connections");
+}
+
+/// Tells where its figures are shown.
+pub fn tell_status<R: Log>(rt: &R, address: SocketAddr) {
+    info!(rt; target: NO_TARGET, "figures on http://{address}/");
+}
 
 /// Tells where clients are served.
 pub fn tell_listening<R: Log>(rt: &R, address: SocketAddr) {

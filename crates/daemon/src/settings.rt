@@ -10,6 +10,9 @@ use std::net::SocketAddr;
 /// The most connections at once that may be asked for.
 pub const MOST_CONNECTIONS: u16 = 10000;
 
+/// The version of the daemon.
+pub const VERSION: &str = "1";
+
 const AFTER: &str =
     "It serves memcached's text protocol until a signal ends it. All items are in its memory.";
 
@@ -68,7 +71,7 @@ fn status_option<'a>(alloc: Global) -> Arg<'a> {
 /// All options.
 fn command<'a>(alloc: Global) -> Result<Command<'a>, Error> {
     let command = Command::new(alloc, "eve_cached")
-        .version("1")
+        .version(VERSION)
         .about("A memcached server on replicas")
         .after_help(AFTER)
         .arg(listen_option(alloc))?

@@ -1,6 +1,6 @@
 //! The text of lines.
 
-use daemon::{Due, resident_pages, tell, tell_listening};
+use daemon::{Due, Settings, resident_pages, tell, tell_listening, tell_start, tell_status};
 use figures::Replicas;
 use log::sink::{Lines, Memory};
 use std::alloc::Global;
@@ -79,6 +79,30 @@ fn an_address_is_told(rt: HostRuntime) -> Result<(), Fail> {
         are(
             &memory.into_lines(),
             &["[INFO ] listening on 127.0.0.1:11211"]
+        )
+    );
+    Ok(())
+}
+
+#[test]
+fn the_start_is_told(rt: HostRuntime) -> Result<(), Fail> {
+    let memory = Memory::new(rt.alloc());
+    let address = SocketAddr::V4(SocketAddrV4::new(Ipv4Addr::LOCALHOST, 11280));
+    let settings = Settings {
+        listen: Vec::new(rt.alloc()),
+        status: Some(address),
+        u: 2,
+        connections: 77,
+    };
+    tell_start(&memory, &settings);
+    tell_status(&memory, address);
+    assert!(rt;
+        are(
+            &memory.into_lines(),
+            &[
+                "[INFO ] eve_cached 1 with u 2: at most 77 connections",
+                "[INFO ] figures on http://127.0.0.1:11280/"
+            ]
         )
     );
     Ok(())

@@ -5,7 +5,7 @@ ghost use Rattle.std.specs.Prelude.{◌<◌};
 use crate::showing::{Shown, show};
 use crate::watching::{figures, watch};
 use crate::{CANNOT, REFUSED};
-use daemon::{NO_TARGET, Settings, Stamped, tell_listening};
+use daemon::{NO_TARGET, Settings, Stamped, tell_listening, tell_start, tell_status};
 use log::{error, warn};
 use server::{Options, ServeFault, Watcher, serve_beside};
 use std::alloc::Global;
@@ -57,6 +57,16 @@ fn listeners<R: Net<Listener = TcpListener, Stream = TcpStream> + Clock + Eprint
     Ok(all)
 }
 
+/// A listener for the figures. The log tells where.
+fn status_port<R: Net<Listener = TcpListener, Stream = TcpStream> + Clock + Eprint>(
+    rt: &R,
+    address: SocketAddr,
+) -> Result<TcpListener, u8> {
+    let listener = bound(rt, address)?;
+    tell_status(&Stamped(rt), listener.local_addr().unwrap_or(address));
+    Ok(listener)
+}
+
 /// The listeners that the settings ask for.
 fn open_ports<R: Net<Listener = TcpListener, Stream = TcpStream> + Clock + Eprint>(
     rt: &R,
@@ -64,7 +74,7 @@ fn open_ports<R: Net<Listener = TcpListener, Stream = TcpStream> + Clock + Eprin
     settings: &Settings,
 ) -> Result<Ports, u8> {
     let status = match settings.status {
-        Some(address) => Some(bound(rt, address)?),
+        Some(address) => Some(status_port(rt, address)?),
         None => None,
     };
     let clients = listeners(rt, alloc, settings.listen.as_slice())?;
@@ -112,6 +122,7 @@ pub fn run<
         + AllocGlobal
         + Sync,
 >(rt: &R, settings: Settings) -> u8 {
+    tell_start(&Stamped(rt), &settings);
     let options = Options {
         connections: usize::from(settings.connections),
         refusal: TOO_MANY,

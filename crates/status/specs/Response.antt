@@ -1,12 +1,15 @@
 -- The bytes of a response.
-use Rattle.std.specs.Prelude.{ℕ, List, [], ◌++◌, length, codes, decimal}
+use Rattle.std.specs.Prelude.{ℕ, List, [], ◌++◌, length, codes, decimal, if◌then◌else◌}
+use Rattle.status.specs.declared.wanted.Asked.{Asked}
 use Rattle.status.specs.declared.wanted.Wanted.{Wanted}
-use Rattle.status.specs.declared.wanted.Wanted.TheVariants.{Page, Data, Metrics, NotFound, BadMethod, BadRequest, TooLong}
+use Rattle.status.specs.declared.wanted.Wanted.TheVariants.{Page, Data, Metrics, Health, TooFew, NotFound, BadMethod, BadRequest, TooLong}
 
 unfoldable pub status_text : Wanted → List ℕ
 status_text Page = codes "HTTP/1.1 200 OK"
 status_text Data = codes "HTTP/1.1 200 OK"
 status_text Metrics = codes "HTTP/1.1 200 OK"
+status_text Health = codes "HTTP/1.1 200 OK"
+status_text TooFew = codes "HTTP/1.1 503 Service Unavailable"
 status_text NotFound = codes "HTTP/1.1 404 Not Found"
 status_text BadMethod = codes "HTTP/1.1 405 Method Not Allowed"
 status_text BadRequest = codes "HTTP/1.1 400 Bad Request"
@@ -20,12 +23,14 @@ type_text _ = codes "text/plain; charset=utf-8"
 
 unfoldable pub extra_text : Wanted → List ℕ
 extra_text Page = codes "content-security-policy: default-src 'none'; script-src 'unsafe-inline'; style-src 'unsafe-inline'; connect-src 'self'\r\n"
-extra_text BadMethod = codes "allow: GET\r\n"
+extra_text BadMethod = codes "allow: GET, HEAD\r\n"
 extra_text _ = []
 
 abbrev pub note_text : Wanted → List ℕ
-note_text NotFound = codes "There are /, /metrics and /data.json.\n"
-note_text BadMethod = codes "Only GET is answered.\n"
+note_text Health = codes "ok\n"
+note_text TooFew = codes "Too few replicas are up.\n"
+note_text NotFound = codes "There are /, /metrics, /data.json and /healthz.\n"
+note_text BadMethod = codes "Only GET and HEAD are answered.\n"
 note_text BadRequest = codes "This is no request of HTTP/1.\n"
 note_text TooLong = codes "The head of the request is too long.\n"
 note_text _ = []
@@ -48,3 +53,8 @@ response_head wanted n =
 
 abbrev pub response_text : Wanted → List ℕ → List ℕ
 response_text wanted body = response_head wanted (length body) ++ body
+
+-- the response to HEAD is the head of the response to GET
+abbrev pub asked_text : Asked → List ℕ → List ℕ
+asked_text asked body =
+    if asked.is_head then response_head asked.wanted (length body) else response_text asked.wanted body

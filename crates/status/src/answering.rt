@@ -2,33 +2,67 @@
 
 ghost use Rattle.std.specs.Prelude.{◌≡◌, ◌<◌, IfOk, IfNone, IfSome, length};
 ghost use Rattle.httparse.specs.Grammar.{MayBecomeRequest};
-ghost use Rattle.status.specs.Answer.{body_text, answer_text, IsAnswer};
+ghost use Rattle.status.specs.Answer.{body_text, is_served, resolved, answer_text, IsAnswer};
+ghost use Rattle.status.specs.Response.{asked_text};
+ghost use Rattle.std.specs.List.{count_by};
 ghost use Rattle.status.specs.declared.wanted.TheConstants.{MOST_HEAD_BYTES};
 
 use crate::data::data_of;
 use crate::page::page_bytes;
 use crate::response::response_of;
-use crate::wanted::{Wanted, wanted_by};
-use figures::Figures;
+use crate::wanted::{Asked, Wanted, wanted_by};
+use figures::{Figures, NodeFigures, Replicas};
 use metrics::metrics_of;
 use std::alloc::{AllocError, Global};
 
-/// The response with what is wanted of these figures.
-fn shown(alloc: Global, wanted: Wanted, figures: &Figures) -> Result<Vec<u8>, AllocError>
-    ensures { IfOk result (λ response. response.items ≡ answer_text figures.now wanted) }
+/// How many of these nodes are up.
+fn up(nodes: &[NodeFigures]) -> usize
+    ensures { result ≡ count_by (λ node. node.is_up) nodes.now }
 {
-    match wanted {
-        Wanted::Page => response_of(alloc, wanted, page_bytes()),
-        Wanted::Data => response_of(alloc, wanted, data_of(alloc, figures)?.as_bytes()),
-        Wanted::Metrics => response_of(alloc, wanted, metrics_of(alloc, figures)?.as_slice()),
-        Wanted::NotFound | Wanted::BadMethod | Wanted::BadRequest | Wanted::TooLong => {
-            response_of(alloc, wanted, wanted.note())
-        }
+    nodes.iter().filter(|node| node.is_up).count()
+}
+
+/// Whether more than half of the executors and of the verifiers are up.
+fn is_served(replicas: &Replicas) -> bool
+    ensures { result ≡ is_served replicas.now }
+{
+    let half = usize::from(replicas.members) / 2;
+    half < up(replicas.executors.as_slice()) && half < up(replicas.verifiers.as_slice())
+}
+
+/// What is shown of what is asked for: if too few replicas are up there is no health.
+fn resolved(asked: Asked, figures: &Figures) -> Asked
+    ensures { result ≡ resolved figures.now asked }
+{
+    match asked.wanted {
+        Wanted::Health if !is_served(&figures.replicas) => Asked {
+            wanted: Wanted::TooFew,
+            is_head: asked.is_head,
+        },
+        _ => asked,
+    }
+}
+
+/// The response with what is wanted of these figures.
+fn shown(alloc: Global, asked: Asked, figures: &Figures) -> Result<Vec<u8>, AllocError>
+    ensures { IfOk result (λ response. response.items ≡ asked_text asked (body_text figures.now asked.wanted)) }
+{
+    match asked.wanted {
+        Wanted::Page => response_of(alloc, asked, page_bytes()),
+        Wanted::Data => response_of(alloc, asked, data_of(alloc, figures)?.as_bytes()),
+        Wanted::Metrics => response_of(alloc, asked, metrics_of(alloc, figures)?.as_slice()),
+        Wanted::Health
+        | Wanted::TooFew
+        | Wanted::NotFound
+        | Wanted::BadMethod
+        | Wanted::BadRequest
+        | Wanted::TooLong => response_of(alloc, asked, asked.wanted.note()),
     }
 }
 
 /// The response to the bytes that came so far of a request, with these figures: `GET /` is the page, `/metrics`
-/// and `/data.json` show the figures. None: more bytes are needed; fewer than 8,192 have come.
+/// and `/data.json` show the figures, and `/healthz` says whether more than half of the replicas of each kind are up.
+/// HEAD is answered by the head of what GET is answered. None: more bytes are needed; fewer than 8,192 have come.
 ///
 /// It fails if an allocation fails.
 pub fn answer(
@@ -42,6 +76,6 @@ pub fn answer(
 {
     match wanted_by(request) {
         None => Ok(None),
-        Some(wanted) => Ok(Some(shown(alloc, wanted, figures)?)),
+        Some(asked) => Ok(Some(shown(alloc, resolved(asked, figures), figures)?)),
     }
 }

@@ -1,9 +1,9 @@
 //! Responses.
 
 ghost use Rattle.std.specs.Prelude.{◌≡◌, ◌++◌, OnOk, IfOk, length};
-ghost use Rattle.status.specs.Response.{status_text, type_text, extra_text, type_field, length_text, fields_text, response_head, response_text, note_text};
+ghost use Rattle.status.specs.Response.{status_text, type_text, extra_text, type_field, length_text, fields_text, response_head, response_text, asked_text, note_text};
 
-use crate::wanted::Wanted;
+use crate::wanted::{Asked, Wanted};
 use itoa::Buffer;
 use std::alloc::{AllocError, Global};
 
@@ -14,7 +14,8 @@ impl Wanted {
         ensures { result.now ≡ status_text self }
     {
         match self {
-            Wanted::Page | Wanted::Data | Wanted::Metrics => b"HTTP/1.1 200 OK",
+            Wanted::Page | Wanted::Data | Wanted::Metrics | Wanted::Health => b"HTTP/1.1 200 OK",
+            Wanted::TooFew => b"HTTP/1.1 503 Service Unavailable",
             Wanted::NotFound => b"HTTP/1.1 404 Not Found",
             Wanted::BadMethod => b"HTTP/1.1 405 Method Not Allowed",
             Wanted::BadRequest => b"HTTP/1.1 400 Bad Request",
@@ -44,7 +45,7 @@ impl Wanted {
             Wanted::Page => {
                 b"content-security-policy: default-src 'none'; script-src 'unsafe-inline'; style-src 'unsafe-inline'; connect-src 'self'\r\n"
             }
-            Wanted::BadMethod => b"allow: GET\r\n",
+            Wanted::BadMethod => b"allow: GET, HEAD\r\n",
             _ => b"",
         }
     }
@@ -54,8 +55,10 @@ impl Wanted {
         ensures { result.now ≡ note_text self }
     {
         match self {
-            Wanted::NotFound => b"There are /, /metrics and /data.json.\n",
-            Wanted::BadMethod => b"Only GET is answered.\n",
+            Wanted::Health => b"ok\n",
+            Wanted::TooFew => b"Too few replicas are up.\n",
+            Wanted::NotFound => b"There are /, /metrics, /data.json and /healthz.\n",
+            Wanted::BadMethod => b"Only GET and HEAD are answered.\n",
             Wanted::BadRequest => b"This is no request of HTTP/1.\n",
             Wanted::TooLong => b"The head of the request is too long.\n",
             _ => b"",
@@ -102,12 +105,14 @@ fn write_head(wanted: Wanted, length: usize, out: &mut Vec<u8>) -> Result<(), Al
     write_fields(out)
 }
 
-/// The bytes of the response with this body. It fails if an allocation fails.
-pub fn response_of(alloc: Global, wanted: Wanted, body: &[u8]) -> Result<Vec<u8>, AllocError>
-    ensures { IfOk result (λ response. response.items ≡ response_text wanted body.now) }
+/// The bytes of the response with this body, or its head alone. It fails if an allocation fails.
+pub fn response_of(alloc: Global, asked: Asked, body: &[u8]) -> Result<Vec<u8>, AllocError>
+    ensures { IfOk result (λ response. response.items ≡ asked_text asked body.now) }
 {
     let mut out = Vec::with_capacity(alloc, 512)?;
-    write_head(wanted, body.len(), &mut out)?;
-    out.extend_from_slice(body)?;
+    write_head(asked.wanted, body.len(), &mut out)?;
+    if !asked.is_head {
+        out.extend_from_slice(body)?;
+    }
     Ok(out)
 }

@@ -1,6 +1,6 @@
 //! What a request asks for.
 
-ghost use Rattle.std.specs.Prelude.{◌≡◌, ◌<◌, IfNone, IfSome, length, position, ◌==◌};
+ghost use Rattle.std.specs.Prelude.{◌≡◌, ◌<◌, false, IfNone, IfSome, length, position, ◌==◌};
 ghost use Rattle.httparse.specs.Grammar.{MayBecomeRequest};
 ghost use Rattle.status.specs.Wanted.{Wants, of_target, of_parts, path_of};
 ghost use Rattle.status.specs.declared.wanted.TheConstants.{MOST_HEAD_BYTES};
@@ -23,14 +23,37 @@ pub enum Wanted {
     Data,
     /// The figures in Prometheus' text form.
     Metrics,
+    /// Whether enough replicas are up.
+    Health,
+    /// 503: too few replicas are up.
+    TooFew,
     /// 404: there is nothing at this path.
     NotFound,
-    /// 405: the method is not GET.
+    /// 405: the method is neither GET nor HEAD.
     BadMethod,
     /// 400: it is no request of HTTP/1.
     BadRequest,
     /// 431: the head is over 8,192 bytes, or has more than 64 fields.
     TooLong,
+}
+
+/// What a request asks for, and whether it asks for the head of the response alone.
+#[derive(Clone, Copy, Debug, PartialEq, Eq)]
+pub struct Asked {
+    pub wanted: Wanted,
+    pub is_head: bool,
+}
+
+impl Asked {
+    /// All of the response.
+    fn whole(wanted: Wanted) -> Asked
+        ensures { result ≡ record { wanted = wanted; is_head = false } }
+    {
+        Asked {
+            wanted,
+            is_head: false,
+        }
+    }
 }
 
 /// Where the query of a target begins, if it has one.
@@ -59,6 +82,8 @@ fn at_target(target: &[u8]) -> Wanted
         Wanted::Metrics
     } else if path == b"/data.json".as_slice() {
         Wanted::Data
+    } else if path == b"/healthz".as_slice() {
+        Wanted::Health
     } else if path == b"/".as_slice() {
         Wanted::Page
     } else {
@@ -66,29 +91,38 @@ fn at_target(target: &[u8]) -> Wanted
     }
 }
 
-fn at_head(method: &[u8], target: &[u8]) -> Wanted
+fn at_head(method: &[u8], target: &[u8]) -> Asked
     ensures { result ≡ of_parts method.now target.now }
 {
     if method == b"GET".as_slice() {
-        at_target(target)
+        Asked::whole(at_target(target))
+    } else if method == b"HEAD".as_slice() {
+        Asked {
+            wanted: at_target(target),
+            is_head: true,
+        }
     } else {
-        Wanted::BadMethod
+        Asked::whole(Wanted::BadMethod)
     }
 }
 
 /// What the bytes that came so far ask for. None: the head is not whole, and more bytes may complete it.
-pub fn wanted_by(request: &[u8]) -> Option<Wanted>
+pub fn wanted_by(request: &[u8]) -> Option<Asked>
     ensures short { IfNone result (length request.now < MOST_HEAD_BYTES) }
     ensures unfinished { IfNone result (MayBecomeRequest request.now) }
     ensures wanted { IfSome result (Wants request.now) }
 {
     let mut fields = [EMPTY_HEADER_SPAN; MOST_FIELDS];
     match parse_request(request, fields.as_mut_slice()) {
-        Ok(Status::Complete(head)) if MOST_HEAD_BYTES < head.len => Some(Wanted::TooLong),
+        Ok(Status::Complete(head)) if MOST_HEAD_BYTES < head.len => {
+            Some(Asked::whole(Wanted::TooLong))
+        }
         Ok(Status::Complete(head)) => Some(at_head(head.method.of(request), head.path.of(request))),
-        Ok(Status::Partial) if MOST_HEAD_BYTES <= request.len() => Some(Wanted::TooLong),
+        Ok(Status::Partial) if MOST_HEAD_BYTES <= request.len() => Some(Asked::whole(
+            Wanted::TooLong,
+        )),
         Ok(Status::Partial) => None,
-        Err(Error::TooManyHeaders) => Some(Wanted::TooLong),
-        Err(_) => Some(Wanted::BadRequest),
+        Err(Error::TooManyHeaders) => Some(Asked::whole(Wanted::TooLong)),
+        Err(_) => Some(Asked::whole(Wanted::BadRequest)),
     }
 }

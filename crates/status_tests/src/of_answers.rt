@@ -1,6 +1,7 @@
 //! Rows of a request and the beginning of its response.
 
 use crate::samples::some_figures;
+use figures::{Figures, NodeFigures};
 use serde_json::Value;
 use status::answer;
 use std::alloc::Global;
@@ -20,6 +21,37 @@ fn answers(alloc: Global, request: &[u8], first: &[u8]) -> bool {
 /// Whether more bytes are asked for.
 fn waits(alloc: Global, request: &[u8]) -> bool {
     matches!(answer(alloc, request, &some_figures()), Ok(None))
+}
+
+/// Whether the first request is answered by the head of what the second is answered, and no more.
+fn is_head_of(alloc: Global, head: &[u8], whole: &[u8]) -> bool {
+    match (
+        answer(alloc, head, &some_figures()),
+        answer(alloc, whole, &some_figures()),
+    ) {
+        (Ok(Some(head)), Ok(Some(whole))) => {
+            whole.starts_with(head.as_slice())
+                && head.ends_with(b"\r\n\r\n")
+                && head.len() < whole.len()
+        }
+        _ => false,
+    }
+}
+
+/// How a server of three executors and three verifiers answers /healthz if so many of them are up.
+fn health(alloc: Global, executors: usize, verifiers: usize, first: &[u8]) -> bool {
+    let up = NodeFigures {
+        is_up: true,
+        stops: 0,
+    };
+    let mut figures = Figures::NONE;
+    figures.replicas.members = 3;
+    figures.replicas.executors[..executors.min(3)].fill(up);
+    figures.replicas.verifiers[..verifiers.min(3)].fill(up);
+    match answer(alloc, b"GET /healthz HTTP/1.1\r\n\r\n", &figures) {
+        Ok(Some(response)) => response.starts_with(first),
+        _ => false,
+    }
 }
 
 /// A GET of this path with so many fields of so many bytes.
@@ -69,6 +101,40 @@ fn requests_that_are_answered(rt: HostRuntime) -> Result<(), Fail> {
             b"HTTP/1.1 200 OK\r\ncontent-type: application/json\r\n"
         )
     );
+    Ok(())
+}
+
+#[test]
+fn heads_that_are_asked_for(rt: HostRuntime) -> Result<(), Fail> {
+    let alloc = rt.alloc();
+    assert!(rt; is_head_of(alloc, b"HEAD / HTTP/1.1\r\n\r\n", b"GET / HTTP/1.1\r\n\r\n"));
+    assert!(rt;
+        is_head_of(
+            alloc,
+            b"HEAD /metrics HTTP/1.1\r\n\r\n",
+            b"GET /metrics HTTP/1.1\r\n\r\n"
+        )
+    );
+    assert!(rt;
+        is_head_of(
+            alloc,
+            b"HEAD /a HTTP/1.1\r\n\r\n",
+            b"GET /a HTTP/1.1\r\n\r\n"
+        )
+    );
+    Ok(())
+}
+
+#[test]
+fn health_of_a_server(rt: HostRuntime) -> Result<(), Fail> {
+    let alloc = rt.alloc();
+    let well = b"HTTP/1.1 200 OK\r\ncontent-type: text/plain; charset=utf-8\r\n";
+    let unwell = b"HTTP/1.1 503 Service Unavailable\r\n";
+    assert!(rt; health(alloc, 3, 3, well));
+    assert!(rt; health(alloc, 2, 2, well));
+    assert!(rt; health(alloc, 1, 3, unwell));
+    assert!(rt; health(alloc, 3, 1, unwell));
+    assert!(rt; health(alloc, 0, 0, unwell));
     Ok(())
 }
 
