@@ -9,7 +9,7 @@ use crate::counts::{Counts, Shared, plus};
 use crate::leavers::{Leaver, Leavers};
 use crate::listeners::{Accepted, Listeners};
 use crate::message::{Heard, Said};
-use crate::refused::Refused;
+use crate::refused::RefusedConnections;
 use crate::socket::{After, Readiness};
 use crate::sockets::Sockets;
 use mio::event::Event;
@@ -65,7 +65,7 @@ pub struct EventLoop {
     answered: Vec<u64>,
     sockets: Sockets<TcpStream>,
     leavers: Leavers,
-    refused: Refused<TcpStream>,
+    refused: RefusedConnections<TcpStream>,
     /// What is to be told to the service.
     heard: Vec<Heard>,
     buffer: Vec<u8>,
@@ -136,7 +136,7 @@ impl EventLoop {
             answered: Vec::new(alloc),
             sockets: Sockets::new(alloc),
             leavers: Leavers::new(alloc),
-            refused: Refused::new(alloc),
+            refused: RefusedConnections::new(alloc),
             heard: Vec::new(alloc),
             buffer: vec![in alloc; 0u8; MOST_PIECE_BYTES]?,
             is_writing: false,

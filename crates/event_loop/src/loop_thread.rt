@@ -3,7 +3,7 @@
 ghost use Rattle.std.specs.Prelude.{ℕ, ◌≡◌, ◌⊎◌, ◌<◌, ◌+◌, ◌-◌, ◌^◌, []};
 ghost use Rattle.std.specs.declared.alloc.Global.{Global};
 ghost use Rattle.std.specs.declared.vec.Vec.{Vec};
-ghost use Rattle.link.specs.Lines.{IsPut};
+ghost use Rattle.link.specs.Lines.{IsPutIn};
 ghost use Rattle.event_loop.specs.declared.message.Heard as message;
 ghost use Rattle.event_loop.specs.declared.message.ToService.TheVariants.{Heard};
 
@@ -77,7 +77,7 @@ impl LoopEnds {
 
     /// Puts the message. It is lost only if the service's thread is gone.
     fn put<R: Wait>(&mut self, rt: &R, message: ToService)
-        ensures put { IsPut self.old.to_service message self.new.to_service ⊎ (self.new.to_service ≡ self.old.to_service) }
+        ensures put { IsPutIn self.old.to_service message self.new.to_service ⊎ (self.new.to_service ≡ self.old.to_service) }
         ensures counted { self.old.unanswered < 2 ^ 64 - 1 → self.new.unanswered ≡ self.old.unanswered + 1 }
     {
         self.unanswered = self.unanswered.saturating_add(1);
@@ -86,7 +86,7 @@ impl LoopEnds {
 
     /// Puts all that was heard.
     fn hand_on<R: Wait + Clock>(&mut self, rt: &R, event_loop: &mut EventLoop)
-        ensures put { (heard : Vec message.Heard Global) × (moment : ℕ) × (heard.items ≡ event_loop.old.heard.items) × (IsPut self.old.to_service (Heard heard moment) self.new.to_service ⊎ (self.new.to_service ≡ self.old.to_service)) }
+        ensures put { (heard : Vec message.Heard Global) × (moment : ℕ) × (heard.items ≡ event_loop.old.heard.items) × (IsPutIn self.old.to_service (Heard heard moment) self.new.to_service ⊎ (self.new.to_service ≡ self.old.to_service)) }
         ensures none { event_loop.new.heard.items ≡ [] }
     {
         let heard = event_loop.take_heard();

@@ -56,17 +56,17 @@ impl<S: Read> Leftover<S> {
 /// The connections that were refused, the oldest first. To close one while bytes that it sent are unread would reset
 /// it, and its other side might not see why. So each is kept until its other side closes it, it has been kept for
 /// `MOST_TICKS` ticks, or `MOST_REFUSED` newer ones are kept.
-pub struct Refused<S> {
+pub struct RefusedConnections<S> {
     all: VecDeque<Leftover<S>>,
 }
 
-impl<S: Drop> Drop for Refused<S> {
+impl<S: Drop> Drop for RefusedConnections<S> {
     fn drop(self) {
-        let Refused { all: _ } = self;
+        let RefusedConnections { all: _ } = self;
     }
 }
 
-impl<S> Model for Refused<S> {
+impl<S> Model for RefusedConnections<S> {
     ghost use Rattle.std.specs.Prelude.{List, ◌≤◌, length};
     ghost use Rattle.event_loop.specs.declared.refused.Leftover.{Leftover};
     ghost use Rattle.event_loop.specs.declared.refused.TheConstants.{MOST_REFUSED};
@@ -78,10 +78,10 @@ impl<S> Model for Refused<S> {
     ghost invariant = { λ refused. length refused.all.items ≤ MOST_REFUSED };
 }
 
-impl<S: Read + Drop> Refused<S> {
+impl<S: Read + Drop> RefusedConnections<S> {
     /// There is none.
-    pub fn new(alloc: Global) -> Refused<S> {
-        Refused {
+    pub fn new(alloc: Global) -> RefusedConnections<S> {
+        RefusedConnections {
             all: VecDeque::new(alloc),
         }
     }

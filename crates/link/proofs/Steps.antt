@@ -7,7 +7,7 @@ use Rattle.atomic_table.proofs.Lists.{at_set, set_again}
 use Rattle.crossbeam_channel.specs.Fifo.{Pushes, Pops, Forks, Learns}
 use Rattle.link.specs.declared.line.View.{View}
 use Rattle.link.specs.declared.line.TheConstants.{MOST_ITEMS}
-use Rattle.link.specs.Lines.{fresh, items_of, by, StartsWith, Knows, IsKept, IsPut, IsTaken}
+use Rattle.link.specs.Lines.{fresh, only_items, by, StartsWith, Knows, LinkHolds, IsPutIn, IsTakenOut}
 
 starts_more : {A : Type 0} (all front more : List A) → StartsWith all front → StartsWith (all ++ more) front
 starts_more all front more s = (s.0 ++ more, ap (λ l. l ++ more) s.1 ∙ append_assoc front s.0 more)
@@ -16,7 +16,7 @@ whole : {A : Type 0} (all : List A) → StartsWith all all
 whole all = ([], sym (append-nil all))
 
 module _ {T : Type 0} where
-  items-push : (ps : List (ℕ × T)) (p : ℕ × T) → items_of (ps ++ p ∷ []) ≡ items_of ps ++ p.1 ∷ []
+  items-push : (ps : List (ℕ × T)) (p : ℕ × T) → only_items (ps ++ p ∷ []) ≡ only_items ps ++ p.1 ∷ []
   items-push [] p = refl
   items-push (q ∷ ps) p = ap (λ l. q.1 ∷ l) (items-push ps p)
 
@@ -45,18 +45,18 @@ module _ {T : Type 0} where
   at_push (x ∷ xs) a b zero e = inl (omega arith, e)
   at_push (x ∷ xs) a b (suc j) e = ⊎_elim (λ t. let h = t.0 in inl (omega arith, t.1)) (λ t. inr (ap suc t.0, t.1)) (at_push xs a b j e)
 
-  pub begins : IsKept {T = T} [] (fresh [] [] ∷ [])
+  pub begins : LinkHolds {T = T} [] (fresh [] [] ∷ [])
   begins = record { puts = []; takes = []; line = refl; few = omega arith; knows = one; none = λ _ _. (refl, refl) }
     where
       one : (end : ℕ) (v : View T) → get_elem? (fresh [] [] ∷ []) end ≡ some v → Knows [] [] end v
       one zero v e = subst (Knows [] [] 0) (some-injective _ _ e) (refl, refl, ([], refl), ([], refl))
       one (suc end) v e = absurd (some-ne-none v (sym e))
 
-  length_items : (ps : List (ℕ × T)) → length (items_of ps) ≡ length ps
+  length_items : (ps : List (ℕ × T)) → length (only_items ps) ≡ length ps
   length_items [] = refl
   length_items (p ∷ ps) = ap suc (length_items ps)
 
-  pub puts : (n end : ℕ) (v : View T) (x : T) → n ≡ MOST_ITEMS → Pushes IsKept n end v x (IsPut v x)
+  pub puts : (n end : ℕ) (v : View T) (x : T) → n ≡ MOST_ITEMS → Pushes LinkHolds n end v x (IsPutIn v x)
   puts n end v x most items views room k at =
       let w : View T = record { put = v.put ++ x ∷ []; got = v.got; puts = v.puts; takes = v.takes } in
       let mine = k.knows end v at in
@@ -66,7 +66,7 @@ module _ {T : Type 0} where
         record {
           puts = ps;
           takes = k.takes;
-          line = items-push k.puts (end, x) ∙ ap (λ l. l ++ x ∷ []) k.line ∙ append_assoc (items_of k.takes) items (x ∷ []);
+          line = items-push k.puts (end, x) ∙ ap (λ l. l ++ x ∷ []) k.line ∙ append_assoc (only_items k.takes) items (x ∷ []);
           few = let joined = length-append items (x ∷ []) in omega arith;
           knows = λ j u is. ⊎_elim
               (λ (t : (j ≡ end) × (w ≡ u)). subst (λ (p : ℕ × View T). Knows ps k.takes p.0 p.1) (λ i. (sym t.0 i, t.1 i))
@@ -80,16 +80,16 @@ module _ {T : Type 0} where
         refl,
       )
 
-  pub takes : (end : ℕ) (v : View T) → Pops IsKept end v (IsTaken v)
+  pub takes : (end : ℕ) (v : View T) → Pops LinkHolds end v (IsTakenOut v)
   takes end v x items views k at =
       let ts = k.takes ++ (end, x) ∷ [] in
       let mine = k.knows end v at in
       let here = at_below views end v at in
       let w : View T = record { put = v.put; got = v.got ++ x ∷ []; puts = k.puts; takes = ts } in
       let got : by end ts ≡ v.got ++ x ∷ [] = by_own end k.takes x ∙ ap (λ l. l ++ x ∷ []) mine.1 in
-      let line : items_of k.puts ≡ items_of ts ++ items = k.line ∙ sym (append_assoc (items_of k.takes) (x ∷ []) items) ∙ ap (λ l. l ++ items) (sym (items-push k.takes (end, x))) in
+      let line : only_items k.puts ≡ only_items ts ++ items = k.line ∙ sym (append_assoc (only_items k.takes) (x ∷ []) items) ∙ ap (λ l. l ++ items) (sym (items-push k.takes (end, x))) in
       let left : length k.puts < length ts + MOST_ITEMS =
-      let had = k.few in let all = ap length line in let joined = length-append (items_of ts) items in let ps = length_items k.puts in let gone = length_items ts in omega arith in (
+      let had = k.few in let all = ap length line in let joined = length-append (only_items ts) items in let ps = length_items k.puts in let gone = length_items ts in omega arith in (
         w,
         record {
           puts = k.puts;
@@ -117,7 +117,7 @@ module _ {T : Type 0} where
         },
       )
 
-  pub tells : (end : ℕ) (v : View T) → Forks IsKept end v v (fresh v.puts v.takes)
+  pub tells : (end : ℕ) (v : View T) → Forks LinkHolds end v v (fresh v.puts v.takes)
   tells end v items views k at =
       let b : View T = fresh v.puts v.takes in
       let mine = k.knows end v at in
@@ -136,5 +136,5 @@ module _ {T : Type 0} where
         none = λ j le. let len : length (set views end v) ≡ length views = length-set views end v in k.none j (omega (arith, length-append (set views end v) (b ∷ [])));
       }
 
-  pub learns : (end : ℕ) (v : View T) → Learns IsKept end v (λ (items : List T). Unit {0})
+  pub learns : (end : ℕ) (v : View T) → Learns LinkHolds end v (λ (items : List T). Unit {0})
   learns end v items views k at = tt

@@ -3,7 +3,7 @@
 ghost use Rattle.std.specs.Prelude.{◌≡◌, [], IfOk, MatchResult, MatchOption};
 ghost use Rattle.crossbeam_channel.specs.Claims.{IsSeatAt};
 ghost use Rattle.crossbeam_channel.specs.Ends.{sends_on, receives_on, ruled_capacity};
-ghost use Rattle.link.specs.Lines.{fresh, known, IsPut, IsTaken};
+ghost use Rattle.link.specs.Lines.{fresh, known_to, IsPutIn, IsTakenOut};
 ghost use Rattle.link.specs.declared.line.View.{View};
 ghost use Rattle.link.specs.declared.line.TheConstants.{MOST_ITEMS};
 
@@ -24,7 +24,7 @@ pub struct Link<T: Drop> {
 impl<T: Drop> Model for Link<T> {
     ghost Value = { View T };
 
-    ghost view = { λ s. known s.pass };
+    ghost view = { λ s. known_to s.pass };
 
     ghost invariant = { λ s. (receives_on s.receiver ≡ sends_on s.sender) × IsSeatAt (sends_on s.sender) s.pass × (ruled_capacity (sends_on s.sender) ≡ MOST_ITEMS) };
 }
@@ -61,7 +61,7 @@ impl<T: Drop> Link<T> {
     /// Puts the item in at the back. If the link holds `MOST_ITEMS` items it waits until some end takes
     /// one. An item that comes back was not put.
     pub fn put<R: Wait>(&mut self, rt: &R, item: T) -> Result<(), T>
-        ensures { MatchResult result (λ _. IsPut self.old item self.new) (λ back. (back ≡ item) × (self.new ≡ self.old)) }
+        ensures { MatchResult result (λ _. IsPutIn self.old item self.new) (λ back. (back ≡ item) × (self.new ≡ self.old)) }
     {
         match self.sender.send_as::<Putting, R>(rt, &mut self.pass, item) {
             Ok(()) => Ok(()),
@@ -72,7 +72,7 @@ impl<T: Drop> Link<T> {
     /// Takes the item at the front. Where the link is empty it waits until some end puts one; each
     /// end may put, so what ends a loop of takes is an item that says so.
     pub fn take<R: Wait>(&mut self, rt: &R) -> Option<T>
-        ensures { MatchOption result (self.new ≡ self.old) (λ item. IsTaken self.old item self.new) }
+        ensures { MatchOption result (self.new ≡ self.old) (λ item. IsTakenOut self.old item self.new) }
     {
         match self.receiver.recv_as::<Taking, R>(rt, &mut self.pass) {
             Ok(item) => Some(item),
@@ -83,7 +83,7 @@ impl<T: Drop> Link<T> {
     /// Puts the item in at the back, or hands it back if it finds `MOST_ITEMS` there. It does not wait for
     /// another end to take. An item that comes back was not put.
     pub fn try_put<R: Wait>(&mut self, rt: &R, item: T) -> Result<(), T>
-        ensures { MatchResult result (λ _. IsPut self.old item self.new) (λ back. (back ≡ item) × (self.new ≡ self.old)) }
+        ensures { MatchResult result (λ _. IsPutIn self.old item self.new) (λ back. (back ≡ item) × (self.new ≡ self.old)) }
     {
         match self
             .sender
@@ -97,7 +97,7 @@ impl<T: Drop> Link<T> {
     /// Takes the item at the front, if it finds one. It does not wait for another end to put. Where it
     /// gives none there may be one: a caller that has to see the last one takes again.
     pub fn try_take<R: Wait>(&mut self, rt: &R) -> Option<T>
-        ensures { MatchOption result (self.new ≡ self.old) (λ item. IsTaken self.old item self.new) }
+        ensures { MatchOption result (self.new ≡ self.old) (λ item. IsTakenOut self.old item self.new) }
     {
         match self.receiver.try_recv_as::<Taking, R>(rt, &mut self.pass) {
             Ok(found) => Some(found),

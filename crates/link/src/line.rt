@@ -21,10 +21,10 @@ pub struct View<T> {
 pub struct Line;
 
 impl<T> Protocol<T, View<T>> for Line {
-    ghost use Rattle.link.specs.Lines.{IsKept, fresh};
+    ghost use Rattle.link.specs.Lines.{LinkHolds, fresh};
     ghost use Rattle.std.specs.Prelude.{[]};
 
-    ghost holds = { IsKept };
+    ghost holds = { LinkHolds };
 
     ghost first = { fresh [] [] };
 }
@@ -33,9 +33,9 @@ impl<T> Protocol<T, View<T>> for Line {
 pub struct Putting;
 
 impl<T> Outcome<T, View<T>> for Putting {
-    ghost use Rattle.link.specs.Lines.{IsPut};
+    ghost use Rattle.link.specs.Lines.{IsPutIn};
 
-    ghost then = { IsPut };
+    ghost then = { IsPutIn };
 }
 
 /// One that hands its item back says nothing of the link.
@@ -47,9 +47,9 @@ impl<T> Lesson<T, View<T>> for Putting {
 pub struct Taking;
 
 impl<T> Outcome<T, View<T>> for Taking {
-    ghost use Rattle.link.specs.Lines.{IsTaken};
+    ghost use Rattle.link.specs.Lines.{IsTakenOut};
 
-    ghost then = { IsTaken };
+    ghost then = { IsTakenOut };
 }
 
 /// One that finds no item says nothing of the link.
