@@ -9,7 +9,7 @@ use Rattle.streams.specs.Writes.{Taken}
 use Rattle.app.specs.declared.fault.PlayFault.{PlayFault}
 use Rattle.app.specs.declared.fault.PlayFault.TheVariants.{Refused, Read}
 use Rattle.app.specs.Printed.{refusal_text}
-use Rattle.app.specs.Play.{Shows, IsPlayFaultOf, IsTold, IsToldInPart, IsShown, IsShownInPart, IsRefused}
+use Rattle.app.specs.Play.{Shows, IsPlayFaultOf, IsPrinted, IsPrintedInPart, IsShown, IsShownInPart, IsRefused}
 
 pub shown_known : (known : Option (List ℕ)) (read slice text : List ℕ) → IfSome known (λ input. read ≡ input) → slice ≡ read → Shows slice text → IfSome known (λ bytes. Shows bytes text)
 shown_known None read slice text same is shows = tt
@@ -28,11 +28,11 @@ pub unread_known : (known : Option (List ℕ)) (fault : PlayFault) → (fault �
 unread_known known fault only = ⊎_elim (λ is. subst (IsPlayFaultOf known) (sym is) tt) (λ is. subst (IsPlayFaultOf known) (sym is) (no_memory_known known)) only
 
 module _ {S : Type 0} {takes : S → List ℕ → Taken → S → Type 0} {contents : S → Option (List ℕ)} where
-  pub all_known : (known : Option (List ℕ)) (old new : S) (text slice : List ℕ) → IfSome known (λ bytes. Shows bytes text) → slice ≡ text → IsTold takes contents slice old new → IsShown takes contents known old new
-  all_known known old new text slice shows is wrote = (text, shows, subst (λ (t : List ℕ). IsTold takes contents t old new) is wrote)
+  pub all_known : (known : Option (List ℕ)) (old new : S) (text slice : List ℕ) → IfSome known (λ bytes. Shows bytes text) → slice ≡ text → IsPrinted takes contents slice old new → IsShown takes contents known old new
+  all_known known old new text slice shows is wrote = (text, shows, subst (λ (t : List ℕ). IsPrinted takes contents t old new) is wrote)
 
-  pub part_known : (known : Option (List ℕ)) (old new : S) (text slice : List ℕ) → IfSome known (λ bytes. Shows bytes text) → slice ≡ text → IsToldInPart takes contents slice old new → IsShownInPart takes contents known old new
-  part_known known old new text slice shows is wrote = (text, shows, subst (λ (t : List ℕ). IsToldInPart takes contents t old new) is wrote)
+  pub part_known : (known : Option (List ℕ)) (old new : S) (text slice : List ℕ) → IfSome known (λ bytes. Shows bytes text) → slice ≡ text → IsPrintedInPart takes contents slice old new → IsShownInPart takes contents known old new
+  part_known known old new text slice shows is wrote = (text, shows, subst (λ (t : List ℕ). IsPrintedInPart takes contents t old new) is wrote)
 
 pub refusal_known : (known old new : Option (List ℕ)) (fault : ScheduleFault) → IsPlayFaultOf known (Refused fault) → Appends old new (refusal_text fault) → IfSome known (λ bytes. IsRefused bytes old new)
 refusal_known None old new fault right wrote = tt

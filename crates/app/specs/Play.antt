@@ -5,7 +5,7 @@ use Rattle.events.specs.declared.event.Event.{Event}
 use Rattle.schedules.specs.declared.fault.ScheduleFault.{ScheduleFault}
 use Rattle.schedules.specs.declared.schedule.Schedule.{Schedule}
 use Rattle.schedules.specs.Schedule.{SpellsSchedule, IsRefusedRightly}
-use Rattle.streams.specs.Writes.{Taken, IsWritten}
+use Rattle.streams.specs.Writes.{Taken, IsWrittenOut}
 use Rattle.worlds.specs.World.{WorldView}
 use Rattle.worlds.specs.Laws.{IsReached}
 use Rattle.app.specs.declared.fault.PlayFault.{PlayFault}
@@ -25,23 +25,23 @@ pub record Shows (bytes text : List ℕ) : Type 0 where
 
 module _ {S : Type 0} (takes : S → List ℕ → Taken → S → Type 0) (contents : S → Option (List ℕ)) where
   -- all of the text was written, by writes that each took some of the rest
-  pub record IsTold (text : List ℕ) (before after : S) : Type 0 where
+  pub record IsPrinted (text : List ℕ) (before after : S) : Type 0 where
     pub bytes : Appends (contents before) (contents after) text
-    pub writes : IsWritten takes before after text (Ok tt)
+    pub writes : IsWrittenOut takes before after text (Ok tt)
 
   -- a beginning of the text was written, and then a write failed, after which none was made
-  pub record IsToldInPart (text : List ℕ) (before after : S) : Type 0 where
+  pub record IsPrintedInPart (text : List ℕ) (before after : S) : Type 0 where
     pub sent : ℕ
     pub bytes : Appends (contents before) (contents after) (take sent text)
-    pub writes : IsWritten takes before after text (Err sent)
+    pub writes : IsWrittenOut takes before after text (Err sent)
 
   -- all of what is shown was written: if the bytes are known that were read, it is what is shown of them
   abbrev pub IsShown : Option (List ℕ) → S → S → Type 0
-  IsShown known before after = (text : List ℕ) × IfSome known (λ bytes. Shows bytes text) × IsTold text before after
+  IsShown known before after = (text : List ℕ) × IfSome known (λ bytes. Shows bytes text) × IsPrinted text before after
 
   -- a beginning of it was written
   abbrev pub IsShownInPart : Option (List ℕ) → S → S → Type 0
-  IsShownInPart known before after = (text : List ℕ) × IfSome known (λ bytes. Shows bytes text) × IsToldInPart text before after
+  IsShownInPart known before after = (text : List ℕ) × IfSome known (λ bytes. Shows bytes text) × IsPrintedInPart text before after
 
 -- the refusal was written, and it is the right one
 abbrev pub IsRefused : List ℕ → Option (List ℕ) → Option (List ℕ) → Type 0

@@ -4,7 +4,7 @@ ghost use Rattle.std.specs.Prelude.{◌≡◌, ◌⊎◌, IfOk, IfErr, OnOk, IfS
 ghost use Rattle.std.specs.Io.KnownBytes.{Appends};
 ghost use Rattle.schedules.specs.Schedule.{IsRefusedRightly};
 ghost use Rattle.app.specs.Printed.{refusal_text, unread_text};
-ghost use Rattle.app.specs.Play.{Shows, IsPlayFaultOf, IsTold, IsToldInPart, IsShown, IsShownInPart, IsRefused};
+ghost use Rattle.app.specs.Play.{Shows, IsPlayFaultOf, IsPrinted, IsPrintedInPart, IsShown, IsShownInPart, IsRefused};
 
 use crate::fault::PlayFault;
 use crate::input::read_input;
@@ -66,8 +66,8 @@ fn text_of_input<R: Read, P: Progress>(
 /// Writes what is shown: the status.
 fn show<O: WriteOnce>(out: &mut O, text: &[u8]) -> u8
     ensures status { (result ≡ SHOWN) ⊎ (result ≡ STREAM_FAILED) }
-    ensures shown { result ≡ SHOWN → IsTold O.takes O.contents text.now out.old out.new }
-    ensures in_part { result ≡ STREAM_FAILED → IsToldInPart O.takes O.contents text.now out.old out.new }
+    ensures shown { result ≡ SHOWN → IsPrinted O.takes O.contents text.now out.old out.new }
+    ensures in_part { result ≡ STREAM_FAILED → IsPrintedInPart O.takes O.contents text.now out.old out.new }
 {
     match write_session(out, text) {
         Ok(()) => SHOWN,

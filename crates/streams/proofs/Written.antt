@@ -7,7 +7,7 @@ use Rattle.std.specs.Io.KnownBytes.{Appends, Keeps}
 use Rattle.std.proofs.KnownBytes.{Appends-trans, Appends-kept}
 use Rattle.std.specs.declared.io.ErrorKind.{ErrorKind}
 use Rattle.std.specs.declared.io.ErrorKind.TheVariants.{Interrupted}
-use Rattle.streams.specs.Writes.{Taken, WritesOn, WritesRest, IsWritten, out}
+use Rattle.streams.specs.Writes.{Taken, WritesOn, WritesRest, IsWrittenOut, out}
 use Rattle.streams.proofs.Passing.{all_more, length_more}
 
 -- n more bytes are written, which are the next ones
@@ -52,7 +52,7 @@ module _ {S : Type 0} {takes : S → List ℕ → Taken → S → Type 0} {conte
   }
 
   -- all went out
-  pub all_out : sent ≡ length text → IsWritten takes before now text (Ok tt)
+  pub all_out : sent ≡ length text → IsWrittenOut takes before now text (Ok tt)
   all_out all = record {
     writes = far.writes;
     last = [];
@@ -63,7 +63,7 @@ module _ {S : Type 0} {takes : S → List ℕ → Taken → S → Type 0} {conte
   }
 
   -- a write took nothing
-  pub none_taken : {after : S} → sent < length text → takes now (drop sent text) (Ok 0) after → IsWritten takes before after text (Err sent)
+  pub none_taken : {after : S} → sent < length text → takes now (drop sent text) (Ok 0) after → IsWrittenOut takes before after text (Err sent)
   none_taken some step = record {
     writes = far.writes;
     last = Ok 0 ∷ [];
@@ -74,7 +74,7 @@ module _ {S : Type 0} {takes : S → List ℕ → Taken → S → Type 0} {conte
   }
 
   -- a write failed
-  pub failed : {after : S} (kind : ErrorKind) → kind ≢ Interrupted → sent < length text → takes now (drop sent text) (Err kind) after → IsWritten takes before after text (Err sent)
+  pub failed : {after : S} (kind : ErrorKind) → kind ≢ Interrupted → sent < length text → takes now (drop sent text) (Err kind) after → IsWrittenOut takes before after text (Err sent)
   failed kind other some step = record {
     writes = far.writes;
     last = Err kind ∷ [];
@@ -85,7 +85,7 @@ module _ {S : Type 0} {takes : S → List ℕ → Taken → S → Type 0} {conte
   }
 
   -- there were too many writes
-  pub too_many : count ≡ 2 ^ 64 - 1 → IsWritten takes before now text (Err sent)
+  pub too_many : count ≡ 2 ^ 64 - 1 → IsWrittenOut takes before now text (Err sent)
   too_many all = record {
     writes = far.writes;
     last = [];

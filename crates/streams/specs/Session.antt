@@ -30,16 +30,16 @@ ReadsOn (Ok piece) = (0 < length piece) × (length piece ≤ MOST_PIECE_BYTES)
 ReadsOn (Err kind) = kind ≡ Interrupted
 
 -- what `Failed` says: the last read failed, or there were 2^64 - 1 reads before and it was not made
-abbrev pub EndsFailed : List Read → List Read → Type 0
-EndsFailed reads last = ((kind : ErrorKind) × (last ≡ Err kind ∷ []) × (kind ≢ Interrupted)) ⊎ ((last ≡ []) × (length reads ≡ 2 ^ 64 - 1))
+abbrev pub ReadsFailed : List Read → List Read → Type 0
+ReadsFailed reads last = ((kind : ErrorKind) × (last ≡ Err kind ∷ []) × (kind ≢ Interrupted)) ⊎ ((last ≡ []) × (length reads ≡ 2 ^ 64 - 1))
 
 module _ {S T : Type 0} (gives : S → Read → S → Type 0) (remaining : S → Option (List ℕ)) (hears : T → List ℕ → Bool → T → Type 0) (leaves : T → T → Type 0) where
   -- How it ends, after reads that went on: by a last one. There is one hangup, and where all was read none is left;
   -- or the last piece was enough.
-  abbrev pub EndsAs : Ending → List Read → List Read → S → T → T → Type 0
-  EndsAs AtEnd reads last after s t = (last ≡ Ok [] ∷ []) × IsAtEnd (remaining after) × leaves s t
-  EndsAs Failed reads last after s t = EndsFailed reads last × leaves s t
-  EndsAs Enough reads last after s t = (piece : List ℕ) × (last ≡ Ok piece ∷ []) × ReadsOn (Ok piece) × hears s piece false t
+  abbrev pub ReadsEndAs : Ending → List Read → List Read → S → T → T → Type 0
+  ReadsEndAs AtEnd reads last after s t = (last ≡ Ok [] ∷ []) × IsAtEnd (remaining after) × leaves s t
+  ReadsEndAs Failed reads last after s t = ReadsFailed reads last × leaves s t
+  ReadsEndAs Enough reads last after s t = (piece : List ℕ) × (last ≡ Ok piece ∷ []) × ReadsOn (Ok piece) × hears s piece false t
 
   -- What was handed on is what was read, in order, and no read was made after the one that ended it.
   pub record IsSession (before after : S) (s t : T) (ending : Ending) : Type 0 where
@@ -51,6 +51,6 @@ module _ {S T : Type 0} (gives : S → Read → S → Type 0) (remaining : S →
     pub went_on : All ReadsOn reads
     -- the listener heard each piece of them, and wanted more after each
     pub heard : FoldsTo (λ s piece t. hears s piece true t) s (pieces reads) then
-    pub ended : EndsAs ending reads last after then t
+    pub ended : ReadsEndAs ending reads last after then t
     -- the reader has lost just the bytes that it gave
     pub lost : Consumes (remaining before) (remaining after) (concat (pieces (reads ++ last)))

@@ -3,7 +3,7 @@
 ghost use Rattle.std.specs.Prelude.{ℕ, List, ◌≤◌, length, take, MatchResult};
 ghost use Rattle.std.specs.Io.{WritesAtMost};
 ghost use Rattle.std.specs.Io.KnownBytes.{Appends, Keeps, WriteAppends};
-ghost use Rattle.streams.specs.Writes.{Taken, taken_by, IsWritten};
+ghost use Rattle.streams.specs.Writes.{Taken, taken_by, IsWrittenOut};
 
 use std::io;
 use std::io::{ErrorKind, Write};
@@ -36,7 +36,7 @@ pub fn write_session<W: WriteOnce>(output: &mut W, text: &[u8]) -> Result<(), us
     ensures bytes { MatchResult result
         (λ _. Appends (W.contents output.old) (W.contents output.new) text.now)
         (λ sent. (sent ≤ length text.now) × Appends (W.contents output.old) (W.contents output.new) (take sent text.now)) }
-    ensures writes { IsWritten W.takes output.old output.new text.now result }
+    ensures writes { IsWrittenOut W.takes output.old output.new text.now result }
 {
     let mut sent = 0;
     for _ in 0..u64::MAX {
