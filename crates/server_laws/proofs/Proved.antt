@@ -22,7 +22,7 @@ use Rattle.worlds.specs.Laws.{is_gone, chosen_list}
 use Rattle.worlds.proofs.PlaceLemmas.{get_within}
 use Rattle.server_laws.specs.Saved.{AreLinked, Has, HasOne, IsMet, IsExecuted, DigestsAreDistinct}
 use Rattle.server_laws.specs.Machines.{IsSameExecutor, HasExecutorMachine}
-use Rattle.server_laws.specs.HeldLaws.{SavedIsHad, EachHasOneInWorlds, ChosenIsMadeInWorlds, IsChosenState, CommittedIsChosenInWorlds, ExecutorKeeps, ExecutorsKeep, ExecutorsKeepInWorlds}
+use Rattle.server_laws.specs.HeldLaws.{SavedIsHad, EachHasOneInWorlds, ChosenIsMadeInWorlds, IsChosenState, CommittedIsChosenInWorlds, ExecutorKeeps, ExecutorsKeepChosen, ExecutorsKeepChosenInWorlds}
 use Rattle.server_laws.proofs.Records.{chain_is_linked}
 use Rattle.server_laws.proofs.Kept.{saved_is_had, had_in, had_is, recorded_in, saved_in}
 use Rattle.server_laws.proofs.Plays.{are_of_executor_machines}
@@ -124,7 +124,7 @@ module _ {worlds : List WorldView} {w : WorldView} (h : HasExecutorMachine w.u w
       let mine = h.same.executors kept.executor slot.0 slot.1 in
       keeps_in kept slot.0 mine.0 slot.1 mine.1 mine.2 above
 
-  keeps : DigestsAreDistinct worlds → ExecutorsKeep worlds w
+  keeps : DigestsAreDistinct worlds → ExecutorsKeepChosen worlds w
   keeps distinct few some =
       let above = subst (λ (ds : List Decree). 0 < (standing ds).n) (sym decrees_are) some in
       kept_by (last_commit_is_kept w.u h.before h.now (λ id. is_gone (slice_get w.executors id)) h.reached (told_apart distinct) few above) above
@@ -144,5 +144,5 @@ saved_is_had_by w id x has = record { slot = has.slot; there = has.there; had = 
 pub each_has_one_in_worlds : EachHasOneInWorlds
 each_has_one_in_worlds c events worlds w id r ends within = has_one (are_of_executor_machines c events worlds w r ends) id within
 
-pub executors_keep_in_worlds : ExecutorsKeepInWorlds
+pub executors_keep_in_worlds : ExecutorsKeepChosenInWorlds
 executors_keep_in_worlds c events worlds w r ends distinct = keeps (are_of_executor_machines c events worlds w r ends) distinct

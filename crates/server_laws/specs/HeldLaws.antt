@@ -79,8 +79,8 @@ pub record ExecutorKeeps (worlds : List WorldView) (w : WorldView) : Type 0 wher
   pub token : last.token ≡ (standing (chosen_list w)).token
 
 -- where a Commit is chosen, and at most u executors are lost, another one keeps the state of the last one
-abbrev pub ExecutorsKeep : List WorldView → WorldView → Type 0
-ExecutorsKeep worlds w = lost_executors w ≤ w.u → 0 < (standing (chosen_list w)).n → ExecutorKeeps worlds w
+abbrev pub ExecutorsKeepChosen : List WorldView → WorldView → Type 0
+ExecutorsKeepChosen worlds w = lost_executors w ≤ w.u → 0 < (standing (chosen_list w)).n → ExecutorKeeps worlds w
 
-abbrev pub ExecutorsKeepInWorlds : Type 0
-ExecutorsKeepInWorlds = (c : ConfigView) (events : List Event) (worlds : List WorldView) (w : WorldView) → ReachedWorlds c events worlds → EndsWith worlds w → DigestsAreDistinct worlds → ExecutorsKeep worlds w
+abbrev pub ExecutorsKeepChosenInWorlds : Type 0
+ExecutorsKeepChosenInWorlds = (c : ConfigView) (events : List Event) (worlds : List WorldView) (w : WorldView) → ReachedWorlds c events worlds → EndsWith worlds w → DigestsAreDistinct worlds → ExecutorsKeepChosen worlds w

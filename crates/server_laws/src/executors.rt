@@ -1,7 +1,7 @@
 //! What holds of the executors of every world that is reached. The functions do nothing: what each says
 //! is its contract.
 
-ghost use Rattle.server_laws.specs.HeldLaws.{OneTextIsSpelled, OneIsRead, WorldsAreOfExecutorMachines, MetAreToldApart, SavedIsHad, EachHasOneInWorlds, ChosenIsMadeInWorlds, CommittedIsChosenInWorlds, ExecutorsKeepInWorlds};
+ghost use Rattle.server_laws.specs.HeldLaws.{OneTextIsSpelled, OneIsRead, WorldsAreOfExecutorMachines, MetAreToldApart, SavedIsHad, EachHasOneInWorlds, ChosenIsMadeInWorlds, CommittedIsChosenInWorlds, ExecutorsKeepChosenInWorlds};
 
 /// The bytes of a record are the text of one saved state, where each tentative state in it is over just
 /// the state before it. Whoever reads them gets that state.
@@ -47,5 +47,5 @@ pub fn committed_is_chosen_in_worlds()
 /// at most `u` executors are lost for good, another one has the state of the last chosen Commit in its
 /// record, as its committed state or in its chain.
 pub fn executors_keep_in_worlds()
-    ensures { ExecutorsKeepInWorlds }
+    ensures { ExecutorsKeepChosenInWorlds }
 {}
