@@ -54,13 +54,13 @@ update_mark (Touch _ _) = 9
 update_mark (Incr _ _) = 10
 update_mark (Decr _ _) = 11
 
-pub head_is : (u : Update) (rest : List ℕ) → head_of (update_text u ++ rest) ≡ update_mark u
-head_is (Store _ _ _ _ _) rest = refl
-head_is (Cas _ _ _ _ _) rest = refl
-head_is (Delete _) rest = refl
-head_is (Touch _ _) rest = refl
-head_is (Incr _ _) rest = refl
-head_is (Decr _ _) rest = refl
+pub update_head_is : (u : Update) (rest : List ℕ) → head_of (update_text u ++ rest) ≡ update_mark u
+update_head_is (Store _ _ _ _ _) rest = refl
+update_head_is (Cas _ _ _ _ _) rest = refl
+update_head_is (Delete _) rest = refl
+update_head_is (Touch _ _) rest = refl
+update_head_is (Incr _ _) rest = refl
+update_head_is (Decr _ _) rest = refl
 
 pub verb_low : (v : StoreVerb) → 2 ≤ verb_mark v
 verb_low Set = omega arith
@@ -146,7 +146,7 @@ update_alike _ _ r s h m e = absurd h
 pub update_prefix_free : IsPrefixFree update_text
 update_prefix_free = record {
   apart = λ v w r s e.
-      let marks = sym (head_is v r) ∙ (ap head_of e ∙ head_is w s) in
+      let marks = sym (update_head_is v r) ∙ (ap head_of e ∙ update_head_is w s) in
       let kinds = sym (kind_is v) ∙ (ap kind_at marks ∙ kind_is w) in
       update_alike v w r s (same_numbers (kind_of v) (kind_of w) kinds) marks e;
 }
@@ -171,7 +171,7 @@ command_head (command.Get _) rest = refl
 command_head (command.Gets _) rest = refl
 command_head (command.Gat _ _) rest = refl
 command_head (command.Gats _ _) rest = refl
-command_head (command.Update u) rest = head_is u rest
+command_head (command.Update u) rest = update_head_is u rest
 
 -- which kind of command it is, by its mark: all updates are one kind
 pub command_kind_at : ℕ → ℕ
@@ -257,7 +257,7 @@ request_prefix_free = made_within {limits = AreFirst}
 
 -- an update whose text begins with this mark is of its kind
 pub kind_behind : (mark : ℕ) (bytes : List ℕ) (u : Update) (rest : List ℕ) → mark ∷ bytes ≡ update_text u ++ rest → kind_at mark ≡ kind_of u
-kind_behind mark bytes u rest e = ap kind_at (ap head_of e ∙ head_is u rest) ∙ kind_is u
+kind_behind mark bytes u rest e = ap kind_at (ap head_of e ∙ update_head_is u rest) ∙ kind_is u
 
 pub kind-7 : kind_at 7 ≡ 7
 unfolding kind_at

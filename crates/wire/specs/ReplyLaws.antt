@@ -62,17 +62,17 @@ reply_mark (reply.Values _) = 7
 reply_mark reply.TooLarge = 8
 reply_mark reply.NotNumber = 9
 
-pub head_is : (r : Reply) (rest : List ℕ) → head_of (reply_record r ++ rest) ≡ reply_mark r
-head_is reply.Stored rest = refl
-head_is reply.NotStored rest = refl
-head_is reply.Exists rest = refl
-head_is reply.NotFound rest = refl
-head_is reply.Deleted rest = refl
-head_is reply.Touched rest = refl
-head_is (reply.Number x) rest = refl
-head_is (reply.Values x) rest = refl
-head_is reply.TooLarge rest = refl
-head_is reply.NotNumber rest = refl
+pub reply_head_is : (r : Reply) (rest : List ℕ) → head_of (reply_record r ++ rest) ≡ reply_mark r
+reply_head_is reply.Stored rest = refl
+reply_head_is reply.NotStored rest = refl
+reply_head_is reply.Exists rest = refl
+reply_head_is reply.NotFound rest = refl
+reply_head_is reply.Deleted rest = refl
+reply_head_is reply.Touched rest = refl
+reply_head_is (reply.Number x) rest = refl
+reply_head_is (reply.Values x) rest = refl
+reply_head_is reply.TooLarge rest = refl
+reply_head_is reply.NotNumber rest = refl
 
 reply_alike : (v w : Reply) (r s : List ℕ) → Passes (nat_eq (reply_mark v) (reply_mark w)) → reply_record v ++ r ≡ reply_record w ++ s → (v ≡ w) × (r ≡ s)
 reply_alike reply.Stored reply.Stored r s h e = (refl, tail_of 0 0 r s e)
@@ -93,5 +93,5 @@ reply_alike _ _ r s h e = absurd h
 
 pub reply_prefix_free : IsPrefixFree reply_record
 reply_prefix_free = record {
-  apart = λ v w r s e. reply_alike v w r s (same_numbers (reply_mark v) (reply_mark w) (sym (head_is v r) ∙ (ap head_of e ∙ head_is w s))) e;
+  apart = λ v w r s e. reply_alike v w r s (same_numbers (reply_mark v) (reply_mark w) (sym (reply_head_is v r) ∙ (ap head_of e ∙ reply_head_is w s))) e;
 }
