@@ -21,7 +21,7 @@ pub record ConnectionsView : Type 0 where
   pub heard : List (ℕ × List ℕ)
   -- what each connection was given
   pub given : List (ℕ × List ℕ)
-  -- both, in one order
+  -- both, in one order, with the moments that came between
   pub passed : List Passed
   -- the commands that were taken
   pub taken : List (CommandNumber × Command)

@@ -59,7 +59,7 @@ impl Connections {
     ghost use Rattle.connections.specs.Connection.{new_connection};
     ghost use Rattle.connections.specs.Places.{place_in, is_here, is_untaken_in, left_at, written_at, HasSameOthers, IsGrown};
     ghost use Rattle.connections.specs.Owed.{ReadsFurther, AnswersOn, BecomesAt, IsTakenAt, HasNoneToTake};
-    ghost use Rattle.connections.specs.History.{IsHistory, given_as};
+    ghost use Rattle.connections.specs.History.{IsHistory, given_as, moment_as};
     ghost use Rattle.connections.specs.declared.table.TheConstants.{MOST_PLACES};
     ghost use Rattle.connections.specs.Connections.{IsConnections, no_connections, HasSameLogs, PassesOn, AreBefore, AreReplied};
 
@@ -221,6 +221,14 @@ impl Connections {
         ensures { result ≡ is_untaken_in at.number self.now.table at.key }
     {
         table::is_ready(&self.table, at)
+    }
+
+    /// From now on it is this moment, in seconds. It is noted between what passes.
+    pub fn note(&mut self, alloc: Global, moment: u32)
+        ensures passed { self.new.passed ≡ self.old.passed ++ moment_as moment ∷ [] }
+        ensures others { self.new ≡ record self.old { passed = self.new.passed } }
+    {
+        self.history.note(alloc, moment);
     }
 
     /// What always holds of them. It does nothing.

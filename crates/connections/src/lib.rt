@@ -17,7 +17,7 @@ mod wanted;
 
 pub use connection::{Connection, MOST_UNWRITTEN, Ready};
 pub use connections::{CommandNumber, Connections};
-pub use history::History;
+pub use history::{History, Passing};
 pub use places::Place;
 pub use said::Said;
 pub use table::MOST_PLACES;

@@ -108,9 +108,9 @@ replied law u p number quiet reply is =
     (g, refl, ap (λ (x : Given). x.talk) (at ∙ step) ∙ ap (λ (k : ℕ). talk_of (answers p k)) a.2, ap (λ (x : Given). x.letters) (at ∙ step))
 
 -- a reply was sent to the proxy, and is answered
-pub answered_goes : AnswerIsReplied → (n : NodesView) (w : WorldView) (l : Letter Body) (client number : ℕ) (reply : replies.Reply) (proxies : List ProxyView) (answer : Option Answer) → IsLike n w → Contains w.letters l → l.to ≡ node.Client client → l.body ≡ body.Reply number reply
-    → ProxyAnswers n.proxies client number reply proxies answer → Goes n (record n { proxies = proxies }) w
-answered_goes law n w l client number reply proxies answer like was to says r =
+pub answered_goes : {cut : Option ℕ} → AnswerIsReplied → (n : NodesView) (w : WorldView) (l : Letter Body) (client number : ℕ) (reply : replies.Reply) (proxies : List ProxyView) (answer : Option Answer) → IsLike n w → Contains w.letters l → l.to ≡ node.Client client → l.body ≡ body.Reply number reply
+    → ProxyAnswers n.proxies client number reply proxies answer → Goes cut n (record n { proxies = proxies }) w
+answered_goes {cut} law n w l client number reply proxies answer like was to says r =
     let slot = slot_of n w r.index r.proxy like r.there in
     let step = replied law n.u r.proxy number r.quiet reply r.was_asked in
     let after : ClientSlot = record { client = record (client_of n.u r.proxy) { talk = step.0.talk }; given = slot.0.given ++ step.0.bytes } in
@@ -124,7 +124,7 @@ answered_goes law n w l client number reply proxies answer like was to says r =
     let is : after.client ≡ client_of n.u (answers r.proxy number) = ap (λ (t : _). record (client_of n.u r.proxy) { talk = t }) step.2 in
     record {
       world = now;
-      moves = moves_by w now (Deliver (suc k.0)) step.0.letters next (λ c. refl) refl;
+      moves = moves_by w now (Deliver (suc k.0)) step.0.letters next (λ c. refl) (λ m c. absurd (cc c)) refl;
       like = subst (λ (ps : List ProxyView). IsLike (record n { proxies = ps }) now) (sym r.after) (like_client n w r.index (answers r.proxy number) after step.0.letters n.mail like is (λ l c. inl c));
       same_u = refl;
       proxies = subst (SameProxies n.proxies) (sym r.after) (answered_proxies n.proxies r.index r.proxy (answers r.proxy number) r.there refl refl);
@@ -141,9 +141,9 @@ asked_of : (o : Option Asked) (r : Request) → request_of o ≡ Some r → (a :
 asked_of None r e = absurd (cc e)
 asked_of (Some a) r e = (a, refl, cc e)
 
-pub again_goes : AgainIsAsked → (n now : NodesView) (w : WorldView) (number : ℕ) → IsLike n w → ((i : ℕ) (p : ProxyView) → slice_get n.proxies i ≡ Some p → p.client ≡ suc i) → AsksAgain n number now → Goes n now w
-again_goes law n now w number like numbered (inr same) = goes_nowhere n now w like same
-again_goes law n now w number like numbered (inl (request, r, posted)) =
+pub again_goes : {cut : Option ℕ} → AgainIsAsked → (n now : NodesView) (w : WorldView) (number : ℕ) → IsLike n w → ((i : ℕ) (p : ProxyView) → slice_get n.proxies i ≡ Some p → p.client ≡ suc i) → AsksAgain n number now → Goes cut n now w
+again_goes {cut} law n now w number like numbered (inr same) = goes_nowhere n now w like same
+again_goes {cut} law n now w number like numbered (inl (request, r, posted)) =
     let out = asked_of r.proxy.asked request r.is in
     let slot = slot_of n w r.index r.proxy like r.there in
     let g : Given = record { talk = talk_of r.proxy; letters = wants n.u r.proxy.client out.0.request; bytes = [] } in
@@ -152,9 +152,9 @@ again_goes law n now w number like numbered (inl (request, r, posted)) =
     let given = client_given n w r.index r.proxy slot.0 input.Again g slot.1 slot.2 (sym (law n.u r.proxy out.0 out.1)) in
     let own : number ≡ r.proxy.client = r.at ∙ sym (numbered r.index r.proxy r.there) in
     let wanted : wants n.u number request ≡ g.letters = λ i. wants n.u (own i) (sym out.2 i) in
-    subst (λ (x : NodesView). Goes n x w) (sym posted.after) (record {
+    subst (λ (x : NodesView). Goes cut n x w) (sym posted.after) (record {
       world = there;
-      moves = moves_by w there (Again (suc r.index)) g.letters given (λ c. refl) refl;
+      moves = moves_by w there (Again (suc r.index)) g.letters given (λ c. refl) (λ m c. absurd (cc c)) refl;
       like = subst (λ (ps : List ProxyView). IsLike (record n { proxies = ps; mail = now.mail }) there) (same_set n.proxies r.index r.proxy r.there) (like_client n w r.index r.proxy after g.letters now.mail like refl (posted_from n number request now g.letters wanted posted));
       same_u = refl;
       proxies = same_proxies n.proxies n.proxies refl;

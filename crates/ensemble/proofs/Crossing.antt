@@ -44,6 +44,7 @@ use Rattle.worlds.specs.contracts.executor_place.ExecutorPlace as place
 use Rattle.hosts.specs.contracts.executor_host.ExecutorHost as host
 use Rattle.worlds.proofs.verifier_place.VerifierPlace.TheSendSync as verifier
 use Rattle.proxies.proofs.proxy.Proxy.TheSendSync as proxy
+use Rattle.ensemble.proofs.noted.Noted.TheSendSync as noted
 use Rattle.ensemble.proofs.progress.Progress.TheSendSync as progress
 use Rattle.ensemble.proofs.times.Stopwatch.TheSendSync as stopwatch
 use Rattle.ensemble.specs.contracts.nodes.Nodes as nodes
@@ -143,4 +144,4 @@ nodes_send : IsSend nodes.the_row
 nodes_send = search (host_send, body_send, letter.the_send, verifier.the_send, proxy.the_send, deque.the_send, parts, sendable) depth 60 fits 20000
 
 pub ensemble_send : IsSend ensemble.the_row
-ensemble_send = search (nodes_send, progress.the_send, stopwatch.the_field_send, log.the_send, parts, sendable) depth 60 fits 20000
+ensemble_send = search (nodes_send, noted.the_field_send, noted.the_send, progress.the_send, stopwatch.the_field_send, log.the_send, parts, sendable) depth 60 fits 20000

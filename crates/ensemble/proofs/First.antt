@@ -1,5 +1,5 @@
 -- What is true of an ensemble whose replicas were just opened.
-use Rattle.std.proofs.Common.{◌≡◌, ⊎_elim, ℕ, zero, suc, ◌+◌, Bool, true, List, [], ◌∷◌, ◌++◌, length, map, None, Some, slice_get, refl, sym, ap, ◌∙◌, subst}
+use Rattle.std.proofs.Common.{◌≡◌, ⊎_elim, ℕ, zero, suc, ◌+◌, ◌<◌, true, List, [], ◌∷◌, ◌++◌, length, map, None, Some, slice_get, refl, sym, ap, ◌∙◌, subst, arith}
 use Rattle.std.specs.Prelude.{Contains}
 use Rattle.std.proofs.lemmas.List.{length-append}
 use Rattle.std.proofs.Math.Numerals.{add-one}
@@ -10,19 +10,25 @@ use Rattle.exec_lines.specs.declared.body.Body.{Body}
 use Rattle.exec_node.specs.Executor.{ExecutorView}
 use Rattle.client.specs.Client.{ClientView}
 use Rattle.events.specs.Config.{ConfigView}
+use Rattle.events.specs.declared.event.Event.{Event}
+use Rattle.events.specs.declared.event.Event.TheVariants.{Cut}
 use Rattle.worlds.specs.Slot.{Slot}
 use Rattle.worlds.specs.declared.slot.Slot.TheVariants.{Up}
 use Rattle.worlds.specs.Slots.{ClientSlot}
 use Rattle.worlds.specs.World.{new_clients}
-use Rattle.worlds.specs.First.{first_executor, all_up, first_world}
-use Rattle.worlds.proofs.FirstLemmas.{reached_first}
+use Rattle.worlds.specs.First.{first_executor, first_verifier, all_up, first_world}
+use Rattle.worlds.proofs.FirstLemmas.{reached_first, get_seam, length_all_up}
 use Rattle.proxies.specs.Proxy.{ProxyView}
 use Rattle.hosts.specs.Host.{HostView}
-use Rattle.ensemble.specs.First.{first_proxies_of, first_host, first_hosts, first_nodes}
+use Rattle.ensemble.specs.First.{first_proxies_of, first_host, first_hosts, first_nodes, AreAllUp}
+use Rattle.ensemble.specs.Shown.{is_host_up, is_place_up}
 use Rattle.ensemble.specs.Ensemble.{IsPast, IsEnsemble, client_of}
 use Rattle.ensemble.proofs.Lists.{in_none}
-use Rattle.ensemble.proofs.Past.{past_now}
+use Rattle.ensemble.specs.declared.noted.Noted.TheVariants as noted
+use Rattle.ensemble.proofs.Moments.{Order, no_cut}
+use Rattle.ensemble.proofs.Past.{past_now, get_longer}
 use Rattle.ensemble.proofs.Asks.{at_end}
+use Rattle.ensemble.proofs.Sending.{below_or_last}
 
 abbrev slot_of : HostView → Slot ExecutorView
 slot_of h = h.slot
@@ -69,7 +75,11 @@ of_hosts u (suc n) id h at = ⊎_elim
     (λ (last : (id ≡ length (first_hosts u n)) × (h ≡ first_host u n)). (ap (λ (k : HostView). k.held) last.1, ap (λ (k : HostView). k.sent) last.1))
     (at_end (first_hosts u n) (first_host u n) h id at)
 
-begins_empty : (early late : List ((ℕ × ℕ) × Bool)) → [] ≡ early ++ late → [] ≡ early
+no_event : (before : List Event) (e : Event) (after : List Event) → [] ≡ before ++ e ∷ after → ⊥
+no_event [] e after is = cc is
+no_event (x ∷ before) e after is = cc is
+
+begins_empty : (early late : Order) → [] ≡ early ++ late → [] ≡ early
 begins_empty [] late is = refl
 begins_empty (x ∷ early) late is = absurd (cc is)
 
@@ -97,7 +107,35 @@ first_is_ensemble c = record {
   fed = λ client. (nothing_next, refl);
   answers = λ a x. absurd (in_none a x);
   ordered_asks = λ a x. absurd (in_none a x);
-  ordered_answers = λ client number x. absurd (in_none ((client, number), true) x);
-  past = λ early late is. subst (λ (o : List ((ℕ × ℕ) × Bool)). IsPast [] (reached_first c (first_world c) refl).worlds o) (begins_empty early late is)
-      (past_now c [] (first_world c) (reached_first c (first_world c) refl) [] [] [] (λ client k a at. absurd (cc at)) (λ client. (nothing_next, refl)) (λ a x. absurd (in_none a x)) (λ client number x. absurd (in_none ((client, number), true) x)) (λ a x. absurd (in_none a x)));
+  ordered_answers = λ client number x. absurd (in_none ((client, number), noted.Answered) x);
+  cuts = λ before after executor moment is. absurd (no_event before (Cut executor moment) after is);
+  past = λ early late is. subst (λ (o : Order). IsPast [] (reached_first c (first_world c) refl).worlds o) (begins_empty early late is)
+      (past_now c [] (first_world c) (reached_first c (first_world c) refl) [] [] [] (λ client k a at. absurd (cc at)) (λ client. (nothing_next, refl)) (λ a x. absurd (in_none a x)) (λ client number x. absurd (in_none ((client, number), noted.Answered) x)) (λ a x. absurd (in_none a x)) (λ moment x. no_cut moment x));
+}
+
+-- ---- all are up
+
+count_hosts : (u n : ℕ) → length (first_hosts u n) ≡ n
+count_hosts u zero = refl
+count_hosts u (suc n) = length-append (first_hosts u n) (first_host u n ∷ []) ∙ (ap (λ (k : ℕ). k + 1) (count_hosts u n) ∙ add-one n)
+
+host_at : (u n id : ℕ) → id < n → slice_get (first_hosts u n) id ≡ Some (first_host u id)
+host_at u zero id lt = absurd (omega (arith, lt))
+host_at u (suc n) id lt = ⊎_elim
+    (λ (less : id < n). get_longer (first_hosts u n) (first_host u n ∷ []) id (first_host u id) (host_at u n id less))
+    (λ (last : id ≡ n). (λ i. slice_get (first_hosts u n ++ first_host u n ∷ []) ((last ∙ sym (count_hosts u n)) i)) ∙ (get_seam (first_hosts u n) (first_host u n) [] ∙ (λ i. Some (first_host u (sym last i)))))
+    (below_or_last id n (omega (arith, lt)))
+
+up_at : {N : Type 0} (node : ℕ → N) (n id : ℕ) → id < n → slice_get (all_up node n) id ≡ Some (Up (node id))
+up_at node zero id lt = absurd (omega (arith, lt))
+up_at node (suc n) id lt = ⊎_elim
+    (λ (less : id < n). get_longer (all_up node n) (Up (node n) ∷ []) id (Up (node id)) (up_at node n id less))
+    (λ (last : id ≡ n). (λ i. slice_get (all_up node n ++ Up (node n) ∷ []) ((last ∙ sym (length_all_up node n)) i)) ∙ (get_seam (all_up node n) (Up (node n)) [] ∙ (λ i. Some (Up (node (sym last i))))))
+    (below_or_last id n (omega (arith, lt)))
+
+pub first_are_up : (c : ConfigView) → AreAllUp c.u c.clients (first_nodes c)
+first_are_up c = record {
+  size = λ i. (c.u, count_of c.clients i, count_hosts c.u (member_count c.u) i, length_all_up (first_verifier c.u) (member_count c.u) i);
+  executors = λ id lt. ap is_host_up (host_at c.u (member_count c.u) id lt);
+  verifiers = λ id lt. ap is_place_up (up_at (first_verifier c.u) (member_count c.u) id lt);
 }

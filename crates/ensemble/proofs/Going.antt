@@ -33,10 +33,14 @@ use Rattle.hosts.specs.Host.{HostSettles, HostTakes, HostReopens, HostCollects}
 use Rattle.ensemble.specs.declared.answer.Answer.{Answer}
 use Rattle.ensemble.specs.Nodes.{NodesView, HostMoves, HostAdvances, VerifierMoves, VerifierGets, VerifierOpens, VerifierTrims, ProxyGets, ProxyReached, NodesReached, DeliversOf, Delivers, RunsAll, IsAskedBy, IsPosted, AsksAgain}
 use Rattle.memcached_spec.specs.Asked.{HasText}
-use Rattle.ensemble.specs.Ensemble.{EnsembleView, IsLogged, IsLike, IsPast, IsEnsemble, asks_of, asked_turn, turns_of, client_of, answer_log, order_log}
+use Rattle.ensemble.specs.declared.noted.Noted.{Noted}
+use Rattle.ensemble.specs.declared.noted.Noted.TheVariants as noted
+use Rattle.ensemble.specs.Moments.{now_from, IsNow}
+use Rattle.ensemble.specs.Ensemble.{EnsembleView, IsLogged, IsLike, AreCut, IsEnsemble, asks_of, asked_turn, turns_of, client_of, answer_log, order_log}
 use Rattle.ensemble.proofs.Lists.{set_split, length_set, in_head, in_tail}
-use Rattle.ensemble.proofs.Past.{Order, longer_split, past_now}
-use Rattle.ensemble.proofs.Goes.{Goes, goes_nowhere, AreSent, still_sent, still_past, reached_more, ensemble_answers, ensemble_stays}
+use Rattle.ensemble.proofs.Moments.{Order, cut_by, one_cut, still_cut, cut_moments}
+use Rattle.ensemble.proofs.Past.{past_now}
+use Rattle.ensemble.proofs.Goes.{Goes, goes_nowhere, AreSent, still_sent, still_past, past_next, uncut_more, reached_more, ensemble_answers, ensemble_stays}
 use Rattle.ensemble.proofs.Hosts.{host_goes, acts_takes, acts_cut, acts_opens, acts_collects, acts_advances, runs_goes}
 use Rattle.ensemble.proofs.Verifiers.{suspect_goes, trim_goes, open_verifier_goes, reached_goes}
 use Rattle.ensemble.proofs.Clients.{slot_of, client_given, posted_from, like_client, answered_goes, again_goes}
@@ -56,15 +60,18 @@ shorter n w l rest is like = record {
 }
 
 module _ (law : AnswerIsReplied) (e : EnsembleView) (h : IsEnsemble e) where
+  abbrev last : Option ℕ
+  last = now_from None e.order
+
   abbrev After : NodesView → Option Answer → Type 0
   After n answer = IsEnsemble (record { nodes = n; asked = e.asked; answered = e.answered ++ answer_log answer; order = e.order ++ order_log answer; refused = e.refused })
 
   -- it went on from what is left when a letter was taken
-  silent : (mail : List (Letter Body)) (n : NodesView) (answer : Option Answer) → Goes (record e.nodes { mail = mail }) n h.now → answer ≡ None → After n answer
+  silent : (mail : List (Letter Body)) (n : NodesView) (answer : Option Answer) → Goes last (record e.nodes { mail = mail }) n h.now → answer ≡ None → After n answer
   silent mail n answer g none =
-      let whole : Goes e.nodes n h.now = record { world = g.world; moves = g.moves; like = g.like; same_u = g.same_u; proxies = g.proxies } in
+      let whole : Goes last e.nodes n h.now = record { world = g.world; moves = g.moves; like = g.like; same_u = g.same_u; proxies = g.proxies } in
       subst (λ (o : Option Answer). After n o) (sym none)
-      (subst (λ (logs : List ((ℕ × ℕ) × replies.Reply) × List ((ℕ × ℕ) × Bool)). IsEnsemble (record { nodes = n; asked = e.asked; answered = logs.0; order = logs.1; refused = e.refused }))
+      (subst (λ (logs : List ((ℕ × ℕ) × replies.Reply) × List ((ℕ × ℕ) × Noted)). IsEnsemble (record { nodes = n; asked = e.asked; answered = logs.0; order = logs.1; refused = e.refused }))
       (λ i. (sym (append-nil e.answered) i, sym (append-nil e.order) i)) (ensemble_stays e n h whole))
 
   to_proxy : (l : Letter Body) (rest : List (Letter Body)) (client number : ℕ) (reply : replies.Reply) (proxies : List ProxyView) (answer : Option Answer) → IsLike (record e.nodes { mail = rest }) h.now → Contains h.now.letters l → l.to ≡ node.Client client → l.body ≡ body.Reply number reply
@@ -73,9 +80,9 @@ module _ (law : AnswerIsReplied) (e : EnsembleView) (h : IsEnsemble e) where
       silent rest (record e.nodes { proxies = proxies; mail = rest }) answer
       (goes_nowhere (record e.nodes { mail = rest }) (record e.nodes { proxies = proxies; mail = rest }) h.now like (ap (λ (ps : List ProxyView). record e.nodes { proxies = ps; mail = rest }) same.0)) same.1
   to_proxy l rest client number reply proxies answer like was to says (inl r) =
-      let g = answered_goes law (record e.nodes { mail = rest }) h.now l client number reply proxies answer like was to says r in
+      let g = answered_goes {cut = last} law (record e.nodes { mail = rest }) h.now l client number reply proxies answer like was to says r in
       let n : NodesView = record e.nodes { proxies = proxies; mail = rest } in
-      let whole : Goes e.nodes n h.now = record { world = g.world; moves = g.moves; like = g.like; same_u = g.same_u; proxies = g.proxies } in
+      let whole : Goes last e.nodes n h.now = record { world = g.world; moves = g.moves; like = g.like; same_u = g.same_u; proxies = g.proxies } in
       subst (λ (o : Option Answer). After n o) (sym r.is)
       (ensemble_answers e n h whole client number reply (l, g.moves.grows l was, to, says))
 
@@ -111,8 +118,10 @@ module _ (e : EnsembleView) (n : NodesView) (h : IsEnsemble e) where
   pub take_held_goes : (id : ℕ) → HostMoves HostAdvances id e.nodes n → Stays
   take_held_goes id m = ensemble_stays e n h (host_goes HostAdvances e.nodes n h.now id h.like (acts_advances h.now id) m)
 
-  pub cut_goes : (id moment : ℕ) → HostMoves (λ a left sent. HostSettles a (executor_input.Cut moment) left sent) id e.nodes n → Stays
-  cut_goes id moment m = ensemble_stays e n h (host_goes (λ a left sent. HostSettles a (executor_input.Cut moment) left sent) e.nodes n h.now id h.like (acts_cut h.now id moment) m)
+  pub cut_goes : (id moment : ℕ) → IsNow e.order moment → HostMoves (λ a left sent. HostSettles a (executor_input.Cut moment) left sent) id e.nodes n → Stays
+  cut_goes id moment at m =
+      let goes : Goes (Some moment) e.nodes n h.now = host_goes (λ a left sent. HostSettles a (executor_input.Cut moment) left sent) e.nodes n h.now id h.like (acts_cut h.now id moment) m in
+      ensemble_stays e n h (subst (λ (cut : Option ℕ). Goes cut e.nodes n h.now) (sym at) goes)
 
   pub collect_goes : (id : ℕ) → HostMoves HostCollects id e.nodes n → Stays
   collect_goes id m = ensemble_stays e n h (host_goes HostCollects e.nodes n h.now id h.like (acts_collects h.now id) m)
@@ -157,7 +166,7 @@ spelled_next client index fed bytes asked a spells text of = by (suc index == cl
 
 pub asks_goes : AskIsFed → Global → (e : EnsembleView) (h : IsEnsemble e) (mid n : NodesView) (number : ℕ) (command : Command) (quiet : Bool) (r : Request) → HasText command quiet
     → IsAskedBy e.nodes.proxies number command quiet mid.proxies r → mid ≡ record e.nodes { proxies = mid.proxies } → IsPosted mid number r n
-    → IsEnsemble (record { nodes = n; asked = e.asked ++ (r, quiet) ∷ []; answered = e.answered; order = e.order ++ ((number, r.number), false) ∷ []; refused = e.refused })
+    → IsEnsemble (record { nodes = n; asked = e.asked ++ (r, quiet) ∷ []; answered = e.answered; order = e.order ++ ((number, r.number), noted.Asked) ∷ []; refused = e.refused })
 asks_goes law alloc e h mid n number command quiet r text a is posted =
     let p = a.proxy in
     let own = text.0 in
@@ -182,21 +191,22 @@ asks_goes law alloc e h mid n number command quiet r text a is posted =
     let entry : Request × Bool = (r, quiet) in
     let own_text : IsTurnText own (Ask r.command quiet) = subst (λ (c : Command). IsTurnText own (Ask c quiet)) (sym asks_command) text.1 in
     let fed_there = λ (client : ℕ). flat_map-append (fed_by client) h.events (event ∷ []) ∙ ap (λ (bs : List ℕ). fed_to client h.events ++ bs) (append-nil (fed_by client event)) in
-    let order : Order = e.order ++ ((number, r.number), false) ∷ [] in
+    let order : Order = e.order ++ ((number, r.number), noted.Asked) ∷ [] in
     let through = reached_more h.config h.events (event ∷ []) h.now now h.through (now ∷ [], (next, tt), refl) in
     let in_order : (client k : ℕ) (b : Request × Bool) → slice_get (asks_of client (e.asked ++ entry ∷ [])) k ≡ Some b → b.0.number ≡ suc k = λ client. still_in_order client e.asked entry (h.in_order client)
     (λ same. numbered ∙ (ap (λ (k : ℕ). k + 1) (at.1 ∙ ap (λ (k : ℕ). length (asks_of k e.asked)) (sym of ∙ same)) ∙ plus_one (length (asks_of client e.asked)))) in
     let fed : (client : ℕ) → Spells (fed_to client (h.events ++ event ∷ [])) (turns_of client (e.asked ++ entry ∷ [])) [] = λ client. subst (λ (bs : List ℕ). Spells bs (turns_of client (e.asked ++ entry ∷ [])) []) (sym (fed_there client)) (spelled_next client a.index (fed_to client h.events) bytes e.asked entry (h.fed client) own_text of) in
     let answers : AreSent e.answered now.letters = λ b c. still_sent h.now.letters now.letters b.0.0 b.0.1 b.1 (λ l x. Contains-append_left h.now.letters g.letters l x) (h.answers b c) in
     let key : ◌≡◌ {A = ℕ × ℕ} (r.client, r.number) (number, r.number) = λ i. ((of ∙ sym a.at) i, r.number) in
-    let ordered_asks : (b : Request × Bool) → Contains (e.asked ++ entry ∷ []) b → Contains order ((b.0.client, b.0.number), false) = λ b c. ⊎_elim
+    let ordered_asks : (b : Request × Bool) → Contains (e.asked ++ entry ∷ []) b → Contains order ((b.0.client, b.0.number), noted.Asked) = λ b c. ⊎_elim
     (λ (old : Contains e.asked b). Contains-append_left e.order _ _ (h.ordered_asks b old))
-    (λ (same : entry ≡ b). subst (λ (x : Request × Bool). Contains order ((x.0.client, x.0.number), false)) same (subst (λ (k : ℕ × ℕ). Contains order (k, false)) (sym key) (Contains-push e.order ((number, r.number), false))))
+    (λ (same : entry ≡ b). subst (λ (x : Request × Bool). Contains order ((x.0.client, x.0.number), noted.Asked)) same (subst (λ (k : ℕ × ℕ). Contains order (k, noted.Asked)) (sym key) (Contains-push e.order ((number, r.number), noted.Asked))))
     (Contains-push_cases e.asked entry b c) in
-    let ordered_answers : (p k : ℕ) → Contains order ((p, k), true) → (reply : replies.Reply) × Contains e.answered ((p, k), reply) = λ p k c. ⊎_elim
-    (λ (old : Contains e.order ((p, k), true)). h.ordered_answers p k old)
-    (λ (same : ◌≡◌ {A = (ℕ × ℕ) × Bool} ((number, r.number), false) ((p, k), true)). absurd (let kinds : false ≡ true = ap (λ (x : (ℕ × ℕ) × Bool). x.1) same in cc kinds))
-    (Contains-push_cases e.order ((number, r.number), false) ((p, k), true) c) in
+    let ordered_answers : (p k : ℕ) → Contains order ((p, k), noted.Answered) → (reply : replies.Reply) × Contains e.answered ((p, k), reply) = λ p k c. ⊎_elim
+    (λ (old : Contains e.order ((p, k), noted.Answered)). h.ordered_answers p k old)
+    (λ (same : ◌≡◌ {A = (ℕ × ℕ) × Noted} ((number, r.number), noted.Asked) ((p, k), noted.Answered)). absurd (let kinds : noted.Asked ≡ noted.Answered = ap (λ (x : (ℕ × ℕ) × Noted). x.1) same in cc kinds))
+    (Contains-push_cases e.order ((number, r.number), noted.Asked) ((p, k), noted.Answered) c) in
+    let cuts : AreCut order (h.events ++ event ∷ []) = uncut_more order h.events (event ∷ []) (λ moment c. let none : cut_by event ≡ Some moment = one_cut event moment c in cc none) (still_cut e.order (((number, r.number), noted.Asked) ∷ []) h.events h.cuts) in
     subst (λ (x : NodesView). IsEnsemble (record { nodes = x; asked = e.asked ++ entry ∷ []; answered = e.answered; order = order; refused = e.refused })) (sym n_is) (record {
       config = h.config;
       events = h.events ++ event ∷ [];
@@ -220,10 +230,10 @@ asks_goes law alloc e h mid n number command quiet r text a is posted =
       answers = answers;
       ordered_asks = ordered_asks;
       ordered_answers = ordered_answers;
-      past = λ early late split. ⊎_elim
-          (λ (old : (rest : Order) × (e.order ≡ early ++ rest)). still_past e h (event ∷ []) now (now ∷ [], (next, tt), refl) early old.0 old.1)
-          (λ (whole : early ≡ order). subst (λ (o : Order). IsPast (h.events ++ event ∷ []) through.worlds o) (sym whole) (past_now h.config (h.events ++ event ∷ []) now through (e.asked ++ entry ∷ []) e.answered order in_order fed ordered_asks ordered_answers answers))
-          (longer_split e.order ((number, r.number), false) early late split);
+      cuts = cuts;
+      past = past_next (h.events ++ event ∷ []) through.worlds e.order ((number, r.number), noted.Asked)
+          (still_past e h (event ∷ []) now (now ∷ [], (next, tt), refl))
+          (past_now h.config (h.events ++ event ∷ []) now through (e.asked ++ entry ∷ []) e.answered order in_order fed ordered_asks ordered_answers answers (cut_moments order (h.events ++ event ∷ []) cuts));
     })
   where
     plus_one : (k : ℕ) → k + 1 ≡ suc k
@@ -245,13 +255,13 @@ asks_logged e h proxies number command quiet r now a is =
 -- where nothing is answered
 pub deliver_none : AnswerIsReplied → (e : EnsembleView) (h : IsEnsemble e) (n : NodesView) (answer : Option Answer) → Delivers e.nodes n answer → answer ≡ None → IsEnsemble (record e { nodes = n })
 deliver_none law e h n answer d none =
-    subst (λ (logs : List ((ℕ × ℕ) × replies.Reply) × List ((ℕ × ℕ) × Bool)). IsEnsemble (record { nodes = n; asked = e.asked; answered = logs.0; order = logs.1; refused = e.refused }))
+    subst (λ (logs : List ((ℕ × ℕ) × replies.Reply) × List ((ℕ × ℕ) × Noted)). IsEnsemble (record { nodes = n; asked = e.asked; answered = logs.0; order = logs.1; refused = e.refused }))
     (λ i. (append-nil e.answered i, append-nil e.order i))
     (subst (λ (o : Option Answer). IsEnsemble (record { nodes = n; asked = e.asked; answered = e.answered ++ answer_log o; order = e.order ++ order_log o; refused = e.refused })) none (deliver_goes law e h n answer d))
 
 -- where one is
 pub deliver_some : AnswerIsReplied → (e : EnsembleView) (h : IsEnsemble e) (n : NodesView) (answer : Option Answer) (a : Answer) (log : List ((ℕ × ℕ) × replies.Reply)) (order : Order) → Delivers e.nodes n answer → answer ≡ Some a
-    → log ≡ e.answered ++ ((a.proxy, a.number), a.reply) ∷ [] → order ≡ e.order ++ ((a.proxy, a.number), true) ∷ [] → IsEnsemble (record { nodes = n; asked = e.asked; answered = log; order = order; refused = e.refused })
+    → log ≡ e.answered ++ ((a.proxy, a.number), a.reply) ∷ [] → order ≡ e.order ++ ((a.proxy, a.number), noted.Answered) ∷ [] → IsEnsemble (record { nodes = n; asked = e.asked; answered = log; order = order; refused = e.refused })
 deliver_some law e h n answer a log order d some is in_order =
-    subst (λ (logs : List ((ℕ × ℕ) × replies.Reply) × List ((ℕ × ℕ) × Bool)). IsEnsemble (record { nodes = n; asked = e.asked; answered = logs.0; order = logs.1; refused = e.refused })) (λ i. (sym is i, sym in_order i))
+    subst (λ (logs : List ((ℕ × ℕ) × replies.Reply) × List ((ℕ × ℕ) × Noted)). IsEnsemble (record { nodes = n; asked = e.asked; answered = logs.0; order = logs.1; refused = e.refused })) (λ i. (sym is i, sym in_order i))
     (subst (λ (o : Option Answer). IsEnsemble (record { nodes = n; asked = e.asked; answered = e.answered ++ answer_log o; order = e.order ++ order_log o; refused = e.refused })) some (deliver_goes law e h n answer d))

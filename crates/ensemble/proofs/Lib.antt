@@ -1,4 +1,6 @@
 mod Lists
+mod Sizes
+pub mod Moments
 pub mod Past
 mod Goes
 mod Hosts

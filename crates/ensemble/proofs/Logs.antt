@@ -1,15 +1,13 @@
 -- Answers that come behind others.
-use Rattle.std.proofs.Common.{◌≡◌, ℕ, Bool, List, [], ◌∷◌, ◌++◌, map, Some, refl, sym, ap, ◌∙◌, append_assoc}
+use Rattle.std.proofs.Common.{◌≡◌, ℕ, List, [], ◌∷◌, ◌++◌, map, Some, refl, sym, ap, ◌∙◌, append_assoc}
 use Rattle.std.proofs.lemmas.List.{append-nil}
 use Rattle.proto.specs.declared.reply.Reply as replies
 use Rattle.ensemble.specs.declared.answer.Answer.{Answer}
+use Rattle.ensemble.proofs.Moments.{Order}
 use Rattle.ensemble.specs.Ensemble.{Answers, answer_entry, answer_log, order_entry, order_log}
 
 abbrev Entries : Type 0
 Entries = List ((ℕ × ℕ) × replies.Reply)
-
-abbrev Order : Type 0
-Order = List ((ℕ × ℕ) × Bool)
 
 pub none_came : (log log_now : Entries) (order order_now : Order) (answers answers_now : List Answer) → log_now ≡ log → order_now ≡ order → answers_now ≡ answers → Answers log order answers log_now order_now answers_now
 none_came log log_now order order_now answers answers_now l o a = record { added = []; after = a ∙ sym (append-nil answers); logged = l ∙ sym (append-nil log); ordered = o ∙ sym (append-nil order) }

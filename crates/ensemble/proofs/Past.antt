@@ -14,20 +14,20 @@ use Rattle.events.specs.Config.{ConfigView}
 use Rattle.worlds.specs.World.{WorldView, WorldRuns, last_world, ReachedWorlds, EndsWith}
 use Rattle.worlds.specs.Laws.{IsReached}
 use Rattle.worlds.specs.Asked.{WasSent}
-use Rattle.memcached_spec.specs.Fed.{fed_to}
+use Rattle.memcached_spec.specs.Fed.{fed_to, IsMoment}
 use Rattle.memcached_spec.specs.Asked as spelled
+use Rattle.ensemble.specs.declared.noted.Noted.TheVariants as noted
+use Rattle.ensemble.specs.Moments.{moments_in}
 use Rattle.ensemble.specs.Ensemble.{IsPast, asks_of, asked_turn, turns_of}
 use Rattle.ensemble.proofs.Lists.{in_head, in_tail}
-
-abbrev pub Order : Type 0
-Order = List ((ℕ × ℕ) × Bool)
+use Rattle.ensemble.proofs.Moments.{Order}
 
 abbrev Asks : Type 0
 Asks = List (Request × Bool)
 
 -- ---- lists
 
-get_longer : {X : Type 0} (xs ys : List X) (k : ℕ) (x : X) → slice_get xs k ≡ Some x → slice_get (xs ++ ys) k ≡ Some x
+pub get_longer : {X : Type 0} (xs ys : List X) (k : ℕ) (x : X) → slice_get xs k ≡ Some x → slice_get (xs ++ ys) k ≡ Some x
 get_longer [] ys k x at = absurd (cc at)
 get_longer (y ∷ xs) ys zero x at = at
 get_longer (y ∷ xs) ys (suc k) x at = get_longer xs ys k x at
@@ -45,6 +45,20 @@ longer_split {X} (w ∷ xs) x (y ∷ early) late is =
     (λ (old : (rest : List X) × (xs ≡ early ++ rest)). inl (old.0, λ i. same i ∷ old.1 i))
     (λ (whole : early ≡ xs ++ x ∷ []). inr (λ i. sym same i ∷ whole i))
     (longer_split xs x early late tails)
+
+-- and what comes behind that beginning
+pub longer_split_late : {X : Type 0} (xs : List X) (x : X) (early late : List X) → xs ++ x ∷ [] ≡ early ++ late → ((rest : List X) × (xs ≡ early ++ rest) × (late ≡ rest ++ x ∷ [])) ⊎ (early ≡ xs ++ x ∷ [])
+longer_split_late [] x [] late is = inl ([], refl, sym is)
+longer_split_late {X} [] x (y ∷ []) late is = inr (let same : x ≡ y = cc is in ap (λ (z : X). z ∷ []) (sym same))
+longer_split_late [] x (y ∷ z ∷ early) late is = absurd (cc is)
+longer_split_late (w ∷ xs) x [] late is = inl (w ∷ xs, refl, sym is)
+longer_split_late {X} (w ∷ xs) x (y ∷ early) late is =
+    let same : w ≡ y = cc is in
+    let tails : xs ++ x ∷ [] ≡ early ++ late = cc is in
+    ⊎_elim
+    (λ (old : (rest : List X) × (xs ≡ early ++ rest) × (late ≡ rest ++ x ∷ [])). inl (old.0, (λ i. same i ∷ old.1 i), old.2))
+    (λ (whole : early ≡ xs ++ x ∷ []). inr (λ i. sym same i ∷ whole i))
+    (longer_split_late xs x early late tails)
 
 abbrev IsAskOf : ℕ → Asks → Request × Bool → Type 0
 IsAskOf client asked a = Contains asked a × (a.0.client ≡ client)
@@ -103,30 +117,38 @@ past_more events more worlds added early p = record {
   there = get_longer worlds added (length p.before) p.now p.there;
   asked = p.asked;
   sent = p.sent;
+  moments = p.moments;
 }
+
+-- what the bytes ask is in the order
+pub asked_in_order : (client : ℕ) (bytes : List ℕ) (asked : Asks) (order : Order) → ((k : ℕ) (a : Request × Bool) → slice_get (asks_of client asked) k ≡ Some a → a.0.number ≡ suc k) → Spells bytes (turns_of client asked) []
+    → ((a : Request × Bool) → Contains asked a → Contains order ((a.0.client, a.0.number), noted.Asked)) → (number : ℕ) (command : Command) → spelled.IsAsked bytes number command → Contains order ((client, number), noted.Asked)
+asked_in_order client bytes asked order in_order fed ordered_asks number command is =
+    let same = spells_one bytes is.turns (turns_of client asked) is.rest [] is.spells fed in
+    let at : slice_get (spelled.asked (turns_of client asked)) (number - 1) ≡ Some command = subst (λ (ts : List Turn). slice_get (spelled.asked ts) (number - 1) ≡ Some command) same.0 is.is in
+    let a = asked_at (asks_of client asked) (number - 1) command at in
+    let inside = in_asks client asked (number - 1) a.0 a.1 in
+    let counted : a.0.0.number ≡ suc (number - 1) = in_order (number - 1) a.0 a.1 in
+    let from_one = is.from_one in
+    let numbered : a.0.0.number ≡ number = omega (arith, counted, from_one) in
+    subst (λ (key : ℕ × ℕ). Contains order (key, noted.Asked)) (λ i. (inside.1 i, numbered i)) (ordered_asks a.0 inside.0)
 
 -- now is a moment
 pub past_now : (config : ConfigView) (events : List Event) (now : WorldView) (through : IsReached config events now) (asked : Asks) (answered : List ((ℕ × ℕ) × replies.Reply)) (order : Order)
     → ((client k : ℕ) (a : Request × Bool) → slice_get (asks_of client asked) k ≡ Some a → a.0.number ≡ suc k)
     → ((client : ℕ) → Spells (fed_to client events) (turns_of client asked) [])
-    → ((a : Request × Bool) → Contains asked a → Contains order ((a.0.client, a.0.number), false))
-    → ((client number : ℕ) → Contains order ((client, number), true) → (reply : replies.Reply) × Contains answered ((client, number), reply))
+    → ((a : Request × Bool) → Contains asked a → Contains order ((a.0.client, a.0.number), noted.Asked))
+    → ((client number : ℕ) → Contains order ((client, number), noted.Answered) → (reply : replies.Reply) × Contains answered ((client, number), reply))
     → ((a : (ℕ × ℕ) × replies.Reply) → Contains answered a → WasSent now.letters a.0.0 a.0.1 a.1)
+    → ((moment : ℕ) → IsMoment events moment → Contains (moments_in order) moment)
     → IsPast events through.worlds order
-past_now config events now through asked answered order in_order fed ordered_asks ordered_answers answers = record {
+past_now config events now through asked answered order in_order fed ordered_asks ordered_answers answers moments = record {
   before = events;
   after = [];
   split = sym (append-nil events);
   now = now;
   there = end_at config events through.worlds now through.reached through.ends;
-  asked = λ client number command is.
-      let same = spells_one (fed_to client events) is.turns (turns_of client asked) is.rest [] is.spells (fed client) in
-      let at : slice_get (spelled.asked (turns_of client asked)) (number - 1) ≡ Some command = subst (λ (ts : List Turn). slice_get (spelled.asked ts) (number - 1) ≡ Some command) same.0 is.is in
-      let a = asked_at (asks_of client asked) (number - 1) command at in
-      let inside = in_asks client asked (number - 1) a.0 a.1 in
-      let counted : a.0.0.number ≡ suc (number - 1) = in_order client (number - 1) a.0 a.1 in
-      let from_one = is.from_one in
-      let numbered : a.0.0.number ≡ number = omega (arith, counted, from_one) in
-      subst (λ (key : ℕ × ℕ). Contains order (key, false)) (λ i. (inside.1 i, numbered i)) (ordered_asks a.0 inside.0);
+  asked = λ client number command is. asked_in_order client (fed_to client events) asked order (in_order client) (fed client) ordered_asks number command is;
   sent = λ client number c. let a = ordered_answers client number c in (a.0, answers ((client, number), a.0) a.1);
+  moments = moments;
 }

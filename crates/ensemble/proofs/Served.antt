@@ -39,6 +39,7 @@ any_count e refused h = record {
   answers = h.answers;
   ordered_asks = h.ordered_asks;
   ordered_answers = h.ordered_answers;
+  cuts = h.cuts;
   past = h.past;
 }
 

@@ -24,42 +24,43 @@ use Rattle.hosts.specs.Host.{HostView}
 use Rattle.ensemble.specs.Nodes.{NodesView, MayGrow, AtVerifierIn, VerifierMoves, VerifierGets, VerifierOpens, VerifierTrims, VerifiersReached}
 use Rattle.ensemble.specs.Ensemble.{HasSent, IsLike}
 use Rattle.ensemble.proofs.Lists.{grown, set_same, in_none, place_of}
+use Rattle.ensemble.proofs.Moments.{cut_by}
 use Rattle.ensemble.proofs.Goes.{Moves, stays, moves_by, Goes, goes_nowhere, same_proxies}
 
 -- what a verifier did is an event, or nothing
-abbrev Acts : WorldView → ℕ → Slot VerifierView → List (Letter Ballot) → Type 0
-Acts w id left sent = Moves w (with_verifier w id left sent)
+abbrev Acts : Option ℕ → WorldView → ℕ → Slot VerifierView → List (Letter Ballot) → Type 0
+Acts cut w id left sent = Moves cut w (with_verifier w id left sent)
 
-acts_given : (w : WorldView) (id : ℕ) (x : Input) (e : Event) (old left : Slot VerifierView) (sent : List (Letter Ballot)) → slice_get w.verifiers id ≡ Some old → VerifierSettles old x left sent
-    → ((now : WorldView) → VerifierGiven w id x now → WorldNext w e now) → ((client : ℕ) → fed_by client e ≡ []) → Acts w id left sent
-acts_given w id x e old left sent at settles next unfed =
+acts_given : {cut : Option ℕ} → (w : WorldView) (id : ℕ) (x : Input) (e : Event) (old left : Slot VerifierView) (sent : List (Letter Ballot)) → slice_get w.verifiers id ≡ Some old → VerifierSettles old x left sent
+    → ((now : WorldView) → VerifierGiven w id x now → WorldNext w e now) → ((client : ℕ) → fed_by client e ≡ []) → ((moment : ℕ) → cut_by e ≡ Some moment → cut ≡ Some moment) → Acts cut w id left sent
+acts_given {cut} w id x e old left sent at settles next unfed cuts =
     let now = with_verifier w id left sent in
-    moves_by w now e (map as_sent sent) (next now (subst (λ (o : Option (Slot VerifierView)). VerifierAtGiven w id x o now) (sym at) (left, sent, settles, refl))) unfed refl
+    moves_by w now e (map as_sent sent) (next now (subst (λ (o : Option (Slot VerifierView)). VerifierAtGiven w id x o now) (sym at) (left, sent, settles, refl))) unfed cuts refl
 
-acts_letter : (w : WorldView) (id : ℕ) (l : Letter Body) (b : Ballot) → Contains w.letters l → l.to ≡ node.Verifier id → l.body ≡ body.Ballot b
-    → (old left : Slot VerifierView) (sent : List (Letter Ballot)) → slice_get w.verifiers id ≡ Some old → VerifierGets (input.Letter (record { from = l.from; to = l.to; body = b })) old left sent → Acts w id left sent
-acts_letter w id l b was to says old left sent at did =
+acts_letter : {cut : Option ℕ} → (w : WorldView) (id : ℕ) (l : Letter Body) (b : Ballot) → Contains w.letters l → l.to ≡ node.Verifier id → l.body ≡ body.Ballot b
+    → (old left : Slot VerifierView) (sent : List (Letter Ballot)) → slice_get w.verifiers id ≡ Some old → VerifierGets (input.Letter (record { from = l.from; to = l.to; body = b })) old left sent → Acts cut w id left sent
+acts_letter {cut} w id l b was to says old left sent at did =
     let k = place_of w.letters l was in
     acts_given w id (input.Letter (record { from = l.from; to = l.to; body = b })) (Deliver (suc k.0)) old left sent at did
     (λ now given. subst (λ (o : Option (Letter Body)). IsDelivered w o now) (sym k.1)
     (subst (λ (x : Node). NodeReached w l x now) (sym to) (subst (λ (x : Body). of_world.VerifierReached w l id x now) (sym says) given)))
-    (λ client. refl)
+    (λ client. refl) (λ m c. absurd (cc c))
 
-acts_none : (w : WorldView) (id : ℕ) (old : Slot VerifierView) → slice_get w.verifiers id ≡ Some old → Acts w id old []
-acts_none w id old at = stays w (with_verifier w id old []) (λ i. record w { verifiers = set_same w.verifiers id old at i; letters = append-nil w.letters i })
+acts_none : {cut : Option ℕ} → (w : WorldView) (id : ℕ) (old : Slot VerifierView) → slice_get w.verifiers id ≡ Some old → Acts cut w id old []
+acts_none {cut} w id old at = stays w (with_verifier w id old []) (λ i. record w { verifiers = set_same w.verifiers id old at i; letters = append-nil w.letters i })
 
-acts_suspects : (w : WorldView) (id : ℕ) (old left : Slot VerifierView) (sent : List (Letter Ballot)) → slice_get w.verifiers id ≡ Some old → VerifierGets input.Suspect old left sent → Acts w id left sent
-acts_suspects w id old left sent at did = acts_given w id input.Suspect (Suspect id) old left sent at did (λ now given. given) (λ client. refl)
+acts_suspects : {cut : Option ℕ} → (w : WorldView) (id : ℕ) (old left : Slot VerifierView) (sent : List (Letter Ballot)) → slice_get w.verifiers id ≡ Some old → VerifierGets input.Suspect old left sent → Acts cut w id left sent
+acts_suspects {cut} w id old left sent at did = acts_given w id input.Suspect (Suspect id) old left sent at did (λ now given. given) (λ client. refl) (λ m c. absurd (cc c))
 
-acts_trims : (w : WorldView) (id : ℕ) (old left : Slot VerifierView) (sent : List (Letter Ballot)) → slice_get w.verifiers id ≡ Some old → VerifierTrims old left sent → Acts w id left sent
-acts_trims w id old left sent at (inl same) = subst (λ (p : Slot VerifierView × List (Letter Ballot)). Acts w id p.0 p.1) (λ i. (sym same.0 i, sym same.1 i)) (acts_none w id old at)
-acts_trims w id old left sent at (inr did) = acts_given w id (input.Trim did.0) (Trim id did.0) old left sent at did.1 (λ now given. given) (λ client. refl)
+acts_trims : {cut : Option ℕ} → (w : WorldView) (id : ℕ) (old left : Slot VerifierView) (sent : List (Letter Ballot)) → slice_get w.verifiers id ≡ Some old → VerifierTrims old left sent → Acts cut w id left sent
+acts_trims {cut} w id old left sent at (inl same) = subst (λ (p : Slot VerifierView × List (Letter Ballot)). Acts cut w id p.0 p.1) (λ i. (sym same.0 i, sym same.1 i)) (acts_none w id old at)
+acts_trims {cut} w id old left sent at (inr did) = acts_given w id (input.Trim did.0) (Trim id did.0) old left sent at did.1 (λ now given. given) (λ client. refl) (λ m c. absurd (cc c))
 
-acts_opens : (u : ℕ) (w : WorldView) (id : ℕ) → w.u ≡ u → (old left : Slot VerifierView) (sent : List (Letter Ballot)) → slice_get w.verifiers id ≡ Some old → VerifierOpens u id old left sent → Acts w id left sent
-acts_opens u w id same old left sent at did =
+acts_opens : {cut : Option ℕ} → (u : ℕ) (w : WorldView) (id : ℕ) → w.u ≡ u → (old left : Slot VerifierView) (sent : List (Letter Ballot)) → slice_get w.verifiers id ≡ Some old → VerifierOpens u id old left sent → Acts cut w id left sent
+acts_opens {cut} u w id same old left sent at did =
     let now = with_verifier w id left sent in
     moves_by w now (Restart (Verifier id)) (map as_sent sent)
-    (subst (λ (o : Option (Slot VerifierView)). VerifierAtOpened w id o now) (sym at) (left, sent, subst (λ (v : ℕ). VerifierOpens v id old left sent) (sym same) did, refl)) (λ client. refl) refl
+    (subst (λ (o : Option (Slot VerifierView)). VerifierAtOpened w id o now) (sym at) (left, sent, subst (λ (v : ℕ). VerifierOpens v id old left sent) (sym same) did, refl)) (λ client. refl) (λ m c. absurd (cc c)) refl
 
 -- ---- the world stays like the nodes
 
@@ -80,13 +81,13 @@ like_acts n w id left sent mail like grows = record {
   hosts = λ j k there. sent_still k j w.letters (map as_sent sent) (like.hosts j k there);
 }
 
-verifier_goes : (Does : Slot VerifierView → Slot VerifierView → List (Letter Ballot) → Type 0) (n now : NodesView) (w : WorldView) (id : ℕ) → IsLike n w
-    → ((old left : Slot VerifierView) (sent : List (Letter Ballot)) → slice_get w.verifiers id ≡ Some old → Does old left sent → Acts w id left sent)
-    → VerifierMoves Does id n now → Goes n now w
-verifier_goes Does n now w id like acts m =
-    subst (λ (x : NodesView). Goes n x w) (sym m.5) (by (slice_get n.verifiers id) refl m.3)
+verifier_goes : {cut : Option ℕ} → (Does : Slot VerifierView → Slot VerifierView → List (Letter Ballot) → Type 0) (n now : NodesView) (w : WorldView) (id : ℕ) → IsLike n w
+    → ((old left : Slot VerifierView) (sent : List (Letter Ballot)) → slice_get w.verifiers id ≡ Some old → Does old left sent → Acts cut w id left sent)
+    → VerifierMoves Does id n now → Goes cut n now w
+verifier_goes {cut} Does n now w id like acts m =
+    subst (λ (x : NodesView). Goes cut n x w) (sym m.5) (by (slice_get n.verifiers id) refl m.3)
   where
-    by : (o : Option (Slot VerifierView)) → slice_get n.verifiers id ≡ o → AtVerifierIn Does id n.verifiers m.0 m.1 o → Goes n (record n { verifiers = m.0; mail = m.2 }) w
+    by : (o : Option (Slot VerifierView)) → slice_get n.verifiers id ≡ o → AtVerifierIn Does id n.verifiers m.0 m.1 o → Goes cut n (record n { verifiers = m.0; mail = m.2 }) w
     by None at did = record {
       world = w;
       moves = stays w w refl;
@@ -113,20 +114,20 @@ verifier_goes Does n now w id like acts m =
 
 -- ---- what is done of verifiers
 
-pub suspect_goes : (n now : NodesView) (w : WorldView) (id : ℕ) → IsLike n w → VerifierMoves (VerifierGets input.Suspect) id n now → Goes n now w
-suspect_goes n now w id like m = verifier_goes (VerifierGets input.Suspect) n now w id like (acts_suspects w id) m
+pub suspect_goes : {cut : Option ℕ} → (n now : NodesView) (w : WorldView) (id : ℕ) → IsLike n w → VerifierMoves (VerifierGets input.Suspect) id n now → Goes cut n now w
+suspect_goes {cut} n now w id like m = verifier_goes (VerifierGets input.Suspect) n now w id like (acts_suspects w id) m
 
-pub trim_goes : (n now : NodesView) (w : WorldView) (id : ℕ) → IsLike n w → VerifierMoves VerifierTrims id n now → Goes n now w
-trim_goes n now w id like m = verifier_goes VerifierTrims n now w id like (acts_trims w id) m
+pub trim_goes : {cut : Option ℕ} → (n now : NodesView) (w : WorldView) (id : ℕ) → IsLike n w → VerifierMoves VerifierTrims id n now → Goes cut n now w
+trim_goes {cut} n now w id like m = verifier_goes VerifierTrims n now w id like (acts_trims w id) m
 
-pub open_verifier_goes : (n now : NodesView) (w : WorldView) (id : ℕ) → IsLike n w → VerifierMoves (VerifierOpens n.u id) id n now → Goes n now w
-open_verifier_goes n now w id like m = verifier_goes (VerifierOpens n.u id) n now w id like (acts_opens n.u w id like.same_u) m
+pub open_verifier_goes : {cut : Option ℕ} → (n now : NodesView) (w : WorldView) (id : ℕ) → IsLike n w → VerifierMoves (VerifierOpens n.u id) id n now → Goes cut n now w
+open_verifier_goes {cut} n now w id like m = verifier_goes (VerifierOpens n.u id) n now w id like (acts_opens n.u w id like.same_u) m
 
 -- a letter comes that was sent to it
-pub reached_goes : (n now : NodesView) (w : WorldView) (l : Letter Body) (id : ℕ) → IsLike n w → Contains w.letters l → l.to ≡ node.Verifier id → VerifiersReached n l id l.body now → Goes n now w
-reached_goes n now w l id like was to reached = by l.body refl reached
+pub reached_goes : {cut : Option ℕ} → (n now : NodesView) (w : WorldView) (l : Letter Body) (id : ℕ) → IsLike n w → Contains w.letters l → l.to ≡ node.Verifier id → VerifiersReached n l id l.body now → Goes cut n now w
+reached_goes {cut} n now w l id like was to reached = by l.body refl reached
   where
-    by : (b : Body) → l.body ≡ b → VerifiersReached n l id b now → Goes n now w
+    by : (b : Body) → l.body ≡ b → VerifiersReached n l id b now → Goes cut n now w
     by (body.Ballot b) says m = verifier_goes (VerifierGets (input.Letter (record { from = l.from; to = l.to; body = b }))) n now w id like (acts_letter w id l b was to says) m
     by (body.Want r) says same = goes_nowhere n now w like same
     by (body.Order b) says same = goes_nowhere n now w like same

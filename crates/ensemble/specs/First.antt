@@ -1,12 +1,14 @@
 -- The nodes when all replicas were opened.
-use Rattle.std.specs.Prelude.{ℕ, zero, suc, List, [], ◌∷◌, ◌++◌, None}
+use Rattle.std.specs.Prelude.{◌≡◌, ℕ, zero, suc, ◌+◌, ◌*◌, ◌<◌, true, List, [], ◌∷◌, ◌++◌, None}
 use Rattle.decrees.specs.Count.{member_count}
 use Rattle.events.specs.Config.{ConfigView}
+use Rattle.events.specs.declared.event.Replica.TheVariants.{Executor, Verifier}
 use Rattle.worlds.specs.declared.slot.Slot.TheVariants.{Up}
 use Rattle.worlds.specs.First.{first_executor, first_verifier, all_up}
 use Rattle.proxies.specs.Proxy.{ProxyView}
 use Rattle.hosts.specs.Host.{HostView}
-use Rattle.ensemble.specs.Nodes.{NodesView}
+use Rattle.ensemble.specs.Nodes.{NodesView, size_of}
+use Rattle.ensemble.specs.Shown.{is_up_at}
 
 -- so many proxies that have asked nothing, numbered from 1
 abbrev pub first_proxies_of : ℕ → List ProxyView
@@ -29,3 +31,9 @@ first_nodes c = record {
   verifiers = all_up (first_verifier c.u) (member_count c.u);
   mail = [];
 }
+
+-- These are 2u + 1 executors and as many verifiers of this u, all up, and so many proxies.
+pub record AreAllUp (u count : ℕ) (n : NodesView) : Type 0 where
+  pub size : size_of n ≡ (u, count, 2 * u + 1, 2 * u + 1)
+  pub executors : (id : ℕ) → id < 2 * u + 1 → is_up_at n (Executor id) ≡ true
+  pub verifiers : (id : ℕ) → id < 2 * u + 1 → is_up_at n (Verifier id) ≡ true

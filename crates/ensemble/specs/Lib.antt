@@ -3,4 +3,5 @@ pub mod First
 pub mod Shown
 pub mod Served
 pub mod Trimming
+pub mod Moments
 pub mod Ensemble

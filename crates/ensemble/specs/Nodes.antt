@@ -31,6 +31,10 @@ pub record NodesView : Type 0 where
   -- the letters that are under way, but for those that hosts have
   pub mail : List (Letter Body)
 
+-- u, and how many proxies, executors and verifiers there are
+abbrev pub size_of : NodesView → ℕ × ℕ × ℕ × ℕ
+size_of n = (n.u, length n.proxies, length n.executors, length n.verifiers)
+
 -- nodes are identified by what they have
 abbrev pub nodes_code : Coded ProxyView → Coded HostView → Coded (Slot VerifierView) → Coded (Letter Body) → Coded NodesView
 nodes_code proxy host verifier letter =

@@ -4,6 +4,7 @@ ghost use Rattle.std.specs.Prelude.{◌≡◌};
 
 use crate::answer::Answer;
 use crate::nodes::Nodes;
+use crate::noted::Noted;
 use crate::progress::Progress;
 use crate::refusing::refuse;
 use crate::times::{Stopwatch, Times};
@@ -27,8 +28,9 @@ pub struct Ensemble {
     pub(crate) asked: Log<Request, bool>,
     /// Each answer: the proxy and the request's number, and the reply.
     pub(crate) answered: Log<(u16, u64), Reply>,
-    /// In which order requests were asked and answered: the proxy and the request's number, and whether that is its answer.
-    pub(crate) order: Log<(u16, u64), bool>,
+    /// In which order requests were asked and answered, by the proxy and the request's number. Between them stand the
+    /// moments that were handed in, each under the proxy 0, which there is none of.
+    pub(crate) order: Log<(u16, u64), Noted>,
     /// How often something was refused.
     pub(crate) refused: u64,
 }
@@ -37,11 +39,12 @@ impl Model for Ensemble {
     ghost use Rattle.ensemble.specs.contracts.nodes.Nodes as of_nodes;
     ghost use Rattle.sessions.specs.contracts.request.Request as of_request;
     ghost use Rattle.proto.specs.contracts.reply.Reply as of_reply;
+    ghost use Rattle.ensemble.specs.contracts.noted.Noted as of_noted;
     ghost use Rattle.ensemble.specs.Ensemble.{EnsembleView, IsEnsemble, ensemble_code};
 
     ghost Value = { EnsembleView };
 
-    ghost coded = { ensemble_code of_nodes.the_row.coded of_request.the_row.coded of_reply.the_row.coded };
+    ghost coded = { ensemble_code of_nodes.the_row.coded of_request.the_row.coded of_reply.the_row.coded of_noted.the_row.coded };
 
     ghost view = { λ e. record { nodes = e.nodes; asked = e.asked.items; answered = e.answered.items; order = e.order.items; refused = e.refused } };
 
@@ -52,10 +55,11 @@ impl Ensemble {
     ghost use Rattle.std.specs.Prelude.{◌≡◌, ◌<◌, ◌≤◌, ◌-◌, ◌^◌, ◌++◌, ◌∷◌, [], IfOk, IfErr, OnErr, IsTrue, ◌⊎◌, Err, true, false, length};
     ghost use Rattle.verifier.specs.declared.input.Input.TheVariants.{Suspect};
     ghost use Rattle.proto.specs.declared.command.Command.{Command};
-    ghost use Rattle.ensemble.specs.Nodes.{IsFree, VerifierMoves, VerifierGets};
+    ghost use Rattle.ensemble.specs.Nodes.{IsFree, VerifierMoves, VerifierGets, size_of};
     ghost use Rattle.ensemble.specs.Shown.{is_free_at, is_up_at, latest_epoch, is_quiet};
     ghost use Rattle.ensemble.specs.Served.{IsUnderWay, letters_again, VerifierPosts};
     ghost use Rattle.memcached_spec.specs.Asked.{HasText};
+    ghost use Rattle.ensemble.specs.declared.noted.Noted.TheVariants as noted;
     ghost use Rattle.ensemble.specs.Ensemble.{IsEnsemble, IsLogged, answer_log};
 
     /// What stands there is what events lead a world to: that world is like it, what its clients were fed is
@@ -99,15 +103,16 @@ impl Ensemble {
         requires text { HasText command quiet }
         ensures ok { IfOk result (λ number. IsLogged self.old.asked proxy number command quiet self.new.asked) }
         ensures answered { self.new.answered ≡ self.old.answered }
-        ensures order { IfOk result (λ number. self.new.order ≡ self.old.order ++ ((proxy, number), false) ∷ []) }
+        ensures order { IfOk result (λ number. self.new.order ≡ self.old.order ++ ((proxy, number), noted.Asked) ∷ []) }
         ensures err { OnErr result (self.new ≡ self.old) }
         ensures counted { self.old.refused ≤ self.new.refused }
+        ensures size { size_of self.new.nodes ≡ size_of self.old.nodes }
         ensures sent { IfOk result (λ number. self.new.refused ≡ self.old.refused → self.old.refused < 2 ^ 64 - 1 → IsUnderWay self.old.nodes self.new.nodes proxy number command) }
     {
         let request = self.nodes.ask(proxy, command, quiet)?;
         let number = request.number;
         self.asked = self.asked.and(&request, &quiet);
-        self.order = self.order.and(&(proxy, number), &false);
+        self.order = self.order.and(&(proxy, number), &Noted::Asked);
         self.nodes.send(alloc, proxy, request, &mut self.refused);
         self.progress.is_at_rest = false;
         Ok(number)
@@ -120,6 +125,7 @@ impl Ensemble {
         ensures answered { self.new.answered ≡ self.old.answered }
         ensures order { self.new.order ≡ self.old.order }
         ensures counted { self.old.refused ≤ self.new.refused }
+        ensures size { size_of self.new.nodes ≡ size_of self.old.nodes }
         ensures sent { self.new.refused ≡ self.old.refused → self.old.refused < 2 ^ 64 - 1 → self.new.nodes.mail ≡ self.old.nodes.mail ++ letters_again self.old.nodes proxy }
     {
         self.nodes.again(alloc, proxy, &mut self.refused);
@@ -134,6 +140,7 @@ impl Ensemble {
         ensures order { self.new.order ≡ self.old.order }
         ensures told { VerifierMoves (VerifierGets Suspect) verifier self.old.nodes self.new.nodes }
         ensures counted { self.old.refused ≤ self.new.refused }
+        ensures size { size_of self.new.nodes ≡ size_of self.old.nodes }
         ensures sent { self.new.refused ≡ self.old.refused → self.old.refused < 2 ^ 64 - 1 → VerifierPosts (VerifierGets Suspect) verifier self.old.nodes self.new.nodes }
     {
         self.nodes.suspect(alloc, verifier, &mut self.refused);
@@ -146,6 +153,7 @@ impl Ensemble {
         ensures answered { self.new.answered ≡ self.old.answered }
         ensures order { self.new.order ≡ self.old.order }
         ensures counted { self.old.refused ≤ self.new.refused }
+        ensures size { size_of self.new.nodes ≡ size_of self.old.nodes }
     {
         self.nodes.open_executor(alloc, id, &mut self.refused);
         self.progress.is_at_rest = false;
@@ -157,6 +165,7 @@ impl Ensemble {
         ensures answered { self.new.answered ≡ self.old.answered }
         ensures order { self.new.order ≡ self.old.order }
         ensures counted { self.old.refused ≤ self.new.refused }
+        ensures size { size_of self.new.nodes ≡ size_of self.old.nodes }
     {
         self.nodes.open_verifier(alloc, id, &mut self.refused);
         self.progress.is_at_rest = false;
@@ -179,6 +188,7 @@ impl Ensemble {
         ensures order { self.new.order ≡ self.old.order }
         ensures up { result ≡ is_up_at self.new.nodes replica }
         ensures counted { self.old.refused ≤ self.new.refused }
+        ensures size { size_of self.new.nodes ≡ size_of self.old.nodes }
         ensures opened { self.new.refused ≡ self.old.refused → self.old.refused < 2 ^ 64 - 1 → result ≡ true }
     {
         match replica {

@@ -14,6 +14,7 @@ mod delivering;
 mod ensemble;
 mod jobs;
 mod nodes;
+mod noted;
 mod opening;
 mod posting;
 mod progress;
@@ -25,6 +26,7 @@ mod working;
 
 pub use answer::Answer;
 pub use ensemble::Ensemble;
+pub use noted::Noted;
 pub use pages::PAGES;
 pub use serving::Seen;
 pub use times::Times;

@@ -4,6 +4,7 @@ ghost use Rattle.std.specs.Prelude.{◌≡◌};
 
 use crate::answer::Answer;
 use crate::ensemble::Ensemble;
+use crate::noted::Noted;
 use crate::refusing::refuse;
 use std::alloc::Global;
 use std::rt::Clock;
@@ -18,12 +19,13 @@ const MOST_LETTERS: u32 = 1 << 20;
 const MOST_ROUNDS: u32 = 4096;
 
 impl Ensemble {
-    ghost use Rattle.std.specs.Prelude.{◌≡◌, ◌<◌, ◌≤◌, ◌+◌, ◌-◌, ◌*◌, ◌^◌, ◌++◌, [], true, false, map};
+    ghost use Rattle.std.specs.Prelude.{◌≡◌, ◌<◌, ◌≤◌, ◌+◌, ◌-◌, ◌*◌, ◌^◌, ◌++◌, ◌∷◌, [], true, false, map};
     ghost use Rattle.ensemble.specs.Shown.{has_letters, is_quiet};
-    ghost use Rattle.ensemble.specs.Nodes.{VerifierMoves};
+    ghost use Rattle.ensemble.specs.Nodes.{VerifierMoves, size_of};
     ghost use Rattle.ensemble.specs.Trimming.{VerifierTrimsDue, AreTrimmedBelow};
     ghost use Rattle.ensemble.specs.Served.{NoBatchAt, NoBatchBelow, IsAtRest};
-    ghost use Rattle.ensemble.specs.Ensemble.{answer_entry, answer_log, order_entry, order_log, Answers};
+    ghost use Rattle.ensemble.specs.Moments.{IsNow};
+    ghost use Rattle.ensemble.specs.Ensemble.{answer_entry, answer_log, order_entry, order_log, moment_entry, Answers};
 
     /// The first letter that is under way comes: what it answers.
     fn deliver(&mut self, alloc: Global) -> Option<Answer>
@@ -31,12 +33,15 @@ impl Ensemble {
         ensures answered { self.new.answered ≡ self.old.answered ++ answer_log result }
         ensures order { self.new.order ≡ self.old.order ++ order_log result }
         ensures counted { self.old.refused ≤ self.new.refused }
+        ensures size { size_of self.new.nodes ≡ size_of self.old.nodes }
     {
         let answer = self.nodes.deliver(alloc, &mut self.refused)?;
         self.answered = self
             .answered
             .and(&(answer.proxy, answer.number), &answer.reply);
-        self.order = self.order.and(&(answer.proxy, answer.number), &true);
+        self.order = self
+            .order
+            .and(&(answer.proxy, answer.number), &Noted::Answered);
         Some(answer)
     }
 
@@ -46,6 +51,7 @@ impl Ensemble {
         ensures asked { self.new.asked ≡ self.old.asked }
         ensures answered { Answers self.old.answered self.old.order answers.old.items self.new.answered self.new.order answers.new.items }
         ensures counted { self.old.refused ≤ self.new.refused }
+        ensures size { size_of self.new.nodes ≡ size_of self.old.nodes }
     {
         if !decrees && self.nodes.is_decree_next() {
             return false;
@@ -66,6 +72,7 @@ impl Ensemble {
         ensures asked { self.new.asked ≡ self.old.asked }
         ensures answered { Answers self.old.answered self.old.order answers.old.items self.new.answered self.new.order answers.new.items }
         ensures counted { self.old.refused ≤ self.new.refused }
+        ensures size { size_of self.new.nodes ≡ size_of self.old.nodes }
     {
         for _ in 0..MOST_LETTERS {
             if !self.deliver_to(alloc, decrees, answers) {
@@ -79,6 +86,7 @@ impl Ensemble {
         ensures asked { self.new.asked ≡ self.old.asked }
         ensures answered { Answers self.old.answered self.old.order answers.old.items self.new.answered self.new.order answers.new.items }
         ensures counted { self.old.refused ≤ self.new.refused }
+        ensures size { size_of self.new.nodes ≡ size_of self.old.nodes }
     {
         self.deliver_all(alloc, false, answers);
         self.stopwatch.decide(clock);
@@ -92,6 +100,7 @@ impl Ensemble {
         ensures answered { self.new.answered ≡ self.old.answered }
         ensures order { self.new.order ≡ self.old.order }
         ensures counted { self.old.refused ≤ self.new.refused }
+        ensures size { size_of self.new.nodes ≡ size_of self.old.nodes }
     {
         self.nodes.take_held(alloc, id, &mut self.refused)
     }
@@ -102,6 +111,7 @@ impl Ensemble {
         ensures answered { self.new.answered ≡ self.old.answered }
         ensures order { self.new.order ≡ self.old.order }
         ensures counted { self.old.refused ≤ self.new.refused }
+        ensures size { size_of self.new.nodes ≡ size_of self.old.nodes }
     {
         let mut has_taken = false;
         for id in 0..self.members() {
@@ -118,6 +128,7 @@ impl Ensemble {
         ensures answered { self.new.answered ≡ self.old.answered }
         ensures order { self.new.order ≡ self.old.order }
         ensures counted { self.old.refused ≤ self.new.refused }
+        ensures size { size_of self.new.nodes ≡ size_of self.old.nodes }
     {
         a_run_is_steps();
         self.nodes.run_jobs(rt, alloc);
@@ -129,6 +140,7 @@ impl Ensemble {
         ensures answered { self.new.answered ≡ self.old.answered }
         ensures order { self.new.order ≡ self.old.order }
         ensures counted { self.old.refused ≤ self.new.refused }
+        ensures size { size_of self.new.nodes ≡ size_of self.old.nodes }
     {
         self.nodes.collect(alloc, id, &mut self.refused);
     }
@@ -144,6 +156,7 @@ impl Ensemble {
         ensures answered { self.new.answered ≡ self.old.answered }
         ensures order { self.new.order ≡ self.old.order }
         ensures counted { self.old.refused ≤ self.new.refused }
+        ensures size { size_of self.new.nodes ≡ size_of self.old.nodes }
     {
         if !self.nodes.has_jobs() {
             return false;
@@ -159,10 +172,12 @@ impl Ensemble {
 
     /// The executor of this number is to cut a batch: whether that led to anything.
     fn cut_at(&mut self, alloc: Global, id: u8, moment: u32) -> bool
+        requires { IsNow self.old.order moment }
         ensures asked { self.new.asked ≡ self.old.asked }
         ensures answered { self.new.answered ≡ self.old.answered }
         ensures order { self.new.order ≡ self.old.order }
         ensures counted { self.old.refused ≤ self.new.refused }
+        ensures size { size_of self.new.nodes ≡ size_of self.old.nodes }
         ensures nothing { result ≡ false → NoBatchAt id self.old.nodes self.new.nodes }
         ensures same_u { self.new.nodes.u ≡ self.old.nodes.u }
     {
@@ -172,10 +187,12 @@ impl Ensemble {
     /// Each executor is to cut a batch of what waits; one that does not lead does nothing. The result is
     /// whether that led to anything.
     fn cut(&mut self, alloc: Global, moment: u32) -> bool
+        requires { IsNow self.old.order moment }
         ensures asked { self.new.asked ≡ self.old.asked }
         ensures answered { self.new.answered ≡ self.old.answered }
         ensures order { self.new.order ≡ self.old.order }
         ensures counted { self.old.refused ≤ self.new.refused }
+        ensures size { size_of self.new.nodes ≡ size_of self.old.nodes }
         ensures nothing { result ≡ false → NoBatchBelow (2 * self.new.nodes.u + 1) self.new.nodes }
     {
         let mut has_cut = false;
@@ -194,6 +211,7 @@ impl Ensemble {
         ensures answered { self.new.answered ≡ self.old.answered }
         ensures order { self.new.order ≡ self.old.order }
         ensures counted { self.old.refused ≤ self.new.refused }
+        ensures size { size_of self.new.nodes ≡ size_of self.old.nodes }
         ensures due { VerifierMoves VerifierTrimsDue id self.old.nodes self.new.nodes }
     {
         self.nodes.trim(alloc, id, &mut self.refused);
@@ -205,6 +223,7 @@ impl Ensemble {
         ensures answered { self.new.answered ≡ self.old.answered }
         ensures order { self.new.order ≡ self.old.order }
         ensures counted { self.old.refused ≤ self.new.refused }
+        ensures size { size_of self.new.nodes ≡ size_of self.old.nodes }
         ensures told { AreTrimmedBelow (2 * self.old.nodes.u + 1) self.old.nodes self.new.nodes }
     {
         for id in 0..self.members() {
@@ -229,16 +248,24 @@ impl Ensemble {
         moment: u32,
         answers: &mut Vec<Answer>,
     ) -> bool
+        requires { IsNow self.old.order moment }
         ensures asked { self.new.asked ≡ self.old.asked }
         ensures answered { Answers self.old.answered self.old.order answers.old.items self.new.answered self.new.order answers.new.items }
         ensures counted { self.old.refused ≤ self.new.refused }
+        ensures size { size_of self.new.nodes ≡ size_of self.old.nodes }
         ensures nothing { result ≡ false → has_letters self.new.nodes ≡ false → NoBatchBelow (2 * self.new.nodes.u + 1) self.new.nodes }
     {
         self.deliver_timed(clock, alloc, answers);
         if self.nodes.has_letters() {
             return false;
         }
-        self.take_orders(alloc) || self.run_jobs(rt, clock, alloc) || self.cut(alloc, moment)
+        if self.take_orders(alloc) {
+            return true;
+        }
+        if self.run_jobs(rt, clock, alloc) {
+            return true;
+        }
+        self.cut(alloc, moment)
     }
 
     /// It goes on until nothing more can be done, or there is no memory for an answer: whether one of these came about.
@@ -251,9 +278,11 @@ impl Ensemble {
         moment: u32,
         answers: &mut Vec<Answer>,
     ) -> bool
+        requires { IsNow self.old.order moment }
         ensures asked { self.new.asked ≡ self.old.asked }
         ensures answered { Answers self.old.answered self.old.order answers.old.items self.new.answered self.new.order answers.new.items }
         ensures counted { self.old.refused ≤ self.new.refused }
+        ensures size { size_of self.new.nodes ≡ size_of self.old.nodes }
         ensures nothing { result ≡ true → has_letters self.new.nodes ≡ false → NoBatchBelow (2 * self.new.nodes.u + 1) self.new.nodes }
     {
         for _ in 0..MOST_ROUNDS {
@@ -262,6 +291,14 @@ impl Ensemble {
             }
         }
         false
+    }
+
+    /// From now on a batch that is cut is of this moment, in seconds.
+    fn note(&mut self, moment: u32)
+        ensures order { self.new.order ≡ self.old.order ++ moment_entry moment ∷ [] }
+        ensures others { self.new ≡ record self.old { order = self.new.order } }
+    {
+        self.order = self.order.and(&(0, u64::from(moment)), &Noted::Moment);
     }
 
     /// The replicas work until nothing more can be done: the answers. A batch that is cut is of this moment,
@@ -276,11 +313,13 @@ impl Ensemble {
     ) -> Vec<Answer>
         ensures asked { self.new.asked ≡ self.old.asked }
         ensures answered { self.new.answered ≡ self.old.answered ++ map answer_entry result.items }
-        ensures order { self.new.order ≡ self.old.order ++ map order_entry result.items }
+        ensures order { self.new.order ≡ (self.old.order ++ moment_entry moment ∷ []) ++ map order_entry result.items }
         ensures counted { self.old.refused ≤ self.new.refused }
+        ensures size { size_of self.new.nodes ≡ size_of self.old.nodes }
         ensures rest { self.new.refused ≡ self.old.refused → self.old.refused < 2 ^ 64 - 1 → IsAtRest self.new.nodes }
     {
         let mut answers = Vec::new(alloc);
+        self.note(moment);
         self.trim(alloc);
         let is_done = self.go_on_to_the_end(rt, clock, alloc, moment, &mut answers);
         self.look(is_done);

@@ -7,7 +7,8 @@ use crate::watching::{figures, watch};
 use crate::{CANNOT, REFUSED};
 use daemon::{NO_TARGET, Settings, Stamped, tell_listening, tell_start, tell_status};
 use log::{error, warn};
-use server::{Options, ServeFault, Watcher, serve_beside};
+use server::{Options, ServeFault, Service, Watcher, serve_beside};
+use service_laws::{replicas_agree_and_keep, service_is_linearizable};
 use std::alloc::Global;
 use std::net::{Net, SocketAddr, TcpListener, TcpStream};
 use std::rt::{Clock, Files};
@@ -111,6 +112,14 @@ fn attend<
     });
 }
 
+/// Ends the service that has served. The history of its connections is linearizable, and its replicas agree and keep
+/// what they decided. Two laws say so, which do nothing.
+fn end(service: Service) {
+    service_is_linearizable(&service);
+    replicas_agree_and_keep(&service);
+    service.end();
+}
+
 /// Runs a daemon. The status of the program if it ends by itself.
 pub fn run<
     R: Net<Listener = TcpListener, Stream = TcpStream>
@@ -137,7 +146,7 @@ pub fn run<
     });
     match served {
         Ok(service) => {
-            service.end();
+            end(service);
             error!(Stamped(rt); target: NO_TARGET, "the system no longer lets it wait on its sockets");
             CANNOT
         }

@@ -2,13 +2,18 @@
 //! whose replies nobody sees, with the token that stands for it.
 //!
 //! It stands on `states`, `workers` and `round`, `pages`, `mixer`, `wire`, `token` and `decrees`. The
-//! layer above uses `execute`: what it makes is a round of the base and the batch, with its token,
-//! whatever the schedule of its threads; and `Tentative::commit`, which shows the replies by the
-//! decree of that token alone. `as_base` lends a tentative or committed state for the batch after it.
-//! Where a caller orders the steps itself, `Work` makes them one by one. For a keeper there are the
-//! records that `put` writes and `take` reads, with a rest: of a committed state, and of a tentative one
-//! over its base. `restore` reads one that has no rest. `Tentative::saved` is what a record needs of a
-//! tentative state: a value that can be dropped, and is written only when it is asked for its text.
+//! layer above uses `Work`. `begin` begins a batch over a base. Then `step` and `finish` make its steps one
+//! by one, in an order that the caller chooses, or `run_on_threads` makes them all. What either makes is a
+//! round of the base and the batch, with its token, for any number of workers and whatever the schedule of
+//! their threads. A server's executor has one worker for steps, so its steps are made on one thread
+//! (`ensemble`). More workers than one, and `execute`, which begins a batch and runs it in one call, are
+//! used by tests and by `batch_costs` alone.
+//!
+//! `Tentative::commit` shows the replies by the decree of that token alone. `as_base` lends a tentative or
+//! committed state for the batch after it. For a keeper there are the records that `put` writes and `take`
+//! reads, with a rest: of a committed state, and of a tentative one over its base. `restore` reads one that
+//! has no rest. `Tentative::saved` is what a record needs of a tentative state: a value that can be dropped,
+//! and is written only when it is asked for its text.
 #![tactic(auto)]
 
 mod answered;

@@ -347,6 +347,10 @@ pub record RoundMade (old : StateView) (e : Executed) (lines : List Line) : Type
   pub leads : Leads (seen old) lines (seen e.new)
   pub each : (c : ℕ) → RanOne old e lines c ⊎ RanNone old e lines c
   pub ticks : (m : ℕ) → Contains lines (Tick m) → m ≡ moment_of old e.batch
+  -- first it becomes so late, and then no more
+  pub rest : List Line
+  pub begins : lines ≡ Tick (moment_of old e.batch) ∷ rest
+  pub no_tick : (m : ℕ) → Contains rest (Tick m) → ⊥
   pub few : (u : ℕ) → count u (uniques lines) ≤ 1
   pub within : (u : ℕ) → 0 < count u (uniques lines) → (first_stamp e.batch.n ≤ u) × (u < first_stamp e.batch.n + MOST_REQUESTS)
 
@@ -521,5 +525,8 @@ module _ (old : StateView) (e : Executed) (over : IsOver old e) where
             | inl is ↦ sym (same_tick moment m is)
             | inr there ↦ absurd (groups_no_tick who lists first start groups e.new.items round.answers round.run m there)
           ];
+          rest = of_groups;
+          begins = refl;
+          no_tick = λ m there. groups_no_tick who lists first start groups e.new.items round.answers round.run m there;
         },
       )

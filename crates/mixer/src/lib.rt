@@ -4,9 +4,9 @@
 //! predicts this from the first two keys of each request: a conflict on a later key is overlooked
 //! on purpose, since the replicas find out by comparing what they made of the batch.
 //!
-//! It stands on `sessions` (requests) and `item_steps` (groups and their steps). The layer above
-//! uses `mix`: the groups are exactly what `groups_of` says, and each place of the batch stands in
-//! one of them.
+//! It stands on `sessions` (requests) and `item_steps` (groups and their steps). The layer above uses
+//! `group_numbers`: the group of each request is the one that `numbers_of` says. `mix` gives the groups
+//! themselves, as `groups_of` says: each place of the batch is in one of them. Only tests call it.
 #![tactic(auto)]
 
 mod conflict;

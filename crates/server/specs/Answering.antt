@@ -4,6 +4,7 @@ use Rattle.std.specs.Coded.{Coded, code_by, coded×, coded_list}
 use Rattle.base.specs.declared.fault.Fault.{Fault}
 use Rattle.connections.specs.declared.said.Said as of_service
 use Rattle.connections.specs.Connections.{HasSameLogs}
+use Rattle.connections.specs.History.{moment_as}
 use Rattle.connections.specs.Connection.{new_connection}
 use Rattle.connections.specs.Places.{place_in, left_at, written_at, HasSameOthers, IsGrown}
 use Rattle.event_loop.specs.declared.message.Heard.{Heard}
@@ -139,20 +140,20 @@ pub record IsClosing (lost : List Lost) (said : Said) : Type 0 where
 abbrev pub Closings : AnsweringView → AnsweringView → Type 0
 Closings v now = (closings : List Said) × All (IsClosing v.lost) closings × SaysEach v closings now
 
--- the service works, and this is what it gives
-pub record ServiceWorks (v : ServiceView) (given : List of_service.Said) (now : ServiceView) : Type 0 where
+-- the service works at this moment, and this is what it gives
+pub record ServiceWorks (moment : ℕ) (v : ServiceView) (given : List of_service.Said) (now : ServiceView) : Type 0 where
   pub given_is : now.connections.given ≡ v.connections.given ++ map given_entry given
-  pub passed : now.connections.passed ≡ v.connections.passed ++ map passed_entry given
+  pub passed : now.connections.passed ≡ (v.connections.passed ++ moment_as moment ∷ []) ++ map passed_entry given
   pub heard : now.connections.heard ≡ v.connections.heard
 
--- Connections that were lost are told that they are closed. Then the service works, and each thing that it gives is said once, in order.
+-- Connections that were lost are told that they are closed. Then the service works at this moment, and each thing that it gives is said once, in order.
 -- All that was said since this was last done is handed out.
-pub record HandsOut (v : AnsweringView) (out : List Said) (now : AnsweringView) : Type 0 where
+pub record HandsOut (moment : ℕ) (v : AnsweringView) (out : List Said) (now : AnsweringView) : Type 0 where
   pub closed : AnsweringView
   pub closes : Closings v closed
   pub given : List of_service.Said
   pub worked : AnsweringView
-  pub works : ServiceWorks closed.service given worked.service
+  pub works : ServiceWorks moment closed.service given worked.service
   pub waits : worked.said ≡ closed.said
   pub full : AnsweringView
   pub says : SaysEach worked (map message_of given) full

@@ -234,7 +234,7 @@ impl Serve for Answering {
         seconds: u32,
     ) -> Vec<Said>
         requires { IsSync R.row }
-        ensures { HandsOut self.old result.items self.new }
+        ensures { HandsOut seconds self.old result.items self.new }
     {
         self.close_lost();
         let given = self.service.work(rt, clock, self.alloc, seconds);

@@ -3,7 +3,6 @@ use Rattle.std.proofs.Common.{◌≡◌, ◌≢◌, ℕ, zero, suc, List, [], �
 use Rattle.std.specs.Prelude.{◌==◌}
 use Rattle.std.proofs.lemmas.Bool.{cond_both, eqb-true, eqb-false}
 use Rattle.std.proofs.lemmas.List.{append-nil}
-use Rattle.std.proofs.lemmas.List.Elements.{Contains-push}
 use Rattle.proto.specs.declared.reply.Reply as replies
 use Rattle.decrees.specs.declared.ballot.Ballot.{Ballot}
 use Rattle.decrees.specs.declared.node.Letter.{Letter}
@@ -33,10 +32,11 @@ use Rattle.worlds.proofs.PlaceLemmas.{get_set}
 use Rattle.server_laws.proofs.Inputs.{MayCome}
 use Rattle.server_laws.proofs.Plays.{Held}
 use Rattle.memcached_spec.specs.Fed.{fed_by, fed_to}
+use Rattle.memcached_spec.specs.Asked.{IsAsked}
 use Rattle.worlds.specs.Asked.{IsAskedRequest, WasSent}
 use Rattle.server_laws.proofs.Each.{each_of_both, each_at, contains_at, each_implies}
-use Rattle.server_laws.proofs.Grown.{IsLater, later_by, request_later, batch_later, fed_next}
-use Rattle.server_laws.proofs.AskedLines.{IsAskedWork, IsAskedMember, IsAskedBody, IsAskedLetter, AreAskedLetters, BringsAsked}
+use Rattle.server_laws.proofs.Grown.{IsLater, later_by, request_later, fed_next}
+use Rattle.server_laws.proofs.AskedLines.{IsAskedWork, IsAskedMember, IsAskedBody, IsAskedLetter, AreAskedLetters, BringsAsked, IsCutNow}
 use Rattle.server_laws.proofs.ClientLines.{IsClientOf, client_stays, HandsSent, client_settles}
 use Rattle.server_laws.proofs.Slots.{AnyState, AnyRound, IsAskedSlot, may_be_heard, settles_asked, reopens_asked, crashed_asked, lost_asked, told_asked}
 
@@ -51,7 +51,7 @@ pub record IsAskedWorld (events : List Event) (u : ℕ) (w : WorldView) : Type 0
 module _ {events later : List Event} (on : IsLater events later) where
   body_later : (b : Body) → IsAskedBody events b → IsAskedBody later b
   body_later (body.Want r) is = request_later on r is
-  body_later (body.Order b) is = batch_later on b is
+  body_later (body.Order b) is = on.cuts b is
   body_later (body.Reply number reply) is = tt
   body_later (body.Need q) is = tt
   body_later (body.Parcel p) is = tt
@@ -62,16 +62,16 @@ module _ {events later : List Event} (on : IsLater events later) where
 
   work_later : (o : Option WorkView) → IsAskedWork events o → IsAskedWork later o
   work_later None is = tt
-  work_later (Some w) is = batch_later on w.batch is
+  work_later (Some w) is = on.cuts w.batch is
 
   slot_later : (u id : ℕ) (slot : Slot ExecutorView) → IsAskedSlot events u id slot → IsAskedSlot later u id slot
   slot_later u id (Up e) is = record {
     waiting = each_implies (IsAskedRequest events) (IsAskedRequest later) (request_later on) e.state.gather is.waiting;
     working = work_later e.state.work is.working;
-    members = each_implies (IsAskedMember events) (IsAskedMember later) (λ t h. batch_later on t.batch h) e.state.chain.members is.members;
+    members = each_implies (IsAskedMember events) (IsAskedMember later) (λ t h. on.cuts t.batch h) e.state.chain.members is.members;
   }
-  slot_later u id (Down kept) is = λ x spelled. each_implies (IsAskedMember events) (IsAskedMember later) (λ t h. batch_later on t.batch h) x.chain (is x spelled)
-  slot_later u id (Gone kept) is = λ x spelled. each_implies (IsAskedMember events) (IsAskedMember later) (λ t h. batch_later on t.batch h) x.chain (is x spelled)
+  slot_later u id (Down kept) is = λ x spelled. each_implies (IsAskedMember events) (IsAskedMember later) (λ t h. on.cuts t.batch h) x.chain (is x spelled)
+  slot_later u id (Gone kept) is = λ x spelled. each_implies (IsAskedMember events) (IsAskedMember later) (λ t h. on.cuts t.batch h) x.chain (is x spelled)
 
 -- no more is fed
 pub world_later : (events later : List Event) (u : ℕ) (w : WorldView) → IsLater events later → ((client : ℕ) → fed_to client later ≡ fed_to client events) → IsAskedWorld events u w → IsAskedWorld later u w
@@ -126,7 +126,7 @@ module _ (events : List Event) {u : ℕ} {w : WorldView} (held : Held u AnyState
   -- ---- a client is given an input that is no piece
 
   same_events : IsLater events events
-  same_events = record { fed = λ client. ([], sym (append-nil (fed_to client events))); moments = λ moment m. m }
+  same_events = record { fed = λ client. ([], sym (append-nil (fed_to client events))); moments = λ moment m. m; cuts = λ b cut. cut }
 
   client_given : (c : ℕ) (x : of_client.Input) → piece_of x ≡ [] → HandsSent w.letters c x → (now : WorldView) → ClientGiven w c x now → IsAskedWorld events u now
   client_given c x none hands now h = client_fed events events u w same_events ok c x (sym (ap (λ (b : List ℕ). fed_to c events ++ b) none ∙ append-nil (fed_to c events))) (λ client other. refl) hands now h
@@ -250,12 +250,20 @@ module _ (events : List Event) {u : ℕ} {w : WorldView} (held : Held u AnyState
       ∙ append-nil (fed_to client events)))
       (λ n r e. absurd (cc e)) now h
 
+  cut_now : (id moment : ℕ) → IsCutNow (events ++ Cut id moment ∷ []) moment
+  cut_now id moment = record {
+    before = events;
+    executor = id;
+    split = refl;
+    asked = λ r is. subst (λ (bytes : List ℕ). IsAsked bytes r.number r.command) (fed_next r.client events (Cut id moment) ∙ append-nil (fed_to r.client events)) is;
+  }
+
   pub event_asked : (e : Event) (now : WorldView) → WorldNext w e now → IsAskedWorld (events ++ e ∷ []) u now
   event_asked (Feed c bytes) now h = fed_asked c bytes now h
   event_asked (Again c) now h = client_given (events ++ Again c ∷ []) held (quiet (Again c) (λ client. refl)) c client_input.Again refl (λ n r e. absurd (cc e)) now h
   event_asked (Hangup c) now h = client_given (events ++ Hangup c ∷ []) held (quiet (Hangup c) (λ client. refl)) c client_input.Hangup refl (λ n r e. absurd (cc e)) now h
   event_asked (Deliver k) now h = delivered (events ++ Deliver k ∷ []) held (quiet (Deliver k) (λ client. refl)) k now h
-  event_asked (Cut id moment) now h = executor_given (events ++ Cut id moment ∷ []) held (quiet (Cut id moment) (λ client. refl)) id (executor_input.Cut moment) tt (id, Contains-push events (Cut id moment)) (slice_get w.executors id) now refl h
+  event_asked (Cut id moment) now h = executor_given (events ++ Cut id moment ∷ []) held (quiet (Cut id moment) (λ client. refl)) id (executor_input.Cut moment) tt (cut_now id moment) (slice_get w.executors id) now refl h
   event_asked (Step id place) now h = executor_given (events ++ Step id place ∷ []) held (quiet (Step id place) (λ client. refl)) id (executor_input.Step place) tt tt (slice_get w.executors id) now refl h
   event_asked (Finish id) now h = executor_given (events ++ Finish id ∷ []) held (quiet (Finish id) (λ client. refl)) id executor_input.Finish tt tt (slice_get w.executors id) now refl h
   event_asked (Suspect id) now h = verifier_given (events ++ Suspect id ∷ []) held (quiet (Suspect id) (λ client. refl)) id verifier_input.Suspect (slice_get w.verifiers id) now h

@@ -1,5 +1,5 @@
 -- What an executor keeps and sends was asked, line by line.
-use Rattle.std.proofs.Common.{◌≡◌, ℕ, zero, suc, ◌+◌, Bool, true, false, List, [], ◌∷◌, ◌++◌, filter, Option, Some, None, refl, sym, subst}
+use Rattle.std.proofs.Common.{◌≡◌, ℕ, zero, suc, ◌+◌, Bool, true, false, List, [], ◌∷◌, ◌++◌, filter, Option, Some, None, refl, sym, subst, ap, ◌∙◌}
 use Rattle.std.specs.Prelude.{Contains, ◌≤◌, not, ◌==◌, ◌&&◌, nat_lt, if◌then◌else◌, flat_map, option_map}
 use Rattle.std.specs.FinMap.{get}
 use Rattle.std.specs.List.{AllByRecursion, list_any}
@@ -41,22 +41,23 @@ use Rattle.exec_lines.specs.State.{ExecutorState, ExecutorOutcome, is_behind, ne
 use Rattle.exec_lines.specs.Lines.{waits, wanted, went_on, begin, batch_of, has_number, requests_taken, cut_where, cut_batch, after_cut, ordered, may_cut, on_cut, may_obey_order, on_order, stepped, work_after, on_step, finished, on_finish, needs, rolled_back, roll_back, commit_first, obey, decree_is_due, on_decree, is_told, goes_on, stood_without, stood, on_stands, has_more, on_need, came, on_parcel, resumed}
 use Rattle.exec_lines.specs.Step.{from_client, from_executor, on_ballot, from_verifier, on_letter, executor_step}
 use Rattle.events.specs.declared.event.Event.{Event}
-use Rattle.memcached_spec.specs.Fed.{IsMoment}
-use Rattle.worlds.specs.Asked.{IsAskedRequest, IsAskedBatch}
+use Rattle.events.specs.declared.event.Event.TheVariants as event
+use Rattle.worlds.specs.Asked.{IsAskedRequest}
+use Rattle.server_laws.specs.InTime.{WasCut}
 use Rattle.server_laws.proofs.Each.{each_of_both, each_taken, each_filtered, each_in}
 
 abbrev pub AreAskedRequests : List Event → List Request → Type 0
 AreAskedRequests events rs = AllByRecursion (IsAskedRequest events) rs
 
 abbrev pub IsAskedMember : List Event → TentativeView → Type 0
-IsAskedMember events t = IsAskedBatch events t.batch
+IsAskedMember events t = WasCut events t.batch
 
 abbrev pub AreAskedMembers : List Event → List TentativeView → Type 0
 AreAskedMembers events ts = AllByRecursion (IsAskedMember events) ts
 
 abbrev pub IsAskedWork : List Event → Option WorkView → Type 0
 IsAskedWork events None = Unit {0}
-IsAskedWork events (Some w) = IsAskedBatch events w.batch
+IsAskedWork events (Some w) = WasCut events w.batch
 
 -- what waits was asked, and so were the batch that is executed and those of the chain
 pub record IsAskedState (events : List Event) (s : ExecutorState) : Type 0 where
@@ -67,7 +68,7 @@ pub record IsAskedState (events : List Event) (s : ExecutorState) : Type 0 where
 -- what is wanted or ordered was asked
 abbrev pub IsAskedBody : List Event → Body → Type 0
 IsAskedBody events (body.Want r) = IsAskedRequest events r
-IsAskedBody events (body.Order b) = IsAskedBatch events b
+IsAskedBody events (body.Order b) = WasCut events b
 IsAskedBody events (body.Reply number reply) = Unit {0}
 IsAskedBody events (body.Need q) = Unit {0}
 IsAskedBody events (body.Parcel p) = Unit {0}
@@ -83,17 +84,24 @@ pub record IsAskedOutcome (events : List Event) (o : ExecutorOutcome) : Type 0 w
   pub state : IsAskedState events o.state
   pub letters : AreAskedLetters events o.letters
 
+-- the last event is a cut at this moment, and what was asked had been asked before
+pub record IsCutNow (events : List Event) (moment : ℕ) : Type 0 where
+  pub before : List Event
+  pub executor : ℕ
+  pub split : events ≡ before ++ event.Cut executor moment ∷ []
+  pub asked : (r : Request) → IsAskedRequest events r → IsAskedRequest before r
+
 -- no tentative state is handed in, and the others bring what was asked
 abbrev pub BringsAsked : List Event → Input → Type 0
 BringsAsked events (input.Letter l) = IsAskedBody events l.body
-BringsAsked events (input.Cut moment) = IsMoment events moment
+BringsAsked events (input.Cut moment) = IsCutNow events moment
 BringsAsked events (input.Step place) = Unit {0}
 BringsAsked events input.Finish = Unit {0}
 BringsAsked events (input.Adopt t) = ⊥
 
 -- what work comes to has the batch of the work
 abbrev pub IsAskedEnd : List Event → Ended → Type 0
-IsAskedEnd events (On w) = IsAskedBatch events w.batch
+IsAskedEnd events (On w) = WasCut events w.batch
 IsAskedEnd events (Done t) = IsAskedMember events t
 
 module _ (events : List Event) where
@@ -130,23 +138,23 @@ module _ (events : List Event) where
 
   -- ---- work
 
-  begun_asked : (base : StateView) (b : Batch) (in_order : Bool) → IsAskedBatch events b → IsAskedEnd events (begin_of base b in_order)
+  begun_asked : (base : StateView) (b : Batch) (in_order : Bool) → WasCut events b → IsAskedEnd events (begin_of base b in_order)
   begun_asked base b in_order is = by (least_of None None (all_begun base b in_order))
     where
       by : (o : Option ℕ) → IsAskedEnd events (begun_at base b in_order o)
       by None = is
       by (Some group) = is
 
-  moved_asked : (w : WorkView) (o : Option ℕ) → IsAskedBatch events w.batch → IsAskedEnd events (moved_on w o)
+  moved_asked : (w : WorkView) (o : Option ℕ) → WasCut events w.batch → IsAskedEnd events (moved_on w o)
   moved_asked w None is = is
   moved_asked w (Some group) is = is
 
-  finish_asked : (w : WorkView) → IsAskedBatch events w.batch → IsAskedEnd events (finish_of w)
+  finish_asked : (w : WorkView) → WasCut events w.batch → IsAskedEnd events (finish_of w)
   finish_asked w is = cond_both (is_group_done w.progress) (moved_on w (least_of (Some w.progress.group) None w.progress.running)) (On w) (IsAskedEnd events)
       (λ _. moved_asked w (least_of (Some w.progress.group) None w.progress.running) is) (λ _. is)
 
   -- a step leaves the batch
-  step_asked : (w : WorkView) (place : ℕ) → IsAskedBatch events w.batch → IsAskedWork events (step_of w place)
+  step_asked : (w : WorkView) (place : ℕ) → WasCut events w.batch → IsAskedWork events (step_of w place)
   step_asked w place is = by (step_in (first_place w.base w.batch) w.progress.group place w.progress.items w.progress.running)
     where
       by : (o : Option (Items × List BatchRequest)) → IsAskedWork events (option_map (λ s. record w { progress = record { items = s.0; running = s.1; group = w.progress.group } }) o)
@@ -177,7 +185,7 @@ module _ (events : List Event) where
       letters = each_of_both (IsAskedLetter events) ls (token_told u id t) heard (tokens_heard u id t);
     }
 
-    begin_asked : (now : ExecutorState) → AreAskedRequests events now.gather → now.chain ≡ s.chain → (ls : List (Letter Body)) → AreAskedLetters events ls → (b : Batch) → IsAskedBatch events b → IsAskedOutcome events (begin u id now ls b)
+    begin_asked : (now : ExecutorState) → AreAskedRequests events now.gather → now.chain ≡ s.chain → (ls : List (Letter Body)) → AreAskedLetters events ls → (b : Batch) → WasCut events b → IsAskedOutcome events (begin u id now ls b)
     begin_asked now waiting chain ls heard b is =
         went_on_asked now waiting chain ls heard (begin_of (chain_tip now.chain) b (runs_in_order now.standing b.n)) (begun_asked (chain_tip now.chain) b (runs_in_order now.standing b.n) is)
 
@@ -208,23 +216,26 @@ module _ (events : List Event) where
         (λ _. each_filtered (IsAskedRequest events) (λ r. not (is_past (chain_tip s.chain).sessions r) && not (list_any (λ b. b.client == r.client) (requests_taken s))) s.gather ok.waiting)
         (λ _. ok.waiting)
 
-    cut_batch_asked : (moment : ℕ) (b : Batch) → IsMoment events moment → cut_batch s moment ≡ Some b → IsAskedBatch events b
+    cut_batch_asked : (moment : ℕ) (b : Batch) → IsCutNow events moment → cut_batch s moment ≡ Some b → WasCut events b
     cut_batch_asked moment b at e = by (has_number s) refl e
       where
-        of_requests : (rs : List Request) (first : 1 ≤ next_batch_number s) (last : next_batch_number s ≤ GREATEST_NUMBER) (few : _) → AreAskedRequests events rs → batch_of s.standing.epoch (next_batch_number s) moment rs first last few ≡ Some b → IsAskedBatch events b
+        of_requests : (rs : List Request) (first : 1 ≤ next_batch_number s) (last : next_batch_number s ≤ GREATEST_NUMBER) (few : _) → AreAskedRequests events rs → batch_of s.standing.epoch (next_batch_number s) moment rs first last few ≡ Some b → WasCut events b
         of_requests [] first last few were none = absurd (cc none)
         of_requests (r ∷ rs) first last few were some =
             let same : record { epoch = s.standing.epoch; n = next_batch_number s; moment = moment; requests = r ∷ rs; first = first; last = last; few = few } ≡ b = cc some in
             record {
-              requests = λ q c. each_in (IsAskedRequest events) (r ∷ rs) q were (subst (λ (y : Batch). Contains y.requests q) (sym same) c);
-              moment = subst (λ (y : Batch). IsMoment events y.moment) same at;
+              before = at.before;
+              after = [];
+              executor = at.executor;
+              split = at.split ∙ ap (λ (y : Batch). at.before ++ event.Cut at.executor y.moment ∷ []) same;
+              asked = λ q c. at.asked q (each_in (IsAskedRequest events) (r ∷ rs) q were (subst (λ (y : Batch). Contains y.requests q) (sym same) c));
             }
 
-        by : (has : Bool) (is : has_number s ≡ has) → cut_where s moment has is ≡ Some b → IsAskedBatch events b
+        by : (has : Bool) (is : has_number s ≡ has) → cut_where s moment has is ≡ Some b → WasCut events b
         by true is some = of_requests (requests_taken s) _ _ _ taken_asked some
         by false is none = absurd (cc none)
 
-    cut_asked : (moment : ℕ) → IsMoment events moment → IsAskedOutcome events (on_cut u id s moment)
+    cut_asked : (moment : ℕ) → IsCutNow events moment → IsAskedOutcome events (on_cut u id s moment)
     cut_asked moment at = cond_both (may_cut u id s) (ordered u id (after_cut s) (cut_batch s moment)) (unchanged s) (IsAskedOutcome events) (λ _. by (cut_batch s moment) refl) (λ _. quiet)
       where
         by : (o : Option Batch) → cut_batch s moment ≡ o → IsAskedOutcome events (ordered u id (after_cut s) o)
@@ -233,7 +244,7 @@ module _ (events : List Event) where
             let is = cut_batch_asked moment b at some in
             begin_asked (after_cut s) after_cut_asked refl (to_other_executors u id (body.Order b)) (executors_hear id (member_count u) (body.Order b) is) b is
 
-    order_asked : (b : Batch) → IsAskedBatch events b → IsAskedOutcome events (on_order u id s b)
+    order_asked : (b : Batch) → WasCut events b → IsAskedOutcome events (on_order u id s b)
     order_asked b is = cond_both (may_obey_order s b) (begin u id s [] b) (unchanged s) (IsAskedOutcome events) (λ _. begin_asked s ok.waiting refl [] tt b is) (λ _. quiet)
 
     on_step_asked : (place : ℕ) → IsAskedOutcome events (on_step s place)

@@ -17,8 +17,8 @@ use Rattle.worlds.specs.Slots.{ClientSlot}
 use Rattle.worlds.specs.World.{WorldView, WorldNext, WorldRuns, last_world, new_clients, nothing_kept, unopened_world, restarts_below, opening_events, IsFirstWorld, ReachedWorlds, EndsWith}
 use Rattle.server_laws.specs.Saved.{IsSavedIn, IsExecutedIn, IsExecuted}
 use Rattle.server_laws.proofs.Plays.{Held, event_held, AreRestarts, restarts_both, restarts_are, executors_new, unopened_held, now_held}
-use Rattle.worlds.specs.Asked.{IsAskedBatch}
-use Rattle.server_laws.proofs.Grown.{later_by, batch_later}
+use Rattle.server_laws.specs.InTime.{WasCut}
+use Rattle.server_laws.proofs.Grown.{later_by}
 use Rattle.server_laws.proofs.AskedLines.{IsAskedMember, AreAskedMembers}
 use Rattle.server_laws.proofs.ClientLines.{IsClientOf}
 use Rattle.server_laws.proofs.Slots.{AnyState, AnyRound, IsAskedSlot, saved_is_asked}
@@ -91,27 +91,27 @@ last_asked c events (first ∷ later) w r ends = subst (IsAskedAndHeld events c.
 
 -- ---- the rounds of any of the worlds
 
-executed_in_asked : {u : ℕ} (events : List Event) (w : WorldView) (r : Executed) → IsAskedAndHeld events u w → IsExecutedIn w r → IsAskedBatch events r.batch
+executed_in_asked : {u : ℕ} (events : List Event) (w : WorldView) (r : Executed) → IsAskedAndHeld events u w → IsExecutedIn w r → WasCut events r.batch
 executed_in_asked {u} events w r ok (id, x, has, done) =
     let members : AreAskedMembers events x.chain = saved_is_asked events u id has.slot x (ok.is.executors id has.slot has.there) (subst (λ (v : ℕ). IsSavedIn v id has.slot x) ok.held.same.same_u has.saved) in
-    subst (λ (y : Executed). IsAskedBatch events y.batch) done.3 (each_among (IsAskedMember events) x.chain done.1 members done.2)
+    subst (λ (y : Executed). WasCut events y.batch) done.3 (each_among (IsAskedMember events) x.chain done.1 members done.2)
 
-executed_in_runs : {u : ℕ} (events : List Event) (w : WorldView) (es : List Event) (ws : List WorldView) (x : WorldView) (r : Executed) → IsAskedAndHeld events u w → WorldRuns w es ws → Contains ws x → IsExecutedIn x r → IsAskedBatch (events ++ es) r.batch
+executed_in_runs : {u : ℕ} (events : List Event) (w : WorldView) (es : List Event) (ws : List WorldView) (x : WorldView) (r : Executed) → IsAskedAndHeld events u w → WorldRuns w es ws → Contains ws x → IsExecutedIn x r → WasCut (events ++ es) r.batch
 executed_in_runs events w es [] x r ok h c done = absurd (in_none x c)
 executed_in_runs events w [] (y ∷ ws) x r ok h c done = absurd h
 executed_in_runs {u} events w (e ∷ es) (y ∷ ws) x r ok h c done =
     let now = next_asked events w e y ok h.0 in
-    subst (λ (all : List Event). IsAskedBatch all r.batch) (append_assoc events (e ∷ []) es)
+    subst (λ (all : List Event). WasCut all r.batch) (append_assoc events (e ∷ []) es)
     (⊎_elim
-    (λ (same : y ≡ x). batch_later (later_by (events ++ e ∷ []) es) r.batch (executed_in_asked (events ++ e ∷ []) x r (subst (IsAskedAndHeld (events ++ e ∷ []) u) same now) done))
+    (λ (same : y ≡ x). (later_by (events ++ e ∷ []) es).cuts r.batch (executed_in_asked (events ++ e ∷ []) x r (subst (IsAskedAndHeld (events ++ e ∷ []) u) same now) done))
     (λ more. executed_in_runs (events ++ e ∷ []) y es ws x r now h.1 more done)
     (first_or_other y x ws c))
 
-pub executed_asked : (c : ConfigView) (events : List Event) (worlds : List WorldView) (r : Executed) → ReachedWorlds c events worlds → IsExecuted worlds r → IsAskedBatch events r.batch
-executed_asked c events [] r reached done = absurd reached
-executed_asked c events (first ∷ later) r reached done =
+pub executed_cut : (c : ConfigView) (events : List Event) (worlds : List WorldView) (r : Executed) → ReachedWorlds c events worlds → IsExecuted worlds r → WasCut events r.batch
+executed_cut c events [] r reached done = absurd reached
+executed_cut c events (first ∷ later) r reached done =
     let start = first_asked c first reached.0 in
     ⊎_elim
-    (λ (same : first ≡ done.0). batch_later (later_by [] events) r.batch (executed_in_asked [] done.0 r (subst (IsAskedAndHeld [] c.u) same start) done.2))
+    (λ (same : first ≡ done.0). (later_by [] events).cuts r.batch (executed_in_asked [] done.0 r (subst (IsAskedAndHeld [] c.u) same start) done.2))
     (λ more. executed_in_runs [] first events later done.0 r start reached.1 more done.2)
     (first_or_other first done.0 later done.1)

@@ -1,14 +1,34 @@
 -- The laws of what is asked and given in worlds that are reached.
-use Rattle.std.proofs.Common.{◌≡◌, suc, List, [], ◌∷◌, ◌++◌, length, take, refl}
+use Rattle.std.proofs.Common.{◌≡◌, suc, List, [], ◌∷◌, ◌++◌, length, take, refl, sym, subst}
+use Rattle.std.specs.Prelude.{Contains}
+use Rattle.std.proofs.lemmas.List.Elements.{Contains-append_right}
+use Rattle.batches.specs.declared.batch.Batch.{Batch}
+use Rattle.events.specs.declared.event.Event.TheVariants.{Cut}
 use Rattle.events.specs.declared.event.Event.{Event}
 use Rattle.worlds.specs.World.{WorldView, WorldRuns, last_world}
 use Rattle.server_laws.specs.AskedLaws.{ExecutedIsAsked, GivenIsReplied, AskedStaysAsked, BeginningIsReached}
-use Rattle.server_laws.proofs.Grown.{later_by, batch_later}
+use Rattle.worlds.specs.Asked.{IsAskedBatch}
+use Rattle.run_laws.proofs.Elements.{in_head}
+use Rattle.server_laws.specs.InTime.{WasCut, ExecutedWasCut}
+use Rattle.server_laws.proofs.Grown.{IsLater, later_by, request_later, batch_later}
 use Rattle.server_laws.proofs.ClientLines.{is_replied}
-use Rattle.server_laws.proofs.AskedPlays.{last_asked, executed_asked}
+use Rattle.server_laws.proofs.AskedPlays.{last_asked, executed_cut}
+
+pub executed_was_cut : ExecutedWasCut
+executed_was_cut c events worlds r reached done = executed_cut c events worlds r reached done
+
+-- what was asked before the cut is asked by all events
+cut_is_asked : (events : List Event) (b : Batch) → WasCut events b → IsAskedBatch events b
+cut_is_asked events b cut =
+    let later : List Event = Cut cut.executor b.moment ∷ cut.after in
+    let on : IsLater cut.before events = subst (IsLater cut.before) (sym cut.split) (later_by cut.before later) in
+    record {
+      requests = λ r c. request_later on r (cut.asked r c);
+      moment = (cut.executor, subst (λ (es : List Event). Contains es (Cut cut.executor b.moment)) (sym cut.split) (Contains-append_right cut.before later (Cut cut.executor b.moment) (in_head (Cut cut.executor b.moment) cut.after)));
+    }
 
 pub executed_is_asked : ExecutedIsAsked
-executed_is_asked c events worlds r reached done = executed_asked c events worlds r reached done
+executed_is_asked c events worlds r reached done = cut_is_asked events r.batch (executed_cut c events worlds r reached done)
 
 pub given_is_replied : GivenIsReplied
 given_is_replied c events worlds w i slot reached ends at =

@@ -1,5 +1,5 @@
 -- What was asked stays asked where more is fed.
-use Rattle.std.proofs.Common.{◌≡◌, ℕ, ◌-◌, List, [], ◌∷◌, ◌++◌, sym, ◌∙◌, ap, subst}
+use Rattle.std.proofs.Common.{◌≡◌, ℕ, ◌-◌, List, [], ◌∷◌, ◌++◌, sym, ◌∙◌, ap, subst, append_assoc}
 use Rattle.std.proofs.lemmas.List.{append-nil}
 use Rattle.std.proofs.lemmas.List.Elements.{Contains-append_left}
 use Rattle.std.proofs.lemmas.List.Concat.{flat_map-append}
@@ -14,18 +14,27 @@ use Rattle.events.specs.declared.event.Event.TheVariants.{Cut}
 use Rattle.memcached_spec.specs.Fed.{fed_by, fed_to, IsMoment}
 use Rattle.memcached_spec.specs.Asked.{IsAsked}
 use Rattle.worlds.specs.Asked.{IsAskedRequest, IsAskedBatch}
+use Rattle.server_laws.specs.InTime.{WasCut}
 
 -- ---- more events
 
--- what is fed to each client only grows, and moments stay
+-- what is fed to each client only grows, and cuts stay
 pub record IsLater (events later : List Event) : Type 0 where
   pub fed : (client : ℕ) → (more : List ℕ) × (fed_to client later ≡ fed_to client events ++ more)
   pub moments : (moment : ℕ) → IsMoment events moment → IsMoment later moment
+  pub cuts : (b : Batch) → WasCut events b → WasCut later b
 
 pub later_by : (events more : List Event) → IsLater events (events ++ more)
 later_by events more = record {
   fed = λ client. (fed_to client more, flat_map-append (fed_by client) events more);
   moments = λ moment m. (m.0, Contains-append_left events more (Cut m.0 moment) m.1);
+  cuts = λ b cut. record {
+    before = cut.before;
+    after = cut.after ++ more;
+    executor = cut.executor;
+    split = ap (λ (es : List Event). es ++ more) cut.split ∙ append_assoc cut.before (Cut cut.executor b.moment ∷ cut.after) more;
+    asked = cut.asked;
+  };
 }
 
 module _ {events later : List Event} (on : IsLater events later) where

@@ -29,7 +29,8 @@ use Rattle.run_laws.proofs.Elements.{in_head, in_tail, in_none, first_or_other}
 use Rattle.worlds.specs.Asked.{WasSent}
 use Rattle.server_laws.specs.AskedLaws.{ExecutedIsAsked, GivenIsReplied}
 use Rattle.server_laws.specs.Served.{WasAnswered}
-use Rattle.server_laws.specs.Run.{IsRun, RunsGrow}
+use Rattle.server_laws.specs.Run.{IsRun, RunsGrow, IsOneServer}
+use Rattle.server_laws.specs.InTime.{ExecutedWasCut, IsRunInTime, RunsGrowInTime, IsOneServerInTime, WorldsAreInTime}
 use Rattle.server_laws.specs.Laws.{WorldsAreOfOneServer}
 use Rattle.server_laws.proofs.Replies.{AllReplies}
 use Rattle.server_laws.proofs.Past.{Past, first_past, next_past, Among, among_push, met_among, executed_among}
@@ -53,7 +54,7 @@ made_more met more rounds h s (Commit n t) made = record {
 }
 
 -- what was met in the whole play is told apart; what was asked and given is as the laws of `asked` say
-module _ (c : ConfigView) (all : List WorldView) (apart : ToldApart (IsMet all)) (executed_asked : ExecutedIsAsked) (given_replied : GivenIsReplied) where
+module _ (c : ConfigView) (all : List WorldView) (apart : ToldApart (IsMet all)) (executed_cut : ExecutedWasCut) (executed_asked : ExecutedIsAsked) (given_replied : GivenIsReplied) where
   -- a run of the decrees that are chosen in this world, of rounds of the worlds up to it
   abbrev RunOf : List WorldView → WorldView → List Executed → Type 0
   RunOf seen w run = IsRunOf (IsMet all) (IsExecuted seen) (chosen_list w) run
@@ -105,6 +106,9 @@ module _ (c : ConfigView) (all : List WorldView) (apart : ToldApart (IsMet all))
             };
       }
 
+      pub is_in_time : AllReplies (IsCommittedReply seen w) w.letters → IsRunInTime (IsMet all) events w run
+      is_in_time replied = record { is_run = is_run replied; cut = λ r at. executed_cut c events seen r past.reached (built.known_rounds r at) }
+
     -- the run of the next world begins with this one
     run_next : (e : Event) (x : WorldView) → WorldNext w e x → Among (seen ++ x ∷ []) all → (grown : (new : List Decree) × (chosen_list x ≡ chosen_list w ++ new)) → (run : List Executed) → RunOf seen w run
         → (later : List Executed) × Extends run later × RunOf (seen ++ x ∷ []) x later
@@ -119,7 +123,7 @@ module _ (c : ConfigView) (all : List WorldView) (apart : ToldApart (IsMet all))
   left_among seen x xs among left y at = ⊎_elim (among y) (λ (last : Contains (x ∷ []) y). ⊎_elim (λ (same : x ≡ y). subst (Contains all) same (left x (in_head x xs))) (λ none. absurd (in_none y none)) (first_or_other x y [] last)) (Contains-append_cases seen (x ∷ []) y at)
 
   runs_grow : {events : List Event} {seen : List WorldView} {w : WorldView} → Past c events seen w → Among seen all → (es : List Event) (xs : List WorldView) → Among xs all → WorldRuns w es xs → ListsGrow w xs
-      → AllReplies (IsCommittedReply seen w) w.letters → (run : List Executed) → RunOf seen w run → RunsGrow (IsMet all) events run es xs
+      → AllReplies (IsCommittedReply seen w) w.letters → (run : List Executed) → RunOf seen w run → RunsGrowInTime (IsMet all) events run es xs
   runs_grow past among [] [] left runs lists replied run built = tt
   runs_grow past among [] (x ∷ xs) left runs lists replied run built = absurd runs
   runs_grow past among (e ∷ es) [] left runs lists replied run built = absurd runs
@@ -128,18 +132,33 @@ module _ (c : ConfigView) (all : List WorldView) (apart : ToldApart (IsMet all))
       let among_now = left_among seen x xs among left in
       let later = run_next past among e x runs.0 among_now lists.0 run built in
       let replied_now = replies_next past (apart_among (IsMet seen) (IsMet all) (met_among seen all among) apart) e x runs.0 lists.0 replied in
-      (later.0, later.1, is_run now among_now later.0 later.2 replied_now, runs_grow now among_now es xs (λ y at. left y (in_tail x y xs at)) runs.1 lists.1 replied_now later.0 later.2)
+      (later.0, later.1, is_in_time now among_now later.0 later.2 replied_now, runs_grow now among_now es xs (λ y at. left y (in_tail x y xs at)) runs.1 lists.1 replied_now later.0 later.2)
 
-pub are_of_one_server : ExecutedIsAsked → GivenIsReplied → WorldsAreOfOneServer
-are_of_one_server executed_asked given_replied c events [] reached distinct = absurd reached
-are_of_one_server executed_asked given_replied c events (first ∷ later) reached distinct =
+pub are_in_time : ExecutedWasCut → ExecutedIsAsked → GivenIsReplied → WorldsAreInTime
+are_in_time executed_cut executed_asked given_replied c events [] reached distinct = absurd reached
+are_in_time executed_cut executed_asked given_replied c events (first ∷ later) reached distinct =
     let all : List WorldView = first ∷ later in
     let apart = met_are_told_apart c events (first ∷ later) reached distinct in
     let past = first_past c first reached.0 in
     let among : Among (first ∷ []) (first ∷ later) = λ y at. ⊎_elim (λ (same : first ≡ y). subst (Contains (first ∷ later)) same (in_head first later)) (λ none. absurd (in_none y none)) (first_or_other first y [] at) in
     let replied = replies_first (IsCommittedReply (first ∷ []) first) c first reached.0 in
-    let run = has_run c (first ∷ later) apart executed_asked given_replied past among in (
+    let run = has_run c (first ∷ later) apart executed_cut executed_asked given_replied past among in (
       run.0,
-      is_run c (first ∷ later) apart executed_asked given_replied past among run.0 run.1 replied,
-      runs_grow c (first ∷ later) apart executed_asked given_replied past among events later (λ y at. in_tail first y later at) reached.1 (list_only_grows c events first later reached) replied run.0 run.1,
+      is_in_time c (first ∷ later) apart executed_cut executed_asked given_replied past among run.0 run.1 replied,
+      runs_grow c (first ∷ later) apart executed_cut executed_asked given_replied past among events later (λ y at. in_tail first y later at) reached.1 (list_only_grows c events first later reached) replied run.0 run.1,
     )
+
+-- ---- whenever batches were cut
+
+runs_grow_so : (met : StateView → Type 0) (past : List Event) (run : List Executed) (es : List Event) (xs : List WorldView) → RunsGrowInTime met past run es xs → RunsGrow met past run es xs
+runs_grow_so met past run [] [] grows = tt
+runs_grow_so met past run [] (x ∷ xs) grows = absurd grows
+runs_grow_so met past run (e ∷ es) [] grows = absurd grows
+runs_grow_so met past run (e ∷ es) (x ∷ xs) grows = (grows.0, grows.1, grows.2.is_run, runs_grow_so met (past ++ e ∷ []) grows.0 es xs grows.3)
+
+pub is_one_server : (events : List Event) (worlds : List WorldView) → IsOneServerInTime events worlds → IsOneServer events worlds
+is_one_server events [] none = absurd none
+is_one_server events (first ∷ later) is = (is.0, is.1.is_run, runs_grow_so (IsMet (first ∷ later)) [] is.0 events later is.2)
+
+pub are_of_one_server : WorldsAreInTime → WorldsAreOfOneServer
+are_of_one_server law c events worlds reached distinct = is_one_server events worlds (law c events worlds reached distinct)

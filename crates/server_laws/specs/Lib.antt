@@ -4,4 +4,5 @@ pub mod HeldLaws
 pub mod AskedLaws
 pub mod Served
 pub mod Run
+pub mod InTime
 pub mod Laws

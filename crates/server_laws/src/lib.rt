@@ -19,7 +19,8 @@ pub use executors::{
     executors_keep_in_worlds, met_are_told_apart_in_worlds, records_are_of_one_state,
     worlds_are_of_executor_machines,
 };
-pub use laws::{executors_keep_the_run, worlds_are_of_one_server};
+pub use laws::{executors_keep_the_run, worlds_are_in_time, worlds_are_of_one_server};
 pub use requests::{
-    beginnings_are_reached, executed_is_asked_in_worlds, given_is_replied_in_worlds,
+    beginnings_are_reached, executed_is_asked_in_worlds, executed_was_cut_in_worlds,
+    given_is_replied_in_worlds,
 };

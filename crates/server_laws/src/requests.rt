@@ -2,12 +2,18 @@
 //! says is its contract.
 
 ghost use Rattle.server_laws.specs.AskedLaws.{ExecutedIsAsked, GivenIsReplied, AskedStaysAsked, BeginningIsReached};
+ghost use Rattle.server_laws.specs.InTime.{ExecutedWasCut};
 
 /// Each request of a batch that an executor executed, tentatively or not, was asked: the bytes that the
 /// events so far fed to its client spell turns of which its command is the one asked at its number. The
 /// moment of the batch is that of a cut.
 pub fn executed_is_asked_in_worlds()
     ensures { ExecutedIsAsked }
+{}
+
+/// A batch that an executor executed was cut at its moment when each of its requests had been asked.
+pub fn executed_was_cut_in_worlds()
+    ensures { ExecutedWasCut }
 {}
 
 /// What a client was given are the texts of the first turns that its bytes spell, in order, each turn

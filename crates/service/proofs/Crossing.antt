@@ -5,6 +5,7 @@ use Rattle.std.proofs.alloc.Global.TheSendSync as global
 use Rattle.std.proofs.collections.VecDeque.TheSendSync as deque
 use Rattle.http_server.proofs.log.Log.TheSendSync as log
 use Rattle.connections.proofs.connections.Connections.TheSendSync as connections
+use Rattle.connections.proofs.history.Passing.TheSendSync as passing
 use Rattle.ensemble.proofs.Crossing.{ensemble_send}
 use Rattle.service.proofs.assignment.Assignment.TheSendSync as assignment
 use Rattle.service.proofs.counting.Counting.TheSendSync as counting
@@ -16,6 +17,8 @@ use Rattle.service.specs.contracts.service.Service as service
 ruleset parts = (
   ensemble_send,
   connections.the_send,
+  passing.the_send,
+  passing.the_field_send,
   assignment.the_send,
   assignment.the_field_send,
   counting.the_send,

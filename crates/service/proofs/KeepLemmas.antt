@@ -1,5 +1,5 @@
 -- Each call keeps what always holds of a service.
-use Rattle.std.proofs.Common.{◌≡◌, ◌⊎◌, ⊎_elim, ℕ, zero, suc, ◌<◌, ◌≤◌, Bool, true, false, List, [], ◌∷◌, ◌++◌, map, length, Option, Some, None, refl, sym, ap, ◌∙◌, subst, arith, slice_get, append_assoc}
+use Rattle.std.proofs.Common.{◌≡◌, ◌⊎◌, ⊎_elim, ℕ, zero, suc, ◌<◌, ◌≤◌, Bool, List, [], ◌∷◌, ◌++◌, map, length, Option, Some, None, refl, sym, ap, ◌∙◌, subst, arith, slice_get, append_assoc}
 use Rattle.std.specs.Prelude.{Contains}
 use Rattle.std.proofs.lemmas.List.{append-nil, map-append}
 use Rattle.std.proofs.lemmas.List.Elements.{Contains-push, Contains-append_left, Contains-append_right, Contains-append_cases}
@@ -12,14 +12,17 @@ use Rattle.connections.specs.declared.said.Said.{Said}
 use Rattle.connections.specs.Connections.{ConnectionsView}
 use Rattle.connections.proofs.TakeLemmas.{get_pushed, contains_at, one_of}
 use Rattle.ensemble.specs.declared.answer.Answer.{Answer}
-use Rattle.ensemble.specs.Ensemble.{EnsembleView, answer_entry, order_entry}
+use Rattle.ensemble.specs.Nodes.{size_of}
+use Rattle.ensemble.specs.declared.noted.Noted.{Noted}
+use Rattle.ensemble.specs.declared.noted.Noted.TheVariants as noted
+use Rattle.ensemble.specs.Ensemble.{EnsembleView, answer_entry, order_entry, moment_entry}
 use Rattle.service.specs.declared.assignment.Assignment.{Assignment}
 use Rattle.service.specs.declared.assignment.Outstanding.{Outstanding}
 use Rattle.service.specs.declared.note.Waiting.{Waiting}
 use Rattle.service.specs.declared.asking.Asking.{Asking}
 use Rattle.service.specs.declared.asking.Asking.TheVariants.{Nothing, Asked, Failed}
 use Rattle.service.specs.Service.{ServiceView, ReplicasView, none_shown, asked_keys, before_ask, IsAnsweredEarlier, command_number_of, IsAssigned, IsService, Waits, asked_as, assigned_as, assigned, AreLogged, AnswersTo, Gives, GivesNothing, GivesOne, given_entry, passed_entry}
-use Rattle.service.proofs.OrderLemmas.{Order, asked_push, answers_ask_nothing, before_same, before_last, asked_below, asked_count}
+use Rattle.service.proofs.OrderLemmas.{Order, asked_push, none_asked, more_asks_nothing, before_same, before_last, asked_below, asked_count}
 use Rattle.service.specs.Steps.{NoneWaits, KeepsWaits, AddsWait, EndsWait, KeepsTaken, IsAskedOf, AsksFor, Settles}
 
 -- ---- nothing was asked yet
@@ -47,8 +50,8 @@ ends_keeps old new proxy number (Some o) e = e.0
 -- ---- nothing is asked
 
 pub keeps : (v now : ServiceView) → IsService v → KeepsTaken v.connections now.connections → now.connections.replied ≡ v.connections.replied → now.asked ≡ v.asked
-    → ((x : (ℕ × ℕ) × replies.Reply) → Contains v.answered x → Contains now.answered x) → now.assignments ≡ v.assignments → (answers : List Answer) → now.order ≡ v.order ++ map order_entry answers → KeepsWaits v.waiting now.waiting → IsService now
-keeps v now ok taken replied asked answered same answers order waits = record {
+    → ((x : (ℕ × ℕ) × replies.Reply) → Contains v.answered x → Contains now.answered x) → now.assignments ≡ v.assignments → (more : Order) → asked_keys more ≡ [] → now.order ≡ v.order ++ more → KeepsWaits v.waiting now.waiting → IsService now
+keeps v now ok taken replied asked answered same more none order waits = record {
   each = λ a i.
       let e = ok.each a (subst (λ (xs : List Assignment). Contains xs a) same i) in
       record {
@@ -73,40 +76,40 @@ keeps v now ok taken replied asked answered same answers order waits = record {
         subst (λ (xs : List Assignment). Contains xs r.0) (sym same) r.1,
         r.2,
         answered ((r.0.proxy, r.0.number), e.1) r.3,
-        subst (λ (o : Order). Contains o ((r.0.proxy, r.0.number), true)) (sym order) (Contains-append_left v.order (map order_entry answers) ((r.0.proxy, r.0.number), true) r.4),
+        subst (λ (o : Order). Contains o ((r.0.proxy, r.0.number), noted.Answered)) (sym order) (Contains-append_left v.order more ((r.0.proxy, r.0.number), noted.Answered) r.4),
       );
-  ordered = ap asked_keys order ∙ (answers_ask_nothing v.order answers ∙ (ok.ordered ∙ sym (ap (map assigned_as) same)));
+  ordered = ap asked_keys order ∙ (more_asks_nothing v.order more none ∙ (ok.ordered ∙ sym (ap (map assigned_as) same)));
   in_turn = λ i b at_i turn from_one below.
       let at : slice_get v.assignments i ≡ Some b = subst (λ (xs : List Assignment). slice_get xs i ≡ Some b) same at_i in
       let was = ok.in_turn i b at turn from_one below in
-      let before : before_ask i now.order ≡ before_ask i v.order = ap (before_ask i) order ∙ before_same i v.order (map order_entry answers) (asked_below v ok i b at) in
-      record { assignment = was.assignment; assigned = subst (λ (xs : List Assignment). Contains xs was.assignment) (sym same) was.assigned; of_connection = was.of_connection; of_turn = was.of_turn; answered = subst (λ (o : Order). Contains o ((was.assignment.proxy, was.assignment.number), true)) (sym before) was.answered };
+      let before : before_ask i now.order ≡ before_ask i v.order = ap (before_ask i) order ∙ before_same i v.order more (asked_below v ok i b at) in
+      record { assignment = was.assignment; assigned = subst (λ (xs : List Assignment). Contains xs was.assignment) (sym same) was.assigned; of_connection = was.of_connection; of_turn = was.of_turn; answered = subst (λ (o : Order). Contains o ((was.assignment.proxy, was.assignment.number), noted.Answered)) (sym before) was.answered };
   waits = λ a w. subst (λ (xs : List Assignment). Contains xs a) (sym same) (ok.waits a (waits a w));
 }
 
 -- another line
 pub lined : (v : ServiceView) (line : List Waiting) → IsService v → IsService (record v { line = line })
-lined v line ok = keeps v (record v { line = line }) ok (λ e i. i) refl refl (λ x i. i) refl [] (sym (append-nil v.order)) (λ a w. w)
+lined v line ok = keeps v (record v { line = line }) ok (λ e i. i) refl refl (λ x i. i) refl [] refl (sym (append-nil v.order)) (λ a w. w)
 
 -- whatever is seen of the replicas
 pub seen : (v : ServiceView) (replicas : ReplicasView) → IsService v → IsService (record v { replicas = replicas })
-seen v replicas ok = keeps v (record v { replicas = replicas }) ok (λ e i. i) refl refl (λ x i. i) refl [] (sym (append-nil v.order)) (λ a w. w)
+seen v replicas ok = keeps v (record v { replicas = replicas }) ok (λ e i. i) refl refl (λ x i. i) refl [] refl (sym (append-nil v.order)) (λ a w. w)
 
 -- the connections alone went on
 pub connections_keep : (v : ServiceView) (now : ConnectionsView) → IsService v → now.taken ≡ v.connections.taken → now.replied ≡ v.connections.replied → IsService (record v { connections = now })
-connections_keep v now ok taken replied = keeps v (record v { connections = now }) ok (λ e i. subst (λ (xs : List (CommandNumber × Command)). Contains xs e) (sym taken) i) replied refl (λ x i. i) refl [] (sym (append-nil v.order)) (λ a w. w)
+connections_keep v now ok taken replied = keeps v (record v { connections = now }) ok (λ e i. subst (λ (xs : List (CommandNumber × Command)). Contains xs e) (sym taken) i) replied refl (λ x i. i) refl [] refl (sym (append-nil v.order)) (λ a w. w)
 
 -- the replicas worked
-pub worked_keeps : (v : ServiceView) (asked : List (Request × Bool)) (answered : List ((ℕ × ℕ) × replies.Reply)) (order : Order) (answers : List Answer) → IsService v → asked ≡ v.asked → answered ≡ v.answered ++ map answer_entry answers → order ≡ v.order ++ map order_entry answers
+pub worked_keeps : (v : ServiceView) (asked : List (Request × Bool)) (answered : List ((ℕ × ℕ) × replies.Reply)) (order : Order) (moment : ℕ) (answers : List Answer) → IsService v → asked ≡ v.asked → answered ≡ v.answered ++ map answer_entry answers → order ≡ (v.order ++ moment_entry moment ∷ []) ++ map order_entry answers
     → IsService (record v { asked = asked; answered = answered; order = order })
-worked_keeps v asked answered order answers ok same is ordered =
+worked_keeps v asked answered order moment answers ok same is ordered =
     keeps v (record v { asked = asked; answered = answered; order = order }) ok (λ e i. i) refl same
-    (λ x i. subst (λ (xs : List ((ℕ × ℕ) × replies.Reply)). Contains xs x) (sym is) (Contains-append_left v.answered (map answer_entry answers) x i)) refl answers ordered (λ a w. w)
+    (λ x i. subst (λ (xs : List ((ℕ × ℕ) × replies.Reply)). Contains xs x) (sym is) (Contains-append_left v.answered (map answer_entry answers) x i)) refl (moment_entry moment ∷ map order_entry answers) (none_asked answers) (ordered ∙ append_assoc v.order (moment_entry moment ∷ []) (map order_entry answers)) (λ a w. w)
 
 pub tended_keeps : (v : ServiceView) (asked : List (Request × Bool)) (answered : List ((ℕ × ℕ) × replies.Reply)) (order : Order) (waiting : List (Option Outstanding)) → IsService v → asked ≡ v.asked → answered ≡ v.answered → order ≡ v.order → KeepsWaits v.waiting waiting
     → IsService (record v { asked = asked; answered = answered; order = order; waiting = waiting })
 tended_keeps v asked answered order waiting ok same is ordered waits =
-    keeps v (record v { asked = asked; answered = answered; order = order; waiting = waiting }) ok (λ e i. i) refl same (λ x i. subst (λ (xs : List ((ℕ × ℕ) × replies.Reply)). Contains xs x) (sym is) i) refl [] (ordered ∙ sym (append-nil v.order)) waits
+    keeps v (record v { asked = asked; answered = answered; order = order; waiting = waiting }) ok (λ e i. i) refl same (λ x i. subst (λ (xs : List ((ℕ × ℕ) × replies.Reply)). Contains xs x) (sym is) i) refl [] refl (ordered ∙ sym (append-nil v.order)) waits
 
 contains_map : {X : Type 0} (of : Answer → X) (answers : List Answer) (a : Answer) → Contains answers a → Contains (map of answers) (of a)
 contains_map of [] a i = let lt = i.1 in absurd (omega (arith, lt))
@@ -134,8 +137,8 @@ module _ (v : ServiceView) (ok : IsService v) (at : Place) (proxy : ℕ) (next :
   answered_is : f.answered ≡ v.answered
   answered_is = is.answered ∙ same_answered
 
-  abbrev ask_entry : (ℕ × ℕ) × Bool
-  ask_entry = ((proxy, a.number), false)
+  abbrev ask_entry : (ℕ × ℕ) × Noted
+  ask_entry = ((proxy, a.number), noted.Asked)
 
   order_is : f.order ≡ v.order ++ ask_entry ∷ []
   order_is = is.ordered ∙ ap (λ (o : Order). o ++ ask_entry ∷ []) same_order
@@ -180,7 +183,7 @@ module _ (v : ServiceView) (ok : IsService v) (at : Place) (proxy : ℕ) (next :
 
   -- a command that was answered before
   answered_before : (b : ℕ) (turn : ℕ) (o p : Order) → p ≡ o → IsAnsweredEarlier v.assignments b turn o → IsAnsweredEarlier now.assignments b turn p
-  answered_before b turn o p same was = record { assignment = was.assignment; assigned = kept was.assignment was.assigned; of_connection = was.of_connection; of_turn = was.of_turn; answered = subst (λ (x : Order). Contains x ((was.assignment.proxy, was.assignment.number), true)) (sym same) was.answered }
+  answered_before b turn o p same was = record { assignment = was.assignment; assigned = kept was.assignment was.assigned; of_connection = was.of_connection; of_turn = was.of_turn; answered = subst (λ (x : Order). Contains x ((was.assignment.proxy, was.assignment.number), noted.Answered)) (sym same) was.answered }
 
   -- each earlier command of the connection was answered
   earlier_one : (turn : ℕ) → 1 ≤ turn → turn < a.turn → IsAnsweredEarlier v.assignments a.connection turn v.order
@@ -228,7 +231,7 @@ module _ (v : ServiceView) (ok : IsService v) (at : Place) (proxy : ℕ) (next :
           kept r.0 r.1,
           r.2,
           subst (λ (xs : List ((ℕ × ℕ) × replies.Reply)). Contains xs ((r.0.proxy, r.0.number), x.1)) (sym answered_is) r.3,
-          subst (λ (o : Order). Contains o ((r.0.proxy, r.0.number), true)) (sym order_is) (Contains-append_left v.order (ask_entry ∷ []) ((r.0.proxy, r.0.number), true) r.4),
+          subst (λ (o : Order). Contains o ((r.0.proxy, r.0.number), noted.Answered)) (sym order_is) (Contains-append_left v.order (ask_entry ∷ []) ((r.0.proxy, r.0.number), noted.Answered) r.4),
         );
     ordered =
         ap asked_keys order_is ∙ (asked_push v.order (proxy, a.number)
@@ -244,9 +247,9 @@ pub assign_keeps : (v : ServiceView) (at : Place) (proxy : ℕ) (next : Connecti
     → AsksFor at proxy v.connections e next f asking → Settles key asking pool waiting v.assignments assignments said said_now
     → IsService (record { connections = next; asked = f.asked; answered = f.answered; order = f.order; assignments = assignments; waiting = waiting; line = line; replicas = none_shown })
 assign_keeps v at proxy next e f Nothing pool waiting assignments said said_now key line ok a b o same asks settles =
-    keeps v _ ok asks.0.taken asks.0.replied (ap (λ (x : EnsembleView). x.asked) asks.0.same ∙ a) (λ x i. subst (λ (xs : List ((ℕ × ℕ) × replies.Reply)). Contains xs x) (sym (ap (λ (y : EnsembleView). y.answered) asks.0.same ∙ b)) i) settles.1 [] (ap (λ (y : EnsembleView). y.order) asks.0.same ∙ (o ∙ sym (append-nil v.order))) (λ y w. subst (λ (ws : List (Option Outstanding)). Waits ws y) (settles.0 ∙ same) w)
+    keeps v _ ok asks.0.taken asks.0.replied (ap (λ (x : EnsembleView). x.asked) asks.0.same ∙ a) (λ x i. subst (λ (xs : List ((ℕ × ℕ) × replies.Reply)). Contains xs x) (sym (ap (λ (y : EnsembleView). y.answered) asks.0.same ∙ b)) i) settles.1 [] refl (ap (λ (y : EnsembleView). y.order) asks.0.same ∙ (o ∙ sym (append-nil v.order))) (λ y w. subst (λ (ws : List (Option Outstanding)). Waits ws y) (settles.0 ∙ same) w)
 assign_keeps v at proxy next e f (Failed g) pool waiting assignments said said_now key line ok a b o same asks settles =
-    keeps v _ ok asks.0.taken asks.0.replied (ap (λ (x : EnsembleView). x.asked) asks.0.same ∙ a) (λ x i. subst (λ (xs : List ((ℕ × ℕ) × replies.Reply)). Contains xs x) (sym (ap (λ (y : EnsembleView). y.answered) asks.0.same ∙ b)) i) settles.1 [] (ap (λ (y : EnsembleView). y.order) asks.0.same ∙ (o ∙ sym (append-nil v.order))) (λ y w. subst (λ (ws : List (Option Outstanding)). Waits ws y) (settles.0 ∙ same) w)
+    keeps v _ ok asks.0.taken asks.0.replied (ap (λ (x : EnsembleView). x.asked) asks.0.same ∙ a) (λ x i. subst (λ (xs : List ((ℕ × ℕ) × replies.Reply)). Contains xs x) (sym (ap (λ (y : EnsembleView). y.answered) asks.0.same ∙ b)) i) settles.1 [] refl (ap (λ (y : EnsembleView). y.order) asks.0.same ∙ (o ∙ sym (append-nil v.order))) (λ y w. subst (λ (ws : List (Option Outstanding)). Waits ws y) (settles.0 ∙ same) w)
 assign_keeps v at proxy next e f (Asked x) pool waiting assignments said said_now key line ok a b o same asks settles =
     subst (λ (xs : List Assignment). IsService (record { connections = next; asked = f.asked; answered = f.answered; order = f.order; assignments = xs; waiting = waiting; line = line; replicas = none_shown })) (sym settles.1) (asked_keeps v ok at proxy next e f a b o x waiting line asks (subst (λ (ws : List (Option Outstanding)). AddsWait ws x waiting) same settles.0))
 
@@ -261,9 +264,14 @@ assign_hears at proxy old next e f Nothing asks = asks.0.heard
 assign_hears at proxy old next e f (Asked x) asks = asks.bytes.heard
 assign_hears at proxy old next e f (Failed g) asks = asks.0.heard
 
+pub assign_size : (at : Place) (proxy : ℕ) (old next : ConnectionsView) (e f : EnsembleView) (asking : Asking) → AsksFor at proxy old e next f asking → size_of f.nodes ≡ size_of e.nodes
+assign_size at proxy old next e f Nothing asks = ap (λ (x : EnsembleView). size_of x.nodes) asks.0.same
+assign_size at proxy old next e f (Asked x) asks = asks.size
+assign_size at proxy old next e f (Failed g) asks = ap (λ (x : EnsembleView). size_of x.nodes) asks.0.same
+
 -- ---- a reply comes back
 
-pub replied_keeps : (v : ServiceView) (next : ConnectionsView) (waiting : List (Option Outstanding)) (o : Outstanding) (proxy number : ℕ) (reply : replies.Reply) (said said_now : List Said) → IsService v → Contains v.answered ((proxy, number), reply) → Contains v.order ((proxy, number), true) → EndsWait v.waiting proxy number waiting (Some o)
+pub replied_keeps : (v : ServiceView) (next : ConnectionsView) (waiting : List (Option Outstanding)) (o : Outstanding) (proxy number : ℕ) (reply : replies.Reply) (said said_now : List Said) → IsService v → Contains v.answered ((proxy, number), reply) → Contains v.order ((proxy, number), noted.Answered) → EndsWait v.waiting proxy number waiting (Some o)
     → AnswersTo o.assignment reply v.connections next said said_now → IsService (record v { connections = next; waiting = waiting })
 replied_keeps v next waiting o proxy number reply said said_now ok logged in_order ends to = record {
   each = λ a i.
@@ -277,8 +285,8 @@ replied_keeps v next waiting o proxy number reply said said_now ok logged in_ord
       (λ (more : next.replied ≡ v.connections.replied ++ (command_number_of o.assignment, reply) ∷ []). ⊎_elim
       (λ (old : Contains v.connections.replied e). ok.replied e old)
       (λ (new : Contains ((command_number_of o.assignment, reply) ∷ []) e).
-      subst (λ (x : CommandNumber × replies.Reply). (a : Assignment) × Contains v.assignments a × (command_number_of a ≡ x.0) × Contains v.answered ((a.proxy, a.number), x.1) × Contains v.order ((a.proxy, a.number), true)) (one_of (command_number_of o.assignment, reply) e new)
-      (o.assignment, ok.waits o.assignment ends.1, refl, subst (λ (z : ℕ × ℕ). Contains v.answered (z, reply)) (λ j. (sym ends.2 j, sym ends.3 j)) logged, subst (λ (z : ℕ × ℕ). Contains v.order (z, true)) (λ j. (sym ends.2 j, sym ends.3 j)) in_order))
+      subst (λ (x : CommandNumber × replies.Reply). (a : Assignment) × Contains v.assignments a × (command_number_of a ≡ x.0) × Contains v.answered ((a.proxy, a.number), x.1) × Contains v.order ((a.proxy, a.number), noted.Answered)) (one_of (command_number_of o.assignment, reply) e new)
+      (o.assignment, ok.waits o.assignment ends.1, refl, subst (λ (z : ℕ × ℕ). Contains v.answered (z, reply)) (λ j. (sym ends.2 j, sym ends.3 j)) logged, subst (λ (z : ℕ × ℕ). Contains v.order (z, noted.Answered)) (λ j. (sym ends.2 j, sym ends.3 j)) in_order))
       (Contains-append_cases v.connections.replied ((command_number_of o.assignment, reply) ∷ []) e (subst (λ (xs : List (CommandNumber × replies.Reply)). Contains xs e) more i)))
       to.replied;
   ordered = ok.ordered;

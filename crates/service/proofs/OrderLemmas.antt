@@ -1,40 +1,47 @@
 -- The order in which requests were asked and answered.
-use Rattle.std.proofs.Common.{◌≡◌, ℕ, zero, suc, ◌<◌, Bool, true, false, List, [], ◌∷◌, ◌++◌, map, length, Option, Some, None, refl, sym, ap, ◌∙◌, subst, arith, slice_get}
+use Rattle.std.proofs.Common.{◌≡◌, ℕ, zero, suc, ◌<◌, List, [], ◌∷◌, ◌++◌, map, length, Some, refl, ap, ◌∙◌, arith, slice_get}
 use Rattle.std.proofs.lemmas.List.{length-map}
 use Rattle.ensemble.specs.declared.answer.Answer.{Answer}
+use Rattle.ensemble.specs.declared.noted.Noted.{Noted}
+use Rattle.ensemble.specs.declared.noted.Noted.TheVariants as noted
 use Rattle.ensemble.specs.Ensemble.{order_entry}
 use Rattle.service.specs.declared.assignment.Assignment.{Assignment}
 use Rattle.service.specs.Service.{ServiceView, asked_keys, before_ask, assigned_as, IsService}
 
 abbrev pub Order : Type 0
-Order = List ((ℕ × ℕ) × Bool)
+Order = List ((ℕ × ℕ) × Noted)
 
-pub asked_push : (order : Order) (key : ℕ × ℕ) → asked_keys (order ++ (key, false) ∷ []) ≡ asked_keys order ++ key ∷ []
+pub asked_push : (order : Order) (key : ℕ × ℕ) → asked_keys (order ++ (key, noted.Asked) ∷ []) ≡ asked_keys order ++ key ∷ []
 asked_push [] key = refl
-asked_push ((k, true) ∷ order) key = asked_push order key
-asked_push ((k, false) ∷ order) key = ap (λ (keys : List (ℕ × ℕ)). k ∷ keys) (asked_push order key)
+asked_push ((k, noted.Asked) ∷ order) key = ap (λ (keys : List (ℕ × ℕ)). k ∷ keys) (asked_push order key)
+asked_push ((k, noted.Answered) ∷ order) key = asked_push order key
+asked_push ((k, noted.Moment) ∷ order) key = asked_push order key
 
-none_asked : (answers : List Answer) → asked_keys (map order_entry answers) ≡ []
+pub none_asked : (answers : List Answer) → asked_keys (map order_entry answers) ≡ []
 none_asked [] = refl
 none_asked (a ∷ answers) = none_asked answers
 
-pub answers_ask_nothing : (order : Order) (answers : List Answer) → asked_keys (order ++ map order_entry answers) ≡ asked_keys order
-answers_ask_nothing [] answers = none_asked answers
-answers_ask_nothing ((k, true) ∷ order) answers = answers_ask_nothing order answers
-answers_ask_nothing ((k, false) ∷ order) answers = ap (λ (keys : List (ℕ × ℕ)). k ∷ keys) (answers_ask_nothing order answers)
+-- what asks nothing adds nothing
+pub more_asks_nothing : (order more : Order) → asked_keys more ≡ [] → asked_keys (order ++ more) ≡ asked_keys order
+more_asks_nothing [] more none = none
+more_asks_nothing ((k, noted.Asked) ∷ order) more none = ap (λ (keys : List (ℕ × ℕ)). k ∷ keys) (more_asks_nothing order more none)
+more_asks_nothing ((k, noted.Answered) ∷ order) more none = more_asks_nothing order more none
+more_asks_nothing ((k, noted.Moment) ∷ order) more none = more_asks_nothing order more none
 
 -- what was before a request that is in the order stays so as it gets longer
 pub before_same : (i : ℕ) (order more : Order) → i < length (asked_keys order) → before_ask i (order ++ more) ≡ before_ask i order
 before_same i [] more below = absurd (omega (arith, below))
-before_same i ((k, true) ∷ order) more below = ap (λ (o : Order). (k, true) ∷ o) (before_same i order more below)
-before_same zero ((k, false) ∷ order) more below = refl
-before_same (suc i) ((k, false) ∷ order) more below = ap (λ (o : Order). (k, false) ∷ o) (before_same i order more (omega (arith, below)))
+before_same i ((k, noted.Answered) ∷ order) more below = ap (λ (o : Order). (k, noted.Answered) ∷ o) (before_same i order more below)
+before_same i ((k, noted.Moment) ∷ order) more below = ap (λ (o : Order). (k, noted.Moment) ∷ o) (before_same i order more below)
+before_same zero ((k, noted.Asked) ∷ order) more below = refl
+before_same (suc i) ((k, noted.Asked) ∷ order) more below = ap (λ (o : Order). (k, noted.Asked) ∷ o) (before_same i order more (omega (arith, below)))
 
 -- before the last request was all else
-pub before_last : (order : Order) (key : ℕ × ℕ) → before_ask (length (asked_keys order)) (order ++ (key, false) ∷ []) ≡ order
+pub before_last : (order : Order) (key : ℕ × ℕ) → before_ask (length (asked_keys order)) (order ++ (key, noted.Asked) ∷ []) ≡ order
 before_last [] key = refl
-before_last ((k, true) ∷ order) key = ap (λ (o : Order). (k, true) ∷ o) (before_last order key)
-before_last ((k, false) ∷ order) key = ap (λ (o : Order). (k, false) ∷ o) (before_last order key)
+before_last ((k, noted.Asked) ∷ order) key = ap (λ (o : Order). (k, noted.Asked) ∷ o) (before_last order key)
+before_last ((k, noted.Answered) ∷ order) key = ap (λ (o : Order). (k, noted.Answered) ∷ o) (before_last order key)
+before_last ((k, noted.Moment) ∷ order) key = ap (λ (o : Order). (k, noted.Moment) ∷ o) (before_last order key)
 
 pub asked_count : (v : ServiceView) → IsService v → length (asked_keys v.order) ≡ length v.assignments
 asked_count v ok = ap length ok.ordered ∙ length-map v.assignments assigned_as

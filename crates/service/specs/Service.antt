@@ -1,5 +1,5 @@
 -- A service, as contracts see it, and what always holds of it.
-use Rattle.std.specs.Prelude.{◌≡◌, ◌⊎◌, ℕ, zero, suc, ◌-◌, ◌^◌, ◌≤◌, ◌<◌, Bool, true, false, List, [], ◌∷◌, ◌++◌, map, Option, Some, Result, Ok, Err, Contains, slice_get, refl}
+use Rattle.std.specs.Prelude.{◌≡◌, ◌⊎◌, ℕ, zero, suc, ◌-◌, ◌^◌, ◌≤◌, ◌<◌, Bool, List, [], ◌∷◌, ◌++◌, map, Option, Some, Result, Ok, Err, Contains, slice_get, refl}
 use Rattle.std.specs.Coded.{Coded, code_by, coded×, coded_ℕ, coded_bool, coded_list, coded_option}
 use Rattle.proto.specs.declared.command.Command.{Command}
 use Rattle.proto.specs.declared.reply.Reply as replies
@@ -7,11 +7,14 @@ use Rattle.sessions.specs.declared.request.Request.{Request}
 use Rattle.connections.specs.declared.connections.CommandNumber.{CommandNumber}
 use Rattle.connections.specs.declared.said.Said.{Said}
 use Rattle.connections.specs.Connections.{ConnectionsView, bytes_of_connection, IsAnswered}
-use Rattle.connections.specs.History.{Passed, heard_as, given_as, heard_among, given_among}
+use Rattle.connections.specs.History.{Passed, heard_as, given_as, heard_among, given_among, moments_among}
 use Rattle.memcached_spec.specs.Asked.{IsAsked}
 use Rattle.base.specs.declared.fault.Fault.{Fault}
 use Rattle.ensemble.specs.declared.answer.Answer.{Answer}
+use Rattle.ensemble.specs.declared.noted.Noted.{Noted}
+use Rattle.ensemble.specs.declared.noted.Noted.TheVariants as noted
 use Rattle.ensemble.specs.Served.{IsAtRest}
+use Rattle.ensemble.specs.Moments.{moments_in, latest_of, IsSince}
 use Rattle.ensemble.specs.Ensemble.{EnsembleView, IsEnsemble, answer_entry, order_entry}
 use Rattle.service.specs.declared.assignment.Assignment.{Assignment}
 use Rattle.service.specs.declared.assignment.Outstanding.{Outstanding}
@@ -33,8 +36,8 @@ pub record ServiceView : Type 0 where
   pub asked : List (Request × Bool)
   -- the replies that came back to proxies, by the proxy and the number of the request
   pub answered : List ((ℕ × ℕ) × replies.Reply)
-  -- in which order: the proxy and the request's number, and whether that is its answer
-  pub order : List ((ℕ × ℕ) × Bool)
+  -- in which order: the proxy and the request's number, and whether it was asked or answered, and each moment that was handed in
+  pub order : List ((ℕ × ℕ) × Noted)
   -- which command was asked as which request
   pub assignments : List Assignment
   -- what proxies wait for
@@ -44,10 +47,10 @@ pub record ServiceView : Type 0 where
   pub replicas : ReplicasView
 
 -- a service is identified by what it has
-abbrev pub service_code : Coded ConnectionsView → Coded Request → Coded (replies.Reply) → Coded Assignment → Coded Outstanding → Coded Waiting → Coded EnsembleView → Coded ServiceView
-service_code connections request reply assignment outstanding waiting ensemble =
-    code_by ((((((((ConnectionsView × List (Request × Bool)) × List ((ℕ × ℕ) × replies.Reply)) × List ((ℕ × ℕ) × Bool)) × List Assignment) × List (Option Outstanding)) × List Waiting) × EnsembleView) × ℕ)
-    (coded× (coded× (coded× (coded× (coded× (coded× (coded× (coded× connections (coded_list (coded× request coded_bool))) (coded_list (coded× (coded× coded_ℕ coded_ℕ) reply))) (coded_list (coded× (coded× coded_ℕ coded_ℕ) coded_bool))) (coded_list assignment)) (coded_list (coded_option outstanding))) (coded_list waiting)) ensemble) coded_ℕ)
+abbrev pub service_code : Coded ConnectionsView → Coded Request → Coded (replies.Reply) → Coded Noted → Coded Assignment → Coded Outstanding → Coded Waiting → Coded EnsembleView → Coded ServiceView
+service_code connections request reply note assignment outstanding waiting ensemble =
+    code_by ((((((((ConnectionsView × List (Request × Bool)) × List ((ℕ × ℕ) × replies.Reply)) × List ((ℕ × ℕ) × Noted)) × List Assignment) × List (Option Outstanding)) × List Waiting) × EnsembleView) × ℕ)
+    (coded× (coded× (coded× (coded× (coded× (coded× (coded× (coded× connections (coded_list (coded× request coded_bool))) (coded_list (coded× (coded× coded_ℕ coded_ℕ) reply))) (coded_list (coded× (coded× coded_ℕ coded_ℕ) note))) (coded_list assignment)) (coded_list (coded_option outstanding))) (coded_list waiting)) ensemble) coded_ℕ)
     (λ v. ((((((((v.connections, v.asked), v.answered), v.order), v.assignments), v.waiting), v.line), v.replicas.ensemble), v.replicas.refused))
     (λ p. record { connections = p.0.0.0.0.0.0.0.0; asked = p.0.0.0.0.0.0.0.1; answered = p.0.0.0.0.0.0.1; order = p.0.0.0.0.0.1; assignments = p.0.0.0.0.1; waiting = p.0.0.0.1; line = p.0.0.1; replicas = record { ensemble = p.0.1; refused = p.1 } })
     (λ _. refl)
@@ -71,25 +74,27 @@ abbrev pub assigned_as : Assignment → ℕ × ℕ
 assigned_as a = (a.proxy, a.number)
 
 -- the requests that were asked, in order
-abbrev pub asked_keys : List ((ℕ × ℕ) × Bool) → List (ℕ × ℕ)
+abbrev pub asked_keys : List ((ℕ × ℕ) × Noted) → List (ℕ × ℕ)
 asked_keys [] = []
-asked_keys ((key, true) ∷ order) = asked_keys order
-asked_keys ((key, false) ∷ order) = key ∷ asked_keys order
+asked_keys ((key, noted.Asked) ∷ order) = key ∷ asked_keys order
+asked_keys ((key, noted.Answered) ∷ order) = asked_keys order
+asked_keys ((key, noted.Moment) ∷ order) = asked_keys order
 
 -- what had been asked and answered before the request at this place of them was asked
-abbrev pub before_ask : ℕ → List ((ℕ × ℕ) × Bool) → List ((ℕ × ℕ) × Bool)
+abbrev pub before_ask : ℕ → List ((ℕ × ℕ) × Noted) → List ((ℕ × ℕ) × Noted)
 before_ask i [] = []
-before_ask i ((key, true) ∷ order) = (key, true) ∷ before_ask i order
-before_ask zero ((key, false) ∷ order) = []
-before_ask (suc i) ((key, false) ∷ order) = (key, false) ∷ before_ask i order
+before_ask i ((key, noted.Answered) ∷ order) = (key, noted.Answered) ∷ before_ask i order
+before_ask i ((key, noted.Moment) ∷ order) = (key, noted.Moment) ∷ before_ask i order
+before_ask zero ((key, noted.Asked) ∷ order) = []
+before_ask (suc i) ((key, noted.Asked) ∷ order) = (key, noted.Asked) ∷ before_ask i order
 
 -- this command of the connection was asked as a request that was answered by then
-pub record IsAnsweredEarlier (assignments : List Assignment) (connection turn : ℕ) (order : List ((ℕ × ℕ) × Bool)) : Type 0 where
+pub record IsAnsweredEarlier (assignments : List Assignment) (connection turn : ℕ) (order : List ((ℕ × ℕ) × Noted)) : Type 0 where
   pub assignment : Assignment
   pub assigned : Contains assignments assignment
   pub of_connection : assignment.connection ≡ connection
   pub of_turn : assignment.turn ≡ turn
-  pub answered : Contains order ((assignment.proxy, assignment.number), true)
+  pub answered : Contains order ((assignment.proxy, assignment.number), noted.Answered)
 
 -- the command was taken from its connection, and was asked as the request
 pub record IsAssigned (v : ServiceView) (a : Assignment) : Type 0 where
@@ -115,20 +120,20 @@ pub record IsService (v : ServiceView) : Type 0 where
   -- a command is asked once
   pub once : (i j : ℕ) (a b : Assignment) → slice_get v.assignments i ≡ Some a → slice_get v.assignments j ≡ Some b → a.connection ≡ b.connection → a.turn ≡ b.turn → i ≡ j
   -- a reply that came back to a command is one to its request
-  pub replied : (e : CommandNumber × replies.Reply) → Contains v.connections.replied e → (a : Assignment) × Contains v.assignments a × (command_number_of a ≡ e.0) × Contains v.answered ((a.proxy, a.number), e.1) × Contains v.order ((a.proxy, a.number), true)
+  pub replied : (e : CommandNumber × replies.Reply) → Contains v.connections.replied e → (a : Assignment) × Contains v.assignments a × (command_number_of a ≡ e.0) × Contains v.answered ((a.proxy, a.number), e.1) × Contains v.order ((a.proxy, a.number), noted.Answered)
   pub ordered : asked_keys v.order ≡ map assigned_as v.assignments
   -- each earlier command of its connection was answered before a command was asked
   pub in_turn : (i : ℕ) (b : Assignment) → slice_get v.assignments i ≡ Some b → (turn : ℕ) → 1 ≤ turn → turn < b.turn → IsAnsweredEarlier v.assignments b.connection turn (before_ask i v.order)
   pub waits : (a : Assignment) → Waits v.waiting a → Contains v.assignments a
 
 -- the command of this number was asked as a request that was answered so, by then
-abbrev pub WasAnsweredBy : List Assignment → List ((ℕ × ℕ) × replies.Reply) → List ((ℕ × ℕ) × Bool) → ℕ → ℕ → replies.Reply → Type 0
-WasAnsweredBy assignments answered order connection turn reply = (a : Assignment) × Contains assignments a × (a.connection ≡ connection) × (a.turn ≡ turn) × Contains answered ((a.proxy, a.number), reply) × Contains order ((a.proxy, a.number), true)
+abbrev pub WasAnsweredBy : List Assignment → List ((ℕ × ℕ) × replies.Reply) → List ((ℕ × ℕ) × Noted) → ℕ → ℕ → replies.Reply → Type 0
+WasAnsweredBy assignments answered order connection turn reply = (a : Assignment) × Contains assignments a × (a.connection ≡ connection) × (a.turn ≡ turn) × Contains answered ((a.proxy, a.number), reply) × Contains order ((a.proxy, a.number), noted.Answered)
 
--- When just this had passed, so much had been asked and answered: what was asked had been heard, and what was given answers it.
-pub record WasMoment (order : List ((ℕ × ℕ) × Bool)) (assignments : List Assignment) (answered : List ((ℕ × ℕ) × replies.Reply)) (passed : List Passed) : Type 0 where
-  pub order_then : List ((ℕ × ℕ) × Bool)
-  pub later_order : List ((ℕ × ℕ) × Bool)
+-- When just this had passed, so much had been asked and answered: what was asked had been heard, and what was given answers it. The moments that the replicas had been handed had passed, and one that they were handed later is the last of these, or passed later.
+pub record WasMoment (order : List ((ℕ × ℕ) × Noted)) (assignments : List Assignment) (answered : List ((ℕ × ℕ) × replies.Reply)) (passed late : List Passed) : Type 0 where
+  pub order_then : List ((ℕ × ℕ) × Noted)
+  pub later_order : List ((ℕ × ℕ) × Noted)
   pub split_order : order ≡ order_then ++ later_order
   pub asked_then : List Assignment
   pub asked_later : List Assignment
@@ -136,14 +141,21 @@ pub record WasMoment (order : List ((ℕ × ℕ) × Bool)) (assignments : List A
   pub ordered : asked_keys order_then ≡ map assigned_as asked_then
   pub heard : (a : Assignment) → Contains asked_then a → (command : Command) × IsAsked (bytes_of_connection a.connection (heard_among passed)) a.turn command
   pub given : (connection : ℕ) → IsAnswered (WasAnsweredBy asked_then answered order_then connection) (bytes_of_connection connection (heard_among passed)) (bytes_of_connection connection (given_among passed))
+  pub moments : (moment : ℕ) → Contains (moments_in order_then) moment → Contains (moments_among passed) moment
+  pub later : (moment : ℕ) → Contains (moments_in later_order) moment → IsSince (moments_among passed) (moments_among late) moment
 
 -- each beginning of what passed was a moment
 abbrev pub HasMoments : ServiceView → Type 0
-HasMoments v = (early late : List Passed) → v.connections.passed ≡ early ++ late → WasMoment v.order v.assignments v.answered early
+HasMoments v = (early late : List Passed) → v.connections.passed ≡ early ++ late → WasMoment v.order v.assignments v.answered early late
 
--- the ensemble that asked and answered so is a world
+-- it is the last moment that passed
+abbrev pub IsPassedNow : List Passed → ℕ → Type 0
+IsPassedNow passed moment = latest_of (moments_among passed) ≡ Some moment
+
+-- these replicas and proxies, which asked and answered so, are a world
 pub record HasEnsemble (v : ServiceView) : Type 0 where
   pub ensemble : EnsembleView
+  pub these : ensemble ≡ v.replicas.ensemble
   pub world : IsEnsemble ensemble
   pub same_asked : ensemble.asked ≡ v.asked
   pub same_answered : ensemble.answered ≡ v.answered
@@ -160,6 +172,7 @@ pub record HasSameRequests (v now : ServiceView) : Type 0 where
   pub order : now.order ≡ v.order
   pub assignments : now.assignments ≡ v.assignments
   pub waiting : now.waiting ≡ v.waiting
+  pub replicas : now.replicas ≡ v.replicas
 
 -- A piece came of a connection that is here; where the call failed it may not have been looked at.
 abbrev pub Hears : ℕ → ℕ → List ℕ → ConnectionsView → ConnectionsView → Result Said Fault → Type 0
@@ -177,7 +190,7 @@ abbrev pub GivesOne : ConnectionsView → List Said → ConnectionsView → List
 GivesOne v said now said_now = (given : Said) × (said_now ≡ said ++ given ∷ []) × (now.given ≡ v.given ++ given_entry given ∷ []) × (now.passed ≡ v.passed ++ passed_entry given ∷ [])
 
 -- each of these was logged
-abbrev pub AreLogged : List Answer → List ((ℕ × ℕ) × replies.Reply) → List ((ℕ × ℕ) × Bool) → Type 0
+abbrev pub AreLogged : List Answer → List ((ℕ × ℕ) × replies.Reply) → List ((ℕ × ℕ) × Noted) → Type 0
 AreLogged answers log order = (a : Answer) → Contains answers a → Contains log (answer_entry a) × Contains order (order_entry a)
 
 -- if nothing more was refused the replicas can do nothing more at once

@@ -8,6 +8,8 @@ use Rattle.connections.specs.Connections.{ConnectionsView, AreBefore, AreReplied
 use Rattle.connections.specs.declared.connection.Ready.{Ready}
 use Rattle.connections.specs.Owed.{IsTakenAt, HasNoneToTake}
 use Rattle.connections.specs.Places.{is_here, place_in, HasSameOthers}
+use Rattle.ensemble.specs.declared.noted.Noted.TheVariants as noted
+use Rattle.ensemble.specs.Nodes.{size_of}
 use Rattle.ensemble.specs.Ensemble.{EnsembleView, IsLogged}
 use Rattle.service.specs.declared.assignment.Assignment.{Assignment}
 use Rattle.service.specs.declared.assignment.Outstanding.{Outstanding}
@@ -91,8 +93,9 @@ pub record IsAskedOf (at : Place) (proxy : ℕ) (v now : ConnectionsView) (e f :
   pub earlier : AreReplied v.replied at.number a.turn
   pub logged : IsLogged e.asked proxy a.number command quiet f.asked
   pub counted : e.refused ≤ f.refused
+  pub size : size_of f.nodes ≡ size_of e.nodes
   pub answered : f.answered ≡ e.answered
-  pub ordered : f.order ≡ e.order ++ ((proxy, a.number), false) ∷ []
+  pub ordered : f.order ≡ e.order ++ ((proxy, a.number), noted.Asked) ∷ []
   pub bytes : HasSameBytes v now
   pub ready : Ready
   pub there : IsTakenAt at v.table now.table ready

@@ -40,6 +40,7 @@ impl Model for Service {
     ghost use Rattle.connections.specs.contracts.connections.Connections as of_connections;
     ghost use Rattle.sessions.specs.contracts.request.Request as of_request;
     ghost use Rattle.proto.specs.contracts.reply.Reply as of_reply;
+    ghost use Rattle.ensemble.specs.contracts.noted.Noted as of_noted;
     ghost use Rattle.service.specs.contracts.assignment.Assignment as of_assignment;
     ghost use Rattle.service.specs.contracts.assignment.Outstanding as of_outstanding;
     ghost use Rattle.service.specs.contracts.note.Waiting as of_waiting;
@@ -49,7 +50,7 @@ impl Model for Service {
 
     ghost Value = { ServiceView };
 
-    ghost coded = { service_code of_connections.the_row.coded of_request.the_row.coded of_reply.the_row.coded of_assignment.the_row.coded of_outstanding.the_row.coded of_waiting.the_row.coded of_ensemble.the_row.coded };
+    ghost coded = { service_code of_connections.the_row.coded of_request.the_row.coded of_reply.the_row.coded of_noted.the_row.coded of_assignment.the_row.coded of_outstanding.the_row.coded of_waiting.the_row.coded of_ensemble.the_row.coded };
 
     ghost view = { λ s. record { connections = s.connections; asked = s.ensemble.asked; answered = s.ensemble.answered; order = s.ensemble.order; assignments = assigned s.assignments.items; waiting = s.pool; line = s.line.items; replicas = record { ensemble = s.ensemble; refused = s.refused + s.ensemble.refused } } };
 
@@ -65,6 +66,7 @@ impl Service {
     ghost use Rattle.connections.specs.History.{IsHistory};
     ghost use Rattle.connections.specs.declared.table.TheConstants.{MOST_PLACES};
     ghost use Rattle.service.specs.Service.{IsService, HasMoments, HasEnsemble, HasSameRequests, Hears};
+    ghost use Rattle.ensemble.specs.First.{AreAllUp};
     ghost use Rattle.service.specs.Steps.{NoneWaits};
     ghost use Rattle.service.specs.Owed.{Remembers, AllWait, IsFreeIn};
 
@@ -77,6 +79,7 @@ impl Service {
         ensures asked { IfOk result (λ s. s.asked ≡ []) }
         ensures answered { IfOk result (λ s. s.answered ≡ []) }
         ensures order { IfOk result (λ s. s.order ≡ []) }
+        ensures up { IfOk result (λ s. AreAllUp config.now.u config.now.clients s.replicas.ensemble.nodes) }
     {
         let pool = Pool::new(alloc, config.clients())?;
         let nodes = Nodes::new(alloc, config.u())?;

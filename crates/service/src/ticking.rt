@@ -1,6 +1,7 @@
 //! What is due after a tick.
 
 ghost use Rattle.std.specs.Prelude.{◌≡◌, ◌<◌};
+ghost use Rattle.ensemble.specs.Nodes.{size_of};
 ghost use Rattle.service.specs.Steps.{KeepsWaits};
 ghost use Rattle.service.specs.Owed.{KeepsOwed};
 
@@ -18,6 +19,7 @@ fn ask_again(alloc: Global, pool: &mut Pool, ensemble: &mut Ensemble, at: usize,
     ensures asked { ensemble.new.asked ≡ ensemble.old.asked }
     ensures answered { ensemble.new.answered ≡ ensemble.old.answered }
     ensures order { ensemble.new.order ≡ ensemble.old.order }
+    ensures size { size_of ensemble.new.nodes ≡ size_of ensemble.old.nodes }
 {
     if let Some(proxy) = pool.ask_again(at, seen) {
         ensemble.again(alloc, proxy);
@@ -39,6 +41,7 @@ fn tick_at(
     ensures asked { ensemble.new.asked ≡ ensemble.old.asked }
     ensures answered { ensemble.new.answered ≡ ensemble.old.answered }
     ensures order { ensemble.new.order ≡ ensemble.old.order }
+    ensures size { size_of ensemble.new.nodes ≡ size_of ensemble.old.nodes }
 {
     let urge = pool.tick(at, u, seen);
     if urge != Urge::Wait {
@@ -49,6 +52,7 @@ fn tick_at(
 
 impl Service {
     ghost use Rattle.std.specs.Prelude.{◌≡◌};
+    ghost use Rattle.ensemble.specs.Nodes.{size_of};
 
     /// Whether a node is down.
     pub(crate) fn is_any_down(&self) -> bool {
@@ -62,7 +66,8 @@ impl Service {
 
     /// Opens a node again if it is down and its pause has gone by.
     fn tick_node(&mut self, alloc: Global, at: usize)
-        ensures { self.new.connections ≡ self.old.connections }
+        ensures connections { self.new.connections ≡ self.old.connections }
+        ensures size { size_of self.new.replicas.ensemble.nodes ≡ size_of self.old.replicas.ensemble.nodes }
     {
         let replica = self.nodes.replica(at);
         let is_up = self.ensemble.is_up(replica);
@@ -75,7 +80,8 @@ impl Service {
 
     /// Tells the next verifier that the leader is suspected. They take turns, from the second one on.
     fn suspect(&mut self, alloc: Global)
-        ensures { self.new.connections ≡ self.old.connections }
+        ensures connections { self.new.connections ≡ self.old.connections }
+        ensures size { size_of self.new.replicas.ensemble.nodes ≡ size_of self.old.replicas.ensemble.nodes }
     {
         self.suspicions = self.suspicions.wrapping_add(1);
         let members = u64::from(2 * self.u + 1);
@@ -85,14 +91,16 @@ impl Service {
 
     /// What is due of the proxy at this place: whether the leader is suspected.
     fn tick_proxy(&mut self, alloc: Global, at: usize, seen: Seen) -> bool
-        ensures { self.new.connections ≡ self.old.connections }
+        ensures connections { self.new.connections ≡ self.old.connections }
+        ensures size { size_of self.new.replicas.ensemble.nodes ≡ size_of self.old.replicas.ensemble.nodes }
     {
         tick_at(alloc, &mut self.pool, &mut self.ensemble, at, self.u, seen)
     }
 
     /// What is due of all proxies: whether the leader is suspected.
     fn tick_proxies(&mut self, alloc: Global) -> bool
-        ensures { self.new.connections ≡ self.old.connections }
+        ensures connections { self.new.connections ≡ self.old.connections }
+        ensures size { size_of self.new.replicas.ensemble.nodes ≡ size_of self.old.replicas.ensemble.nodes }
     {
         let seen = self.ensemble.seen();
         let mut is_suspected = false;
@@ -108,7 +116,8 @@ impl Service {
     /// proxy that waits for long asks again, and then suspects the leader; a node that stopped is opened
     /// again. `work` is to come after it.
     pub fn tick(&mut self, alloc: Global)
-        ensures { self.new.connections ≡ self.old.connections }
+        ensures connections { self.new.connections ≡ self.old.connections }
+        ensures size { size_of self.new.replicas.ensemble.nodes ≡ size_of self.old.replicas.ensemble.nodes }
     {
         if self.tick_proxies(alloc) {
             self.suspect(alloc);

@@ -145,15 +145,18 @@ fn settle(
 }
 
 impl Service {
-    ghost use Rattle.std.specs.Prelude.{◌≡◌, ◌≤◌, ◌++◌, map, Contains};
+    ghost use Rattle.std.specs.Prelude.{◌≡◌, ◌≤◌, ◌++◌, ◌∷◌, [], map, Contains};
+    ghost use Rattle.connections.specs.History.{moment_as};
+    ghost use Rattle.ensemble.specs.Nodes.{size_of};
     ghost use Rattle.ensemble.specs.Ensemble.{answer_entry, order_entry};
-    ghost use Rattle.service.specs.Service.{Gives, AreLogged, RestsUnlessRefused, given_entry, passed_entry};
+    ghost use Rattle.service.specs.Service.{Gives, AreLogged, RestsUnlessRefused, IsPassedNow, given_entry, passed_entry};
 
     /// The first of the line asks its command, if a proxy is free: whether one was.
     fn assign(&mut self, alloc: Global, said: &mut Vec<Said>) -> bool
         ensures given { Gives self.old.connections said.old.items self.new.connections said.new.items }
         ensures heard { self.new.connections.heard ≡ self.old.connections.heard }
         ensures counted { self.old.replicas.refused ≤ self.new.replicas.refused }
+        ensures size { size_of self.new.replicas.ensemble.nodes ≡ size_of self.old.replicas.ensemble.nodes }
     {
         if said.reserve(1).is_err() {
             refuse(&mut self.refused);
@@ -193,6 +196,7 @@ impl Service {
         ensures given { Gives self.old.connections said.old.items self.new.connections said.new.items }
         ensures heard { self.new.connections.heard ≡ self.old.connections.heard }
         ensures counted { self.old.replicas.refused ≤ self.new.replicas.refused }
+        ensures size { size_of self.new.replicas.ensemble.nodes ≡ size_of self.old.replicas.ensemble.nodes }
     {
         for _ in 0..self.pool.count() {
             if !self.assign(alloc, said) {
@@ -256,9 +260,11 @@ impl Service {
         alloc: Global,
         moment: u32,
     ) -> Vec<Answer>
+        requires { IsPassedNow self.old.connections.passed moment }
         ensures logged { AreLogged result.items self.new.answered self.new.order }
         ensures connections { self.new.connections ≡ self.old.connections }
         ensures counted { self.old.replicas.refused ≤ self.new.replicas.refused }
+        ensures size { size_of self.new.replicas.ensemble.nodes ≡ size_of self.old.replicas.ensemble.nodes }
         ensures rest { RestsUnlessRefused self.old.replicas self.new.replicas }
     {
         self.ensemble.work(rt, clock, alloc, moment)
@@ -282,9 +288,11 @@ impl Service {
         moment: u32,
         said: &mut Vec<Said>,
     ) -> bool
+        requires { IsPassedNow self.old.connections.passed moment }
         ensures given { Gives self.old.connections said.old.items self.new.connections said.new.items }
         ensures heard { self.new.connections.heard ≡ self.old.connections.heard }
         ensures counted { self.old.replicas.refused ≤ self.new.replicas.refused }
+        ensures size { size_of self.new.replicas.ensemble.nodes ≡ size_of self.old.replicas.ensemble.nodes }
         ensures rest { RestsUnlessRefused self.old.replicas self.new.replicas }
     {
         if !has_room(said, &mut self.line, self.pool.count()) {
@@ -296,6 +304,17 @@ impl Service {
         let goes_on = !answers.is_empty();
         self.answer_all(alloc, answers, said);
         goes_on && !self.line.is_empty()
+    }
+
+    /// From now on it is this moment, in seconds.
+    fn note(&mut self, alloc: Global, moment: u32)
+        ensures passed { self.new.connections.passed ≡ self.old.connections.passed ++ moment_as moment ∷ [] }
+        ensures heard { self.new.connections.heard ≡ self.old.connections.heard }
+        ensures given { self.new.connections.given ≡ self.old.connections.given }
+        ensures replicas { self.new.replicas ≡ self.old.replicas }
+    {
+        self.connections.note(alloc, moment);
+        self.connections.always();
     }
 
     /// Asks what waits, carries it out, and gives what was answered, at this moment in seconds. A reply may be
@@ -310,12 +329,14 @@ impl Service {
         moment: u32,
     ) -> Vec<Said>
         ensures given { self.new.connections.given ≡ self.old.connections.given ++ map given_entry result.items }
-        ensures passed { self.new.connections.passed ≡ self.old.connections.passed ++ map passed_entry result.items }
+        ensures passed { self.new.connections.passed ≡ (self.old.connections.passed ++ moment_as moment ∷ []) ++ map passed_entry result.items }
         ensures heard { self.new.connections.heard ≡ self.old.connections.heard }
         ensures counted { self.old.replicas.refused ≤ self.new.replicas.refused }
+        ensures size { size_of self.new.replicas.ensemble.nodes ≡ size_of self.old.replicas.ensemble.nodes }
         ensures rest { RestsUnlessRefused self.old.replicas self.new.replicas }
     {
         let mut said = Vec::new(alloc);
+        self.note(alloc, moment);
         for _ in 0..MOST_ROUNDS {
             if !self.round(rt, clock, alloc, moment, &mut said) {
                 break;

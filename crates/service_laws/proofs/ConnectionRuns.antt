@@ -1,25 +1,27 @@
 -- What a run makes for each connection, whose commands proxies ask.
 use Rattle.std.proofs.Common.{◌≡◌, ◌⊎◌, ℕ, zero, suc, ◌+◌, ◌≤◌, inl, inr, Bool, true, false, List, [], ◌∷◌, ◌++◌, map, length, take, drop, Some, refl, sym, ap, ◌∙◌, subst, arith, append_assoc}
-use Rattle.std.specs.Prelude.{slice_get, flat_map, Contains, ◌==◌}
+use Rattle.std.specs.Prelude.{slice_get, flat_map, Contains, max, ◌==◌}
 use Rattle.std.proofs.lemmas.Bool.{eqb-true, eq-eqb}
+use Rattle.std.proofs.lemmas.List.Elements.{Contains-append_cases}
 use Rattle.std.proofs.Math.Seq.{take-append_seam}
 use Rattle.proto.specs.declared.command.Command.{Command}
 use Rattle.item_steps.specs.Steps.{steps, reply}
 use Rattle.item_steps.specs.declared.step.Answer.{Answer}
 use Rattle.sessions.specs.Fresh.{next_number}
 use Rattle.states.specs.State.{StateView, initial_state}
+use Rattle.states.specs.Followed.{moment_of}
 use Rattle.executor.specs.declared.answered.Answered.{Answered}
 use Rattle.run_laws.specs.Run.{Executed, IsOver, IsRunFrom}
-use Rattle.run_laws.proofs.Elements.{in_none, first_or_other}
+use Rattle.run_laws.proofs.Elements.{in_head, in_tail, in_none, first_or_other}
 use Rattle.run_laws.proofs.Replies.{runs_next, round_one}
-use Rattle.memcached_spec.specs.Server.{Made, Line, Do, Leads, IsDone, uniques}
+use Rattle.memcached_spec.specs.Server.{Made, Line, Tick, Do, Leads, IsDone, uniques}
 use Rattle.memcached_spec.specs.Order.{replies_from}
 use Rattle.linear_laws.specs.Laws.{seen, last_of}
 use Rattle.linear_laws.proofs.Flat.{leads_on}
 use Rattle.linear_laws.proofs.Fresh.{all_fresh}
 use Rattle.linear_laws.proofs.Rounds.{RoundMade, RanOne, steps_made, answers_made, uniques-append, count}
 use Rattle.linear_laws.proofs.Runs.{IsMadeOf, steps_made-append, answers_made-append, as_many, drop_seam}
-use Rattle.service_laws.proofs.Renamed.{renamed_line, leads_renamed, uniques_renamed, did_run, IsOnly, IsNone, one_renamed, none_renamed}
+use Rattle.service_laws.proofs.Renamed.{renamed_line, leads_renamed, uniques_renamed, did_run, IsOnly, IsNone, one_renamed, none_renamed, tick_renamed}
 
 -- the connection whose command a proxy asks next
 abbrev pub owner_in : (ℕ → ℕ → ℕ) → StateView → ℕ → ℕ
@@ -125,6 +127,9 @@ module _ (s : StateView) (e : Executed) (over : IsOver s e) (first : List Line) 
 
 -- ---- a run
 
+pub max_is : (a b : ℕ) → (max a b ≡ a) ⊎ ((max a b ≡ b) × (a ≤ b))
+max_is a b = grind (arith)
+
 module _ (owner turn : ℕ → ℕ → ℕ) where
   -- the lines of the run, each of the connection whose command it is a step of
   unfoldable pub lines_of : (s : StateView) (run : List Executed) (lines : List Line) → IsMadeOf s run lines → List Line
@@ -153,6 +158,24 @@ module _ (owner turn : ℕ → ℕ → ℕ) where
     leads = lines_lead initial_state run lines made;
     fresh = λ u. subst (λ (us : List ℕ). count u us ≤ 1) (sym (lines_uniques initial_state run lines made)) (all_fresh initial_state run lines follows made u);
   }
+
+  -- it becomes as late as the rounds' moments
+  pub ticks_of : (P : ℕ → Type 0) (s : StateView) (run : List Executed) (lines : List Line) (made : IsMadeOf s run lines) → IsRunFrom s run → ((r : Executed) → Contains run r → P r.batch.moment) → (s.moment ≡ 0) ⊎ P s.moment
+      → (m : ℕ) → Contains (lines_of s run lines made) (Tick m) → P m
+  unfolding lines_of
+  ticks_of P s [] lines made follows each before m c = absurd (in_none (Tick m) c)
+  ticks_of P s (e ∷ run) lines made follows each before m c =
+      let now : P (moment_of s e.batch) = elim (max_is e.batch.moment s.moment) [
+        | inl is ↦ subst P (sym is) (each e (in_head e run))
+        | inr (is, le) ↦ elim before [
+          | inl none ↦ let same : e.batch.moment ≡ moment_of s e.batch = omega (arith, none, le, is) in subst P same (each e (in_head e run))
+          | inr was ↦ subst P (sym is) was
+        ]
+      ] in
+      elim (Contains-append_cases (map (renamed_line (owner_in owner s)) made.0) (lines_of e.new run made.1 made.4) (Tick m) c) [
+        | inl here ↦ subst P (sym (made.3.ticks m (tick_renamed (owner_in owner s) made.0 m here))) now
+        | inr there ↦ ticks_of P e.new run made.1 made.4 follows.1 (λ r k. each r (in_tail e r run k)) (inr (subst P (sym follows.0.round.moment) now)) m there
+      ]
 
   -- the lines of a longer run begin with lines of the run
   made_front : (s : StateView) (run more : List Executed) (lines : List Line) (made : IsMadeOf s (run ++ more) lines)

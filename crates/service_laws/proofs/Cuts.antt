@@ -1,5 +1,5 @@
 -- All connections have one order, of which each moment is a cut.
-use Rattle.std.proofs.Common.{◌≡◌, ⊎_elim, ℕ, zero, suc, ◌<◌, ◌≤◌, Bool, true, false, List, [], ◌∷◌, ◌++◌, map, length, take, Some, refl, sym, ap, ◌∙◌, subst, arith}
+use Rattle.std.proofs.Common.{◌≡◌, ⊎_elim, ℕ, ◌≤◌, List, [], ◌++◌, map, length, take, Some, sym, ap, ◌∙◌, subst, arith}
 use Rattle.std.specs.Prelude.{Contains, slice_get}
 use Rattle.std.proofs.lemmas.List.Concat.{flat_map-append}
 use Rattle.std.proofs.lemmas.List.Elements.{Contains-append_left}
@@ -10,52 +10,38 @@ use Rattle.memcached_spec.specs.Asked.{IsAsked}
 use Rattle.memcached_spec.specs.Fed.{fed_by, fed_to}
 use Rattle.memcached_spec.specs.Server.{Line}
 use Rattle.memcached_spec.proofs.Longer.{asked_longer}
-use Rattle.states.specs.State.{StateView, initial_state}
+use Rattle.states.specs.State.{initial_state}
 use Rattle.executor.specs.declared.answered.Answered.{Answered}
 use Rattle.executor.proofs.RoundLemmas.{get_map}
 use Rattle.client.proofs.TakenLemmas.{texts_imply}
 use Rattle.events.specs.declared.event.Event.{Event}
 use Rattle.run_laws.specs.Run.{Executed}
-use Rattle.run_laws.proofs.Elements.{in_head, in_tail, in_none, first_or_other}
 use Rattle.server_laws.specs.Laws.{WorldsAreOfOneServer}
+use Rattle.server_laws.specs.InTime.{WasCut, WorldsAreInTime}
 use Rattle.server_laws.specs.Run.{IsRun}
-use Rattle.server_laws.specs.Saved.{IsMet, DigestsAreDistinct}
-use Rattle.server_laws.specs.Served.{WasAnswered}
+use Rattle.server_laws.specs.Saved.{IsMet}
 use Rattle.connections.specs.Connections.{bytes_in, bytes_of_connection, IsConnections}
-use Rattle.connections.specs.History.{Passed, IsHistory, heard_among, given_among}
+use Rattle.connections.specs.History.{Passed, IsHistory, heard_among, given_among, moments_among}
+use Rattle.connections.proofs.HistoryLemmas.{heard_both}
 use Rattle.connections.proofs.TakeLemmas.{contains_at}
+use Rattle.ensemble.specs.declared.noted.Noted.{Noted}
+use Rattle.ensemble.specs.Moments.{moments_in}
 use Rattle.ensemble.specs.Ensemble.{IsPast}
+use Rattle.ensemble.proofs.Moments.{cut_moments}
 use Rattle.linear_laws.proofs.Runs.{IsMadeOf, made_of_run}
 use Rattle.service.specs.declared.assignment.Assignment.{Assignment}
-use Rattle.service.specs.Service.{ServiceView, IsService, HasEnsemble, HasMoments, WasMoment, WasAnsweredBy, asked_keys, assigned_as}
-use Rattle.service.proofs.MomentLemmas.{history_of}
+use Rattle.service.specs.Service.{ServiceView, IsService, HasEnsemble, HasMoments, WasMoment, WasAnsweredBy, assigned_as}
+use Rattle.service.proofs.MomentLemmas.{history_of, handed_of}
 use Rattle.service_laws.specs.Serving.{IsServing, WasAnsweredFor}
 use Rattle.service_laws.specs.Orders.{RanAt, RanInTurn, IsConnectionOrder, AreCuts, IsLinearizableService}
 use Rattle.service_laws.proofs.AskedLemmas.{place_of}
 use Rattle.service_laws.proofs.ServingLemmas.{is_assignment, is_assigned, for_one, is_served, is_serving}
 use Rattle.service_laws.proofs.Past.{RunThere, take_front, in_front, front_or_behind, has_run_in_turn}
+use Rattle.service_laws.specs.InTime.{IsInTime}
 use Rattle.service_laws.proofs.InTurn.{are_in_turn}
+use Rattle.service_laws.proofs.InTime.{asked_in, are_in_time}
 use Rattle.service_laws.proofs.ConnectionRuns.{lines_of, lines_begin}
 use Rattle.service_laws.proofs.Turns.{IsRunOf, owner, turn_of_request, same_asked, order_of}
-
--- ---- lists
-
--- what was heard at first comes first
-heard_first : (early late : List Passed) → heard_among (early ++ late) ≡ heard_among early ++ heard_among late
-heard_first [] late = refl
-heard_first (((n, true), bytes) ∷ early) late = heard_first early late
-heard_first (((n, false), bytes) ∷ early) late = ap (λ (log : List (ℕ × List ℕ)). (n, bytes) ∷ log) (heard_first early late)
-
-asked_in : (order : List ((ℕ × ℕ) × Bool)) (key : ℕ × ℕ) → Contains order (key, false) → Contains (asked_keys order) key
-asked_in [] key c = absurd (in_none (key, false) c)
-asked_in ((k, true) ∷ order) key c = ⊎_elim
-    (λ (same : ◌≡◌ {A = (ℕ × ℕ) × Bool} (k, true) (key, false)). absurd (let kinds : true ≡ false = ap (λ (x : (ℕ × ℕ) × Bool). x.1) same in cc kinds))
-    (λ (later : Contains order (key, false)). asked_in order key later)
-    (first_or_other (k, true) (key, false) order c)
-asked_in ((k, false) ∷ order) key c = ⊎_elim
-    (λ (same : ◌≡◌ {A = (ℕ × ℕ) × Bool} (k, false) (key, false)). subst (Contains (k ∷ asked_keys order)) (ap (λ (x : (ℕ × ℕ) × Bool). x.0) same) (in_head k (asked_keys order)))
-    (λ (later : Contains order (key, false)). in_tail k key (asked_keys order) (asked_in order key later))
-    (first_or_other (k, false) (key, false) order c)
 
 -- ---- a run that a longer one begins with
 
@@ -79,9 +65,10 @@ module _ (v : ServiceView) (talks : IsConnections v.connections) (logs : IsHisto
 
   module _ (run : List Executed) (is_run : IsRun (IsMet over.world.through.worlds) over.world.events over.world.now run) where
     -- now
-    run_of_now : IsRunOf v.connections.heard v.connections.given v.assignments (IsMet over.world.through.worlds) over.world.events over.world.now run
-    run_of_now = record {
+    run_of_now : HasMoments v → IsRunOf v.connections.heard v.connections.given (moments_among v.connections.passed) v.assignments (IsMet over.world.through.worlds) over.world.events over.world.now run
+    run_of_now moments = record {
       is_run = is_run;
+      moments = λ r c. handed_of v moments r.batch.moment (subst (λ (o : List ((ℕ × ℕ) × Noted)). Contains (moments_in o) r.batch.moment) over.same_order (cut_moments over.ensemble.order over.world.events over.world.cuts r.batch.moment (is_run.moments r c)));
       once = ok.once;
       for_one = for_one v talks ok over;
       from_one = from_one;
@@ -95,13 +82,13 @@ module _ (v : ServiceView) (talks : IsConnections v.connections) (logs : IsHisto
     }
 
     -- at an earlier moment
-    module _ (early late : List Passed) (split : v.connections.passed ≡ early ++ late) (m : WasMoment v.order v.assignments v.answered early) (y : IsPast over.world.events over.world.through.worlds m.order_then)
+    module _ (early late : List Passed) (split : v.connections.passed ≡ early ++ late) (m : WasMoment v.order v.assignments v.answered early late) (y : IsPast over.world.events over.world.through.worlds m.order_then)
         (first more : List Executed) (is_first : IsRun (IsMet over.world.through.worlds) y.before y.now first) (extends : run ≡ first ++ more) where
       -- its bytes are a beginning of those of now
       longer : (c number : ℕ) (command : Command) → IsAsked (bytes_of_connection c (heard_among early)) number command → IsAsked (bytes_of_connection c v.connections.heard) number command
       longer c number command is =
           let all : bytes_of_connection c (heard_among early) ++ bytes_of_connection c (heard_among late) ≡ bytes_of_connection c v.connections.heard =
-          sym (flat_map-append (bytes_in c) (heard_among early) (heard_among late)) ∙ ap (bytes_of_connection c) (sym (heard_first early late) ∙ (ap heard_among (sym split) ∙ logs.heard)) in
+          sym (flat_map-append (bytes_in c) (heard_among early) (heard_among late)) ∙ ap (bytes_of_connection c) (sym (heard_both early late) ∙ (ap heard_among (sym split) ∙ logs.heard)) in
           subst (λ (bytes : List ℕ). IsAsked bytes number command) all (asked_longer (bytes_of_connection c (heard_among early)) (bytes_of_connection c (heard_among late)) number command is)
 
       fed_longer : (proxy number : ℕ) (command : Command) → IsAsked (fed_to proxy y.before) number command → IsAsked (fed_to proxy over.world.events) number command
@@ -138,9 +125,10 @@ module _ (v : ServiceView) (talks : IsConnections v.connections) (logs : IsHisto
           let one = is_run.once early_one.place late_one.place early_one.answered late_one.answered (record { executed = early_one.given.executed; there = there; given = early_one.given.given }) late_one.given (early_one.client_is ∙ sym late_one.client_is) (early_one.number_is ∙ sym late_one.number_is) in
           (a, in_all a was.1, was.2, was.3, record { place = early_one.place; answered = early_one.answered; given = early_one.given; client_is = early_one.client_is; number_is = early_one.number_is; reply_is = ap (λ (x : Answered). x.reply) one.1 ∙ late_one.reply_is })
 
-      run_of_then : IsRunOf (heard_among early) (given_among early) v.assignments (IsMet over.world.through.worlds) y.before y.now first
+      run_of_then : IsRunOf (heard_among early) (given_among early) (moments_among early) v.assignments (IsMet over.world.through.worlds) y.before y.now first
       run_of_then = record {
         is_run = is_first;
+        moments = λ r c. m.moments r.batch.moment (y.moments r.batch.moment (is_first.moments r c));
         once = ok.once;
         for_one = for_one v talks ok over;
         from_one = from_one;
@@ -155,7 +143,7 @@ module _ (v : ServiceView) (talks : IsConnections v.connections) (logs : IsHisto
       abbrev all_lines : List Line
       all_lines = lines_of (owner v.assignments) (turn_of_request v.assignments) initial_state run made.0 made.1
 
-      cut : (early late : List Passed) → v.connections.passed ≡ early ++ late → (before after : List Line) × (all_lines ≡ before ++ after) × IsConnectionOrder (heard_among early) (given_among early) before
+      cut : (early late : List Passed) → v.connections.passed ≡ early ++ late → (before after : List Line) × (all_lines ≡ before ++ after) × IsConnectionOrder (heard_among early) (given_among early) (moments_among early) before
       cut early late split =
           let m = moments early late split in
           let y = over.world.past m.order_then m.later_order (over.same_order ∙ m.split_order) in
@@ -167,18 +155,19 @@ module _ (v : ServiceView) (talks : IsConnections v.connections) (logs : IsHisto
             lines_of (owner v.assignments) (turn_of_request v.assignments) initial_state r.0 lines.0 lines.1,
             lines.2,
             lines.3,
-            order_of (heard_among early) (given_among early) v.assignments (IsMet over.world.through.worlds) y.before y.now r.0 (run_of_then early late split m y r.0 r.2.0 is r.2.1) turns lines.0 lines.1,
+            order_of (heard_among early) (given_among early) (moments_among early) v.assignments (IsMet over.world.through.worlds) y.before y.now r.0 (run_of_then early late split m y r.0 r.2.0 is r.2.1) turns lines.0 lines.1,
           )
 
-      has_order : (lines : List Line) × IsConnectionOrder v.connections.heard v.connections.given lines × AreCuts v.connections.passed lines
-      has_order = (
+      has_order : (cut : (r : Executed) → Contains run r → WasCut over.world.events r.batch) → (lines : List Line) × IsConnectionOrder v.connections.heard v.connections.given (moments_among v.connections.passed) lines × AreCuts v.connections.passed lines × IsInTime v lines
+      has_order in_time = (
         all_lines,
-        order_of v.connections.heard v.connections.given v.assignments (IsMet over.world.through.worlds) over.world.events over.world.now run run_of_now in_turn made.0 made.1,
+        order_of v.connections.heard v.connections.given (moments_among v.connections.passed) v.assignments (IsMet over.world.through.worlds) over.world.events over.world.now run (run_of_now moments) in_turn made.0 made.1,
         cut,
+        are_in_time v talks ok over moments run (run_of_now moments) in_turn in_time made.0 made.1,
       )
 
-pub linearizable : (v : ServiceView) → IsConnections v.connections → IsHistory (history_of v.connections) → HasMoments v → IsService v → HasEnsemble v → WorldsAreOfOneServer → IsLinearizableService v
-linearizable v talks logs moments ok some_world law =
+pub linearizable : (v : ServiceView) → IsConnections v.connections → IsHistory (history_of v.connections) → HasMoments v → IsService v → HasEnsemble v → WorldsAreOfOneServer → WorldsAreInTime → IsLinearizableService v
+linearizable v talks logs moments ok some_world law in_time =
     let serving : IsServing v = is_serving v talks ok some_world law in
     record {
       serving = serving;
@@ -186,6 +175,6 @@ linearizable v talks logs moments ok some_world law =
       one_order = λ over distinct.
           let w = over.world in
           let in_turn = are_in_turn v talks ok over in
-          let run = has_run_in_turn law w.config w.events w.now w.through v.assignments distinct in_turn in
-          has_order v talks logs ok over run.0 run.1 moments run.2 run.3;
+          let run = has_run_in_turn in_time w.config w.events w.now w.through v.assignments distinct in_turn in
+          has_order v talks logs ok over run.0 run.1.is_run moments run.2 run.3 run.1.cut;
     }

@@ -6,5 +6,6 @@ pub mod ConnectionRuns
 pub mod Turns
 pub mod Past
 pub mod InTurn
+pub mod InTime
 pub mod Cuts
 pub mod ReplicaLemmas

@@ -17,8 +17,8 @@ use Rattle.worlds.specs.Laws.{IsReached}
 use Rattle.run_laws.specs.Run.{Executed, IsOver, IsRunFrom, Extends}
 use Rattle.run_laws.proofs.Replies.{runs_next}
 use Rattle.server_laws.specs.Saved.{IsMet, DigestsAreDistinct}
-use Rattle.server_laws.specs.Run.{IsRun, RunsGrow, IsOneServer}
-use Rattle.server_laws.specs.Laws.{WorldsAreOfOneServer}
+use Rattle.server_laws.specs.Run.{IsRun}
+use Rattle.server_laws.specs.InTime.{IsRunInTime, RunsGrowInTime, IsOneServerInTime, WorldsAreInTime}
 use Rattle.connections.proofs.TakeLemmas.{contains_at}
 use Rattle.service.specs.declared.assignment.Assignment.{Assignment}
 use Rattle.linear_laws.proofs.Rounds.{RoundMade, runner_in}
@@ -33,33 +33,33 @@ extends_on a b c x y = (x.0 ++ y.0, y.1 ∙ (ap (λ (r : List Executed). r ++ y.
 abbrev pub RunThere : (StateView → Type 0) → List Event → List Event → List WorldView → List Executed → Type 0
 RunThere met past es worlds later = (k : ℕ) (x : WorldView) → slice_get worlds k ≡ Some x → (r : List Executed) × IsRun met (past ++ take k es) x r × Extends r later
 
-runs : (met : StateView → Type 0) (past : List Event) (run : List Executed) (w : WorldView) (es : List Event) (xs : List WorldView) → IsRun met past w run → RunsGrow met past run es xs
-    → (later : List Executed) × IsRun met (past ++ es) (last_world w xs) later × Extends run later × RunThere met past es (w ∷ xs) later
+runs : (met : StateView → Type 0) (past : List Event) (run : List Executed) (w : WorldView) (es : List Event) (xs : List WorldView) → IsRunInTime met past w run → RunsGrowInTime met past run es xs
+    → (later : List Executed) × IsRunInTime met (past ++ es) (last_world w xs) later × Extends run later × RunThere met past es (w ∷ xs) later
 runs met past run w [] [] is grows = (
   run,
-  subst (λ (all : List Event). IsRun met all w run) (sym (append-nil past)) is,
+  subst (λ (all : List Event). IsRunInTime met all w run) (sym (append-nil past)) is,
   ([], sym (append-nil run)),
   λ k x at. here k x at,
 )
   where
     here : (k : ℕ) (x : WorldView) → slice_get (w ∷ []) k ≡ Some x → (r : List Executed) × IsRun met (past ++ take k []) x r × Extends r run
-    here zero x at = let same : w ≡ x = cc at in (run, subst (λ (y : WorldView). IsRun met (past ++ []) y run) same (subst (λ (all : List Event). IsRun met all w run) (sym (append-nil past)) is), ([], sym (append-nil run)))
+    here zero x at = let same : w ≡ x = cc at in (run, subst (λ (y : WorldView). IsRun met (past ++ []) y run) same (subst (λ (all : List Event). IsRun met all w run) (sym (append-nil past)) is.is_run), ([], sym (append-nil run)))
     here (suc k) x at = absurd (cc at)
 runs met past run w [] (x ∷ xs) is grows = absurd grows
 runs met past run w (e ∷ es) [] is grows = absurd grows
 runs met past run w (e ∷ es) (x ∷ xs) is grows = by (runs met (past ++ e ∷ []) grows.0 x es xs grows.2 grows.3)
   where
-    by : (later : List Executed) × IsRun met ((past ++ e ∷ []) ++ es) (last_world x xs) later × Extends grows.0 later × RunThere met (past ++ e ∷ []) es (x ∷ xs) later
-        → (later : List Executed) × IsRun met (past ++ e ∷ es) (last_world x xs) later × Extends run later × RunThere met past (e ∷ es) (w ∷ x ∷ xs) later
+    by : (later : List Executed) × IsRunInTime met ((past ++ e ∷ []) ++ es) (last_world x xs) later × Extends grows.0 later × RunThere met (past ++ e ∷ []) es (x ∷ xs) later
+        → (later : List Executed) × IsRunInTime met (past ++ e ∷ es) (last_world x xs) later × Extends run later × RunThere met past (e ∷ es) (w ∷ x ∷ xs) later
     by (later, is_later, extends, there) = (
       later,
-      subst (λ (all : List Event). IsRun met all (last_world x xs) later) (append_assoc past (e ∷ []) es) is_later,
+      subst (λ (all : List Event). IsRunInTime met all (last_world x xs) later) (append_assoc past (e ∷ []) es) is_later,
       extends_on run grows.0 later grows.1 extends,
       λ k y at. at_each k y at,
     )
       where
         at_each : (k : ℕ) (y : WorldView) → slice_get (w ∷ x ∷ xs) k ≡ Some y → (r : List Executed) × IsRun met (past ++ take k (e ∷ es)) y r × Extends r later
-        at_each zero y at = let same : w ≡ y = cc at in (run, subst (λ (z : WorldView). IsRun met (past ++ []) z run) same (subst (λ (all : List Event). IsRun met all w run) (sym (append-nil past)) is), extends_on run grows.0 later grows.1 extends)
+        at_each zero y at = let same : w ≡ y = cc at in (run, subst (λ (z : WorldView). IsRun met (past ++ []) z run) same (subst (λ (all : List Event). IsRun met all w run) (sym (append-nil past)) is.is_run), extends_on run grows.0 later grows.1 extends)
         at_each (suc k) y at = let r = there k y at in (r.0, subst (λ (all : List Event). IsRun met all y r.0) (append_assoc past (e ∷ []) (take k es)) r.1, r.2)
 
 pub take_front : {X : Type 0} (xs ys : List X) → take (length xs) (xs ++ ys) ≡ xs
@@ -115,14 +115,15 @@ module _ (met : StateView → Type 0) (events : List Event) (worlds : List World
         | inr late ↦ (y.0, y.1, y.2, y.3, was.place, omega (arith, within, late), (was.answered, record { executed = was.given.executed; there = was_there; given = was.given.given }, was.client_is, was.number_is))
       ]
 
-run_in_turn : (events : List Event) (worlds : List WorldView) (w : WorldView) (assignments : List Assignment) → IsOneServer events worlds → EndsWith worlds w → AreAskedInTurn events worlds assignments → (run : List Executed) × IsRun (IsMet worlds) events w run × RanInTurn run assignments × RunThere (IsMet worlds) [] events worlds run
+run_in_turn : (events : List Event) (worlds : List WorldView) (w : WorldView) (assignments : List Assignment) → IsOneServerInTime events worlds → EndsWith worlds w → AreAskedInTurn events worlds assignments
+    → (run : List Executed) × IsRunInTime (IsMet worlds) events w run × RanInTurn run assignments × RunThere (IsMet worlds) [] events worlds run
 run_in_turn events [] w assignments shows ends asked = absurd shows
 run_in_turn events (first ∷ later) w assignments shows ends asked =
     let last = runs (IsMet (first ∷ later)) [] shows.0 first events later shows.1 shows.2 in
-    let is : IsRun (IsMet (first ∷ later)) events w last.0 = subst (λ (x : WorldView). IsRun (IsMet (first ∷ later)) events x last.0) ends last.1 in
-    (last.0, is, ran_in_turn (IsMet (first ∷ later)) events (first ∷ later) w last.0 is last.3 assignments asked, last.3)
+    let is : IsRunInTime (IsMet (first ∷ later)) events w last.0 = subst (λ (x : WorldView). IsRunInTime (IsMet (first ∷ later)) events x last.0) ends last.1 in
+    (last.0, is, ran_in_turn (IsMet (first ∷ later)) events (first ∷ later) w last.0 is.is_run last.3 assignments asked, last.3)
 
 -- the world that events lead to has a run in which commands that were asked in turn are executed in turn; it goes on where those of earlier worlds end
-pub has_run_in_turn : WorldsAreOfOneServer → (c : ConfigView) (events : List Event) (w : WorldView) (through : IsReached c events w) (assignments : List Assignment) → DigestsAreDistinct through.worlds → AreAskedInTurn events through.worlds assignments
-    → (run : List Executed) × IsRun (IsMet through.worlds) events w run × RanInTurn run assignments × RunThere (IsMet through.worlds) [] events through.worlds run
+pub has_run_in_turn : WorldsAreInTime → (c : ConfigView) (events : List Event) (w : WorldView) (through : IsReached c events w) (assignments : List Assignment) → DigestsAreDistinct through.worlds → AreAskedInTurn events through.worlds assignments
+    → (run : List Executed) × IsRunInTime (IsMet through.worlds) events w run × RanInTurn run assignments × RunThere (IsMet through.worlds) [] events through.worlds run
 has_run_in_turn law c events w through assignments distinct asked = run_in_turn events through.worlds w assignments (law c events through.worlds through.reached distinct) through.ends asked

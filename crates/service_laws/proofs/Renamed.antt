@@ -66,3 +66,15 @@ module _ (f : ℕ → ℕ) (c : ℕ) where
     none_renamed (Do x ∷ lines) none =
         ap (λ (b : Bool). map g (if b then record x { client = f x.client } ∷ made_for c (map (renamed_line f) lines) else made_for c (map (renamed_line f) lines))) (none x (in_head (Do x) lines))
         ∙ none_renamed lines (λ d i. none d (in_tail (Do x) (Do d) lines i))
+
+-- no moment is renamed
+pub tick_renamed : (f : ℕ → ℕ) (lines : List Line) (m : ℕ) → Contains (map (renamed_line f) lines) (Tick m) → Contains lines (Tick m)
+tick_renamed f [] m c = absurd (in_none (Tick m) c)
+tick_renamed f (Tick n ∷ lines) m c = elim (first_or_other (Tick n) (Tick m) (map (renamed_line f) lines) c) [
+  | inl same ↦ subst (λ (l : Line). Contains (Tick n ∷ lines) l) same (in_head (Tick n) lines)
+  | inr later ↦ in_tail (Tick n) (Tick m) lines (tick_renamed f lines m later)
+]
+tick_renamed f (Do d ∷ lines) m c = elim (first_or_other (Do (record d { client = f d.client })) (Tick m) (map (renamed_line f) lines) c) [
+  | inl same ↦ absurd (cc same)
+  | inr later ↦ in_tail (Do d) (Tick m) lines (tick_renamed f lines m later)
+]

@@ -1,5 +1,5 @@
 -- The commands of each connection are executed in turn.
-use Rattle.std.proofs.Common.{◌≡◌, ◌⊎◌, ℕ, zero, suc, ◌+◌, ◌-◌, ◌<◌, ◌≤◌, inl, inr, ⊎_elim, Bool, true, false, List, [], ◌∷◌, ◌++◌, map, length, take, Option, Some, None, refl, sym, ap, ◌∙◌, subst, arith, append_assoc}
+use Rattle.std.proofs.Common.{◌≡◌, ◌⊎◌, ℕ, zero, suc, ◌+◌, ◌-◌, ◌<◌, ◌≤◌, inl, inr, ⊎_elim, Bool, true, false, List, [], ◌∷◌, ◌++◌, length, take, Option, Some, None, refl, sym, ap, ◌∙◌, subst, arith, append_assoc}
 use Rattle.std.specs.Prelude.{slice_get, flat_map, Contains, ◌==◌, if◌then◌else◌}
 use Rattle.std.specs.Option.{option_map_or}
 use Rattle.std.proofs.lemmas.Bool.{eqb-true, eq-eqb}
@@ -32,7 +32,7 @@ use Rattle.linear_laws.proofs.Runs.{IsMadeOf}
 use Rattle.service_laws.specs.Serving.{WasAnsweredFor, IsConnectionServed}
 use Rattle.service_laws.specs.Orders.{RanAt, RanInTurn, IsConnectionOrder}
 use Rattle.service_laws.proofs.AskedLemmas.{place_of}
-use Rattle.service_laws.proofs.ConnectionRuns.{owner_in, OneInTurn, NoneInTurn, AreInTurn, ConnectionMade, answer_ran, lines_of, is_done, connection_made}
+use Rattle.service_laws.proofs.ConnectionRuns.{owner_in, OneInTurn, NoneInTurn, AreInTurn, ConnectionMade, answer_ran, lines_of, is_done, ticks_of, connection_made}
 
 -- ---- which command a request is
 
@@ -98,8 +98,9 @@ at_seam [] x ys = refl
 at_seam (z ∷ xs) x ys = at_seam xs x ys
 
 -- A run answers what connections asked and were given, whose commands proxies asked.
-pub record IsRunOf (heard given : List (ℕ × List ℕ)) (xs : List Assignment) (met : StateView → Type 0) (events : List Event) (w : WorldView) (run : List Executed) : Type 0 where
+pub record IsRunOf (heard given : List (ℕ × List ℕ)) (moments_of : List ℕ) (xs : List Assignment) (met : StateView → Type 0) (events : List Event) (w : WorldView) (run : List Executed) : Type 0 where
   pub is_run : IsRun met events w run
+  pub moments : (r : Executed) → Contains run r → Contains moments_of r.batch.moment
   pub once : (i j : ℕ) (a b : Assignment) → slice_get xs i ≡ Some a → slice_get xs j ≡ Some b → a.connection ≡ b.connection → a.turn ≡ b.turn → i ≡ j
   pub for_one : (i j : ℕ) (a b : Assignment) → slice_get xs i ≡ Some a → slice_get xs j ≡ Some b → a.proxy ≡ b.proxy → a.number ≡ b.number → i ≡ j
   pub from_one : (a : Assignment) → Contains xs a → 1 ≤ a.turn
@@ -119,7 +120,7 @@ same_asked bytes n c d x y =
     let same = spells_one bytes x.turns y.turns x.rest y.rest x.spells y.spells in
     cc (sym x.is ∙ (ap (λ (ts : List Turn). slice_get (asked ts) (n - 1)) same.0 ∙ y.is))
 
-module _ (heard given : List (ℕ × List ℕ)) (xs : List Assignment) (met : StateView → Type 0) (events : List Event) (w : WorldView) (run : List Executed) (serves : IsRunOf heard given xs met events w run) (in_turn : RanInTurn run xs) where
+module _ (heard given : List (ℕ × List ℕ)) (moments_of : List ℕ) (xs : List Assignment) (met : StateView → Type 0) (events : List Event) (w : WorldView) (run : List Executed) (serves : IsRunOf heard given moments_of xs met events w run) (in_turn : RanInTurn run xs) where
   is_run : IsRun met events w run
   is_run = serves.is_run
 
@@ -143,7 +144,7 @@ module _ (heard given : List (ℕ × List ℕ)) (xs : List Assignment) (met : St
   abbrev its_turn_of : ℕ → ℕ → ℕ
   its_turn_of = turn_of_request xs
 
-  owner_is : (a : Assignment) → Contains xs a → its_owner a.proxy a.number ≡ a.connection
+  pub owner_is : (a : Assignment) → Contains xs a → its_owner a.proxy a.number ≡ a.connection
   unfolding owner
   owner_is a c =
       let f = found xs a c in
@@ -330,10 +331,11 @@ module _ (heard given : List (ℕ × List ℕ)) (xs : List Assignment) (met : St
           (subst (λ (k : ℕ). slice_get (replies_from for_connection.ran (answers_made c all)) k ≡ Some r) place (g.2 ∙ ap Some was.reply_is))
 
   -- these lines are an order of all connections
-  pub order_of : (lines : List Line) (made : IsMadeOf initial_state run lines) → IsConnectionOrder heard given (lines_of its_owner its_turn_of initial_state run lines made)
+  pub order_of : (lines : List Line) (made : IsMadeOf initial_state run lines) → IsConnectionOrder heard given moments_of (lines_of its_owner its_turn_of initial_state run lines made)
   unfolding executed_for
   order_of lines made = record {
     done = is_done its_owner its_turn_of run lines made is_run.follows;
+    ticks = ticks_of its_owner its_turn_of (Contains moments_of) initial_state run lines made is_run.follows serves.moments (inl refl);
     asked_only = λ c.
         let bytes = bytes_of_connection c heard in
         let sp = spells_some (suc (length bytes)) bytes (omega arith) in

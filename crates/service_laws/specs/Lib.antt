@@ -1,3 +1,4 @@
 pub mod Serving
 pub mod Orders
 pub mod Replicas
+pub mod InTime

@@ -2,7 +2,7 @@
 
 ghost use Rattle.service_laws.specs.Orders.{IsLinearizableService};
 
-use server_laws::worlds_are_of_one_server;
+use server_laws::{worlds_are_in_time, worlds_are_of_one_server};
 use service::Service;
 
 /// The history of all connections, here or gone, is linearizable, if digests tell the states of the executors apart.
@@ -14,4 +14,5 @@ pub fn service_is_linearizable(service: &Service)
 {
     service.shows();
     worlds_are_of_one_server();
+    worlds_are_in_time();
 }

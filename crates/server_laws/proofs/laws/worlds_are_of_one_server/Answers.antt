@@ -2,4 +2,4 @@ use Rattle.server_laws.proofs.Runs.{are_of_one_server}
 use Rattle.server_laws.proofs.laws.worlds_are_of_one_server.Goals as goal
 
 pub returns : goal.returns
-returns c = are_of_one_server c.executed_is_asked_in_worlds.ensures c.given_is_replied_in_worlds.ensures
+returns c = are_of_one_server c.worlds_are_in_time.ensures

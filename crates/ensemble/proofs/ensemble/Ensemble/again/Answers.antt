@@ -3,6 +3,8 @@ use Rattle.ensemble.specs.Served.{letters_again}
 use Rattle.ensemble.specs.Ensemble.{EnsembleView}
 use Rattle.ensemble.proofs.Going.{again_at_goes}
 use Rattle.proxies.proofs.ProxyLemmas.{again_is_asked}
+use Rattle.ensemble.specs.Nodes.{size_of}
+use Rattle.ensemble.proofs.Sizes.{again_size}
 use Rattle.ensemble.proofs.ensemble.Ensemble.again.Goals as goal
 
 pub invariant_of-self : goal.invariant_of-self
@@ -12,3 +14,6 @@ invariant_of-self c =
 
 pub returns-clause-sent : goal.returns-clause-sent
 returns-clause-sent c = subst (λ (e : EnsembleView). c.again.new.refused ≡ e.refused → e.refused < 2 ^ 64 - 1 → c.again.new.self.mail ≡ e.nodes.mail ++ letters_again e.nodes c.args.proxy) c.self.view_is c.again.ensures.sent
+
+pub returns-clause-size : goal.returns-clause-size
+returns-clause-size c = subst (λ (e : EnsembleView). size_of c.again.new.self ≡ size_of e.nodes) c.self.view_is (again_size c.self.inside.nodes c.args.proxy c.again.new.self c.again.ensures.again)

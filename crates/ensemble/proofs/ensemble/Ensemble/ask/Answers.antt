@@ -6,12 +6,15 @@ use Rattle.ensemble.specs.Ensemble.{EnsembleView, IsEnsemble, IsLogged}
 use Rattle.ensemble.specs.Served.{IsUnderWay}
 use Rattle.ensemble.proofs.Served.{asked_under_way}
 use Rattle.ensemble.proofs.Going.{asks_goes, asks_logged}
+use Rattle.ensemble.specs.declared.noted.Noted.{Noted}
+use Rattle.ensemble.specs.Nodes.{size_of}
+use Rattle.ensemble.proofs.Sizes.{ask_size}
 use Rattle.ensemble.proofs.ensemble.Ensemble.ask.Goals as goal
 
 pub invariant_of-self-2 : goal.invariant_of-self-2
 invariant_of-self-2 c =
     let old : EnsembleView = record { nodes = c.self.inside.nodes; asked = c.self.inside.asked.items; answered = c.self.inside.answered.items; order = c.self.inside.order.items; refused = 0 } in
-    subst (λ (logs : List (Request × Bool) × List ((ℕ × ℕ) × Bool)). IsEnsemble (record { nodes = c.send.new.self; asked = logs.0; answered = c.self.inside.answered.items; order = logs.1; refused = 0 })) (λ i. (sym c.and-self-inside.ensures i, sym c.and-self-inside-2.ensures i))
+    subst (λ (logs : List (Request × Bool) × List ((ℕ × ℕ) × Noted)). IsEnsemble (record { nodes = c.send.new.self; asked = logs.0; answered = c.self.inside.answered.items; order = logs.1; refused = 0 })) (λ i. (sym c.and-self-inside.ensures i, sym c.and-self-inside-2.ensures i))
     (asks_goes ask_is_fed c.args.alloc old c.self.invariant c.ask.new.self c.send.new.self c.args.proxy c.args.command c.args.quiet c.in_ok-request.request c.requires.text c.in_ok-request.ensures.ok c.in_ok-request.ensures.others c.send.ensures.posted)
 
 pub returns-clause-ok : goal.returns-clause-ok
@@ -25,3 +28,8 @@ returns-clause-sent c =
     let r = c.in_ok-request.request in
     subst (λ (e : EnsembleView). c.send.new.refused ≡ e.refused → e.refused < 2 ^ 64 - 1 → IsUnderWay e.nodes c.send.new.self c.args.proxy r.number c.args.command) c.self.view_is
     (λ same below. asked_under_way c.self.inside.nodes c.ask.new.self c.send.new.self c.args.proxy c.args.command c.args.quiet r c.in_ok-request.ensures.ok c.in_ok-request.ensures.others (c.send.ensures.sent same below))
+
+pub returns-clause-size : goal.returns-clause-size
+returns-clause-size c =
+    subst (λ (e : EnsembleView). size_of c.send.new.self ≡ size_of e.nodes) c.self.view_is
+    (ask_size c.self.inside.nodes c.ask.new.self c.send.new.self c.args.proxy c.args.command c.args.quiet c.in_ok-request.request c.in_ok-request.ensures.ok c.in_ok-request.ensures.others c.send.ensures.posted)

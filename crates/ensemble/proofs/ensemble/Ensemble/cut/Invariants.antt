@@ -1,4 +1,5 @@
 use Rattle.std.proofs.Common.{◌≡◌, ◌≤◌, false}
+use Rattle.ensemble.specs.Nodes.{size_of}
 use Rattle.ensemble.specs.Served.{NoBatchBelow}
 use Rattle.ensemble.proofs.ensemble.Ensemble.cut.Given as goal
 
@@ -8,6 +9,7 @@ invariant-loop-id l = record {
   answered : l.self.answered ≡ l.fn.self.answered;
   order : l.self.order ≡ l.fn.self.order;
   counted : l.fn.self.refused ≤ l.self.refused;
+  size : size_of l.self.nodes ≡ size_of l.fn.self.nodes;
   same_u : l.self.nodes.u ≡ l.fn.self.nodes.u;
   nothing : l.has_cut ≡ false → NoBatchBelow l.id l.self.nodes;
 }

@@ -1,8 +1,15 @@
 use Rattle.ensemble.specs.Ensemble.{EnsembleView}
 use Rattle.ensemble.proofs.Going.{cut_goes}
+use Rattle.std.proofs.Common.{◌≡◌, sym, subst}
+use Rattle.ensemble.specs.Nodes.{size_of}
+use Rattle.ensemble.specs.Moments.{IsNow}
+use Rattle.ensemble.proofs.Sizes.{host_size}
 use Rattle.ensemble.proofs.ensemble.Ensemble.cut_at.Goals as goal
 
 pub invariant_of-self : goal.invariant_of-self
 invariant_of-self c =
     let old : EnsembleView = record { nodes = c.self.inside.nodes; asked = c.self.inside.asked.items; answered = c.self.inside.answered.items; order = c.self.inside.order.items; refused = 0 } in
-    cut_goes old c.cut.new.self c.self.invariant c.args.id c.args.moment c.cut.ensures.moves
+    cut_goes old c.cut.new.self c.self.invariant c.args.id c.args.moment (subst (λ (e : EnsembleView). IsNow e.order c.args.moment) (sym c.self.view_is) c.requires) c.cut.ensures.moves
+
+pub returns-clause-size : goal.returns-clause-size
+returns-clause-size c = subst (λ (e : EnsembleView). size_of c.cut.new.self ≡ size_of e.nodes) c.self.view_is (host_size _ c.args.id c.self.inside.nodes c.cut.new.self c.cut.ensures.moves)

@@ -1,5 +1,8 @@
+use Rattle.std.proofs.Common.{◌≡◌, subst}
 use Rattle.proxies.proofs.ProxyLemmas.{answer_is_replied}
+use Rattle.ensemble.specs.Nodes.{size_of}
 use Rattle.ensemble.specs.Ensemble.{EnsembleView}
+use Rattle.ensemble.proofs.Sizes.{deliver_size}
 use Rattle.ensemble.proofs.Going.{deliver_none, deliver_some}
 use Rattle.ensemble.proofs.ensemble.Ensemble.deliver.Goals as goal
 
@@ -12,3 +15,9 @@ pub invariant_of-self-2 : goal.invariant_of-self-2
 invariant_of-self-2 c =
     let old : EnsembleView = record { nodes = c.self.inside.nodes; asked = c.self.inside.asked.items; answered = c.self.inside.answered.items; order = c.self.inside.order.items; refused = 0 } in
     deliver_some answer_is_replied old c.self.invariant c.deliver.new.self c.deliver.result c.in_ok-answer.answer c.and-self-inside.result.items c.and-self-inside-2.result.items c.deliver.ensures.delivers c.in_ok-answer.was c.and-self-inside.ensures c.and-self-inside-2.ensures
+
+pub returns-in_err-answer-clause-size : goal.returns-in_err-answer-clause-size
+returns-in_err-answer-clause-size c = subst (λ (e : EnsembleView). size_of c.deliver.new.self ≡ size_of e.nodes) c.self.view_is (deliver_size c.self.inside.nodes c.deliver.new.self c.deliver.result c.deliver.ensures.delivers)
+
+pub returns-clause-size : goal.returns-clause-size
+returns-clause-size c = subst (λ (e : EnsembleView). size_of c.deliver.new.self ≡ size_of e.nodes) c.self.view_is (deliver_size c.self.inside.nodes c.deliver.new.self c.deliver.result c.deliver.ensures.delivers)

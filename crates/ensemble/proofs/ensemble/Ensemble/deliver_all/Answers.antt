@@ -7,6 +7,7 @@ loop-init c = record {
   asked = refl;
   answered = none_came _ _ _ _ _ _ refl refl refl;
   counted = omega arith;
+  size = refl;
 }
 
 pub loop-preserved : goal.loop-preserved
@@ -14,6 +15,7 @@ loop-preserved c = record {
   asked = c.deliver_to.ensures.asked ∙ c.loop.invariant.asked;
   answered = more_came _ _ _ _ _ _ _ _ _ c.loop.invariant.answered c.deliver_to.ensures.answered;
   counted = (let before = c.loop.invariant.counted in let after = c.deliver_to.ensures.counted in omega (arith, before, after));
+  size = c.deliver_to.ensures.size ∙ c.loop.invariant.size;
 }
 
 pub returns-then-not-deliver_to-clause-asked : goal.returns-then-not-deliver_to-clause-asked
@@ -21,3 +23,6 @@ returns-then-not-deliver_to-clause-asked c = c.deliver_to.ensures.asked ∙ c.lo
 
 pub returns-then-not-deliver_to-clause-answered : goal.returns-then-not-deliver_to-clause-answered
 returns-then-not-deliver_to-clause-answered c = more_came _ _ _ _ _ _ _ _ _ c.loop.invariant.answered c.deliver_to.ensures.answered
+
+pub returns-then-not-deliver_to-clause-size : goal.returns-then-not-deliver_to-clause-size
+returns-then-not-deliver_to-clause-size c = c.deliver_to.ensures.size ∙ c.loop.invariant.size

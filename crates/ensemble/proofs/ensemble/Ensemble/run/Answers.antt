@@ -1,8 +1,14 @@
 use Rattle.ensemble.specs.Ensemble.{EnsembleView}
 use Rattle.ensemble.proofs.Going.{run_jobs_goes}
+use Rattle.std.proofs.Common.{◌≡◌, subst}
+use Rattle.ensemble.specs.Nodes.{size_of}
+use Rattle.ensemble.proofs.Sizes.{runs_size}
 use Rattle.ensemble.proofs.ensemble.Ensemble.run.Goals as goal
 
 pub invariant_of-self : goal.invariant_of-self
 invariant_of-self g c =
     let old : EnsembleView = record { nodes = c.self.inside.nodes; asked = c.self.inside.asked.items; answered = c.self.inside.answered.items; order = c.self.inside.order.items; refused = 0 } in
     run_jobs_goes old c.run_jobs.new.self c.self.invariant c.a_run_is_steps.ensures c.run_jobs.ensures
+
+pub returns-clause-size : goal.returns-clause-size
+returns-clause-size g c = subst (λ (e : EnsembleView). size_of c.run_jobs.new.self ≡ size_of e.nodes) c.self.view_is (runs_size c.self.inside.nodes c.run_jobs.new.self c.run_jobs.ensures)

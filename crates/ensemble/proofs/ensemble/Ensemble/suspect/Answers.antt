@@ -1,9 +1,10 @@
 use Rattle.std.proofs.Common.{◌≡◌, ◌<◌, ◌^◌, ◌-◌, subst}
 use Rattle.verifier.specs.declared.input.Input.TheVariants.{Suspect}
-use Rattle.ensemble.specs.Nodes.{VerifierMoves, VerifierGets}
+use Rattle.ensemble.specs.Nodes.{VerifierMoves, VerifierGets, size_of}
 use Rattle.ensemble.specs.Served.{VerifierPosts}
 use Rattle.ensemble.specs.Ensemble.{EnsembleView}
 use Rattle.ensemble.proofs.Going.{suspect_at_goes}
+use Rattle.ensemble.proofs.Sizes.{verifier_size}
 use Rattle.ensemble.proofs.ensemble.Ensemble.suspect.Goals as goal
 
 pub invariant_of-self : goal.invariant_of-self
@@ -16,3 +17,6 @@ returns-clause-told c = subst (λ (e : EnsembleView). VerifierMoves (VerifierGet
 
 pub returns-clause-sent : goal.returns-clause-sent
 returns-clause-sent c = subst (λ (e : EnsembleView). c.suspect.new.refused ≡ e.refused → e.refused < 2 ^ 64 - 1 → VerifierPosts (VerifierGets Suspect) c.args.verifier e.nodes c.suspect.new.self) c.self.view_is c.suspect.ensures.posted
+
+pub returns-clause-size : goal.returns-clause-size
+returns-clause-size c = subst (λ (e : EnsembleView). size_of c.suspect.new.self ≡ size_of e.nodes) c.self.view_is (verifier_size _ c.args.verifier c.self.inside.nodes c.suspect.new.self c.suspect.ensures.moves)

@@ -1,8 +1,14 @@
 use Rattle.ensemble.specs.Ensemble.{EnsembleView}
 use Rattle.ensemble.proofs.Going.{take_held_goes}
+use Rattle.std.proofs.Common.{◌≡◌, subst}
+use Rattle.ensemble.specs.Nodes.{size_of}
+use Rattle.ensemble.proofs.Sizes.{host_size}
 use Rattle.ensemble.proofs.ensemble.Ensemble.take_held.Goals as goal
 
 pub invariant_of-self : goal.invariant_of-self
 invariant_of-self c =
     let old : EnsembleView = record { nodes = c.self.inside.nodes; asked = c.self.inside.asked.items; answered = c.self.inside.answered.items; order = c.self.inside.order.items; refused = 0 } in
     take_held_goes old c.take_held.new.self c.self.invariant c.args.id c.take_held.ensures.moves
+
+pub returns-clause-size : goal.returns-clause-size
+returns-clause-size c = subst (λ (e : EnsembleView). size_of c.take_held.new.self ≡ size_of e.nodes) c.self.view_is (host_size _ c.args.id c.self.inside.nodes c.take_held.new.self c.take_held.ensures.moves)

@@ -1,4 +1,5 @@
 use Rattle.std.proofs.Common.{◌≡◌, ◌≤◌}
+use Rattle.ensemble.specs.Nodes.{size_of}
 use Rattle.ensemble.proofs.ensemble.Ensemble.take_orders.Given as goal
 
 abbrev pub invariant-loop-id : goal.invariant-loop-id
@@ -7,4 +8,5 @@ invariant-loop-id l = record {
   answered : l.self.answered ≡ l.fn.self.answered;
   order : l.self.order ≡ l.fn.self.order;
   counted : l.fn.self.refused ≤ l.self.refused;
+  size : size_of l.self.nodes ≡ size_of l.fn.self.nodes;
 }

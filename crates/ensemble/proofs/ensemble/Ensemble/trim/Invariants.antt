@@ -1,4 +1,5 @@
 use Rattle.std.proofs.Common.{◌≡◌, ◌≤◌}
+use Rattle.ensemble.specs.Nodes.{size_of}
 use Rattle.ensemble.specs.Trimming.{AreTrimmedBelow}
 use Rattle.ensemble.proofs.ensemble.Ensemble.trim.Given as goal
 
@@ -9,4 +10,5 @@ invariant-loop-id l = record {
   order : l.self.order ≡ l.fn.self.order;
   told : AreTrimmedBelow l.id l.fn.self.nodes l.self.nodes;
   counted : l.fn.self.refused ≤ l.self.refused;
+  size : size_of l.self.nodes ≡ size_of l.fn.self.nodes;
 }

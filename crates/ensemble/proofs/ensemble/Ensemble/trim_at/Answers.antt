@@ -1,8 +1,9 @@
-use Rattle.std.proofs.Common.{subst}
-use Rattle.ensemble.specs.Nodes.{VerifierMoves}
+use Rattle.std.proofs.Common.{subst, ◌≡◌}
+use Rattle.ensemble.specs.Nodes.{VerifierMoves, size_of}
 use Rattle.ensemble.specs.Trimming.{VerifierTrimsDue}
 use Rattle.ensemble.specs.Ensemble.{EnsembleView}
 use Rattle.ensemble.proofs.Going.{trim_at_goes}
+use Rattle.ensemble.proofs.Sizes.{verifier_size}
 use Rattle.ensemble.proofs.ensemble.Ensemble.trim_at.Goals as goal
 
 pub invariant_of-self : goal.invariant_of-self
@@ -12,3 +13,6 @@ invariant_of-self c =
 
 pub returns-clause-due : goal.returns-clause-due
 returns-clause-due c = subst (λ (e : EnsembleView). VerifierMoves VerifierTrimsDue c.args.id e.nodes c.trim.new.self) c.self.view_is c.trim.ensures.due
+
+pub returns-clause-size : goal.returns-clause-size
+returns-clause-size c = subst (λ (e : EnsembleView). size_of c.trim.new.self ≡ size_of e.nodes) c.self.view_is (verifier_size _ c.args.id c.self.inside.nodes c.trim.new.self c.trim.ensures.moves)

@@ -2,7 +2,7 @@ use Rattle.std.proofs.Common.{rules, ◌≡◌, List, Option, None, refl, sym, s
 use Rattle.std.specs.Prelude.{Contains}
 use Rattle.service.specs.Service.{ServiceView, none_shown, Gives, assigned}
 use Rattle.ensemble.specs.Ensemble.{answer_entry, order_entry}
-use Rattle.service.proofs.MomentLemmas.{same_moments, answered_moments, moment_now}
+use Rattle.service.proofs.MomentLemmas.{same_moments, answered_moments, given_handed, moment_now}
 use Rattle.service.specs.declared.assignment.Outstanding.{Outstanding}
 use Rattle.service.specs.Owed.{Remembers}
 use Rattle.service.proofs.OwedLemmas.{gives_nothing, gives_back}
@@ -26,7 +26,7 @@ invariant_of-self-2 c =
     let o = c.in-Some.outstanding in
     let back = gives_back _ c.args.answer.proxy c.args.answer.number s.pool c.answered.new.self o c.in-Some.ensures.at in
     let ok = lined (record v { connections = c.answer_to.new.connections; waiting = c.answered.new.self }) c.answer_to.new.line.items (replied_keeps v c.answer_to.new.connections c.answered.new.self o c.args.answer.proxy c.args.answer.number c.args.answer.reply _ _ c.self.invariant.0 logged ordered c.in-Some.ensures.ends c.answer_to.ensures.answers) in
-    (ok, answered_moments v now _ _ c.self.invariant.1 refl refl refl c.answer_to.ensures.answers.gives (moment_now now ok c.always.ensures.connections c.always.ensures.history), c.self.invariant.2, c.answer_to.ensures.remembers s.pool c.answered.new.self back c.self.invariant.3)
+    (ok, answered_moments v now _ _ c.self.invariant.1 refl refl refl c.answer_to.ensures.answers.gives (moment_now now ok c.always.ensures.connections c.always.ensures.history (given_handed v v.order c.answer_to.new.connections _ _ c.self.invariant.1 refl (gives_one s.connections c.answer_to.new.connections _ _ c.answer_to.ensures.answers.gives))), c.self.invariant.2, c.answer_to.ensures.remembers s.pool c.answered.new.self back c.self.invariant.3)
 
 pub returns-clause-given : goal.returns-clause-given
 returns-clause-given c =

@@ -1,15 +1,16 @@
-use Rattle.std.proofs.Common.{arith, ℕ, List, sym, ◌∙◌, subst, Bool}
+use Rattle.std.proofs.Common.{arith, ℕ, List, sym, ◌∙◌, subst}
 use Rattle.std.specs.Prelude.{Contains}
 use Rattle.std.proofs.lemmas.List.Elements.{Contains-append_left, Contains-push}
 use Rattle.proto.specs.declared.reply.Reply as replies
 use Rattle.ensemble.specs.declared.answer.Answer.{Answer}
+use Rattle.ensemble.specs.declared.noted.Noted.{Noted}
 use Rattle.ensemble.specs.Ensemble.{answer_entry, order_entry}
 use Rattle.service.proofs.KeepLemmas.{gives_on}
 use Rattle.service.proofs.service.Service.answer_all.Goals as goal
 
 pub loop-answer-preserved : goal.loop-answer-preserved
 loop-answer-preserved c = record {
-  logged = λ a i. subst (λ (logs : List ((ℕ × ℕ) × replies.Reply) × List ((ℕ × ℕ) × Bool)). Contains logs.0 (answer_entry a) × Contains logs.1 (order_entry a)) (λ j. (sym c.answer.ensures.answered j, sym c.answer.ensures.order j))
+  logged = λ a i. subst (λ (logs : List ((ℕ × ℕ) × replies.Reply) × List ((ℕ × ℕ) × Noted)). Contains logs.0 (answer_entry a) × Contains logs.1 (order_entry a)) (λ j. (sym c.answer.ensures.answered j, sym c.answer.ensures.order j))
       (c.loop-answer.invariant.logged a (subst (λ (xs : List Answer). Contains xs a) (sym c.in-Some.ensures.items) (Contains-append_left c.pop.new.self.items _ a i)));
   given = gives_on c.args.self.now.connections c.loop-answer.self.connections c.answer.new.self.connections c.args.said.now.items c.loop-answer.said.items c.answer.new.said.items c.loop-answer.invariant.given c.answer.ensures.given;
   heard = c.answer.ensures.heard ∙ c.loop-answer.invariant.heard;

@@ -1,10 +1,10 @@
-use Rattle.std.proofs.Common.{rules, ◌≡◌, List, ◌∷◌, ◌++◌, Option, None, refl, sym, ap, ◌∙◌, subst}
+use Rattle.std.proofs.Common.{rules, ◌≡◌, List, ◌∷◌, ◌++◌, Option, None, refl, ap, ◌∙◌, subst}
 use Rattle.std.specs.Prelude.{option_to_list}
 use Rattle.service.specs.declared.note.Waiting.{Waiting}
 use Rattle.service.specs.Service.{ServiceView, none_shown, assigned}
 use Rattle.service.specs.Owed.{Remembers}
-use Rattle.service.proofs.MomentLemmas.{same_moments, assigned_moments, moment_now}
-use Rattle.service.proofs.KeepLemmas.{assign_keeps, lined}
+use Rattle.service.proofs.MomentLemmas.{assigned_moments, given_handed, asked_moments, moment_now}
+use Rattle.service.proofs.KeepLemmas.{assign_keeps, assign_gives, lined}
 use Rattle.service.proofs.OwedLemmas.{assign_remembers}
 use Rattle.service.proofs.service.Service.assign.Goals as goal
 
@@ -29,4 +29,4 @@ invariant_of-self-2 c =
     let popped : s.line.items ≡ w ∷ line = c.in-Some-pop_front.ensures.items in
     let ok = assign_keeps v _ _ next s.ensemble f c.ask-asking.result s.pool c.settle.new.pool (assigned c.settle.new.assignments.items) _ _ w.at.key line c.self.invariant.0 refl refl refl refl c.ask-asking.ensures c.settle.ensures in
     let remembers = assign_remembers line w s.pool c.settle.new.pool s.connections next c.in-Some.proxy s.ensemble f c.ask-asking.result _ _ _ _ c.in-Some.ensures.pool c.ask-asking.ensures c.settle.ensures (subst (λ (l : List Waiting). Remembers l s.pool s.connections.table) popped c.self.invariant.3) in
-    (ok, assigned_moments v now _ _ s.ensemble f c.ask-asking.result s.pool _ _ w.at.key c.self.invariant.1 refl refl refl refl c.ask-asking.ensures c.settle.ensures (moment_now now ok c.always.ensures.connections c.always.ensures.history), c.self.invariant.2, remembers)
+    (ok, assigned_moments v now _ _ s.ensemble f c.ask-asking.result s.pool _ _ w.at.key c.self.invariant.1 refl refl refl refl c.ask-asking.ensures c.settle.ensures (moment_now now ok c.always.ensures.connections c.always.ensures.history (given_handed v f.order next _ _ c.self.invariant.1 (asked_moments _ _ _ next s.ensemble f c.ask-asking.result c.ask-asking.ensures) (assign_gives _ _ s.connections next s.ensemble f c.ask-asking.result s.pool c.settle.new.pool _ (assigned c.settle.new.assignments.items) _ _ w.at.key c.ask-asking.ensures c.settle.ensures))), c.self.invariant.2, remembers)

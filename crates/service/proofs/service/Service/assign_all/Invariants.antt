@@ -1,4 +1,5 @@
 use Rattle.std.proofs.Common.{◌≡◌, ◌≤◌}
+use Rattle.ensemble.specs.Nodes.{size_of}
 use Rattle.service.specs.Service.{Gives}
 use Rattle.service.proofs.service.Service.assign_all.Given as goal
 
@@ -7,4 +8,5 @@ invariant-loop l = record {
   given : Gives l.initial.self.connections l.initial.said.items l.self.connections l.said.items;
   heard : l.self.connections.heard ≡ l.initial.self.connections.heard;
   counted : l.initial.self.replicas.refused ≤ l.self.replicas.refused;
+  size : size_of l.self.replicas.ensemble.nodes ≡ size_of l.initial.self.replicas.ensemble.nodes;
 }

@@ -2,6 +2,7 @@ use Rattle.std.proofs.Common.{List, subst}
 use Rattle.connections.specs.declared.said.Said.{Said}
 use Rattle.connections.specs.Connections.{ConnectionsView}
 use Rattle.service.specs.Service.{ServiceView, Gives}
+use Rattle.service.proofs.MomentLemmas.{now_given}
 use Rattle.service.proofs.KeepLemmas.{gives_on}
 use Rattle.service.proofs.service.Service.round.Goals as goal
 
@@ -15,3 +16,10 @@ returns-clause-given g c =
     let asked : Gives before c.args.said.now.items between c.assign_all.new.said.items = subst (λ (x : ServiceView). Gives x.connections c.args.said.now.items between c.assign_all.new.said.items) c.self.view_is of_inside in
     let answered : Gives between c.assign_all.new.said.items after c.answer_all.new.said.items = subst (λ (x : ConnectionsView). Gives x c.assign_all.new.said.items after c.answer_all.new.said.items) c.execute-answers.ensures.connections c.answer_all.ensures.given in
     gives_on before between after c.args.said.now.items c.assign_all.new.said.items c.answer_all.new.said.items asked answered
+
+pub execute-answers-requires : goal.execute-answers-requires
+execute-answers-requires g c =
+    let between = c.assign_all.new.self.connections in
+    let of_inside : Gives c.self.inside.connections c.args.said.now.items between c.assign_all.new.said.items = subst (λ (said : List Said). Gives c.self.inside.connections said between c.assign_all.new.said.items) c.has_room.ensures.said c.assign_all.ensures.given in
+    let asked : Gives c.args.self.now.connections c.args.said.now.items between c.assign_all.new.said.items = subst (λ (x : ServiceView). Gives x.connections c.args.said.now.items between c.assign_all.new.said.items) c.self.view_is of_inside in
+    (c.type_bounds.sync-R, now_given c.args.self.now.connections between _ _ c.args.moment asked c.requires)

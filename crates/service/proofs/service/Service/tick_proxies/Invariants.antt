@@ -1,5 +1,9 @@
 use Rattle.std.proofs.Common.{◌≡◌}
+use Rattle.ensemble.specs.Nodes.{size_of}
 use Rattle.service.proofs.service.Service.tick_proxies.Given as goal
 
 abbrev pub invariant-loop-at : goal.invariant-loop-at
-invariant-loop-at l = l.self.connections ≡ l.initial.self.connections
+invariant-loop-at l = record {
+  connections : l.self.connections ≡ l.initial.self.connections;
+  size : size_of l.self.replicas.ensemble.nodes ≡ size_of l.initial.self.replicas.ensemble.nodes;
+}

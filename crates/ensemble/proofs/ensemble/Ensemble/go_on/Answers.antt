@@ -1,0 +1,8 @@
+use Rattle.std.proofs.Common.{◌∙◌}
+use Rattle.ensemble.proofs.Moments.{now_stays}
+use Rattle.ensemble.proofs.ensemble.Ensemble.go_on.Goals as goal
+
+pub cut-requires : goal.cut-requires
+cut-requires g c =
+    now_stays c.args.self.now.order c.run_jobs.new.self.order c.deliver_timed.ensures.answered.added c.args.moment
+    (c.run_jobs.ensures.order ∙ (c.take_orders.ensures.order ∙ c.deliver_timed.ensures.answered.ordered)) c.requires
