@@ -122,15 +122,33 @@ fn does(alloc: Global, stage: &mut Stage, world: World, done: Done) -> Result<Wo
     world.step(alloc, &event)
 }
 
+fn happened(
+    alloc: Global,
+    stage: &mut Stage,
+    world: World,
+    row: &[Done],
+) -> Result<World, AllocError> {
+    let mut world = world;
+    for done in row {
+        world = does(alloc, stage, world, *done)?;
+    }
+    Ok(world)
+}
+
+/// The world after the row has happened so many times. Letters that were sent before it come once more.
+pub fn repeated(alloc: Global, world: World, row: &[Done], times: u8) -> Result<World, AllocError> {
+    let mut stage = Stage { delivered: 0 };
+    let mut world = world;
+    for _ in 0..times {
+        world = happened(alloc, &mut stage, world, row)?;
+    }
+    Ok(world)
+}
+
 /// The world in which the row has happened, where `u` of the replicas may fail.
 pub fn played(alloc: Global, u: u8, row: &[Done]) -> Result<World, Fault> {
     let config = Config::new(u, 1)?;
-    let mut stage = Stage { delivered: 0 };
-    let mut world = World::open(alloc, &config)?;
-    for done in row {
-        world = does(alloc, &mut stage, world, *done)?;
-    }
-    Ok(world)
+    Ok(repeated(alloc, World::open(alloc, &config)?, row, 1)?)
 }
 
 /// Whether the only client is given just these bytes.
