@@ -3,7 +3,18 @@ use Rattle.std.specs.Prelude.{ℕ}
 use Rattle.daemon.specs.declared.report.Due.{Due}
 use Rattle.daemon.specs.declared.report.Report.{Report}
 use Rattle.daemon.specs.declared.report.Totals.{Totals}
-use Rattle.daemon.specs.Told.{due_number, told_after}
+use Rattle.daemon.specs.Told.{told_since, due_number, told_after}
+
+-- a log that has told of nothing, and of which these are the beginning
+abbrev pub report_from : Totals → Report
+report_from totals = record {
+  stops = told_since totals.stops;
+  returns = told_since totals.returns;
+  suspicions = told_since totals.suspicions;
+  rollbacks = told_since totals.rollbacks;
+  refused = told_since totals.refused;
+  failed = told_since totals.failed;
+}
 
 abbrev pub due_lines : Report → Totals → ℕ → Due
 due_lines report totals second = record {

@@ -2,6 +2,10 @@
 use Rattle.std.specs.Prelude.{ℕ, Bool, false, not, ◌&&◌, ◌+◌, ◌-◌, ◌==◌, ◌<◌, ◌≤◌, nat_lt, List, [], ◌∷◌, ⊤, cond, Option, Some, None, if◌then◌else◌}
 use Rattle.daemon.specs.declared.told.Told.{Told}
 
+-- so much happened before the first line
+abbrev pub told_since : ℕ → Told
+told_since count = record { count = count; second = None }
+
 -- whether the last line was in this second
 abbrev pub is_second : Option ℕ → ℕ → Bool
 is_second None second = false

@@ -1,7 +1,7 @@
 //! Which lines are due.
 
 ghost use Rattle.std.specs.Prelude.{◌≡◌};
-ghost use Rattle.daemon.specs.Report.{due_lines, report_after};
+ghost use Rattle.daemon.specs.Report.{report_from, due_lines, report_after};
 
 use crate::told::Told;
 use figures::{Figures, NodeFigures, plus};
@@ -78,7 +78,9 @@ pub struct Report {
 
 impl Report {
     /// A log that tells of what comes after these.
-    pub fn new(totals: Totals) -> Report {
+    pub fn new(totals: Totals) -> Report
+        ensures { result ≡ report_from totals }
+    {
         Report {
             stops: Told::new(totals.stops),
             returns: Told::new(totals.returns),

@@ -1,7 +1,7 @@
 //! Lines of one kind.
 
 ghost use Rattle.std.specs.Prelude.{◌≡◌};
-ghost use Rattle.daemon.specs.Told.{due_number, told_after};
+ghost use Rattle.daemon.specs.Told.{told_since, due_number, told_after};
 
 /// How far lines of one kind have told of a count that only grows.
 #[derive(Clone, Copy, Debug, PartialEq, Eq)]
@@ -14,7 +14,9 @@ pub struct Told {
 
 impl Told {
     /// So much happened before the first line, and is not told of.
-    pub fn new(count: u64) -> Told {
+    pub fn new(count: u64) -> Told
+        ensures { result ≡ told_since count }
+    {
         Told {
             count,
             second: None,
