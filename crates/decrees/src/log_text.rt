@@ -9,14 +9,14 @@ use std::alloc::{AllocError, Global};
 use std::marker::Model;
 use std::sync::Arc;
 
-/// So many decrees stand in a piece that is shared.
-const PIECE: usize = 1024;
+/// A piece that is shared has so many decrees. What a save copies is the tail behind the last piece: 5 KB at most.
+const PIECE: usize = 128;
 
-/// So many decrees stand in a joined piece, which is made of such pieces.
+/// A joined piece has so many decrees, and is made of such pieces.
 const JOINED: usize = 32 * PIECE;
 
-/// Texts of decrees in joined pieces, then in pieces of 1,024 decrees, and a tail. A text that appends
-/// it shares the pieces, fewer than 64 and one for each 32,768 decrees, and copies the tail.
+/// Texts of decrees in joined pieces, then in pieces of 128 decrees, and a tail. A text that appends
+/// it shares the pieces, fewer than 32 and one for each 4,096 decrees, and copies the tail.
 pub struct LogText {
     joined: Text,
     recent: Text,
