@@ -31,6 +31,7 @@ pub record IsLastSaid (at : Place) (said : Said) : Type 0 where
   pub number : said.number ≡ at.number
   pub nothing : said.bytes.items ≡ []
   pub closes : said.closes ≡ true
+  pub waits : said.waits ≡ false
 
 abbrev pub stays_open : Result Said Fault → Bool
 stays_open (Ok said) = not said.closes
