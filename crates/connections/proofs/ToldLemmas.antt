@@ -28,7 +28,7 @@ stays_of at table c said told = ap (is_of_connection at.number) told.there ∙ b
 waits_of : (at : Place) (table : Table) (c : ConnectionView) (said : Said) → IsToldOf at table c said → said.closes ≡ false → said.waits ≡ is_outstanding_in at.number table at.key
 waits_of at table c said told stays =
     let there : place_in table at.key ≡ Some c = told.there ∙ ap (λ (b : Bool). if not b then Some c else None) stays in
-    let is : is_outstanding_in at.number table at.key ≡ is_some c.talk.outstanding = ap (is_outstanding at.number) there ∙ ap (λ (b : Bool). b && is_some c.talk.outstanding) (eq-eqb c.number at.number told.number) in
+    let is : is_outstanding_in at.number table at.key ≡ is_some c.session.outstanding = ap (is_outstanding at.number) there ∙ ap (λ (b : Bool). b && is_some c.session.outstanding) (eq-eqb c.number at.number told.number) in
     told.waits ∙ sym is
 
 alone_of : (at : Place) (table : Table) (c : ConnectionView) (said : Said) → IsToldOf at table c said → (d : ConnectionView) → place_in table at.key ≡ Some d → d.number ≡ at.number

@@ -9,7 +9,7 @@ use Rattle.connections.specs.Places.{place_in, is_here, HasSameOthers}
 -- the connection of this number is there, and a command of it is outstanding, taken or not
 abbrev pub is_outstanding : ℕ → Option ConnectionView → Bool
 is_outstanding number None = false
-is_outstanding number (Some c) = (c.number == number) && is_some c.talk.outstanding
+is_outstanding number (Some c) = (c.number == number) && is_some c.session.outstanding
 
 abbrev pub is_outstanding_in : ℕ → List (Option ConnectionView) → ℕ → Bool
 is_outstanding_in number table key = is_outstanding number (place_in table key)
@@ -27,8 +27,8 @@ pub record IsToldAt (at : Place) (old new : List (Option ConnectionView)) (said 
 -- It is told how this connection is, which it became: it is told to close just if that gives nothing more, and that it waits just if a command of that is outstanding. If it closes it has left, and else it is at its key.
 pub record IsToldOf (at : Place) (table : List (Option ConnectionView)) (c : ConnectionView) (said : Said) : Type 0 where
   pub number : c.number ≡ at.number
-  pub closes : said.closes ≡ c.talk.closed
-  pub waits : said.waits ≡ is_some c.talk.outstanding
+  pub closes : said.closes ≡ c.session.closed
+  pub waits : said.waits ≡ is_some c.session.outstanding
   pub there : place_in table at.key ≡ (if not said.closes then Some c else None)
 
 -- it failed: it is given nothing, is told to close, and has left

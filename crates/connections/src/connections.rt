@@ -2,13 +2,14 @@
 
 ghost use Rattle.std.specs.Prelude.{◌≡◌};
 
-use crate::connection::{Connection, Ready};
+use crate::connection::Connection;
 use crate::history::History;
 use crate::places::Place;
 use crate::said::Said;
 use crate::table;
 use http_server::Log;
 use proto::{Command, Fault, Reply};
+use session::Ready;
 use std::alloc::Global;
 use std::marker::Model;
 

@@ -4,7 +4,7 @@ use Rattle.std.specs.Prelude.{◌≢◌, ◌&&◌, is_some, not, Contains}
 use Rattle.std.proofs.lemmas.Bool.{eq-eqb}
 use Rattle.std.proofs.lemmas.List.{append-nil}
 use Rattle.std.proofs.lemmas.List.Elements.{Contains-push, Contains-append_left, Contains-append_right, Contains-append_cases}
-use Rattle.connections.specs.declared.connection.Ready.{Ready}
+use Rattle.session.specs.declared.session.Ready.{Ready}
 use Rattle.connections.specs.declared.places.Place.{Place}
 use Rattle.connections.specs.declared.said.Said.{Said}
 use Rattle.connections.specs.Connection.{ConnectionView}

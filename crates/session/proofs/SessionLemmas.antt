@@ -4,10 +4,10 @@ use Rattle.proto.specs.declared.turn.Turn.{Turn}
 use Rattle.proto.specs.declared.turn.Turn.TheVariants.{Ask, Say, Close}
 use Rattle.proto.specs.Text.{notice_text}
 use Rattle.session.specs.declared.session.Session.{Session}
-use Rattle.session.specs.Session.{go}
+use Rattle.session.specs.Session.{session_goes}
 
 -- what waits is what it is told to take
-pub go_waiting : (s : Session) (waiting : List Turn) (bytes : List ℕ) (turns : List Turn) → go (record s { waiting = waiting }) bytes turns ≡ go s bytes turns
+pub go_waiting : (s : Session) (waiting : List Turn) (bytes : List ℕ) (turns : List Turn) → session_goes (record s { waiting = waiting }) bytes turns ≡ session_goes s bytes turns
 go_waiting s waiting bytes [] = refl
 go_waiting s waiting bytes (Say notice ∷ turns) = go_waiting s waiting (bytes ++ notice_text notice) turns
 go_waiting s waiting bytes (Close notice ∷ turns) = refl

@@ -14,11 +14,11 @@ use Rattle.proto.specs.Text.{notice_text, given_text}
 use Rattle.proto.proofs.SpellsLemmas.{reads_on, reads_closed, reads_spells}
 use Rattle.memcached_spec.specs.Asked.{asked, TextsBy, Front}
 use Rattle.memcached_spec.proofs.Longer.{front_longer}
-use Rattle.session.specs.declared.session.Outstanding.{Outstanding}
+use Rattle.session.specs.declared.session.Awaited.{Awaited}
 use Rattle.session.specs.declared.session.Ready.{Ready}
 use Rattle.session.specs.declared.session.Session.{Session}
-use Rattle.session.specs.Session.{Given, new_session, unmoved, go, go_where, go_on, IsRead, IsReadOn, IsFed, IsFedWhere, answered, answered_if, answered_to, IsTakenOf}
-use Rattle.session.specs.Taken.{IsPending, IsIdle, Live, SessionOk}
+use Rattle.session.specs.Session.{SessionStep, new_session, session_stays, session_goes, session_goes_if, session_goes_on, ReaderReads, ReaderReadsOn, IsFedSession, IsFedSessionIf, session_answered, answered_if_taken, answered_to_awaited, IsTakenOfSession}
+use Rattle.session.specs.Taken.{IsPending, IsIdleSession, LiveSession, SessionOk}
 
 asks-push : (turns : List Turn) (t : Turn) → length (asked (turns ++ t ∷ [])) ≡ length (asked turns) + length (asked (t ∷ []))
 asks-push [] t = omega arith
@@ -45,16 +45,16 @@ after_close (Close m ∷ []) ts bytes n new r = absurd (let e : ◌≡◌ {A = L
 after_close (Close m ∷ (x ∷ taken)) ts bytes n new r = absurd (let e : ◌≡◌ {A = List Turn} (x ∷ (taken ++ Close n ∷ ts)) [] = r.2 in cc e)
 
 -- if nothing is outstanding then no command is untaken
-pub none_pending : (o : Option Outstanding) (c : Option Command) (turns : List Turn) → IsPending o c turns → o ≡ None → (c ≡ None) × (turns ≡ [])
+pub none_pending : (o : Option Awaited) (c : Option Command) (turns : List Turn) → IsPending o c turns → o ≡ None → (c ≡ None) × (turns ≡ [])
 none_pending None None turns h e = (refl, h)
 none_pending None (Some c) turns h e = absurd h
 none_pending (Some a) c turns h e = absurd (cc e)
 
 -- the command that is outstanding
-pub one_pending : (o : Option Outstanding) (c : Option Command) (turns : List Turn) (a : Outstanding) → IsPending o c turns → o ≡ Some a → (command : Command) × (turns ≡ Ask command a.quiet ∷ [])
-one_pending None c turns a h e = absurd (let clash : ◌≡◌ {A = Option Outstanding} None (Some a) = e in cc clash)
-one_pending (Some b) (Some command) turns a h e = let s : b ≡ a = (let x : ◌≡◌ {A = Option Outstanding} (Some b) (Some a) = e in cc x) in (command, h ∙ ap (λ (x : Outstanding). Ask command x.quiet ∷ []) s)
-one_pending (Some b) None turns a h e = let s : b ≡ a = (let x : ◌≡◌ {A = Option Outstanding} (Some b) (Some a) = e in cc x) in (h.0, h.1 ∙ ap (λ (x : Outstanding). Ask h.0 x.quiet ∷ []) s)
+pub one_pending : (o : Option Awaited) (c : Option Command) (turns : List Turn) (a : Awaited) → IsPending o c turns → o ≡ Some a → (command : Command) × (turns ≡ Ask command a.quiet ∷ [])
+one_pending None c turns a h e = absurd (let clash : ◌≡◌ {A = Option Awaited} None (Some a) = e in cc clash)
+one_pending (Some b) (Some command) turns a h e = let s : b ≡ a = (let x : ◌≡◌ {A = Option Awaited} (Some b) (Some a) = e in cc x) in (command, h ∙ ap (λ (x : Awaited). Ask command x.quiet ∷ []) s)
+one_pending (Some b) None turns a h e = let s : b ≡ a = (let x : ◌≡◌ {A = Option Awaited} (Some b) (Some a) = e in cc x) in (h.0, h.1 ∙ ap (λ (x : Awaited). Ask h.0 x.quiet ∷ []) s)
 
 module _ (P : ℕ → replies.Reply → Type 0) where
   texts-append : (q k : ℕ) (turns more : List Turn) (bytes others : List ℕ) → k ≡ q + length (asked turns) → TextsBy P q turns bytes → TextsBy P k more others → TextsBy P q (turns ++ more) (bytes ++ others)
@@ -76,7 +76,7 @@ module _ (P : ℕ → replies.Reply → Type 0) where
   noticed taken given bytes text x h g = subst (TextsBy P 1 (taken ++ x ∷ [])) (append_assoc given bytes text) (texts-append 1 (1 + length (asked taken)) taken (x ∷ []) (given ++ bytes) text refl h g)
 
   go_ok : (all : List ℕ) (turns : List Turn) (s : Session) (given bytes : List ℕ) (taken ts : List Turn) → ReadsTurns all turns s.reader → turns ≡ taken ++ ts → s.outstanding ≡ None → s.command ≡ None → s.closed ≡ false → s.last ≡ length (asked taken)
-      → TextsBy P 1 taken (given ++ bytes) → SessionOk P all (go s bytes ts).session (given ++ (go s bytes ts).bytes)
+      → TextsBy P 1 taken (given ++ bytes) → SessionOk P all (session_goes s bytes ts).session (given ++ (session_goes s bytes ts).bytes)
   go_ok all turns s given bytes taken [] reads is none untaken going number h = record {
     taken = taken;
     texts = h;
@@ -85,10 +85,10 @@ module _ (P : ℕ → replies.Reply → Type 0) where
       turns = turns;
       reads = reads;
       pending = [];
-      is_pending = subst (λ (z : Option Outstanding × Option Command). IsPending z.0 z.1 []) (λ i. (sym none i, sym untaken i)) refl;
+      is_pending = subst (λ (z : Option Awaited × Option Command). IsPending z.0 z.1 []) (λ i. (sym none i, sym untaken i)) refl;
       split = is;
       number = omega (arith, number);
-      own = λ a e. let clash : ◌≡◌ {A = Option Outstanding} None (Some a) = sym none ∙ e in absurd (cc clash);
+      own = λ a e. let clash : ◌≡◌ {A = Option Awaited} None (Some a) = sym none ∙ e in absurd (cc clash);
       ends = λ e. let clash : false ≡ true = sym going ∙ e in absurd (cc clash);
     };
     idle = λ e. let clash : false ≡ true = sym going ∙ e in absurd (cc clash);
@@ -107,10 +107,10 @@ module _ (P : ℕ → replies.Reply → Type 0) where
           turns = turns;
           reads = reads;
           pending = [];
-          is_pending = subst (λ (z : Option Outstanding × Option Command). IsPending z.0 z.1 []) (λ i. (sym none i, sym untaken i)) refl;
+          is_pending = subst (λ (z : Option Awaited × Option Command). IsPending z.0 z.1 []) (λ i. (sym none i, sym untaken i)) refl;
           split = one_more turns taken ts (Close n) is ∙ ap (λ (x : List Turn). (taken ++ Close n ∷ []) ++ x) last.0;
           number = let k = asks-push taken (Close n) in omega (arith, number, k);
-          own = λ a e. let clash : ◌≡◌ {A = Option Outstanding} None (Some a) = sym none ∙ e in absurd (cc clash);
+          own = λ a e. let clash : ◌≡◌ {A = Option Awaited} None (Some a) = sym none ∙ e in absurd (cc clash);
           ends = λ _. last.1;
         };
         idle = λ _. record { none_asked = none; none_waits = refl };
@@ -127,8 +127,8 @@ module _ (P : ℕ → replies.Reply → Type 0) where
       split = is;
       number = omega (arith, number);
       own = λ a e.
-          let same : ◌≡◌ {A = Outstanding} (record { number = s.last + 1; quiet = quiet }) a = let x : ◌≡◌ {A = Option Outstanding} (Some (record { number = s.last + 1; quiet = quiet })) (Some a) = e in cc x in
-          ap (λ (x : Outstanding). x.number) (sym same);
+          let same : ◌≡◌ {A = Awaited} (record { number = s.last + 1; quiet = quiet }) a = let x : ◌≡◌ {A = Option Awaited} (Some (record { number = s.last + 1; quiet = quiet })) (Some a) = e in cc x in
+          ap (λ (x : Awaited). x.number) (sym same);
       ends = λ e. let clash : false ≡ true = sym going ∙ e in absurd (cc clash);
     };
     idle = λ e. let clash : false ≡ true = sym going ∙ e in absurd (cc clash);
@@ -141,7 +141,7 @@ module _ (P : ℕ → replies.Reply → Type 0) where
     taken = [];
     texts = refl;
     front = record { turns = []; rest = []; more = []; spells = (refl, refl); is = refl };
-    live = record { turns = []; reads = (refl, refl, refl); pending = []; is_pending = refl; split = refl; number = refl; own = λ a e. let clash : ◌≡◌ {A = Option Outstanding} None (Some a) = e in absurd (cc clash); ends = λ e. absurd (cc e) };
+    live = record { turns = []; reads = (refl, refl, refl); pending = []; is_pending = refl; split = refl; number = refl; own = λ a e. let clash : ◌≡◌ {A = Option Awaited} None (Some a) = e in absurd (cc clash); ends = λ e. absurd (cc e) };
     idle = λ e. absurd (cc e);
   }
 
@@ -150,20 +150,20 @@ module _ (P : ℕ → replies.Reply → Type 0) where
   stays_ok all s given ok = subst (SessionOk P all s) (sym (append-nil given)) ok
 
   -- if something is outstanding it is not closed
-  pub going_on : (all : List ℕ) (s : Session) (given : List ℕ) (a : Outstanding) → SessionOk P all s given → s.outstanding ≡ Some a → s.closed ≡ false
+  pub going_on : (all : List ℕ) (s : Session) (given : List ℕ) (a : Awaited) → SessionOk P all s given → s.outstanding ≡ Some a → s.closed ≡ false
   going_on all s given a ok at = by s.closed refl
     where
       by : (b : Bool) → s.closed ≡ b → s.closed ≡ false
-      by true e = let clash : ◌≡◌ {A = Option Outstanding} None (Some a) = sym (ok.idle e).none_asked ∙ at in absurd (cc clash)
+      by true e = let clash : ◌≡◌ {A = Option Awaited} None (Some a) = sym (ok.idle e).none_asked ∙ at in absurd (cc clash)
       by false e = e
 
   -- a reply of which P holds comes
-  pub replied_ok : (all : List ℕ) (s : Session) (given : List ℕ) (q : ℕ) (reply : replies.Reply) → P q reply → SessionOk P all s given → SessionOk P all (answered s q reply).session (given ++ (answered s q reply).bytes)
+  pub replied_ok : (all : List ℕ) (s : Session) (given : List ℕ) (q : ℕ) (reply : replies.Reply) → P q reply → SessionOk P all s given → SessionOk P all (session_answered s q reply).session (given ++ (session_answered s q reply).bytes)
   replied_ok all s given q reply p ok = by_command s.command refl
     where
-      by : (o : Option Outstanding) → s.command ≡ None → s.outstanding ≡ o → SessionOk P all (answered_to s q reply o).session (given ++ (answered_to s q reply o).bytes)
+      by : (o : Option Awaited) → s.command ≡ None → s.outstanding ≡ o → SessionOk P all (answered_to_awaited s q reply o).session (given ++ (answered_to_awaited s q reply o).bytes)
       by None untaken at = stays_ok all s given ok
-      by (Some a) untaken at = cond_both (a.number == q) (go_on (record s { outstanding = None }) (given_text reply a.quiet)) (unmoved s) (λ (g : Given). SessionOk P all g.session (given ++ g.bytes))
+      by (Some a) untaken at = cond_both (a.number == q) (session_goes_on (record s { outstanding = None }) (given_text reply a.quiet)) (session_stays s) (λ (g : SessionStep). SessionOk P all g.session (given ++ g.bytes))
           (λ same.
           let going = going_on all s given a ok at in
           let live = ok.live in
@@ -177,23 +177,23 @@ module _ (P : ℕ → replies.Reply → Type 0) where
           (one_more live.turns ok.taken s.waiting (Ask pend.0 a.quiet) (live.split ∙ ap (λ (ts : List Turn). ok.taken ++ (ts ++ s.waiting)) pend.1)) refl untaken going
           (omega (arith, last, one, pushed))
           (texts-append 1 q ok.taken (Ask pend.0 a.quiet ∷ []) given (given_text reply a.quiet) number ok.texts (reply, [], p, sym (append-nil (given_text reply a.quiet)), refl)) in
-          let Q : Bool → Type 0 = λ z. SessionOk P all (go_where (record s { outstanding = None }) (given_text reply a.quiet) None z).session (given ++ (go_where (record s { outstanding = None }) (given_text reply a.quiet) None z).bytes) in
+          let Q : Bool → Type 0 = λ z. SessionOk P all (session_goes_if (record s { outstanding = None }) (given_text reply a.quiet) None z).session (given ++ (session_goes_if (record s { outstanding = None }) (given_text reply a.quiet) None z).bytes) in
           subst Q (sym going) went)
           (λ _. stays_ok all s given ok)
 
-      by_command : (c : Option Command) → s.command ≡ c → SessionOk P all (answered_if s q reply c).session (given ++ (answered_if s q reply c).bytes)
+      by_command : (c : Option Command) → s.command ≡ c → SessionOk P all (answered_if_taken s q reply c).session (given ++ (answered_if_taken s q reply c).bytes)
       by_command (Some c) e = stays_ok all s given ok
       by_command None e = by s.outstanding e refl
 
   -- a piece of the client's bytes comes
-  pub fed_ok : (all piece : List ℕ) (s : Session) (given : List ℕ) (g : Given) → SessionOk P all s given → IsFed s piece g → SessionOk P (all ++ piece) g.session (given ++ g.bytes)
+  pub fed_ok : (all piece : List ℕ) (s : Session) (given : List ℕ) (g : SessionStep) → SessionOk P all s given → IsFedSession s piece g → SessionOk P (all ++ piece) g.session (given ++ g.bytes)
   fed_ok all piece s given g ok h = by s.closed refl h
     where
-      live : Live all s ok.taken
+      live : LiveSession all s ok.taken
       live = ok.live
 
-      by : (closed : Bool) → s.closed ≡ closed → IsFedWhere closed s piece g → SessionOk P (all ++ piece) g.session (given ++ g.bytes)
-      by true at is = subst (λ (z : Given). SessionOk P (all ++ piece) z.session (given ++ z.bytes)) (sym is)
+      by : (closed : Bool) → s.closed ≡ closed → IsFedSessionIf closed s piece g → SessionOk P (all ++ piece) g.session (given ++ g.bytes)
+      by true at is = subst (λ (z : SessionStep). SessionOk P (all ++ piece) z.session (given ++ z.bytes)) (sym is)
           (stays_ok (all ++ piece) s given (record {
             taken = ok.taken;
             texts = ok.texts;
@@ -201,10 +201,10 @@ module _ (P : ℕ → replies.Reply → Type 0) where
             live = record { turns = live.turns; reads = reads_closed all piece live.turns s.reader live.reads (live.ends at); pending = live.pending; is_pending = live.is_pending; split = live.split; number = live.number; own = live.own; ends = live.ends };
             idle = ok.idle;
           }))
-      by false at is = subst (λ (z : Given). SessionOk P (all ++ piece) z.session (given ++ z.bytes)) (sym is.3)
-          (let Q : Bool → Type 0 = λ z. SessionOk P (all ++ piece) (go_where s' [] s'.outstanding z).session (given ++ (go_where s' [] s'.outstanding z).bytes) in subst Q (sym at) (on s.outstanding refl))
+      by false at is = subst (λ (z : SessionStep). SessionOk P (all ++ piece) z.session (given ++ z.bytes)) (sym is.3)
+          (let Q : Bool → Type 0 = λ z. SessionOk P (all ++ piece) (session_goes_if s' [] s'.outstanding z).session (given ++ (session_goes_if s' [] s'.outstanding z).bytes) in subst Q (sym at) (on s.outstanding refl))
         where
-          reads_by : (b : Bool) → s.reader.closed ≡ b → IsReadOn b s.reader piece is.0 is.1 → ReadsTurns (all ++ piece) (live.turns ++ is.0) is.1
+          reads_by : (b : Bool) → s.reader.closed ≡ b → ReaderReadsOn b s.reader piece is.0 is.1 → ReadsTurns (all ++ piece) (live.turns ++ is.0) is.1
           reads_by true e r =
               let old = reads_closed all piece live.turns s.reader live.reads e in
               subst (λ (z : List Turn × Reading). ReadsTurns (all ++ piece) z.0 z.1) (λ i. ((sym (append-nil live.turns) ∙ ap (λ ts. live.turns ++ ts) (sym r.0)) i, sym r.1 i)) old
@@ -219,7 +219,7 @@ module _ (P : ℕ → replies.Reply → Type 0) where
           split : live.turns ++ is.0 ≡ ok.taken ++ (live.pending ++ (s.waiting ++ is.0))
           split = ap (λ ts. ts ++ is.0) live.split ∙ (append_assoc ok.taken (live.pending ++ s.waiting) is.0 ∙ ap (λ ts. ok.taken ++ ts) (append_assoc live.pending s.waiting is.0))
 
-          on : (o : Option Outstanding) → s.outstanding ≡ o → SessionOk P (all ++ piece) (go_where s' [] o false).session (given ++ (go_where s' [] o false).bytes)
+          on : (o : Option Awaited) → s.outstanding ≡ o → SessionOk P (all ++ piece) (session_goes_if s' [] o false).session (given ++ (session_goes_if s' [] o false).bytes)
           on None e =
               let nothing = none_pending s.outstanding s.command live.pending live.is_pending e in
               let zero : length live.pending ≡ 0 = ap (λ (ts : List Turn). length ts) nothing.1 in
@@ -236,7 +236,7 @@ module _ (P : ℕ → replies.Reply → Type 0) where
           })
 
   -- its command is taken
-  pub taken_ok : (all : List ℕ) (s : Session) (given : List ℕ) (ready : Ready) (now : Session) → IsTakenOf s ready now → SessionOk P all s given → SessionOk P all now given
+  pub taken_ok : (all : List ℕ) (s : Session) (given : List ℕ) (ready : Ready) (now : Session) → IsTakenOfSession s ready now → SessionOk P all s given → SessionOk P all now given
   taken_ok all s given ready now t ok =
       let live = ok.live in
       let pend = one_pending s.outstanding s.command live.pending t.asked live.is_pending t.outstanding in
@@ -244,6 +244,6 @@ module _ (P : ℕ → replies.Reply → Type 0) where
         taken = ok.taken;
         texts = ok.texts;
         front = ok.front;
-        live = record { turns = live.turns; reads = live.reads; pending = live.pending; is_pending = subst (λ (o : Option Outstanding). IsPending o None live.pending) (sym t.outstanding) pend; split = live.split; number = live.number; own = live.own; ends = live.ends };
+        live = record { turns = live.turns; reads = live.reads; pending = live.pending; is_pending = subst (λ (o : Option Awaited). IsPending o None live.pending) (sym t.outstanding) pend; split = live.split; number = live.number; own = live.own; ends = live.ends };
         idle = λ e. let i = ok.idle e in record { none_asked = i.none_asked; none_waits = i.none_waits };
       })

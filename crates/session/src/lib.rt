@@ -10,5 +10,5 @@
 mod session;
 mod turns;
 
-pub use session::{Outstanding, Ready, Session};
+pub use session::{Awaited, Ready, Session};
 pub use turns::Turns;

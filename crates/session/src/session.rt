@@ -2,7 +2,7 @@
 
 ghost use Rattle.std.specs.Prelude.{◌≡◌, ◌+◌, ◌^◌, ◌⊎◌, Some, None, IfOk, IfErr, IfSome, IfNone, OnOk, Err, is_some};
 ghost use Rattle.proto.specs.Text.{given_text};
-ghost use Rattle.session.specs.Session.{Given, IsFed, answered, go as taken, go_on as went_on, new_session, IsTakenOf};
+ghost use Rattle.session.specs.Session.{SessionStep, IsFedSession, session_answered, session_goes as taken, session_goes_on as went_on, new_session, IsTakenOfSession};
 
 use crate::turns::Turns;
 use proto::{Command, Fault, Reader, Reply, Turn, write_reply};
@@ -10,7 +10,7 @@ use std::alloc::Global;
 
 /// The command that waits for its reply.
 #[derive(Clone, Copy)]
-pub struct Outstanding {
+pub struct Awaited {
     /// The how manyth command of the session it is, from 1.
     pub number: u64,
     /// Whether its reply is left out of what the client is given.
@@ -34,7 +34,7 @@ pub struct Session {
     pub waiting: Turns,
     /// How many commands were outstanding so far: the number of the last one.
     pub last: u64,
-    pub outstanding: Option<Outstanding>,
+    pub outstanding: Option<Awaited>,
     /// The outstanding command, until it is taken.
     pub command: Option<Command>,
     /// Whether a Close was taken: nothing is read any more.
@@ -77,7 +77,7 @@ impl Session {
     {
         let number = self.last.checked_add(1).ok_or(Fault::Stopped)?;
         self.last = number;
-        self.outstanding = Some(Outstanding { number, quiet });
+        self.outstanding = Some(Awaited { number, quiet });
         self.command = Some(command);
         Ok(())
     }
@@ -121,8 +121,8 @@ impl Session {
     /// NoMemory: an allocation failed; Stopped: no number is left for a command. After an error a part may have been
     /// read: the session is to be let go.
     pub fn feed(&mut self, alloc: Global, piece: &[u8]) -> Result<Vec<u8>, Fault>
-        ensures ok { IfOk result (λ bytes. IsFed self.old piece.now (record { session = self.new; bytes = bytes.items })) }
-        ensures stopped { result ≡ Err Fault.Stopped → (g : Given) × IsFed self.old piece.now g × (g.session.last ≡ 2 ^ 64) }
+        ensures ok { IfOk result (λ bytes. IsFedSession self.old piece.now (record { session = self.new; bytes = bytes.items })) }
+        ensures stopped { result ≡ Err Fault.Stopped → (g : SessionStep) × IsFedSession self.old piece.now g × (g.session.last ≡ 2 ^ 64) }
         ensures only { IfErr result (λ fault. (fault ≡ Fault.NoMemory) ⊎ (fault ≡ Fault.Stopped)) }
     {
         let mut bytes = Vec::new(alloc);
@@ -155,8 +155,8 @@ impl Session {
     ///
     /// NoMemory, Stopped: as in `feed`.
     pub fn answer(&mut self, alloc: Global, number: u64, reply: &Reply) -> Result<Vec<u8>, Fault>
-        ensures ok { IfOk result (λ bytes. record { session = self.new; bytes = bytes.items } ≡ answered self.old number reply.now) }
-        ensures stopped { result ≡ Err Fault.Stopped → (answered self.old number reply.now).session.last ≡ 2 ^ 64 }
+        ensures ok { IfOk result (λ bytes. record { session = self.new; bytes = bytes.items } ≡ session_answered self.old number reply.now) }
+        ensures stopped { result ≡ Err Fault.Stopped → (session_answered self.old number reply.now).session.last ≡ 2 ^ 64 }
         ensures only { IfErr result (λ fault. (fault ≡ Fault.NoMemory) ⊎ (fault ≡ Fault.Stopped)) }
     {
         if self.command.is_some() {
@@ -172,7 +172,7 @@ impl Session {
     /// Takes the outstanding command, once. `None`, and nothing changes: it was taken, or none is outstanding.
     pub fn take(&mut self) -> Option<Ready>
         ensures none { IfNone result ((self.new ≡ self.old) × ((self.old.command ≡ None) ⊎ (self.old.outstanding ≡ None))) }
-        ensures some { IfSome result (λ ready. IsTakenOf self.old ready self.new) }
+        ensures some { IfSome result (λ ready. IsTakenOfSession self.old ready self.new) }
     {
         let asked = self.outstanding?;
         let command = self.command.take()?;
