@@ -99,7 +99,8 @@ impl Service {
         ensures counted { self.old.replicas.refused ≤ self.new.replicas.refused }
     {
         for at in 0..self.nodes.count() {
-            self.tick_node(alloc, at, self.nodes.replica(at));
+            let replica = self.nodes.replica(at);
+            self.tick_node(alloc, at, replica);
         }
     }
 
