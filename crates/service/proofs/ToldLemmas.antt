@@ -1,5 +1,5 @@
 -- What connections are told, call by call.
-use Rattle.std.proofs.Common.{◌≡◌, ◌⊎◌, inl, inr, ⊎_elim, ℕ, ◌+◌, ◌-◌, ◌^◌, ◌≤◌, ◌<◌, Bool, true, false, List, [], ◌∷◌, ◌++◌, Option, Some, None, refl, sym, ap, ◌∙◌, subst, arith, append_assoc}
+use Rattle.std.proofs.Common.{◌≡◌, ◌⊎◌, inl, inr, ⊎_elim, ℕ, ◌+◌, ◌-◌, ◌^◌, ◌≤◌, ◌<◌, Bool, true, false, List, [], ◌∷◌, ◌++◌, Option, Some, None, refl, sym, ap, ◌∙◌, subst, arith, length, append_assoc}
 use Rattle.std.specs.Prelude.{◌≢◌, ◌&&◌, is_some, not, Contains}
 use Rattle.std.proofs.lemmas.Bool.{eq-eqb}
 use Rattle.std.proofs.lemmas.List.{append-nil}
@@ -21,9 +21,11 @@ use Rattle.service.specs.declared.asking.Asking.{Asking}
 use Rattle.service.specs.declared.asking.Asking.TheVariants as asking
 use Rattle.service.specs.declared.assignment.Assignment.{Assignment}
 use Rattle.service.specs.declared.assignment.Outstanding.{Outstanding}
+use Rattle.service.specs.declared.note.Waiting.{Waiting}
 use Rattle.service.specs.Service.{ServiceView}
 use Rattle.service.specs.Steps.{AsksFor, Settles}
-use Rattle.service.specs.Told.{AreOfOthers, IsLastTold, AreTold, IsToldToClose, LeaversAreTold, UnlessRefused, TellsIn, Tells, MayTell, IsToldIfFailed}
+use Rattle.service.specs.Owed.{AllWait}
+use Rattle.service.specs.Told.{AreOfOthers, IsLastTold, AreTold, IsToldToClose, LeaversAreTold, UnlessRefused, TellsIn, MayTell, IsToldIfFailed, AsksAll, HasMoreAnswers}
 
 abbrev Table : Type 0
 Table = List (Option ConnectionView)
@@ -304,3 +306,52 @@ left_tells at old new refused refused_now said said_now left same counted = (
       (here_at old key d was, ap (is_outstanding d.number) (e ∙ sym was))),
   λ again few. let more = counted few in absurd (omega (arith, more, again)),
 )
+
+-- ---- all of it
+
+-- what holds unless something later was refused
+pub unless_on : (r0 r1 r2 : ℕ) (Holds : Type 0) → r0 ≤ r1 → r1 ≤ r2 → UnlessRefused r1 r2 Holds → UnlessRefused r0 r2 Holds
+unless_on r0 r1 r2 Holds le_a le_b holds same few = holds (omega (arith, le_a, le_b, same)) (omega (arith, le_a, le_b, same, few))
+
+pub unless_before : (r0 r1 r2 : ℕ) (Holds : Type 0) → r0 ≤ r1 → r1 ≤ r2 → UnlessRefused r0 r1 Holds → UnlessRefused r0 r2 Holds
+unless_before r0 r1 r2 Holds le_a le_b holds same few = holds (omega (arith, le_a, le_b, same)) few
+
+-- of two counts one went on, and something is refused
+pub is_refused : (r r_now e f : ℕ) (Holds : Type 0) → (r < 2 ^ 64 - 1 → r < r_now) → e ≤ f → UnlessRefused (r + e) (r_now + f) Holds
+is_refused r r_now e f Holds counted le same few = let more = counted (omega (arith, few)) in absurd (omega (arith, more, le, same))
+
+pub unless_more : (r r_now e : ℕ) (Holds : Type 0) → UnlessRefused r r_now Holds → UnlessRefused (r + e) (r_now + e) Holds
+unless_more r r_now e Holds holds same few = holds (omega (arith, same)) (omega (arith, few))
+
+-- all that was said in a call
+pub tells_all : (old mid new : Table) (r0 r1 r2 : ℕ) (said : List Said) → mid ≡ old → r1 ≡ r0 → TellsIn mid r1 [] new r2 said → AreTold old new said × UnlessRefused r0 r2 (LeaversAreTold old new said)
+tells_all old mid new r0 r1 r2 said same same_refused tells =
+    let told : AreTold mid new said = subst (AreTold mid new) (sym tells.1) tells.2 in
+    let leavers : UnlessRefused r1 r2 (LeaversAreTold mid new said) = subst (λ (more : List Said). UnlessRefused r1 r2 (LeaversAreTold mid new more)) (sym tells.1) tells.3 in
+    (subst (λ (t : Table). AreTold t new said) same told, subst (λ (z : Table × ℕ). UnlessRefused z.1 r2 (LeaversAreTold z.0 new said)) (λ i. (same i, same_refused i)) leavers)
+
+-- one leaves the line
+pub shorter : (old new : List Waiting) (w : Waiting) → old ≡ w ∷ new → length new < length old
+shorter old new w is = let long : length old ≡ length (w ∷ new) = ap length is in omega (arith, long)
+
+-- what is told as commands are asked, and then as they are answered
+pub round_tells : (t0 t1 t2 t3 : Table) (r0 r1 r2 r3 : ℕ) (s0 s1 s2 : List Said) → r0 ≤ r1 → r1 ≤ r2 → r2 ≤ r3 → t2 ≡ t1 → TellsIn t0 r0 s0 t1 r1 s1 → TellsIn t2 r2 s1 t3 r3 s2 → TellsIn t0 r0 s0 t3 r3 s2
+round_tells t0 t1 t2 t3 r0 r1 r2 r3 s0 s1 s2 le_a le_b le_c same first second =
+    tells_on t0 t2 t3 r0 r2 r3 s0 s1 s2 (omega (arith, le_a, le_b)) le_c (tells_on t0 t1 t2 r0 r1 r2 s0 s1 s1 le_a le_b first (tells_same t1 t2 r1 r2 s1 s1 same refl)) second
+
+-- ---- what waits is asked
+
+pub asks_same : (v now : ServiceView) → now.line ≡ v.line → now.waiting ≡ v.waiting → AsksAll v → AsksAll now
+asks_same v now line waiting asks = ⊎_elim
+    (λ (none : v.line ≡ []). inl (line ∙ none))
+    (λ (all : AllWait v.waiting). inr (subst AllWait (sym waiting) all))
+    asks
+
+-- nothing was answered
+pub asked_and_rests : (v1 v2 v3 : ServiceView) (r0 r1 r2 r3 : ℕ) → r0 ≤ r1 → r1 ≤ r2 → r2 ≤ r3 → UnlessRefused r0 r1 (AsksAll v1) → (v2.line ≡ v1.line) × (v2.waiting ≡ v1.waiting) → (v3.line ≡ v2.line) × (v3.waiting ≡ v2.waiting) → UnlessRefused r0 r3 (AsksAll v3)
+asked_and_rests v1 v2 v3 r0 r1 r2 r3 le_a le_b le_c asks same again again_refused few =
+    asks_same v2 v3 again.0 again.1 (asks_same v1 v2 same.0 same.1 (asks (omega (arith, le_a, le_b, le_c, again_refused)) few))
+
+-- more came back, and then more
+pub more_answers : (a b : ℕ) (v between now : ServiceView) → HasMoreAnswers a v between → HasMoreAnswers b between now → HasMoreAnswers (a + b) v now
+more_answers a b v between now first second = omega (arith, first, second)

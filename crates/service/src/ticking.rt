@@ -48,11 +48,17 @@ fn tick_at(
     ensures order { ensemble.new.order ≡ ensemble.old.order }
     ensures size { size_of ensemble.new.nodes ≡ size_of ensemble.old.nodes }
 {
-    let urge = pool.tick(at, u, seen);
-    if urge != Urge::Wait {
-        ask_again(alloc, pool, ensemble, at, seen);
+    match pool.tick(at, u, seen) {
+        Urge::Wait => false,
+        Urge::Again => {
+            ask_again(alloc, pool, ensemble, at, seen);
+            false
+        }
+        Urge::Suspect => {
+            ask_again(alloc, pool, ensemble, at, seen);
+            true
+        }
     }
-    urge == Urge::Suspect
 }
 
 impl Service {
@@ -99,7 +105,8 @@ impl Service {
         ensures counted { self.old.replicas.refused ≤ self.new.replicas.refused }
     {
         for at in 0..self.nodes.count() {
-            self.tick_node(alloc, at, self.nodes.replica(at));
+            let replica = self.nodes.replica(at);
+            self.tick_node(alloc, at, replica);
         }
     }
 
