@@ -1,8 +1,8 @@
 //! Orders whose turn has come.
 
-ghost use Rattle.std.specs.Prelude.{◌≡◌, IfSome, IfNone, is_some};
+ghost use Rattle.std.specs.Prelude.{◌≡◌, IfSome, IfNone, is_some, [], MatchOption};
 ghost use Rattle.hosts.specs.Host.{HostForgets, HostObeys};
-ghost use Rattle.hosts.specs.Orders.{is_busy as busy, awaited_of, has_due as due, StayHeld};
+ghost use Rattle.hosts.specs.Orders.{is_busy as busy, awaited_of, has_due as due, StayHeld, HostTakesDue};
 
 use crate::executor_host::ExecutorHost;
 use crate::held::{has_order, take_order};
@@ -50,6 +50,7 @@ impl ExecutorHost {
         ensures none { IfNone result (HostForgets self.old self.new) }
         ensures some { IfSome result (λ sent. HostObeys self.old self.new sent.items) }
         ensures taken { is_some result ≡ due self.old }
+        ensures turn { MatchOption result (HostTakesDue self.old self.new []) (λ sent. HostTakesDue self.old self.new sent.items) }
         ensures later { StayHeld (awaited_of self.old.slot) self.old.held self.new.held }
     {
         let (epoch, number) = awaited(&self.place)?;
