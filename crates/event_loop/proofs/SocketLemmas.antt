@@ -1,6 +1,7 @@
 -- Steps of a socket, one after the other.
 use Rattle.std.proofs.Common.{◌≡◌, ◌≢◌, ◌⊎◌, ℕ, ◌+◌, ◌<◌, ◌≤◌, Bool, true, false, List, [], ◌∷◌, ◌++◌, length, refl, ap, sym, ◌∙◌, subst, append_assoc, arith, inl, inr}
-use Rattle.std.specs.Prelude.{Result, Contains, sum_by}
+use Rattle.std.specs.Prelude.{Result, Option, Some, None, Contains, sum_by}
+use Rattle.std.specs.Io.KnownBytes.{Appends}
 use Rattle.std.specs.List.{All}
 use Rattle.slab.proofs.SlabLemmas.{Contains-cons_cases}
 use Rattle.std.proofs.lemmas.List.{append-nil, length-append}
@@ -67,6 +68,44 @@ writes_then a b c p q =
       others = q.others ∙ ap (λ (s : SocketView). record s { traffic = c.traffic; is_writable = c.is_writable; has_ended = c.has_ended }) p.others;
     }
 
+appends_none : (o : Option (List ℕ)) → Appends o o []
+appends_none None = tt
+appends_none (Some xs) = sym (append-nil xs)
+
+-- no write was made
+pub writes_nothing : (a : SocketView) → SocketWrites a a
+writes_nothing a = record {
+  piece = [];
+  traffic = record { waits = refl; written = sym (append-nil (written a.traffic)); contents = appends_none a.traffic.contents; said = refl; got = refl; reads = refl };
+  ended = λ e. e;
+  results = [];
+  writes = sym (append-nil a.traffic.writes);
+  failed = λ o. absurd (one_none IsFailed o);
+  only_failed = λ e. inl e;
+  blocked = λ e. inl e;
+  others = refl;
+}
+
+-- one was
+pub writes_once : (a b : SocketView) (piece : List ℕ) (r : Result ℕ Error) → IsWritten a.traffic piece b.traffic → b.traffic.writes ≡ a.traffic.writes ++ r ∷ [] → (a.has_ended ≡ true → b.has_ended ≡ true) → (IsFailed r → b.has_ended ≡ true) → (b.has_ended ≡ true → (a.has_ended ≡ true) ⊎ IsFailed r) → (a.is_writable ≡ true → (b.is_writable ≡ true) ⊎ IsBlocked r)
+    → b ≡ record a { traffic = b.traffic; is_writable = b.is_writable; has_ended = b.has_ended } → SocketWrites a b
+writes_once a b piece r traffic writes ended failed only_failed blocked others = record {
+  piece = piece;
+  traffic = traffic;
+  ended = ended;
+  results = r ∷ [];
+  writes = writes;
+  failed = λ o. failed (alone IsFailed r o);
+  only_failed = λ e. elim (only_failed e) [ inl before ↦ inl before | inr f ↦ inr (one_alone IsFailed r f) ];
+  blocked = λ e. elim (blocked e) [ inl still ↦ inl still | inr w ↦ inr (one_alone IsBlocked r w) ];
+  others = others;
+}
+
+-- what was read is not what was told
+pub more_got : (told got new bytes : List ℕ) → told ≡ got → new ≡ got ++ bytes → bytes ≢ [] → told ≢ new
+more_got told got new [] same more some all = some refl
+more_got told got new (b ∷ bytes) same more some all = omega (arith, ap (λ (l : List ℕ). length l) same, ap (λ (l : List ℕ). length l) more, ap (λ (l : List ℕ). length l) all, length-append got (b ∷ bytes))
+
 -- nothing was told
 pub tells_nothing : (key : ℕ) (a b : SocketView) (x y : List Heard) → y ≡ x → b.told ≡ a.told → b.untold ≡ a.untold → b.traffic.said ≡ a.traffic.said → b.number ≡ a.number → b.closes ≡ a.closes → (a.has_ended ≡ true → b.has_ended ≡ true) → Tells key a b x y
 tells_nothing key a b x y heard told untold said number closes ended =
@@ -75,7 +114,7 @@ tells_nothing key a b x y heard told untold said number closes ended =
       heard = heard ∙ sym (append-nil x);
       about = All-nil (IsAbout key a.number);
       told = told ∙ sym (append-nil a.told);
-      untold = untold;
+      untold = omega (arith, untold);
       said = said;
       number = number;
       closes = closes;

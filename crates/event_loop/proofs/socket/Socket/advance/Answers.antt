@@ -13,11 +13,6 @@ returns-then-may_be_read-clause-turn g c =
     let may = c.may_be_read.ensures.0 (search rules) in
     turn_read c.args.reads c.args.self.now c.write.new.self c.write.ensures.writes c.write.ensures.one c.tell_written.new.self c.read.new.self c.tell_written.ensures.same may c.read.ensures.reads
 
-pub returns-else-may_be_read-clause-turn : goal.returns-else-may_be_read-clause-turn
-returns-else-may_be_read-clause-turn g c =
-    turn_unread c.args.reads c.args.self.now c.write.new.self c.write.ensures.writes c.write.ensures.one c.write.ensures.none c.tell_written.new.self c.tell_written.ensures.same
-    (λ asks may. let no : ⊥ = search rules in absurd no)
-
 pub returns-else-reads-clause-turn : goal.returns-else-reads-clause-turn
 returns-else-reads-clause-turn g c =
     turn_unread c.args.reads c.args.self.now c.write.new.self c.write.ensures.writes c.write.ensures.one c.write.ensures.none c.tell_written.new.self c.tell_written.ensures.same
