@@ -4,6 +4,7 @@ use Rattle.std.specs.Prelude.{◌≢◌, ◌&&◌, is_some, not, Contains}
 use Rattle.std.proofs.lemmas.Bool.{eq-eqb}
 use Rattle.std.proofs.lemmas.List.{append-nil}
 use Rattle.std.proofs.lemmas.List.Elements.{Contains-push, Contains-append_left, Contains-append_right, Contains-append_cases}
+use Rattle.proto.specs.declared.reply.Reply as replies
 use Rattle.session.specs.declared.session.Ready.{Ready}
 use Rattle.connections.specs.declared.places.Place.{Place}
 use Rattle.connections.specs.declared.said.Said.{Said}
@@ -22,10 +23,11 @@ use Rattle.service.specs.declared.asking.Asking.TheVariants as asking
 use Rattle.service.specs.declared.assignment.Assignment.{Assignment}
 use Rattle.service.specs.declared.assignment.Outstanding.{Outstanding}
 use Rattle.service.specs.declared.note.Waiting.{Waiting}
+use Rattle.service.specs.declared.working.TheConstants.{MOST_ROUNDS}
 use Rattle.service.specs.Service.{ServiceView}
 use Rattle.service.specs.Steps.{AsksFor, Settles}
 use Rattle.service.specs.Owed.{AllWait}
-use Rattle.service.specs.Told.{AreOfOthers, IsLastTold, AreTold, IsToldToClose, LeaversAreTold, UnlessRefused, TellsIn, MayTell, IsToldIfFailed, AsksAll, HasMoreAnswers}
+use Rattle.service.specs.Told.{AreOfOthers, IsLastTold, AreTold, IsToldToClose, LeaversAreTold, UnlessRefused, TellsIn, MayTell, IsToldIfFailed, AsksAll, HasMoreAnswers, AsksWhatWaits}
 
 abbrev Table : Type 0
 Table = List (Option ConnectionView)
@@ -355,3 +357,8 @@ asked_and_rests v1 v2 v3 r0 r1 r2 r3 le_a le_b le_c asks same again again_refuse
 -- more came back, and then more
 pub more_answers : (a b : ℕ) (v between now : ServiceView) → HasMoreAnswers a v between → HasMoreAnswers b between now → HasMoreAnswers (a + b) v now
 more_answers a b v between now first second = omega (arith, first, second)
+
+-- a call that begins with what is noted
+pub work_asks : (v0 v1 now : ServiceView) → v1.answered ≡ v0.answered → v1.replicas.refused ≡ v0.replicas.refused → UnlessRefused v1.replicas.refused now.replicas.refused (AsksWhatWaits v1 now) → UnlessRefused v0.replicas.refused now.replicas.refused (AsksWhatWaits v0 now)
+work_asks v0 v1 now answered refused asks same few =
+    subst (λ (log : List ((ℕ × ℕ) × replies.Reply)). AsksAll now ⊎ (length log + MOST_ROUNDS ≤ length now.answered)) answered (asks (omega (arith, same, refused)) (omega (arith, few, refused)))

@@ -1,17 +1,29 @@
-use Rattle.std.proofs.Common.{◌≡◌, arith, ℕ, List, [], ◌∷◌, ◌++◌, sym, ◌∙◌, subst}
+use Rattle.std.proofs.Common.{◌≡◌, arith, ℕ, List, [], ◌∷◌, ◌++◌, refl, sym, ◌∙◌, subst}
 use Rattle.std.specs.Prelude.{Contains}
 use Rattle.std.proofs.lemmas.List.Elements.{Contains-append_left, Contains-push}
 use Rattle.proto.specs.declared.reply.Reply as replies
 use Rattle.ensemble.specs.declared.answer.Answer.{Answer}
 use Rattle.ensemble.specs.declared.noted.Noted.{Noted}
 use Rattle.ensemble.specs.Ensemble.{answer_entry, order_entry}
-use Rattle.service.proofs.KeepLemmas.{gives_on}
-use Rattle.service.proofs.ToldLemmas.{tells_on}
+use Rattle.service.proofs.KeepLemmas.{gives_none, gives_on}
+use Rattle.service.proofs.ToldLemmas.{tells_on, tells_same}
 use Rattle.service.proofs.service.Service.answer_all.Goals as goal
 
 not_empty : (answers rest : List Answer) (a : Answer) → answers ≡ rest ++ a ∷ [] → answers ≡ [] → ⊥
 not_empty answers [] a is none = let clash : ◌≡◌ {A = List Answer} [] (a ∷ []) = sym none ∙ is in absurd (cc clash)
 not_empty answers (b ∷ rest) a is none = let clash : ◌≡◌ {A = List Answer} [] (b ∷ (rest ++ a ∷ [])) = sym none ∙ is in absurd (cc clash)
+
+pub loop-answer-init : goal.loop-answer-init
+loop-answer-init c = record {
+  logged = c.requires;
+  given = gives_none c.args.self.now.connections c.args.said.now.items;
+  tells = tells_same c.args.self.now.connections.table c.args.self.now.connections.table c.args.self.now.replicas.refused c.args.self.now.replicas.refused c.args.said.now.items c.args.said.now.items refl refl;
+  none = λ empty. (empty, refl, refl);
+  answered = refl;
+  heard = refl;
+  counted = omega arith;
+  ensemble = refl;
+}
 
 pub loop-answer-preserved : goal.loop-answer-preserved
 loop-answer-preserved c = record {

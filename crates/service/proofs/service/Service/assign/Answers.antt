@@ -5,7 +5,7 @@ use Rattle.service.specs.Service.{ServiceView, none_shown, assigned}
 use Rattle.service.specs.Owed.{Remembers}
 use Rattle.connections.specs.declared.said.Said.{Said}
 use Rattle.service.specs.Told.{TellsIn}
-use Rattle.service.proofs.ToldLemmas.{assign_tells, shorter}
+use Rattle.service.proofs.ToldLemmas.{assign_tells, shorter, tells_same}
 use Rattle.service.proofs.MomentLemmas.{assigned_moments, given_handed, asked_moments, moment_now}
 use Rattle.service.proofs.KeepLemmas.{assign_keeps, assign_gives, lined}
 use Rattle.service.proofs.OwedLemmas.{assign_remembers}
@@ -49,3 +49,18 @@ pub returns-clause-goes_on : goal.returns-clause-goes_on
 returns-clause-goes_on c = λ yes.
     let s = c.self.inside in
     subst (λ (x : ServiceView). length c.pop_front.new.self.items < length x.line) c.self.view_is (shorter s.line.items c.pop_front.new.self.items c.in-Some-pop_front.waiting c.in-Some-pop_front.ensures.items)
+
+pub returns-then-is_err-clause-tells : goal.returns-then-is_err-clause-tells
+returns-then-is_err-clause-tells c =
+    let kept : c.reserve.new.self.items ≡ c.args.said.now.items = search rules in
+    tells_same _ _ _ _ c.args.said.now.items c.reserve.new.self.items (ap (λ (x : ServiceView). x.connections.table) c.self.view_is) kept
+
+pub returns-in_default-clause-tells : goal.returns-in_default-clause-tells
+returns-in_default-clause-tells c =
+    let kept : c.reserve.new.self.items ≡ c.args.said.now.items = search rules in
+    tells_same _ _ _ _ c.args.said.now.items c.reserve.new.self.items (ap (λ (x : ServiceView). x.connections.table) c.self.view_is) kept
+
+pub returns-in_default-pop_front-clause-tells : goal.returns-in_default-pop_front-clause-tells
+returns-in_default-pop_front-clause-tells c =
+    let kept : c.reserve.new.self.items ≡ c.args.said.now.items = search rules in
+    tells_same _ _ _ _ c.args.said.now.items c.reserve.new.self.items (ap (λ (x : ServiceView). x.connections.table) c.self.view_is) kept

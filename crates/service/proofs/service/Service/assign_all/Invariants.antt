@@ -4,8 +4,8 @@ use Rattle.service.specs.Service.{Gives}
 use Rattle.service.specs.Told.{Tells}
 use Rattle.service.proofs.service.Service.assign_all.Given as goal
 
-abbrev pub invariant-loop : goal.invariant-loop
-invariant-loop l = record {
+abbrev pub invariant-loop-alloc : goal.invariant-loop-alloc
+invariant-loop-alloc l = record {
   given : Gives l.initial.self.connections l.initial.said.items l.self.connections l.said.items;
   tells : Tells l.initial.self l.initial.said.items l.self l.said.items;
   answered : l.self.answered ≡ l.initial.self.answered;
@@ -15,5 +15,5 @@ invariant-loop l = record {
 }
 
 -- each that is asked leaves the line
-abbrev pub decreases-loop : goal.decreases-loop
-decreases-loop l = length l.self.line
+abbrev pub decreases-loop-alloc : goal.decreases-loop-alloc
+decreases-loop-alloc l = length l.self.line

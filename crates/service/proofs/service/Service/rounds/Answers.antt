@@ -1,8 +1,8 @@
-use Rattle.std.proofs.Common.{◌∙◌, inl, inr, arith}
+use Rattle.std.proofs.Common.{refl, ◌∙◌, inl, inr, arith}
 use Rattle.service.specs.Told.{AsksAll, AsksWhatWaits}
 use Rattle.service.proofs.MomentLemmas.{now_given}
-use Rattle.service.proofs.KeepLemmas.{gives_on}
-use Rattle.service.proofs.ToldLemmas.{tells_on, unless_on, more_answers}
+use Rattle.service.proofs.KeepLemmas.{gives_none, gives_on}
+use Rattle.service.proofs.ToldLemmas.{tells_on, tells_same, unless_on, more_answers}
 use Rattle.service.proofs.service.Service.rounds.Goals as goal
 
 pub round-requires : goal.round-requires
@@ -22,6 +22,17 @@ returns-then-not-round-clause-tells g c =
 pub returns-then-not-round-clause-asks : goal.returns-then-not-round-clause-asks
 returns-then-not-round-clause-asks g c = λ same few. inl (unless_on _ _ _ (AsksAll c.round.new.self) c.loop.invariant.counted c.round.ensures.counted (c.round.ensures.stops c.if-not-round.true) same few)
 
+pub loop-init : goal.loop-init
+loop-init g c = record {
+  given = gives_none c.args.self.now.connections c.args.said.now.items;
+  tells = tells_same c.args.self.now.connections.table c.args.self.now.connections.table c.args.self.now.replicas.refused c.args.self.now.replicas.refused c.args.said.now.items c.args.said.now.items refl refl;
+  more = omega arith;
+  heard = refl;
+  counted = omega arith;
+  size = refl;
+  rest = λ below. absurd (omega (arith, below));
+}
+
 pub loop-preserved : goal.loop-preserved
 loop-preserved g c = record {
   given = gives_on c.args.self.now.connections c.loop.self.connections c.round.new.self.connections c.args.said.now.items c.loop.said.items c.round.new.said.items c.loop.invariant.given c.round.ensures.given;
@@ -30,5 +41,5 @@ loop-preserved g c = record {
   heard = c.round.ensures.heard ∙ c.loop.invariant.heard;
   counted = let a = c.loop.invariant.counted in let b = c.round.ensures.counted in omega (arith, a, b);
   size = c.round.ensures.size ∙ c.loop.invariant.size;
-  rest = ?;
+  rest = λ from_one same few. let a = c.loop.invariant.counted in let b = c.round.ensures.counted in c.round.ensures.rest (omega (arith, a, b, same)) (omega (arith, a, b, same, few));
 }

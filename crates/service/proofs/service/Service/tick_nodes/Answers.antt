@@ -18,7 +18,7 @@ loop-at-preserved c =
 
 pub returns-clause-paused : goal.returns-clause-paused
 returns-clause-paused c =
-    let count = c.count.ensures in
+    let count = c.count-at-end.ensures in
     let end = c.loop-at-test.false in
     let same : length c.args.self.now.replicas.pauses ≡ length c.self.inside.nodes.pauses.items = ap (λ (v : ServiceView). length v.replicas.pauses) (sym c.self.view_is) in
     all_paused c.loop-at.at _ _ (omega (arith, count, end, same)) c.loop-at.invariant.paused

@@ -18,7 +18,7 @@ loop-at-preserved c =
 
 pub returns-clause-waited : goal.returns-clause-waited
 returns-clause-waited c =
-    let count = c.count.ensures in
+    let count = c.count-at-end.ensures in
     let end = c.loop-at-test.false in
     let same : length c.args.self.now.waiting ≡ length c.self.inside.pool = ap (λ (v : ServiceView). length v.waiting) (sym c.self.view_is) in
     (_, _, all_waited _ _ c.loop-at.at _ _ (omega (arith, count, end, same)) c.loop-at.invariant.waited)
