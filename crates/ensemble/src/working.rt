@@ -174,6 +174,21 @@ impl Ensemble {
         }
     }
 
+    /// Each executor that has a job runs it. How long that takes is counted.
+    fn run_timed<R: Threads + Wait + Sync, C: Clock>(&mut self, rt: &R, clock: &C, alloc: Global)
+        ensures asked { self.new.asked ≡ self.old.asked }
+        ensures answered { self.new.answered ≡ self.old.answered }
+        ensures order { self.new.order ≡ self.old.order }
+        ensures counted { self.old.refused ≤ self.new.refused }
+        ensures size { size_of self.new.nodes ≡ size_of self.old.nodes }
+        ensures ran { RunsAll self.old.nodes self.new.nodes }
+        ensures uncounted { self.new.refused ≡ self.old.refused }
+    {
+        self.stopwatch.begin(clock);
+        self.run(rt, alloc);
+        self.stopwatch.run(clock);
+    }
+
     /// All jobs are run, and what that sends is under way: whether there was a job.
     fn run_jobs<R: Threads + Wait + Sync, C: Clock>(
         &mut self,
@@ -193,9 +208,7 @@ impl Ensemble {
         if !self.nodes.has_jobs() {
             return false;
         }
-        self.stopwatch.begin(clock);
-        self.run(rt, alloc);
-        self.stopwatch.run(clock);
+        self.run_timed(rt, clock, alloc);
         self.collect_all(alloc);
         true
     }
