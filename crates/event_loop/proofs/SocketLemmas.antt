@@ -194,10 +194,10 @@ module _ (may_read : Bool) (a b : SocketView) (w : SocketWrites a b) (one : MayB
     failed = λ o. elim o [ inl f ↦ absurd (cc (sym may.is_here ∙ w.failed f)) | inr e ↦ r.failed (alone IsEnd r.piece e) ];
     blocked = λ e. elim (w.blocked e) [ inl still ↦ inl (ap (λ (s : SocketView). s.is_writable) r.others ∙ still) | inr o ↦ inr o ];
     emptied = λ e. elim r.emptied [ inl still ↦ inl still | inr emptied ↦ inr (one_alone IsEmptied r.piece emptied) ];
-    outstanding =
-      ( λ e. inr (omega (arith, r.outstanding.0 e, ap (λ (l : List ℕ). length l) same_told))
-      , λ o. elim o [ inl e ↦ absurd (cc (sym may.is_done_with ∙ same_outstanding ∙ e)) | inr more ↦ r.outstanding.1 (omega (arith, more, ap (λ (l : List ℕ). length l) same_told)) ]
-      );
+    outstanding = (
+      λ e. inr (omega (arith, r.outstanding.0 e, ap (λ (l : List ℕ). length l) same_told)),
+      λ o. elim o [ inl e ↦ absurd (cc (sym may.is_done_with ∙ same_outstanding ∙ e)) | inr more ↦ r.outstanding.1 (omega (arith, more, ap (λ (l : List ℕ). length l) same_told)) ],
+    );
     others = let all = (λ (s : SocketView). record s { traffic = d.traffic; told = d.told; untold = d.untold; is_readable = d.is_readable; is_writable = d.is_writable; is_outstanding = d.is_outstanding; has_ended = d.has_ended; is_listed = d.is_listed }) in ap all r.others ∙ ap all w.others;
   }
 
