@@ -2,7 +2,7 @@ use Rattle.std.proofs.Common.{rules, inl, refl, subst}
 use Rattle.hosts.specs.Host.{HostReopens}
 use Rattle.events.specs.declared.event.Replica.TheVariants as replica
 use Rattle.ensemble.specs.Nodes.{NodesView, HostMoves}
-use Rattle.ensemble.specs.Served.{HostPosts, IsReopened, IsReopenedAndPosts}
+use Rattle.ensemble.specs.Calls.{HostPosts, IsReopened, IsReopenedAndPosts}
 use Rattle.ensemble.proofs.Served.{letters_posted}
 use Rattle.ensemble.proofs.nodes.Nodes.open_executor.Goals as goal
 

@@ -4,7 +4,7 @@ use Rattle.decrees.specs.declared.node.Letter.{Letter}
 use Rattle.events.specs.declared.event.Replica.TheVariants as replica
 use Rattle.worlds.specs.World.{as_sent}
 use Rattle.ensemble.specs.Nodes.{NodesView, MayGrow, VerifierOpens}
-use Rattle.ensemble.specs.Served.{IsReopened, IsReopenedAndPosts}
+use Rattle.ensemble.specs.Calls.{IsReopened, IsReopenedAndPosts}
 use Rattle.ensemble.proofs.Served.{ballots_posted}
 use Rattle.ensemble.proofs.nodes.Nodes.open_verifier.Goals as goal
 
