@@ -135,11 +135,11 @@ collected_more id n mid now c m = record {
     get_is i = ap (λ (v : NodesView). slice_get v.executors i) m.5
 
     other : (i : ℕ) → (i ≡ id → ⊥) → slice_get now.executors i ≡ slice_get mid.executors i
-    other i no = get_is i ∙ by (slice_get mid.executors id) m.3
+    other i differs = get_is i ∙ by (slice_get mid.executors id) m.3
       where
         by : (o : Option HostView) → AtHostIn HostCollects id mid.executors m.0 m.1 o → slice_get m.0 i ≡ slice_get mid.executors i
         by None did = ap (λ (hs : List HostView). slice_get hs i) did.0
-        by (Some b) did = ap (λ (hs : List HostView). slice_get hs i) did.2 ∙ get_other mid.executors id i did.0 no
+        by (Some b) did = ap (λ (hs : List HostView). slice_get hs i) did.2 ∙ get_other mid.executors id i did.0 differs
 
     here : (h : HostView) → slice_get n.executors id ≡ Some h → slice_get now.executors id ≡ Some (record h { sent = [] })
     here h at = get_is id ∙ by (slice_get mid.executors id) refl m.3
