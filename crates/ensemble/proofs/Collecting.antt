@@ -19,7 +19,7 @@ use Rattle.worlds.specs.Slot.{Slot}
 use Rattle.hosts.specs.Host.{HostView, is_order, HostSettles, HostTakes, HostTakesWhere, HostReopens, HostCollects}
 use Rattle.ensemble.specs.declared.answer.Answer.{Answer}
 use Rattle.ensemble.specs.Nodes.{NodesView, size_of, AtHostIn, HostMoves, HostAdvances, VerifierMoves, ProxyReached, VerifiersReached, NodesReached, DeliversOf, Delivers, IsAskedBy, IsPosted, AsksAgain, RunsAll}
-use Rattle.ensemble.specs.Served.{HostPosts, RefusedNothing, sent_below, CollectedBelow, HaveRun, NoneWaits}
+use Rattle.ensemble.specs.Calls.{HostPosts, RefusedNothing, sent_below, CollectedBelow, HaveRun, AllCollected}
 use Rattle.ensemble.proofs.Lists.{set_get, set_cases, get_other, none_past}
 use Rattle.ensemble.proofs.Sending.{below_or_last}
 
@@ -48,10 +48,10 @@ reopens_keeps u id h left sent did = ap (λ (v : HostView). v.sent) did.2
 
 -- ---- none waits
 
-pub host_waits : (Does : HostView → HostView → List (Letter Body) → Type 0) → KeepsSent Does → (id : ℕ) (n now : NodesView) → HostMoves Does id n now → NoneWaits n → NoneWaits now
-host_waits Does keeps id n now m before = subst NoneWaits (sym m.5) (by (slice_get n.executors id) refl m.3)
+pub host_waits : (Does : HostView → HostView → List (Letter Body) → Type 0) → KeepsSent Does → (id : ℕ) (n now : NodesView) → HostMoves Does id n now → AllCollected n → AllCollected now
+host_waits Does keeps id n now m before = subst AllCollected (sym m.5) (by (slice_get n.executors id) refl m.3)
   where
-    by : (o : Option HostView) → slice_get n.executors id ≡ o → AtHostIn Does id n.executors m.0 m.1 o → NoneWaits (record n { executors = m.0; mail = m.2 })
+    by : (o : Option HostView) → slice_get n.executors id ≡ o → AtHostIn Does id n.executors m.0 m.1 o → AllCollected (record n { executors = m.0; mail = m.2 })
     by None is did i h lt at = before i h lt (sym (ap (λ (hs : List HostView). slice_get hs i) did.0) ∙ at)
     by (Some b) is did i h lt at = ⊎_elim
         (λ (same : (i ≡ id) × (h ≡ did.0)).
@@ -59,53 +59,53 @@ host_waits Does keeps id n now m before = subst NoneWaits (sym m.5) (by (slice_g
         (λ (other : slice_get n.executors i ≡ Some h). before i h lt other)
         (set_cases n.executors id i did.0 h (sym (ap (λ (hs : List HostView). slice_get hs i) did.2) ∙ at))
 
-pub open_host_waits : (Does : HostView → HostView → List (Letter Body) → Type 0) → KeepsSent Does → (id : ℕ) (n now : NodesView) → HostMoves Does id n now ⊎ (now ≡ n) → NoneWaits n → NoneWaits now
+pub open_host_waits : (Does : HostView → HostView → List (Letter Body) → Type 0) → KeepsSent Does → (id : ℕ) (n now : NodesView) → HostMoves Does id n now ⊎ (now ≡ n) → AllCollected n → AllCollected now
 open_host_waits Does keeps id n now (inl m) before = host_waits Does keeps id n now m before
-open_host_waits Does keeps id n now (inr same) before = subst NoneWaits (sym same) before
+open_host_waits Does keeps id n now (inr same) before = subst AllCollected (sym same) before
 
-pub verifier_waits : (Does : Slot VerifierView → Slot VerifierView → List (Letter Ballot) → Type 0) (id : ℕ) (n now : NodesView) → VerifierMoves Does id n now → NoneWaits n → NoneWaits now
-verifier_waits Does id n now m before = subst NoneWaits (sym m.5) (λ i h lt at. before i h lt at)
+pub verifier_waits : (Does : Slot VerifierView → Slot VerifierView → List (Letter Ballot) → Type 0) (id : ℕ) (n now : NodesView) → VerifierMoves Does id n now → AllCollected n → AllCollected now
+verifier_waits Does id n now m before = subst AllCollected (sym m.5) (λ i h lt at. before i h lt at)
 
-pub open_verifier_waits : (Does : Slot VerifierView → Slot VerifierView → List (Letter Ballot) → Type 0) (id : ℕ) (n now : NodesView) → VerifierMoves Does id n now ⊎ (now ≡ n) → NoneWaits n → NoneWaits now
+pub open_verifier_waits : (Does : Slot VerifierView → Slot VerifierView → List (Letter Ballot) → Type 0) (id : ℕ) (n now : NodesView) → VerifierMoves Does id n now ⊎ (now ≡ n) → AllCollected n → AllCollected now
 open_verifier_waits Does id n now (inl m) before = verifier_waits Does id n now m before
-open_verifier_waits Does id n now (inr same) before = subst NoneWaits (sym same) before
+open_verifier_waits Does id n now (inr same) before = subst AllCollected (sym same) before
 
-posted_waits : (n : NodesView) (client : ℕ) (r : Request) (now : NodesView) → IsPosted n client r now → NoneWaits n → NoneWaits now
-posted_waits n client r now p before = subst NoneWaits (sym p.after) (λ i h lt at. before i h lt at)
+posted_waits : (n : NodesView) (client : ℕ) (r : Request) (now : NodesView) → IsPosted n client r now → AllCollected n → AllCollected now
+posted_waits n client r now p before = subst AllCollected (sym p.after) (λ i h lt at. before i h lt at)
 
-pub ask_waits : (n mid now : NodesView) (client : ℕ) (r : Request) → mid ≡ record n { proxies = mid.proxies } → IsPosted mid client r now → NoneWaits n → NoneWaits now
-ask_waits n mid now client r is posted before = posted_waits mid client r now posted (subst NoneWaits (sym is) (λ i h lt at. before i h lt at))
+pub ask_waits : (n mid now : NodesView) (client : ℕ) (r : Request) → mid ≡ record n { proxies = mid.proxies } → IsPosted mid client r now → AllCollected n → AllCollected now
+ask_waits n mid now client r is posted before = posted_waits mid client r now posted (subst AllCollected (sym is) (λ i h lt at. before i h lt at))
 
-pub again_waits : (n : NodesView) (number : ℕ) (now : NodesView) → AsksAgain n number now → NoneWaits n → NoneWaits now
+pub again_waits : (n : NodesView) (number : ℕ) (now : NodesView) → AsksAgain n number now → AllCollected n → AllCollected now
 again_waits n number now (inl m) before = posted_waits n number m.0 now m.2 before
-again_waits n number now (inr same) before = subst NoneWaits (sym same) before
+again_waits n number now (inr same) before = subst AllCollected (sym same) before
 
-reached_waits : (n : NodesView) (l : Letter Body) (to : Node) (now : NodesView) (answer : Option Answer) → NodesReached n l to now answer → NoneWaits n → NoneWaits now
+reached_waits : (n : NodesView) (l : Letter Body) (to : Node) (now : NodesView) (answer : Option Answer) → NodesReached n l to now answer → AllCollected n → AllCollected now
 reached_waits n l (node.Executor id) now answer m before = host_waits _ (takes_keeps l) id n now m.0 before
 reached_waits n l (node.Client c) now answer m before = by l.body m
   where
-    by : (b : Body) → ProxyReached n c b now answer → NoneWaits now
-    by (body.Reply number reply) r = subst NoneWaits (sym r.2) (λ i h lt at. before i h lt at)
-    by (body.Want q) same = subst NoneWaits (sym same.0) before
-    by (body.Order q) same = subst NoneWaits (sym same.0) before
-    by (body.Need q) same = subst NoneWaits (sym same.0) before
-    by (body.Parcel q) same = subst NoneWaits (sym same.0) before
-    by (body.Ballot q) same = subst NoneWaits (sym same.0) before
+    by : (b : Body) → ProxyReached n c b now answer → AllCollected now
+    by (body.Reply number reply) r = subst AllCollected (sym r.2) (λ i h lt at. before i h lt at)
+    by (body.Want q) same = subst AllCollected (sym same.0) before
+    by (body.Order q) same = subst AllCollected (sym same.0) before
+    by (body.Need q) same = subst AllCollected (sym same.0) before
+    by (body.Parcel q) same = subst AllCollected (sym same.0) before
+    by (body.Ballot q) same = subst AllCollected (sym same.0) before
 reached_waits n l (node.Verifier id) now answer m before = by l.body m.0
   where
-    by : (b : Body) → VerifiersReached n l id b now → NoneWaits now
+    by : (b : Body) → VerifiersReached n l id b now → AllCollected now
     by (body.Ballot b) v = verifier_waits _ id n now v before
-    by (body.Want q) same = subst NoneWaits (sym same) before
-    by (body.Order q) same = subst NoneWaits (sym same) before
-    by (body.Reply number reply) same = subst NoneWaits (sym same) before
-    by (body.Need q) same = subst NoneWaits (sym same) before
-    by (body.Parcel q) same = subst NoneWaits (sym same) before
+    by (body.Want q) same = subst AllCollected (sym same) before
+    by (body.Order q) same = subst AllCollected (sym same) before
+    by (body.Reply number reply) same = subst AllCollected (sym same) before
+    by (body.Need q) same = subst AllCollected (sym same) before
+    by (body.Parcel q) same = subst AllCollected (sym same) before
 
-pub deliver_waits : (n now : NodesView) (answer : Option Answer) → Delivers n now answer → NoneWaits n → NoneWaits now
+pub deliver_waits : (n now : NodesView) (answer : Option Answer) → Delivers n now answer → AllCollected n → AllCollected now
 deliver_waits n now answer d before = by n.mail d
   where
-    by : (mail : List (Letter Body)) → DeliversOf n mail now answer → NoneWaits now
-    by [] same = subst NoneWaits (sym same.0) before
+    by : (mail : List (Letter Body)) → DeliversOf n mail now answer → AllCollected now
+    by [] same = subst AllCollected (sym same.0) before
     by (l ∷ rest) reached = reached_waits (record n { mail = rest }) l l.to now answer reached (λ i h lt at. before i h lt at)
 
 -- ---- nothing was refused in either of two calls
@@ -135,11 +135,11 @@ collected_more id n mid now c m = record {
     get_is i = ap (λ (v : NodesView). slice_get v.executors i) m.5
 
     other : (i : ℕ) → (i ≡ id → ⊥) → slice_get now.executors i ≡ slice_get mid.executors i
-    other i no = get_is i ∙ by (slice_get mid.executors id) m.3
+    other i differs = get_is i ∙ by (slice_get mid.executors id) m.3
       where
         by : (o : Option HostView) → AtHostIn HostCollects id mid.executors m.0 m.1 o → slice_get m.0 i ≡ slice_get mid.executors i
         by None did = ap (λ (hs : List HostView). slice_get hs i) did.0
-        by (Some b) did = ap (λ (hs : List HostView). slice_get hs i) did.2 ∙ get_other mid.executors id i did.0 no
+        by (Some b) did = ap (λ (hs : List HostView). slice_get hs i) did.2 ∙ get_other mid.executors id i did.0 differs
 
     here : (h : HostView) → slice_get n.executors id ≡ Some h → slice_get now.executors id ≡ Some (record h { sent = [] })
     here h at = get_is id ∙ by (slice_get mid.executors id) refl m.3
@@ -181,7 +181,7 @@ posted_more id n mid now c before p = ap (λ (v : NodesView). v.mail) p.3 ∙ by
         ∙ ap (λ (ls : List (Letter Body)). n.mail ++ ls) (sym (sent_more id n.executors b (sym (c.above id (omega arith)) ∙ is)))))
 
 -- what was collected waits no longer
-pub collected_waits : (n now : NodesView) → CollectedBelow (2 * n.u + 1) n now → size_of now ≡ size_of n → NoneWaits now
+pub collected_waits : (n now : NodesView) → CollectedBelow (2 * n.u + 1) n now → size_of now ≡ size_of n → AllCollected now
 collected_waits n now c same i h lt at = by (slice_get n.executors i) refl
   where
     count : length now.executors ≡ length n.executors

@@ -17,7 +17,8 @@ use Rattle.hosts.specs.Host.{HostView, HostSettles}
 use Rattle.hosts.specs.Orders.{has_due}
 use Rattle.ensemble.specs.Nodes.{NodesView, AtHostIn, AtHost, AtVerifier, IsAskedBy, IsOutstanding}
 use Rattle.ensemble.specs.Shown.{outstanding_in, outstanding_at, has_letters, has_job, is_quiet, would_cut}
-use Rattle.ensemble.specs.Served.{letters_asked, IsUnderWay, HostPosts, VerifierPosts, NoBatchAt, NoBatchBelow, IsAtRest}
+use Rattle.ensemble.specs.Calls.{HostPosts}
+use Rattle.ensemble.specs.Served.{letters_asked, IsUnderWay, VerifierPosts, NoBatchAt, NoBatchBelow, IsAtRest}
 use Rattle.ensemble.specs.Ensemble.{EnsembleView, IsEnsemble}
 use Rattle.ensemble.proofs.Cutting.{cut_gave_nothing}
 use Rattle.ensemble.proofs.Lists.{set_get, get_other}

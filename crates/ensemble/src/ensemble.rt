@@ -58,7 +58,8 @@ impl Ensemble {
     ghost use Rattle.ensemble.specs.Nodes.{IsFree, VerifierMoves, VerifierGets, size_of};
     ghost use Rattle.ensemble.specs.Shown.{is_free_at, is_up_at, latest_epoch, is_quiet};
     ghost use Rattle.events.specs.declared.event.Replica.TheVariants as replica;
-    ghost use Rattle.ensemble.specs.Served.{IsUnderWay, letters_again, VerifierPosts, RefusedNothing, IsReopened, IsReopenedAndPosts, NoneWaits};
+    ghost use Rattle.ensemble.specs.Calls.{RefusedNothing, IsReopened, IsReopenedAndPosts, AllCollected};
+    ghost use Rattle.ensemble.specs.Served.{IsUnderWay, letters_again, VerifierPosts};
     ghost use Rattle.memcached_spec.specs.Asked.{HasText};
     ghost use Rattle.ensemble.specs.declared.noted.Noted.TheVariants as noted;
     ghost use Rattle.ensemble.specs.Ensemble.{IsEnsemble, IsLogged, answer_log};
@@ -108,7 +109,7 @@ impl Ensemble {
         ensures err { OnErr result (self.new ≡ self.old) }
         ensures counted { self.old.refused ≤ self.new.refused }
         ensures size { size_of self.new.nodes ≡ size_of self.old.nodes }
-        ensures waits { NoneWaits self.old.nodes → NoneWaits self.new.nodes }
+        ensures waits { AllCollected self.old.nodes → AllCollected self.new.nodes }
         ensures sent { IfOk result (λ number. self.new.refused ≡ self.old.refused → self.old.refused < 2 ^ 64 - 1 → IsUnderWay self.old.nodes self.new.nodes proxy number command) }
     {
         let request = self.nodes.ask(proxy, command, quiet)?;
@@ -128,7 +129,7 @@ impl Ensemble {
         ensures order { self.new.order ≡ self.old.order }
         ensures counted { self.old.refused ≤ self.new.refused }
         ensures size { size_of self.new.nodes ≡ size_of self.old.nodes }
-        ensures waits { NoneWaits self.old.nodes → NoneWaits self.new.nodes }
+        ensures waits { AllCollected self.old.nodes → AllCollected self.new.nodes }
         ensures sent { self.new.refused ≡ self.old.refused → self.old.refused < 2 ^ 64 - 1 → self.new.nodes.mail ≡ self.old.nodes.mail ++ letters_again self.old.nodes proxy }
     {
         self.nodes.again(alloc, proxy, &mut self.refused);
@@ -144,7 +145,7 @@ impl Ensemble {
         ensures told { VerifierMoves (VerifierGets Suspect) verifier self.old.nodes self.new.nodes }
         ensures counted { self.old.refused ≤ self.new.refused }
         ensures size { size_of self.new.nodes ≡ size_of self.old.nodes }
-        ensures waits { NoneWaits self.old.nodes → NoneWaits self.new.nodes }
+        ensures waits { AllCollected self.old.nodes → AllCollected self.new.nodes }
         ensures sent { self.new.refused ≡ self.old.refused → self.old.refused < 2 ^ 64 - 1 → VerifierPosts (VerifierGets Suspect) verifier self.old.nodes self.new.nodes }
     {
         self.nodes.suspect(alloc, verifier, &mut self.refused);
@@ -158,7 +159,7 @@ impl Ensemble {
         ensures order { self.new.order ≡ self.old.order }
         ensures counted { self.old.refused ≤ self.new.refused }
         ensures size { size_of self.new.nodes ≡ size_of self.old.nodes }
-        ensures waits { NoneWaits self.old.nodes → NoneWaits self.new.nodes }
+        ensures waits { AllCollected self.old.nodes → AllCollected self.new.nodes }
         ensures opens { IsReopened (replica.Executor id) self.old.nodes self.new.nodes }
         ensures posted { RefusedNothing self.old.refused self.new.refused → IsReopenedAndPosts (replica.Executor id) self.old.nodes self.new.nodes }
     {
@@ -173,7 +174,7 @@ impl Ensemble {
         ensures order { self.new.order ≡ self.old.order }
         ensures counted { self.old.refused ≤ self.new.refused }
         ensures size { size_of self.new.nodes ≡ size_of self.old.nodes }
-        ensures waits { NoneWaits self.old.nodes → NoneWaits self.new.nodes }
+        ensures waits { AllCollected self.old.nodes → AllCollected self.new.nodes }
         ensures opens { IsReopened (replica.Verifier id) self.old.nodes self.new.nodes }
         ensures posted { RefusedNothing self.old.refused self.new.refused → IsReopenedAndPosts (replica.Verifier id) self.old.nodes self.new.nodes }
     {
@@ -188,7 +189,7 @@ impl Ensemble {
         ensures order { self.new.order ≡ self.old.order }
         ensures counted { self.old.refused ≤ self.new.refused }
         ensures size { size_of self.new.nodes ≡ size_of self.old.nodes }
-        ensures waits { NoneWaits self.old.nodes → NoneWaits self.new.nodes }
+        ensures waits { AllCollected self.old.nodes → AllCollected self.new.nodes }
         ensures opens { IsReopened replica self.old.nodes self.new.nodes }
         ensures posted { RefusedNothing self.old.refused self.new.refused → IsReopenedAndPosts replica self.old.nodes self.new.nodes }
     {
@@ -217,7 +218,7 @@ impl Ensemble {
         ensures up { result ≡ is_up_at self.new.nodes replica }
         ensures counted { self.old.refused ≤ self.new.refused }
         ensures size { size_of self.new.nodes ≡ size_of self.old.nodes }
-        ensures waits { NoneWaits self.old.nodes → NoneWaits self.new.nodes }
+        ensures waits { AllCollected self.old.nodes → AllCollected self.new.nodes }
         ensures opened { self.new.refused ≡ self.old.refused → self.old.refused < 2 ^ 64 - 1 → result ≡ true }
         ensures only { IsReopened replica self.old.nodes self.new.nodes }
         ensures posted { RefusedNothing self.old.refused self.new.refused → IsReopenedAndPosts replica self.old.nodes self.new.nodes }

@@ -4,7 +4,7 @@ ghost use Rattle.std.specs.Prelude.{◌≡◌, ◌<◌, ◌≤◌, ◌*◌, [], 
 ghost use Rattle.exec_lines.specs.declared.input.Input.TheVariants as executor_input;
 ghost use Rattle.verifier.specs.declared.input.Input.TheVariants as verifier_input;
 ghost use Rattle.hosts.specs.Host.{HostSettles, HostReopens, HostCollects};
-ghost use Rattle.hosts.specs.Orders.{HostTakesDue};
+ghost use Rattle.hosts.specs.Due.{HostTakesDue};
 ghost use Rattle.ensemble.specs.Nodes.{AtHost, AtVerifier, HostAdvances, VerifierGets, VerifierOpens, VerifierTrims};
 ghost use Rattle.ensemble.specs.Trimming.{trim_place, VerifierTrimsDue};
 
@@ -139,8 +139,9 @@ impl Nodes {
     ghost use Rattle.hosts.specs.Host.{HostSettles, HostReopens, HostCollects};
     ghost use Rattle.ensemble.specs.Nodes.{HostMoves, VerifierMoves, HostAdvances, VerifierGets, VerifierOpens, VerifierTrims};
     ghost use Rattle.events.specs.declared.event.Replica.TheVariants as replica;
-    ghost use Rattle.hosts.specs.Orders.{HostTakesDue};
-    ghost use Rattle.ensemble.specs.Served.{HostPosts, VerifierPosts, NoBatchAt, RefusedNothing, IsReopened, IsReopenedAndPosts};
+    ghost use Rattle.hosts.specs.Due.{HostTakesDue};
+    ghost use Rattle.ensemble.specs.Calls.{HostPosts, RefusedNothing, IsReopened, IsReopenedAndPosts};
+    ghost use Rattle.ensemble.specs.Served.{VerifierPosts, NoBatchAt};
     ghost use Rattle.ensemble.specs.Trimming.{VerifierTrimsDue};
 
     /// The executor of this number gets the order that its host holds, if its turn has come: whether it has.

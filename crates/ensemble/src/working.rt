@@ -23,10 +23,11 @@ impl Ensemble {
     ghost use Rattle.ensemble.specs.Shown.{has_job, has_letters, is_quiet};
     ghost use Rattle.std.specs.List.{list_any};
     ghost use Rattle.hosts.specs.Host.{HostCollects};
-    ghost use Rattle.hosts.specs.Orders.{HostTakesDue};
+    ghost use Rattle.hosts.specs.Due.{HostTakesDue};
     ghost use Rattle.ensemble.specs.Nodes.{HostMoves, VerifierMoves, RunsAll, size_of};
     ghost use Rattle.ensemble.specs.Trimming.{VerifierTrimsDue, AreTrimmedBelow};
-    ghost use Rattle.ensemble.specs.Served.{HostPosts, RefusedNothing, sent_below, CollectedBelow, HaveRun, NoneWaits, NoBatchAt, NoBatchBelow, IsAtRest};
+    ghost use Rattle.ensemble.specs.Calls.{HostPosts, RefusedNothing, sent_below, CollectedBelow, HaveRun, AllCollected};
+    ghost use Rattle.ensemble.specs.Served.{NoBatchAt, NoBatchBelow, IsAtRest};
     ghost use Rattle.ensemble.specs.Moments.{IsNow};
     ghost use Rattle.ensemble.specs.Ensemble.{answer_entry, answer_log, order_entry, order_log, moment_entry, Answers};
 
@@ -37,7 +38,7 @@ impl Ensemble {
         ensures order { self.new.order ≡ self.old.order ++ order_log result }
         ensures counted { self.old.refused ≤ self.new.refused }
         ensures size { size_of self.new.nodes ≡ size_of self.old.nodes }
-        ensures waits { NoneWaits self.old.nodes → NoneWaits self.new.nodes }
+        ensures waits { AllCollected self.old.nodes → AllCollected self.new.nodes }
     {
         let answer = self.nodes.deliver(alloc, &mut self.refused)?;
         self.answered = self
@@ -56,7 +57,7 @@ impl Ensemble {
         ensures answered { Answers self.old.answered self.old.order answers.old.items self.new.answered self.new.order answers.new.items }
         ensures counted { self.old.refused ≤ self.new.refused }
         ensures size { size_of self.new.nodes ≡ size_of self.old.nodes }
-        ensures waits { NoneWaits self.old.nodes → NoneWaits self.new.nodes }
+        ensures waits { AllCollected self.old.nodes → AllCollected self.new.nodes }
     {
         if !decrees && self.nodes.is_decree_next() {
             return false;
@@ -78,7 +79,7 @@ impl Ensemble {
         ensures answered { Answers self.old.answered self.old.order answers.old.items self.new.answered self.new.order answers.new.items }
         ensures counted { self.old.refused ≤ self.new.refused }
         ensures size { size_of self.new.nodes ≡ size_of self.old.nodes }
-        ensures waits { NoneWaits self.old.nodes → NoneWaits self.new.nodes }
+        ensures waits { AllCollected self.old.nodes → AllCollected self.new.nodes }
     {
         for _ in 0..MOST_LETTERS {
             if !self.deliver_to(alloc, decrees, answers) {
@@ -93,7 +94,7 @@ impl Ensemble {
         ensures answered { Answers self.old.answered self.old.order answers.old.items self.new.answered self.new.order answers.new.items }
         ensures counted { self.old.refused ≤ self.new.refused }
         ensures size { size_of self.new.nodes ≡ size_of self.old.nodes }
-        ensures waits { NoneWaits self.old.nodes → NoneWaits self.new.nodes }
+        ensures waits { AllCollected self.old.nodes → AllCollected self.new.nodes }
     {
         self.deliver_all(alloc, false, answers);
         self.stopwatch.decide(clock);
@@ -108,7 +109,7 @@ impl Ensemble {
         ensures order { self.new.order ≡ self.old.order }
         ensures counted { self.old.refused ≤ self.new.refused }
         ensures size { size_of self.new.nodes ≡ size_of self.old.nodes }
-        ensures waits { NoneWaits self.old.nodes → NoneWaits self.new.nodes }
+        ensures waits { AllCollected self.old.nodes → AllCollected self.new.nodes }
         ensures due { HostMoves HostTakesDue id self.old.nodes self.new.nodes }
     {
         self.nodes.take_held(alloc, id, &mut self.refused)
@@ -121,7 +122,7 @@ impl Ensemble {
         ensures order { self.new.order ≡ self.old.order }
         ensures counted { self.old.refused ≤ self.new.refused }
         ensures size { size_of self.new.nodes ≡ size_of self.old.nodes }
-        ensures waits { NoneWaits self.old.nodes → NoneWaits self.new.nodes }
+        ensures waits { AllCollected self.old.nodes → AllCollected self.new.nodes }
     {
         let mut has_taken = false;
         for id in 0..self.members() {
@@ -174,6 +175,21 @@ impl Ensemble {
         }
     }
 
+    /// Each executor that has a job runs it. How long that takes is counted.
+    fn run_timed<R: Threads + Wait + Sync, C: Clock>(&mut self, rt: &R, clock: &C, alloc: Global)
+        ensures asked { self.new.asked ≡ self.old.asked }
+        ensures answered { self.new.answered ≡ self.old.answered }
+        ensures order { self.new.order ≡ self.old.order }
+        ensures counted { self.old.refused ≤ self.new.refused }
+        ensures size { size_of self.new.nodes ≡ size_of self.old.nodes }
+        ensures ran { RunsAll self.old.nodes self.new.nodes }
+        ensures uncounted { self.new.refused ≡ self.old.refused }
+    {
+        self.stopwatch.begin(clock);
+        self.run(rt, alloc);
+        self.stopwatch.run(clock);
+    }
+
     /// All jobs are run, and what that sends is under way: whether there was a job.
     fn run_jobs<R: Threads + Wait + Sync, C: Clock>(
         &mut self,
@@ -186,16 +202,14 @@ impl Ensemble {
         ensures order { self.new.order ≡ self.old.order }
         ensures counted { self.old.refused ≤ self.new.refused }
         ensures size { size_of self.new.nodes ≡ size_of self.old.nodes }
-        ensures waits { NoneWaits self.old.nodes → NoneWaits self.new.nodes }
+        ensures waits { AllCollected self.old.nodes → AllCollected self.new.nodes }
         ensures none { result ≡ false → (self.new.nodes ≡ self.old.nodes) × (list_any has_job self.old.nodes.executors ≡ false) }
         ensures ran { result ≡ true → HaveRun self.old.refused self.new.refused self.old.nodes self.new.nodes }
     {
         if !self.nodes.has_jobs() {
             return false;
         }
-        self.stopwatch.begin(clock);
-        self.run(rt, alloc);
-        self.stopwatch.run(clock);
+        self.run_timed(rt, clock, alloc);
         self.collect_all(alloc);
         true
     }
@@ -208,7 +222,7 @@ impl Ensemble {
         ensures order { self.new.order ≡ self.old.order }
         ensures counted { self.old.refused ≤ self.new.refused }
         ensures size { size_of self.new.nodes ≡ size_of self.old.nodes }
-        ensures waits { NoneWaits self.old.nodes → NoneWaits self.new.nodes }
+        ensures waits { AllCollected self.old.nodes → AllCollected self.new.nodes }
         ensures nothing { result ≡ false → NoBatchAt id self.old.nodes self.new.nodes }
         ensures same_u { self.new.nodes.u ≡ self.old.nodes.u }
     {
@@ -224,7 +238,7 @@ impl Ensemble {
         ensures order { self.new.order ≡ self.old.order }
         ensures counted { self.old.refused ≤ self.new.refused }
         ensures size { size_of self.new.nodes ≡ size_of self.old.nodes }
-        ensures waits { NoneWaits self.old.nodes → NoneWaits self.new.nodes }
+        ensures waits { AllCollected self.old.nodes → AllCollected self.new.nodes }
         ensures nothing { result ≡ false → NoBatchBelow (2 * self.new.nodes.u + 1) self.new.nodes }
     {
         let mut has_cut = false;
@@ -244,7 +258,7 @@ impl Ensemble {
         ensures order { self.new.order ≡ self.old.order }
         ensures counted { self.old.refused ≤ self.new.refused }
         ensures size { size_of self.new.nodes ≡ size_of self.old.nodes }
-        ensures waits { NoneWaits self.old.nodes → NoneWaits self.new.nodes }
+        ensures waits { AllCollected self.old.nodes → AllCollected self.new.nodes }
         ensures due { VerifierMoves VerifierTrimsDue id self.old.nodes self.new.nodes }
     {
         self.nodes.trim(alloc, id, &mut self.refused);
@@ -257,7 +271,7 @@ impl Ensemble {
         ensures order { self.new.order ≡ self.old.order }
         ensures counted { self.old.refused ≤ self.new.refused }
         ensures size { size_of self.new.nodes ≡ size_of self.old.nodes }
-        ensures waits { NoneWaits self.old.nodes → NoneWaits self.new.nodes }
+        ensures waits { AllCollected self.old.nodes → AllCollected self.new.nodes }
         ensures told { AreTrimmedBelow (2 * self.old.nodes.u + 1) self.old.nodes self.new.nodes }
     {
         for id in 0..self.members() {
@@ -287,7 +301,7 @@ impl Ensemble {
         ensures answered { Answers self.old.answered self.old.order answers.old.items self.new.answered self.new.order answers.new.items }
         ensures counted { self.old.refused ≤ self.new.refused }
         ensures size { size_of self.new.nodes ≡ size_of self.old.nodes }
-        ensures waits { NoneWaits self.old.nodes → NoneWaits self.new.nodes }
+        ensures waits { AllCollected self.old.nodes → AllCollected self.new.nodes }
         ensures nothing { result ≡ false → has_letters self.new.nodes ≡ false → NoBatchBelow (2 * self.new.nodes.u + 1) self.new.nodes }
     {
         self.deliver_timed(clock, alloc, answers);
@@ -318,7 +332,7 @@ impl Ensemble {
         ensures answered { Answers self.old.answered self.old.order answers.old.items self.new.answered self.new.order answers.new.items }
         ensures counted { self.old.refused ≤ self.new.refused }
         ensures size { size_of self.new.nodes ≡ size_of self.old.nodes }
-        ensures waits { NoneWaits self.old.nodes → NoneWaits self.new.nodes }
+        ensures waits { AllCollected self.old.nodes → AllCollected self.new.nodes }
         ensures nothing { result ≡ true → has_letters self.new.nodes ≡ false → NoBatchBelow (2 * self.new.nodes.u + 1) self.new.nodes }
     {
         for _ in 0..MOST_ROUNDS {
@@ -353,7 +367,7 @@ impl Ensemble {
         ensures order { self.new.order ≡ (self.old.order ++ moment_entry moment ∷ []) ++ map order_entry result.items }
         ensures counted { self.old.refused ≤ self.new.refused }
         ensures size { size_of self.new.nodes ≡ size_of self.old.nodes }
-        ensures waits { NoneWaits self.old.nodes → NoneWaits self.new.nodes }
+        ensures waits { AllCollected self.old.nodes → AllCollected self.new.nodes }
         ensures rest { self.new.refused ≡ self.old.refused → self.old.refused < 2 ^ 64 - 1 → IsAtRest self.new.nodes }
     {
         let mut answers = Vec::new(alloc);

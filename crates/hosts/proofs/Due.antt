@@ -8,7 +8,8 @@ use Rattle.exec_node.specs.Executor.{ExecutorView}
 use Rattle.worlds.specs.Slot.{Slot}
 use Rattle.worlds.specs.Slots.{ExecutorSettles}
 use Rattle.hosts.specs.Host.{HostView, LettersAreAmong}
-use Rattle.hosts.specs.Orders.{awaited_of, due_order, StayHeld, HostGetsOrder, HostTakesDue}
+use Rattle.hosts.specs.Due.{due_order, HostGetsOrder, HostTakesDue}
+use Rattle.hosts.specs.Orders.{awaited_of, StayHeld}
 
 pub match_none : {T : Type 0} (o : Option T) (P : Type 0) (Q : T → Type 0) → o ≡ None → P → MatchOption o P Q
 match_none None P Q none p = p

@@ -1,16 +1,15 @@
 -- Orders that wait for their turn.
-use Rattle.std.specs.Prelude.{◌≡◌, ℕ, ◌+◌, ◌-◌, ◌^◌, ◌==◌, ◌&&◌, ◌||◌, Bool, true, false, not, min, List, [], length, Contains, Option, None, Some, is_some, nat_le, find, if◌then◌else◌}
+use Rattle.std.specs.Prelude.{◌≡◌, ℕ, ◌+◌, ◌-◌, ◌^◌, ◌==◌, ◌&&◌, ◌||◌, Bool, true, false, not, min, List, length, Contains, Option, None, Some, is_some, nat_le, if◌then◌else◌}
 use Rattle.std.specs.List.{list_any}
 use Rattle.decrees.specs.declared.node.Letter.{Letter}
 use Rattle.rollback.specs.declared.chain.TheConstants.{MOST_MEMBERS}
 use Rattle.exec_lines.specs.declared.body.Body.{Body}
 use Rattle.exec_lines.specs.declared.body.Body.TheVariants as body
-use Rattle.exec_lines.specs.declared.input.Input.TheVariants as executor_input
 use Rattle.exec_lines.specs.State.{ExecutorState}
 use Rattle.exec_node.specs.Executor.{ExecutorView}
 use Rattle.worlds.specs.Slot.{Slot}
 use Rattle.worlds.specs.Status.{node_at}
-use Rattle.hosts.specs.Host.{HostView, HostSettles, HostForgets}
+use Rattle.hosts.specs.Host.{HostView}
 
 -- the epoch and the number of the batch that is ordered, if one is
 abbrev pub ordered_turn : Body → Option (ℕ × ℕ)
@@ -71,22 +70,3 @@ LaterStay epoch number held left = (l : Letter Body) → Contains held l → is_
 abbrev pub StayHeld : Option (ℕ × ℕ) → List (Letter Body) → List (Letter Body) → Type 0
 StayHeld None held left = left ≡ held
 StayHeld (Some turn) held left = LaterStay turn.0 turn.1 held left
-
--- the first order of this turn that is held
-abbrev pub order_for : Option (ℕ × ℕ) → List (Letter Body) → Option (Letter Body)
-order_for None held = None
-order_for (Some turn) held = find (λ l. is_for turn.0 turn.1 (ordered_turn l.body)) held
-
--- the order whose turn it is: the first one held that its executor waits for
-abbrev pub due_order : HostView → Option (Letter Body)
-due_order h = order_for (awaited_of h.slot) h.held
-
--- its executor got this order, if it is one, and no other
-abbrev pub HostGetsOrder : Option (Letter Body) → HostView → HostView → List (Letter Body) → Type 0
-HostGetsOrder None h now new = HostForgets h now × (new ≡ [])
-HostGetsOrder (Some order) h now new = HostSettles (record h { held = now.held }) (executor_input.Letter order) now new
-
--- its executor got the order whose turn it is, if one is, and those that come later are still held
-pub record HostTakesDue (h now : HostView) (new : List (Letter Body)) : Type 0 where
-  pub gets : HostGetsOrder (due_order h) h now new
-  pub later : StayHeld (awaited_of h.slot) h.held now.held

@@ -2,7 +2,8 @@
 
 ghost use Rattle.std.specs.Prelude.{◌≡◌, IfSome, IfNone, is_some, Contains, [], MatchOption};
 ghost use Rattle.hosts.specs.Host.{HostForgets, HostObeys, LettersAreAmong};
-ghost use Rattle.hosts.specs.Orders.{is_busy as busy, awaited_of, has_due as due, has_due_for, order_for, StayHeld, HostTakesDue};
+ghost use Rattle.hosts.specs.Due.{order_for, HostTakesDue};
+ghost use Rattle.hosts.specs.Orders.{is_busy as busy, awaited_of, has_due as due, has_due_for, StayHeld};
 
 use crate::executor_host::ExecutorHost;
 use crate::held::{has_order, take_order};

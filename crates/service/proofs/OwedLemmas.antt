@@ -1,7 +1,7 @@
 -- What is outstanding is remembered, whatever is called.
-use Rattle.std.proofs.Common.{◌≡◌, ◌⊎◌, inl, inr, ⊎_elim, ℕ, zero, suc, ◌+◌, ◌-◌, ◌<◌, ◌≤◌, Bool, true, false, List, [], ◌∷◌, ◌++◌, Option, Some, None, refl, sym, ap, ◌∙◌, subst, arith, slice_get, slice_set}
-use Rattle.std.specs.Prelude.{◌≢◌, ◌==◌, Contains, is_some, if◌then◌else◌}
-use Rattle.std.proofs.lemmas.Bool.{eq-eqb, eqb-true}
+use Rattle.std.proofs.Common.{◌≡◌, ◌⊎◌, inl, inr, ⊎_elim, ℕ, zero, suc, ◌-◌, ◌≤◌, Bool, true, false, List, [], ◌∷◌, ◌++◌, Option, Some, None, refl, sym, ap, ◌∙◌, subst, arith, slice_get, slice_set}
+use Rattle.std.specs.Prelude.{◌≢◌, Contains, is_some, if◌then◌else◌}
+use Rattle.std.proofs.lemmas.Bool.{eq-eqb}
 use Rattle.std.proofs.lemmas.List.Elements.{Contains-push, Contains-append_left}
 use Rattle.proto.specs.declared.command.Command.{Command}
 use Rattle.session.specs.declared.session.Awaited.{Awaited}
@@ -9,11 +9,11 @@ use Rattle.session.specs.Session.{is_outstanding_as}
 use Rattle.session.specs.declared.session.Ready.{Ready}
 use Rattle.connections.specs.declared.connection.TheConstants.{MOST_UNWRITTEN}
 use Rattle.connections.specs.declared.places.Place.{Place}
-use Rattle.connections.specs.Connection.{ConnectionView, new_connection, IsTaken}
+use Rattle.connections.specs.Connection.{ConnectionView, new_connection}
 use Rattle.connections.specs.Places.{place_in, is_of_connection, is_untaken_in, is_untaken, left_at, after_written, written_at, HasSameOthers, IsGrown}
 use Rattle.connections.specs.Owed.{HasSameOutstanding, HasCommand, ReadsFurther, AnswersOn, BecomesAt, IsTakenAt, HasNoneToTake}
 use Rattle.connections.proofs.PlaceLemmas.{set_get, set_other, same_or_not}
-use Rattle.connections.proofs.OwedLemmas.{left_own, WasWritten, written_back, written_others}
+use Rattle.connections.proofs.OwedLemmas.{left_own, written_back, written_others}
 use Rattle.connections.proofs.AtLemmas.{set_same, left_others}
 use Rattle.connections.specs.declared.said.Said.{Said}
 use Rattle.connections.specs.Connections.{ConnectionsView}

@@ -1,5 +1,5 @@
 -- What a tick does of what waits, and of the nodes that stopped.
-use Rattle.std.specs.Prelude.{◌≡◌, ◌⊎◌, ℕ, Bool, true, false, List, Option, Some, None, slice_get, slice_set}
+use Rattle.std.specs.Prelude.{◌≡◌, ℕ, Bool, true, false, List, Option, Some, None, slice_get, slice_set}
 use Rattle.serving.specs.declared.patience.Patience.{Patience}
 use Rattle.serving.specs.declared.patience.Seen.{Seen}
 use Rattle.serving.specs.declared.patience.Urge.{Urge}

@@ -54,8 +54,8 @@ abbrev pub TellsIn : List (Option ConnectionView) → ℕ → List Said → List
 TellsIn table refused said table_now refused_now said_now =
     (more : List Said) × (said_now ≡ said ++ more) × AreTold table table_now more × UnlessRefused refused refused_now (LeaversAreTold table table_now more)
 
-abbrev pub Tells : ServiceView → List Said → ServiceView → List Said → Type 0
-Tells v said now said_now = TellsIn v.connections.table v.replicas.refused said now.connections.table now.replicas.refused said_now
+abbrev pub TellsMore : ServiceView → List Said → ServiceView → List Said → Type 0
+TellsMore v said now said_now = TellsIn v.connections.table v.replicas.refused said now.connections.table now.replicas.refused said_now
 
 -- the connection at this place is told this, or was not here, and then nothing is said
 abbrev pub MayTell : Place → List (Option ConnectionView) → List (Option ConnectionView) → List Said → List Said → Type 0

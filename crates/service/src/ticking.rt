@@ -110,7 +110,7 @@ impl Service {
         }
     }
 
-    /// Tells the next verifier that the leader is suspected. They take turns, from the second one on.
+    /// TellsMore the next verifier that the leader is suspected. They take turns, from the second one on.
     fn suspect(&mut self, alloc: Global)
         ensures connections { self.new.connections ≡ self.old.connections }
         ensures size { size_of self.new.replicas.ensemble.nodes ≡ size_of self.old.replicas.ensemble.nodes }

@@ -156,12 +156,12 @@ impl Service {
     ghost use Rattle.ensemble.specs.Nodes.{size_of};
     ghost use Rattle.ensemble.specs.Ensemble.{answer_entry, order_entry};
     ghost use Rattle.service.specs.Service.{Gives, AreLogged, RestsUnlessRefused, IsPassedNow, given_entry, passed_entry};
-    ghost use Rattle.service.specs.Told.{AreTold, LeaversAreTold, Tells, UnlessRefused, AsksAll, HasMoreAnswers, AsksWhatWaits};
+    ghost use Rattle.service.specs.Told.{AreTold, LeaversAreTold, TellsMore, UnlessRefused, AsksAll, HasMoreAnswers, AsksWhatWaits};
 
     /// The first of the line asks its command, if a proxy is free: whether there were both.
     fn assign(&mut self, alloc: Global, said: &mut Vec<Said>) -> bool
         ensures given { Gives self.old.connections said.old.items self.new.connections said.new.items }
-        ensures tells { Tells self.old said.old.items self.new said.new.items }
+        ensures tells { TellsMore self.old said.old.items self.new said.new.items }
         ensures stops { result ≡ false → UnlessRefused self.old.replicas.refused self.new.replicas.refused (AsksAll self.new) }
         ensures goes_on { result ≡ true → length self.new.line < length self.old.line }
         ensures answered { self.new.answered ≡ self.old.answered }
@@ -205,7 +205,7 @@ impl Service {
     /// All that wait ask, as far as proxies are free.
     fn assign_all(&mut self, alloc: Global, said: &mut Vec<Said>)
         ensures given { Gives self.old.connections said.old.items self.new.connections said.new.items }
-        ensures tells { Tells self.old said.old.items self.new said.new.items }
+        ensures tells { TellsMore self.old said.old.items self.new said.new.items }
         ensures asks { UnlessRefused self.old.replicas.refused self.new.replicas.refused (AsksAll self.new) }
         ensures answered { self.new.answered ≡ self.old.answered }
         ensures heard { self.new.connections.heard ≡ self.old.connections.heard }
@@ -220,7 +220,7 @@ impl Service {
         requires logged { Contains self.old.answered (answer_entry answer) }
         requires ordered { Contains self.old.order (order_entry answer) }
         ensures given { Gives self.old.connections said.old.items self.new.connections said.new.items }
-        ensures tells { Tells self.old said.old.items self.new said.new.items }
+        ensures tells { TellsMore self.old said.old.items self.new said.new.items }
         ensures heard { self.new.connections.heard ≡ self.old.connections.heard }
         ensures answered { self.new.answered ≡ self.old.answered }
         ensures order { self.new.order ≡ self.old.order }
@@ -254,7 +254,7 @@ impl Service {
     fn answer_all(&mut self, alloc: Global, mut answers: Vec<Answer>, said: &mut Vec<Said>)
         requires { AreLogged answers.items self.old.answered self.old.order }
         ensures given { Gives self.old.connections said.old.items self.new.connections said.new.items }
-        ensures tells { Tells self.old said.old.items self.new said.new.items }
+        ensures tells { TellsMore self.old said.old.items self.new said.new.items }
         ensures none { answers.items ≡ [] → (self.new.line ≡ self.old.line) × (self.new.waiting ≡ self.old.waiting) }
         ensures answered { self.new.answered ≡ self.old.answered }
         ensures heard { self.new.connections.heard ≡ self.old.connections.heard }
@@ -306,7 +306,7 @@ impl Service {
     ) -> bool
         requires { IsPassedNow self.old.connections.passed moment }
         ensures given { Gives self.old.connections said.old.items self.new.connections said.new.items }
-        ensures tells { Tells self.old said.old.items self.new said.new.items }
+        ensures tells { TellsMore self.old said.old.items self.new said.new.items }
         ensures stops { result ≡ false → UnlessRefused self.old.replicas.refused self.new.replicas.refused (AsksAll self.new) }
         ensures goes_on { HasMoreAnswers 0 self.old self.new × (result ≡ true → HasMoreAnswers 1 self.old self.new) }
         ensures heard { self.new.connections.heard ≡ self.old.connections.heard }
@@ -336,7 +336,7 @@ impl Service {
     )
         requires { IsPassedNow self.old.connections.passed moment }
         ensures given { Gives self.old.connections said.old.items self.new.connections said.new.items }
-        ensures tells { Tells self.old said.old.items self.new said.new.items }
+        ensures tells { TellsMore self.old said.old.items self.new said.new.items }
         ensures asks { UnlessRefused self.old.replicas.refused self.new.replicas.refused (AsksWhatWaits self.old self.new) }
         ensures heard { self.new.connections.heard ≡ self.old.connections.heard }
         ensures counted { self.old.replicas.refused ≤ self.new.replicas.refused }

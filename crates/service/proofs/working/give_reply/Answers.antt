@@ -1,5 +1,4 @@
-use Rattle.std.proofs.Common.{ℕ, [], ◌∷◌, ◌++◌, List, inr, sym, ap, ◌∙◌, subst}
-use Rattle.connections.specs.declared.said.Said.{Said}
+use Rattle.std.proofs.Common.{ℕ, [], ◌∷◌, ◌++◌, inr, sym, ap, ◌∙◌, subst}
 use Rattle.connections.specs.History.{given_as}
 use Rattle.connections.specs.Told.{IsToldAt}
 use Rattle.service.proofs.working.give_reply.Goals as goal

@@ -3,7 +3,7 @@ use Rattle.ensemble.proofs.Going.{collect_goes}
 use Rattle.std.proofs.Common.{◌≡◌, subst}
 use Rattle.hosts.specs.Host.{HostCollects}
 use Rattle.ensemble.specs.Nodes.{HostMoves, size_of}
-use Rattle.ensemble.specs.Served.{HostPosts, RefusedNothing}
+use Rattle.ensemble.specs.Calls.{HostPosts, RefusedNothing}
 use Rattle.ensemble.proofs.Sizes.{host_size}
 use Rattle.ensemble.proofs.ensemble.Ensemble.collect.Goals as goal
 

@@ -1,6 +1,6 @@
 use Rattle.std.proofs.Common.{◌≡◌, ◌≤◌, ◌++◌}
 use Rattle.ensemble.specs.Nodes.{size_of}
-use Rattle.ensemble.specs.Served.{RefusedNothing, sent_below, CollectedBelow}
+use Rattle.ensemble.specs.Calls.{RefusedNothing, sent_below, CollectedBelow}
 use Rattle.ensemble.proofs.ensemble.Ensemble.collect_all.Given as goal
 
 abbrev pub invariant-loop-id : goal.invariant-loop-id

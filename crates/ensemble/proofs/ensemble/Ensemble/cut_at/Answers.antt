@@ -5,7 +5,7 @@ use Rattle.ensemble.specs.Nodes.{size_of}
 use Rattle.ensemble.specs.Moments.{IsNow}
 use Rattle.ensemble.proofs.Sizes.{host_size}
 use Rattle.ensemble.proofs.Collecting.{host_waits, settles_keeps}
-use Rattle.ensemble.specs.Served.{NoneWaits}
+use Rattle.ensemble.specs.Calls.{AllCollected}
 use Rattle.exec_lines.specs.declared.input.Input.TheVariants.{Cut}
 use Rattle.ensemble.proofs.ensemble.Ensemble.cut_at.Goals as goal
 
@@ -18,4 +18,4 @@ pub returns-clause-size : goal.returns-clause-size
 returns-clause-size c = subst (λ (e : EnsembleView). size_of c.cut.new.self ≡ size_of e.nodes) c.self.view_is (host_size _ c.args.id c.self.inside.nodes c.cut.new.self c.cut.ensures.moves)
 
 pub returns-clause-waits : goal.returns-clause-waits
-returns-clause-waits c = subst (λ (e : EnsembleView). NoneWaits e.nodes → NoneWaits c.cut.new.self) c.self.view_is (host_waits _ (settles_keeps (Cut c.args.moment)) c.args.id c.self.inside.nodes c.cut.new.self c.cut.ensures.moves)
+returns-clause-waits c = subst (λ (e : EnsembleView). AllCollected e.nodes → AllCollected c.cut.new.self) c.self.view_is (host_waits _ (settles_keeps (Cut c.args.moment)) c.args.id c.self.inside.nodes c.cut.new.self c.cut.ensures.moves)

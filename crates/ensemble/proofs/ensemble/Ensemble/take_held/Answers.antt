@@ -4,8 +4,8 @@ use Rattle.std.proofs.Common.{◌≡◌, subst}
 use Rattle.ensemble.specs.Nodes.{HostMoves, size_of}
 use Rattle.ensemble.proofs.Sizes.{host_size}
 use Rattle.ensemble.proofs.Collecting.{host_waits, advances_keeps}
-use Rattle.ensemble.specs.Served.{NoneWaits}
-use Rattle.hosts.specs.Orders.{HostTakesDue}
+use Rattle.ensemble.specs.Calls.{AllCollected}
+use Rattle.hosts.specs.Due.{HostTakesDue}
 use Rattle.ensemble.proofs.ensemble.Ensemble.take_held.Goals as goal
 
 pub invariant_of-self : goal.invariant_of-self
@@ -17,7 +17,7 @@ pub returns-clause-size : goal.returns-clause-size
 returns-clause-size c = subst (λ (e : EnsembleView). size_of c.take_held.new.self ≡ size_of e.nodes) c.self.view_is (host_size _ c.args.id c.self.inside.nodes c.take_held.new.self c.take_held.ensures.moves)
 
 pub returns-clause-waits : goal.returns-clause-waits
-returns-clause-waits c = subst (λ (e : EnsembleView). NoneWaits e.nodes → NoneWaits c.take_held.new.self) c.self.view_is (host_waits _ advances_keeps c.args.id c.self.inside.nodes c.take_held.new.self c.take_held.ensures.moves)
+returns-clause-waits c = subst (λ (e : EnsembleView). AllCollected e.nodes → AllCollected c.take_held.new.self) c.self.view_is (host_waits _ advances_keeps c.args.id c.self.inside.nodes c.take_held.new.self c.take_held.ensures.moves)
 
 pub returns-clause-due : goal.returns-clause-due
 returns-clause-due c = subst (λ (e : EnsembleView). HostMoves HostTakesDue c.args.id e.nodes c.take_held.new.self) c.self.view_is c.take_held.ensures.due

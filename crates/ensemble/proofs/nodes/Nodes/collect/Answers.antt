@@ -1,7 +1,7 @@
 use Rattle.std.proofs.Common.{refl, subst}
 use Rattle.hosts.specs.Host.{HostCollects}
 use Rattle.ensemble.specs.Nodes.{NodesView, HostMoves}
-use Rattle.ensemble.specs.Served.{HostPosts}
+use Rattle.ensemble.specs.Calls.{HostPosts}
 use Rattle.ensemble.proofs.Served.{letters_posted}
 use Rattle.ensemble.proofs.nodes.Nodes.collect.Goals as goal
 

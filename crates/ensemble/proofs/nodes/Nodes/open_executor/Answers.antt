@@ -1,8 +1,8 @@
-use Rattle.std.proofs.Common.{inl, refl, subst, arith, List, ◌<◌, ◌*◌}
+use Rattle.std.proofs.Common.{rules, inl, refl, subst}
 use Rattle.hosts.specs.Host.{HostReopens}
 use Rattle.events.specs.declared.event.Replica.TheVariants as replica
 use Rattle.ensemble.specs.Nodes.{NodesView, HostMoves}
-use Rattle.ensemble.specs.Served.{HostPosts, IsReopened, IsReopenedAndPosts}
+use Rattle.ensemble.specs.Calls.{HostPosts, IsReopened, IsReopenedAndPosts}
 use Rattle.ensemble.proofs.Served.{letters_posted}
 use Rattle.ensemble.proofs.nodes.Nodes.open_executor.Goals as goal
 
@@ -17,7 +17,7 @@ returns-clause-opens c =
     let left : NodesView = record { u = s.u; proxies = s.proxies.items; executors = c.open_executor-sent.new.executors.items; verifiers = s.verifiers.items; mail = c.post.new.mail.items } in
     subst (λ (n : NodesView). IsReopened (replica.Executor c.args.id) n left) c.self.view_is (record {
       here = λ le. (c.open_executor-sent.new.executors.items, c.open_executor-sent.result.items, c.post.new.mail.items, c.open_executor-sent.ensures, c.post.ensures.grows, refl);
-      beyond = λ lt. absurd (let le = c.if.false in omega (arith, le, lt));
+      beyond = λ lt. let no : ⊥ = search rules in absurd no;
     })
 
 pub returns-clause-posted : goal.returns-clause-posted
@@ -27,5 +27,5 @@ returns-clause-posted c = λ none.
     let left : NodesView = record { u = s.u; proxies = s.proxies.items; executors = c.open_executor-sent.new.executors.items; verifiers = s.verifiers.items; mail = c.post.new.mail.items } in
     subst (λ (n : NodesView). IsReopenedAndPosts (replica.Executor c.args.id) n left) c.self.view_is (record {
       here = λ le. letters_posted (λ h x sent. HostReopens s.u c.args.id h x sent) c.args.id before c.open_executor-sent.new.executors.items c.open_executor-sent.result.items c.post.new.mail.items c.open_executor-sent.ensures (c.post.ensures.posted none.same none.below);
-      beyond = λ lt. absurd (let le = c.if.false in omega (arith, le, lt));
+      beyond = λ lt. let no : ⊥ = search rules in absurd no;
     })

@@ -1,5 +1,5 @@
 use Rattle.std.proofs.Common.{refl, subst}
-use Rattle.hosts.specs.Orders.{HostTakesDue}
+use Rattle.hosts.specs.Due.{HostTakesDue}
 use Rattle.ensemble.specs.Nodes.{NodesView, HostMoves, HostAdvances}
 use Rattle.ensemble.proofs.nodes.Nodes.take_held.Goals as goal
 

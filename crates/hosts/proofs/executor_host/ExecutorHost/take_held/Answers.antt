@@ -2,7 +2,7 @@ use Rattle.std.proofs.Common.{rules, ◌≡◌, Option, None, Some, IfNone, refl
 use Rattle.decrees.specs.declared.node.Letter.{Letter}
 use Rattle.exec_lines.specs.declared.body.Body.{Body}
 use Rattle.hosts.specs.Host.{HostView, HostForgets, HostObeys}
-use Rattle.hosts.specs.Orders.{HostTakesDue}
+use Rattle.hosts.specs.Due.{HostTakesDue}
 use Rattle.hosts.proofs.Due.{match_none, takes_none, takes_first}
 use Rattle.hosts.proofs.executor_host.ExecutorHost.take_held.Goals as goal
 

@@ -1,13 +1,13 @@
 use Rattle.std.proofs.Common.{◌≡◌, ◌≤◌, length}
 use Rattle.ensemble.specs.Nodes.{size_of}
 use Rattle.service.specs.Service.{Gives}
-use Rattle.service.specs.Told.{Tells}
+use Rattle.service.specs.Told.{TellsMore}
 use Rattle.service.proofs.service.Service.assign_all.Given as goal
 
 abbrev pub invariant-loop-alloc : goal.invariant-loop-alloc
 invariant-loop-alloc l = record {
   given : Gives l.initial.self.connections l.initial.said.items l.self.connections l.said.items;
-  tells : Tells l.initial.self l.initial.said.items l.self l.said.items;
+  tells : TellsMore l.initial.self l.initial.said.items l.self l.said.items;
   answered : l.self.answered ≡ l.initial.self.answered;
   heard : l.self.connections.heard ≡ l.initial.self.connections.heard;
   counted : l.initial.self.replicas.refused ≤ l.self.replicas.refused;

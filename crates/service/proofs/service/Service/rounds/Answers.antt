@@ -1,5 +1,5 @@
-use Rattle.std.proofs.Common.{refl, ◌∙◌, inl, inr, arith}
-use Rattle.service.specs.Told.{AsksAll, AsksWhatWaits}
+use Rattle.std.proofs.Common.{refl, ◌∙◌, inl, arith}
+use Rattle.service.specs.Told.{AsksAll}
 use Rattle.service.proofs.MomentLemmas.{now_given}
 use Rattle.service.proofs.KeepLemmas.{gives_none, gives_on}
 use Rattle.service.proofs.ToldLemmas.{tells_on, tells_same, unless_on, more_answers}

@@ -1,13 +1,13 @@
 use Rattle.std.proofs.Common.{◌≡◌, ◌≤◌, ◌<◌}
 use Rattle.ensemble.specs.Nodes.{size_of}
 use Rattle.service.specs.Service.{Gives, RestsUnlessRefused}
-use Rattle.service.specs.Told.{Tells, HasMoreAnswers}
+use Rattle.service.specs.Told.{TellsMore, HasMoreAnswers}
 use Rattle.service.proofs.service.Service.rounds.Given as goal
 
 abbrev pub invariant-loop : goal.invariant-loop
 invariant-loop g l = record {
   given : Gives l.initial.self.connections l.initial.said.items l.self.connections l.said.items;
-  tells : Tells l.initial.self l.initial.said.items l.self l.said.items;
+  tells : TellsMore l.initial.self l.initial.said.items l.self l.said.items;
   more : HasMoreAnswers l.counter l.initial.self l.self;
   heard : l.self.connections.heard ≡ l.initial.self.connections.heard;
   counted : l.initial.self.replicas.refused ≤ l.self.replicas.refused;
