@@ -6,6 +6,7 @@ use Rattle.std.proofs.lemmas.List.{append-nil}
 use Rattle.std.proofs.lemmas.List.Elements.{Contains-push, Contains-append_left, Contains-append_right, Contains-append_cases}
 use Rattle.proto.specs.declared.reply.Reply as replies
 use Rattle.session.specs.declared.session.Ready.{Ready}
+use Rattle.session.specs.declared.session.Session.{Session}
 use Rattle.connections.specs.declared.places.Place.{Place}
 use Rattle.connections.specs.declared.said.Said.{Said}
 use Rattle.connections.specs.Connection.{ConnectionView}
@@ -254,7 +255,7 @@ taken_told at old new ready others took = silent old new (λ key d e. ⊎_elim
     let is : took.next ≡ d = (let s : ◌≡◌ {A = Option ConnectionView} (Some took.next) (Some d) = sym took.there ∙ (ap (place_in new) (sym same) ∙ e) in cc s) in
     let number : took.was.number ≡ d.number = sym (ap (λ (x : ConnectionView). x.number) took.is.now_is) ∙ ap (λ (x : ConnectionView). x.number) is in (
       subst (λ (z : ℕ × ℕ). is_here z.0 old z.1 ≡ true) (λ i. (number i, sym same i)) (here_at old at.key took.was took.at_key),
-      (λ i. is_outstanding_in d.number new (same i)) ∙ (ap (is_outstanding d.number) took.there ∙ (ap (λ (x : ConnectionView). is_outstanding d.number (Some x)) took.is.now_is ∙ (sym (ap (is_outstanding d.number) took.at_key) ∙ (λ i. is_outstanding_in d.number old (sym same i))))),
+      (λ i. is_outstanding_in d.number new (same i)) ∙ (ap (is_outstanding d.number) took.there ∙ ((ap (λ (x : ConnectionView). is_outstanding d.number (Some x)) took.is.now_is ∙ ap (λ (s : Session). is_outstanding d.number (Some (record { number = took.was.number; session = s; unwritten = took.was.unwritten }))) took.is.of_session.now_is) ∙ (sym (ap (is_outstanding d.number) took.at_key) ∙ (λ i. is_outstanding_in d.number old (sym same i))))),
     ))
     (λ (differs : key ≢ at.key). (here_at old key d (sym (others key differs) ∙ e), ap (is_outstanding d.number) (others key differs)))
     (same_or_not key at.key))
