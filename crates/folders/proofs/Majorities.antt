@@ -4,8 +4,8 @@ use Rattle.std.specs.Prelude.{if◌then◌else◌, count_by, is_some, All, get_o
 use Rattle.std.proofs.lemmas.List.{get_or-map, length-map}
 use Rattle.std.proofs.lemmas.List.Sums.{sum_by-cons}
 use Rattle.std.proofs.lemmas.Bool.Decides.{nat_tests}
-use Rattle.folders.specs.declared.stamp.Stamp.{Stamp}
-use Rattle.folders.specs.Folders.{Folder, is_later, IsMajority, IsNewest, IsNoLater, HasTurn, found_in, is_saved_in}
+use Rattle.folders.specs.declared.stamp.SaveStamp.{SaveStamp}
+use Rattle.folders.specs.Folders.{Folder, is_later_save, IsMajority, IsNewest, IsNoLater, HasTurn, found_in, is_saved_in}
 
 abbrev pub one_if : Bool → ℕ
 one_if b = cond b 1 0
@@ -21,11 +21,11 @@ pub record IsShared (fs : List Folder) : Type 0 where
 further : (f : Folder) (fs : List Folder) → IsShared fs → IsShared (f ∷ fs)
 further f fs s = record { at = suc s.at; folder = s.folder; within = (let w = s.within in omega (arith, w)); is = s.is; saved = s.saved; readable = s.readable }
 
-count_of : (b : Bool) (stamp : Stamp) → ◌≡◌ {A = ℕ} (one_if (is_some {T = Stamp} (if b then Some stamp else None))) (one_if b)
+count_of : (b : Bool) (stamp : SaveStamp) → ◌≡◌ {A = ℕ} (one_if (is_some {T = SaveStamp} (if b then Some stamp else None))) (one_if b)
 count_of true stamp = refl
 count_of false stamp = refl
 
-count_read : (f : Folder) → ◌≡◌ {A = ℕ} (one_if (is_some {T = Stamp} (found_in f))) (one_if f.is_readable)
+count_read : (f : Folder) → ◌≡◌ {A = ℕ} (one_if (is_some {T = SaveStamp} (found_in f))) (one_if f.is_readable)
 count_read f = count_of f.is_readable f.stamp
 
 -- what the first one counts, and what the others do
@@ -53,21 +53,21 @@ shared (f ∷ fs) more = by (λ m. shared fs m) (counts f fs more) f.is_saved re
     by lower more false s r e = further f fs (lower (let a : one_if f.is_saved ≡ 0 = ap one_if s in let b : one_if f.is_readable < 2 = at_most_one f.is_readable in omega (arith, more, a, b)))
 
 -- of three, the order goes on
-pub no_later_along : (turn a b : Stamp) → is_later turn a ≡ false → is_later a b ≡ false → is_later turn b ≡ false
+pub no_later_along : (turn a b : SaveStamp) → is_later_save turn a ≡ false → is_later_save a b ≡ false → is_later_save turn b ≡ false
 no_later_along turn a b x y = grind (arith, nat_tests, x, y)
 
-pub found : (fs : List Folder) (turn : Stamp) (at : ℕ)
+pub found : (fs : List Folder) (turn : SaveStamp) (at : ℕ)
     → IsMajority (count_by is_saved_in fs) (length fs)
     → All (HasTurn turn) fs
     → IsMajority (count_by is_some (map found_in fs)) (length fs)
     → (newest : IsNewest (map found_in fs) at)
-    → is_later turn newest.stamp ≡ false
+    → is_later_save turn newest.stamp ≡ false
 found fs turn at saved has read newest =
     let s = shared fs (omega (arith, saved, read)) in
     let here : get_or (map found_in fs) s.at None ≡ found_in s.folder = get_or-map found_in fs s.at s.folder None s.within ∙ ap found_in s.is in
     let is : found_in s.folder ≡ Some s.folder.stamp = ap (λ (b : Bool). if b then Some s.folder.stamp else None) s.readable in
-    let old : is_later turn s.folder.stamp ≡ false = subst (HasTurn turn) s.is (has s.at s.folder s.within) s.saved in
-    let new : is_later s.folder.stamp newest.stamp ≡ false = subst (IsNoLater newest.stamp) (here ∙ is) (newest.no_later s.at None (within s)) in
+    let old : is_later_save turn s.folder.stamp ≡ false = subst (HasTurn turn) s.is (has s.at s.folder s.within) s.saved in
+    let new : is_later_save s.folder.stamp newest.stamp ≡ false = subst (IsNoLater newest.stamp) (here ∙ is) (newest.no_later s.at None (within s)) in
     no_later_along turn s.folder.stamp newest.stamp old new
   where
     within : (s : IsShared fs) → s.at < length (map found_in fs)

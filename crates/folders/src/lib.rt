@@ -12,4 +12,4 @@ mod stamp;
 
 pub use laws::a_saved_turn_is_found;
 pub use majority::newest;
-pub use stamp::Stamp;
+pub use stamp::SaveStamp;

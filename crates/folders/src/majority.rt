@@ -1,10 +1,14 @@
 ghost use Rattle.std.specs.Prelude.{◌≡◌, ◌↔◌, IsSome, IfSome, is_some, length, count_by};
 ghost use Rattle.folders.specs.Folders.{IsMajority, IsNewest, IsNewestOf, later_of};
 
-use crate::stamp::Stamp;
+use crate::stamp::SaveStamp;
 
 /// The later of the newest record so far and this one, if it was read, with its place. The first of equal ones stays.
-fn later(newest: Option<(usize, Stamp)>, at: usize, stamp: Option<Stamp>) -> Option<(usize, Stamp)>
+fn later(
+    newest: Option<(usize, SaveStamp)>,
+    at: usize,
+    stamp: Option<SaveStamp>,
+) -> Option<(usize, SaveStamp)>
     ensures { result ≡ later_of newest at stamp }
 {
     match (newest, stamp) {
@@ -15,7 +19,7 @@ fn later(newest: Option<(usize, Stamp)>, at: usize, stamp: Option<Stamp>) -> Opt
 }
 
 /// The newest of the records that were read, with its place: the first of equal ones.
-fn newest_read(stamps: &[Option<Stamp>]) -> Option<(usize, Stamp)>
+fn newest_read(stamps: &[Option<SaveStamp>]) -> Option<(usize, SaveStamp)>
     ensures { IsNewestOf stamps.now (length stamps.now) result }
 {
     let mut newest = None;
@@ -27,7 +31,7 @@ fn newest_read(stamps: &[Option<Stamp>]) -> Option<(usize, Stamp)>
 
 /// The folder whose record is the newest of those that were read, if they are more than half of all. `None` stands for
 /// a folder that was not read. Folders with the same stamp have the same record: the first of them is taken.
-pub fn newest(stamps: &[Option<Stamp>]) -> Option<usize>
+pub fn newest(stamps: &[Option<SaveStamp>]) -> Option<usize>
     ensures majority { IsSome result ↔ IsMajority (count_by is_some stamps.now) (length stamps.now) }
     ensures newest { IfSome result (IsNewest stamps.now) }
 {

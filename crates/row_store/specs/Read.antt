@@ -12,12 +12,12 @@ abbrev pub IsLeft : View → List Row → Type 0
 IsLeft v left = v.cursors 0 ≡ Some left
 
 -- these were read, and the others of all are left
-pub record IsReading (v : View) (rows all : List Row) : Type 0 where
+pub record StoreIsReading (v : View) (rows all : List Row) : Type 0 where
   pub left : List Row
   pub is : IsLeft v left
   pub whole : rows ++ left ≡ all
 
 -- a row was read, or there was none
-abbrev pub Reads : View → List Row → Bool → View → List Row → Type 0
-Reads old rows true new now = (all : List Row) → IsReading old rows all → IsReading new now all
-Reads old rows false new now = (all : List Row) → IsReading old rows all → now ≡ all
+abbrev pub ReadsRows : View → List Row → Bool → View → List Row → Type 0
+ReadsRows old rows true new now = (all : List Row) → StoreIsReading old rows all → StoreIsReading new now all
+ReadsRows old rows false new now = (all : List Row) → StoreIsReading old rows all → now ≡ all

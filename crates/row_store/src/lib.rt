@@ -10,5 +10,5 @@ mod reading;
 mod rows;
 mod saving;
 
-pub use change::Change;
+pub use change::RowChange;
 pub use rows::{RowStore, crash_and_reopen, save_and_crash};

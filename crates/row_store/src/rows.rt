@@ -2,9 +2,9 @@
 
 ghost use Rattle.std.specs.Prelude.{◌≡◌, ◌↔◌, ◌⊎◌, ◌≤◌, IsTrue, IfOk};
 ghost use Rattle.sqlite_trees.specs.View.{doubt, IsClean};
-ghost use Rattle.row_store.specs.Saved.{AllFit, HasTables, IsAtRest, after};
+ghost use Rattle.row_store.specs.Saved.{ChangesFit, HasTables, StoreRests, after};
 
-use crate::change::Change;
+use crate::change::RowChange;
 use crate::{reading, saving};
 use sqlite_trees::error::StoreError;
 use sqlite_trees::store::{Reopen, Shape, Store};
@@ -16,7 +16,7 @@ pub struct RowStore<S: Store> {
     store: S,
     tables: u32,
     ghost tabled: { IsClean (S.view store) → HasTables tables (S.view store) },
-    ghost at_rest: { IsClean (S.view store) → IsAtRest (S.view store) },
+    ghost at_rest: { IsClean (S.view store) → StoreRests (S.view store) },
 }
 
 impl<S: Store + Drop> Drop for RowStore<S> {
@@ -44,7 +44,7 @@ impl<S: Store> RowStore<S> {
     ghost use Rattle.std.specs.Prelude.{◌≡◌, ◌↔◌, ◌⊎◌, ◌≤◌, ◌<◌, false, IsTrue, IfOk, IfErr, OnOk, OnErr};
     ghost use Rattle.sqlite_trees.specs.Tree.{Trees};
     ghost use Rattle.sqlite_trees.specs.View.{doubt, IsClean, IsQuiet};
-    ghost use Rattle.row_store.specs.Saved.{AllFit, HasTables, after, IsSaved, IsSame, HasReason};
+    ghost use Rattle.row_store.specs.Saved.{ChangesFit, HasTables, after, IsSaved, IsSame, HasReason};
 
     /// The rows of the first `tables` tables of the store. What was not committed is undone. The store comes back if it
     /// is shut, or if one of these is no table.
@@ -86,8 +86,8 @@ impl<S: Store> RowStore<S> {
     /// the store is shut; then the file has to be opened again, and has the old rows or the new ones.
     ///
     /// A crash, also one during this call, leaves what it could leave before, or all of the changes and nothing else.
-    pub fn save(&mut self, changes: &[Change]) -> Result<(), StoreError>
-        requires { AllFit self.old.tables changes.now }
+    pub fn save(&mut self, changes: &[RowChange]) -> Result<(), StoreError>
+        requires { ChangesFit self.old.tables changes.now }
         ensures tables { self.new.tables ≡ self.old.tables }
         ensures saved { OnOk result (IsClean (S.view self.new.store) → IsSaved (S.view self.old.store) changes.now (S.view self.new.store)) }
         ensures same { OnErr result (IsClean (S.view self.new.store) → IsSame (S.view self.old.store) (S.view self.new.store)) }
@@ -127,8 +127,8 @@ pub fn crash_and_reopen<S: Reopen>(rows: RowStore<S>) -> Result<RowStore<S>, S>
 }
 
 /// A save, a crash at any moment of it or after it, and an open: the rows are as they were, or as the changes make them.
-pub fn save_and_crash<S: Reopen>(rows: RowStore<S>, changes: &[Change]) -> Result<RowStore<S>, S>
-    requires { AllFit rows.tables changes.now }
+pub fn save_and_crash<S: Reopen>(rows: RowStore<S>, changes: &[RowChange]) -> Result<RowStore<S>, S>
+    requires { ChangesFit rows.tables changes.now }
     ensures old_or_new { IfOk result (λ again. IsClean (S.Store.view again.store) → S.Store.recovers rows.store (S.Store.view again.store).committed
         ⊎ ((S.Store.view again.store).committed ≡ after changes.now (S.Store.view rows.store).committed)) }
 {
