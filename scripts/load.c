@@ -1,9 +1,14 @@
-// A closed-loop load generator for servers of memcached's text protocol (get and set).
+// A closed-loop load generator (get and set) for servers of memcached's text protocol, and for two others beside them.
+//
+// -P text        memcached's text protocol
+// -P redis       Redis' protocol; -P redis-wait: each SET is followed by WAIT 1 0, so that a replica has it
+// -P etcd        etcd's JSON over HTTP, by which each key and value is sent in base 64
 //
 // Each connection keeps `depth` requests outstanding and sends the next one only when a reply has come.
 // Before the measured part each key is set once (unless -n), so that a server that drops nothing has each key.
 // Every reply is checked: a set answers STORED; a get answers END, or one VALUE of the asked key with the right
-// flags, length and bytes (a key's value is its own text, repeated) and then END. With -H a get's END is an error.
+// flags, length and bytes (a key's value is its own text, repeated) and then END; with the other protocols likewise.
+// With -H a get that finds nothing is an error.
 // The last line of standard output is one line of key=value pairs. Status: 0 no error, 1 a wrong or lost reply, 2 bad use.
 #define _GNU_SOURCE
 #include <errno.h>
@@ -24,6 +29,11 @@
 #include <unistd.h>
 
 enum { MAX_KEY = 64, STEPS = 64, RANGES = 40 };
+enum { TEXT, REDIS, REDIS_WAIT, ETCD };
+static const char *const PROTOCOLS[] = {"text", "redis", "redis-wait", "etcd"};
+static const char WAIT[] = "*3\r\n$4\r\nWAIT\r\n$1\r\n1\r\n$1\r\n0\r\n";
+
+static int protocol = TEXT;
 
 static const char *host = "127.0.0.1", *port = "11211";
 static int connections = 1, threads = 0, depth = 1, must_hit = 0, no_fill = 0, session_keys = 0;
@@ -130,23 +140,70 @@ static void room_for(char **block, size_t *room, size_t wanted) {
     *block = need(realloc(*block, *room));
 }
 
+// A key's value is its own text, repeated.
+static char *put_value(char *to, const char *text, int len) {
+    for (long i = 0; i < value_size; i += len) {
+        long left = value_size - i;
+        memcpy(to + i, text, (size_t)(left < len ? left : len));
+    }
+    return to + value_size;
+}
+
+static char *put_base64(char *to, const char *from, long len) {
+    static const char digits[] = "ABCDEFGHIJKLMNOPQRSTUVWXYZabcdefghijklmnopqrstuvwxyz0123456789+/";
+    for (long i = 0; i < len; i += 3) {
+        uint32_t v = (uint32_t)(uint8_t)from[i] << 16;
+        if (i + 1 < len) v |= (uint32_t)(uint8_t)from[i + 1] << 8;
+        if (i + 2 < len) v |= (uint8_t)from[i + 2];
+        *to++ = digits[v >> 18];
+        *to++ = digits[v >> 12 & 63];
+        *to++ = i + 1 < len ? digits[v >> 6 & 63] : '=';
+        *to++ = i + 2 < len ? digits[v & 63] : '=';
+    }
+    return to;
+}
+
+static char *put_text_request(char *to, int is_get, uint32_t key, const char *text, int len) {
+    if (is_get) return to + sprintf(to, "get %s\r\n", text);
+    to += sprintf(to, "set %s %u 0 %ld\r\n", text, key & 0xffff, value_size);
+    to = put_value(to, text, len);
+    return to + sprintf(to, "\r\n");
+}
+
+static char *put_redis_request(char *to, int is_get, const char *text, int len) {
+    if (is_get) return to + sprintf(to, "*2\r\n$3\r\nGET\r\n$%d\r\n%s\r\n", len, text);
+    to += sprintf(to, "*3\r\n$3\r\nSET\r\n$%d\r\n%s\r\n$%ld\r\n", len, text, value_size);
+    to = put_value(to, text, len);
+    return to + sprintf(to, "\r\n%s", protocol == REDIS_WAIT ? WAIT : "");
+}
+
+static char *put_etcd_request(char *to, int is_get, const char *text, int len) {
+    char *body = need(malloc((size_t)value_size * 2 + 512)), *value = need(malloc((size_t)value_size + 1)), *end = body;
+    end += sprintf(end, "{\"key\":\"");
+    end = put_base64(end, text, len);
+    if (!is_get) {
+        put_value(value, text, len);
+        end += sprintf(end, "\",\"value\":\"");
+        end = put_base64(end, value, value_size);
+    }
+    end += sprintf(end, "\"}");
+    to += sprintf(to, "POST /v3/kv/%s HTTP/1.1\r\nHost: %s\r\nContent-Type: application/json\r\nContent-Length: %ld\r\n\r\n",
+                  is_get ? "range" : "put", host, (long)(end - body));
+    memcpy(to, body, (size_t)(end - body));
+    to += end - body;
+    free(value);
+    free(body);
+    return to;
+}
+
 static void ask(Conn *c, int is_get, uint32_t key) {
     char text[MAX_KEY];
     int len = key_text(text, key);
-    room_for(&c->out, &c->out_room, c->out_len + (size_t)value_size + 128);
+    room_for(&c->out, &c->out_room, c->out_len + (size_t)value_size * 2 + 1024);
     char *to = c->out + c->out_len;
-    if (is_get) {
-        to += sprintf(to, "get %s\r\n", text);
-    } else {
-        to += sprintf(to, "set %s %u 0 %ld\r\n", text, key & 0xffff, value_size);
-        for (long i = 0; i < value_size; i += len) {
-            long left = value_size - i;
-            memcpy(to + i, text, (size_t)(left < len ? left : len));
-        }
-        to += value_size;
-        *to++ = '\r';
-        *to++ = '\n';
-    }
+    if (protocol == TEXT) to = put_text_request(to, is_get, key, text, len);
+    else if (protocol == ETCD) to = put_etcd_request(to, is_get, text, len);
+    else to = put_redis_request(to, is_get, text, len);
     c->out_len = (size_t)(to - c->out);
     int at = (c->head + c->count) % depth;
     c->ring[at] = (Pending){now(), key, (char)is_get};
@@ -168,25 +225,33 @@ static void refill(Worker *w, Conn *c) {
     }
 }
 
-// The bytes of the first whole reply in text, 0 where it is not whole, -1 where it is wrong (and says so).
-static long reply_length(Worker *w, const Pending *p, const char *text, size_t len) {
-    const char *end = memchr(text, '\n', len);
-    if (!end) {
-        if (len > 1024) {
-            complain(w, "a reply line has no end");
-            return -1;
+// A get that found nothing.
+static void miss(Worker *w) {
+    if (!w->is_filling) w->misses++;
+    if (must_hit) complain(w, "a get found nothing for a key that was set");
+}
+
+// Whether the value is the key's; says so if it is not.
+static int is_value(Worker *w, const char *data, const char *key, int key_len) {
+    for (long i = 0; i < value_size; i++)
+        if (data[i] != key[i % key_len]) {
+            complain(w, "get %s: byte %ld of the value is wrong", key, i);
+            return 0;
         }
-        return 0;
-    }
-    size_t line = (size_t)(end - text) + 1;
+    w->hits++;
+    return 1;
+}
+
+// Of each protocol: the bytes of the first whole reply in text, 0 if it is not whole, -1 if it is wrong (and says so).
+// `line` is the length of its first line.
+static long text_reply(Worker *w, const Pending *p, const char *text, size_t len, size_t line) {
     if (!p->is_get) {
         if (line == 8 && !memcmp(text, "STORED\r\n", 8)) return 8;
         complain(w, "set answered: %.*s", (int)(line < 80 ? line : 80), text);
         return -1;
     }
     if (line == 5 && !memcmp(text, "END\r\n", 5)) {
-        if (!w->is_filling) w->misses++;
-        if (must_hit) complain(w, "get answered END for a key that was set");
+        miss(w);
         return 5;
     }
     char key[MAX_KEY], wanted[MAX_KEY + 64];
@@ -198,18 +263,88 @@ static long reply_length(Worker *w, const Pending *p, const char *text, size_t l
     }
     size_t whole = line + (size_t)value_size + 7;
     if (len < whole) return 0;
-    const char *data = text + line;
-    for (long i = 0; i < value_size; i++)
-        if (data[i] != key[i % key_len]) {
-            complain(w, "get %s: byte %ld of the value is wrong", key, i);
-            return -1;
-        }
-    if (memcmp(data + value_size, "\r\nEND\r\n", 7)) {
+    if (!is_value(w, text + line, key, key_len)) return -1;
+    if (memcmp(text + line + value_size, "\r\nEND\r\n", 7)) {
         complain(w, "get %s: the block does not end as it must", key);
         return -1;
     }
-    w->hits++;
     return (long)whole;
+}
+
+static long redis_set_reply(Worker *w, const char *text, size_t len, size_t line) {
+    if (line != 5 || memcmp(text, "+OK\r\n", 5)) {
+        complain(w, "SET answered: %.*s", (int)(line < 80 ? line : 80), text);
+        return -1;
+    }
+    if (protocol == REDIS) return 5;
+    const char *end = memchr(text + 5, '\n', len - 5);
+    if (!end) return 0;
+    if (text[5] == ':' && text[6] >= '1' && text[6] <= '9') return end - text + 1;
+    complain(w, "WAIT answered: %.*s", (int)(end - text - 5), text + 5);
+    return -1;
+}
+
+static long redis_reply(Worker *w, const Pending *p, const char *text, size_t len, size_t line) {
+    if (!p->is_get) return redis_set_reply(w, text, len, line);
+    if (line == 5 && !memcmp(text, "$-1\r\n", 5)) {
+        miss(w);
+        return 5;
+    }
+    char key[MAX_KEY], wanted[64];
+    int key_len = key_text(key, p->key);
+    int wanted_len = sprintf(wanted, "$%ld\r\n", value_size);
+    if (line != (size_t)wanted_len || memcmp(text, wanted, line)) {
+        complain(w, "GET %s answered: %.*s", key, (int)(line < 80 ? line : 80), text);
+        return -1;
+    }
+    if (len < line + (size_t)value_size + 2) return 0;
+    return is_value(w, text + line, key, key_len) ? (long)(line + (size_t)value_size + 2) : -1;
+}
+
+static long etcd_reply(Worker *w, const Pending *p, const char *text, size_t len, size_t line) {
+    const char *body = memmem(text, len, "\r\n\r\n", 4);
+    if (!body) return 0;
+    const char *said = memmem(text, (size_t)(body - text), "Content-Length: ", 16);
+    if (memcmp(text, "HTTP/1.1 200", 12) || !said) {
+        complain(w, "etcd answered: %.*s", (int)(line < 80 ? line : 80), text);
+        return -1;
+    }
+    size_t whole = (size_t)(body + 4 - text) + (size_t)atol(said + 16);
+    if (len < whole) return 0;
+    if (!p->is_get) return (long)whole;
+    char key[MAX_KEY], *value = need(malloc((size_t)value_size)), *wanted = need(malloc((size_t)value_size * 2 + 64));
+    int key_len = key_text(key, p->key);
+    put_value(value, key, key_len);
+    char *end = wanted + sprintf(wanted, "\"value\":\"");
+    end = put_base64(end, value, value_size);
+    *end++ = '"';
+    size_t left = whole - (size_t)(body - text);
+    int is_there = memmem(body, left, wanted, (size_t)(end - wanted)) != NULL;
+    int has_value = memmem(body, left, "\"value\":", 8) != NULL;
+    free(wanted);
+    free(value);
+    if (is_there) w->hits++;
+    else if (!has_value) miss(w);
+    else {
+        complain(w, "range %s: the value is wrong", key);
+        return -1;
+    }
+    return (long)whole;
+}
+
+static long reply_length(Worker *w, const Pending *p, const char *text, size_t len) {
+    const char *end = memchr(text, '\n', len);
+    if (!end) {
+        if (len > 1024) {
+            complain(w, "a reply line has no end");
+            return -1;
+        }
+        return 0;
+    }
+    size_t line = (size_t)(end - text) + 1;
+    if (protocol == TEXT) return text_reply(w, p, text, len, line);
+    if (protocol == ETCD) return etcd_reply(w, p, text, len, line);
+    return redis_reply(w, p, text, len, line);
 }
 
 static void take_replies(Worker *w, Conn *c) {
@@ -370,6 +505,13 @@ static double number(const char *text, double low, double high) {
     return x;
 }
 
+static int protocol_of(const char *name) {
+    for (int i = TEXT; i <= ETCD; i++)
+        if (!strcmp(name, PROTOCOLS[i])) return i;
+    fprintf(stderr, "load: %s is none of text, redis, redis-wait, etcd\n", name);
+    exit(2);
+}
+
 static double quantile(const uint64_t *buckets, uint64_t all, double q) {
     uint64_t wanted = (uint64_t)(q * (double)all), seen = 0;
     for (int i = 0; i < RANGES * STEPS; i++) {
@@ -381,9 +523,10 @@ static double quantile(const uint64_t *buckets, uint64_t all, double q) {
 
 int main(int argc, char **argv) {
     int o;
-    while ((o = getopt(argc, argv, "h:p:c:t:T:g:s:k:d:r:w:HnS")) != -1) switch (o) {
+    while ((o = getopt(argc, argv, "h:p:P:c:t:T:g:s:k:d:r:w:HnS")) != -1) switch (o) {
         case 'h': host = optarg; break;
         case 'p': port = optarg; break;
+        case 'P': protocol = protocol_of(optarg); break;
         case 'c': connections = (int)number(optarg, 1, 4096); break;
         case 't': seconds = number(optarg, 0.01, 3600); break;
         case 'T': threads = (int)number(optarg, 1, 64); break;
@@ -397,7 +540,7 @@ int main(int argc, char **argv) {
         case 'n': no_fill = 1; break;
         case 'S': session_keys = 1; break;
         default:
-            fprintf(stderr, "usage: load [-h host] [-p port] [-c connections] [-t seconds] [-g get ratio 0..1] [-s value size]\n"
+            fprintf(stderr, "usage: load [-h host] [-p port] [-P text|redis|redis-wait|etcd] [-c connections] [-t seconds] [-g get ratio 0..1] [-s value size]\n"
                             "            [-k keys] [-d pipeline depth] [-T threads] [-r seed] [-w seconds to wait for the last replies]\n"
                             "            [-H a get must find its key] [-n do not set each key first] [-S keys named as sessions are]\n");
             return 2;

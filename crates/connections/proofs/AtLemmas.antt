@@ -6,8 +6,8 @@ use Rattle.std.proofs.lemmas.List.Elements.{Contains-append_left}
 use Rattle.base.specs.declared.fault.Fault.{Fault}
 use Rattle.proto.specs.declared.command.Command.{Command}
 use Rattle.proto.specs.declared.reply.Reply as replies
-use Rattle.client.specs.Talk.{Given}
-use Rattle.connections.specs.declared.connection.Ready.{Ready}
+use Rattle.session.specs.Session.{SessionStep}
+use Rattle.session.specs.declared.session.Ready.{Ready}
 use Rattle.connections.specs.declared.connections.CommandNumber.{CommandNumber}
 use Rattle.connections.specs.declared.places.Place.{Place}
 use Rattle.connections.specs.declared.said.Said.{Said}
@@ -95,7 +95,7 @@ fed_at_keeps v at piece table said heard given ok here f hears gives =
     let p = parts.0 in
     let now = parts.1.0 in
     let step = parts.1.1 in
-    let g : Given = step.0 in
+    let g : SessionStep = step.0 in
     let keeps = fed_keeps v ok at.key c.0 c.1 piece g p step.1 (λ d e. if_some (not said.closes) now d (sym parts.1.3 ∙ e) ∙ step.2) in
     subst (λ (z : List (Option ConnectionView) × List (ℕ × List ℕ) × List (ℕ × List ℕ)). IsConnections (record v { table = z.0; heard = z.1; given = z.2 }))
     (λ i. (sym parts.2 i, (ap (λ (n : ℕ). v.heard ++ (n, piece) ∷ []) c.2 ∙ sym hears) i, ((λ j. v.given ++ (c.2 j, sym step.3 j) ∷ []) ∙ sym gives) i)) keeps

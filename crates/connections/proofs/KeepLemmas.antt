@@ -5,18 +5,17 @@ use Rattle.std.proofs.lemmas.List.{append-nil}
 use Rattle.std.proofs.lemmas.List.Elements.{Contains-push, Contains-append_left}
 use Rattle.proto.specs.declared.command.Command.{Command}
 use Rattle.proto.specs.declared.reply.Reply as replies
-use Rattle.client.specs.Talk.{Given}
-use Rattle.client.specs.Step.{IsFed}
-use Rattle.client.specs.Taken.{TalkOk}
-use Rattle.client.proofs.TakenLemmas.{talk_implies, new_ok, fed_ok, replied_ok}
+use Rattle.session.specs.Session.{SessionStep, IsFedSession, session_answered}
+use Rattle.session.specs.Taken.{SessionOk}
+use Rattle.session.proofs.TakenLemmas.{session_implies, new_ok, fed_ok, replied_ok}
 use Rattle.connections.specs.declared.connections.CommandNumber.{CommandNumber}
-use Rattle.connections.specs.Connection.{ConnectionView, new_connection, after_given, answer_given}
+use Rattle.connections.specs.Connection.{ConnectionView, new_connection, after_given}
 use Rattle.connections.specs.History.{Passed}
 use Rattle.connections.specs.Places.{place_in, IsGrown}
 use Rattle.connections.specs.Connections.{ConnectionsView, no_connections, bytes_of_connection, WasReplied, IsAnswered, IsHere, IsConnections}
 use Rattle.connections.proofs.PlaceLemmas.{there, set_place, other_place, place_there, same_or_not}
 use Rattle.connections.proofs.TextLemmas.{bytes_own, bytes_other, answered_longer, answered_implies}
-use Rattle.connections.proofs.StepLemmas.{MayAsk, asks_may, fed_asks, answered_asks}
+use Rattle.connections.proofs.StepLemmas.{MayAsk, asks_may, fed_asks, replied_asks}
 use Rattle.connections.proofs.MoveLemmas.{moved_keeps, counted_on}
 
 -- ---- nobody came
@@ -25,7 +24,7 @@ pub none_keep : IsConnections no_connections
 none_keep = record {
   here = λ key c at. let e : ◌≡◌ {A = Option ConnectionView} None (Some c) = at in absurd (cc e);
   one_place = λ i j c d at_i at_j same. let e : ◌≡◌ {A = Option ConnectionView} None (Some c) = at_i in absurd (cc e);
-  answered = λ n. let t = new_ok (WasReplied [] n) 1 in record { taken = t.taken; texts = t.texts; first = t.front };
+  answered = λ n. let t = new_ok (WasReplied [] n) in record { taken = t.taken; texts = t.texts; first = t.front };
   fresh = λ n above. (refl, refl);
   asked = λ e in_it. let lt = in_it.1 in absurd (omega (arith, lt));
   below = λ e in_it. let lt = in_it.1 in absurd (omega (arith, lt));
@@ -71,7 +70,7 @@ module _ (v : ConnectionsView) (ok : IsConnections v) (table : List (Option Conn
   new_here = record {
     below = omega arith;
     talks = let f = ok.fresh number above in
-        subst (λ (z : List ℕ × List ℕ). TalkOk (WasReplied v.replied number) 1 z.0 false (new_connection number).talk z.1) (λ i. (sym f.0 i, sym f.1 i)) (new_ok (WasReplied v.replied number) 1);
+        subst (λ (z : List ℕ × List ℕ). SessionOk (WasReplied v.replied number) z.0 (new_connection number).session z.1) (λ i. (sym f.0 i, sym f.1 i)) (new_ok (WasReplied v.replied number));
     counted = λ e in_it is. let b = ok.below e in_it in absurd (omega (arith, b, is, above));
   }
 
@@ -151,16 +150,16 @@ module _ (v : ConnectionsView) (ok : IsConnections v) (key : ℕ) (c : Connectio
       (answered_implies (WasReplied v.replied c.number) (WasReplied replied c.number) (bytes_of_connection c.number v.heard) (bytes_of_connection c.number v.given) (rs c.number) (ok.answered c.number)))
 
   -- it read a piece
-  pub fed_keeps : (piece : List ℕ) (g : Given) (p : Option ConnectionView) → IsFed 0 1 c.talk piece g → ((d : ConnectionView) → p ≡ Some d → d ≡ after_given c g)
+  pub fed_keeps : (piece : List ℕ) (g : SessionStep) (p : Option ConnectionView) → IsFedSession c.session piece g → ((d : ConnectionView) → p ≡ Some d → d ≡ after_given c g)
       → IsConnections (record v { table = slice_set v.table key p; heard = v.heard ++ (c.number, piece) ∷ []; given = v.given ++ (c.number, g.bytes) ∷ [] })
   fed_keeps piece g p fed only =
       let now : ConnectionsView = record v { table = slice_set v.table key p; heard = v.heard ++ (c.number, piece) ∷ []; given = v.given ++ (c.number, g.bytes) ∷ [] } in
       let P = WasReplied v.replied c.number in
       let h = ok.here key c at in
-      let talks : TalkOk P 1 (bytes_of_connection c.number now.heard) false g.talk (bytes_of_connection c.number now.given) =
-      subst (λ (z : List ℕ × List ℕ). TalkOk P 1 z.0 false g.talk z.1) (λ i. (sym (bytes_own c.number v.heard piece) i, sym (bytes_own c.number v.given g.bytes) i))
-      (fed_ok P 0 1 (bytes_of_connection c.number v.heard) piece false c.talk (bytes_of_connection c.number v.given) g h.talks fed) in
-      let here : IsHere now (after_given c g) = record { below = h.below; talks = talks; counted = λ e in_it is. counted_on e.0.turn c g (asks_may c.talk g (fed_asks c.talk piece g fed)) (h.counted e in_it is) } in
+      let talks : SessionOk P (bytes_of_connection c.number now.heard) g.session (bytes_of_connection c.number now.given) =
+      subst (λ (z : List ℕ × List ℕ). SessionOk P z.0 g.session z.1) (λ i. (sym (bytes_own c.number v.heard piece) i, sym (bytes_own c.number v.given g.bytes) i))
+      (fed_ok P (bytes_of_connection c.number v.heard) piece c.session (bytes_of_connection c.number v.given) g h.talks fed) in
+      let here : IsHere now (after_given c g) = record { below = h.below; talks = talks; counted = λ e in_it is. counted_on e.0.turn c g (asks_may c.session g (fed_asks c.session piece g fed)) (h.counted e in_it is) } in
       moved_keeps v now key c.number ok (record {
         was = c;
         was_at = at;
@@ -176,12 +175,8 @@ module _ (v : ConnectionsView) (ok : IsConnections v) (key : ℕ) (c : Connectio
         answered = record { taken = talks.taken; texts = talks.texts; first = talks.front };
       })
 
-  talk_after : (P : ℕ → replies.Reply → Type 0) (all given : List ℕ) (turn : ℕ) (reply : replies.Reply) (o : Option Command) → P turn reply → TalkOk P 1 all false c.talk given → TalkOk P 1 all false (answer_given c turn reply o).talk (given ++ (answer_given c turn reply o).bytes)
-  talk_after P all given turn reply None p t = replied_ok P 0 1 all false c.talk given turn reply p t
-  talk_after P all given turn reply (Some command) p t = subst (TalkOk P 1 all false c.talk) (sym (append-nil given)) t
-
   -- it took a reply
-  pub replied_keeps : (turn : ℕ) (reply : replies.Reply) (g : Given) (p : Option ConnectionView) → g ≡ answer_given c turn reply c.command → ((d : ConnectionView) → p ≡ Some d → d ≡ after_given c g)
+  pub replied_keeps : (turn : ℕ) (reply : replies.Reply) (g : SessionStep) (p : Option ConnectionView) → g ≡ session_answered c.session turn reply → ((d : ConnectionView) → p ≡ Some d → d ≡ after_given c g)
       → IsConnections (record v { table = slice_set v.table key p; given = v.given ++ (c.number, g.bytes) ∷ []; replied = v.replied ++ (record { connection = c.number; turn = turn }, reply) ∷ [] })
   replied_keeps turn reply g p step only =
       let entry : CommandNumber × replies.Reply = (record { connection = c.number; turn = turn }, reply) in
@@ -190,14 +185,14 @@ module _ (v : ConnectionsView) (ok : IsConnections v) (key : ℕ) (c : Connectio
       let on = λ (h q : ℕ) (r : replies.Reply) (w : WasReplied v.replied h q r). Contains-append_left v.replied (entry ∷ []) (record { connection = h; turn = q }, r) w in
       let h = ok.here key c at in
       let all = bytes_of_connection c.number v.heard in
-      let before = talk_implies (WasReplied v.replied c.number) Q 1 all false c.talk (bytes_of_connection c.number v.given) (on c.number) h.talks in
-      let talked : TalkOk Q 1 all false g.talk (bytes_of_connection c.number v.given ++ g.bytes) = subst (λ (x : Given). TalkOk Q 1 all false x.talk (bytes_of_connection c.number v.given ++ x.bytes)) (sym step)
-      (talk_after Q all (bytes_of_connection c.number v.given) turn reply c.command (Contains-push v.replied entry) before) in
-      let talks : TalkOk Q 1 all false g.talk (bytes_of_connection c.number now.given) = subst (TalkOk Q 1 all false g.talk) (sym (bytes_own c.number v.given g.bytes)) talked in
+      let before = session_implies (WasReplied v.replied c.number) Q all c.session (bytes_of_connection c.number v.given) (on c.number) h.talks in
+      let talked : SessionOk Q all g.session (bytes_of_connection c.number v.given ++ g.bytes) = subst (λ (x : SessionStep). SessionOk Q all x.session (bytes_of_connection c.number v.given ++ x.bytes)) (sym step)
+      (replied_ok Q all c.session (bytes_of_connection c.number v.given) turn reply (Contains-push v.replied entry) before) in
+      let talks : SessionOk Q all g.session (bytes_of_connection c.number now.given) = subst (SessionOk Q all g.session) (sym (bytes_own c.number v.given g.bytes)) talked in
       let here : IsHere now (after_given c g) = record {
         below = h.below;
         talks = talks;
-        counted = λ e in_it is. counted_on e.0.turn c g (subst (MayAsk c.talk) (sym step) (answered_asks c turn reply c.command)) (h.counted e in_it is);
+        counted = λ e in_it is. counted_on e.0.turn c g (subst (MayAsk c.session) (sym step) (replied_asks c.session turn reply)) (h.counted e in_it is);
       } in
       moved_keeps v now key c.number ok (record {
         was = c;

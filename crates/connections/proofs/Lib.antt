@@ -7,3 +7,4 @@ pub mod TakeLemmas
 pub mod AtLemmas
 pub mod OwedLemmas
 pub mod HistoryLemmas
+pub mod ToldLemmas

@@ -4,11 +4,11 @@ use Rattle.std.specs.Prelude.{◌≢◌, Contains}
 use Rattle.proto.specs.declared.command.Command.{Command}
 use Rattle.proto.specs.declared.reply.Reply as replies
 use Rattle.memcached_spec.specs.Asked.{IsAsked}
-use Rattle.client.specs.Talk.{Given}
-use Rattle.client.specs.Taken.{TalkOk}
-use Rattle.client.proofs.TakenLemmas.{talk_implies}
+use Rattle.session.specs.Session.{SessionStep}
+use Rattle.session.specs.Taken.{SessionOk}
+use Rattle.session.proofs.TakenLemmas.{session_implies}
 use Rattle.connections.specs.declared.connections.CommandNumber.{CommandNumber}
-use Rattle.connections.specs.Connection.{ConnectionView, wanted_command, or_else}
+use Rattle.connections.specs.Connection.{ConnectionView}
 use Rattle.connections.specs.Places.{place_in}
 use Rattle.connections.specs.Connections.{ConnectionsView, bytes_of_connection, WasReplied, IsAnswered, untaken, IsHere, IsConnections}
 use Rattle.connections.proofs.PlaceLemmas.{same_or_not}
@@ -36,8 +36,8 @@ pub stays_here : (v now : ConnectionsView) (c : ConnectionView) → now.next ≡
     → ((q : ℕ) (r : replies.Reply) → WasReplied v.replied c.number q r → WasReplied now.replied c.number q r) → IsHere v c → IsHere now c
 stays_here v now c next taken heard given replied h = record {
   below = subst (λ (n : ℕ). c.number < n) (sym next) h.below;
-  talks = subst (λ (z : List ℕ × List ℕ). TalkOk (WasReplied now.replied c.number) 1 z.0 false c.talk z.1) (λ i. (sym heard i, sym given i))
-      (talk_implies (WasReplied v.replied c.number) (WasReplied now.replied c.number) 1 (bytes_of_connection c.number v.heard) false c.talk (bytes_of_connection c.number v.given) replied h.talks);
+  talks = subst (λ (z : List ℕ × List ℕ). SessionOk (WasReplied now.replied c.number) z.0 c.session z.1) (λ i. (sym heard i, sym given i))
+      (session_implies (WasReplied v.replied c.number) (WasReplied now.replied c.number) (bytes_of_connection c.number v.heard) c.session (bytes_of_connection c.number v.given) replied h.talks);
   counted = λ e in_it is. h.counted e (subst (λ (es : List (CommandNumber × Command)). Contains es e) taken in_it) is;
 }
 
@@ -99,8 +99,8 @@ module _ (v now : ConnectionsView) (key number : ℕ) (ok : IsConnections v) (m 
 
 -- ---- the commands that were taken come before the one that was not
 
-pub counted_on : (turn : ℕ) (c : ConnectionView) (g : Given) → MayAsk c.talk g → turn + untaken c.command ≤ c.talk.last → turn + untaken (or_else (wanted_command g.letters) c.command) ≤ g.talk.last
-counted_on turn c g (inl h) le = subst (λ (z : Option Command × ℕ). turn + untaken (or_else z.0 c.command) ≤ z.1) (λ i. (sym h.0 i, sym h.1 i)) le
+pub counted_on : (turn : ℕ) (c : ConnectionView) (g : SessionStep) → MayAsk c.session g → turn + untaken c.session.command ≤ c.session.last → turn + untaken g.session.command ≤ g.session.last
+counted_on turn c g (inl h) le = subst (λ (z : Option Command × ℕ). turn + untaken z.0 ≤ z.1) (λ i. (sym h.0 i, sym h.1 i)) le
 counted_on turn c g (inr h) le =
-    let less : turn + 1 ≤ c.talk.last + 1 = omega (arith, le) in
-    subst (λ (z : Option Command × ℕ). turn + untaken (or_else z.0 c.command) ≤ z.1) (λ i. (sym h.1 i, sym h.3 i)) less
+    let less : turn + 1 ≤ c.session.last + 1 = omega (arith, le) in
+    subst (λ (z : Option Command × ℕ). turn + untaken z.0 ≤ z.1) (λ i. (sym h.1 i, sym h.2 i)) less

@@ -7,15 +7,15 @@ use Rattle.base.specs.declared.fault.Fault.{Fault}
 use Rattle.proto.specs.declared.command.Command.{Command}
 use Rattle.proto.specs.declared.reply.Reply as replies
 use Rattle.proto.specs.Text.{given_text}
-use Rattle.client.specs.declared.asked.Asked.{Asked}
-use Rattle.client.specs.declared.talk.Talk.{Talk}
-use Rattle.client.specs.Talk.{Given, unmoved, go_on}
-use Rattle.client.specs.Step.{is_asked, on_reply, answered_to}
-use Rattle.connections.specs.declared.connection.Ready.{Ready}
+use Rattle.session.specs.declared.session.Awaited.{Awaited}
+use Rattle.session.specs.declared.session.Session.{Session}
+use Rattle.session.specs.Session.{SessionStep, session_stays, session_goes_on, is_outstanding_as, session_answered, answered_if_taken, answered_to_awaited}
+use Rattle.session.proofs.TakenLemmas.{none_pending}
+use Rattle.session.specs.declared.session.Ready.{Ready}
 use Rattle.connections.specs.declared.connection.TheConstants.{MOST_UNWRITTEN}
 use Rattle.connections.specs.declared.places.Place.{Place}
 use Rattle.connections.specs.declared.said.Said.{Said}
-use Rattle.connections.specs.Connection.{ConnectionView, IsFedTo, ConnectionAnswers, wanted_command, or_else, after_given, answer_given}
+use Rattle.connections.specs.Connection.{ConnectionView, IsFedTo, ConnectionAnswers, after_given}
 use Rattle.connections.specs.Places.{place_in, is_of_connection, connection_at, is_here, FeedsAt, AnswersAt, TakesWhere, TakesPlace, TakesIn, TakesAt, left_in, left_at, after_written, written_place, written_in, written_at, HasSameOthers}
 use Rattle.connections.specs.Connections.{ConnectionsView, IsHere, IsConnections}
 use Rattle.connections.specs.Owed.{HasSameOutstanding, HasCommand, ReadsFurther, AnswersOn, BecomesAt, IsTakenAt, HasNoneToTake}
@@ -30,52 +30,52 @@ behind : (a b : ℕ) → MOST_UNWRITTEN ≤ a → MOST_UNWRITTEN ≤ min (a + b)
 behind a b le = le-min (omega (arith, le)) (omega arith)
 
 -- a step that asks nothing, or the next command
-goes_on : (c : ConnectionView) (g : Given) → Asks c.talk g → HasSameOutstanding c (after_given c g) ⊎ HasCommand (after_given c g)
-goes_on c g (inl h) = inl (h.2, ap (λ (o : Option Command). or_else o c.command) h.0)
-goes_on c g (inr h) = inr (ap (λ (o : Option Command). is_some (or_else o c.command)) h.1)
+goes_on : (c : ConnectionView) (g : SessionStep) → Asks c.session g → HasSameOutstanding c (after_given c g) ⊎ HasCommand (after_given c g)
+goes_on c g (inl h) = inl (h.2, h.0)
+goes_on c g (inr h) = inr (ap (λ (o : Option Command). is_some o) h.1)
 
 pub fed_reads : (c d : ConnectionView) (piece bytes : List ℕ) → IsFedTo c piece d bytes → ReadsFurther c d
 fed_reads c d piece bytes f =
-    let g : Given = f.0 in
+    let g : SessionStep = f.0 in
     subst (ReadsFurther c) (sym f.2) (record {
       number = refl;
       behind = behind c.unwritten (length g.bytes);
-      owes = goes_on c g (fed_asks c.talk piece g f.1);
+      owes = goes_on c g (fed_asks c.session piece g f.1);
     })
 
 -- what a reply leads to
-abbrev Replies : ConnectionView → ℕ → Given → Type 0
-Replies c turn g = (HasSameOutstanding c (after_given c g) × (HasCommand c ⊎ (is_asked c.talk.outstanding turn ≡ false))) ⊎ ((after_given c g).talk.outstanding ≡ None) ⊎ HasCommand (after_given c g)
+abbrev Replies : ConnectionView → ℕ → SessionStep → Type 0
+Replies c turn g = (HasSameOutstanding c (after_given c g) × (HasCommand c ⊎ (is_outstanding_as c.session.outstanding turn ≡ false))) ⊎ ((after_given c g).session.outstanding ≡ None) ⊎ HasCommand (after_given c g)
 
-still : (c : ConnectionView) (turn : ℕ) → HasCommand c ⊎ (is_asked c.talk.outstanding turn ≡ false) → Replies c turn (unmoved c.talk)
+still : (c : ConnectionView) (turn : ℕ) → HasCommand c ⊎ (is_outstanding_as c.session.outstanding turn ≡ false) → Replies c turn (session_stays c.session)
 still c turn why = inl ((refl, refl), why)
 
-moves : (c : ConnectionView) (turn : ℕ) (t : Talk) (g : Given) → t.outstanding ≡ None → Asks t g → Replies c turn g
-moves c turn t g none (inl h) = inr (inl (h.2 ∙ none))
-moves c turn t g none (inr h) = inr (inr (ap (λ (o : Option Command). is_some (or_else o c.command)) h.1))
+moves : (c : ConnectionView) (turn : ℕ) (s : Session) (g : SessionStep) → s.outstanding ≡ None → Asks s g → Replies c turn g
+moves c turn s g none (inl h) = inr (inl (h.2 ∙ none))
+moves c turn s g none (inr h) = inr (inr (ap (λ (o : Option Command). is_some o) h.1))
 
-replies_on : (c : ConnectionView) (turn : ℕ) (reply : replies.Reply) → Replies c turn (on_reply 0 1 c.talk turn reply)
-replies_on c turn reply = by c.talk.outstanding refl
+replies_on : (c : ConnectionView) (turn : ℕ) (reply : replies.Reply) → Replies c turn (session_answered c.session turn reply)
+replies_on c turn reply = by_command c.session.command refl
   where
-    by : (o : Option Asked) → c.talk.outstanding ≡ o → Replies c turn (answered_to 0 1 c.talk turn reply o)
-    by None e = still c turn (inr (ap (λ (x : Option Asked). is_asked x turn) e))
+    by : (o : Option Awaited) → c.session.outstanding ≡ o → Replies c turn (answered_to_awaited c.session turn reply o)
+    by None e = still c turn (inr (ap (λ (x : Option Awaited). is_outstanding_as x turn) e))
     by (Some a) e =
-        let t : Talk = record c.talk { outstanding = None } in
-        cond_both (a.request.number == turn) (go_on 0 1 t (given_text reply a.quiet)) (unmoved c.talk) (Replies c turn)
-        (λ _. moves c turn t (go_on 0 1 t (given_text reply a.quiet)) refl (where_asks t (given_text reply a.quiet) t.outstanding t.closed))
-        (λ differs. still c turn (inr (ap (λ (x : Option Asked). is_asked x turn) e ∙ differs)))
+        let s : Session = record c.session { outstanding = None } in
+        cond_both (a.number == turn) (session_goes_on s (given_text reply a.quiet)) (session_stays c.session) (Replies c turn)
+        (λ _. moves c turn s (session_goes_on s (given_text reply a.quiet)) refl (where_asks s (given_text reply a.quiet) s.outstanding s.closed))
+        (λ differs. still c turn (inr (ap (λ (x : Option Awaited). is_outstanding_as x turn) e ∙ differs)))
 
-given_on : (c : ConnectionView) (turn : ℕ) (reply : replies.Reply) (o : Option Command) → c.command ≡ o → Replies c turn (answer_given c turn reply o)
-given_on c turn reply None e = replies_on c turn reply
-given_on c turn reply (Some command) e = still c turn (inl (ap (λ (x : Option Command). is_some x) e))
+    by_command : (o : Option Command) → c.session.command ≡ o → Replies c turn (answered_if_taken c.session turn reply o)
+    by_command None e = by c.session.outstanding refl
+    by_command (Some command) e = still c turn (inl (ap (λ (x : Option Command). is_some x) e))
 
 pub answers_on : (c d : ConnectionView) (turn : ℕ) (reply : replies.Reply) (bytes : List ℕ) → ConnectionAnswers c turn reply d bytes → AnswersOn turn c d
 answers_on c d turn reply bytes a =
-    let g : Given = a.0 in
+    let g : SessionStep = a.0 in
     subst (AnswersOn turn c) (sym a.2) (record {
       number = refl;
       behind = behind c.unwritten (length g.bytes);
-      owes = subst (Replies c turn) (sym a.1) (given_on c turn reply c.command refl);
+      owes = subst (Replies c turn) (sym a.1) (replies_on c turn reply);
     })
 
 -- ---- one place of the table
@@ -112,9 +112,16 @@ took_at at old table ready t =
       there = ap (λ (x : List (Option ConnectionView)). place_in x at.key) k.set ∙ set_place old at.key (Some k.next) (Some k.was) (place_there old at.key k.was k.at_key);
     }
 
-pub none_to_take : (at : Place) (old table : List (Option ConnectionView)) → TakesAt at old table None → HasNoneToTake at old
-none_to_take at old table t c e number =
-    let p = subst (λ (o : Option (Option ConnectionView)). TakesIn at old table None o) (place_there old at.key c e) t in
+pub none_to_take : (v : ConnectionsView) (at : Place) (table : List (Option ConnectionView)) → IsConnections v → TakesAt at v.table table None → HasNoneToTake at v.table
+none_to_take v at table ok t c e number =
+    let p = subst (λ (o : Option (Option ConnectionView)). TakesIn at v.table table None o) (place_there v.table at.key c e) t in
+    let live = (ok.here at.key c e).talks.live in
+    ⊎_elim
+    (λ (taken : c.session.command ≡ None). inl taken)
+    (λ (rest : (c.session.outstanding ≡ None) ⊎ (MOST_UNWRITTEN ≤ c.unwritten)). ⊎_elim
+    (λ (none : c.session.outstanding ≡ None). inl (none_pending c.session.outstanding c.session.command live.pending live.is_pending none).0)
+    (λ (much : MOST_UNWRITTEN ≤ c.unwritten). inr much)
+    rest)
     (subst (λ (b : Bool). TakesWhere b c p.0 None) (eq-eqb c.number at.number number) p.1).1
 
 -- ---- it leaves

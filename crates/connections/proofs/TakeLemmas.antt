@@ -8,8 +8,12 @@ use Rattle.proto.specs.declared.turn.Turn.{Turn}
 use Rattle.proto.specs.declared.turn.Turn.TheVariants.{Ask, Say, Close}
 use Rattle.proto.proofs.SpellsLemmas.{reads_spells, spelled_alone}
 use Rattle.memcached_spec.specs.Asked.{asked, TextsBy, IsAsked, HasText}
-use Rattle.client.specs.Taken.{Live, pending}
-use Rattle.connections.specs.declared.connection.Ready.{Ready}
+use Rattle.session.specs.declared.session.Awaited.{Awaited}
+use Rattle.session.specs.declared.session.Session.{Session}
+use Rattle.session.specs.Session.{IsTakenOfSession}
+use Rattle.session.specs.Taken.{IsPending, LiveSession}
+use Rattle.session.proofs.TakenLemmas.{taken_ok}
+use Rattle.session.specs.declared.session.Ready.{Ready}
 use Rattle.connections.specs.declared.connections.CommandNumber.{CommandNumber}
 use Rattle.connections.specs.Connection.{ConnectionView, IsTaken}
 use Rattle.connections.specs.Places.{place_in}
@@ -54,44 +58,47 @@ module _ (v : ConnectionsView) (ok : IsConnections v) (key : ℕ) (c : Connectio
   h : IsHere v c
   h = ok.here key c at
 
-  live : Live 1 (bytes_of_connection c.number v.heard) c.talk h.talks.taken
-  live = h.talks.live refl
+  of : IsTakenOfSession c.session ready t.session
+  of = t.of_session
 
-  pend : pending c.talk.outstanding ≡ Ask t.asked.request.command t.asked.quiet ∷ []
-  pend = ap pending t.outstanding
+  live : LiveSession (bytes_of_connection c.number v.heard) c.session h.talks.taken
+  live = h.talks.live
 
-  split : live.turns ≡ h.talks.taken ++ Ask ready.command ready.quiet ∷ c.talk.waiting
-  split = live.split ∙ (ap (λ (ts : List Turn). h.talks.taken ++ (ts ++ c.talk.waiting)) pend ∙ (λ i. h.talks.taken ++ Ask (t.command i) (t.quiet i) ∷ c.talk.waiting))
+  pend : live.pending ≡ Ask ready.command ready.quiet ∷ []
+  pend = subst (λ (z : Option Awaited × Option Command). IsPending z.0 z.1 live.pending) (λ i. (of.outstanding i, of.untaken i)) live.is_pending ∙ (λ i. Ask ready.command (of.quiet i) ∷ [])
 
-  turn_is : ready.turn ≡ c.talk.last
-  turn_is = sym t.turn ∙ (live.own t.asked t.outstanding).1
+  split : live.turns ≡ h.talks.taken ++ Ask ready.command ready.quiet ∷ c.session.waiting
+  split = live.split ∙ ap (λ (ts : List Turn). h.talks.taken ++ (ts ++ c.session.waiting)) pend
 
-  last_is : c.talk.last ≡ length (asked h.talks.taken) + 1
+  turn_is : ready.turn ≡ c.session.last
+  turn_is = sym of.turn ∙ live.own of.asked of.outstanding
+
+  last_is : c.session.last ≡ length (asked h.talks.taken) + 1
   last_is = live.number ∙ ap (λ (ts : List Turn). length (asked h.talks.taken) + length ts) pend
 
   pub is_asked : IsAsked (bytes_of_connection c.number v.heard) ready.turn ready.command
   is_asked =
-      let s = reads_spells (bytes_of_connection c.number v.heard) live.turns c.talk.reader live.reads in
+      let s = reads_spells (bytes_of_connection c.number v.heard) live.turns c.session.reader live.reads in
       let place : ready.turn - 1 ≡ length (asked h.talks.taken) = let a = turn_is in let b = last_is in omega (arith, a, b) in
       record {
         turns = live.turns;
         rest = s.0;
         spells = s.1;
         from_one = let a = turn_is in let b = last_is in omega (arith, a, b);
-        is = (λ i. slice_get (asked (split i)) (place i)) ∙ asked_behind h.talks.taken c.talk.waiting ready.command ready.quiet;
+        is = (λ i. slice_get (asked (split i)) (place i)) ∙ asked_behind h.talks.taken c.session.waiting ready.command ready.quiet;
       }
 
   pub has_text : HasText ready.command ready.quiet
   has_text =
-      let s = reads_spells (bytes_of_connection c.number v.heard) live.turns c.talk.reader live.reads in
+      let s = reads_spells (bytes_of_connection c.number v.heard) live.turns c.session.reader live.reads in
       let there : Contains live.turns (Ask ready.command ready.quiet) = subst (λ (ts : List Turn). Contains ts (Ask ready.command ready.quiet)) (sym split)
-      (Contains-append_right h.talks.taken (Ask ready.command ready.quiet ∷ c.talk.waiting) (Ask ready.command ready.quiet) (0, omega arith, refl)) in
+      (Contains-append_right h.talks.taken (Ask ready.command ready.quiet ∷ c.session.waiting) (Ask ready.command ready.quiet) (0, omega arith, refl)) in
       spelled_alone (bytes_of_connection c.number v.heard) live.turns s.0 ready.command ready.quiet s.1 there
 
   pub before : AreBefore v.taken c.number ready.turn
   before e in_it is =
       let n = h.counted e in_it is in
-      let one : untaken c.command ≡ 1 = ap untaken t.untaken in
+      let one : untaken c.session.command ≡ 1 = ap untaken of.untaken in
       let turn = turn_is in
       omega (arith, n, one, turn)
 
@@ -109,21 +116,24 @@ module _ (v : ConnectionsView) (ok : IsConnections v) (key : ℕ) (c : Connectio
   abbrev pub now : ConnectionsView
   now = record v { table = slice_set v.table key (Some next); taken = v.taken ++ entry ∷ [] }
 
-  same_talk : next ≡ record { number = c.number; talk = c.talk; command = None; unwritten = c.unwritten }
-  same_talk = t.now_is
+  same_number : next.number ≡ c.number
+  same_number = ap (λ (x : ConnectionView). x.number) t.now_is
 
   old_or_new : (e : CommandNumber × Command) → Contains now.taken e → Contains v.taken e ⊎ (entry ≡ e)
   old_or_new e in_it = ⊎_elim (λ (old : Contains v.taken e). inl old) (λ (new : Contains (entry ∷ []) e). inr (one_of entry e new)) (Contains-append_cases v.taken (entry ∷ []) e in_it)
 
   here_next : IsHere now next
-  here_next = subst (IsHere now) (sym same_talk) (record {
-    below = h.below;
-    talks = h.talks;
-    counted = λ e in_it is. ⊎_elim
-        (λ (old : Contains v.taken e). let n = h.counted e old is in omega (arith, n))
-        (λ (new : entry ≡ e). let n : ready.turn ≡ e.0.turn = ap (λ (x : CommandNumber × Command). x.0.turn) new in let turn = turn_is in omega (arith, n, turn))
-        (old_or_new e in_it);
-  })
+  here_next =
+      let none : untaken t.session.command ≡ 0 = ap (λ (s : Session). untaken s.command) of.now_is in
+      let last : t.session.last ≡ c.session.last = ap (λ (s : Session). s.last) of.now_is in
+      subst (IsHere now) (sym t.now_is) (record {
+        below = h.below;
+        talks = taken_ok (WasReplied v.replied c.number) (bytes_of_connection c.number v.heard) c.session (bytes_of_connection c.number v.given) ready t.session of h.talks;
+        counted = λ e in_it is. ⊎_elim
+            (λ (old : Contains v.taken e). let n = h.counted e old is in omega (arith, n, none, last))
+            (λ (new : entry ≡ e). let n : ready.turn ≡ e.0.turn = ap (λ (x : CommandNumber × Command). x.0.turn) new in let turn = turn_is in omega (arith, n, turn, none, last))
+            (old_or_new e in_it);
+      })
 
   who : (k : ℕ) (d : ConnectionView) → place_in now.table k ≡ Some d → ((k ≡ key) × (next ≡ d)) ⊎ ((k ≢ key) × (place_in v.table k ≡ Some d))
   who k d e = ⊎_elim
@@ -133,7 +143,7 @@ module _ (v : ConnectionsView) (ok : IsConnections v) (key : ℕ) (c : Connectio
 
   back : (k : ℕ) (d : ConnectionView) → place_in now.table k ≡ Some d → (f : ConnectionView) × (place_in v.table k ≡ Some f) × (f.number ≡ d.number)
   back k d e = ⊎_elim
-      (λ (new : (k ≡ key) × (next ≡ d)). (c, subst (λ (x : ℕ). place_in v.table x ≡ Some c) (sym new.0) at, sym (ap (λ (x : ConnectionView). x.number) same_talk) ∙ ap (λ (x : ConnectionView). x.number) new.1))
+      (λ (new : (k ≡ key) × (next ≡ d)). (c, subst (λ (x : ℕ). place_in v.table x ≡ Some c) (sym new.0) at, sym same_number ∙ ap (λ (x : ConnectionView). x.number) new.1))
       (λ (old : (k ≢ key) × (place_in v.table k ≡ Some d)). (d, old.1, refl))
       (who k d e)
 

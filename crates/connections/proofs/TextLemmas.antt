@@ -6,7 +6,7 @@ use Rattle.std.proofs.lemmas.List.{append-nil}
 use Rattle.std.proofs.lemmas.List.Concat.{flat_map-append}
 use Rattle.proto.specs.declared.reply.Reply as replies
 use Rattle.memcached_spec.proofs.Longer.{front_longer}
-use Rattle.client.proofs.TakenLemmas.{texts_imply}
+use Rattle.session.proofs.TakenLemmas.{texts_imply}
 use Rattle.connections.specs.Connections.{bytes_in, bytes_of_connection, IsAnswered}
 
 -- what was answered in order stays so where more comes, and more replies do

@@ -4,7 +4,7 @@ use Rattle.proto.specs.declared.command.Command.{Command}
 use Rattle.proto.specs.declared.reply.Reply as replies
 use Rattle.proto.specs.declared.turn.Turn.{Turn}
 use Rattle.memcached_spec.specs.Asked.{TextsBy, Front, IsAsked}
-use Rattle.client.specs.Taken.{TalkOk}
+use Rattle.session.specs.Taken.{SessionOk}
 use Rattle.base.specs.declared.fault.Fault.{Fault}
 use Rattle.connections.specs.declared.connections.CommandNumber.{CommandNumber}
 use Rattle.connections.specs.declared.said.Said.{Said}
@@ -79,9 +79,9 @@ untaken (Some command) = 1
 -- a connection that is here
 pub record IsHere (v : ConnectionsView) (c : ConnectionView) : Type 0 where
   pub below : c.number < v.next
-  pub talks : TalkOk (WasReplied v.replied c.number) 1 (bytes_of_connection c.number v.heard) false c.talk (bytes_of_connection c.number v.given)
+  pub talks : SessionOk (WasReplied v.replied c.number) (bytes_of_connection c.number v.heard) c.session (bytes_of_connection c.number v.given)
   -- the commands that were taken come before the one that was not
-  pub counted : (e : CommandNumber × Command) → Contains v.taken e → e.0.connection ≡ c.number → e.0.turn + untaken c.command ≤ c.talk.last
+  pub counted : (e : CommandNumber × Command) → Contains v.taken e → e.0.connection ≡ c.number → e.0.turn + untaken c.session.command ≤ c.session.last
 
 pub record IsConnections (v : ConnectionsView) : Type 0 where
   pub here : (key : ℕ) (c : ConnectionView) → place_in v.table key ≡ Some c → IsHere v c

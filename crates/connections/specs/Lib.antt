@@ -4,3 +4,4 @@ pub mod Owed
 pub mod Logs
 pub mod History
 pub mod Connections
+pub mod Told

@@ -1,7 +1,7 @@
 -- What a connection has outstanding, before and after calls.
 use Rattle.std.specs.Prelude.{◌≡◌, ◌⊎◌, ℕ, ◌≤◌, true, false, List, Option, Some, None, is_some}
-use Rattle.client.specs.Step.{is_asked}
-use Rattle.connections.specs.declared.connection.Ready.{Ready}
+use Rattle.session.specs.Session.{is_outstanding_as}
+use Rattle.session.specs.declared.session.Ready.{Ready}
 use Rattle.connections.specs.declared.connection.TheConstants.{MOST_UNWRITTEN}
 use Rattle.connections.specs.declared.places.Place.{Place}
 use Rattle.connections.specs.Connection.{ConnectionView, IsTaken}
@@ -9,11 +9,11 @@ use Rattle.connections.specs.Places.{place_in}
 
 -- the same command is outstanding, and is taken or not as before
 abbrev pub HasSameOutstanding : ConnectionView → ConnectionView → Type 0
-HasSameOutstanding c d = (d.talk.outstanding ≡ c.talk.outstanding) × (d.command ≡ c.command)
+HasSameOutstanding c d = (d.session.outstanding ≡ c.session.outstanding) × (d.session.command ≡ c.session.command)
 
 -- it has a command to be taken
 abbrev pub HasCommand : ConnectionView → Type 0
-HasCommand d = is_some d.command ≡ true
+HasCommand d = is_some d.session.command ≡ true
 
 -- what becomes of a connection that reads
 pub record ReadsFurther (c d : ConnectionView) : Type 0 where
@@ -27,7 +27,7 @@ pub record AnswersOn (turn : ℕ) (c d : ConnectionView) : Type 0 where
   pub number : d.number ≡ c.number
   -- if too much waited to be written it still does
   pub behind : MOST_UNWRITTEN ≤ c.unwritten → MOST_UNWRITTEN ≤ d.unwritten
-  pub owes : (HasSameOutstanding c d × (HasCommand c ⊎ (is_asked c.talk.outstanding turn ≡ false))) ⊎ (d.talk.outstanding ≡ None) ⊎ HasCommand d
+  pub owes : (HasSameOutstanding c d × (HasCommand c ⊎ (is_outstanding_as c.session.outstanding turn ≡ false))) ⊎ (d.session.outstanding ≡ None) ⊎ HasCommand d
 
 -- who is at the key then was there, is the connection of this number, and became so
 abbrev pub BecomesAt : (ConnectionView → ConnectionView → Type 0) → Place → List (Option ConnectionView) → List (Option ConnectionView) → Type 0
@@ -44,4 +44,4 @@ pub record IsTakenAt (at : Place) (old new : List (Option ConnectionView)) (read
 
 -- if the connection is here it has no command to be taken, or too much of it waits to be written
 abbrev pub HasNoneToTake : Place → List (Option ConnectionView) → Type 0
-HasNoneToTake at table = (c : ConnectionView) → place_in table at.key ≡ Some c → c.number ≡ at.number → (c.command ≡ None) ⊎ (MOST_UNWRITTEN ≤ c.unwritten)
+HasNoneToTake at table = (c : ConnectionView) → place_in table at.key ≡ Some c → c.number ≡ at.number → (c.session.command ≡ None) ⊎ (MOST_UNWRITTEN ≤ c.unwritten)

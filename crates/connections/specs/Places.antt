@@ -3,7 +3,7 @@ use Rattle.std.specs.Prelude.{◌≡◌, ◌≢◌, ◌⊎◌, ℕ, ◌-◌, ◌
 use Rattle.base.specs.declared.fault.Fault.{Fault}
 use Rattle.base.specs.declared.fault.Fault.TheVariants as fault
 use Rattle.proto.specs.declared.reply.Reply as replies
-use Rattle.connections.specs.declared.connection.Ready.{Ready}
+use Rattle.session.specs.declared.session.Ready.{Ready}
 use Rattle.connections.specs.declared.connection.TheConstants.{MOST_UNWRITTEN}
 use Rattle.connections.specs.declared.places.Place.{Place}
 use Rattle.connections.specs.declared.said.Said.{Said}
@@ -17,13 +17,13 @@ is_of_connection number (Some c) = c.number == number
 -- and has a command that was not taken
 abbrev pub is_untaken : ℕ → Option ConnectionView → Bool
 is_untaken number None = false
-is_untaken number (Some c) = (c.number == number) && is_some c.command
+is_untaken number (Some c) = (c.number == number) && is_some c.session.command
 
 pub record IsSaid (at : Place) (c : ConnectionView) (said : Said) : Type 0 where
   pub key : said.key ≡ at.key
   pub number : said.number ≡ at.number
-  pub closes : said.closes ≡ c.talk.closed
-  pub waits : said.waits ≡ is_some c.talk.outstanding
+  pub closes : said.closes ≡ c.session.closed
+  pub waits : said.waits ≡ is_some c.session.outstanding
 
 -- the connection failed, and leaves
 pub record IsLastSaid (at : Place) (said : Said) : Type 0 where
@@ -31,6 +31,7 @@ pub record IsLastSaid (at : Place) (said : Said) : Type 0 where
   pub number : said.number ≡ at.number
   pub nothing : said.bytes.items ≡ []
   pub closes : said.closes ≡ true
+  pub waits : said.waits ≡ false
 
 abbrev pub stays_open : Result Said Fault → Bool
 stays_open (Ok said) = not said.closes
@@ -62,9 +63,9 @@ AnswersPlace at turn reply (Some c) new result = AnswersHere at turn reply c new
 
 -- ---- a command is taken
 
--- where none is taken there is none to be taken, or too much waits to be written
+-- if none is taken there is none to be taken, or too much waits to be written
 abbrev pub TakesHere : ConnectionView → Option ConnectionView → Option Ready → Type 0
-TakesHere c new None = (new ≡ Some c) × ((c.command ≡ None) ⊎ (MOST_UNWRITTEN ≤ c.unwritten))
+TakesHere c new None = (new ≡ Some c) × ((c.session.command ≡ None) ⊎ (c.session.outstanding ≡ None) ⊎ (MOST_UNWRITTEN ≤ c.unwritten))
 TakesHere c new (Some ready) = (now : ConnectionView) × IsTaken c ready now × (new ≡ Some now)
 
 abbrev pub TakesWhere : Bool → ConnectionView → Option ConnectionView → Option Ready → Type 0

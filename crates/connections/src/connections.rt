@@ -2,13 +2,14 @@
 
 ghost use Rattle.std.specs.Prelude.{◌≡◌};
 
-use crate::connection::{Connection, Ready};
+use crate::connection::Connection;
 use crate::history::History;
 use crate::places::Place;
 use crate::said::Said;
 use crate::table;
 use http_server::Log;
 use proto::{Command, Fault, Reply};
+use session::Ready;
 use std::alloc::Global;
 use std::marker::Model;
 
@@ -60,6 +61,7 @@ impl Connections {
     ghost use Rattle.connections.specs.Places.{place_in, is_here, is_untaken_in, left_at, written_at, HasSameOthers, IsGrown};
     ghost use Rattle.connections.specs.Owed.{ReadsFurther, AnswersOn, BecomesAt, IsTakenAt, HasNoneToTake};
     ghost use Rattle.connections.specs.History.{IsHistory, given_as, moment_as};
+    ghost use Rattle.connections.specs.Told.{IsToldAt, IsToldToLeave, IsFedAt, IsAnsweredAt};
     ghost use Rattle.connections.specs.declared.table.TheConstants.{MOST_PLACES};
     ghost use Rattle.connections.specs.Connections.{IsConnections, no_connections, HasSameLogs, PassesOn, AreBefore, AreReplied};
 
@@ -105,7 +107,8 @@ impl Connections {
         Ok(())
     }
 
-    /// Reads a piece of what comes of a connection: what the connection is given at once.
+    /// Reads a piece of what comes of a connection: what the connection is given at once. It stays at its key unless
+    /// that says that it is to be closed, and it is told whether a command of it is outstanding now.
     ///
     /// Unfit: it is not here; NoMemory: an allocation failed; Stopped: it has no number left for a command. After
     /// an error it is not here any more, and is to be closed.
@@ -120,6 +123,8 @@ impl Connections {
         ensures left { OnErr result (self.new.table ≡ left_at at self.old.table) }
         ensures reads { IfOk result (λ said. BecomesAt ReadsFurther at self.old.table self.new.table) }
         ensures closes { IfOk result (λ said. said.closes ≡ true → place_in self.new.table at.key ≡ None) }
+        ensures told { IfOk result (λ said. IsToldAt at self.old.table self.new.table said) }
+        ensures fed { IfOk result (λ said. IsFedAt at piece.items self.old.table self.new.table said) }
         ensures same_others { HasSameOthers at.key self.old.table self.new.table }
         ensures others { (self.new.taken ≡ self.old.taken) × (self.new.replied ≡ self.old.replied) × (self.new.next ≡ self.old.next) }
     {
@@ -153,8 +158,9 @@ impl Connections {
         Some(ready)
     }
 
-    /// Gives a connection the reply to its command of this number: what it is given. `None`: it is not here any
-    /// more, and the reply is let go. If memory is wanted it leaves, and is told to close.
+    /// Gives a connection the reply to its command of this number: what it is given. It stays at its key unless that
+    /// says that it is to be closed, and it is told whether its next command is outstanding now. `None`: it is not here
+    /// any more, and the reply is let go. If memory is wanted it leaves, and is told to close.
     pub fn answer(&mut self, alloc: Global, at: Place, turn: u64, reply: Reply) -> Option<Said>
         ensures none { IfNone result (self.new ≡ self.old) }
         ensures here { is_some result ≡ is_here at.number self.old.table at.key }
@@ -164,6 +170,8 @@ impl Connections {
         ensures passed { IfSome result (λ said. self.new.passed ≡ self.old.passed ++ given_as at.number said.bytes.items ∷ []) }
         ensures to { IfSome result (λ said. (said.key ≡ at.key) × (said.number ≡ at.number)) }
         ensures closes { IfSome result (λ said. said.closes ≡ true → place_in self.new.table at.key ≡ None) }
+        ensures told { IfSome result (λ said. IsToldAt at self.old.table self.new.table said) }
+        ensures answered { IfSome result (λ said. IsAnsweredAt at turn reply self.old.table self.new.table said) }
         ensures same_others { HasSameOthers at.key self.old.table self.new.table }
         ensures others { (self.new.heard ≡ self.old.heard) × (self.new.taken ≡ self.old.taken) × (self.new.next ≡ self.old.next) }
     {
@@ -197,6 +205,8 @@ impl Connections {
         ensures passed { IfSome result (λ said. self.new.passed ≡ self.old.passed ++ given_as at.number said.bytes.items ∷ []) }
         ensures to { IfSome result (λ said. (said.key ≡ at.key) × (said.number ≡ at.number) × (said.closes ≡ true)) }
         ensures left { OnSome result (self.new.table ≡ left_at at self.old.table) }
+        ensures told { IfSome result (λ said. IsToldAt at self.old.table self.new.table said) }
+        ensures fails { IfSome result (λ said. IsToldToLeave at self.new.table said) }
         ensures others { (self.new.heard ≡ self.old.heard) × (self.new.taken ≡ self.old.taken) × (self.new.replied ≡ self.old.replied) × (self.new.next ≡ self.old.next) }
     {
         if !table::is_here(&self.table, at) {

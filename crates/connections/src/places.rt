@@ -4,9 +4,10 @@ ghost use Rattle.std.specs.Prelude.{◌≡◌, ◌⊎◌, None, IfOk, IfErr, if�
 ghost use Rattle.connections.specs.Connection.{IsFedTo};
 ghost use Rattle.connections.specs.Places.{is_of_connection, is_untaken, stays_open, IsSaid, AnswersOne, FeedsPlace, AnswersPlace, TakesPlace, left_place, written_place};
 
-use crate::connection::{Connection, Ready};
+use crate::connection::Connection;
 use crate::said::Said;
 use proto::{Fault, Reply};
+use session::Ready;
 use std::alloc::Global;
 
 /// Where a connection is, and its number. The place may have another connection by now.
@@ -61,7 +62,7 @@ fn feed_one(
     ensures same { connection.new.number ≡ connection.old.number }
     ensures only { IfErr result (λ fault. (fault ≡ Fault.NoMemory) ⊎ (fault ≡ Fault.Stopped)) }
 {
-    let bytes = connection.feed(alloc, piece)?;
+    let bytes = connection.feed(alloc, piece.as_slice())?;
     Ok(said_of(connection, at, bytes))
 }
 
@@ -77,7 +78,7 @@ fn answer_one(
     ensures answers { AnswersOne at turn reply connection.old connection.new result }
     ensures same { connection.new.number ≡ connection.old.number }
 {
-    match connection.answer(alloc, turn, reply) {
+    match connection.answer(alloc, turn, &reply) {
         Ok(bytes) => said_of(connection, at, bytes),
         Err(_) => Said::last(alloc, at),
     }

@@ -4,11 +4,12 @@ ghost use Rattle.std.specs.Prelude.{◌≡◌, ◌<◌, ◌≤◌, ◌⊎◌, le
 ghost use Rattle.connections.specs.Places.{place_in, FeedsAt, AnswersAt, TakesAt, left_at, written_at, IsGrown};
 ghost use Rattle.connections.specs.Places.{is_here as is_here_in, is_untaken_in};
 
-use crate::connection::{Connection, Ready};
+use crate::connection::Connection;
 use crate::places;
 use crate::places::Place;
 use crate::said::Said;
 use proto::{Fault, Reply};
+use session::Ready;
 use std::alloc::Global;
 
 /// The most places of a table.

@@ -10,8 +10,8 @@ use std::net::SocketAddr;
 /// The most connections at once that may be asked for.
 pub const MOST_CONNECTIONS: u16 = 10000;
 
-/// The version of the daemon.
-pub const VERSION: &str = "1";
+/// The version of the daemon. `CHANGELOG.md` says what its numbers mean.
+pub const VERSION: &str = "1.1.0";
 
 const AFTER: &str =
     "It serves memcached's text protocol until a signal ends it. All items are in its memory.";

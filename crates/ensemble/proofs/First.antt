@@ -20,6 +20,7 @@ use Rattle.worlds.specs.First.{first_executor, first_verifier, all_up, first_wor
 use Rattle.worlds.proofs.FirstLemmas.{reached_first, get_seam, length_all_up}
 use Rattle.proxies.specs.Proxy.{ProxyView}
 use Rattle.hosts.specs.Host.{HostView}
+use Rattle.ensemble.specs.Calls.{AllCollected}
 use Rattle.ensemble.specs.First.{first_proxies_of, first_host, first_hosts, first_nodes, AreAllUp}
 use Rattle.ensemble.specs.Shown.{is_host_up, is_place_up}
 use Rattle.ensemble.specs.Ensemble.{IsPast, IsEnsemble, client_of}
@@ -132,6 +133,9 @@ up_at node (suc n) id lt = ⊎_elim
     (λ (less : id < n). get_longer (all_up node n) (Up (node n) ∷ []) id (Up (node id)) (up_at node n id less))
     (λ (last : id ≡ n). (λ i. slice_get (all_up node n ++ Up (node n) ∷ []) ((last ∙ sym (length_all_up node n)) i)) ∙ (get_seam (all_up node n) (Up (node n)) [] ∙ (λ i. Some (Up (node (sym last i))))))
     (below_or_last id n (omega (arith, lt)))
+
+pub first_waits : (c : ConfigView) → AllCollected (first_nodes c)
+first_waits c id h lt at = (of_hosts c.u (member_count c.u) id h at).1
 
 pub first_are_up : (c : ConfigView) → AreAllUp c.u c.clients (first_nodes c)
 first_are_up c = record {

@@ -15,4 +15,5 @@ mod Sending
 mod Cutting
 mod Served
 mod Trimming
+mod Collecting
 pub mod Crossing

@@ -17,6 +17,7 @@ use Rattle.hosts.specs.Host.{HostView, HostSettles}
 use Rattle.hosts.specs.Orders.{has_due}
 use Rattle.ensemble.specs.Nodes.{NodesView, AtHostIn, AtHost, AtVerifier, IsAskedBy, IsOutstanding}
 use Rattle.ensemble.specs.Shown.{outstanding_in, outstanding_at, has_letters, has_job, is_quiet, would_cut}
+use Rattle.ensemble.specs.Calls.{HostPosts}
 use Rattle.ensemble.specs.Served.{letters_asked, IsUnderWay, VerifierPosts, NoBatchAt, NoBatchBelow, IsAtRest}
 use Rattle.ensemble.specs.Ensemble.{EnsembleView, IsEnsemble}
 use Rattle.ensemble.proofs.Cutting.{cut_gave_nothing}
@@ -57,6 +58,10 @@ pub ballots_posted : (Does : Slot VerifierView → Slot VerifierView → List (L
     → AtVerifier Does id n.verifiers verifiers sent → ballots ≡ sent → mail ≡ n.mail ++ map as_sent ballots → VerifierPosts Does id n (record n { verifiers = verifiers; mail = mail })
 ballots_posted Does id n verifiers sent ballots mail did same posted =
     (verifiers, sent, did, ap (λ (ls : List (Letter Body)). record n { verifiers = verifiers; mail = ls }) (posted ∙ ap (λ (bs : List (Letter Ballot)). n.mail ++ map as_sent bs) same))
+
+pub letters_posted : (Does : HostView → HostView → List (Letter Body) → Type 0) (id : ℕ) (n : NodesView) (executors : List HostView) (sent mail : List (Letter Body))
+    → AtHost Does id n.executors executors sent → mail ≡ n.mail ++ sent → HostPosts Does id n (record n { executors = executors; mail = mail })
+letters_posted Does id n executors sent mail did posted = (executors, sent, did, ap (λ (ls : List (Letter Body)). record n { executors = executors; mail = ls }) posted)
 
 -- ---- what is outstanding
 

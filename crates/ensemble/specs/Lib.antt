@@ -5,3 +5,4 @@ pub mod Served
 pub mod Trimming
 pub mod Moments
 pub mod Ensemble
+pub mod Calls

@@ -57,6 +57,8 @@ impl Ensemble {
     ghost use Rattle.proto.specs.declared.command.Command.{Command};
     ghost use Rattle.ensemble.specs.Nodes.{IsFree, VerifierMoves, VerifierGets, size_of};
     ghost use Rattle.ensemble.specs.Shown.{is_free_at, is_up_at, latest_epoch, is_quiet};
+    ghost use Rattle.events.specs.declared.event.Replica.TheVariants as replica;
+    ghost use Rattle.ensemble.specs.Calls.{RefusedNothing, IsReopened, IsReopenedAndPosts, AllCollected};
     ghost use Rattle.ensemble.specs.Served.{IsUnderWay, letters_again, VerifierPosts};
     ghost use Rattle.memcached_spec.specs.Asked.{HasText};
     ghost use Rattle.ensemble.specs.declared.noted.Noted.TheVariants as noted;
@@ -107,6 +109,7 @@ impl Ensemble {
         ensures err { OnErr result (self.new ≡ self.old) }
         ensures counted { self.old.refused ≤ self.new.refused }
         ensures size { size_of self.new.nodes ≡ size_of self.old.nodes }
+        ensures waits { AllCollected self.old.nodes → AllCollected self.new.nodes }
         ensures sent { IfOk result (λ number. self.new.refused ≡ self.old.refused → self.old.refused < 2 ^ 64 - 1 → IsUnderWay self.old.nodes self.new.nodes proxy number command) }
     {
         let request = self.nodes.ask(proxy, command, quiet)?;
@@ -126,6 +129,7 @@ impl Ensemble {
         ensures order { self.new.order ≡ self.old.order }
         ensures counted { self.old.refused ≤ self.new.refused }
         ensures size { size_of self.new.nodes ≡ size_of self.old.nodes }
+        ensures waits { AllCollected self.old.nodes → AllCollected self.new.nodes }
         ensures sent { self.new.refused ≡ self.old.refused → self.old.refused < 2 ^ 64 - 1 → self.new.nodes.mail ≡ self.old.nodes.mail ++ letters_again self.old.nodes proxy }
     {
         self.nodes.again(alloc, proxy, &mut self.refused);
@@ -141,6 +145,7 @@ impl Ensemble {
         ensures told { VerifierMoves (VerifierGets Suspect) verifier self.old.nodes self.new.nodes }
         ensures counted { self.old.refused ≤ self.new.refused }
         ensures size { size_of self.new.nodes ≡ size_of self.old.nodes }
+        ensures waits { AllCollected self.old.nodes → AllCollected self.new.nodes }
         ensures sent { self.new.refused ≡ self.old.refused → self.old.refused < 2 ^ 64 - 1 → VerifierPosts (VerifierGets Suspect) verifier self.old.nodes self.new.nodes }
     {
         self.nodes.suspect(alloc, verifier, &mut self.refused);
@@ -154,6 +159,9 @@ impl Ensemble {
         ensures order { self.new.order ≡ self.old.order }
         ensures counted { self.old.refused ≤ self.new.refused }
         ensures size { size_of self.new.nodes ≡ size_of self.old.nodes }
+        ensures waits { AllCollected self.old.nodes → AllCollected self.new.nodes }
+        ensures opens { IsReopened (replica.Executor id) self.old.nodes self.new.nodes }
+        ensures posted { RefusedNothing self.old.refused self.new.refused → IsReopenedAndPosts (replica.Executor id) self.old.nodes self.new.nodes }
     {
         self.nodes.open_executor(alloc, id, &mut self.refused);
         self.progress.is_at_rest = false;
@@ -166,9 +174,29 @@ impl Ensemble {
         ensures order { self.new.order ≡ self.old.order }
         ensures counted { self.old.refused ≤ self.new.refused }
         ensures size { size_of self.new.nodes ≡ size_of self.old.nodes }
+        ensures waits { AllCollected self.old.nodes → AllCollected self.new.nodes }
+        ensures opens { IsReopened (replica.Verifier id) self.old.nodes self.new.nodes }
+        ensures posted { RefusedNothing self.old.refused self.new.refused → IsReopenedAndPosts (replica.Verifier id) self.old.nodes self.new.nodes }
     {
         self.nodes.open_verifier(alloc, id, &mut self.refused);
         self.progress.is_at_rest = false;
+    }
+
+    /// Opens the replica, if it is there and down.
+    fn open_replica(&mut self, alloc: Global, replica: Replica)
+        ensures asked { self.new.asked ≡ self.old.asked }
+        ensures answered { self.new.answered ≡ self.old.answered }
+        ensures order { self.new.order ≡ self.old.order }
+        ensures counted { self.old.refused ≤ self.new.refused }
+        ensures size { size_of self.new.nodes ≡ size_of self.old.nodes }
+        ensures waits { AllCollected self.old.nodes → AllCollected self.new.nodes }
+        ensures opens { IsReopened replica self.old.nodes self.new.nodes }
+        ensures posted { RefusedNothing self.old.refused self.new.refused → IsReopenedAndPosts replica self.old.nodes self.new.nodes }
+    {
+        match replica {
+            Replica::Executor(id) => self.open_executor(alloc, id),
+            Replica::Verifier(id) => self.open_verifier(alloc, id),
+        }
     }
 
     /// One thing more was refused.
@@ -181,7 +209,8 @@ impl Ensemble {
     }
 
     /// Opens the replica with its keeper, if it is there and down: whether it is up then. It goes on from its
-    /// record. If it is not up then that is counted (`refused`).
+    /// record, and what it sends is under way; each other replica is as it was. If it is not up then, or there is no
+    /// memory for what it sends, that is counted (`refused`).
     pub fn restart(&mut self, alloc: Global, replica: Replica) -> bool
         ensures asked { self.new.asked ≡ self.old.asked }
         ensures answered { self.new.answered ≡ self.old.answered }
@@ -189,12 +218,12 @@ impl Ensemble {
         ensures up { result ≡ is_up_at self.new.nodes replica }
         ensures counted { self.old.refused ≤ self.new.refused }
         ensures size { size_of self.new.nodes ≡ size_of self.old.nodes }
+        ensures waits { AllCollected self.old.nodes → AllCollected self.new.nodes }
         ensures opened { self.new.refused ≡ self.old.refused → self.old.refused < 2 ^ 64 - 1 → result ≡ true }
+        ensures only { IsReopened replica self.old.nodes self.new.nodes }
+        ensures posted { RefusedNothing self.old.refused self.new.refused → IsReopenedAndPosts replica self.old.nodes self.new.nodes }
     {
-        match replica {
-            Replica::Executor(id) => self.open_executor(alloc, id),
-            Replica::Verifier(id) => self.open_verifier(alloc, id),
-        }
+        self.open_replica(alloc, replica);
         let is_up = self.is_up(replica);
         if !is_up {
             self.refuse();

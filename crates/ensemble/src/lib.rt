@@ -1,5 +1,11 @@
 //! All replicas of a server, the proxies that ask them, and the letters that are under way, as one value.
 //!
+//!     let mut ensemble = Ensemble::open(alloc, &Config::new(1, 64)?)?;    // three executors and verifiers, 64 proxies
+//!     let number = ensemble.ask(alloc, 1, command, quiet)?;               // proxy 1, which is free, asks
+//!     let answers = ensemble.work(rt, clock, alloc, seconds);             // until the replicas can do nothing more
+//!     ensemble.again(alloc, 1);                                           // no reply came: it asks all executors
+//!     ensemble.restart(alloc, Replica::Executor(0));                      // a node that stopped is opened again
+//!
 //! It stands on `hosts` and `worlds`, which hold the replicas, and on `proxies`, which ask. The layer above uses
 //! `Ensemble`: `ask` hands in a command, and `work` has the replicas work until nothing more can be done, and
 //! gives the replies. Whatever is called, what stands there is what events lead a world to (`shows`). `refused`

@@ -110,6 +110,7 @@ fn opened_nodes(alloc: Global, config: &Config) -> Result<Nodes, AllocError>
 impl Ensemble {
     ghost use Rattle.std.specs.Prelude.{◌≡◌, ◌⊎◌, IfOk, IfErr, []};
     ghost use Rattle.ensemble.specs.First.{first_nodes, AreAllUp};
+    ghost use Rattle.ensemble.specs.Calls.{AllCollected};
 
     /// All replicas are opened, each with a keeper in memory that has no record, and there are as many proxies
     /// as the config has clients. NoMemory, the only error: there is no memory for it, and all that was opened
@@ -117,6 +118,7 @@ impl Ensemble {
     pub fn open(alloc: Global, config: &Config) -> Result<Ensemble, Fault>
         ensures nodes { IfOk result (λ ensemble. ensemble.nodes ≡ first_nodes config.now) }
         ensures up { IfOk result (λ ensemble. AreAllUp config.now.u config.now.clients ensemble.nodes) }
+        ensures waits { IfOk result (λ ensemble. AllCollected ensemble.nodes) }
         ensures asked { IfOk result (λ ensemble. ensemble.asked ≡ []) }
         ensures answered { IfOk result (λ ensemble. ensemble.answered ≡ []) }
         ensures order { IfOk result (λ ensemble. ensemble.order ≡ []) }

@@ -4,6 +4,7 @@ ghost use Rattle.std.specs.Prelude.{◌≡◌, ◌<◌, ◌≤◌, ◌*◌, [], 
 ghost use Rattle.exec_lines.specs.declared.input.Input.TheVariants as executor_input;
 ghost use Rattle.verifier.specs.declared.input.Input.TheVariants as verifier_input;
 ghost use Rattle.hosts.specs.Host.{HostSettles, HostReopens, HostCollects};
+ghost use Rattle.hosts.specs.Due.{HostTakesDue};
 ghost use Rattle.ensemble.specs.Nodes.{AtHost, AtVerifier, HostAdvances, VerifierGets, VerifierOpens, VerifierTrims};
 ghost use Rattle.ensemble.specs.Trimming.{trim_place, VerifierTrimsDue};
 
@@ -20,7 +21,8 @@ use worlds::VerifierPlace;
 /// The host of this number, if it is there, hands in the order whose turn has come: whether there was one, and
 /// what is sent.
 fn take_held(alloc: Global, executors: &mut Vec<ExecutorHost>, id: u8) -> (bool, Vec<Letter<Body>>)
-    ensures { AtHost HostAdvances id executors.old.items executors.new.items result.1.items }
+    ensures advances { AtHost HostAdvances id executors.old.items executors.new.items result.1.items }
+    ensures due { AtHost HostTakesDue id executors.old.items executors.new.items result.1.items }
 {
     match executors.get_mut(usize::from(id)) {
         Some(host) => match host.take_held(alloc) {
@@ -136,12 +138,16 @@ impl Nodes {
     ghost use Rattle.verifier.specs.declared.input.Input.TheVariants as verifier_input;
     ghost use Rattle.hosts.specs.Host.{HostSettles, HostReopens, HostCollects};
     ghost use Rattle.ensemble.specs.Nodes.{HostMoves, VerifierMoves, HostAdvances, VerifierGets, VerifierOpens, VerifierTrims};
+    ghost use Rattle.events.specs.declared.event.Replica.TheVariants as replica;
+    ghost use Rattle.hosts.specs.Due.{HostTakesDue};
+    ghost use Rattle.ensemble.specs.Calls.{HostPosts, RefusedNothing, IsReopened, IsReopenedAndPosts};
     ghost use Rattle.ensemble.specs.Served.{VerifierPosts, NoBatchAt};
     ghost use Rattle.ensemble.specs.Trimming.{VerifierTrimsDue};
 
     /// The executor of this number gets the order that its host holds, if its turn has come: whether it has.
     pub fn take_held(&mut self, alloc: Global, id: u8, refused: &mut u64) -> bool
         ensures moves { HostMoves HostAdvances id self.old self.new }
+        ensures due { HostMoves HostTakesDue id self.old self.new }
         ensures counted { refused.old ≤ refused.new }
     {
         let (has_taken, sent) = take_held(alloc, &mut self.executors, id);
@@ -165,6 +171,7 @@ impl Nodes {
     /// What the executor of this number sent when it ran its job is under way.
     pub fn collect(&mut self, alloc: Global, id: u8, refused: &mut u64)
         ensures moves { HostMoves HostCollects id self.old self.new }
+        ensures posted { RefusedNothing refused.old refused.new → HostPosts HostCollects id self.old self.new }
         ensures counted { refused.old ≤ refused.new }
     {
         let sent = collect(alloc, &mut self.executors, id);
@@ -175,6 +182,8 @@ impl Nodes {
     pub fn open_executor(&mut self, alloc: Global, id: u8, refused: &mut u64)
         ensures counted { refused.old ≤ refused.new }
         ensures moves { HostMoves (λ h left sent. HostReopens self.old.u id h left sent) id self.old self.new ⊎ (self.new ≡ self.old) }
+        ensures opens { IsReopened (replica.Executor id) self.old self.new }
+        ensures posted { RefusedNothing refused.old refused.new → IsReopenedAndPosts (replica.Executor id) self.old self.new }
     {
         if 2 * self.u < id {
             return;
@@ -187,6 +196,8 @@ impl Nodes {
     pub fn open_verifier(&mut self, alloc: Global, id: u8, refused: &mut u64)
         ensures counted { refused.old ≤ refused.new }
         ensures moves { VerifierMoves (VerifierOpens self.old.u id) id self.old self.new ⊎ (self.new ≡ self.old) }
+        ensures opens { IsReopened (replica.Verifier id) self.old self.new }
+        ensures posted { RefusedNothing refused.old refused.new → IsReopenedAndPosts (replica.Verifier id) self.old self.new }
     {
         if 2 * self.u < id {
             return;

@@ -20,9 +20,13 @@ const MOST_ROUNDS: u32 = 4096;
 
 impl Ensemble {
     ghost use Rattle.std.specs.Prelude.{◌≡◌, ◌<◌, ◌≤◌, ◌+◌, ◌-◌, ◌*◌, ◌^◌, ◌++◌, ◌∷◌, [], true, false, map};
-    ghost use Rattle.ensemble.specs.Shown.{has_letters, is_quiet};
-    ghost use Rattle.ensemble.specs.Nodes.{VerifierMoves, size_of};
+    ghost use Rattle.ensemble.specs.Shown.{has_job, has_letters, is_quiet};
+    ghost use Rattle.std.specs.List.{list_any};
+    ghost use Rattle.hosts.specs.Host.{HostCollects};
+    ghost use Rattle.hosts.specs.Due.{HostTakesDue};
+    ghost use Rattle.ensemble.specs.Nodes.{HostMoves, VerifierMoves, RunsAll, size_of};
     ghost use Rattle.ensemble.specs.Trimming.{VerifierTrimsDue, AreTrimmedBelow};
+    ghost use Rattle.ensemble.specs.Calls.{HostPosts, RefusedNothing, sent_below, CollectedBelow, HaveRun, AllCollected};
     ghost use Rattle.ensemble.specs.Served.{NoBatchAt, NoBatchBelow, IsAtRest};
     ghost use Rattle.ensemble.specs.Moments.{IsNow};
     ghost use Rattle.ensemble.specs.Ensemble.{answer_entry, answer_log, order_entry, order_log, moment_entry, Answers};
@@ -34,6 +38,7 @@ impl Ensemble {
         ensures order { self.new.order ≡ self.old.order ++ order_log result }
         ensures counted { self.old.refused ≤ self.new.refused }
         ensures size { size_of self.new.nodes ≡ size_of self.old.nodes }
+        ensures waits { AllCollected self.old.nodes → AllCollected self.new.nodes }
     {
         let answer = self.nodes.deliver(alloc, &mut self.refused)?;
         self.answered = self
@@ -52,6 +57,7 @@ impl Ensemble {
         ensures answered { Answers self.old.answered self.old.order answers.old.items self.new.answered self.new.order answers.new.items }
         ensures counted { self.old.refused ≤ self.new.refused }
         ensures size { size_of self.new.nodes ≡ size_of self.old.nodes }
+        ensures waits { AllCollected self.old.nodes → AllCollected self.new.nodes }
     {
         if !decrees && self.nodes.is_decree_next() {
             return false;
@@ -73,6 +79,7 @@ impl Ensemble {
         ensures answered { Answers self.old.answered self.old.order answers.old.items self.new.answered self.new.order answers.new.items }
         ensures counted { self.old.refused ≤ self.new.refused }
         ensures size { size_of self.new.nodes ≡ size_of self.old.nodes }
+        ensures waits { AllCollected self.old.nodes → AllCollected self.new.nodes }
     {
         for _ in 0..MOST_LETTERS {
             if !self.deliver_to(alloc, decrees, answers) {
@@ -87,6 +94,7 @@ impl Ensemble {
         ensures answered { Answers self.old.answered self.old.order answers.old.items self.new.answered self.new.order answers.new.items }
         ensures counted { self.old.refused ≤ self.new.refused }
         ensures size { size_of self.new.nodes ≡ size_of self.old.nodes }
+        ensures waits { AllCollected self.old.nodes → AllCollected self.new.nodes }
     {
         self.deliver_all(alloc, false, answers);
         self.stopwatch.decide(clock);
@@ -101,6 +109,8 @@ impl Ensemble {
         ensures order { self.new.order ≡ self.old.order }
         ensures counted { self.old.refused ≤ self.new.refused }
         ensures size { size_of self.new.nodes ≡ size_of self.old.nodes }
+        ensures waits { AllCollected self.old.nodes → AllCollected self.new.nodes }
+        ensures due { HostMoves HostTakesDue id self.old.nodes self.new.nodes }
     {
         self.nodes.take_held(alloc, id, &mut self.refused)
     }
@@ -112,6 +122,7 @@ impl Ensemble {
         ensures order { self.new.order ≡ self.old.order }
         ensures counted { self.old.refused ≤ self.new.refused }
         ensures size { size_of self.new.nodes ≡ size_of self.old.nodes }
+        ensures waits { AllCollected self.old.nodes → AllCollected self.new.nodes }
     {
         let mut has_taken = false;
         for id in 0..self.members() {
@@ -129,6 +140,8 @@ impl Ensemble {
         ensures order { self.new.order ≡ self.old.order }
         ensures counted { self.old.refused ≤ self.new.refused }
         ensures size { size_of self.new.nodes ≡ size_of self.old.nodes }
+        ensures ran { RunsAll self.old.nodes self.new.nodes }
+        ensures uncounted { self.new.refused ≡ self.old.refused }
     {
         a_run_is_steps();
         self.nodes.run_jobs(rt, alloc);
@@ -141,8 +154,40 @@ impl Ensemble {
         ensures order { self.new.order ≡ self.old.order }
         ensures counted { self.old.refused ≤ self.new.refused }
         ensures size { size_of self.new.nodes ≡ size_of self.old.nodes }
+        ensures collected { HostMoves HostCollects id self.old.nodes self.new.nodes }
+        ensures posted { RefusedNothing self.old.refused self.new.refused → HostPosts HostCollects id self.old.nodes self.new.nodes }
     {
         self.nodes.collect(alloc, id, &mut self.refused);
+    }
+
+    /// What each executor sent when it ran its job is under way.
+    fn collect_all(&mut self, alloc: Global)
+        ensures asked { self.new.asked ≡ self.old.asked }
+        ensures answered { self.new.answered ≡ self.old.answered }
+        ensures order { self.new.order ≡ self.old.order }
+        ensures counted { self.old.refused ≤ self.new.refused }
+        ensures size { size_of self.new.nodes ≡ size_of self.old.nodes }
+        ensures collected { CollectedBelow (2 * self.old.nodes.u + 1) self.old.nodes self.new.nodes }
+        ensures posted { RefusedNothing self.old.refused self.new.refused → self.new.nodes.mail ≡ self.old.nodes.mail ++ sent_below (2 * self.old.nodes.u + 1) self.old.nodes.executors }
+    {
+        for id in 0..self.members() {
+            self.collect(alloc, id);
+        }
+    }
+
+    /// Each executor that has a job runs it. How long that takes is counted.
+    fn run_timed<R: Threads + Wait + Sync, C: Clock>(&mut self, rt: &R, clock: &C, alloc: Global)
+        ensures asked { self.new.asked ≡ self.old.asked }
+        ensures answered { self.new.answered ≡ self.old.answered }
+        ensures order { self.new.order ≡ self.old.order }
+        ensures counted { self.old.refused ≤ self.new.refused }
+        ensures size { size_of self.new.nodes ≡ size_of self.old.nodes }
+        ensures ran { RunsAll self.old.nodes self.new.nodes }
+        ensures uncounted { self.new.refused ≡ self.old.refused }
+    {
+        self.stopwatch.begin(clock);
+        self.run(rt, alloc);
+        self.stopwatch.run(clock);
     }
 
     /// All jobs are run, and what that sends is under way: whether there was a job.
@@ -157,16 +202,15 @@ impl Ensemble {
         ensures order { self.new.order ≡ self.old.order }
         ensures counted { self.old.refused ≤ self.new.refused }
         ensures size { size_of self.new.nodes ≡ size_of self.old.nodes }
+        ensures waits { AllCollected self.old.nodes → AllCollected self.new.nodes }
+        ensures none { result ≡ false → (self.new.nodes ≡ self.old.nodes) × (list_any has_job self.old.nodes.executors ≡ false) }
+        ensures ran { result ≡ true → HaveRun self.old.refused self.new.refused self.old.nodes self.new.nodes }
     {
         if !self.nodes.has_jobs() {
             return false;
         }
-        self.stopwatch.begin(clock);
-        self.run(rt, alloc);
-        self.stopwatch.run(clock);
-        for id in 0..self.members() {
-            self.collect(alloc, id);
-        }
+        self.run_timed(rt, clock, alloc);
+        self.collect_all(alloc);
         true
     }
 
@@ -178,6 +222,7 @@ impl Ensemble {
         ensures order { self.new.order ≡ self.old.order }
         ensures counted { self.old.refused ≤ self.new.refused }
         ensures size { size_of self.new.nodes ≡ size_of self.old.nodes }
+        ensures waits { AllCollected self.old.nodes → AllCollected self.new.nodes }
         ensures nothing { result ≡ false → NoBatchAt id self.old.nodes self.new.nodes }
         ensures same_u { self.new.nodes.u ≡ self.old.nodes.u }
     {
@@ -193,6 +238,7 @@ impl Ensemble {
         ensures order { self.new.order ≡ self.old.order }
         ensures counted { self.old.refused ≤ self.new.refused }
         ensures size { size_of self.new.nodes ≡ size_of self.old.nodes }
+        ensures waits { AllCollected self.old.nodes → AllCollected self.new.nodes }
         ensures nothing { result ≡ false → NoBatchBelow (2 * self.new.nodes.u + 1) self.new.nodes }
     {
         let mut has_cut = false;
@@ -212,6 +258,7 @@ impl Ensemble {
         ensures order { self.new.order ≡ self.old.order }
         ensures counted { self.old.refused ≤ self.new.refused }
         ensures size { size_of self.new.nodes ≡ size_of self.old.nodes }
+        ensures waits { AllCollected self.old.nodes → AllCollected self.new.nodes }
         ensures due { VerifierMoves VerifierTrimsDue id self.old.nodes self.new.nodes }
     {
         self.nodes.trim(alloc, id, &mut self.refused);
@@ -224,6 +271,7 @@ impl Ensemble {
         ensures order { self.new.order ≡ self.old.order }
         ensures counted { self.old.refused ≤ self.new.refused }
         ensures size { size_of self.new.nodes ≡ size_of self.old.nodes }
+        ensures waits { AllCollected self.old.nodes → AllCollected self.new.nodes }
         ensures told { AreTrimmedBelow (2 * self.old.nodes.u + 1) self.old.nodes self.new.nodes }
     {
         for id in 0..self.members() {
@@ -253,6 +301,7 @@ impl Ensemble {
         ensures answered { Answers self.old.answered self.old.order answers.old.items self.new.answered self.new.order answers.new.items }
         ensures counted { self.old.refused ≤ self.new.refused }
         ensures size { size_of self.new.nodes ≡ size_of self.old.nodes }
+        ensures waits { AllCollected self.old.nodes → AllCollected self.new.nodes }
         ensures nothing { result ≡ false → has_letters self.new.nodes ≡ false → NoBatchBelow (2 * self.new.nodes.u + 1) self.new.nodes }
     {
         self.deliver_timed(clock, alloc, answers);
@@ -283,6 +332,7 @@ impl Ensemble {
         ensures answered { Answers self.old.answered self.old.order answers.old.items self.new.answered self.new.order answers.new.items }
         ensures counted { self.old.refused ≤ self.new.refused }
         ensures size { size_of self.new.nodes ≡ size_of self.old.nodes }
+        ensures waits { AllCollected self.old.nodes → AllCollected self.new.nodes }
         ensures nothing { result ≡ true → has_letters self.new.nodes ≡ false → NoBatchBelow (2 * self.new.nodes.u + 1) self.new.nodes }
     {
         for _ in 0..MOST_ROUNDS {
@@ -303,7 +353,8 @@ impl Ensemble {
 
     /// The replicas work until nothing more can be done: the answers. A batch that is cut is of this moment,
     /// in seconds. It ends early if there is no memory for an answer, or after a great many rounds; then that is
-    /// counted (`refused`), and the next call goes on. What is lost on the way for want of memory is counted, too.
+    /// counted (`refused`), and the next call goes on. What is lost on the way for want of memory is counted, too. No
+    /// executor has run a job of which nothing was collected, if none had before.
     pub fn work<R: Threads + Wait + Sync, C: Clock>(
         &mut self,
         rt: &R,
@@ -316,6 +367,7 @@ impl Ensemble {
         ensures order { self.new.order ≡ (self.old.order ++ moment_entry moment ∷ []) ++ map order_entry result.items }
         ensures counted { self.old.refused ≤ self.new.refused }
         ensures size { size_of self.new.nodes ≡ size_of self.old.nodes }
+        ensures waits { AllCollected self.old.nodes → AllCollected self.new.nodes }
         ensures rest { self.new.refused ≡ self.old.refused → self.old.refused < 2 ^ 64 - 1 → IsAtRest self.new.nodes }
     {
         let mut answers = Vec::new(alloc);

@@ -1,5 +1,11 @@
 //! An executor: what it keeps, over the keeper of its record.
 //!
+//!     let (mut node, letters) = ExecNode::open(alloc, 1, 0, keeper)?;     // executor 0 of three
+//!     let letters = node.handle(alloc, Input::Letter(letter))?;           // one input, and what is to be sent
+//!     let letters = node.handle(alloc, Input::Cut(seconds))?;             // the primary cuts a batch
+//!     let letters = node.run(rt, alloc, workers, &gate)?;                 // the batch that was begun is executed
+//!     let keeper = node.end();                                            // with the record, for the next `open`
+//!
 //! It stands on `exec_lines` (the step) and `keeper` (where the record is). The layer above uses
 //! `ExecNode::handle`: an Ok is the written step, state, letters in order and saved record. After an
 //! error the executor is stopped with the record that it had before that call, but for a tentative

@@ -1,9 +1,11 @@
 -- Whether an element passes, where the first one does, and what is left without it.
 use Rattle.std.proofs.Common.{◌≡◌, ◌⊎◌, inl, inr, ⊎_elim, ℕ, zero, suc, ◌+◌, ◌-◌, ◌<◌, Bool, true, false, List, [], ◌∷◌, length, Some, None, refl, sym, ap, ◌∙◌, subst, arith}
 use Rattle.std.specs.Prelude.{nat_lt, is_some, cond, filter, Contains, slice_index_or}
-use Rattle.std.specs.List.{list_any, position, position_or_len, remove}
+use Rattle.std.specs.List.{list_any, position, position_or_len, remove, find, slice_get}
 use Rattle.std.proofs.lemmas.Bool.{lt-ltb, le-ltb, ltb-true, ltb-false, cases_order, both_ways}
 use Rattle.std.proofs.lemmas.List.Quantifiers.{position-Some}
+use Rattle.std.proofs.lemmas.List.Folds.{find_at}
+use Rattle.std.proofs.lemmas.Option.{slice_get_read, slice_get_past}
 use Rattle.std.proofs.lemmas.List.Edits.{length-remove, get_or-remove_below, get_or-remove_above}
 
 one_more : (a n : ℕ) → nat_lt (1 + a) (suc n) ≡ nat_lt a n
@@ -28,6 +30,25 @@ module _ {X : Type 0} (p : X → Bool) where
 
   pub position_any : (xs : List X) → is_some (position p xs) ≡ list_any p xs
   position_any xs = is_some_where (nat_lt (position_or_len p xs) (length xs)) (position_or_len p xs) ∙ is_within xs
+
+  place_where : (b : Bool) (n i : ℕ) → cond b (Some n) None ≡ Some i → (b ≡ true) × (n ≡ i)
+  place_where true n i e = (refl, cc e)
+  place_where false n i e = absurd (cc e)
+
+  none_where : (b : Bool) (n : ℕ) → cond b (Some n) None ≡ None → b ≡ false
+  none_where true n e = absurd (cc e)
+  none_where false n e = refl
+
+  -- the element at the place of the first one that passes is the first one
+  pub find_placed : (xs : List X) (i : ℕ) (x : X) → position p xs ≡ Some i → slice_index_or xs i x ≡ x → find p xs ≡ Some x
+  find_placed xs i x e v =
+      let place = place_where (nat_lt (position_or_len p xs) (length xs)) (position_or_len p xs) i e in
+      find_at p xs ∙ (ap (slice_get xs) place.1 ∙ slice_get_read xs (length xs) i x refl (position-Some p xs i x e).0 (sym v))
+
+  pub find_none : (xs : List X) → position p xs ≡ None → find p xs ≡ None
+  find_none xs e =
+      let past = none_where (nat_lt (position_or_len p xs) (length xs)) (position_or_len p xs) e in
+      find_at p xs ∙ slice_get_past xs (position_or_len p xs) (ltb-false (position_or_len p xs) (length xs) past)
 
   first_or_other : (y x : X) (xs : List X) → Contains (y ∷ xs) x → (y ≡ x) ⊎ Contains xs x
   first_or_other y x xs (zero, lt, e) = inl e

@@ -1,3 +1,4 @@
 pub mod Host
 pub mod Shown
 pub mod Orders
+pub mod Due

@@ -1,7 +1,7 @@
 //! Orders that came before their turn.
 
 ghost use Rattle.std.specs.Prelude.{◌≡◌, ◌⊎◌, ◌++◌, ◌∷◌, [], true, Contains, IfSome, is_some, filter};
-ghost use Rattle.std.specs.List.{position};
+ghost use Rattle.std.specs.List.{position, find};
 ghost use Rattle.hosts.specs.Host.{LettersAreAmong, is_order as of_order};
 ghost use Rattle.hosts.specs.Orders.{ordered_turn, is_for, is_not_over, has_order as orders, LaterStay};
 
@@ -91,6 +91,7 @@ fn take(held: &mut Vec<Letter<Body>>, epoch: u64, number: u64) -> Option<Letter<
     ensures taken { IfSome result (λ order. Contains held.old.items order) }
     ensures due { is_some result ≡ orders epoch number held.old.items }
     ensures turn { IfSome result (λ order. is_for epoch number (ordered_turn order.body) ≡ true) }
+    ensures first { result ≡ find (λ l. is_for epoch number (ordered_turn l.body)) held.old.items }
     ensures later { LaterStay epoch number held.old.items held.new.items }
 {
     let place = place_of(held.as_slice(), epoch, number)?;
@@ -103,6 +104,7 @@ pub fn take_order(held: &mut Vec<Letter<Body>>, epoch: u64, number: u64) -> Opti
     ensures taken { IfSome result (λ order. Contains held.old.items order) }
     ensures due { is_some result ≡ orders epoch number held.old.items }
     ensures turn { IfSome result (λ order. is_for epoch number (ordered_turn order.body) ≡ true) }
+    ensures first { result ≡ find (λ l. is_for epoch number (ordered_turn l.body)) held.old.items }
     ensures later { LaterStay epoch number held.old.items held.new.items }
 {
     let order = take(held, epoch, number);

@@ -1,8 +1,9 @@
 //! Orders whose turn has come.
 
-ghost use Rattle.std.specs.Prelude.{◌≡◌, IfSome, IfNone, is_some};
-ghost use Rattle.hosts.specs.Host.{HostForgets, HostObeys};
-ghost use Rattle.hosts.specs.Orders.{is_busy as busy, awaited_of, has_due as due, StayHeld};
+ghost use Rattle.std.specs.Prelude.{◌≡◌, IfSome, IfNone, is_some, Contains, [], MatchOption};
+ghost use Rattle.hosts.specs.Host.{HostForgets, HostObeys, LettersAreAmong};
+ghost use Rattle.hosts.specs.Due.{order_for, HostTakesDue};
+ghost use Rattle.hosts.specs.Orders.{is_busy as busy, awaited_of, has_due as due, has_due_for, StayHeld};
 
 use crate::executor_host::ExecutorHost;
 use crate::held::{has_order, take_order};
@@ -33,6 +34,18 @@ fn awaited(place: &ExecutorPlace) -> Option<(u64, u64)>
     Some((report.epoch, tip.saturating_add(1)))
 }
 
+/// Takes the order that the executor could obey now, if it is held. Orders whose turn is over are let go.
+fn take_due(place: &ExecutorPlace, held: &mut Vec<Letter<Body>>) -> Option<Letter<Body>>
+    ensures among { LettersAreAmong held.new.items held.old.items }
+    ensures taken { IfSome result (λ order. Contains held.old.items order) }
+    ensures due { is_some result ≡ has_due_for (awaited_of place.now) held.old.items }
+    ensures first { result ≡ order_for (awaited_of place.now) held.old.items }
+    ensures later { StayHeld (awaited_of place.now) held.old.items held.new.items }
+{
+    let (epoch, number) = awaited(place)?;
+    take_order(held, epoch, number)
+}
+
 impl ExecutorHost {
     /// Whether an order is held that the executor could obey now.
     pub fn has_due(&self) -> bool
@@ -45,15 +58,15 @@ impl ExecutorHost {
     }
 
     /// Gives the executor the order that it waits for, if it is held; the result is what the executor sends.
-    /// Orders whose turn is over are let go.
+    /// Of several orders for that turn it gets the first. Orders whose turn is over are let go.
     pub fn take_held(&mut self, alloc: Global) -> Option<Vec<Letter<Body>>>
         ensures none { IfNone result (HostForgets self.old self.new) }
         ensures some { IfSome result (λ sent. HostObeys self.old self.new sent.items) }
         ensures taken { is_some result ≡ due self.old }
+        ensures turn { MatchOption result (HostTakesDue self.old self.new []) (λ sent. HostTakesDue self.old self.new sent.items) }
         ensures later { StayHeld (awaited_of self.old.slot) self.old.held self.new.held }
     {
-        let (epoch, number) = awaited(&self.place)?;
-        let order = take_order(&mut self.held, epoch, number)?;
+        let order = take_due(&self.place, &mut self.held)?;
         Some(self.place.settle(alloc, Input::Letter(order)))
     }
 }

@@ -1,16 +1,17 @@
 -- Messages that are handed in one after the other.
 use Rattle.std.proofs.Common.{◌≡◌, ℕ, List, [], ◌∷◌, ◌++◌, refl, ap, sym, ◌∙◌, ◌⊎◌, subst, inl, inr}
-use Rattle.std.specs.Prelude.{Result, Ok, Err, Contains}
+use Rattle.std.specs.Prelude.{false, Result, Ok, Err, IfOk, OnErr, Contains}
 use Rattle.std.proofs.lemmas.List.Elements.{All-append, All-cons, All-nil, Contains-append_left}
 use Rattle.base.specs.declared.fault.Fault.{Fault}
 use Rattle.connections.specs.declared.said.Said as of_service
 use Rattle.connections.specs.Connections.{HasSameLogs}
-use Rattle.connections.specs.Places.{left_at}
+use Rattle.connections.specs.Places.{left_at, is_here}
+use Rattle.connections.specs.Told.{IsToldAt}
 use Rattle.service.specs.Service.{ServiceView, HasSameRequests}
 use Rattle.server.specs.declared.answering.Lost.{Lost}
 use Rattle.event_loop.specs.declared.message.Heard.{Heard}
 use Rattle.event_loop.specs.declared.message.Said.{Said}
-use Rattle.server.specs.Answering.{AnsweringView, Says, SaysNothing, IsSameBut, SaysEach, IsClosing, Closings, IsLastMessage, IsSaidOf, SaysWhat, HandsIn, HandsInAll}
+use Rattle.server.specs.Answering.{AnsweringView, Says, SaysNothing, IsSameBut, SaysEach, IsClosing, Closings, IsLastMessage, IsSaidOf, SaysWhat, IsToldAfter, HandsIn, HandsInAll}
 
 -- one more
 pub in_more : (heard : List Heard) (one : Heard) (v between now : AnsweringView) → HandsInAll heard v between → HandsIn one between now → HandsInAll (heard ++ one ∷ []) v now
@@ -29,6 +30,11 @@ says_nothing v old now said lost left is logs requests =
 pub says_what : (v now : AnsweringView) (key number : ℕ) (result : Result of_service.Said Fault) (told : Said) → IsSaidOf key number result told → Says v told now → SaysWhat v key number result now
 says_what v now key number (Ok said) told is says = subst (λ (x : Said). Says v x now) is says
 says_what v now key number (Err fault) told is says = (told, is, says)
+
+-- what the connection is told is how it is then
+pub told_after : (key number : ℕ) (v now : ServiceView) (result : Result of_service.Said Fault) → IfOk result (λ said. IsToldAt (record { key = key; number = number }) v.connections.table now.connections.table said) → OnErr result (is_here number now.connections.table key ≡ false) → IsToldAfter key number v now result
+told_after key number v now (Ok said) told leaves = told
+told_after key number v now (Err fault) told leaves = leaves
 
 -- what was said and done does not depend on who is lost
 pub same_says : (v between now : AnsweringView) (one : Said) → IsSameBut v between → Says between one now → Says v one now

@@ -1,16 +1,18 @@
 -- What stands between the event loop and the service: what it hands in, and what it hands out.
-use Rattle.std.specs.Prelude.{◌≡◌, ◌⊎◌, ℕ, List, [], ◌∷◌, ◌++◌, true, map, All, Contains, Some, Result, Ok, Err, refl}
+use Rattle.std.specs.Prelude.{◌≡◌, ◌⊎◌, ℕ, List, [], ◌∷◌, ◌++◌, true, false, map, All, Contains, Some, Result, Ok, Err, refl}
 use Rattle.std.specs.Coded.{Coded, code_by, coded×, coded_list}
 use Rattle.base.specs.declared.fault.Fault.{Fault}
 use Rattle.connections.specs.declared.said.Said as of_service
 use Rattle.connections.specs.Connections.{HasSameLogs}
 use Rattle.connections.specs.History.{moment_as}
 use Rattle.connections.specs.Connection.{new_connection}
-use Rattle.connections.specs.Places.{place_in, left_at, written_at, HasSameOthers, IsGrown}
+use Rattle.connections.specs.Places.{place_in, is_here, left_at, written_at, HasSameOthers, IsGrown}
+use Rattle.connections.specs.Told.{IsToldAt}
 use Rattle.event_loop.specs.declared.message.Heard.{Heard}
 use Rattle.event_loop.specs.declared.message.Heard.TheVariants.{Came, Bytes, Written, Left}
 use Rattle.event_loop.specs.declared.message.Said.{Said}
 use Rattle.service.specs.Service.{ServiceView, HasSameRequests, Hears, given_entry, passed_entry}
+use Rattle.service.specs.Told.{AreTold, LeaversAreTold, UnlessRefused, AsksWhatWaits}
 use Rattle.server.specs.declared.answering.Lost.{Lost}
 
 pub record AnsweringView : Type 0 where
@@ -99,6 +101,11 @@ abbrev pub SaysWhat : AnsweringView → ℕ → ℕ → Result of_service.Said F
 SaysWhat v key number (Ok said) now = Says v (message_of said) now
 SaysWhat v key number (Err fault) now = (last : Said) × IsLastMessage key number last × Says v last now
 
+-- The connection is told what the service says to it, as it is then; if the service failed it has left.
+abbrev pub IsToldAfter : ℕ → ℕ → ServiceView → ServiceView → Result of_service.Said Fault → Type 0
+IsToldAfter key number v now (Ok said) = IsToldAt (record { key = key; number = number }) v.connections.table now.connections.table said
+IsToldAfter key number v now (Err fault) = is_here number now.connections.table key ≡ false
+
 -- the bytes of the message, and no others, were handed to the service, under its number, and what the service says to them is said
 pub record HandsBytes (key number : ℕ) (piece : List ℕ) (v now : AnsweringView) : Type 0 where
   pub between : AnsweringView
@@ -106,6 +113,7 @@ pub record HandsBytes (key number : ℕ) (piece : List ℕ) (v now : AnsweringVi
   pub result : Result of_service.Said Fault
   pub hears : Hears key number piece v.service.connections between.service.connections result
   pub requests : HasSameRequests v.service between.service
+  pub told : IsToldAfter key number v.service between.service result
   pub says : SaysWhat between key number result now
 
 -- one message of the event loop is handed in
@@ -140,11 +148,14 @@ pub record IsClosing (lost : List Lost) (said : Said) : Type 0 where
 abbrev pub Closings : AnsweringView → AnsweringView → Type 0
 Closings v now = (closings : List Said) × All (IsClosing v.lost) closings × SaysEach v closings now
 
--- the service works at this moment, and this is what it gives
+-- The service works at this moment, and this is what it gives: each thing at the key of its connection, which is here afterwards unless it is told to close. Unless something was refused it asks what waits.
 pub record ServiceWorks (moment : ℕ) (v : ServiceView) (given : List of_service.Said) (now : ServiceView) : Type 0 where
   pub given_is : now.connections.given ≡ v.connections.given ++ map given_entry given
   pub passed : now.connections.passed ≡ (v.connections.passed ++ moment_as moment ∷ []) ++ map passed_entry given
   pub heard : now.connections.heard ≡ v.connections.heard
+  pub told : AreTold v.connections.table now.connections.table given
+  pub leavers : UnlessRefused v.replicas.refused now.replicas.refused (LeaversAreTold v.connections.table now.connections.table given)
+  pub asks : UnlessRefused v.replicas.refused now.replicas.refused (AsksWhatWaits v now)
 
 -- Connections that were lost are told that they are closed. Then the service works at this moment, and each thing that it gives is said once, in order.
 -- All that was said since this was last done is handed out.

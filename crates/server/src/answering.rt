@@ -208,9 +208,10 @@ impl Answering {
 
 impl Serve for Answering {
     ghost use denote.Param.Send.{IsSync};
-    ghost use Rattle.std.specs.Prelude.{◌≡◌, ◌⊎◌, [], false};
+    ghost use Rattle.std.specs.Prelude.{◌≡◌, ◌⊎◌, ℕ, [], true, false};
     ghost use Rattle.service.specs.Steps.{NoneWaits};
-    ghost use Rattle.service.specs.Owed.{AllWait};
+    ghost use Rattle.service.specs.Owed.{AllWait, IsFreeIn};
+    ghost use Rattle.service.specs.Ticks.{HaveWaited, HavePaused, HasSameAsked};
     ghost use Rattle.server.specs.Answering.{HandsInAll, HandsOut};
 
     fn set_micros(&mut self, micros: u64)
@@ -244,6 +245,9 @@ impl Serve for Answering {
 
     fn tick(&mut self)
         ensures connections { self.new.service.connections ≡ self.old.service.connections }
+        ensures asks { HasSameAsked self.old.service self.new.service }
+        ensures waited { HaveWaited self.old.service.waiting self.new.service.waiting }
+        ensures paused { HavePaused self.old.service.replicas.pauses self.new.service.replicas.pauses }
         ensures said { self.new.said ≡ self.old.said }
         ensures lost { self.new.lost ≡ self.old.lost }
     {
@@ -252,6 +256,7 @@ impl Serve for Answering {
 
     fn has_work(&self) -> bool
         ensures no { result ≡ false → (self.now.service.line ≡ []) ⊎ AllWait self.now.service.waiting }
+        ensures yes { result ≡ true → (proxy : ℕ) × IsFreeIn self.now.service.waiting proxy }
     {
         self.service.is_ready()
     }

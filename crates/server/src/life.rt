@@ -108,7 +108,8 @@ fn serve_all<
 /// Serves memcached's text protocol on the listener, kept on `2u + 1` executors and `2u + 1` verifiers in
 /// this process, to 64 connections at once. It returns after the end or a fault of `until`: no more connections are
 /// taken then, those that are here are closed, and no thread is left. The service comes back, for whoever asks what it
-/// came through or what its laws say; its `end` ends it.
+/// came through or what its laws say; its `end` ends it. It starts threads and waits for them, so no clause says what
+/// it does: the parts that its loops call have the contracts.
 ///
 /// `Own` if memory ran out before it began to serve, `Start` if the system gave no thread or descriptor, or
 /// the listener cannot be used. If memory runs out later, a connection is closed or a node stops, and the
@@ -130,7 +131,7 @@ pub fn serve<
 }
 
 /// Serves as `serve` does, but on all listeners, as the options say, and until `beside` returns. It is called on this
-/// thread once clients are served, and sees what the server counts.
+/// thread once clients are served, and sees what the server counts. As of `serve`, no clause says what it does.
 pub fn serve_beside<
     R: Net<Listener = TcpListener, Stream = TcpStream> + Threads + Wait + Clock + Sync,
     F: FnOnce(&Watcher<'_>),

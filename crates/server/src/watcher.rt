@@ -30,7 +30,8 @@ impl<'a> Watcher<'a> {
     }
 
     /// What the server has counted. The caller waits for the end of a batch, if one is carried out; clients wait for the
-    /// copy alone. What the server does not know of itself, as its memory and the time since its start, is 0.
+    /// copy alone. What the server does not know of itself, as its memory and the time since its start, is 0. It waits, so no
+    /// clause says what it gives.
     pub fn figures<R: Wait>(&self, rt: &R) -> Figures {
         let counts = self.watch.counts(rt);
         let mut service = self.watch.service(rt);
@@ -41,7 +42,8 @@ impl<'a> Watcher<'a> {
         figures
     }
 
-    /// Whether the server has ended by itself, since the system refused to wait on its sockets.
+    /// Whether the server has ended by itself, since the system refused to wait on its sockets. Its thread sets this, so
+    /// no clause says when.
     pub fn has_ended(&self) -> bool {
         self.watch.has_ended()
     }

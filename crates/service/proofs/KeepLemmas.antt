@@ -319,3 +319,9 @@ gives_one v now said said_now gives = ⊎_elim
 
 pub assigned_more : (log : List (Assignment × ℕ)) (e : Assignment × ℕ) → assigned (log ++ e ∷ []) ≡ assigned log ++ e.0 ∷ []
 assigned_more log e = map-append (λ (x : Assignment × ℕ). x.0) log (e ∷ [])
+
+-- all that was said in a call
+pub gives_all : (v next : ConnectionsView) (before said : List Said) → before ≡ [] → Gives v before next said → (next.given ≡ v.given ++ map given_entry said) × (next.passed ≡ v.passed ++ map passed_entry said)
+gives_all v next before said none gives =
+    let all : gives.0 ≡ said = sym (gives.1 ∙ ap (λ (xs : List Said). xs ++ gives.0) none) in
+    (gives.2 ∙ ap (λ (xs : List Said). v.given ++ map given_entry xs) all, gives.3 ∙ ap (λ (xs : List Said). v.passed ++ map passed_entry xs) all)

@@ -4,3 +4,5 @@ pub mod Crossing
 mod OrderLemmas
 pub mod MomentLemmas
 pub mod OwedLemmas
+pub mod ToldLemmas
+pub mod TickLemmas

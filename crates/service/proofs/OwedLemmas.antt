@@ -1,19 +1,19 @@
 -- What is outstanding is remembered, whatever is called.
-use Rattle.std.proofs.Common.{◌≡◌, ◌⊎◌, inl, inr, ⊎_elim, ℕ, zero, suc, ◌+◌, ◌-◌, ◌<◌, ◌≤◌, Bool, true, false, List, [], ◌∷◌, ◌++◌, Option, Some, None, refl, sym, ap, ◌∙◌, subst, arith, slice_get, slice_set}
-use Rattle.std.specs.Prelude.{◌≢◌, ◌==◌, Contains, is_some, if◌then◌else◌}
-use Rattle.std.proofs.lemmas.Bool.{eq-eqb, eqb-true}
+use Rattle.std.proofs.Common.{◌≡◌, ◌⊎◌, inl, inr, ⊎_elim, ℕ, zero, suc, ◌-◌, ◌≤◌, Bool, true, false, List, [], ◌∷◌, ◌++◌, Option, Some, None, refl, sym, ap, ◌∙◌, subst, arith, slice_get, slice_set}
+use Rattle.std.specs.Prelude.{◌≢◌, Contains, is_some, if◌then◌else◌}
+use Rattle.std.proofs.lemmas.Bool.{eq-eqb}
 use Rattle.std.proofs.lemmas.List.Elements.{Contains-push, Contains-append_left}
 use Rattle.proto.specs.declared.command.Command.{Command}
-use Rattle.client.specs.declared.asked.Asked.{Asked}
-use Rattle.client.specs.Step.{is_asked}
-use Rattle.connections.specs.declared.connection.Ready.{Ready}
+use Rattle.session.specs.declared.session.Awaited.{Awaited}
+use Rattle.session.specs.Session.{is_outstanding_as}
+use Rattle.session.specs.declared.session.Ready.{Ready}
 use Rattle.connections.specs.declared.connection.TheConstants.{MOST_UNWRITTEN}
 use Rattle.connections.specs.declared.places.Place.{Place}
-use Rattle.connections.specs.Connection.{ConnectionView, new_connection, IsTaken}
+use Rattle.connections.specs.Connection.{ConnectionView, new_connection}
 use Rattle.connections.specs.Places.{place_in, is_of_connection, is_untaken_in, is_untaken, left_at, after_written, written_at, HasSameOthers, IsGrown}
 use Rattle.connections.specs.Owed.{HasSameOutstanding, HasCommand, ReadsFurther, AnswersOn, BecomesAt, IsTakenAt, HasNoneToTake}
 use Rattle.connections.proofs.PlaceLemmas.{set_get, set_other, same_or_not}
-use Rattle.connections.proofs.OwedLemmas.{left_own, WasWritten, written_back, written_others}
+use Rattle.connections.proofs.OwedLemmas.{left_own, written_back, written_others}
 use Rattle.connections.proofs.AtLemmas.{set_same, left_others}
 use Rattle.connections.specs.declared.said.Said.{Said}
 use Rattle.connections.specs.Connections.{ConnectionsView}
@@ -47,35 +47,35 @@ PoolKeeps at pool pool_now = (key number turn : ℕ) → IsOther at key number �
 -- who is remembered still is, if the line and the proxies keep it
 pub mono : (line line_now : List Waiting) (pool pool_now : Pool) (key : ℕ) (c : ConnectionView) → (IsInLine line key c.number → IsInLine line_now key c.number) → ((turn : ℕ) → IsWaitedFor pool key c.number turn → IsWaitedFor pool_now key c.number turn)
     → IsRemembered line pool key c → IsRemembered line_now pool_now key c
-mono line line_now pool pool_now key c lines pools = by c.talk.outstanding c.command
+mono line line_now pool pool_now key c lines pools = by c.session.outstanding c.session.command
   where
-    by : (o : Option Asked) (m : Option Command) → IsRememberedAs line pool key c o m → IsRememberedAs line_now pool_now key c o m
+    by : (o : Option Awaited) (m : Option Command) → IsRememberedAs line pool key c o m → IsRememberedAs line_now pool_now key c o m
     by None m r = tt
     by (Some asked) (Some command) r = ⊎_elim (λ (there : IsInLine line key c.number). inl (lines there)) (λ (behind : MOST_UNWRITTEN ≤ c.unwritten). inr behind) r
-    by (Some asked) None r = pools asked.request.number r
+    by (Some asked) None r = pools asked.number r
 
 -- a connection with the same outstanding command
 pub as_before : (line : List Waiting) (pool : Pool) (key : ℕ) (c d : ConnectionView) → d.number ≡ c.number → (MOST_UNWRITTEN ≤ c.unwritten → MOST_UNWRITTEN ≤ d.unwritten) → HasSameOutstanding c d → IsRemembered line pool key c → IsRemembered line pool key d
 as_before line pool key c d number behind same r =
-    subst (λ (z : Option Asked × Option Command). IsRememberedAs line pool key d z.0 z.1) (λ i. (sym same.0 i, sym same.1 i)) (by c.talk.outstanding c.command r)
+    subst (λ (z : Option Awaited × Option Command). IsRememberedAs line pool key d z.0 z.1) (λ i. (sym same.0 i, sym same.1 i)) (by c.session.outstanding c.session.command r)
   where
-    by : (o : Option Asked) (m : Option Command) → IsRememberedAs line pool key c o m → IsRememberedAs line pool key d o m
+    by : (o : Option Awaited) (m : Option Command) → IsRememberedAs line pool key c o m → IsRememberedAs line pool key d o m
     by None m r = tt
     by (Some asked) (Some command) r = ⊎_elim (λ (there : IsInLine line key c.number). inl (subst (IsInLine line key) (sym number) there)) (λ (le : MOST_UNWRITTEN ≤ c.unwritten). inr (behind le)) r
-    by (Some asked) None r = subst (λ (n : ℕ). IsWaitedFor pool key n asked.request.number) (sym number) r
+    by (Some asked) None r = subst (λ (n : ℕ). IsWaitedFor pool key n asked.number) (sym number) r
 
 -- a connection whose command is to be taken, and that is in the line
 pub lined_up : (line : List Waiting) (pool : Pool) (key : ℕ) (d : ConnectionView) → HasCommand d → IsInLine line key d.number → IsRemembered line pool key d
-lined_up line pool key d has there = by d.talk.outstanding d.command has
+lined_up line pool key d has there = by d.session.outstanding d.session.command has
   where
-    by : (o : Option Asked) (m : Option Command) → is_some m ≡ true → IsRememberedAs line pool key d o m
+    by : (o : Option Awaited) (m : Option Command) → is_some m ≡ true → IsRememberedAs line pool key d o m
     by None m has = tt
     by (Some asked) (Some command) has = inl there
     by (Some asked) None has = absurd (cc has)
 
 -- one that has nothing outstanding
-pub at_rest : (line : List Waiting) (pool : Pool) (key : ℕ) (d : ConnectionView) → d.talk.outstanding ≡ None → IsRemembered line pool key d
-at_rest line pool key d none = subst (λ (o : Option Asked). IsRememberedAs line pool key d o d.command) (sym none) tt
+pub at_rest : (line : List Waiting) (pool : Pool) (key : ℕ) (d : ConnectionView) → d.session.outstanding ≡ None → IsRemembered line pool key d
+at_rest line pool key d none = subst (λ (o : Option Awaited). IsRememberedAs line pool key d o d.session.command) (sym none) tt
 
 -- ---- the line
 
@@ -147,7 +147,7 @@ pub came_remembers : (line : List Waiting) (pool : Pool) (table table_now : Tabl
 came_remembers line pool table table_now at others here r =
     step line line pool pool table table_now at others (same_line at line) (same_pool at pool)
     (λ d e. let is : new_connection at.number ≡ d = (let s : ◌≡◌ {A = Option ConnectionView} (Some (new_connection at.number)) (Some d) = sym here ∙ e in cc s) in
-    inr (at_rest line pool at.key d (sym (ap (λ (c : ConnectionView). c.talk.outstanding) is))))
+    inr (at_rest line pool at.key d (sym (ap (λ (c : ConnectionView). c.session.outstanding) is))))
     r
 
 pub heard_remembers : (line : List Waiting) (table table_now : Table) (at : Place) (w : Waiting) → w.at ≡ at → HasSameOthers at.key table table_now → BecomesAt ReadsFurther at table table_now → StillRemembers line (line_with (is_untaken_in at.number table_now at.key) line w) table table_now
@@ -182,9 +182,9 @@ written_remembers line table at count w of pool r =
   where
     -- one of which less waits to be written
     by_command : (line : List Waiting) (pool : Pool) (key : ℕ) (c d : ConnectionView) → d ≡ after_written count c → IsRemembered line pool key c → (HasCommand d → IsInLine line key d.number) → IsRemembered line pool key d
-    by_command line pool key c d is kept there = subst (IsRemembered line pool key) (sym is) (by c.talk.outstanding c.command kept (λ has. subst (λ (x : ConnectionView). IsInLine line key x.number) is (there (subst HasCommand (sym is) has))))
+    by_command line pool key c d is kept there = subst (IsRemembered line pool key) (sym is) (by c.session.outstanding c.session.command kept (λ has. subst (λ (x : ConnectionView). IsInLine line key x.number) is (there (subst HasCommand (sym is) has))))
       where
-        by : (o : Option Asked) (m : Option Command) → IsRememberedAs line pool key c o m → (is_some m ≡ true → IsInLine line key c.number) → IsRememberedAs line pool key (after_written count c) o m
+        by : (o : Option Awaited) (m : Option Command) → IsRememberedAs line pool key c o m → (is_some m ≡ true → IsInLine line key c.number) → IsRememberedAs line pool key (after_written count c) o m
         by None m k there = tt
         by (Some asked) (Some command) k there = inl (there refl)
         by (Some asked) None k there = k
@@ -238,8 +238,8 @@ owed_remembers line pool pool_now table keeps r key d e = mono line line pool po
 more_remembers : (line : List Waiting) (pool : Pool) (table : Table) (b : Bool) (w : Waiting) → Remembers line pool table → Remembers (line_with b line w) pool table
 more_remembers line pool table b w r key d e = mono line (line_with b line w) pool pool key d (λ i. joined_keeps b line w key d.number i) (λ turn i. i) (r key d e)
 
-differs_turn : (asked : Asked) (turn : ℕ) → is_asked (Some asked) turn ≡ false → turn ≡ asked.request.number → ⊥
-differs_turn asked turn not same = let clash : false ≡ true = sym not ∙ eq-eqb asked.request.number turn (sym same) in absurd (cc clash)
+differs_turn : (asked : Awaited) (turn : ℕ) → is_outstanding_as (Some asked) turn ≡ false → turn ≡ asked.number → ⊥
+differs_turn asked turn not same = let clash : false ≡ true = sym not ∙ eq-eqb asked.number turn (sym same) in absurd (cc clash)
 
 module _ (line : List Waiting) (pool pool_now : Pool) (o : Outstanding) (ends : EndsWaitAt pool o pool_now) where
   abbrev asker : Place
@@ -250,14 +250,14 @@ module _ (line : List Waiting) (pool pool_now : Pool) (o : Outstanding) (ends : 
       (λ same_key same_number same_turn. ⊎_elim (λ (differs : key ≢ o.key). differs (sym same_key)) (λ (differs : number ≢ o.assignment.connection). differs (sym same_number)) other) w
 
   -- its command was not taken, or is another one
-  still : (c : ConnectionView) → c.number ≡ o.assignment.connection → HasCommand c ⊎ (is_asked c.talk.outstanding o.assignment.turn ≡ false) → IsRemembered line pool o.key c → IsRemembered line pool_now o.key c
-  still c number why = by c.talk.outstanding c.command why
+  still : (c : ConnectionView) → c.number ≡ o.assignment.connection → HasCommand c ⊎ (is_outstanding_as c.session.outstanding o.assignment.turn ≡ false) → IsRemembered line pool o.key c → IsRemembered line pool_now o.key c
+  still c number why = by c.session.outstanding c.session.command why
     where
-      by : (x : Option Asked) (m : Option Command) → (is_some m ≡ true) ⊎ (is_asked x o.assignment.turn ≡ false) → IsRememberedAs line pool o.key c x m → IsRememberedAs line pool_now o.key c x m
+      by : (x : Option Awaited) (m : Option Command) → (is_some m ≡ true) ⊎ (is_outstanding_as x o.assignment.turn ≡ false) → IsRememberedAs line pool o.key c x m → IsRememberedAs line pool_now o.key c x m
       by None m why r = tt
       by (Some asked) (Some command) why r = r
-      by (Some asked) None why r = ends_keeps pool pool_now o ends o.key c.number asked.request.number
-          (λ same_key same_number same_turn. ⊎_elim (λ (has : is_some {T = Command} None ≡ true). absurd (cc has)) (λ (not : is_asked (Some asked) o.assignment.turn ≡ false). differs_turn asked o.assignment.turn not same_turn) why) r
+      by (Some asked) None why r = ends_keeps pool pool_now o ends o.key c.number asked.number
+          (λ same_key same_number same_turn. ⊎_elim (λ (has : is_some {T = Command} None ≡ true). absurd (cc has)) (λ (not : is_outstanding_as (Some asked) o.assignment.turn ≡ false). differs_turn asked o.assignment.turn not same_turn) why) r
 
   pub answered_remembers : (table table_now : Table) (w : Waiting) → w.at ≡ asker → HasSameOthers o.key table table_now → BecomesAt (AnswersOn o.assignment.turn) asker table table_now → Remembers line pool table
       → Remembers (line_with (is_untaken_in o.assignment.connection table_now o.key) line w) pool_now table_now
@@ -270,10 +270,10 @@ module _ (line : List Waiting) (pool pool_now : Pool) (o : Outstanding) (ends : 
       let c = was.0 in
       let on = was.3 in
       inr (⊎_elim
-      (λ (same : HasSameOutstanding c d × (HasCommand c ⊎ (is_asked c.talk.outstanding o.assignment.turn ≡ false))).
+      (λ (same : HasSameOutstanding c d × (HasCommand c ⊎ (is_outstanding_as c.session.outstanding o.assignment.turn ≡ false))).
       as_before line_now pool_now o.key c d on.number on.behind same.0 (mono line line_now pool_now pool_now o.key c (λ i. joined_keeps b line w o.key c.number i) (λ turn i. i) (still c was.2 same.1 (r o.key c was.1))))
       (λ other. ⊎_elim
-      (λ (none : d.talk.outstanding ≡ None). at_rest line_now pool_now o.key d none)
+      (λ (none : d.session.outstanding ≡ None). at_rest line_now pool_now o.key d none)
       (λ (has : HasCommand d). lined_up line_now pool_now o.key d has (joins asker table_now line w d of e (on.number ∙ was.2) has))
       other)
       on.owes))
@@ -308,10 +308,10 @@ module _ (line : List Waiting) (w : Waiting) (pool : Pool) (table table_now : Ta
       (same_or_not d.number w.at.number))
       r
     where
-      untaken : (d : ConnectionView) → (d.command ≡ None) ⊎ (MOST_UNWRITTEN ≤ d.unwritten) → IsRemembered (w ∷ line) pool w.at.key d → IsRemembered line pool w.at.key d
-      untaken d why = by d.talk.outstanding d.command why
+      untaken : (d : ConnectionView) → (d.session.command ≡ None) ⊎ (MOST_UNWRITTEN ≤ d.unwritten) → IsRemembered (w ∷ line) pool w.at.key d → IsRemembered line pool w.at.key d
+      untaken d why = by d.session.outstanding d.session.command why
         where
-          by : (o : Option Asked) (m : Option Command) → (m ≡ None) ⊎ (MOST_UNWRITTEN ≤ d.unwritten) → IsRememberedAs (w ∷ line) pool w.at.key d o m → IsRememberedAs line pool w.at.key d o m
+          by : (o : Option Awaited) (m : Option Command) → (m ≡ None) ⊎ (MOST_UNWRITTEN ≤ d.unwritten) → IsRememberedAs (w ∷ line) pool w.at.key d o m → IsRememberedAs line pool w.at.key d o m
           by None m why r = tt
           by (Some asked) (Some command) why r = ⊎_elim (λ (none : ◌≡◌ {A = Option Command} (Some command) None). absurd (cc none)) (λ (le : MOST_UNWRITTEN ≤ d.unwritten). inr le) why
           by (Some asked) None why r = r
@@ -333,10 +333,11 @@ module _ (line : List Waiting) (w : Waiting) (pool : Pool) (table table_now : Ta
       (λ d e.
       let is : took.next ≡ d = (let s : ◌≡◌ {A = Option ConnectionView} (Some took.next) (Some d) = sym took.there ∙ e in cc s) in
       let t = took.is in
-      let next_is : took.next ≡ record { number = took.was.number; talk = took.was.talk; command = None; unwritten = took.was.unwritten } = t.now_is in
-      let waited : IsWaitedFor pool_now w.at.key took.was.number t.asked.request.number = subst (λ (z : ℕ × ℕ × ℕ). IsWaitedFor pool_now z.0 z.1 z.2)
-      (λ j. (now.1 j, (ap (λ (x : Assignment). x.connection) now.2 ∙ (connection ∙ sym took.number)) j, (ap (λ (x : Assignment). x.turn) now.2 ∙ (sym turn ∙ sym t.turn)) j)) there in
-      inr (subst (IsRemembered line pool_now w.at.key) (sym next_is ∙ is) (subst (λ (x : Option Asked). IsRememberedAs line pool_now w.at.key (record took.was { command = None }) x None) (sym t.outstanding) waited)))
+      let of = t.of_session in
+      let waited : IsWaitedFor pool_now w.at.key took.was.number of.asked.number = subst (λ (z : ℕ × ℕ × ℕ). IsWaitedFor pool_now z.0 z.1 z.2)
+      (λ j. (now.1 j, (ap (λ (x : Assignment). x.connection) now.2 ∙ (connection ∙ sym took.number)) j, (ap (λ (x : Assignment). x.turn) now.2 ∙ (sym turn ∙ sym of.turn)) j)) there in
+      let now_is : took.next ≡ record took.was { session = record took.was.session { command = None } } = t.now_is ∙ (λ j. record { number = took.was.number; session = of.now_is j; unwritten = took.was.unwritten }) in
+      inr (subst (IsRemembered line pool_now w.at.key) (sym now_is ∙ is) (subst (λ (x : Option Awaited). IsRememberedAs line pool_now w.at.key (record took.was { session = record took.was.session { command = None } }) x None) (sym of.outstanding) waited)))
       r
 
 -- whatever came of it

@@ -2,3 +2,5 @@ pub mod Owed
 pub mod Pause
 pub mod Service
 pub mod Steps
+pub mod Told
+pub mod Ticks

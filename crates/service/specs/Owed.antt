@@ -1,7 +1,7 @@
 -- Who remembers what a connection has outstanding.
 use Rattle.std.specs.Prelude.{◌≡◌, ◌⊎◌, ℕ, suc, ◌-◌, ◌≤◌, Bool, false, List, [], ◌∷◌, ◌++◌, Option, Some, None, Contains, slice_get, slice_set, if◌then◌else◌}
 use Rattle.proto.specs.declared.command.Command.{Command}
-use Rattle.client.specs.declared.asked.Asked.{Asked}
+use Rattle.session.specs.declared.session.Awaited.{Awaited}
 use Rattle.connections.specs.declared.connection.TheConstants.{MOST_UNWRITTEN}
 use Rattle.connections.specs.declared.places.Place.{Place}
 use Rattle.connections.specs.Connection.{ConnectionView}
@@ -28,13 +28,13 @@ pub record IsWaitedFor (pool : List (Option Outstanding)) (key number turn : ℕ
   pub turn_is : outstanding.assignment.turn ≡ turn
 
 -- What the connection at this key has outstanding, and whether that was not taken. One that was not taken waits in the line, or for bytes to be written. One that was taken has a proxy that waits for its reply.
-abbrev pub IsRememberedAs : List Waiting → List (Option Outstanding) → ℕ → ConnectionView → Option Asked → Option Command → Type 0
+abbrev pub IsRememberedAs : List Waiting → List (Option Outstanding) → ℕ → ConnectionView → Option Awaited → Option Command → Type 0
 IsRememberedAs line pool key c None command = Unit {0}
 IsRememberedAs line pool key c (Some asked) (Some command) = IsInLine line key c.number ⊎ (MOST_UNWRITTEN ≤ c.unwritten)
-IsRememberedAs line pool key c (Some asked) None = IsWaitedFor pool key c.number asked.request.number
+IsRememberedAs line pool key c (Some asked) None = IsWaitedFor pool key c.number asked.number
 
 abbrev pub IsRemembered : List Waiting → List (Option Outstanding) → ℕ → ConnectionView → Type 0
-IsRemembered line pool key c = IsRememberedAs line pool key c c.talk.outstanding c.command
+IsRemembered line pool key c = IsRememberedAs line pool key c c.session.outstanding c.session.command
 
 -- nothing that is outstanding is forgotten
 abbrev pub Remembers : List Waiting → List (Option Outstanding) → List (Option ConnectionView) → Type 0

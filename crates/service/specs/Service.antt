@@ -19,16 +19,19 @@ use Rattle.ensemble.specs.Ensemble.{EnsembleView, IsEnsemble, answer_entry, orde
 use Rattle.service.specs.declared.assignment.Assignment.{Assignment}
 use Rattle.service.specs.declared.assignment.Outstanding.{Outstanding}
 use Rattle.service.specs.declared.note.Waiting.{Waiting}
+use Rattle.service.specs.declared.pause.Pause.{Pause}
 
 -- what is seen of the replicas
 pub record ReplicasView : Type 0 where
   pub ensemble : EnsembleView
   -- how often something was left undone, there or in the service, since memory was refused or a bound was reached
   pub refused : ℕ
+  -- of each node, when it is opened again if it stops
+  pub pauses : List Pause
 
 -- nothing is seen of them. What always holds does not speak of them
 abbrev pub none_shown : ReplicasView
-none_shown = record { ensemble = record { nodes = record { u = 0; proxies = []; executors = []; verifiers = []; mail = [] }; asked = []; answered = []; order = []; refused = 0 }; refused = 0 }
+none_shown = record { ensemble = record { nodes = record { u = 0; proxies = []; executors = []; verifiers = []; mail = [] }; asked = []; answered = []; order = []; refused = 0 }; refused = 0; pauses = [] }
 
 pub record ServiceView : Type 0 where
   pub connections : ConnectionsView
@@ -47,12 +50,12 @@ pub record ServiceView : Type 0 where
   pub replicas : ReplicasView
 
 -- a service is identified by what it has
-abbrev pub service_code : Coded ConnectionsView → Coded Request → Coded (replies.Reply) → Coded Noted → Coded Assignment → Coded Outstanding → Coded Waiting → Coded EnsembleView → Coded ServiceView
-service_code connections request reply note assignment outstanding waiting ensemble =
-    code_by ((((((((ConnectionsView × List (Request × Bool)) × List ((ℕ × ℕ) × replies.Reply)) × List ((ℕ × ℕ) × Noted)) × List Assignment) × List (Option Outstanding)) × List Waiting) × EnsembleView) × ℕ)
-    (coded× (coded× (coded× (coded× (coded× (coded× (coded× (coded× connections (coded_list (coded× request coded_bool))) (coded_list (coded× (coded× coded_ℕ coded_ℕ) reply))) (coded_list (coded× (coded× coded_ℕ coded_ℕ) note))) (coded_list assignment)) (coded_list (coded_option outstanding))) (coded_list waiting)) ensemble) coded_ℕ)
-    (λ v. ((((((((v.connections, v.asked), v.answered), v.order), v.assignments), v.waiting), v.line), v.replicas.ensemble), v.replicas.refused))
-    (λ p. record { connections = p.0.0.0.0.0.0.0.0; asked = p.0.0.0.0.0.0.0.1; answered = p.0.0.0.0.0.0.1; order = p.0.0.0.0.0.1; assignments = p.0.0.0.0.1; waiting = p.0.0.0.1; line = p.0.0.1; replicas = record { ensemble = p.0.1; refused = p.1 } })
+abbrev pub service_code : Coded ConnectionsView → Coded Request → Coded (replies.Reply) → Coded Noted → Coded Assignment → Coded Outstanding → Coded Waiting → Coded EnsembleView → Coded Pause → Coded ServiceView
+service_code connections request reply note assignment outstanding waiting ensemble pause =
+    code_by (((((((((ConnectionsView × List (Request × Bool)) × List ((ℕ × ℕ) × replies.Reply)) × List ((ℕ × ℕ) × Noted)) × List Assignment) × List (Option Outstanding)) × List Waiting) × EnsembleView) × ℕ) × List Pause)
+    (coded× (coded× (coded× (coded× (coded× (coded× (coded× (coded× (coded× connections (coded_list (coded× request coded_bool))) (coded_list (coded× (coded× coded_ℕ coded_ℕ) reply))) (coded_list (coded× (coded× coded_ℕ coded_ℕ) note))) (coded_list assignment)) (coded_list (coded_option outstanding))) (coded_list waiting)) ensemble) coded_ℕ) (coded_list pause))
+    (λ v. (((((((((v.connections, v.asked), v.answered), v.order), v.assignments), v.waiting), v.line), v.replicas.ensemble), v.replicas.refused), v.replicas.pauses))
+    (λ p. record { connections = p.0.0.0.0.0.0.0.0.0; asked = p.0.0.0.0.0.0.0.0.1; answered = p.0.0.0.0.0.0.0.1; order = p.0.0.0.0.0.0.1; assignments = p.0.0.0.0.0.1; waiting = p.0.0.0.0.1; line = p.0.0.0.1; replicas = record { ensemble = p.0.0.1; refused = p.0.1; pauses = p.1 } })
     (λ _. refl)
 
 -- what is given, by the number of its connection

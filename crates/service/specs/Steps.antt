@@ -5,7 +5,7 @@ use Rattle.connections.specs.declared.connections.CommandNumber.{CommandNumber}
 use Rattle.connections.specs.declared.places.Place.{Place}
 use Rattle.connections.specs.declared.said.Said.{Said}
 use Rattle.connections.specs.Connections.{ConnectionsView, AreBefore, AreReplied}
-use Rattle.connections.specs.declared.connection.Ready.{Ready}
+use Rattle.session.specs.declared.session.Ready.{Ready}
 use Rattle.connections.specs.Owed.{IsTakenAt, HasNoneToTake}
 use Rattle.connections.specs.Places.{is_here, place_in, HasSameOthers}
 use Rattle.ensemble.specs.declared.noted.Noted.TheVariants as noted

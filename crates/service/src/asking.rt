@@ -3,7 +3,9 @@
 ghost use Rattle.std.specs.Prelude.{◌≡◌, true};
 ghost use Rattle.connections.specs.Places.{is_here};
 ghost use Rattle.ensemble.specs.Nodes.{IsFree};
+ghost use Rattle.connections.specs.Told.{IsToldAt};
 ghost use Rattle.service.specs.Steps.{AsksFor, Fails};
+ghost use Rattle.service.specs.Told.{IsToldIfFailed};
 
 use crate::assignment::Assignment;
 use crate::note::Note;
@@ -26,7 +28,8 @@ pub enum Asking {
 /// The connection, which is here, leaves, since memory ran out for its command: what it is told.
 fn failed(alloc: Global, connections: &mut Connections, at: Place) -> Said
     requires { is_here at.number connections.old.table at.key ≡ true }
-    ensures { Fails at connections.old connections.new result }
+    ensures fails { Fails at connections.old connections.new result }
+    ensures told { IsToldAt at connections.old.table connections.new.table result }
 {
     match connections.drop_out(alloc, at) {
         Some(said) => said,
@@ -46,7 +49,8 @@ pub fn ask(
     note: &mut Note,
 ) -> Asking
     requires { IsFree ensemble.old.nodes.proxies proxy }
-    ensures { AsksFor at proxy connections.old ensemble.old connections.new ensemble.new result }
+    ensures asks { AsksFor at proxy connections.old ensemble.old connections.new ensemble.new result }
+    ensures told { IsToldIfFailed at connections.old.table connections.new.table result }
 {
     let Some(ready) = connections.take(at) else {
         return Asking::Nothing;

@@ -5,6 +5,7 @@ ghost use Rattle.std.specs.VecDeque.{deque_len, deque_capacity};
 ghost use Rattle.connections.specs.Places.{place_in, is_here, is_untaken_in, left_at, written_at, HasSameOthers};
 ghost use Rattle.service.specs.Owed.{line_with, StillRemembers};
 ghost use Rattle.service.specs.Service.{Hears};
+ghost use Rattle.connections.specs.Told.{IsToldAt};
 
 use crate::note::Waiting;
 use connections::{Connections, Place, Said};
@@ -53,6 +54,7 @@ pub fn hear_at(
     ensures hears { Hears at.key at.number piece.items connections.old connections.new result }
     ensures leaves { OnErr result (is_here at.number connections.new.table at.key ≡ false) }
     ensures closes { IfOk result (λ said. said.closes ≡ true → place_in connections.new.table at.key ≡ None) }
+    ensures told { IfOk result (λ said. IsToldAt at connections.old.table connections.new.table said) }
     ensures same_others { HasSameOthers at.key connections.old.table connections.new.table }
     ensures taken { connections.new.taken ≡ connections.old.taken }
     ensures replied { connections.new.replied ≡ connections.old.replied }

@@ -1,5 +1,11 @@
 //! Connections over client proxies: which command is asked by which proxy, and which reply goes where.
 //!
+//!     let mut service = Service::open(alloc, &Config::new(1, 64)?)?;  // three executors and verifiers, all up
+//!     service.come(alloc, key, number)?;                              // a connection
+//!     let at_once = service.hear(alloc, key, number, bytes)?;         // what it is given before its command is answered
+//!     let said = service.work(rt, clock, alloc, seconds);             // what connections are given: the replies
+//!     service.tick(alloc);                                            // each 100 ms while `is_waiting`
+//!
 //! It stands on `connections` (what each connection asks and is given) and `ensemble` (the replicas, and the
 //! proxies that ask them), and on `serving` for the patience of a proxy. The layer above uses `Service`, which the
 //! event loop drives: connections come, are heard and leave; `work` asks what waits, and gives what was answered.

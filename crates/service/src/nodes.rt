@@ -1,6 +1,7 @@
 //! The nodes that may have stopped.
 
-ghost use Rattle.std.specs.Prelude.{◌<◌};
+ghost use Rattle.std.specs.Prelude.{◌≡◌, ◌<◌, length};
+ghost use Rattle.service.specs.Ticks.{pause_after, is_opened, NodeTicks};
 
 use crate::pause::Pause;
 use ensemble::Replica;
@@ -18,6 +19,19 @@ impl Drop for Nodes {
             members: _,
             pauses: _,
         } = self;
+    }
+}
+
+/// A tick that finds a node up or down: whether it is to be opened now.
+fn tick_one(pause: &mut Pause, is_up: bool) -> bool
+    ensures after { pause.new ≡ pause_after is_up pause.old }
+    ensures due { result ≡ is_opened is_up pause.old }
+{
+    if is_up {
+        pause.find_up();
+        false
+    } else {
+        pause.find_down()
     }
 }
 
@@ -40,7 +54,9 @@ impl Nodes {
     }
 
     /// How many nodes there are.
-    pub fn count(&self) -> usize {
+    pub fn count(&self) -> usize
+        ensures { result ≡ length self.now.pauses.items }
+    {
         self.pauses.len()
     }
 
@@ -55,16 +71,11 @@ impl Nodes {
     }
 
     /// A tick that finds the node at this place up or down: whether it is to be opened now.
-    pub fn tick(&mut self, at: usize, is_up: bool) -> bool {
+    pub fn tick(&mut self, at: usize, is_up: bool) -> bool
+        ensures { NodeTicks at is_up self.old.pauses.items self.new.pauses.items result }
+    {
         match self.pauses.get_mut(at) {
-            Some(pause) => {
-                if is_up {
-                    pause.find_up();
-                    false
-                } else {
-                    pause.find_down()
-                }
-            }
+            Some(pause) => tick_one(pause, is_up),
             None => false,
         }
     }

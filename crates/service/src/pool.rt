@@ -3,6 +3,8 @@
 ghost use Rattle.std.specs.Prelude.{◌≡◌, ◌<◌, ◌-◌, Some, None, IfSome, IfNone, true, false, slice_get, slice_set};
 ghost use Rattle.service.specs.Steps.{NoneWaits, is_request_of, owed_of, TakesOne, TakesWaitAt, SetsWaitAt};
 ghost use Rattle.service.specs.Owed.{AllWait, OneWaits};
+ghost use Rattle.serving.specs.Patience.{after_tick};
+ghost use Rattle.service.specs.Ticks.{sent_again, with_patience, urge_in, urge_at, SetsPatience};
 
 use crate::assignment::Outstanding;
 use serving::{Seen, Urge};
@@ -82,7 +84,9 @@ fn take_at(
 /// One more tick for what is there: what is due.
 fn tick_one(place: &mut Option<Outstanding>, u: u8, seen: Seen) -> Urge
     requires { u < 4 }
-    ensures { owed_of place.new ≡ owed_of place.old }
+    ensures owed { owed_of place.new ≡ owed_of place.old }
+    ensures after { place.new ≡ with_patience (λ p. after_tick u p seen) place.old }
+    ensures due { result ≡ urge_in u seen place.old }
 {
     match place {
         Some(outstanding) => outstanding.patience.tick(u, seen),
@@ -93,7 +97,9 @@ fn tick_one(place: &mut Option<Outstanding>, u: u8, seen: Seen) -> Urge
 /// One more tick for the proxy at this place: what is due.
 fn tick_at(waiting: &mut Vec<Option<Outstanding>>, at: usize, u: u8, seen: Seen) -> Urge
     requires { u < 4 }
-    ensures { SetsWaitAt at waiting.old.items waiting.new.items }
+    ensures sets { SetsWaitAt at waiting.old.items waiting.new.items }
+    ensures after { SetsPatience (λ p. after_tick u p seen) at waiting.old.items waiting.new.items }
+    ensures due { result ≡ urge_at u seen (slice_get waiting.old.items at) }
 {
     match waiting.get_mut(at) {
         Some(place) => tick_one(place, u, seen),
@@ -103,7 +109,8 @@ fn tick_at(waiting: &mut Vec<Option<Outstanding>>, at: usize, u: u8, seen: Seen)
 
 /// What is there is asked again: the number of its proxy.
 fn ask_one(place: &mut Option<Outstanding>, seen: Seen) -> Option<u16>
-    ensures { owed_of place.new ≡ owed_of place.old }
+    ensures owed { owed_of place.new ≡ owed_of place.old }
+    ensures after { place.new ≡ with_patience (sent_again seen) place.old }
 {
     match place {
         Some(outstanding) => {
@@ -116,7 +123,8 @@ fn ask_one(place: &mut Option<Outstanding>, seen: Seen) -> Option<u16>
 
 /// The proxy at this place asks again: its number.
 fn ask_at(waiting: &mut Vec<Option<Outstanding>>, at: usize, seen: Seen) -> Option<u16>
-    ensures { SetsWaitAt at waiting.old.items waiting.new.items }
+    ensures sets { SetsWaitAt at waiting.old.items waiting.new.items }
+    ensures after { SetsPatience (sent_again seen) at waiting.old.items waiting.new.items }
 {
     match waiting.get_mut(at) {
         Some(place) => ask_one(place, seen),
@@ -158,7 +166,9 @@ fn any_waits(waiting: &Vec<Option<Outstanding>>) -> bool
 }
 
 impl Pool {
-    ghost use Rattle.std.specs.Prelude.{◌≡◌, ◌<◌, ◌-◌, Some, true, false, slice_set, IfOk, IfSome, IfNone};
+    ghost use Rattle.std.specs.Prelude.{◌≡◌, ◌<◌, ◌-◌, Some, true, false, length, slice_get, slice_set, IfOk, IfSome, IfNone};
+    ghost use Rattle.serving.specs.Patience.{after_tick};
+    ghost use Rattle.service.specs.Ticks.{sent_again, urge_at, SetsPatience};
     ghost use Rattle.service.specs.Steps.{KeepsWaits, AddsWait, EndsWait, NoneWaits, TakesWaitAt, SetsWaitAt};
     ghost use Rattle.service.specs.Owed.{IsFreeIn, AllWait, OneWaits};
 
@@ -172,7 +182,9 @@ impl Pool {
     }
 
     /// How many proxies there are.
-    pub fn count(&self) -> usize {
+    pub fn count(&self) -> usize
+        ensures { result ≡ length self.now }
+    {
         self.waiting.len()
     }
 
@@ -216,6 +228,8 @@ impl Pool {
         requires { u < 4 }
         ensures keeps { KeepsWaits self.old self.new }
         ensures sets { SetsWaitAt at self.old self.new }
+        ensures after { SetsPatience (λ p. after_tick u p seen) at self.old self.new }
+        ensures due { result ≡ urge_at u seen (slice_get self.old at) }
     {
         tick_at(&mut self.waiting, at, u, seen)
     }
@@ -224,6 +238,7 @@ impl Pool {
     pub fn ask_again(&mut self, at: usize, seen: Seen) -> Option<u16>
         ensures keeps { KeepsWaits self.old self.new }
         ensures sets { SetsWaitAt at self.old self.new }
+        ensures after { SetsPatience (sent_again seen) at self.old self.new }
     {
         ask_at(&mut self.waiting, at, seen)
     }

@@ -44,15 +44,16 @@ impl Model for Service {
     ghost use Rattle.service.specs.contracts.assignment.Assignment as of_assignment;
     ghost use Rattle.service.specs.contracts.assignment.Outstanding as of_outstanding;
     ghost use Rattle.service.specs.contracts.note.Waiting as of_waiting;
+    ghost use Rattle.service.specs.contracts.pause.Pause as of_pause;
     ghost use Rattle.ensemble.specs.contracts.ensemble.Ensemble as of_ensemble;
     ghost use Rattle.service.specs.Service.{ServiceView, IsService, HasMoments, assigned, none_shown, service_code};
     ghost use Rattle.service.specs.Owed.{Remembers};
 
     ghost Value = { ServiceView };
 
-    ghost coded = { service_code of_connections.the_row.coded of_request.the_row.coded of_reply.the_row.coded of_noted.the_row.coded of_assignment.the_row.coded of_outstanding.the_row.coded of_waiting.the_row.coded of_ensemble.the_row.coded };
+    ghost coded = { service_code of_connections.the_row.coded of_request.the_row.coded of_reply.the_row.coded of_noted.the_row.coded of_assignment.the_row.coded of_outstanding.the_row.coded of_waiting.the_row.coded of_ensemble.the_row.coded of_pause.the_row.coded };
 
-    ghost view = { λ s. record { connections = s.connections; asked = s.ensemble.asked; answered = s.ensemble.answered; order = s.ensemble.order; assignments = assigned s.assignments.items; waiting = s.pool; line = s.line.items; replicas = record { ensemble = s.ensemble; refused = s.refused + s.ensemble.refused } } };
+    ghost view = { λ s. record { connections = s.connections; asked = s.ensemble.asked; answered = s.ensemble.answered; order = s.ensemble.order; assignments = assigned s.assignments.items; waiting = s.pool; line = s.line.items; replicas = record { ensemble = s.ensemble; refused = s.refused + s.ensemble.refused; pauses = s.nodes.pauses.items } } };
 
     ghost invariant = { λ s. IsService (record { connections = s.connections; asked = s.ensemble.asked; answered = s.ensemble.answered; order = s.ensemble.order; assignments = assigned s.assignments.items; waiting = s.pool; line = s.line.items; replicas = none_shown })
         × HasMoments (record { connections = s.connections; asked = s.ensemble.asked; answered = s.ensemble.answered; order = s.ensemble.order; assignments = assigned s.assignments.items; waiting = s.pool; line = s.line.items; replicas = none_shown }) × (s.u < 4) × Remembers s.line.items s.pool s.connections.table };
@@ -65,6 +66,7 @@ impl Service {
     ghost use Rattle.connections.specs.Connections.{HasSameLogs, no_connections, IsConnections};
     ghost use Rattle.connections.specs.History.{IsHistory};
     ghost use Rattle.connections.specs.declared.table.TheConstants.{MOST_PLACES};
+    ghost use Rattle.connections.specs.Told.{IsToldAt};
     ghost use Rattle.service.specs.Service.{IsService, HasMoments, HasEnsemble, HasSameRequests, Hears};
     ghost use Rattle.ensemble.specs.First.{AreAllUp};
     ghost use Rattle.service.specs.Steps.{NoneWaits};
@@ -119,7 +121,8 @@ impl Service {
     }
 
     /// Reads a piece of what comes of a connection: what the connection is given at once, before its command, if
-    /// it asks one, is answered by `work`.
+    /// it asks one, is answered by `work`. It stays at its key unless that says that it is to be closed, and it is told
+    /// whether a command of it is outstanding now.
     ///
     /// Unfit: it is not here; NoMemory: an allocation failed; Stopped: it has no number left for a command. After
     /// an error it has left, and is to be closed. Nothing else has changed.
@@ -133,6 +136,7 @@ impl Service {
         ensures hears { Hears key number piece.items self.old.connections self.new.connections result }
         ensures leaves { OnErr result (is_here number self.new.connections.table key ≡ false) }
         ensures closes { IfOk result (λ said. said.closes ≡ true → place_in self.new.connections.table key ≡ None) }
+        ensures told { IfOk result (λ said. IsToldAt (record { key = key; number = number }) self.old.connections.table self.new.connections.table said) }
         ensures same_others { HasSameOthers key self.old.connections.table self.new.connections.table }
         ensures requests { HasSameRequests self.old self.new }
     {

@@ -1,19 +1,22 @@
 //! What is due after a tick.
 
-ghost use Rattle.std.specs.Prelude.{◌≡◌, ◌<◌};
+ghost use Rattle.std.specs.Prelude.{◌≡◌, ◌<◌, ◌≤◌};
 ghost use Rattle.ensemble.specs.Nodes.{size_of};
+ghost use Rattle.service.specs.Ticks.{sent_again, waited_on, SetsPatience};
 ghost use Rattle.service.specs.Steps.{KeepsWaits};
 ghost use Rattle.service.specs.Owed.{KeepsOwed};
 
 use crate::pool::Pool;
 use crate::replicas::note_node;
 use crate::service::Service;
-use ensemble::Ensemble;
+use ensemble::{Ensemble, Replica};
 use serving::{Seen, Urge};
 use std::alloc::Global;
 
 /// The proxy at this place asks again.
 fn ask_again(alloc: Global, pool: &mut Pool, ensemble: &mut Ensemble, at: usize, seen: Seen)
+    ensures after { SetsPatience (sent_again seen) at pool.old pool.new }
+    ensures counted { ensemble.old.refused ≤ ensemble.new.refused }
     ensures waits { KeepsWaits pool.old pool.new }
     ensures owed { KeepsOwed pool.old pool.new }
     ensures asked { ensemble.new.asked ≡ ensemble.old.asked }
@@ -36,6 +39,8 @@ fn tick_at(
     seen: Seen,
 ) -> bool
     requires { u < 4 }
+    ensures after { SetsPatience (waited_on u seen) at pool.old pool.new }
+    ensures counted { ensemble.old.refused ≤ ensemble.new.refused }
     ensures waits { KeepsWaits pool.old pool.new }
     ensures owed { KeepsOwed pool.old pool.new }
     ensures asked { ensemble.new.asked ≡ ensemble.old.asked }
@@ -43,16 +48,25 @@ fn tick_at(
     ensures order { ensemble.new.order ≡ ensemble.old.order }
     ensures size { size_of ensemble.new.nodes ≡ size_of ensemble.old.nodes }
 {
-    let urge = pool.tick(at, u, seen);
-    if urge != Urge::Wait {
-        ask_again(alloc, pool, ensemble, at, seen);
+    match pool.tick(at, u, seen) {
+        Urge::Wait => false,
+        Urge::Again => {
+            ask_again(alloc, pool, ensemble, at, seen);
+            false
+        }
+        Urge::Suspect => {
+            ask_again(alloc, pool, ensemble, at, seen);
+            true
+        }
     }
-    urge == Urge::Suspect
 }
 
 impl Service {
-    ghost use Rattle.std.specs.Prelude.{◌≡◌};
+    ghost use Rattle.std.specs.Prelude.{◌≡◌, ◌<◌, ◌≤◌, Bool, true, false, slice_get};
     ghost use Rattle.ensemble.specs.Nodes.{size_of};
+    ghost use Rattle.ensemble.specs.Shown.{is_up_at};
+    ghost use Rattle.service.specs.Told.{UnlessRefused};
+    ghost use Rattle.service.specs.Ticks.{waited_on, SetsPatience, HaveWaited, NodeTicks, HavePaused, HasSameAsked};
 
     /// Whether a node is down.
     pub(crate) fn is_any_down(&self) -> bool {
@@ -64,12 +78,15 @@ impl Service {
         false
     }
 
-    /// Opens a node again if it is down and its pause has gone by.
-    fn tick_node(&mut self, alloc: Global, at: usize)
+    /// Opens the node at this place again if it is down and its pause has gone by.
+    fn tick_node(&mut self, alloc: Global, at: usize, replica: Replica)
         ensures connections { self.new.connections ≡ self.old.connections }
         ensures size { size_of self.new.replicas.ensemble.nodes ≡ size_of self.old.replicas.ensemble.nodes }
+        ensures asks { HasSameAsked self.old self.new }
+        ensures waiting { self.new.waiting ≡ self.old.waiting }
+        ensures paused { (due : Bool) × NodeTicks at (is_up_at self.old.replicas.ensemble.nodes replica) self.old.replicas.pauses self.new.replicas.pauses due × (due ≡ true → UnlessRefused self.old.replicas.refused self.new.replicas.refused (is_up_at self.new.replicas.ensemble.nodes replica ≡ true)) }
+        ensures counted { self.old.replicas.refused ≤ self.new.replicas.refused }
     {
-        let replica = self.nodes.replica(at);
         let is_up = self.ensemble.is_up(replica);
         note_node(&mut self.counting.figures, replica, is_up);
         if self.nodes.tick(at, is_up) {
@@ -78,10 +95,29 @@ impl Service {
         }
     }
 
-    /// Tells the next verifier that the leader is suspected. They take turns, from the second one on.
+    /// Opens each node again that is down and whose pause has gone by.
+    fn tick_nodes(&mut self, alloc: Global)
+        ensures connections { self.new.connections ≡ self.old.connections }
+        ensures size { size_of self.new.replicas.ensemble.nodes ≡ size_of self.old.replicas.ensemble.nodes }
+        ensures asks { HasSameAsked self.old self.new }
+        ensures waiting { self.new.waiting ≡ self.old.waiting }
+        ensures paused { HavePaused self.old.replicas.pauses self.new.replicas.pauses }
+        ensures counted { self.old.replicas.refused ≤ self.new.replicas.refused }
+    {
+        for at in 0..self.nodes.count() {
+            let replica = self.nodes.replica(at);
+            self.tick_node(alloc, at, replica);
+        }
+    }
+
+    /// TellsMore the next verifier that the leader is suspected. They take turns, from the second one on.
     fn suspect(&mut self, alloc: Global)
         ensures connections { self.new.connections ≡ self.old.connections }
         ensures size { size_of self.new.replicas.ensemble.nodes ≡ size_of self.old.replicas.ensemble.nodes }
+        ensures asks { HasSameAsked self.old self.new }
+        ensures waiting { self.new.waiting ≡ self.old.waiting }
+        ensures paused { self.new.replicas.pauses ≡ self.old.replicas.pauses }
+        ensures counted { self.old.replicas.refused ≤ self.new.replicas.refused }
     {
         self.suspicions = self.suspicions.wrapping_add(1);
         let members = u64::from(2 * self.u + 1);
@@ -90,22 +126,32 @@ impl Service {
     }
 
     /// What is due of the proxy at this place: whether the leader is suspected.
-    fn tick_proxy(&mut self, alloc: Global, at: usize, seen: Seen) -> bool
+    fn tick_proxy(&mut self, alloc: Global, at: usize, u: u8, seen: Seen) -> bool
+        requires { u < 4 }
         ensures connections { self.new.connections ≡ self.old.connections }
         ensures size { size_of self.new.replicas.ensemble.nodes ≡ size_of self.old.replicas.ensemble.nodes }
+        ensures asks { HasSameAsked self.old self.new }
+        ensures waits { SetsPatience (waited_on u seen) at self.old.waiting self.new.waiting }
+        ensures paused { self.new.replicas.pauses ≡ self.old.replicas.pauses }
+        ensures counted { self.old.replicas.refused ≤ self.new.replicas.refused }
     {
-        tick_at(alloc, &mut self.pool, &mut self.ensemble, at, self.u, seen)
+        tick_at(alloc, &mut self.pool, &mut self.ensemble, at, u, seen)
     }
 
     /// What is due of all proxies: whether the leader is suspected.
     fn tick_proxies(&mut self, alloc: Global) -> bool
         ensures connections { self.new.connections ≡ self.old.connections }
         ensures size { size_of self.new.replicas.ensemble.nodes ≡ size_of self.old.replicas.ensemble.nodes }
+        ensures asks { HasSameAsked self.old self.new }
+        ensures waited { HaveWaited self.old.waiting self.new.waiting }
+        ensures paused { self.new.replicas.pauses ≡ self.old.replicas.pauses }
+        ensures counted { self.old.replicas.refused ≤ self.new.replicas.refused }
     {
+        let u = self.u;
         let seen = self.ensemble.seen();
         let mut is_suspected = false;
         for at in 0..self.pool.count() {
-            if self.tick_proxy(alloc, at, seen) {
+            if self.tick_proxy(alloc, at, u, seen) {
                 is_suspected = true;
             }
         }
@@ -114,16 +160,18 @@ impl Service {
 
     /// A tick, ten of which come in a second while something waits (`is_waiting`), also while requests come: a
     /// proxy that waits for long asks again, and then suspects the leader; a node that stopped is opened
-    /// again. `work` is to come after it.
+    /// again. No new command is asked. `work` is to come after it.
     pub fn tick(&mut self, alloc: Global)
         ensures connections { self.new.connections ≡ self.old.connections }
         ensures size { size_of self.new.replicas.ensemble.nodes ≡ size_of self.old.replicas.ensemble.nodes }
+        ensures asks { HasSameAsked self.old self.new }
+        ensures waited { HaveWaited self.old.waiting self.new.waiting }
+        ensures paused { HavePaused self.old.replicas.pauses self.new.replicas.pauses }
+        ensures counted { self.old.replicas.refused ≤ self.new.replicas.refused }
     {
         if self.tick_proxies(alloc) {
             self.suspect(alloc);
         }
-        for at in 0..self.nodes.count() {
-            self.tick_node(alloc, at);
-        }
+        self.tick_nodes(alloc);
     }
 }

@@ -1,13 +1,14 @@
 //! What was asked is carried out.
 
-ghost use Rattle.std.specs.Prelude.{List, Option, true, ◌≡◌, ◌<◌, ◌≤◌, ◌-◌, ◌^◌, IfSome};
+ghost use Rattle.std.specs.Prelude.{List, Option, true, ◌≡◌, ◌<◌, ◌≤◌, ◌-◌, ◌^◌, IfSome, IfNone};
 ghost use Rattle.std.specs.Vec.{vec_len, vec_capacity};
 ghost use Rattle.std.specs.VecDeque.{deque_len, deque_capacity};
 ghost use Rattle.ensemble.specs.Nodes.{IsFree};
 ghost use Rattle.service.specs.declared.assignment.Outstanding.{Outstanding as OutstandingView};
 ghost use Rattle.service.specs.Service.{AnswersTo, assigned};
 ghost use Rattle.service.specs.Steps.{Settles};
-ghost use Rattle.service.specs.Owed.{IsFreeIn, RepliesAt, EndsWaitAt, Remembers};
+ghost use Rattle.service.specs.Owed.{AllWait, IsFreeIn, RepliesAt, EndsWaitAt, Remembers};
+ghost use Rattle.service.specs.Told.{MayTell, TellsIn, UnlessRefused};
 
 use crate::asking::{Asking, ask};
 use crate::assignment::{Assignment, Outstanding};
@@ -56,17 +57,20 @@ fn has_room_for_one(said: &mut Vec<Said>, line: &mut VecDeque<Waiting>) -> bool
     said.reserve(1).is_ok() && line.reserve(1).is_ok()
 }
 
-/// The number of a proxy that waits for nothing, if there is one.
-fn free_proxy(pool: &Pool, ensemble: &Ensemble) -> Option<u16>
+/// The number of a proxy that waits for nothing, if there is one. That one has nothing outstanding. If it had, then
+/// nothing could be asked of it, and that would be counted.
+fn free_proxy(pool: &Pool, ensemble: &Ensemble, refused: &mut u64) -> Option<u16>
     ensures pool { IfSome result (λ proxy. IsFreeIn pool.now proxy) }
     ensures free { IfSome result (λ proxy. IsFree ensemble.now.nodes.proxies proxy) }
+    ensures none { IfNone result (UnlessRefused refused.old refused.new (AllWait pool.now)) }
+    ensures counted { refused.old ≤ refused.new }
 {
     let proxy = pool.free()?;
     if ensemble.is_free(proxy) {
-        Some(proxy)
-    } else {
-        None
+        return Some(proxy);
     }
+    refuse(refused);
+    None
 }
 
 /// The connection that asked takes the reply, if it is here. There is room for what it is given.
@@ -80,6 +84,7 @@ fn give_reply(
     requires { vec_len said.old < vec_capacity said.old }
     ensures answers { AnswersTo outstanding.now.assignment reply connections.old connections.new said.old.items said.new.items }
     ensures table { RepliesAt (record { key = outstanding.now.key; number = outstanding.now.assignment.connection }) outstanding.now.assignment.turn connections.old.table connections.new.table }
+    ensures told { MayTell (record { key = outstanding.now.key; number = outstanding.now.assignment.connection }) connections.old.table connections.new.table said.old.items said.new.items }
 {
     let at = outstanding.place();
     if let Some(given) = connections.answer(alloc, at, outstanding.assignment.turn, reply) {
@@ -101,6 +106,7 @@ fn answer_to(
 )
     ensures answers { AnswersTo outstanding.now.assignment reply connections.old connections.new said.old.items said.new.items }
     ensures counted { refused.old ≤ refused.new }
+    ensures tells { TellsIn connections.old.table refused.old said.old.items connections.new.table refused.new said.new.items }
     ensures remembers { (pool pool_now : List (Option OutstandingView)) → EndsWaitAt pool outstanding.now pool_now → Remembers line.old.items pool connections.old.table → Remembers line.new.items pool_now connections.new.table }
 {
     let at = outstanding.place();
@@ -145,15 +151,20 @@ fn settle(
 }
 
 impl Service {
-    ghost use Rattle.std.specs.Prelude.{◌≡◌, ◌≤◌, ◌++◌, ◌∷◌, [], map, Contains};
+    ghost use Rattle.std.specs.Prelude.{◌≡◌, ◌<◌, ◌≤◌, ◌++◌, ◌∷◌, [], true, false, length, map, Contains};
     ghost use Rattle.connections.specs.History.{moment_as};
     ghost use Rattle.ensemble.specs.Nodes.{size_of};
     ghost use Rattle.ensemble.specs.Ensemble.{answer_entry, order_entry};
     ghost use Rattle.service.specs.Service.{Gives, AreLogged, RestsUnlessRefused, IsPassedNow, given_entry, passed_entry};
+    ghost use Rattle.service.specs.Told.{AreTold, LeaversAreTold, TellsMore, UnlessRefused, AsksAll, HasMoreAnswers, AsksWhatWaits};
 
-    /// The first of the line asks its command, if a proxy is free: whether one was.
+    /// The first of the line asks its command, if a proxy is free: whether there were both.
     fn assign(&mut self, alloc: Global, said: &mut Vec<Said>) -> bool
         ensures given { Gives self.old.connections said.old.items self.new.connections said.new.items }
+        ensures tells { TellsMore self.old said.old.items self.new said.new.items }
+        ensures stops { result ≡ false → UnlessRefused self.old.replicas.refused self.new.replicas.refused (AsksAll self.new) }
+        ensures goes_on { result ≡ true → length self.new.line < length self.old.line }
+        ensures answered { self.new.answered ≡ self.old.answered }
         ensures heard { self.new.connections.heard ≡ self.old.connections.heard }
         ensures counted { self.old.replicas.refused ≤ self.new.replicas.refused }
         ensures size { size_of self.new.replicas.ensemble.nodes ≡ size_of self.old.replicas.ensemble.nodes }
@@ -162,7 +173,7 @@ impl Service {
             refuse(&mut self.refused);
             return false;
         }
-        let Some(proxy) = free_proxy(&self.pool, &self.ensemble) else {
+        let Some(proxy) = free_proxy(&self.pool, &self.ensemble, &mut self.refused) else {
             return false;
         };
         let Some(waiting) = self.line.pop_front() else {
@@ -194,15 +205,14 @@ impl Service {
     /// All that wait ask, as far as proxies are free.
     fn assign_all(&mut self, alloc: Global, said: &mut Vec<Said>)
         ensures given { Gives self.old.connections said.old.items self.new.connections said.new.items }
+        ensures tells { TellsMore self.old said.old.items self.new said.new.items }
+        ensures asks { UnlessRefused self.old.replicas.refused self.new.replicas.refused (AsksAll self.new) }
+        ensures answered { self.new.answered ≡ self.old.answered }
         ensures heard { self.new.connections.heard ≡ self.old.connections.heard }
         ensures counted { self.old.replicas.refused ≤ self.new.replicas.refused }
         ensures size { size_of self.new.replicas.ensemble.nodes ≡ size_of self.old.replicas.ensemble.nodes }
     {
-        for _ in 0..self.pool.count() {
-            if !self.assign(alloc, said) {
-                return;
-            }
-        }
+        while self.assign(alloc, said) {}
     }
 
     /// The reply goes to the connection that asked, if it is here.
@@ -210,6 +220,7 @@ impl Service {
         requires logged { Contains self.old.answered (answer_entry answer) }
         requires ordered { Contains self.old.order (order_entry answer) }
         ensures given { Gives self.old.connections said.old.items self.new.connections said.new.items }
+        ensures tells { TellsMore self.old said.old.items self.new said.new.items }
         ensures heard { self.new.connections.heard ≡ self.old.connections.heard }
         ensures answered { self.new.answered ≡ self.old.answered }
         ensures order { self.new.order ≡ self.old.order }
@@ -243,6 +254,9 @@ impl Service {
     fn answer_all(&mut self, alloc: Global, mut answers: Vec<Answer>, said: &mut Vec<Said>)
         requires { AreLogged answers.items self.old.answered self.old.order }
         ensures given { Gives self.old.connections said.old.items self.new.connections said.new.items }
+        ensures tells { TellsMore self.old said.old.items self.new said.new.items }
+        ensures none { answers.items ≡ [] → (self.new.line ≡ self.old.line) × (self.new.waiting ≡ self.old.waiting) }
+        ensures answered { self.new.answered ≡ self.old.answered }
         ensures heard { self.new.connections.heard ≡ self.old.connections.heard }
         ensures counted { self.old.replicas.refused ≤ self.new.replicas.refused }
         ensures ensemble { self.new.replicas.ensemble ≡ self.old.replicas.ensemble }
@@ -262,7 +276,9 @@ impl Service {
     ) -> Vec<Answer>
         requires { IsPassedNow self.old.connections.passed moment }
         ensures logged { AreLogged result.items self.new.answered self.new.order }
+        ensures answered { self.new.answered ≡ self.old.answered ++ map answer_entry result.items }
         ensures connections { self.new.connections ≡ self.old.connections }
+        ensures same { (self.new.line ≡ self.old.line) × (self.new.waiting ≡ self.old.waiting) }
         ensures counted { self.old.replicas.refused ≤ self.new.replicas.refused }
         ensures size { size_of self.new.replicas.ensemble.nodes ≡ size_of self.old.replicas.ensemble.nodes }
         ensures rest { RestsUnlessRefused self.old.replicas self.new.replicas }
@@ -290,6 +306,9 @@ impl Service {
     ) -> bool
         requires { IsPassedNow self.old.connections.passed moment }
         ensures given { Gives self.old.connections said.old.items self.new.connections said.new.items }
+        ensures tells { TellsMore self.old said.old.items self.new said.new.items }
+        ensures stops { result ≡ false → UnlessRefused self.old.replicas.refused self.new.replicas.refused (AsksAll self.new) }
+        ensures goes_on { HasMoreAnswers 0 self.old self.new × (result ≡ true → HasMoreAnswers 1 self.old self.new) }
         ensures heard { self.new.connections.heard ≡ self.old.connections.heard }
         ensures counted { self.old.replicas.refused ≤ self.new.replicas.refused }
         ensures size { size_of self.new.replicas.ensemble.nodes ≡ size_of self.old.replicas.ensemble.nodes }
@@ -306,11 +325,38 @@ impl Service {
         goes_on && !self.line.is_empty()
     }
 
+    /// Rounds, as long as replies come and commands wait, but not too many.
+    fn rounds<R: Threads + Wait + Sync, C: Clock>(
+        &mut self,
+        rt: &R,
+        clock: &C,
+        alloc: Global,
+        moment: u32,
+        said: &mut Vec<Said>,
+    )
+        requires { IsPassedNow self.old.connections.passed moment }
+        ensures given { Gives self.old.connections said.old.items self.new.connections said.new.items }
+        ensures tells { TellsMore self.old said.old.items self.new said.new.items }
+        ensures asks { UnlessRefused self.old.replicas.refused self.new.replicas.refused (AsksWhatWaits self.old self.new) }
+        ensures heard { self.new.connections.heard ≡ self.old.connections.heard }
+        ensures counted { self.old.replicas.refused ≤ self.new.replicas.refused }
+        ensures size { size_of self.new.replicas.ensemble.nodes ≡ size_of self.old.replicas.ensemble.nodes }
+        ensures rest { RestsUnlessRefused self.old.replicas self.new.replicas }
+    {
+        for _ in 0..MOST_ROUNDS {
+            if !self.round(rt, clock, alloc, moment, said) {
+                return;
+            }
+        }
+    }
+
     /// From now on it is this moment, in seconds.
     fn note(&mut self, alloc: Global, moment: u32)
         ensures passed { self.new.connections.passed ≡ self.old.connections.passed ++ moment_as moment ∷ [] }
         ensures heard { self.new.connections.heard ≡ self.old.connections.heard }
         ensures given { self.new.connections.given ≡ self.old.connections.given }
+        ensures table { self.new.connections.table ≡ self.old.connections.table }
+        ensures answered { self.new.answered ≡ self.old.answered }
         ensures replicas { self.new.replicas ≡ self.old.replicas }
     {
         self.connections.note(alloc, moment);
@@ -319,8 +365,12 @@ impl Service {
 
     /// Asks what waits, carries it out, and gives what was answered, at this moment in seconds. A reply may be
     /// followed by the next command of its connection, which is asked in the same call, up to 4 of them; `is_ready`
-    /// tells whether more could be asked at once. If memory is wanted a connection is closed, or what waits waits on, and
-    /// that is counted (`refused`). If nothing was counted the replicas are at rest then: they can do nothing more at once.
+    /// tells whether more could be asked at once. A connection stays at its key unless it is told to close, and what it
+    /// is told last says whether a command of it is outstanding.
+    ///
+    /// If memory is wanted a connection is closed, or what waits waits on, and that is counted (`refused`). If nothing
+    /// was counted the replicas are at rest then: they can do nothing more at once. And no command waits while a proxy
+    /// is free, unless 4 replies or more came back in the call.
     pub fn work<R: Threads + Wait + Sync, C: Clock>(
         &mut self,
         rt: &R,
@@ -330,6 +380,9 @@ impl Service {
     ) -> Vec<Said>
         ensures given { self.new.connections.given ≡ self.old.connections.given ++ map given_entry result.items }
         ensures passed { self.new.connections.passed ≡ (self.old.connections.passed ++ moment_as moment ∷ []) ++ map passed_entry result.items }
+        ensures told { AreTold self.old.connections.table self.new.connections.table result.items }
+        ensures leavers { UnlessRefused self.old.replicas.refused self.new.replicas.refused (LeaversAreTold self.old.connections.table self.new.connections.table result.items) }
+        ensures asks { UnlessRefused self.old.replicas.refused self.new.replicas.refused (AsksWhatWaits self.old self.new) }
         ensures heard { self.new.connections.heard ≡ self.old.connections.heard }
         ensures counted { self.old.replicas.refused ≤ self.new.replicas.refused }
         ensures size { size_of self.new.replicas.ensemble.nodes ≡ size_of self.old.replicas.ensemble.nodes }
@@ -337,11 +390,7 @@ impl Service {
     {
         let mut said = Vec::new(alloc);
         self.note(alloc, moment);
-        for _ in 0..MOST_ROUNDS {
-            if !self.round(rt, clock, alloc, moment, &mut said) {
-                break;
-            }
-        }
+        self.rounds(rt, clock, alloc, moment, &mut said);
         self.count_times();
         said
     }

@@ -1,18 +1,23 @@
-//! Drives a service at random, without sockets, and checks what its connections are given. All connections add one
-//! to a counter or read it, so a history is linearizable just if no number is given twice to those that add, each
-//! reply is at least what was given before its command was heard (more, if it adds), and none is above the count of
-//! the commands that were heard.
+//! Drives a service at random, without sockets, and checks what its connections are given. Each connection has keys of its
+//! own, on which it uses every command. What it is given has to be the very bytes that a plain model of one server gives.
+//! A `get` of a key of another connection has to show what the key has at some moment between question and answer. All
+//! connections add one to one counter, or read it.
 //!
 //! A line `U SEED CALLS` of standard input is a play: so many calls of a service with `2U + 1` executors, made at
 //! random from the seed. Connections come, ask in pieces of any length, are slow to write, and leave; ticks come, and
-//! the replicas work. In the end each connection that is here has to be answered. For each play it prints what came
-//! of it. The status is 1 if a history is not linearizable, and 2 if a line cannot be played.
+//! the replicas work. Time passes when nothing is outstanding. In the end each connection that is here has to be
+//! answered. For each play it prints what came of it. The status is 1 if a reply is wrong, and 2 if a line cannot be
+//! played.
 #![tactic(auto)]
 
+mod command;
+mod counter;
 mod judge;
+mod model;
 mod peer;
 mod plan;
 mod play;
+mod wanted;
 
 use crate::plan::{Plan, plan_of};
 use crate::play::play;

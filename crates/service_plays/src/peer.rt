@@ -1,52 +1,24 @@
 //! A connection as its client sees it.
 
-use crate::judge::{Judge, Pending};
+use crate::command::{Command, KEYS};
+use crate::judge::{Ask, Judge, Pending};
 use random::Words;
 use std::alloc::{AllocError, Global};
 use std::collections::VecDeque;
 
-const ADD: &[u8] = b"incr n 1\r\n";
-
-const ADD_QUIETLY: &[u8] = b"incr n 1 noreply\r\n";
-
-const READ: &[u8] = b"get n\r\n";
-
 /// The most commands that a piece makes whole.
 const MOST_COMMANDS: u32 = 4;
-
-/// What a client may ask.
-#[derive(Clone, Copy, PartialEq, Eq)]
-enum Ask {
-    Add,
-    AddQuietly,
-    Read,
-}
-
-impl Ask {
-    fn any(words: &mut Words) -> Ask {
-        match words.below(8) {
-            0 => Ask::AddQuietly,
-            1 | 2 => Ask::Read,
-            _ => Ask::Add,
-        }
-    }
-
-    fn text(self) -> &'static [u8] {
-        match self {
-            Ask::Add => ADD,
-            Ask::AddQuietly => ADD_QUIETLY,
-            Ask::Read => READ,
-        }
-    }
-}
 
 /// A client of the service.
 #[derive(Drop)]
 pub struct Peer {
+    /// Its place among the clients.
+    client: usize,
     /// The number of its connection, or 0 if it has none.
     pub number: u64,
-    /// What it asks and has not sent whole, and how much of that is sent.
-    begun: Option<(Ask, usize)>,
+    /// What it asks and has not sent whole, and the bytes that are left of that.
+    begun: Option<Ask>,
+    rest: Vec<u8>,
     /// What it waits for, in the order in which it asked.
     pending: VecDeque<Pending>,
     /// How much it was given that it has not told to be written.
@@ -55,12 +27,46 @@ pub struct Peer {
     pub waits: bool,
 }
 
+/// Puts the bytes of what a client's connection asks.
+fn put_ask(
+    alloc: Global,
+    judge: &Judge,
+    client: usize,
+    ask: Ask,
+    text: &mut Vec<u8>,
+) -> Result<(), AllocError> {
+    match ask {
+        Ask::Count { is_quiet: false } => text.extend_from_slice(b"incr n 1\r\n"),
+        Ask::Count { is_quiet: true } => text.extend_from_slice(b"incr n 1 noreply\r\n"),
+        Ask::ReadCount => text.extend_from_slice(b"get n\r\n"),
+        Ask::Own(command) => command.put(alloc, judge.number(client), text),
+        Ask::OwnKeys => put_get_all(alloc, judge.number(client), text),
+        Ask::Other { owner, key } => {
+            let number = judge.number(owner);
+            let line = format!(in alloc; "get {number}.{key}\r\n")?;
+            text.extend_from_slice(line.as_bytes())
+        }
+    }
+}
+
+/// Puts a `get` of all keys of a connection.
+fn put_get_all(alloc: Global, number: u64, text: &mut Vec<u8>) -> Result<(), AllocError> {
+    text.extend_from_slice(b"get")?;
+    for key in 0..KEYS {
+        let word = format!(in alloc; " {number}.{key}")?;
+        text.extend_from_slice(word.as_bytes())?;
+    }
+    text.extend_from_slice(b"\r\n")
+}
+
 impl Peer {
     /// It has no connection.
-    pub fn new(alloc: Global) -> Peer {
+    pub fn new(alloc: Global, client: usize) -> Peer {
         Peer {
+            client,
             number: 0,
             begun: None,
+            rest: Vec::new(alloc),
             pending: VecDeque::new(alloc),
             unwritten: 0,
             waits: false,
@@ -77,6 +83,7 @@ impl Peer {
     pub fn leave(&mut self) {
         self.number = 0;
         self.begun = None;
+        self.rest.clear();
         self.pending.clear();
         self.unwritten = 0;
         self.waits = false;
@@ -87,83 +94,130 @@ impl Peer {
         self.number > 0 && !self.pending.is_empty()
     }
 
-    /// A command was sent whole.
-    fn send(&mut self, judge: &mut Judge, ask: Ask) {
-        let command = judge.hear(ask != Ask::Read);
-        if ask != Ask::AddQuietly {
-            let _ = self.pending.push_back(command);
+    /// Whether it asks for a key of this client, and has no answer.
+    pub fn asks_for(&self, client: usize) -> bool {
+        let is_begun = matches!(self.begun, Some(Ask::Other { owner, .. }) if owner == client);
+        is_begun
+            || self.pending.iter().any(
+                |it| matches!(it, Pending::Other { owner, .. } if *owner == client),
+            )
+    }
+
+    /// A command of its own keys, at random.
+    fn next_own(&self, judge: &mut Judge, words: &mut Words) -> Command {
+        let command = Command::any(words);
+        let is_shown = !words.one_in(4);
+        match judge.model(self.client) {
+            Some(model) => model.fitted(command, is_shown),
+            None => command,
         }
     }
 
-    /// The rest of the command that is sent in part.
-    fn finish(&mut self, judge: &mut Judge, piece: &mut Vec<u8>) -> Result<(), AllocError> {
-        if let Some((ask, sent)) = self.begun.take() {
-            piece.extend_from_slice(ask.text().get(sent..).unwrap_or(b"".as_slice()))?;
-            self.send(judge, ask);
+    /// What it asks next, at random.
+    fn next_ask(&self, judge: &mut Judge, words: &mut Words, clients: u32) -> Ask {
+        let owner = words.below(clients) as usize;
+        match words.below(10) {
+            0 | 1 => Ask::Count {
+                is_quiet: words.one_in(5),
+            },
+            2 => Ask::ReadCount,
+            3 => Ask::OwnKeys,
+            4 | 5 if judge.number(owner) > 0 => Ask::Other {
+                owner,
+                key: words.below(KEYS as u32) as usize,
+            },
+            _ => Ask::Own(self.next_own(judge, words)),
+        }
+    }
+
+    /// A command was sent whole.
+    fn send(&mut self, alloc: Global, judge: &mut Judge, ask: Ask) -> Result<(), AllocError> {
+        if let Some(pending) = judge.hear(alloc, self.client, ask)? {
+            self.pending.push_back(pending)?;
         }
         Ok(())
     }
 
-    /// The next piece that it sends: what is left of a command, some whole ones, and a part of one more. It is to be
+    /// The rest of the command that is sent in part.
+    fn finish(
+        &mut self,
+        alloc: Global,
+        judge: &mut Judge,
+        piece: &mut Vec<u8>,
+    ) -> Result<(), AllocError> {
+        if let Some(ask) = self.begun.take() {
+            piece.extend_from_slice(&self.rest)?;
+            self.rest.clear();
+            self.send(alloc, judge, ask)?;
+        }
+        Ok(())
+    }
+
+    /// Some of the bytes of a command, of which the others are sent later.
+    fn begin(
+        &mut self,
+        alloc: Global,
+        judge: &Judge,
+        ask: Ask,
+        words: &mut Words,
+        piece: &mut Vec<u8>,
+    ) -> Result<(), AllocError> {
+        put_ask(alloc, judge, self.client, ask, &mut self.rest)?;
+        let size = words.below(self.rest.len().min(60) as u32) as usize;
+        if let Some(sent) = self.rest.get(..size) {
+            piece.extend_from_slice(sent)?;
+        }
+        self.rest.drain(..size.min(self.rest.len()));
+        self.begun = Some(ask);
+        Ok(())
+    }
+
+    /// Puts the next piece that it sends: what is left of a command, some whole ones, and a part of one more. It is to be
     /// heard at once.
     ///
     /// NoMemory: an allocation failed, and the connection is to be closed.
-    pub fn next_piece(
+    pub fn put_piece(
         &mut self,
         alloc: Global,
         judge: &mut Judge,
         words: &mut Words,
-    ) -> Result<Vec<u8>, AllocError> {
-        self.pending.reserve(8)?;
-        let mut piece = Vec::with_capacity(alloc, 128)?;
-        self.finish(judge, &mut piece)?;
+        clients: u32,
+        piece: &mut Vec<u8>,
+    ) -> Result<(), AllocError> {
+        self.finish(alloc, judge, piece)?;
         for _ in 0..words.below(MOST_COMMANDS) {
-            let ask = Ask::any(words);
-            piece.extend_from_slice(ask.text())?;
-            self.send(judge, ask);
+            let ask = self.next_ask(judge, words, clients);
+            put_ask(alloc, judge, self.client, ask, piece)?;
+            self.send(alloc, judge, ask)?;
         }
         if words.below(2) == 0 {
-            let ask = Ask::any(words);
-            let sent = words.below(7) as usize;
-            piece.extend_from_slice(ask.text().get(..sent).unwrap_or(b"".as_slice()))?;
-            self.begun = Some((ask, sent));
+            let ask = self.next_ask(judge, words, clients);
+            self.begin(alloc, judge, ask, words, piece)?;
         }
-        Ok(piece)
+        Ok(())
     }
 
-    /// It is given a number.
-    fn take_number(&mut self, judge: &mut Judge, number: u64) {
-        match self.pending.pop_front() {
-            Some(command) => judge.give(command, number),
-            None => judge.refuse(),
-        }
+    /// It is given the reply of its first command: what is behind it.
+    fn take_reply<'b>(&mut self, judge: &mut Judge, bytes: &'b [u8]) -> Option<&'b [u8]> {
+        let pending = self.pending.pop_front()?;
+        judge.give(self.client, &pending, bytes)
     }
 
-    /// It is given these bytes. Each line that begins with a digit is the number of a reply: that of an `incr`, or the
-    /// block of a `get`.
+    /// It is given these bytes: whole replies, each of which has to be right.
     pub fn take(&mut self, judge: &mut Judge, bytes: &[u8]) {
-        let mut number = None;
-        let mut is_first = true;
-        for byte in bytes {
-            let digit = byte.wrapping_sub(b'0');
-            if *byte == b'\n' {
-                if let Some(number) = number {
-                    self.take_number(judge, number);
+        self.unwritten = self.unwritten.saturating_add(bytes.len());
+        let mut rest = bytes;
+        for _ in 0..bytes.len() {
+            if rest.is_empty() {
+                return;
+            }
+            match self.take_reply(judge, rest) {
+                Some(behind) => rest = behind,
+                None => {
+                    judge.refuse();
+                    return;
                 }
-                number = None;
-                is_first = true;
-            } else {
-                if digit < 10 && (is_first || number.is_some()) {
-                    number = Some(
-                        number
-                            .unwrap_or(0u64)
-                            .saturating_mul(10)
-                            .saturating_add(u64::from(digit)),
-                    );
-                }
-                is_first = false;
             }
         }
-        self.unwritten = self.unwritten.saturating_add(bytes.len());
     }
 }

@@ -15,7 +15,7 @@ const PEERS: usize = 8;
 
 const PROXIES: u16 = 5;
 
-/// The most ticks until all is answered in the end.
+/// The most ticks until all is answered.
 const MOST_TICKS: usize = 20_000;
 
 /// What came of a play.
@@ -39,14 +39,13 @@ struct Stage {
     words: Words,
     /// The number of the last connection that came.
     last: u64,
-    moment: u32,
 }
 
 /// The clients, none of whom has a connection.
 fn peers(alloc: Global) -> Option<Vec<Peer>> {
     let mut peers = Vec::with_capacity(alloc, PEERS).ok()?;
-    for _ in 0..PEERS {
-        peers.push(Peer::new(alloc)).ok()?;
+    for client in 0..PEERS {
+        peers.push(Peer::new(alloc, client)).ok()?;
     }
     Some(peers)
 }
@@ -70,9 +69,33 @@ fn take(peers: &mut Vec<Peer>, judge: &mut Judge, said: &Said) {
 }
 
 /// The client at this key has a new connection, if there is memory for it.
-fn come(alloc: Global, service: &mut Service, peer: &mut Peer, key: usize, number: u64) {
-    if service.come(alloc, key, number).is_ok() {
+fn come(
+    alloc: Global,
+    service: &mut Service,
+    judge: &mut Judge,
+    peer: &mut Peer,
+    key: usize,
+    number: u64,
+) {
+    let has_keys = judge
+        .model(key)
+        .is_some_and(|model| model.come(alloc, number).is_ok());
+    if has_keys && service.come(alloc, key, number).is_ok() {
         peer.come(number);
+    }
+}
+
+/// The next piece of the client at this key. `None`: there is no memory for it.
+fn next_piece(
+    alloc: Global,
+    judge: &mut Judge,
+    words: &mut Words,
+    peer: &mut Peer,
+) -> Option<Vec<u8>> {
+    let mut piece = Vec::new(alloc);
+    match peer.put_piece(alloc, judge, words, PEERS as u32, &mut piece) {
+        Ok(()) => Some(piece),
+        Err(_) => None,
     }
 }
 
@@ -86,7 +109,7 @@ fn ask(
     key: usize,
 ) -> Option<Said> {
     let number = peer.number;
-    let Ok(piece) = peer.next_piece(alloc, judge, words) else {
+    let Some(piece) = next_piece(alloc, judge, words, peer) else {
         service.leave(key, number);
         peer.leave();
         return None;
@@ -114,38 +137,60 @@ impl Stage {
     fn open(alloc: Global, plan: Plan) -> Option<Stage> {
         let config = Config::new(plan.u, PROXIES).ok()?;
         let peers = peers(alloc)?;
+        let judge = Judge::new(alloc, PEERS).ok()?;
         let service = Service::open(alloc, &config).ok()?;
         Some(Stage {
             service,
             peers,
-            judge: Judge::new(alloc),
+            judge,
             words: Words::new(plan.seed),
             last: 0,
-            moment: 1000,
         })
     }
 
     /// The replicas work, and the clients are given what is answered.
     fn work<R: Threads + Wait + Sync + Clock>(&mut self, threads: &R, alloc: Global) {
-        for said in self.service.work(threads, threads, alloc, self.moment) {
+        for said in self
+            .service
+            .work(threads, threads, alloc, self.judge.moment)
+        {
             take(&mut self.peers, &mut self.judge, &said);
         }
     }
 
-    /// The counter begins at 0, set by a connection of its own.
-    fn set_up<R: Threads + Wait + Sync + Clock>(
-        &mut self,
-        threads: &R,
-        alloc: Global,
-    ) -> Option<()> {
-        let text = Vec::from_slice(alloc, b"set n 0 0 1\r\n0\r\n").ok()?;
+    /// A connection of its own sets the counter to 0: whether there is memory for that.
+    fn ask_to_set(&mut self, alloc: Global) -> bool {
         self.last = 1;
-        self.service.come(alloc, PEERS, 1).ok()?;
-        let said = self.service.hear(alloc, PEERS, 1, text).ok()?;
-        drop(said);
-        drop(self.service.work(threads, threads, alloc, self.moment));
-        self.service.leave(PEERS, 1);
-        Some(())
+        match Vec::from_slice(alloc, b"set n 0 0 1\r\n0\r\n") {
+            Ok(text) => {
+                self.service.come(alloc, PEERS, 1).is_ok()
+                    && self.service.hear(alloc, PEERS, 1, text).is_ok()
+            }
+            Err(_) => false,
+        }
+    }
+
+    /// The replicas work: whether the counter is set then.
+    fn is_set<R: Threads + Wait + Sync + Clock>(&mut self, threads: &R, alloc: Global) -> bool {
+        self.service
+            .work(threads, threads, alloc, self.judge.moment)
+            .iter()
+            .any(|said| said.key == PEERS && said.bytes.as_slice() == b"STORED\r\n".as_slice())
+    }
+
+    /// The counter begins at 0. False: there is no memory for that, or it takes too many ticks.
+    fn set_up<R: Threads + Wait + Sync + Clock>(&mut self, threads: &R, alloc: Global) -> bool {
+        if !self.ask_to_set(alloc) {
+            return false;
+        }
+        for _ in 0..MOST_TICKS {
+            if self.is_set(threads, alloc) {
+                self.service.leave(PEERS, 1);
+                return true;
+            }
+            self.service.tick(alloc);
+        }
+        false
     }
 
     /// A client does something: it comes, leaves, asks, or tells that bytes are written.
@@ -157,20 +202,23 @@ impl Stage {
             judge,
             words,
             last,
-            ..
         } = self;
+        let is_asked_for = peers.iter().any(|peer| peer.asks_for(key));
         let Some(peer) = peers.get_mut(key) else {
             return;
         };
         if peer.number == 0 {
-            *last = last.saturating_add(1);
-            come(alloc, service, peer, key, *last);
+            // Nobody waits for what the keys of its last connection have.
+            if !is_asked_for {
+                *last = last.saturating_add(1);
+                come(alloc, service, judge, peer, key, *last);
+            }
         } else if words.one_in(40) {
             service.leave(key, peer.number);
             peer.leave();
         } else if words.one_in(3) {
             write(service, peer, key, words.below(64) as usize);
-        } else if (!peer.waits || words.one_in(8)) && judge.has_room() {
+        } else if (!peer.waits || words.one_in(8)) && judge.counter.has_room() {
             if let Some(said) = ask(alloc, service, judge, words, peer, key) {
                 take(peers, judge, &said);
             }
@@ -182,7 +230,7 @@ impl Stage {
         match self.words.below(16) {
             0 => self.service.tick(alloc),
             1 | 2 | 3 | 4 => self.work(threads, alloc),
-            5 => self.moment = self.moment.saturating_add(1),
+            5 if self.words.one_in(8) => self.pass(threads, alloc),
             _ => self.act(alloc),
         }
     }
@@ -195,7 +243,6 @@ impl Stage {
             judge,
             words,
             last: _,
-            moment: _,
         } = self;
         service.end();
         drop(peers);
@@ -203,9 +250,9 @@ impl Stage {
         drop(words);
     }
 
-    /// Whether a client waits for a reply.
+    /// Whether a command is outstanding, if only one of a connection that has left, or a replica is down.
     fn is_waiting(&self) -> bool {
-        self.peers.iter().any(|peer| peer.is_waiting())
+        self.service.is_waiting() || self.peers.iter().any(|peer| peer.is_waiting())
     }
 
     /// All that clients were given is written.
@@ -218,8 +265,8 @@ impl Stage {
         }
     }
 
-    /// All is answered, unless that takes too many ticks.
-    fn finish<R: Threads + Wait + Sync + Clock>(&mut self, threads: &R, alloc: Global) {
+    /// All is answered, and each replica is up, unless that takes too many ticks.
+    fn settle<R: Threads + Wait + Sync + Clock>(&mut self, threads: &R, alloc: Global) {
         for _ in 0..MOST_TICKS {
             if !self.is_waiting() {
                 return;
@@ -229,6 +276,17 @@ impl Stage {
             self.work(threads, alloc);
         }
         self.judge.refuse();
+    }
+
+    /// Some seconds pass. No command is outstanding then, so that it is known at which moment each is carried out.
+    fn pass<R: Threads + Wait + Sync + Clock>(&mut self, threads: &R, alloc: Global) {
+        self.settle(threads, alloc);
+        let seconds = self.words.below(40);
+        self.judge.moment = self.judge.moment.saturating_add(seconds);
+        for key in 0..PEERS {
+            let is_here = self.peers.get(key).is_some_and(|peer| peer.number > 0);
+            self.judge.pass(alloc, key, is_here);
+        }
     }
 }
 
@@ -259,7 +317,7 @@ fn drive<R: Threads + Wait + Sync + Clock>(
         }
     }
     if wrong.is_none() {
-        stage.finish(threads, alloc);
+        stage.settle(threads, alloc);
         if !stage.judge.is_right {
             wrong = Some(plan.calls);
         }
@@ -279,8 +337,11 @@ pub fn play<R: Threads + Wait + Sync + Clock>(
     plan: Plan,
 ) -> Option<Shown> {
     let mut stage = Stage::open(alloc, plan)?;
-    let is_set = stage.set_up(threads, alloc).is_some();
-    let shown = drive(threads, alloc, &mut stage, plan);
+    let shown = if stage.set_up(threads, alloc) {
+        Some(drive(threads, alloc, &mut stage, plan))
+    } else {
+        None
+    };
     stage.end();
-    if is_set { Some(shown) } else { None }
+    shown
 }

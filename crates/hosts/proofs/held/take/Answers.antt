@@ -6,7 +6,7 @@ use Rattle.std.proofs.lemmas.List.Quantifiers.{position-Some}
 use Rattle.decrees.specs.declared.node.Letter.{Letter}
 use Rattle.exec_lines.specs.declared.body.Body.{Body}
 use Rattle.hosts.specs.Orders.{ordered_turn, is_for, is_not_over}
-use Rattle.hosts.proofs.Places.{position_any, in_others}
+use Rattle.hosts.proofs.Places.{position_any, in_others, find_placed, find_none}
 use Rattle.hosts.proofs.held.take.Goals as goal
 use Rattle.hosts.proofs.held.take.Goals.{After-remove}
 
@@ -22,6 +22,9 @@ returns-clause-turn c =
     let passes = (position-Some p c.args.held.now.items c.in_ok-place.place c.remove.result (at c)).1 in
     ap p c.remove.ensures.value ∙ passes
 
+pub returns-clause-first : goal.returns-clause-first
+returns-clause-first c = sym (find_placed (λ (l : Letter Body). is_for c.args.epoch c.args.number (ordered_turn l.body)) c.args.held.now.items c.in_ok-place.place c.remove.result (at c) (sym c.remove.ensures.value))
+
 pub returns-clause-later : goal.returns-clause-later
 returns-clause-later c = λ l there later.
     let p : Letter Body → Bool = λ x. is_for c.args.epoch c.args.number (ordered_turn x.body) in
@@ -34,3 +37,10 @@ returns-in_err-place-clause-due c =
     let none : position p c.args.held.now.items ≡ None = sym (ap (position p) c.as_slice.ensures.value) ∙ (sym c.place_of.ensures ∙ c.in_err-place.was) in
     let out : is_some c.from_residual.result ≡ false = search rules in
     out ∙ (sym (ap is_some none) ∙ position_any p c.args.held.now.items)
+
+pub returns-in_err-place-clause-first : goal.returns-in_err-place-clause-first
+returns-in_err-place-clause-first c =
+    let p : Letter Body → Bool = λ x. is_for c.args.epoch c.args.number (ordered_turn x.body) in
+    let none : position p c.args.held.now.items ≡ None = sym (ap (position p) c.as_slice.ensures.value) ∙ (sym c.place_of.ensures ∙ c.in_err-place.was) in
+    let out : c.from_residual.result ≡ None = search rules in
+    out ∙ sym (find_none p c.args.held.now.items none)

@@ -1,10 +1,10 @@
-use Rattle.std.proofs.Common.{rules, ◌≡◌, ℕ, false, List, Option, refl, sym, ap, ◌∙◌, subst}
+use Rattle.std.proofs.Common.{rules, ◌≡◌, List, Option, refl, sym, ap, ◌∙◌, subst}
 use Rattle.connections.specs.Connection.{ConnectionView}
 use Rattle.connections.specs.Connections.{ConnectionsView}
 use Rattle.connections.specs.Places.{written_at, is_untaken_in}
 use Rattle.service.specs.declared.note.Waiting.{Waiting}
 use Rattle.service.specs.Owed.{StillRemembers, line_with}
-use Rattle.service.proofs.OwedLemmas.{left_remembers, written_remembers}
+use Rattle.service.proofs.OwedLemmas.{written_remembers}
 use Rattle.service.proofs.hearing.write_at.Goals as goal
 
 abbrev Table : Type 0

@@ -6,6 +6,9 @@ use Rattle.connections.specs.Places.{is_untaken_in, left_at}
 use Rattle.service.specs.declared.note.Waiting.{Waiting}
 use Rattle.service.specs.Owed.{Remembers, line_with}
 use Rattle.service.proofs.OwedLemmas.{replied_remembers, leaves_remembers}
+use Rattle.connections.specs.declared.said.Said.{Said}
+use Rattle.service.specs.Told.{MayTell}
+use Rattle.service.proofs.ToldLemmas.{may_tell, left_tells}
 use Rattle.service.proofs.working.answer_to.Goals as goal
 
 abbrev Table : Type 0
@@ -30,3 +33,18 @@ returns-clause-remembers c = λ pool pool_now ends r.
     ∙ (λ i. line_with (is_untaken_in (c.place-at.ensures.number i) now (c.place-at.ensures.key i)) (c.has_room_for_one.ensures.line i) (record { at = record { key = c.place-at.ensures.key i; number = c.place-at.ensures.number i }; since = c.args.since })) in
     subst (λ (l : List Waiting). Remembers l pool_now now) (sym joins)
     (replied_remembers line pool pool_now o ends c.args.connections.now.table now w refl c.give_reply.ensures.table r)
+
+pub returns-then-not-has_room_for_one-clause-tells : goal.returns-then-not-has_room_for_one-clause-tells
+returns-then-not-has_room_for_one-clause-tells c =
+    let table = c.args.connections.now.table in
+    let left : c.leave.new.self.table ≡ left_at c.place-at.result table = ap (λ (v : ConnectionsView). v.table) c.leave.ensures.table in
+    left_tells c.place-at.result table c.leave.new.self.table c.args.refused.now c.refuse.new.refused c.args.said.now.items c.has_room_for_one.new.said.items left c.has_room_for_one.ensures.said c.refuse.ensures.more
+
+pub returns-clause-tells : goal.returns-clause-tells
+returns-clause-tells c =
+    let o = c.args.outstanding.now in
+    let asker : Place = record { key = o.key; number = o.assignment.connection } in
+    let old = c.args.connections.now.table in
+    let now = c.give_reply.new.connections.table in
+    may_tell asker old now c.args.refused.now c.args.refused.now c.args.said.now.items c.give_reply.new.said.items
+    (subst (λ (said : List Said). MayTell asker old now said c.give_reply.new.said.items) c.has_room_for_one.ensures.said c.give_reply.ensures.told)

@@ -1,6 +1,6 @@
-use Rattle.std.proofs.Common.{ℕ, [], ◌∷◌, ◌++◌, List, inr, sym, ap, ◌∙◌}
-use Rattle.connections.specs.declared.said.Said.{Said}
+use Rattle.std.proofs.Common.{ℕ, [], ◌∷◌, ◌++◌, inr, sym, ap, ◌∙◌, subst}
 use Rattle.connections.specs.History.{given_as}
+use Rattle.connections.specs.Told.{IsToldAt}
 use Rattle.service.proofs.working.give_reply.Goals as goal
 
 pub returns-in-Some-clause-answers : goal.returns-in-Some-clause-answers
@@ -19,3 +19,11 @@ returns-in-Some-clause-answers c =
         c.in-Some.ensures.passed ∙ ap (λ (n : ℕ). v.passed ++ given_as n given.bytes.items ∷ []) number,
       );
     }
+
+pub returns-in-Some-clause-told : goal.returns-in-Some-clause-told
+returns-in-Some-clause-told c =
+    inr (
+      c.in-Some.given,
+      c.push_reserved.ensures.items,
+      subst (λ (z : ℕ × ℕ). IsToldAt (record { key = z.0; number = z.1 }) c.args.connections.now.table c.answer.new.self.table c.in-Some.given) (λ i. (c.place-at.ensures.key i, c.place-at.ensures.number i)) c.in-Some.ensures.told,
+    )

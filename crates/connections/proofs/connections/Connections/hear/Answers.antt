@@ -5,6 +5,8 @@ use Rattle.connections.specs.Connections.{ConnectionsView, IsConnections}
 use Rattle.connections.proofs.AtLemmas.{fed_at_keeps, failed_at_keeps, failed_leaves, closed_leaves, fed_others}
 use Rattle.connections.specs.Owed.{ReadsFurther, BecomesAt}
 use Rattle.connections.proofs.OwedLemmas.{reads_at, failed_table, left_same}
+use Rattle.connections.specs.Told.{IsToldAt, IsFedAt}
+use Rattle.connections.proofs.ToldLemmas.{fed_at, fed_told}
 use Rattle.connections.proofs.KeepLemmas.{relogged}
 use Rattle.connections.proofs.connections.Connections.hear.Goals as goal
 
@@ -68,3 +70,17 @@ returns-clause-reads c =
     let v : ConnectionsView = record { table = s.table.items; next = s.next; heard = s.history.heard; given = s.history.given; passed = s.history.passed; taken = s.taken.items; replied = s.replied.items } in
     let here : is_here c.args.at.number s.table.items c.args.at.key ≡ true = search rules in
     subst (λ (x : ConnectionsView). BecomesAt ReadsFurther c.args.at x.table c.feed.new.table.items) c.self.view_is (reads_at v c.args.at c.args.piece.items c.feed.new.table.items c.in_ok-said.said here c.in_ok-said.ensures)
+
+pub returns-clause-told : goal.returns-clause-told
+returns-clause-told c =
+    let s = c.self.inside in
+    let v : ConnectionsView = record { table = s.table.items; next = s.next; heard = s.history.heard; given = s.history.given; passed = s.history.passed; taken = s.taken.items; replied = s.replied.items } in
+    let here : is_here c.args.at.number s.table.items c.args.at.key ≡ true = search rules in
+    subst (λ (x : ConnectionsView). IsToldAt c.args.at x.table c.feed.new.table.items c.in_ok-said.said) c.self.view_is (fed_told v c.args.at c.args.piece.items c.feed.new.table.items c.in_ok-said.said here c.in_ok-said.ensures)
+
+pub returns-clause-fed : goal.returns-clause-fed
+returns-clause-fed c =
+    let s = c.self.inside in
+    let v : ConnectionsView = record { table = s.table.items; next = s.next; heard = s.history.heard; given = s.history.given; passed = s.history.passed; taken = s.taken.items; replied = s.replied.items } in
+    let here : is_here c.args.at.number s.table.items c.args.at.key ≡ true = search rules in
+    subst (λ (x : ConnectionsView). IsFedAt c.args.at c.args.piece.items x.table c.feed.new.table.items c.in_ok-said.said) c.self.view_is (fed_at v c.args.at c.args.piece.items c.feed.new.table.items c.in_ok-said.said here c.in_ok-said.ensures)

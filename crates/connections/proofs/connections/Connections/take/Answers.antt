@@ -51,7 +51,9 @@ returns-clause-text c =
 
 pub returns-in_err-ready-clause-why : goal.returns-in_err-ready-clause-why
 returns-in_err-ready-clause-why c =
-    if_none _ _ (subst (λ (x : ConnectionsView). HasNoneToTake c.args.at x.table) c.self.view_is (none_to_take c.args.at c.self.inside.table.items c.take.new.table.items c.in_err-ready.ensures))
+    let s = c.self.inside in
+    let v : ConnectionsView = record { table = s.table.items; next = s.next; heard = s.history.heard; given = s.history.given; passed = s.history.passed; taken = s.taken.items; replied = s.replied.items } in
+    if_none _ _ (subst (λ (x : ConnectionsView). HasNoneToTake c.args.at x.table) c.self.view_is (none_to_take v c.args.at c.take.new.table.items c.self.invariant c.in_err-ready.ensures))
 
 pub returns-clause-there : goal.returns-clause-there
 returns-clause-there c =

@@ -1,10 +1,12 @@
 use Rattle.std.proofs.Common.{◌≡◌, ◌<◌, ◌^◌, ◌-◌, ◌++◌, subst}
+use Rattle.ensemble.specs.Calls.{AllCollected}
 use Rattle.ensemble.specs.Served.{letters_again}
 use Rattle.ensemble.specs.Ensemble.{EnsembleView}
 use Rattle.ensemble.proofs.Going.{again_at_goes}
 use Rattle.proxies.proofs.ProxyLemmas.{again_is_asked}
 use Rattle.ensemble.specs.Nodes.{size_of}
 use Rattle.ensemble.proofs.Sizes.{again_size}
+use Rattle.ensemble.proofs.Collecting.{again_waits}
 use Rattle.ensemble.proofs.ensemble.Ensemble.again.Goals as goal
 
 pub invariant_of-self : goal.invariant_of-self
@@ -17,3 +19,6 @@ returns-clause-sent c = subst (λ (e : EnsembleView). c.again.new.refused ≡ e.
 
 pub returns-clause-size : goal.returns-clause-size
 returns-clause-size c = subst (λ (e : EnsembleView). size_of c.again.new.self ≡ size_of e.nodes) c.self.view_is (again_size c.self.inside.nodes c.args.proxy c.again.new.self c.again.ensures.again)
+
+pub returns-clause-waits : goal.returns-clause-waits
+returns-clause-waits c = subst (λ (e : EnsembleView). AllCollected e.nodes → AllCollected c.again.new.self) c.self.view_is (again_waits c.self.inside.nodes c.args.proxy c.again.new.self c.again.ensures.again)

@@ -3,12 +3,14 @@ use Rattle.std.specs.Prelude.{Bool}
 use Rattle.sessions.specs.declared.request.Request.{Request}
 use Rattle.proxies.proofs.ProxyLemmas.{ask_is_fed}
 use Rattle.ensemble.specs.Ensemble.{EnsembleView, IsEnsemble, IsLogged}
+use Rattle.ensemble.specs.Calls.{AllCollected}
 use Rattle.ensemble.specs.Served.{IsUnderWay}
 use Rattle.ensemble.proofs.Served.{asked_under_way}
 use Rattle.ensemble.proofs.Going.{asks_goes, asks_logged}
 use Rattle.ensemble.specs.declared.noted.Noted.{Noted}
 use Rattle.ensemble.specs.Nodes.{size_of}
 use Rattle.ensemble.proofs.Sizes.{ask_size}
+use Rattle.ensemble.proofs.Collecting.{ask_waits}
 use Rattle.ensemble.proofs.ensemble.Ensemble.ask.Goals as goal
 
 pub invariant_of-self-2 : goal.invariant_of-self-2
@@ -33,3 +35,6 @@ pub returns-clause-size : goal.returns-clause-size
 returns-clause-size c =
     subst (λ (e : EnsembleView). size_of c.send.new.self ≡ size_of e.nodes) c.self.view_is
     (ask_size c.self.inside.nodes c.ask.new.self c.send.new.self c.args.proxy c.args.command c.args.quiet c.in_ok-request.request c.in_ok-request.ensures.ok c.in_ok-request.ensures.others c.send.ensures.posted)
+
+pub returns-clause-waits : goal.returns-clause-waits
+returns-clause-waits c = subst (λ (e : EnsembleView). AllCollected e.nodes → AllCollected c.send.new.self) c.self.view_is (ask_waits c.self.inside.nodes c.ask.new.self c.send.new.self c.args.proxy c.in_ok-request.request c.in_ok-request.ensures.others c.send.ensures.posted)

@@ -1,7 +1,9 @@
 use Rattle.ensemble.specs.Ensemble.{EnsembleView}
 use Rattle.ensemble.proofs.Going.{collect_goes}
 use Rattle.std.proofs.Common.{◌≡◌, subst}
-use Rattle.ensemble.specs.Nodes.{size_of}
+use Rattle.hosts.specs.Host.{HostCollects}
+use Rattle.ensemble.specs.Nodes.{HostMoves, size_of}
+use Rattle.ensemble.specs.Calls.{HostPosts, RefusedNothing}
 use Rattle.ensemble.proofs.Sizes.{host_size}
 use Rattle.ensemble.proofs.ensemble.Ensemble.collect.Goals as goal
 
@@ -12,3 +14,9 @@ invariant_of-self c =
 
 pub returns-clause-size : goal.returns-clause-size
 returns-clause-size c = subst (λ (e : EnsembleView). size_of c.collect.new.self ≡ size_of e.nodes) c.self.view_is (host_size _ c.args.id c.self.inside.nodes c.collect.new.self c.collect.ensures.moves)
+
+pub returns-clause-collected : goal.returns-clause-collected
+returns-clause-collected c = subst (λ (e : EnsembleView). HostMoves HostCollects c.args.id e.nodes c.collect.new.self) c.self.view_is c.collect.ensures.moves
+
+pub returns-clause-posted : goal.returns-clause-posted
+returns-clause-posted c = subst (λ (e : EnsembleView). RefusedNothing e.refused c.collect.new.refused → HostPosts HostCollects c.args.id e.nodes c.collect.new.self) c.self.view_is c.collect.ensures.posted

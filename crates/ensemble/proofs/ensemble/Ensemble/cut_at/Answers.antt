@@ -4,6 +4,9 @@ use Rattle.std.proofs.Common.{◌≡◌, sym, subst}
 use Rattle.ensemble.specs.Nodes.{size_of}
 use Rattle.ensemble.specs.Moments.{IsNow}
 use Rattle.ensemble.proofs.Sizes.{host_size}
+use Rattle.ensemble.proofs.Collecting.{host_waits, settles_keeps}
+use Rattle.ensemble.specs.Calls.{AllCollected}
+use Rattle.exec_lines.specs.declared.input.Input.TheVariants.{Cut}
 use Rattle.ensemble.proofs.ensemble.Ensemble.cut_at.Goals as goal
 
 pub invariant_of-self : goal.invariant_of-self
@@ -13,3 +16,6 @@ invariant_of-self c =
 
 pub returns-clause-size : goal.returns-clause-size
 returns-clause-size c = subst (λ (e : EnsembleView). size_of c.cut.new.self ≡ size_of e.nodes) c.self.view_is (host_size _ c.args.id c.self.inside.nodes c.cut.new.self c.cut.ensures.moves)
+
+pub returns-clause-waits : goal.returns-clause-waits
+returns-clause-waits c = subst (λ (e : EnsembleView). AllCollected e.nodes → AllCollected c.cut.new.self) c.self.view_is (host_waits _ (settles_keeps (Cut c.args.moment)) c.args.id c.self.inside.nodes c.cut.new.self c.cut.ensures.moves)

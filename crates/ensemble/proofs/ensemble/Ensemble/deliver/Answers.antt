@@ -4,6 +4,8 @@ use Rattle.ensemble.specs.Nodes.{size_of}
 use Rattle.ensemble.specs.Ensemble.{EnsembleView}
 use Rattle.ensemble.proofs.Sizes.{deliver_size}
 use Rattle.ensemble.proofs.Going.{deliver_none, deliver_some}
+use Rattle.ensemble.proofs.Collecting.{deliver_waits}
+use Rattle.ensemble.specs.Calls.{AllCollected}
 use Rattle.ensemble.proofs.ensemble.Ensemble.deliver.Goals as goal
 
 pub invariant_of-self : goal.invariant_of-self
@@ -21,3 +23,9 @@ returns-in_err-answer-clause-size c = subst (λ (e : EnsembleView). size_of c.de
 
 pub returns-clause-size : goal.returns-clause-size
 returns-clause-size c = subst (λ (e : EnsembleView). size_of c.deliver.new.self ≡ size_of e.nodes) c.self.view_is (deliver_size c.self.inside.nodes c.deliver.new.self c.deliver.result c.deliver.ensures.delivers)
+
+pub returns-in_err-answer-clause-waits : goal.returns-in_err-answer-clause-waits
+returns-in_err-answer-clause-waits c = subst (λ (e : EnsembleView). AllCollected e.nodes → AllCollected c.deliver.new.self) c.self.view_is (deliver_waits c.self.inside.nodes c.deliver.new.self c.deliver.result c.deliver.ensures.delivers)
+
+pub returns-clause-waits : goal.returns-clause-waits
+returns-clause-waits c = subst (λ (e : EnsembleView). AllCollected e.nodes → AllCollected c.deliver.new.self) c.self.view_is (deliver_waits c.self.inside.nodes c.deliver.new.self c.deliver.result c.deliver.ensures.delivers)

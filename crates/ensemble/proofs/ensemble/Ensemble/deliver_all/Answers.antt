@@ -8,6 +8,7 @@ loop-init c = record {
   answered = none_came _ _ _ _ _ _ refl refl refl;
   counted = omega arith;
   size = refl;
+  waits = λ before. before;
 }
 
 pub loop-preserved : goal.loop-preserved
@@ -16,6 +17,7 @@ loop-preserved c = record {
   answered = more_came _ _ _ _ _ _ _ _ _ c.loop.invariant.answered c.deliver_to.ensures.answered;
   counted = (let before = c.loop.invariant.counted in let after = c.deliver_to.ensures.counted in omega (arith, before, after));
   size = c.deliver_to.ensures.size ∙ c.loop.invariant.size;
+  waits = λ before. c.deliver_to.ensures.waits (c.loop.invariant.waits before);
 }
 
 pub returns-then-not-deliver_to-clause-asked : goal.returns-then-not-deliver_to-clause-asked

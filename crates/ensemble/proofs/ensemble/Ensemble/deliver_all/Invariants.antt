@@ -1,5 +1,6 @@
 use Rattle.std.proofs.Common.{◌≡◌, ◌≤◌}
 use Rattle.ensemble.specs.Nodes.{size_of}
+use Rattle.ensemble.specs.Calls.{AllCollected}
 use Rattle.ensemble.specs.Ensemble.{Answers}
 use Rattle.ensemble.proofs.ensemble.Ensemble.deliver_all.Given as goal
 
@@ -9,4 +10,5 @@ invariant-loop l = record {
   answered : Answers l.fn.self.answered l.fn.self.order l.fn.answers.items l.self.answered l.self.order l.answers.items;
   counted : l.fn.self.refused ≤ l.self.refused;
   size : size_of l.self.nodes ≡ size_of l.fn.self.nodes;
+  waits : AllCollected l.fn.self.nodes → AllCollected l.self.nodes;
 }

@@ -9,6 +9,7 @@ loop-init g c = record {
   answered = none_came _ _ _ _ _ _ refl refl refl;
   counted = omega arith;
   size = refl;
+  waits = λ before. before;
 }
 
 pub loop-preserved : goal.loop-preserved
@@ -17,6 +18,7 @@ loop-preserved g c = record {
   answered = more_came _ _ _ _ _ _ _ _ _ c.loop.invariant.answered c.go_on.ensures.answered;
   counted = (let before = c.loop.invariant.counted in let after = c.go_on.ensures.counted in omega (arith, before, after));
   size = c.go_on.ensures.size ∙ c.loop.invariant.size;
+  waits = λ before. c.go_on.ensures.waits (c.loop.invariant.waits before);
 }
 
 pub returns-then-not-go_on-clause-asked : goal.returns-then-not-go_on-clause-asked

@@ -3,6 +3,9 @@ use Rattle.ensemble.proofs.Going.{open_verifier_at_goes}
 use Rattle.std.proofs.Common.{◌≡◌, subst}
 use Rattle.ensemble.specs.Nodes.{size_of}
 use Rattle.ensemble.proofs.Sizes.{open_verifier_size}
+use Rattle.ensemble.proofs.Collecting.{open_verifier_waits}
+use Rattle.ensemble.specs.Calls.{AllCollected, RefusedNothing, IsReopened, IsReopenedAndPosts}
+use Rattle.events.specs.declared.event.Replica.TheVariants as replica
 use Rattle.ensemble.proofs.ensemble.Ensemble.open_verifier.Goals as goal
 
 pub invariant_of-self : goal.invariant_of-self
@@ -12,3 +15,12 @@ invariant_of-self c =
 
 pub returns-clause-size : goal.returns-clause-size
 returns-clause-size c = subst (λ (e : EnsembleView). size_of c.open_verifier.new.self ≡ size_of e.nodes) c.self.view_is (open_verifier_size _ c.args.id c.self.inside.nodes c.open_verifier.new.self c.open_verifier.ensures.moves)
+
+pub returns-clause-waits : goal.returns-clause-waits
+returns-clause-waits c = subst (λ (e : EnsembleView). AllCollected e.nodes → AllCollected c.open_verifier.new.self) c.self.view_is (open_verifier_waits _ c.args.id c.self.inside.nodes c.open_verifier.new.self c.open_verifier.ensures.moves)
+
+pub returns-clause-opens : goal.returns-clause-opens
+returns-clause-opens c = subst (λ (e : EnsembleView). IsReopened (replica.Verifier c.args.id) e.nodes c.open_verifier.new.self) c.self.view_is c.open_verifier.ensures.opens
+
+pub returns-clause-posted : goal.returns-clause-posted
+returns-clause-posted c = subst (λ (e : EnsembleView). RefusedNothing e.refused c.open_verifier.new.refused → IsReopenedAndPosts (replica.Verifier c.args.id) e.nodes c.open_verifier.new.self) c.self.view_is c.open_verifier.ensures.posted

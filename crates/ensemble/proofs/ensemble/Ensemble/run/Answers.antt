@@ -1,7 +1,7 @@
 use Rattle.ensemble.specs.Ensemble.{EnsembleView}
 use Rattle.ensemble.proofs.Going.{run_jobs_goes}
 use Rattle.std.proofs.Common.{◌≡◌, subst}
-use Rattle.ensemble.specs.Nodes.{size_of}
+use Rattle.ensemble.specs.Nodes.{RunsAll, size_of}
 use Rattle.ensemble.proofs.Sizes.{runs_size}
 use Rattle.ensemble.proofs.ensemble.Ensemble.run.Goals as goal
 
@@ -12,3 +12,6 @@ invariant_of-self g c =
 
 pub returns-clause-size : goal.returns-clause-size
 returns-clause-size g c = subst (λ (e : EnsembleView). size_of c.run_jobs.new.self ≡ size_of e.nodes) c.self.view_is (runs_size c.self.inside.nodes c.run_jobs.new.self c.run_jobs.ensures)
+
+pub returns-clause-ran : goal.returns-clause-ran
+returns-clause-ran g c = subst (λ (e : EnsembleView). RunsAll e.nodes c.run_jobs.new.self) c.self.view_is c.run_jobs.ensures

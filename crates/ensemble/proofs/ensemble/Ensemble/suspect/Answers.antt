@@ -1,10 +1,12 @@
 use Rattle.std.proofs.Common.{◌≡◌, ◌<◌, ◌^◌, ◌-◌, subst}
 use Rattle.verifier.specs.declared.input.Input.TheVariants.{Suspect}
 use Rattle.ensemble.specs.Nodes.{VerifierMoves, VerifierGets, size_of}
+use Rattle.ensemble.specs.Calls.{AllCollected}
 use Rattle.ensemble.specs.Served.{VerifierPosts}
 use Rattle.ensemble.specs.Ensemble.{EnsembleView}
 use Rattle.ensemble.proofs.Going.{suspect_at_goes}
 use Rattle.ensemble.proofs.Sizes.{verifier_size}
+use Rattle.ensemble.proofs.Collecting.{verifier_waits}
 use Rattle.ensemble.proofs.ensemble.Ensemble.suspect.Goals as goal
 
 pub invariant_of-self : goal.invariant_of-self
@@ -20,3 +22,6 @@ returns-clause-sent c = subst (λ (e : EnsembleView). c.suspect.new.refused ≡ 
 
 pub returns-clause-size : goal.returns-clause-size
 returns-clause-size c = subst (λ (e : EnsembleView). size_of c.suspect.new.self ≡ size_of e.nodes) c.self.view_is (verifier_size _ c.args.verifier c.self.inside.nodes c.suspect.new.self c.suspect.ensures.moves)
+
+pub returns-clause-waits : goal.returns-clause-waits
+returns-clause-waits c = subst (λ (e : EnsembleView). AllCollected e.nodes → AllCollected c.suspect.new.self) c.self.view_is (verifier_waits _ c.args.verifier c.self.inside.nodes c.suspect.new.self c.suspect.ensures.moves)

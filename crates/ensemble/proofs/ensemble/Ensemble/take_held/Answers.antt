@@ -1,8 +1,11 @@
 use Rattle.ensemble.specs.Ensemble.{EnsembleView}
 use Rattle.ensemble.proofs.Going.{take_held_goes}
 use Rattle.std.proofs.Common.{◌≡◌, subst}
-use Rattle.ensemble.specs.Nodes.{size_of}
+use Rattle.ensemble.specs.Nodes.{HostMoves, size_of}
 use Rattle.ensemble.proofs.Sizes.{host_size}
+use Rattle.ensemble.proofs.Collecting.{host_waits, advances_keeps}
+use Rattle.ensemble.specs.Calls.{AllCollected}
+use Rattle.hosts.specs.Due.{HostTakesDue}
 use Rattle.ensemble.proofs.ensemble.Ensemble.take_held.Goals as goal
 
 pub invariant_of-self : goal.invariant_of-self
@@ -12,3 +15,9 @@ invariant_of-self c =
 
 pub returns-clause-size : goal.returns-clause-size
 returns-clause-size c = subst (λ (e : EnsembleView). size_of c.take_held.new.self ≡ size_of e.nodes) c.self.view_is (host_size _ c.args.id c.self.inside.nodes c.take_held.new.self c.take_held.ensures.moves)
+
+pub returns-clause-waits : goal.returns-clause-waits
+returns-clause-waits c = subst (λ (e : EnsembleView). AllCollected e.nodes → AllCollected c.take_held.new.self) c.self.view_is (host_waits _ advances_keeps c.args.id c.self.inside.nodes c.take_held.new.self c.take_held.ensures.moves)
+
+pub returns-clause-due : goal.returns-clause-due
+returns-clause-due c = subst (λ (e : EnsembleView). HostMoves HostTakesDue c.args.id e.nodes c.take_held.new.self) c.self.view_is c.take_held.ensures.due

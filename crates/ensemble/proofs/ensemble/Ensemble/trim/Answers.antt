@@ -10,4 +10,5 @@ loop-id-preserved c = record {
   told = trimmed_more c.loop-id.id c.args.self.now.nodes c.loop-id.self.nodes c.trim_at.new.self.nodes c.loop-id.invariant.told c.trim_at.ensures.due;
   counted = (let before = c.loop-id.invariant.counted in let after = c.trim_at.ensures.counted in omega (arith, before, after));
   size = c.trim_at.ensures.size ∙ c.loop-id.invariant.size;
+  waits = λ before. c.trim_at.ensures.waits (c.loop-id.invariant.waits before);
 }

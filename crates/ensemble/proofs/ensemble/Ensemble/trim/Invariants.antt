@@ -1,5 +1,6 @@
 use Rattle.std.proofs.Common.{◌≡◌, ◌≤◌}
 use Rattle.ensemble.specs.Nodes.{size_of}
+use Rattle.ensemble.specs.Calls.{AllCollected}
 use Rattle.ensemble.specs.Trimming.{AreTrimmedBelow}
 use Rattle.ensemble.proofs.ensemble.Ensemble.trim.Given as goal
 
@@ -11,4 +12,5 @@ invariant-loop-id l = record {
   told : AreTrimmedBelow l.id l.fn.self.nodes l.self.nodes;
   counted : l.fn.self.refused ≤ l.self.refused;
   size : size_of l.self.nodes ≡ size_of l.fn.self.nodes;
+  waits : AllCollected l.fn.self.nodes → AllCollected l.self.nodes;
 }

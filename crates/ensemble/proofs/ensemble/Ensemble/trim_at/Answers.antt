@@ -4,6 +4,8 @@ use Rattle.ensemble.specs.Trimming.{VerifierTrimsDue}
 use Rattle.ensemble.specs.Ensemble.{EnsembleView}
 use Rattle.ensemble.proofs.Going.{trim_at_goes}
 use Rattle.ensemble.proofs.Sizes.{verifier_size}
+use Rattle.ensemble.proofs.Collecting.{verifier_waits}
+use Rattle.ensemble.specs.Calls.{AllCollected}
 use Rattle.ensemble.proofs.ensemble.Ensemble.trim_at.Goals as goal
 
 pub invariant_of-self : goal.invariant_of-self
@@ -16,3 +18,6 @@ returns-clause-due c = subst (λ (e : EnsembleView). VerifierMoves VerifierTrims
 
 pub returns-clause-size : goal.returns-clause-size
 returns-clause-size c = subst (λ (e : EnsembleView). size_of c.trim.new.self ≡ size_of e.nodes) c.self.view_is (verifier_size _ c.args.id c.self.inside.nodes c.trim.new.self c.trim.ensures.moves)
+
+pub returns-clause-waits : goal.returns-clause-waits
+returns-clause-waits c = subst (λ (e : EnsembleView). AllCollected e.nodes → AllCollected c.trim.new.self) c.self.view_is (verifier_waits _ c.args.id c.self.inside.nodes c.trim.new.self c.trim.ensures.moves)

@@ -1,7 +1,9 @@
 use Rattle.std.proofs.Common.{ap, subst}
 use Rattle.service.specs.Service.{Hears, HasSameRequests}
 use Rattle.server.specs.Answering.{AnsweringView}
-use Rattle.server.proofs.HandLemmas.{says_what}
+use Rattle.std.specs.Prelude.{IfOk}
+use Rattle.connections.specs.Told.{IsToldAt}
+use Rattle.server.proofs.HandLemmas.{says_what, told_after}
 use Rattle.server.proofs.answering.Answering.hear_bytes.Goals as goal
 
 pub returns : goal.returns
@@ -14,5 +16,6 @@ returns c =
       result = c.hear-heard.result;
       hears = subst (λ (v : AnsweringView). Hears c.args.key c.args.number c.args.bytes.items v.service.connections c.hear-heard.new.self.connections c.hear-heard.result) c.self.view_is c.hear-heard.ensures.hears;
       requests = subst (λ (v : AnsweringView). HasSameRequests v.service c.hear-heard.new.self) c.self.view_is c.hear-heard.ensures.requests;
+      told = told_after c.args.key c.args.number c.args.self.now.service c.hear-heard.new.self c.hear-heard.result (subst (λ (v : AnsweringView). IfOk c.hear-heard.result (λ said. IsToldAt (record { key = c.args.key; number = c.args.number }) v.service.connections.table c.hear-heard.new.self.connections.table said)) c.self.view_is c.hear-heard.ensures.told) c.hear-heard.ensures.leaves;
       says = says_what between c.say.new.self c.args.key c.args.number c.hear-heard.result c.said_of-said.result c.said_of-said.ensures c.say.ensures.says;
     }

@@ -1,5 +1,4 @@
-use Rattle.std.proofs.Common.{List, Option, subst}
-use Rattle.service.specs.declared.assignment.Outstanding.{Outstanding}
+use Rattle.std.proofs.Common.{subst}
 use Rattle.service.specs.Steps.{NoneWaits}
 use Rattle.service.proofs.pool.Pool.is_waiting.Goals as goal
 

@@ -6,4 +6,4 @@ use Rattle.service.proofs.pool.Pool.tick.Goals as goal
 
 pub returns-clause-keeps : goal.returns-clause-keeps
 returns-clause-keeps c =
-    subst (λ (v : List (Option Outstanding)). KeepsWaits v c.tick_at.new.waiting.items) c.self.view_is (keeps_set c.self.inside.waiting.items c.tick_at.new.waiting.items c.args.at c.tick_at.ensures)
+    subst (λ (v : List (Option Outstanding)). KeepsWaits v c.tick_at.new.waiting.items) c.self.view_is (keeps_set c.self.inside.waiting.items c.tick_at.new.waiting.items c.args.at c.tick_at.ensures.sets)

@@ -1,7 +1,7 @@
 use Rattle.std.proofs.Common.{List, Option, sym, subst}
 use Rattle.service.specs.declared.assignment.Outstanding.{Outstanding}
 use Rattle.service.specs.Steps.{AddsWait}
-use Rattle.service.proofs.WaitLemmas.{adds_set, set_length}
+use Rattle.service.proofs.WaitLemmas.{adds_set}
 use Rattle.service.proofs.pool.Pool.wait_for.Goals as goal
 
 pub returns-clause-adds : goal.returns-clause-adds

@@ -1,4 +1,4 @@
-use Rattle.std.proofs.Common.{rules, ◌≡◌, List, Option, None, refl, sym, subst}
+use Rattle.std.proofs.Common.{rules, ◌≡◌, ◌+◌, List, Option, None, refl, sym, ap, subst}
 use Rattle.std.specs.Prelude.{Contains}
 use Rattle.service.specs.Service.{ServiceView, none_shown, Gives, assigned}
 use Rattle.ensemble.specs.Ensemble.{answer_entry, order_entry}
@@ -7,6 +7,8 @@ use Rattle.service.specs.declared.assignment.Outstanding.{Outstanding}
 use Rattle.service.specs.Owed.{Remembers}
 use Rattle.service.proofs.OwedLemmas.{gives_nothing, gives_back}
 use Rattle.service.proofs.KeepLemmas.{tended_keeps, ends_keeps, replied_keeps, gives_one, lined}
+use Rattle.service.specs.Told.{TellsIn}
+use Rattle.service.proofs.ToldLemmas.{tells_more, tells_same}
 use Rattle.service.proofs.service.Service.answer.Goals as goal
 
 pub invariant_of-self : goal.invariant_of-self
@@ -31,3 +33,13 @@ invariant_of-self-2 c =
 pub returns-clause-given : goal.returns-clause-given
 returns-clause-given c =
     subst (λ (x : ServiceView). Gives x.connections c.args.said.now.items c.answer_to.new.connections c.answer_to.new.said.items) c.self.view_is (gives_one c.self.inside.connections c.answer_to.new.connections c.args.said.now.items c.answer_to.new.said.items c.answer_to.ensures.answers.gives)
+
+pub returns-clause-tells : goal.returns-clause-tells
+returns-clause-tells c =
+    let s = c.self.inside in
+    let next = c.answer_to.new.connections.table in
+    subst (λ (x : ServiceView). TellsIn x.connections.table x.replicas.refused c.args.said.now.items next (c.answer_to.new.refused + s.ensemble.refused) c.answer_to.new.said.items) c.self.view_is
+    (tells_more s.connections.table next s.refused c.answer_to.new.refused s.ensemble.refused c.args.said.now.items c.answer_to.new.said.items c.answer_to.ensures.tells)
+
+pub returns-in_default-clause-tells : goal.returns-in_default-clause-tells
+returns-in_default-clause-tells c = tells_same _ _ _ _ c.args.said.now.items c.args.said.now.items (ap (λ (x : ServiceView). x.connections.table) c.self.view_is) refl

@@ -1,11 +1,15 @@
-use Rattle.std.proofs.Common.{◌≡◌, ◌≤◌, length}
+use Rattle.std.proofs.Common.{◌≡◌, ◌≤◌, [], length}
 use Rattle.service.specs.Service.{Gives, AreLogged}
+use Rattle.service.specs.Told.{TellsMore}
 use Rattle.service.proofs.service.Service.answer_all.Given as goal
 
 abbrev pub invariant-loop-answer : goal.invariant-loop-answer
 invariant-loop-answer l = record {
   logged : AreLogged l.answers.items l.self.answered l.self.order;
   given : Gives l.initial.self.connections l.initial.said.items l.self.connections l.said.items;
+  tells : TellsMore l.initial.self l.initial.said.items l.self l.said.items;
+  none : l.initial.answers.items ≡ [] → (l.answers.items ≡ []) × (l.self.line ≡ l.initial.self.line) × (l.self.waiting ≡ l.initial.self.waiting);
+  answered : l.self.answered ≡ l.initial.self.answered;
   heard : l.self.connections.heard ≡ l.initial.self.connections.heard;
   counted : l.initial.self.replicas.refused ≤ l.self.replicas.refused;
   ensemble : l.self.replicas.ensemble ≡ l.initial.self.replicas.ensemble;

@@ -1,8 +1,11 @@
-use Rattle.std.proofs.Common.{rules, ◌≡◌, List, ◌∷◌, ◌++◌, Option, None, refl, ap, ◌∙◌, subst}
+use Rattle.std.proofs.Common.{rules, ◌≡◌, ◌<◌, ◌+◌, List, ◌∷◌, ◌++◌, Option, None, refl, ap, ◌∙◌, subst, length}
 use Rattle.std.specs.Prelude.{option_to_list}
 use Rattle.service.specs.declared.note.Waiting.{Waiting}
 use Rattle.service.specs.Service.{ServiceView, none_shown, assigned}
 use Rattle.service.specs.Owed.{Remembers}
+use Rattle.connections.specs.declared.said.Said.{Said}
+use Rattle.service.specs.Told.{TellsIn}
+use Rattle.service.proofs.ToldLemmas.{assign_tells, shorter, tells_same}
 use Rattle.service.proofs.MomentLemmas.{assigned_moments, given_handed, asked_moments, moment_now}
 use Rattle.service.proofs.KeepLemmas.{assign_keeps, assign_gives, lined}
 use Rattle.service.proofs.OwedLemmas.{assign_remembers}
@@ -27,6 +30,37 @@ invariant_of-self-2 c =
     let line = c.pop_front.new.self.items in
     let now : ServiceView = record { connections = next; asked = f.asked; answered = f.answered; order = f.order; assignments = assigned c.settle.new.assignments.items; waiting = c.settle.new.pool; line = line; replicas = none_shown } in
     let popped : s.line.items ≡ w ∷ line = c.in-Some-pop_front.ensures.items in
-    let ok = assign_keeps v _ _ next s.ensemble f c.ask-asking.result s.pool c.settle.new.pool (assigned c.settle.new.assignments.items) _ _ w.at.key line c.self.invariant.0 refl refl refl refl c.ask-asking.ensures c.settle.ensures in
-    let remembers = assign_remembers line w s.pool c.settle.new.pool s.connections next c.in-Some.proxy s.ensemble f c.ask-asking.result _ _ _ _ c.in-Some.ensures.pool c.ask-asking.ensures c.settle.ensures (subst (λ (l : List Waiting). Remembers l s.pool s.connections.table) popped c.self.invariant.3) in
-    (ok, assigned_moments v now _ _ s.ensemble f c.ask-asking.result s.pool _ _ w.at.key c.self.invariant.1 refl refl refl refl c.ask-asking.ensures c.settle.ensures (moment_now now ok c.always.ensures.connections c.always.ensures.history (given_handed v f.order next _ _ c.self.invariant.1 (asked_moments _ _ _ next s.ensemble f c.ask-asking.result c.ask-asking.ensures) (assign_gives _ _ s.connections next s.ensemble f c.ask-asking.result s.pool c.settle.new.pool _ (assigned c.settle.new.assignments.items) _ _ w.at.key c.ask-asking.ensures c.settle.ensures))), c.self.invariant.2, remembers)
+    let ok = assign_keeps v _ _ next s.ensemble f c.ask-asking.result s.pool c.settle.new.pool (assigned c.settle.new.assignments.items) _ _ w.at.key line c.self.invariant.0 refl refl refl refl c.ask-asking.ensures.asks c.settle.ensures in
+    let remembers = assign_remembers line w s.pool c.settle.new.pool s.connections next c.in-Some.proxy s.ensemble f c.ask-asking.result _ _ _ _ c.in-Some.ensures.pool c.ask-asking.ensures.asks c.settle.ensures (subst (λ (l : List Waiting). Remembers l s.pool s.connections.table) popped c.self.invariant.3) in
+    (ok, assigned_moments v now _ _ s.ensemble f c.ask-asking.result s.pool _ _ w.at.key c.self.invariant.1 refl refl refl refl c.ask-asking.ensures.asks c.settle.ensures (moment_now now ok c.always.ensures.connections c.always.ensures.history (given_handed v f.order next _ _ c.self.invariant.1 (asked_moments _ _ _ next s.ensemble f c.ask-asking.result c.ask-asking.ensures.asks) (assign_gives _ _ s.connections next s.ensemble f c.ask-asking.result s.pool c.settle.new.pool _ (assigned c.settle.new.assignments.items) _ _ w.at.key c.ask-asking.ensures.asks c.settle.ensures))), c.self.invariant.2, remembers)
+
+pub returns-clause-tells : goal.returns-clause-tells
+returns-clause-tells c =
+    let s = c.self.inside in
+    let next = c.ask-asking.new.connections in
+    let f = c.ask-asking.new.ensemble in
+    let w : Waiting = c.in-Some-pop_front.waiting in
+    let kept : c.reserve.new.self.items ≡ c.args.said.now.items = search rules in
+    subst (λ (x : ServiceView). TellsIn x.connections.table x.replicas.refused c.args.said.now.items next.table (c.free_proxy.new.refused + f.refused) c.settle.new.said.items) c.self.view_is
+    (subst (λ (said : List Said). TellsIn s.connections.table (s.refused + s.ensemble.refused) said next.table (c.free_proxy.new.refused + f.refused) c.settle.new.said.items) kept
+    (assign_tells w.at c.in-Some.proxy s.connections next s.ensemble f c.ask-asking.result s.pool c.settle.new.pool _ _ (s.refused + s.ensemble.refused) (c.free_proxy.new.refused + f.refused) c.reserve.new.self.items c.settle.new.said.items w.at.key c.ask-asking.ensures.asks c.ask-asking.ensures.told c.settle.ensures))
+
+pub returns-clause-goes_on : goal.returns-clause-goes_on
+returns-clause-goes_on c = λ yes.
+    let s = c.self.inside in
+    subst (λ (x : ServiceView). length c.pop_front.new.self.items < length x.line) c.self.view_is (shorter s.line.items c.pop_front.new.self.items c.in-Some-pop_front.waiting c.in-Some-pop_front.ensures.items)
+
+pub returns-then-is_err-clause-tells : goal.returns-then-is_err-clause-tells
+returns-then-is_err-clause-tells c =
+    let kept : c.reserve.new.self.items ≡ c.args.said.now.items = search rules in
+    tells_same _ _ _ _ c.args.said.now.items c.reserve.new.self.items (ap (λ (x : ServiceView). x.connections.table) c.self.view_is) kept
+
+pub returns-in_default-clause-tells : goal.returns-in_default-clause-tells
+returns-in_default-clause-tells c =
+    let kept : c.reserve.new.self.items ≡ c.args.said.now.items = search rules in
+    tells_same _ _ _ _ c.args.said.now.items c.reserve.new.self.items (ap (λ (x : ServiceView). x.connections.table) c.self.view_is) kept
+
+pub returns-in_default-pop_front-clause-tells : goal.returns-in_default-pop_front-clause-tells
+returns-in_default-pop_front-clause-tells c =
+    let kept : c.reserve.new.self.items ≡ c.args.said.now.items = search rules in
+    tells_same _ _ _ _ c.args.said.now.items c.reserve.new.self.items (ap (λ (x : ServiceView). x.connections.table) c.self.view_is) kept

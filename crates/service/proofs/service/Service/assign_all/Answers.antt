@@ -1,21 +1,45 @@
-use Rattle.std.proofs.Common.{◌∙◌, arith}
-use Rattle.service.proofs.KeepLemmas.{gives_on}
+use Rattle.std.proofs.Common.{refl, ◌∙◌, arith}
+use Rattle.service.specs.Told.{AsksAll}
+use Rattle.service.proofs.KeepLemmas.{gives_none, gives_on}
+use Rattle.service.proofs.ToldLemmas.{tells_on, tells_same, unless_on}
 use Rattle.service.proofs.service.Service.assign_all.Goals as goal
 
-pub returns-then-not-assign-clause-given : goal.returns-then-not-assign-clause-given
-returns-then-not-assign-clause-given c =
-    gives_on c.args.self.now.connections c.loop.self.connections c.assign.new.self.connections c.args.said.now.items c.loop.said.items c.assign.new.said.items c.loop.invariant.given c.assign.ensures.given
+pub returns-clause-given : goal.returns-clause-given
+returns-clause-given c =
+    gives_on c.args.self.now.connections c.loop-alloc.self.connections c.assign.new.self.connections c.args.said.now.items c.loop-alloc.said.items c.assign.new.said.items c.loop-alloc.invariant.given c.assign.ensures.given
 
-pub returns-then-not-assign-clause-heard : goal.returns-then-not-assign-clause-heard
-returns-then-not-assign-clause-heard c = c.assign.ensures.heard ∙ c.loop.invariant.heard
+pub returns-clause-tells : goal.returns-clause-tells
+returns-clause-tells c =
+    tells_on _ _ _ _ _ _ c.args.said.now.items c.loop-alloc.said.items c.assign.new.said.items c.loop-alloc.invariant.counted c.assign.ensures.counted c.loop-alloc.invariant.tells c.assign.ensures.tells
 
-pub returns-then-not-assign-clause-size : goal.returns-then-not-assign-clause-size
-returns-then-not-assign-clause-size c = c.assign.ensures.size ∙ c.loop.invariant.size
+pub returns-clause-asks : goal.returns-clause-asks
+returns-clause-asks c = unless_on _ _ _ (AsksAll c.assign.new.self) c.loop-alloc.invariant.counted c.assign.ensures.counted (c.assign.ensures.stops c.loop-alloc-test.false)
 
-pub loop-preserved : goal.loop-preserved
-loop-preserved c = record {
-  given = gives_on c.args.self.now.connections c.loop.self.connections c.assign.new.self.connections c.args.said.now.items c.loop.said.items c.assign.new.said.items c.loop.invariant.given c.assign.ensures.given;
-  heard = c.assign.ensures.heard ∙ c.loop.invariant.heard;
-  counted = let a = c.loop.invariant.counted in let b = c.assign.ensures.counted in omega (arith, a, b);
-  size = c.assign.ensures.size ∙ c.loop.invariant.size;
+pub returns-clause-heard : goal.returns-clause-heard
+returns-clause-heard c = c.assign.ensures.heard ∙ c.loop-alloc.invariant.heard
+
+pub returns-clause-answered : goal.returns-clause-answered
+returns-clause-answered c = c.assign.ensures.answered ∙ c.loop-alloc.invariant.answered
+
+pub returns-clause-size : goal.returns-clause-size
+returns-clause-size c = c.assign.ensures.size ∙ c.loop-alloc.invariant.size
+
+pub loop-alloc-init : goal.loop-alloc-init
+loop-alloc-init c = record {
+  given = gives_none c.args.self.now.connections c.args.said.now.items;
+  tells = tells_same c.args.self.now.connections.table c.args.self.now.connections.table c.args.self.now.replicas.refused c.args.self.now.replicas.refused c.args.said.now.items c.args.said.now.items refl refl;
+  answered = refl;
+  heard = refl;
+  counted = omega arith;
+  size = refl;
+}
+
+pub loop-alloc-preserved : goal.loop-alloc-preserved
+loop-alloc-preserved c = record {
+  given = gives_on c.args.self.now.connections c.loop-alloc.self.connections c.assign.new.self.connections c.args.said.now.items c.loop-alloc.said.items c.assign.new.said.items c.loop-alloc.invariant.given c.assign.ensures.given;
+  tells = tells_on _ _ _ _ _ _ c.args.said.now.items c.loop-alloc.said.items c.assign.new.said.items c.loop-alloc.invariant.counted c.assign.ensures.counted c.loop-alloc.invariant.tells c.assign.ensures.tells;
+  answered = c.assign.ensures.answered ∙ c.loop-alloc.invariant.answered;
+  heard = c.assign.ensures.heard ∙ c.loop-alloc.invariant.heard;
+  counted = let a = c.loop-alloc.invariant.counted in let b = c.assign.ensures.counted in omega (arith, a, b);
+  size = c.assign.ensures.size ∙ c.loop-alloc.invariant.size;
 }

@@ -1,12 +1,19 @@
-use Rattle.std.proofs.Common.{◌≡◌, ◌≤◌}
+use Rattle.std.proofs.Common.{◌≡◌, ◌≤◌, length}
 use Rattle.ensemble.specs.Nodes.{size_of}
 use Rattle.service.specs.Service.{Gives}
+use Rattle.service.specs.Told.{TellsMore}
 use Rattle.service.proofs.service.Service.assign_all.Given as goal
 
-abbrev pub invariant-loop : goal.invariant-loop
-invariant-loop l = record {
+abbrev pub invariant-loop-alloc : goal.invariant-loop-alloc
+invariant-loop-alloc l = record {
   given : Gives l.initial.self.connections l.initial.said.items l.self.connections l.said.items;
+  tells : TellsMore l.initial.self l.initial.said.items l.self l.said.items;
+  answered : l.self.answered ≡ l.initial.self.answered;
   heard : l.self.connections.heard ≡ l.initial.self.connections.heard;
   counted : l.initial.self.replicas.refused ≤ l.self.replicas.refused;
   size : size_of l.self.replicas.ensemble.nodes ≡ size_of l.initial.self.replicas.ensemble.nodes;
 }
+
+-- each that is asked leaves the line
+abbrev pub decreases-loop-alloc : goal.decreases-loop-alloc
+decreases-loop-alloc l = length l.self.line

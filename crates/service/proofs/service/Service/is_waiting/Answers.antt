@@ -1,8 +1,7 @@
-use Rattle.std.proofs.Common.{◌≡◌, List, [], sym, ◌∙◌, subst}
+use Rattle.std.proofs.Common.{◌≡◌, [], sym, ◌∙◌, subst}
 use Rattle.std.specs.Prelude.{length}
 use Rattle.std.proofs.lemmas.Bool.{eqb-true}
 use Rattle.std.proofs.lemmas.List.{nil_from_length}
-use Rattle.service.specs.declared.note.Waiting.{Waiting}
 use Rattle.service.specs.Service.{ServiceView}
 use Rattle.service.specs.Steps.{NoneWaits}
 use Rattle.service.proofs.service.Service.is_waiting.Goals as goal

@@ -1,0 +1,2 @@
+mod Majorities
+mod NewestLemmas

@@ -1,0 +1,98 @@
+//! What was said in turns that are not saved yet.
+//!
+//! It stands on std alone. The layer above puts what each turn says into an `Outbox` and takes out what was said in saved
+//! turns, so nothing leaves the process that a crash could undo: `Outbox::release`. What was said leaves in the order in
+//! which it was said, also what closes a connection.
+#![tactic(auto)]
+
+ghost use Rattle.outbox.specs.Outbox.{TakesFirst};
+
+use std::alloc::Global;
+use std::collections::VecDeque;
+use std::marker::Model;
+
+/// What was said and has not left, in order, each with the turn in which it was said.
+pub struct Outbox<T: Drop> {
+    held: VecDeque<(u64, T)>,
+}
+
+impl<T: Drop> Model for Outbox<T> {
+    ghost use Rattle.std.specs.Prelude.{List, ℕ};
+
+    ghost Value = { List (ℕ × T) };
+
+    ghost view = { λ o. o.held.items };
+}
+
+impl<T: Drop> Drop for Outbox<T> {
+    fn drop(self) {
+        let Outbox { held: _ } = self;
+    }
+}
+
+/// Takes the first one out, if its turn is saved.
+fn take_first<T: Drop>(held: &mut VecDeque<(u64, T)>, saved: u64) -> Option<T>
+    ensures { TakesFirst saved held.old.items held.new.items result }
+{
+    match held.front() {
+        Some((turn, _)) if *turn <= saved => match held.pop_front() {
+            Some((_, said)) => Some(said),
+            None => None,
+        },
+        _ => None,
+    }
+}
+
+impl<T: Drop> Outbox<T> {
+    ghost use Rattle.std.specs.Prelude.{◌≡◌, ◌↔◌, ◌++◌, ◌∷◌, [], IsTrue, OnOk, OnErr, IfErr};
+    ghost use Rattle.outbox.specs.Outbox.{TakesFirst, first_turn};
+
+    /// Nothing was said.
+    pub fn new(alloc: Global) -> Outbox<T>
+        ensures { result ≡ [] }
+    {
+        Outbox {
+            held: VecDeque::new(alloc),
+        }
+    }
+
+    /// This was said in this turn, after all that was said before. It comes back if there is no memory for it.
+    pub fn hold(&mut self, turn: u64, said: T) -> Result<(), T>
+        ensures ok { OnOk result (self.new ≡ self.old ++ (turn, said) ∷ []) }
+        ensures err { OnErr result (self.new ≡ self.old) }
+        ensures back { IfErr result (λ back. back ≡ said) }
+    {
+        match self.held.push_back((turn, said)) {
+            Ok(()) => Ok(()),
+            Err(refused) => {
+                let (_, said) = refused.value;
+                Err(said)
+            }
+        }
+    }
+
+    /// Takes out what was said first, if its turn is `saved` or an earlier one. If it is not, or if nothing is held,
+    /// nothing leaves: what was said later waits too.
+    pub fn release(&mut self, saved: u64) -> Option<T>
+        ensures { TakesFirst saved self.old self.new result }
+    {
+        take_first(&mut self.held, saved)
+    }
+
+    /// The turn that has to be saved before the first one leaves, if one is held.
+    pub fn first_turn(&self) -> Option<u64>
+        ensures { result ≡ first_turn self.now }
+    {
+        match self.held.front() {
+            Some((turn, _)) => Some(*turn),
+            None => None,
+        }
+    }
+
+    /// Whether all that was said has left.
+    pub fn is_empty(&self) -> bool
+        ensures { IsTrue result ↔ (self.now ≡ []) }
+    {
+        self.held.is_empty()
+    }
+}
