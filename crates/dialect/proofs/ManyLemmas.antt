@@ -1,10 +1,9 @@
 -- A line of many keys is as good as one command.
-use Rattle.std.proofs.Common.{◌≡◌, ℕ, suc, ◌+◌, ◌<◌, ◌≤◌, Bool, true, false, List, [], ◌∷◌, ◌++◌, length, refl, sym, ap, ◌∙◌, subst, arith, lit≤, ◌&&◌, if◌then◌else◌}
-use Rattle.std.specs.Prelude.{flat_map, codes, nat_le}
+use Rattle.std.proofs.Common.{◌≡◌, ℕ, ◌+◌, ◌≤◌, Bool, true, false, List, [], ◌∷◌, ◌++◌, length, refl, sym, ap, ◌∙◌, subst, arith, lit≤, ◌&&◌, if◌then◌else◌}
+use Rattle.std.specs.Prelude.{flat_map, codes}
 use Rattle.std.specs.List.{list_all}
 use Rattle.std.proofs.lemmas.List.{append_assoc, append-nil, length-append}
 use Rattle.std.proofs.lemmas.Grind.{flat_map-append}
-use Rattle.std.proofs.lemmas.Bool.Decides.{nat_tests}
 use Rattle.proto.specs.Key.{is_key}
 use Rattle.proto.specs.Text.{value_text, reply_text}
 use Rattle.proto.specs.declared.key.TheConstants.{MOST_KEYS}
@@ -19,7 +18,7 @@ use Rattle.dialect.specs.declared.turn.Turn.{Turn}
 use Rattle.dialect.specs.declared.turn.Turn.TheVariants.{Ask}
 use Rattle.dialect.specs.declared.line.Reading.{Reading}
 use Rattle.dialect.specs.declared.line.Reading.TheVariants.{Get, Gets, Gat, Gats}
-use Rattle.dialect.proofs.PieceLemmas.{text_one, fits_few, fits_short}
+use Rattle.dialect.proofs.PieceLemmas.{and_parts, text_one, key_short, fits_few, fits_short}
 use Rattle.dialect.proofs.RunLemmas.{taken}
 
 keys_asked : (r : Reading) (ks : List (List ℕ)) → keys_read (asked r ks) ≡ ks
@@ -36,10 +35,6 @@ keys_kept r ks (k ∷ more) = by (fits r (ks ++ k ∷ []))
     by true = keys_kept r (ks ++ k ∷ []) more ∙ append_assoc ks (k ∷ []) more
     by false = ap (λ (ys : List (List ℕ)). ys ++ all_keys (pieces r (k ∷ []) more)) (keys_asked r ks) ∙ ap (λ (ys : List (List ℕ)). ks ++ ys) (keys_kept r (k ∷ []) more)
 
-and_parts : (x y : Bool) → (x && y) ≡ true → (x ≡ true) × (y ≡ true)
-and_parts true y e = (refl, e)
-and_parts false y e = absurd (let f : false ≡ true = e in cc)
-
 all_push : (ks : List (List ℕ)) (k : List ℕ) → list_all is_key ks ≡ true → is_key k ≡ true → list_all is_key (ks ++ k ∷ []) ≡ true
 all_push [] k e f = ap (λ (b : Bool). b && true) f
 all_push (x ∷ ks) k e f =
@@ -54,14 +49,14 @@ record Good (r : Reading) (ks : List (List ℕ)) : Type 0 where
   short : length (read_text r ks) ≤ profile.MOST_LINE_BYTES
 
 as_turn : (r : Reading) (ks : List (List ℕ)) (s : Show) → Good r ks → IsPieceTurn r (Ask (asked r ks) s)
-as_turn r ks s g = record { keys = ks; show = s; is = refl; valid = g.valid; some = g.some; few = g.few; short = g.short }
+as_turn r ks s g = record { keys = ks; shows = s; is = refl; valid = g.valid; some = g.some; few = g.few; short = g.short }
 
 one_good : (r : Reading) (k : List ℕ) → length (head r) ≤ 45 → is_key k ≡ true → Good r (k ∷ [])
 one_good r k h e = record {
   valid = ap (λ (b : Bool). b && true) e;
   some = lit≤ tt;
   few = lit≤ tt;
-  short = let small : length k ≤ 250 = grind (arith, nat_tests) in omega (arith, text_one r k, small, h);
+  short = let small : length k ≤ 250 = key_short k e in omega (arith, text_one r k, small, h);
 }
 
 are_pieces : (r : Reading) (ks more : List (List ℕ)) → length (head r) ≤ 45 → Good r ks → list_all is_key more ≡ true → ArePieces r (pieces r ks more)

@@ -3,7 +3,6 @@ use Rattle.std.proofs.Common.{◌≡◌, ℕ, zero, suc, ◌+◌, ◌<◌, ◌�
 use Rattle.std.specs.Prelude.{ℤ, nat_lt}
 use Rattle.std.specs.Option.{option_map_or}
 use Rattle.std.specs.List.{list_any}
-use Rattle.std.proofs.lemmas.Bool.Decides.{nat_tests}
 use Rattle.proto.specs.Line.{key_of, words}
 use Rattle.proto.specs.declared.block.TheConstants.{MOST_BLOCK_BYTES}
 use Rattle.proto.specs.declared.command.StoreVerb.{StoreVerb}
@@ -21,6 +20,7 @@ use Rattle.dialect.specs.declared.line.Name.{Name}
 use Rattle.dialect.specs.declared.line.Name.TheVariants as name
 use Rattle.dialect.specs.declared.line.Line.{Line}
 use Rattle.dialect.specs.declared.line.Line.TheVariants.{Gives, Closes, Reads, Opens, Skips}
+use Rattle.dialect.proofs.RunLemmas.{lt_no}
 
 -- what belongs to the line has a size within the limits
 abbrev IsSound : Line → Type 0
@@ -56,7 +56,7 @@ sized_sound quiet size (Some h) e = by (nat_lt MOST_BLOCK_BYTES size) refl
   where
     by : (big : Bool) → nat_lt MOST_BLOCK_BYTES size ≡ big → IsSound (if big then Skips (size + 2) (too_large h) else Opens h)
     by true is = omega arith
-    by false is = let small : size ≤ MOST_BLOCK_BYTES = grind (arith, nat_tests) in omega (arith, e)
+    by false is = let small : size ≤ MOST_BLOCK_BYTES = lt_no MOST_BLOCK_BYTES size is in omega (arith, e)
 
 storage_sound : (quiet : Bool) (size : Option ℕ) (header : ℕ → Option Header) → ((n : ℕ) → IfSome (header n) (λ h. h.size ≡ n)) → IsSound (storage quiet size header)
 storage_sound quiet None header e = tt
@@ -131,7 +131,7 @@ words_within : (ws : List (List ℕ)) → IsWithin (meaning_of_words ws).part []
 words_within [] = lit< tt
 words_within (w ∷ ws) = by (name_of w)
   where
-    by : (n : Option Name) → IsWithin (option_map_or (λ name. given (line_of name (is_quiet ws) ws) ws) n unknown).part []
+    by : (n : Option Name) → IsWithin (option_map_or (λ (m : Name). given (line_of m (is_quiet ws) ws) ws) n unknown).part []
     by None = lit< tt
     by (Some n) = given_within (line_of n (is_quiet ws) ws) ws (line_sound n (is_quiet ws) ws)
 

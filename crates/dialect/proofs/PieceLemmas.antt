@@ -4,15 +4,24 @@ use Rattle.std.specs.Prelude.{flat_map, codes, nat_le, nat_lt}
 use Rattle.std.proofs.lemmas.List.{length-append}
 use Rattle.std.proofs.lemmas.Grind.{flat_map-append}
 use Rattle.std.proofs.lemmas.Bool.Decides.{nat_tests}
-use Rattle.proto.specs.Key.{is_key}
-use Rattle.proto.specs.declared.key.TheConstants.{MOST_KEYS}
+use Rattle.proto.specs.Key.{is_key, is_key_byte}
+use Rattle.std.specs.List.{list_all}
+use Rattle.proto.specs.declared.key.TheConstants.{MOST_KEYS, MOST_KEY_BYTES}
 use Rattle.proto.specs.declared.line.TheConstants as profile
 use Rattle.dialect.specs.Reading.{head, key_text, read_text, fits, pieces, has_room, IsPiece, asked}
 use Rattle.dialect.specs.declared.turn.Show.TheVariants as show
 use Rattle.dialect.specs.declared.turn.Turn.{Turn}
 use Rattle.dialect.specs.declared.turn.Turn.TheVariants.{Ask}
 use Rattle.dialect.specs.declared.line.Reading.{Reading}
-use Rattle.dialect.proofs.RunLemmas.{chosen, taken}
+use Rattle.dialect.proofs.RunLemmas.{chosen, taken, lt_yes, lt_no, le_yes, le_no}
+
+pub and_parts : (x y : Bool) → (x && y) ≡ true → (x ≡ true) × (y ≡ true)
+and_parts true y e = (refl, e)
+and_parts false y e = absurd (let f : false ≡ true = e in cc)
+
+and_last : (x y : Bool) → y ≡ false → (x && y) ≡ false
+and_last true y e = e
+and_last false y e = refl
 
 pub text_one : (r : Reading) (k : List ℕ) → length (read_text r (k ∷ [])) ≡ length (head r) + length k + 3
 unfolding read_text
@@ -32,11 +41,7 @@ fits_many r ks l = grind (arith, nat_tests)
 
 pub fits_long : (r : Reading) (ks : List (List ℕ)) → profile.MOST_LINE_BYTES < length (read_text r ks) → fits r ks ≡ false
 unfolding fits
-fits_long r ks l = both (nat_le (length ks) MOST_KEYS) (nat_le (length (read_text r ks)) profile.MOST_LINE_BYTES) (grind (arith, nat_tests))
-  where
-    both : (x y : Bool) → y ≡ false → (x && y) ≡ false
-    both true y e = e
-    both false y e = refl
+fits_long r ks l = and_last (nat_le (length ks) MOST_KEYS) (nat_le (length (read_text r ks)) profile.MOST_LINE_BYTES) (grind (arith, nat_tests))
 
 module _ (r : Reading) (ks : List (List ℕ)) (bytes : ℕ) (p : IsPiece r ks bytes) (k : List ℕ) where
   longer : length (ks ++ k ∷ []) ≡ length ks + 1
@@ -44,8 +49,9 @@ module _ (r : Reading) (ks : List (List ℕ)) (bytes : ℕ) (p : IsPiece r ks by
 
   pub longer_piece : has_room (length ks) (bytes + length k + 1) ≡ true → IsPiece r (ks ++ k ∷ []) (bytes + length k + 1)
   longer_piece e =
-      let l : length ks < MOST_KEYS = grind (arith, nat_tests) in
-      let m : bytes + length k + 1 ≤ profile.MOST_LINE_BYTES = grind (arith, nat_tests) in
+      let parts = and_parts (nat_lt (length ks) MOST_KEYS) (nat_le (bytes + length k + 1) profile.MOST_LINE_BYTES) e in
+      let l : length ks < MOST_KEYS = lt_yes (length ks) MOST_KEYS parts.0 in
+      let m : bytes + length k + 1 ≤ profile.MOST_LINE_BYTES = le_yes (bytes + length k + 1) profile.MOST_LINE_BYTES parts.1 in
       record {
         some = omega (arith, longer);
         few = omega (arith, longer, l);
@@ -61,14 +67,14 @@ module _ (r : Reading) (ks : List (List ℕ)) (bytes : ℕ) (p : IsPiece r ks by
 
       by : (x y : Bool) → nat_lt (length ks) MOST_KEYS ≡ x → nat_le (bytes + length k + 1) profile.MOST_LINE_BYTES ≡ y → fits r (ks ++ k ∷ []) ≡ (x && y)
       by true true l m =
-          let few : length ks < MOST_KEYS = grind (arith, nat_tests) in
-          let short : bytes + length k + 1 ≤ profile.MOST_LINE_BYTES = grind (arith, nat_tests) in
+          let few : length ks < MOST_KEYS = lt_yes (length ks) MOST_KEYS l in
+          let short : bytes + length k + 1 ≤ profile.MOST_LINE_BYTES = le_yes (bytes + length k + 1) profile.MOST_LINE_BYTES m in
           fits_yes r (ks ++ k ∷ []) (omega (arith, longer, few)) (omega (arith, text_is, short))
       by true false l m =
-          let long : profile.MOST_LINE_BYTES < bytes + length k + 1 = grind (arith, nat_tests) in
+          let long : profile.MOST_LINE_BYTES < bytes + length k + 1 = le_no (bytes + length k + 1) profile.MOST_LINE_BYTES m in
           fits_long r (ks ++ k ∷ []) (omega (arith, text_is, long))
       by false y l m =
-          let many : MOST_KEYS ≤ length ks = grind (arith, nat_tests) in
+          let many : MOST_KEYS ≤ length ks = lt_no (length ks) MOST_KEYS l in
           fits_many r (ks ++ k ∷ []) (omega (arith, longer, many))
 
   -- the key goes on the piece
@@ -78,6 +84,12 @@ module _ (r : Reading) (ks : List (List ℕ)) (bytes : ℕ) (p : IsPiece r ks by
   -- the key begins the next piece
   pub begins : (more : List (List ℕ)) → has_room (length ks) (bytes + length k + 1) ≡ false → pieces r ks (k ∷ more) ≡ Ask (asked r ks) show.Items ∷ pieces r (k ∷ []) more
   begins more e = chosen (fits r (ks ++ k ∷ [])) _ _ (fits_as ∙ e)
+
+-- a key has at most 250 bytes
+pub key_short : (k : List ℕ) → is_key k ≡ true → length k ≤ 250
+key_short k e =
+    let front = (and_parts (nat_le 1 (length k) && nat_le (length k) MOST_KEY_BYTES) (list_all is_key_byte k) e).0 in
+    le_yes (length k) MOST_KEY_BYTES (and_parts (nat_le 1 (length k)) (nat_le (length k) MOST_KEY_BYTES) front).1
 
 -- a piece of one key
 pub one_piece : (r : Reading) (k : List ℕ) (n : ℕ) → n ≡ length (head r) → n ≤ 45 → is_key k ≡ true → IsPiece r (k ∷ []) (n + length k + 3)
@@ -89,18 +101,11 @@ one_piece r k n e l key =
       len = ap (λ m. m + length k + 3) e ∙ sym (text_one r k);
       short = omega (arith, small, l);
     }
-  where
-    key_short : (k : List ℕ) → is_key k ≡ true → length k ≤ 250
-    key_short k key = grind (arith, nat_tests)
 
 pub fits_few : (r : Reading) (ks : List (List ℕ)) → fits r ks ≡ true → length ks ≤ MOST_KEYS
 unfolding fits
-fits_few r ks e = grind (arith, nat_tests)
+fits_few r ks e = le_yes (length ks) MOST_KEYS (and_parts (nat_le (length ks) MOST_KEYS) (nat_le (length (read_text r ks)) profile.MOST_LINE_BYTES) e).0
 
 pub fits_short : (r : Reading) (ks : List (List ℕ)) → fits r ks ≡ true → length (read_text r ks) ≤ profile.MOST_LINE_BYTES
 unfolding fits
-fits_short r ks e = both (nat_le (length ks) MOST_KEYS) (nat_le (length (read_text r ks)) profile.MOST_LINE_BYTES) e (λ h. grind (arith, nat_tests))
-  where
-    both : {P : Type 0} (x y : Bool) → (x && y) ≡ true → (y ≡ true → P) → P
-    both true y e f = f e
-    both false y e f = absurd (let g : false ≡ true = e in cc)
+fits_short r ks e = le_yes (length (read_text r ks)) profile.MOST_LINE_BYTES (and_parts (nat_le (length ks) MOST_KEYS) (nat_le (length (read_text r ks)) profile.MOST_LINE_BYTES) e).1

@@ -62,7 +62,7 @@ words_either : (ws : List (List ℕ)) → IsEither (meaning_of_words ws).turns
 words_either [] = inr refl
 words_either (w ∷ ws) = by (name_of w)
   where
-    by : (n : Option Name) → IsEither (option_map_or (λ (name : Name). given (line_of name (is_quiet ws) ws) ws) n unknown).turns
+    by : (n : Option Name) → IsEither (option_map_or (λ (m : Name). given (line_of m (is_quiet ws) ws) ws) n unknown).turns
     by None = inr refl
     by (Some n) = given_either (line_of n (is_quiet ws) ws) ws
 
@@ -177,7 +177,7 @@ words_remove : (ws : List (List ℕ)) → UnreadOnlyRemoves (meaning_of_words ws
 words_remove [] = tt
 words_remove (w ∷ ws) = by (name_of w)
   where
-    by : (n : Option Name) → UnreadOnlyRemoves (option_map_or (λ (name : Name). given (line_of name (is_quiet ws) ws) ws) n unknown).part
+    by : (n : Option Name) → UnreadOnlyRemoves (option_map_or (λ (m : Name). given (line_of m (is_quiet ws) ws) ws) n unknown).part
     by None = tt
     by (Some n) = given_removes (line_of n (is_quiet ws) ws) ws (line_removes n (is_quiet ws) ws)
 

@@ -24,6 +24,25 @@ pub taken : {A : Type 0} (c : Bool) (x y : A) → c ≡ true → (if c then x el
 taken true x y e = refl
 taken false x y e = absurd (let f : false ≡ true = e in cc)
 
+-- what tests say
+pub lt_yes : (m n : ℕ) → nat_lt m n ≡ true → m < n
+lt_yes m n e = grind (arith, nat_tests)
+
+pub lt_no : (m n : ℕ) → nat_lt m n ≡ false → n ≤ m
+lt_no m n e = grind (arith, nat_tests)
+
+pub le_yes : (m n : ℕ) → nat_le m n ≡ true → m ≤ n
+le_yes m n e = grind (arith, nat_tests)
+
+pub le_no : (m n : ℕ) → nat_le m n ≡ false → n < m
+le_no m n e = grind (arith, nat_tests)
+
+pub is_128 : (b : ℕ) → is_binary [] b ≡ true → 128 ≡ b
+is_128 b e = grind (arith, nat_tests)
+
+pub is_10 : (b : ℕ) → is_newline b ≡ true → 10 ≡ b
+is_10 b e = grind (arith, nat_tests)
+
 pub run-append : (s : State) (a b : List ℕ) → run s (a ++ b) ≡ and_then (run s a).turns (run (run s a).state b)
 unfolding run
 run-append s [] b = refl

@@ -17,7 +17,7 @@ use Rattle.dialect.specs.declared.turn.Turn.TheVariants.{Close}
 use Rattle.dialect.specs.declared.part.Part.{Part}
 use Rattle.dialect.specs.declared.part.Part.TheVariants as part
 use Rattle.dialect.proofs.MeaningLemmas.{meaning_within}
-use Rattle.dialect.proofs.RunLemmas.{run-append, run_none, run_closed, run_first, run_line, run_end, run_long, run_binary, run_block, run_whole_block, run_unread, run_all_unread, line_goes, line_too_long, line_ends}
+use Rattle.dialect.proofs.RunLemmas.{run-append, run_none, run_closed, run_first, run_line, run_end, run_long, run_binary, run_block, run_whole_block, run_unread, run_all_unread, line_goes, line_too_long, line_ends, is_128, is_10, le_yes, le_no}
 
 -- One list is spelled.
 
@@ -26,7 +26,7 @@ not_binary [] t = refl
 not_binary (b ∷ text) t = by (is_binary [] b) refl
   where
     by : (x : Bool) → is_binary [] b ≡ x → x ≡ false
-    by true e = absurd (t (grind (arith, nat_tests)))
+    by true e = absurd (t (sym (is_128 b e)))
     by false e = refl
 
 -- a line and its end, and then more
@@ -91,10 +91,10 @@ no_push (x ∷ xs) b h e =
     or_from _ _ parts.0 (no_push xs b parts.1 e)
 
 text_push : (xs : List ℕ) (b : ℕ) → IsText xs → is_binary xs b ≡ false → IsText (xs ++ b ∷ [])
-text_push [] b t e = λ same. absurd (let f : true ≡ false = sym (is_128 b same) ∙ e in cc)
+text_push [] b t e = λ same. absurd (let f : true ≡ false = sym (says_128 b same) ∙ e in cc)
   where
-    is_128 : (b : ℕ) → b ≡ 128 → is_binary [] b ≡ true
-    is_128 b same = grind (arith, nat_tests)
+    says_128 : (b : ℕ) → b ≡ 128 → is_binary [] b ≡ true
+    says_128 b same = grind (arith, nat_tests)
 text_push (x ∷ xs) b t e = t
 
 line_push : (text : List ℕ) (b : ℕ) → IsLine text → is_binary text b ≡ false → is_newline b ≡ false → length text + 1 < MOST_LINE_BYTES → IsLine (text ++ b ∷ [])
@@ -141,22 +141,22 @@ module _ (b : ℕ) (bytes : List ℕ) (ih : Sound bytes) where
     where
       of_binary : (text : List ℕ) → is_binary text b ≡ true → Spells (text ++ b ∷ bytes) (run (state_at part.Line text) (b ∷ bytes)).turns
       of_binary [] q =
-          let is : 128 ≡ b = grind (arith, nat_tests) in
+          let is : 128 ≡ b = is_128 b q in
           subst (λ (c : ℕ). Spells (c ∷ bytes) (run start (c ∷ bytes)).turns) is
           (spells_as (128 ∷ bytes) (128 ∷ bytes) (Close notice.Binary ∷ []) _ refl (sym (ap (λ (s : Step). s.turns) (run_binary bytes))) (binary bytes))
       of_binary (c ∷ text) q = absurd (let f : false ≡ true = q in cc)
   in_line text l false true z q e n =
-      let is : 10 ≡ b = grind (arith, nat_tests) in
+      let is : 10 ≡ b = is_10 b e in
       subst (λ (c : ℕ). Spells (text ++ c ∷ bytes) (run (state_at part.Line text) (c ∷ bytes)).turns) is
       (spells_as (text ++ 10 ∷ bytes) (text ++ 10 ∷ bytes) _ _ refl (sym (ap (λ (s : Step). s.turns) (run_first (state_at part.Line text) 10 bytes _ (line_ends text)))) (line_end text l (meaning text).part refl))
   in_line text l false false true q e n =
-      let long : MOST_LINE_BYTES ≤ length text + 1 = grind (arith, nat_tests) in
+      let long : MOST_LINE_BYTES ≤ length text + 1 = le_yes MOST_LINE_BYTES (length text + 1) n in
       let short : length text < MOST_LINE_BYTES = l.short in
       spells_as ((text ++ b ∷ []) ++ bytes) (text ++ b ∷ bytes) (Close notice.LineTooLong ∷ []) _ (push_front text b bytes)
       (sym (ap (λ (s : Step). s.turns) (run_first (state_at part.Line text) b bytes _ (line_too_long text b q e long) ∙ ap (λ (s : Step). and_then (Close notice.LineTooLong ∷ []) s) (run_closed bytes))))
       (too_long (text ++ b ∷ []) bytes (no_push text b l.one_line e) (rw (length-append text (b ∷ [])) (omega (arith, long, short))) (text_push text b l.is_text q))
   in_line text l false false false q e n =
-      let short : length text + 1 < MOST_LINE_BYTES = grind (arith, nat_tests) in
+      let short : length text + 1 < MOST_LINE_BYTES = le_no MOST_LINE_BYTES (length text + 1) n in
       spells_as ((text ++ b ∷ []) ++ bytes) (text ++ b ∷ bytes) _ _ (push_front text b bytes)
       (sym (ap (λ (s : Step). s.turns) (run_first (state_at part.Line text) b bytes _ (line_goes text b q e short))))
       (ih.in_line (text ++ b ∷ []) (line_push text b l q e short))
@@ -165,12 +165,13 @@ module _ (b : ℕ) (bytes : List ℕ) (ih : Sound bytes) where
       → (x : Bool) → nat_le (h.size + 2) (length block + 1) ≡ x
       → Spells (text ++ 10 ∷ (block ++ b ∷ bytes)) ((meaning text).turns ++ (run (state_at (part.Block h) block) (b ∷ bytes)).turns)
   in_block text h block l e short true n =
-      let whole : length block + 1 ≡ h.size + 2 = grind (arith, nat_tests) in
+      let enough : h.size + 2 ≤ length block + 1 = le_yes (h.size + 2) (length block + 1) n in
+      let whole : length block + 1 ≡ h.size + 2 = omega (arith, enough, short) in
       spells_as (text ++ 10 ∷ ((block ++ b ∷ []) ++ bytes)) _ _ _ (ap (λ (ys : List ℕ). text ++ 10 ∷ ys) (push_front block b bytes))
       (ap (λ (s : Step). (meaning text).turns ++ s.turns) (sym (run_from_start (state_at (part.Block h) block) (b ∷ []) bytes _ (run_whole_block h block (b ∷ []) (lit< tt) whole))))
       (with_block text (block ++ b ∷ []) bytes (run start bytes).turns h l e (length-append block (b ∷ []) ∙ whole) (ih.in_line [] empty_line))
   in_block text h block l e short false n =
-      let more : length block + 1 < h.size + 2 = grind (arith, nat_tests) in
+      let more : length block + 1 < h.size + 2 = le_no (h.size + 2) (length block + 1) n in
       spells_as (text ++ 10 ∷ ((block ++ b ∷ []) ++ bytes)) _ _ _ (ap (λ (ys : List ℕ). text ++ 10 ∷ ys) (push_front block b bytes))
       (ap (λ (s : Step). (meaning text).turns ++ s.turns) (sym (run-append (state_at (part.Block h) block) (b ∷ []) bytes ∙ ap (λ (s : Step). and_then s.turns (run s.state bytes)) (run_block h block (b ∷ []) more))))
       (ih.in_block text h (block ++ b ∷ []) l e (rw (length-append block (b ∷ [])) more))
@@ -179,12 +180,13 @@ module _ (b : ℕ) (bytes : List ℕ) (ih : Sound bytes) where
       → length skipped + left ≡ n → 0 < left → (x : Bool) → nat_le left 1 ≡ x
       → Spells (text ++ 10 ∷ (skipped ++ b ∷ bytes)) ((meaning text).turns ++ (run (state_at (part.Unread left turn) []) (b ∷ bytes)).turns)
   in_unread text n turn skipped left l e m some true is =
-      let one : 1 ≡ left = grind (arith, nat_tests) in
+      let few : left ≤ 1 = le_yes left 1 is in
+      let one : 1 ≡ left = omega (arith, few, some) in
       spells_as (text ++ 10 ∷ ((skipped ++ b ∷ []) ++ bytes)) _ _ _ (ap (λ (ys : List ℕ). text ++ 10 ∷ ys) (push_front skipped b bytes))
       (ap (λ (s : Step). (meaning text).turns ++ s.turns) (sym (run_from_start (state_at (part.Unread left turn) []) (b ∷ []) bytes _ (run_all_unread left turn (b ∷ []) (lit< tt) one))))
       (unread text (skipped ++ b ∷ []) bytes (run start bytes).turns n turn l e (rw (length-append skipped (b ∷ [])) (omega (arith, one, m))) (ih.in_line [] empty_line))
   in_unread text n turn skipped left l e m some false is =
-      let more : 1 < left = grind (arith, nat_tests) in
+      let more : 1 < left = le_no left 1 is in
       spells_as (text ++ 10 ∷ ((skipped ++ b ∷ []) ++ bytes)) _ _ _ (ap (λ (ys : List ℕ). text ++ 10 ∷ ys) (push_front skipped b bytes))
       (ap (λ (s : Step). (meaning text).turns ++ s.turns) (sym (run-append (state_at (part.Unread left turn) []) (b ∷ []) bytes ∙ ap (λ (s : Step). and_then s.turns (run s.state bytes)) (run_unread left turn (b ∷ []) more))))
       (ih.in_unread text n turn (skipped ++ b ∷ []) (left - 1) l e (rw (length-append skipped (b ∷ [])) (omega (arith, more, m))) (omega (arith, more)))
@@ -204,9 +206,9 @@ sound [] = record {
 sound (b ∷ bytes) =
     let ih = sound bytes in
     record {
-      in_line = λ text l. in_line b bytes ih text l _ _ _ refl refl refl;
-      in_block = λ text h block l e short. in_block b bytes ih text h block l e short _ refl;
-      in_unread = λ text n turn skipped left l e m some. in_unread b bytes ih text n turn skipped left l e m some _ refl;
+      in_line = λ text l. in_line b bytes ih text l (is_binary text b) (is_newline b) (nat_le MOST_LINE_BYTES (length text + 1)) refl refl refl;
+      in_block = λ text h block l e short. in_block b bytes ih text h block l e short (nat_le (h.size + 2) (length block + 1)) refl;
+      in_unread = λ text n turn skipped left l e m some. in_unread b bytes ih text n turn skipped left l e m some (nat_le left 1) refl;
     }
 
 pub run_is_spelled : (bytes : List ℕ) → Spells bytes (run start bytes).turns
@@ -226,18 +228,18 @@ pub none_read : HasRead [] [] start
 none_read = record {
   spells = part_of_line [] empty_line;
   all = sym (ap (λ (r : Step). r.turns) (run_none start));
-  state = sym (ap (λ (r : Step). r.state) (run_none start));
+  stands = sym (ap (λ (r : Step). r.state) (run_none start));
 }
 
 -- a piece after what was read
 pub read_on : (fed piece : List ℕ) (before turns : List Turn) (old new : State) → HasRead fed before old → Runs old piece [] turns new → HasRead (fed ++ piece) (before ++ turns) new
 read_on fed piece before turns old new h r =
     let next : Step = run (run start fed).state piece in
-    let same : run old piece ≡ next = ap (λ (s : State). run s piece) h.state in
+    let same : run old piece ≡ next = ap (λ (s : State). run s piece) h.stands in
     let all : before ++ turns ≡ (run start (fed ++ piece)).turns =
     ap (λ (ts : List Turn). ts ++ turns) h.all ∙ ap (λ (ts : List Turn). (run start fed).turns ++ ts) (r.turns ∙ ap (λ (s : Step). s.turns) same) ∙ sym (ap (λ (s : Step). s.turns) (run-append start fed piece)) in
     record {
       spells = subst (λ (ts : List Turn). Spells (fed ++ piece) ts) (sym all) (run_is_spelled (fed ++ piece));
       all = all;
-      state = r.state ∙ ap (λ (s : Step). s.state) same ∙ sym (ap (λ (s : Step). s.state) (run-append start fed piece));
+      stands = r.state ∙ ap (λ (s : Step). s.state) same ∙ sym (ap (λ (s : Step). s.state) (run-append start fed piece));
     }

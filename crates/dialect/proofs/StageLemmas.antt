@@ -15,7 +15,7 @@ use Rattle.dialect.specs.declared.turn.Turn.{Turn}
 use Rattle.dialect.specs.declared.turn.Turn.TheVariants.{Close}
 use Rattle.dialect.specs.declared.part.Part.{Part}
 use Rattle.dialect.specs.declared.part.Part.TheVariants as part
-use Rattle.dialect.proofs.RunLemmas.{run_none, run_closed, run_line, run_end, run_long, run_binary, run_block, run_whole_block, run_unread, run_all_unread, runs_by, runs_on, starts_take}
+use Rattle.dialect.proofs.RunLemmas.{run_none, run_closed, run_line, run_end, run_long, run_binary, run_block, run_whole_block, run_unread, run_all_unread, runs_by, runs_on, starts_take, is_128}
 
 take_whole : (xs : List ℕ) → take (length xs) xs ≡ xs
 take_whole xs = take_all (length xs) xs (omega arith)
@@ -46,7 +46,7 @@ binary_held (c ∷ held) (b ∷ piece) e = absurd (let f : false ≡ true = e in
 binary_first : (held piece : List ℕ) → starts_binary held piece ≡ true → run (state_at part.Line held) (take 1 piece) ≡ to (Close notice.Binary ∷ []) (state_at part.Closed [])
 binary_first held [] e = absurd (let f : false ≡ true = e in cc)
 binary_first [] (b ∷ piece) e =
-    let is : 128 ≡ b = grind (arith, nat_tests) in
+    let is : 128 ≡ b = is_128 b e in
     subst (λ (c : ℕ). run start (c ∷ []) ≡ to (Close notice.Binary ∷ []) (state_at part.Closed [])) is (run_binary [])
 binary_first (c ∷ held) (b ∷ piece) e = absurd (let f : false ≡ true = e in cc)
 

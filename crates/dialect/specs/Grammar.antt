@@ -54,4 +54,4 @@ pub data Spells : List ℕ → List Turn → Type 0 where
 pub record HasRead (bytes : List ℕ) (turns : List Turn) (state : State) : Type 0 where
   pub spells : Spells bytes turns
   pub all : turns ≡ (run start bytes).turns
-  pub state : state ≡ (run start bytes).state
+  pub stands : state ≡ (run start bytes).state

@@ -51,10 +51,10 @@ takes_noreply name.Http = false
 pub record IsNoreply (line : List ℕ) : Type 0 where
   pub first : List ℕ
   pub others : List (List ℕ)
-  pub name : Name
-  pub words : words (without_return line) ≡ first ∷ others
-  pub named : name_of first ≡ Some name
-  pub takes : takes_noreply name ≡ true
+  pub called : Name
+  pub splits : words (without_return line) ≡ first ∷ others
+  pub named : name_of first ≡ Some called
+  pub takes : takes_noreply called ≡ true
   pub last : is_quiet others ≡ true
 
 -- no byte is given, whatever the reply is
@@ -122,8 +122,8 @@ all_keys (Close n ∷ turns) = all_keys turns
 -- a command of the profile over 1 to MOST_KEYS keys, whose line has at most the profile's bytes
 pub record IsPieceTurn (r : Reading) (turn : Turn) : Type 0 where
   pub keys : List (List ℕ)
-  pub show : Show
-  pub is : turn ≡ Ask (asked r keys) show
+  pub shows : Show
+  pub is : turn ≡ Ask (asked r keys) shows
   pub valid : list_all is_key keys ≡ true
   pub some : 1 ≤ length keys
   pub few : length keys ≤ MOST_KEYS
