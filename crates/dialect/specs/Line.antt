@@ -1,5 +1,5 @@
 -- What a line asks by itself. A line is given without the byte 10 that ends it.
-use Rattle.std.specs.Prelude.{ℕ, ◌+◌, ◌-◌, ◌^◌, List, [], ◌∷◌, ◌++◌, length, take, Bool, true, false, ◌&&◌, ◌||◌, nat_lt, nat_le, if◌then◌else◌, ℤ, Option, Some, None, codes, bytes_eq, slice_index_or}
+use Rattle.std.specs.Prelude.{ℕ, ◌+◌, List, [], ◌∷◌, take, Bool, true, false, ◌&&◌, ◌||◌, nat_lt, if◌then◌else◌, ℤ, Option, Some, None, codes, bytes_eq}
 use Rattle.std.specs.List.{list_any}
 use Rattle.std.specs.Option.{option_map_or}
 use Rattle.proto.specs.Line.{key_of}
@@ -25,10 +25,14 @@ use Rattle.dialect.specs.declared.line.Reading.TheVariants as reading
 use Rattle.dialect.specs.declared.line.Line.{Line}
 use Rattle.dialect.specs.declared.line.Line.TheVariants.{Gives, Closes, Reads, Opens, Skips}
 
+-- whether the last word is noreply; quiet where there is none
+abbrev pub ends_quiet : Bool → List (List ℕ) → Bool
+ends_quiet quiet [] = quiet
+ends_quiet quiet (w ∷ ws) = ends_quiet (bytes_eq w (codes "noreply")) ws
+
 -- the last word is noreply
 abbrev pub is_quiet : List (List ℕ) → Bool
-is_quiet [] = false
-is_quiet (w ∷ ws) = bytes_eq (slice_index_or (w ∷ ws) (length ws) []) (codes "noreply")
+is_quiet ws = ends_quiet false ws
 
 -- a text, where the line does not say noreply
 abbrev pub said : Bool → Notice → Option Turn

@@ -39,7 +39,11 @@ fn key_of(alloc: Global, word: &[u8]) -> Result<Option<Key>, AllocError>
 fn is_quiet(words: &[&[u8]]) -> bool
     ensures { result ≡ spec.is_quiet (map (λ w. w.now) words.now) }
 {
-    !words.is_empty() && words[words.len() - 1] == b"noreply".as_slice()
+    let mut quiet = false;
+    for word in words {
+        quiet = *word == b"noreply".as_slice();
+    }
+    quiet
 }
 
 pub fn said(quiet: bool, notice: Notice) -> Option<Turn>
