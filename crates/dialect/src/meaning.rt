@@ -12,9 +12,7 @@ use crate::number::{exptime_of, flags_of, size_of, unsigned_in};
 use crate::part::Part;
 use crate::reading::{push_some, read_keys};
 use crate::turn::{Notice, Show, Turn};
-use proto::{
-    Command, Header, Key, Kind, MOST_BLOCK_BYTES, StoreVerb, Update, is_key_text,
-};
+use proto::{Command, Header, Key, Kind, MOST_BLOCK_BYTES, StoreVerb, Update, is_key_text};
 use std::alloc::{AllocError, Global};
 
 /// The longest runs of bytes other than a space.
@@ -49,11 +47,7 @@ fn is_quiet(words: &[&[u8]]) -> bool
 pub fn said(quiet: bool, notice: Notice) -> Option<Turn>
     ensures { result ≡ spec.said quiet notice }
 {
-    if quiet {
-        None
-    } else {
-        Some(Turn::Say(notice))
-    }
+    if quiet { None } else { Some(Turn::Say(notice)) }
 }
 
 fn says(quiet: bool, notice: Notice) -> Line
@@ -263,12 +257,7 @@ fn counting(up: bool, key: Key, delta: u64) -> Update
     }
 }
 
-fn delta_line(
-    alloc: Global,
-    up: bool,
-    quiet: bool,
-    words: &[&[u8]],
-) -> Result<Line, AllocError>
+fn delta_line(alloc: Global, up: bool, quiet: bool, words: &[&[u8]]) -> Result<Line, AllocError>
     ensures { IfOk result (λ l. l ≡ spec.delta_line up quiet (map (λ w. w.now) words.now)) }
 {
     let [key, delta, last @ ..] = words else {
@@ -332,12 +321,7 @@ fn timed(words: &[&[u8]]) -> Result<i32, Notice>
     exptime_of(exptime).ok_or(Notice::BadExptime)
 }
 
-fn line_of(
-    alloc: Global,
-    name: Name,
-    quiet: bool,
-    words: &[&[u8]],
-) -> Result<Line, AllocError>
+fn line_of(alloc: Global, name: Name, quiet: bool, words: &[&[u8]]) -> Result<Line, AllocError>
     ensures { IfOk result (λ l. l ≡ spec.line_of name quiet (map (λ w. w.now) words.now)) }
 {
     Ok(match name {
@@ -406,11 +390,7 @@ fn without_return(line: &[u8]) -> &[u8]
     front
 }
 
-fn read_words(
-    alloc: Global,
-    words: &[&[u8]],
-    turns: &mut Vec<Turn>,
-) -> Result<Part, AllocError>
+fn read_words(alloc: Global, words: &[&[u8]], turns: &mut Vec<Turn>) -> Result<Part, AllocError>
     ensures turns { OnOk result (turns.new.items ≡ turns.old.items ++ (meaning_of_words (map (λ w. w.now) words.now)).turns) }
     ensures part { IfOk result (λ part. part ≡ (meaning_of_words (map (λ w. w.now) words.now)).part) }
 {
@@ -429,11 +409,7 @@ fn read_words(
 
 /// Adds the turns of a line, by its bytes before the newline. What is read next.
 #[tactic(auto, unfolding(crate::specs::Meaning::meaning))]
-pub fn read_line(
-    alloc: Global,
-    line: &[u8],
-    turns: &mut Vec<Turn>,
-) -> Result<Part, AllocError>
+pub fn read_line(alloc: Global, line: &[u8], turns: &mut Vec<Turn>) -> Result<Part, AllocError>
     ensures turns { OnOk result (turns.new.items ≡ turns.old.items ++ (meaning line.now).turns) }
     ensures part { IfOk result (λ part. part ≡ (meaning line.now).part) }
 {

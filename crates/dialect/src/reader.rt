@@ -37,11 +37,7 @@ impl Model for Reader {
 }
 
 /// Reads all of the piece, and adds the turns that end in it.
-fn read_piece(
-    alloc: Global,
-    stage: &mut Stage,
-    piece: &[u8],
-) -> Result<Vec<Turn>, AllocError>
+fn read_piece(alloc: Global, stage: &mut Stage, piece: &[u8]) -> Result<Vec<Turn>, AllocError>
     requires { IsState (staged stage.old) }
     ensures runs { IfOk result (λ turns. Runs (staged stage.old) piece.now [] turns.items (staged stage.new)) }
     ensures state { OnOk result (IsState (staged stage.new)) }

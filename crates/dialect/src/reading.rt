@@ -82,11 +82,7 @@ fn one_key(alloc: Global, word: &[u8]) -> Result<Vec<Key>, AllocError>
 }
 
 /// The keys of a piece that has one, and how many bytes its line has.
-fn first_key(
-    alloc: Global,
-    reading: Reading,
-    word: &[u8],
-) -> Result<(Vec<Key>, usize), AllocError>
+fn first_key(alloc: Global, reading: Reading, word: &[u8]) -> Result<(Vec<Key>, usize), AllocError>
     requires { is_key word.now ≡ true }
     ensures { IfOk result (λ r. (r.0.items ≡ word.now ∷ []) × spec.IsPiece reading r.0.items r.1) }
 {

@@ -147,9 +147,7 @@ impl Stage {
                     && piece.len() < MOST_LINE_BYTES - self.held.len()
                     && newline_in(piece).is_none()
             }
-            Part::Block(header) => {
-                piece.len() < header.size as usize + 2 - self.held.len()
-            }
+            Part::Block(header) => { piece.len() < header.size as usize + 2 - self.held.len() }
             Part::Unread(left, _) => piece.len() < *left as usize,
             Part::Closed => true,
         }

@@ -6,9 +6,13 @@ use std::alloc::{AllocError, Global};
 use std::test::Fail;
 
 const FORMAT: &[u8] = b"CLIENT_ERROR bad command line format\r\n";
+
 const UNKNOWN: &[u8] = b"ERROR\r\n";
+
 const BAD_TIME: &[u8] = b"CLIENT_ERROR invalid exptime argument\r\n";
+
 const BAD_DELTA: &[u8] = b"CLIENT_ERROR invalid numeric delta argument\r\n";
+
 const BAD_DELETE: &[u8] =
     b"CLIENT_ERROR bad command line format.  Usage: delete <key> [noreply]\r\n";
 
@@ -21,8 +25,14 @@ const STORAGE: [Row; 26] = [
     (b"replace k 0 0 0\r\n\r\n", b"replace k 0 0 \n"),
     (b"append k 0 0 1 more\r\nx\r\n", b"append k 0 0 x\n"),
     (b"prepend k +4294967297 0 +1\r\nx\r\n", b"prepend k 1 0 x\n"),
-    (b"cas k 0 0 1 18446744073709551615\r\nx\r\n", b"cas k 0 0 x 18446744073709551615\n"),
-    (b"cas k 0 0 1 2 noreply\r\nx\r\n", b"cas k 0 0 x 2 (quiet)\n"),
+    (
+        b"cas k 0 0 1 18446744073709551615\r\nx\r\n",
+        b"cas k 0 0 x 18446744073709551615\n",
+    ),
+    (
+        b"cas k 0 0 1 2 noreply\r\nx\r\n",
+        b"cas k 0 0 x 2 (quiet)\n",
+    ),
     // Of an expiry time the lower 32 bits count, with a sign.
     (b"set k 0 4294967295 1\r\nx\r\n", b"set k 0 -1 x\n"),
     (b"set k 0 2147483648 1\r\nx\r\n", b"set k 0 -2147483648 x\n"),
@@ -37,13 +47,22 @@ const STORAGE: [Row; 26] = [
     (b"cas k 0 0 9 x\r\nflush_all\r\n", FORMAT),
     (b"set \x7f 0 0 9\r\nflush_all\r\n", FORMAT),
     // There is no size, so there is no block.
-    (b"set k 0 0 -1\r\nmn\r\n", b"CLIENT_ERROR bad command line format\r\nMN\r\n"),
-    (b"set k 0 0 2147483646\r\nmn\r\n", b"CLIENT_ERROR bad command line format\r\nMN\r\n"),
+    (
+        b"set k 0 0 -1\r\nmn\r\n",
+        b"CLIENT_ERROR bad command line format\r\nMN\r\n",
+    ),
+    (
+        b"set k 0 0 2147483646\r\nmn\r\n",
+        b"CLIENT_ERROR bad command line format\r\nMN\r\n",
+    ),
     (b"set k 0 0\r\nmn\r\n", b"ERROR\r\nMN\r\n"),
     (b"set k 0 0 1 noreply more\r\nmn\r\n", b"ERROR\r\nMN\r\n"),
     (b"cas k 0 0 1\r\nmn\r\n", b"ERROR\r\nMN\r\n"),
     // A block whose end is no line end is read on behind.
-    (b"set k 0 0 1\r\n5xxmn\r\n", b"CLIENT_ERROR bad data chunk\r\nMN\r\n"),
+    (
+        b"set k 0 0 1\r\n5xxmn\r\n",
+        b"CLIENT_ERROR bad data chunk\r\nMN\r\n",
+    ),
     (b"set k 0 0 1 noreply\r\n5xxmn\r\n", b"MN\r\n"),
 ];
 
@@ -64,7 +83,10 @@ const OTHERS: [Row; 36] = [
     (b"touch k x noreply\r\n", b""),
     (b"incr k 1\r\n", b"incr k 1\n"),
     (b"incr k +1 noreply\r\n", b"incr k 1 (quiet)\n"),
-    (b"decr k 18446744073709551615\n", b"decr k 18446744073709551615\n"),
+    (
+        b"decr k 18446744073709551615\n",
+        b"decr k 18446744073709551615\n",
+    ),
     (b"decr k 18446744073709551616\r\n", BAD_DELTA),
     (b"incr k -1\r\n", BAD_DELTA),
     (b"incr k x noreply\r\n", b""),

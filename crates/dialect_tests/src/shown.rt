@@ -26,20 +26,28 @@ fn is_shown(alloc: Global, reply: &Reply, show: Show, expected: &[u8]) -> Result
 }
 
 fn are_items_shown(alloc: Global, reply: &Reply) -> Result<bool, AllocError> {
-    Ok(is_shown(alloc, reply, Show::Whole, b"> VALUE k 7 5\r\nhello\r\nEND\r\n")?
-        && is_shown(alloc, reply, Show::Items, b"> VALUE k 7 5\r\nhello\r\n")?
-        && is_shown(alloc, reply, Show::Quiet, b"> ")?)
+    Ok(
+        is_shown(
+            alloc,
+            reply,
+            Show::Whole,
+            b"> VALUE k 7 5\r\nhello\r\nEND\r\n",
+        )? && is_shown(alloc, reply, Show::Items, b"> VALUE k 7 5\r\nhello\r\n")?
+            && is_shown(alloc, reply, Show::Quiet, b"> ")?,
+    )
 }
 
 fn is_delete_shown(alloc: Global, reply: &Reply) -> Result<bool, AllocError> {
-    Ok(is_shown(alloc, reply, Show::Whole, b"> DELETED\r\n")?
-        && is_shown(alloc, reply, Show::Items, b"> DELETED\r\n")?
-        && is_shown(
-            alloc,
-            reply,
-            Show::Instead(Notice::TooLarge),
-            b"> SERVER_ERROR object too large for cache\r\n",
-        )?)
+    Ok(
+        is_shown(alloc, reply, Show::Whole, b"> DELETED\r\n")?
+            && is_shown(alloc, reply, Show::Items, b"> DELETED\r\n")?
+            && is_shown(
+                alloc,
+                reply,
+                Show::Instead(Notice::TooLarge),
+                b"> SERVER_ERROR object too large for cache\r\n",
+            )?,
+    )
 }
 
 #[test]

@@ -91,8 +91,15 @@ fn is_line_told(alloc: Global, count: usize, expected: &[u8]) -> Result<bool, Al
 
 fn are_lines_told(alloc: Global) -> Result<bool, AllocError> {
     Ok(
-        is_line_told(alloc, MOST_LINE_BYTES - 1, b"CLIENT_ERROR bad command line format\r\nMN\r\n")?
-            && is_line_told(alloc, MOST_LINE_BYTES, b"CLIENT_ERROR line too long\r\nclosed\n")?,
+        is_line_told(
+            alloc,
+            MOST_LINE_BYTES - 1,
+            b"CLIENT_ERROR bad command line format\r\nMN\r\n",
+        )? && is_line_told(
+            alloc,
+            MOST_LINE_BYTES,
+            b"CLIENT_ERROR line too long\r\nclosed\n",
+        )?,
     )
 }
 
@@ -107,27 +114,29 @@ fn is_large_told(
 }
 
 fn are_large_told(alloc: Global, zeros: &[u8]) -> Result<bool, AllocError> {
-    Ok(is_large_told(
-        alloc,
-        b"set k 0 0 1048577\r\n",
-        zeros,
-        b"delete k -> SERVER_ERROR object too large for cache\r\nMN\r\n",
-    )? && is_large_told(
-        alloc,
-        b"set k 0 0 1048577 noreply\r\n",
-        zeros,
-        b"delete k (quiet)\nMN\r\n",
-    )? && is_large_told(
-        alloc,
-        b"add k 0 0 1048577\r\n",
-        zeros,
-        b"SERVER_ERROR object too large for cache\r\nMN\r\n",
-    )? && is_large_told(
-        alloc,
-        b"append k 0 x 1048577\r\n",
-        zeros,
-        b"CLIENT_ERROR bad command line format\r\nMN\r\n",
-    )?)
+    Ok(
+        is_large_told(
+            alloc,
+            b"set k 0 0 1048577\r\n",
+            zeros,
+            b"delete k -> SERVER_ERROR object too large for cache\r\nMN\r\n",
+        )? && is_large_told(
+            alloc,
+            b"set k 0 0 1048577 noreply\r\n",
+            zeros,
+            b"delete k (quiet)\nMN\r\n",
+        )? && is_large_told(
+            alloc,
+            b"add k 0 0 1048577\r\n",
+            zeros,
+            b"SERVER_ERROR object too large for cache\r\nMN\r\n",
+        )? && is_large_told(
+            alloc,
+            b"append k 0 x 1048577\r\n",
+            zeros,
+            b"CLIENT_ERROR bad command line format\r\nMN\r\n",
+        )?,
+    )
 }
 
 /// Whether a block of the greatest size is stored: its bytes come behind the words of the command.

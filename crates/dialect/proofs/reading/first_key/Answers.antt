@@ -7,5 +7,5 @@ pub returns : goal.returns
 returns c = (
   c.in_ok-keys.ensures,
   subst (λ (ks : List (List ℕ)). IsPiece c.args.reading ks (c.head_len.result + length c.args.word.now + 3)) (sym c.in_ok-keys.ensures)
-  (one_piece c.args.reading c.args.word.now c.head_len.result c.head_len.ensures.bytes c.head_len.ensures.short c.requires),
+      (one_piece c.args.reading c.args.word.now c.head_len.result c.head_len.ensures.bytes c.head_len.ensures.short c.requires),
 )
