@@ -27,13 +27,15 @@ keys_asked Gets ks = refl
 keys_asked (Gat exptime) ks = refl
 keys_asked (Gats exptime) ks = refl
 
-pub keys_kept : (r : Reading) (ks more : List (List ℕ)) → all_keys (pieces r ks more) ≡ ks ++ more
+keys_either : (r : Reading) (ks : List (List ℕ)) (k : List ℕ) (more : List (List ℕ)) (b : Bool) → all_keys (pieces r (ks ++ k ∷ []) more) ≡ (ks ++ k ∷ []) ++ more → all_keys (pieces r (k ∷ []) more) ≡ k ∷ more
+    → all_keys (if b then pieces r (ks ++ k ∷ []) more else Ask (asked r ks) show.Items ∷ pieces r (k ∷ []) more) ≡ ks ++ k ∷ more
+keys_either r ks k more true p q = p ∙ append_assoc ks (k ∷ []) more
+keys_either r ks k more false p q =
+    ap (λ (ys : List (List ℕ)). ys ++ all_keys (pieces r (k ∷ []) more)) (keys_asked r ks) ∙ ap (λ (ys : List (List ℕ)). ks ++ ys) q
+
+keys_kept : (r : Reading) (ks more : List (List ℕ)) → all_keys (pieces r ks more) ≡ ks ++ more
 keys_kept r ks [] = ap (λ (ys : List (List ℕ)). ys ++ []) (keys_asked r ks)
-keys_kept r ks (k ∷ more) = by (fits r (ks ++ k ∷ []))
-  where
-    by : (b : Bool) → all_keys (if b then pieces r (ks ++ k ∷ []) more else Ask (asked r ks) show.Items ∷ pieces r (k ∷ []) more) ≡ ks ++ k ∷ more
-    by true = keys_kept r (ks ++ k ∷ []) more ∙ append_assoc ks (k ∷ []) more
-    by false = ap (λ (ys : List (List ℕ)). ys ++ all_keys (pieces r (k ∷ []) more)) (keys_asked r ks) ∙ ap (λ (ys : List (List ℕ)). ks ++ ys) (keys_kept r (k ∷ []) more)
+keys_kept r ks (k ∷ more) = keys_either r ks k more (fits r (ks ++ k ∷ [])) (keys_kept r (ks ++ k ∷ []) more) (keys_kept r (k ∷ []) more)
 
 all_push : (ks : List (List ℕ)) (k : List ℕ) → list_all is_key ks ≡ true → is_key k ≡ true → list_all is_key (ks ++ k ∷ []) ≡ true
 all_push [] k e f = ap (λ (b : Bool). b && true) f
@@ -59,43 +61,56 @@ one_good r k h e = record {
   short = let small : length k ≤ 250 = key_short k e in omega (arith, text_one r k, small, h);
 }
 
+longer_good : (r : Reading) (ks : List (List ℕ)) (k : List ℕ) → Good r ks → is_key k ≡ true → fits r (ks ++ k ∷ []) ≡ true → Good r (ks ++ k ∷ [])
+longer_good r ks k g e f = record {
+  valid = all_push ks k g.valid e;
+  some = omega (arith, length-append ks (k ∷ []));
+  few = fits_few r (ks ++ k ∷ []) f;
+  short = fits_short r (ks ++ k ∷ []) f;
+}
+
+either_pieces : (r : Reading) (ks : List (List ℕ)) (k : List ℕ) (more : List (List ℕ)) (b : Bool) → fits r (ks ++ k ∷ []) ≡ b → Good r ks
+    → (fits r (ks ++ k ∷ []) ≡ true → ArePieces r (pieces r (ks ++ k ∷ []) more)) → ArePieces r (pieces r (k ∷ []) more)
+    → ArePieces r (if b then pieces r (ks ++ k ∷ []) more else Ask (asked r ks) show.Items ∷ pieces r (k ∷ []) more)
+either_pieces r ks k more true f g p q = p f
+either_pieces r ks k more false f g p q = (as_turn r ks show.Items g, q)
+
 are_pieces : (r : Reading) (ks more : List (List ℕ)) → length (head r) ≤ 45 → Good r ks → list_all is_key more ≡ true → ArePieces r (pieces r ks more)
 are_pieces r ks [] h g e = (as_turn r ks show.Whole g, tt)
-are_pieces r ks (k ∷ more) h g e = by (fits r (ks ++ k ∷ [])) refl
-  where
-    parts : (is_key k ≡ true) × (list_all is_key more ≡ true)
-    parts = and_parts (is_key k) (list_all is_key more) e
+are_pieces r ks (k ∷ more) h g e =
+    let parts = and_parts (is_key k) (list_all is_key more) e in
+    either_pieces r ks k more (fits r (ks ++ k ∷ [])) refl g (λ f. are_pieces r (ks ++ k ∷ []) more h (longer_good r ks k g parts.0 f) parts.1)
+    (are_pieces r (k ∷ []) more h (one_good r k h parts.0) parts.1)
 
-    by : (b : Bool) → fits r (ks ++ k ∷ []) ≡ b → ArePieces r (if b then pieces r (ks ++ k ∷ []) more else Ask (asked r ks) show.Items ∷ pieces r (k ∷ []) more)
-    by true f = are_pieces r (ks ++ k ∷ []) more h (record {
-      valid = all_push ks k g.valid parts.0;
-      some = omega (arith, length-append ks (k ∷ []));
-      few = fits_few r (ks ++ k ∷ []) f;
-      short = fits_short r (ks ++ k ∷ []) f;
-    }) parts.1
-    by false f = (as_turn r ks show.Items g, are_pieces r (k ∷ []) more h (one_good r k h parts.0) parts.1)
-
-pub pieces_of_keys : (r : Reading) (k : List ℕ) (ks : List (List ℕ)) → length (head r) ≤ 45 → list_all is_key (k ∷ ks) ≡ true → ArePieces r (pieces r (k ∷ []) ks)
+pieces_of_keys : (r : Reading) (k : List ℕ) (ks : List (List ℕ)) → length (head r) ≤ 45 → list_all is_key (k ∷ ks) ≡ true → ArePieces r (pieces r (k ∷ []) ks)
 pieces_of_keys r k ks h e =
     let parts = and_parts (is_key k) (list_all is_key ks) e in
     are_pieces r (k ∷ []) ks h (one_good r k h parts.0) parts.1
 
--- what is given for the pieces is what is given for one command that finds all of it
-pub shown_as_one : (r : Reading) (ks more : List (List ℕ)) (found : List (List Found)) → length found ≡ length (pieces r ks more)
-    → bytes_shown (pieces r ks more) found ≡ reply_text (reply.Values (all_found found))
-shown_as_one r ks [] [] e = absurd (omega arith)
-shown_as_one r ks [] (f ∷ []) e = append-nil (reply_text (reply.Values f)) ∙ ap (λ (fs : List Found). reply_text (reply.Values fs)) (sym (append-nil f))
-shown_as_one r ks [] (f ∷ g ∷ found) e = absurd (omega arith)
-shown_as_one r ks (k ∷ more) found e = by (fits r (ks ++ k ∷ [])) found e
-  where
-    by : (b : Bool) (found : List (List Found)) → length found ≡ length (if b then pieces r (ks ++ k ∷ []) more else Ask (asked r ks) show.Items ∷ pieces r (k ∷ []) more)
-        → bytes_shown (if b then pieces r (ks ++ k ∷ []) more else Ask (asked r ks) show.Items ∷ pieces r (k ∷ []) more) found ≡ reply_text (reply.Values (all_found found))
-    by true found e = shown_as_one r (ks ++ k ∷ []) more found e
-    by false [] e = absurd (omega arith)
-    by false (f ∷ found) e =
-        ap (λ (bytes : List ℕ). flat_map value_text f ++ bytes) (shown_as_one r (k ∷ []) more found (omega arith))
-        ∙ sym (append_assoc (flat_map value_text f) (flat_map value_text (all_found found)) (codes "END\r\n"))
-        ∙ ap (λ (bytes : List ℕ). bytes ++ codes "END\r\n") (sym (flat_map-append value_text f (all_found found)))
+-- what is given for some turns, where each finds what is here, is what one command gives that finds all of it
+abbrev ShowsAsOne : List Turn → Type 0
+ShowsAsOne turns = (found : List (List Found)) → length found ≡ length turns → bytes_shown turns found ≡ reply_text (reply.Values (all_found found))
+
+last_shown : (r : Reading) (ks : List (List ℕ)) → ShowsAsOne (Ask (asked r ks) show.Whole ∷ [])
+last_shown r ks [] e = absurd (omega arith)
+last_shown r ks (f ∷ []) e = append-nil (reply_text (reply.Values f)) ∙ ap (λ (fs : List Found). reply_text (reply.Values fs)) (sym (append-nil f))
+last_shown r ks (f ∷ g ∷ found) e = absurd (omega arith)
+
+more_shown : (r : Reading) (ks : List (List ℕ)) (turns : List Turn) → ShowsAsOne turns → ShowsAsOne (Ask (asked r ks) show.Items ∷ turns)
+more_shown r ks turns p [] e = absurd (omega arith)
+more_shown r ks turns p (f ∷ found) e =
+    ap (λ (bytes : List ℕ). flat_map value_text f ++ bytes) (p found (omega arith))
+    ∙ sym (append_assoc (flat_map value_text f) (flat_map value_text (all_found found)) (codes "END\r\n"))
+    ∙ ap (λ (bytes : List ℕ). bytes ++ codes "END\r\n") (sym (flat_map-append value_text f (all_found found)))
+
+either_shown : (r : Reading) (ks : List (List ℕ)) (k : List ℕ) (more : List (List ℕ)) (b : Bool) → ShowsAsOne (pieces r (ks ++ k ∷ []) more) → ShowsAsOne (pieces r (k ∷ []) more)
+    → ShowsAsOne (if b then pieces r (ks ++ k ∷ []) more else Ask (asked r ks) show.Items ∷ pieces r (k ∷ []) more)
+either_shown r ks k more true p q = p
+either_shown r ks k more false p q = more_shown r ks (pieces r (k ∷ []) more) q
+
+shown_as_one : (r : Reading) (ks more : List (List ℕ)) → ShowsAsOne (pieces r ks more)
+shown_as_one r ks [] = last_shown r ks
+shown_as_one r ks (k ∷ more) = either_shown r ks k more (fits r (ks ++ k ∷ [])) (shown_as_one r (ks ++ k ∷ []) more) (shown_as_one r (k ∷ []) more)
 
 -- the turns of a line of keys are its pieces
 turns_are : (r : Reading) (k : List ℕ) (ks : List (List ℕ)) → list_all is_key (k ∷ ks) ≡ true → read_turns r (k ∷ ks) ≡ pieces r (k ∷ []) ks

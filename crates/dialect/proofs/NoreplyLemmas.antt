@@ -154,5 +154,5 @@ noreply_gives_nothing line i =
     let base : GivesNone (given (line_of i.called true i.others) i.others) = given_mute (line_of i.called true i.others) i.others (line_mute i.called i.others i.takes) in
     let quiet : GivesNone (given (line_of i.called (is_quiet i.others) i.others) i.others) = subst (λ (q : Bool). GivesNone (given (line_of i.called q i.others) i.others)) (sym i.last) base in
     let named : GivesNone (meaning_of_words (i.first ∷ i.others)) =
-    subst (λ (n : Option Name). GivesNone (option_map_or (λ (m : Name). given (line_of m (is_quiet i.others) i.others) i.others) n unknown)) (sym i.calledd) quiet in
+    subst (λ (n : Option Name). GivesNone (option_map_or (λ (m : Name). given (line_of m (is_quiet i.others) i.others) i.others) n unknown)) (sym i.named) quiet in
     subst (λ (ws : List (List ℕ)). GivesNone (meaning_of_words ws)) (sym i.splits) named

@@ -32,13 +32,14 @@ use Rattle.dialect.specs.declared.line.Line.TheVariants.{Gives, Closes, Reads, O
 abbrev IsEither : List Turn → Type 0
 IsEither turns = (speaks turns ≡ false) ⊎ (commands turns ≡ [])
 
+ask_either : (r : Reading) (ks : List (List ℕ)) (k : List ℕ) (more : List (List ℕ)) (b : Bool) → speaks (pieces r (ks ++ k ∷ []) more) ≡ false → speaks (pieces r (k ∷ []) more) ≡ false
+    → speaks (if b then pieces r (ks ++ k ∷ []) more else Ask (asked r ks) show.Items ∷ pieces r (k ∷ []) more) ≡ false
+ask_either r ks k more true p q = p
+ask_either r ks k more false p q = q
+
 pieces_ask : (r : Reading) (ks more : List (List ℕ)) → speaks (pieces r ks more) ≡ false
 pieces_ask r ks [] = refl
-pieces_ask r ks (k ∷ more) = by (fits r (ks ++ k ∷ []))
-  where
-    by : (b : Bool) → speaks (if b then pieces r (ks ++ k ∷ []) more else Ask (asked r ks) show.Items ∷ pieces r (k ∷ []) more) ≡ false
-    by true = pieces_ask r (ks ++ k ∷ []) more
-    by false = pieces_ask r (k ∷ []) more
+pieces_ask r ks (k ∷ more) = ask_either r ks k more (fits r (ks ++ k ∷ [])) (pieces_ask r (ks ++ k ∷ []) more) (pieces_ask r (k ∷ []) more)
 
 reads_either : (r : Reading) (ks : List (List ℕ)) → IsEither (read_turns r ks)
 reads_either r [] = inr refl

@@ -34,7 +34,7 @@ run_after_line : (text after : List ℕ) → IsLine text → run start (text ++ 
 run_after_line text after l =
     ap (run start) (sym (append_assoc text (10 ∷ []) after))
     ∙ run-append start (text ++ 10 ∷ []) after
-    ∙ ap (λ (s : Step). and_then s.turns (run s.state after)) (run_end [] text (not_binary text l.is_text) l.one_line l.short)
+    ∙ ap (λ (s : Step). and_then s.turns (run s.state after)) (run_end [] text (not_binary text l.is_text) l.one_line (omega (arith, l.short)))
 
 turns_after : (text after : List ℕ) → IsLine text → (p : Part) → (meaning text).part ≡ p → (s : Step) → run (state_at p []) after ≡ s
     → (meaning text).turns ++ s.turns ≡ (run start (text ++ 10 ∷ after)).turns
@@ -54,7 +54,7 @@ run_from_start : (s : State) (a b : List ℕ) (ts : List Turn) → run s a ≡ t
 run_from_start s a b ts e = run-append s a b ∙ ap (λ (t : Step). and_then t.turns (run t.state b)) e
 
 pub spelled_is_run : (bytes : List ℕ) (turns : List Turn) → Spells bytes turns → turns ≡ (run start bytes).turns
-spelled_is_run _ _ (part_of_line text l) = sym (ap (λ (s : Step). s.turns) (run_line [] text (not_binary text l.is_text) l.one_line l.short))
+spelled_is_run _ _ (part_of_line text l) = sym (ap (λ (s : Step). s.turns) (run_line [] text (not_binary text l.is_text) l.one_line (omega (arith, l.short))))
 spelled_is_run _ _ (part_of_block text block l e) =
     sym (append-nil (meaning text).turns) ∙ ap (λ (ts : List Turn). (meaning text).turns ++ ts) (sym (part_gives (meaning text).part block e))
     ∙ turns_after text block l (meaning text).part refl (run (state_at (meaning text).part []) block) refl

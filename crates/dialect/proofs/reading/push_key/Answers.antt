@@ -12,7 +12,7 @@ use Rattle.dialect.proofs.reading.push_key.Goals as goal
 
 pub returns-then-has_room-clause-piece : goal.returns-then-has_room-clause-piece
 returns-then-has_room-clause-piece c =
-    let count : c.len.result ≡ length c.args.keys.now.items = first_of (c.len.ensures, search rules) in
+    let count : c.len.result ≡ length c.args.keys.now.items = search rules in
     let room : has_room (length c.args.keys.now.items) (c.args.bytes + length c.args.word.now + 1) ≡ true =
     ap (λ (n : ℕ). has_room n (c.args.bytes + length c.args.word.now + 1)) (sym count) ∙ sym c.has_room.ensures ∙ c.if-has_room.true in
     let now : c.push.new.self.items ≡ c.args.keys.now.items ++ c.args.word.now ∷ [] =
@@ -22,7 +22,7 @@ returns-then-has_room-clause-piece c =
 
 pub returns-then-has_room-clause-turns : goal.returns-then-has_room-clause-turns
 returns-then-has_room-clause-turns c =
-    let count : c.len.result ≡ length c.args.keys.now.items = first_of (c.len.ensures, search rules) in
+    let count : c.len.result ≡ length c.args.keys.now.items = search rules in
     let room : has_room (length c.args.keys.now.items) (c.args.bytes + length c.args.word.now + 1) ≡ true =
     ap (λ (n : ℕ). has_room n (c.args.bytes + length c.args.word.now + 1)) (sym count) ∙ sym c.has_room.ensures ∙ c.if-has_room.true in
     let now : c.push.new.self.items ≡ c.args.keys.now.items ++ c.args.word.now ∷ [] =
@@ -33,7 +33,7 @@ returns-then-has_room-clause-turns c =
 
 pub returns-clause-turns : goal.returns-clause-turns
 returns-clause-turns c =
-    let count : c.len.result ≡ length c.args.keys.now.items = first_of (c.len.ensures, search rules) in
+    let count : c.len.result ≡ length c.args.keys.now.items = search rules in
     let room : has_room (length c.args.keys.now.items) (c.args.bytes + length c.args.word.now + 1) ≡ false =
     ap (λ (n : ℕ). has_room n (c.args.bytes + length c.args.word.now + 1)) (sym count) ∙ sym c.has_room.ensures ∙ c.if-has_room.false in
     let command : c.asked.result ≡ asked c.args.reading c.args.keys.now.items =

@@ -8,7 +8,7 @@ use Rattle.dialect.proofs.reading.push_pieces.Given as goal
 abbrev pub invariant-loop-word : goal.invariant-loop-word
 invariant-loop-word l = record {
   turns : l.turns.items ++ pieces l.reading l.keys.items (map (λ w. w.now) (drop l.word-index l.others))
-      ≡ l.fn.turns.items ++ pieces l.reading (l.first.now ∷ []) (map (λ w. w.now) l.others);
+      ≡ l.fn.turns.items ++ pieces l.reading (l.first ∷ []) (map (λ w. w.now) l.others);
   piece : IsPiece l.reading l.keys.items l.bytes;
   rest : list_all is_key (map (λ w. w.now) (drop l.word-index l.others)) ≡ true;
 }
