@@ -27,7 +27,7 @@ fn begin<S: Store>(alloc: Global, store: &mut S, table: u32) -> Result<(), Store
     store.seek(0, table, &key, Direction::Forward)
 }
 
-/// ReadsRows the row at the cursor, if there is one, behind these.
+/// Reads the row at the cursor, if there is one, behind these.
 fn step<S: Store>(alloc: Global, store: &mut S, rows: &mut Vec<Row>) -> Result<bool, StoreError>
     requires live { IsSome ((S.view store.old).cursors 0) }
     ensures read { IfOk result (λ found. IsClean (S.view store.new) → ReadsRows (S.view store.old) rows.old.items found (S.view store.new) rows.new.items) }
