@@ -21,13 +21,13 @@ pub fn chosen_is_backed()
     ensures { AllBacked }
 {}
 
-/// Where at most `u` verifiers are lost, the record of another holds each chosen decree, in its log
+/// If at most `u` verifiers are lost, the record of another holds each chosen decree, in its log
 /// or as what it has accepted, or it begins above the decree with what stands there.
 pub fn chosen_is_kept()
     ensures { AllKept }
 {}
 
-/// Where no verifier is told to forget decrees, that record holds the decree itself.
+/// If no verifier is to forget decrees, that record holds the decree itself.
 pub fn chosen_is_held()
     ensures { AllHeld }
 {}
@@ -71,7 +71,7 @@ pub fn records_are_read_back()
     ensures { RecordsAreReadBack }
 {}
 
-/// Where a verifier of the machine is one of the code, an Ok of `Verifier::handle` is a step that is
+/// If a verifier of the machine is one of the code, an Ok of `Verifier::handle` is a step that is
 /// done, with its letters and its record.
 pub fn handled_is_done()
     ensures { HandledIsDone }
@@ -82,7 +82,7 @@ pub fn refused_is_stopped()
     ensures { RefusedIsStopped }
 {}
 
-/// An Ok of `Verifier::open` is a Restart that is done: of a new verifier, or from its record, where
+/// An Ok of `Verifier::open` is a Restart that is done: of a new verifier, or from its record, if
 /// this begins at what could stand there.
 pub fn opened_is_done()
     ensures { OpenedIsDone }

@@ -1,6 +1,6 @@
 //! Laws of agreement: what holds whatever the network does, and whichever verifiers stop when.
 //!
-//! It stands on `verifier`, whose step functions the machine of `specs/Machine.antt` is made of. The
+//! It is built on `verifier`, whose step functions the machine of `specs/Machine.antt` is made of. The
 //! layer above uses the lemmas of `proofs/Machine.antt`, or calls a law: each is the contract of a
 //! function that does nothing.
 #![tactic(auto)]

@@ -39,7 +39,7 @@ fn read_through<R: Read>(
 
 /// Reads to the end. A read that is interrupted is made again.
 ///
-/// `Read` where a read failed otherwise, `Refused` of `NoMemory` where memory ran out.
+/// `Read` if a read failed otherwise, `Refused` of `NoMemory` if memory ran out.
 pub fn read_input<R: Read>(alloc: Global, reader: &mut R) -> Result<Vec<u8>, PlayFault>
     ensures bytes { IfOk result (λ bytes. IfSome (R.remaining reader.old) (λ input. bytes.items ≡ input)) }
     ensures only { IfErr result (λ fault. (fault ≡ PlayFault.Read) ⊎ (fault ≡ PlayFault.Refused NoMemory)) }

@@ -117,7 +117,7 @@ fn write_unread<E: Write>(err: &mut E, name: &str) -> Result<(), usize>
 /// first bad line, or `refused: 1 NoMemory` was written to `err`, and nothing to `out`. `STREAM_FAILED`:
 /// a read failed, and `cannot read` with the name was written to `err`; or a write failed, and nothing
 /// was written after it. If a write to `out` failed, what was written before it is a beginning of the lines,
-/// and `err` is untouched. `progress` is told of each event that happens as the events are made; then they
+/// and `err` is untouched. `progress` sees each event that happens as the events are made; then they
 /// are played once more, from the first world on, for what is shown.
 #[tactic(auto, using(crate::proofs::PlayLemmas::all_known, crate::proofs::PlayLemmas::part_known, crate::proofs::PlayLemmas::refusal_known))]
 pub fn play_text<R: Read, O: WriteOnce, E: Write, P: Progress>(

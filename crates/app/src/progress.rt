@@ -1,6 +1,6 @@
 //! How far a play is, for those who wait for it.
 
-/// Is told how far a play is.
+/// Sees how far a play is.
 pub trait Progress {
     /// So many events have happened by now.
     fn happened(&mut self, events: usize);

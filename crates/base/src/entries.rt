@@ -12,7 +12,7 @@ use crate::key::MapKey;
 use std::alloc::AllocError;
 use std::cmp::Ordering;
 
-/// Where the key stands, or would stand.
+/// Where the key is, or would be.
 fn place_of<K: MapKey, V>(entries: &[Entry<K, V>], key: &K) -> Result<usize, usize>
     requires { IsTrue (is_sorted K.cmp entries.now) }
     ensures found { IfOk result (IsAt K.cmp entries.now key.now) }

@@ -54,7 +54,7 @@ impl<K, V> Entry<K, V> {
 impl<K: Drop, V: Drop> Clone for Entry<K, V> {
     ghost is_clone = { λ entry copy. copy ≡ entry };
 
-    /// The same entry, shared. It takes no memory, and fails only where an entry has too many
+    /// The same entry, shared. It takes no memory, and fails only if an entry has too many
     /// clones to be counted.
     fn clone(&self) -> Result<Entry<K, V>, AllocError> {
         Ok(Entry {

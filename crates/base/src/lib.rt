@@ -1,7 +1,7 @@
-//! What all other crates may stand on: a map in one sorted vector of shared entries, lists with
+//! What all other crates may be built on: a map in one sorted vector of shared entries, lists with
 //! limits, and texts in pieces that are shared.
 //!
-//! It stands on `thiserror` alone, for `Fault`, the refusals of all calls. The layers above use `SortedMap` (a clone copies pointers, and none
+//! It is built on `thiserror` alone, for `Fault`, the refusals of all calls. The layers above use `SortedMap` (a clone copies pointers, and none
 //! of the keys and values), `Listed`, and `Text`; and, in proofs, what is known of entries that are
 //! sorted by their keys (`Sorted`, `MapLemmas`).
 #![tactic(auto)]

@@ -33,7 +33,7 @@ impl<T, const LEAST: usize, const MOST: usize> Listed<T, LEAST, MOST> {
         Listed { items }
     }
 
-    /// The list of these elements. `None` exactly where they are fewer than `LEAST` or more than
+    /// The list of these elements. `None` exactly if they are fewer than `LEAST` or more than
     /// `MOST`.
     pub fn try_new(items: Vec<T>) -> Option<Listed<T, LEAST, MOST>>
     where

@@ -79,7 +79,7 @@ impl<K: MapKey, V> SortedMap<K, V> {
         self.entries.is_empty()
     }
 
-    /// The value of the key, where it has one.
+    /// The value of the key, if it has one.
     pub fn get(&self, key: &K) -> Option<&V>
         ensures { option_copied result ≡ find K.cmp key.now self.now }
     {
@@ -87,7 +87,7 @@ impl<K: MapKey, V> SortedMap<K, V> {
     }
 
     /// Puts the entry in place of the one that has its key, or between the others. Only a key that
-    /// is new takes memory; where an allocation fails nothing changes.
+    /// is new takes memory; if an allocation fails nothing changes.
     pub fn put(&mut self, entry: Entry<K, V>) -> Result<(), AllocError>
     where
         K: Drop,
@@ -100,7 +100,7 @@ impl<K: MapKey, V> SortedMap<K, V> {
         put_entry(&mut self.entries, entry)
     }
 
-    /// Puts an entry of its own for the key. It takes memory for the entry; where an allocation fails
+    /// Puts an entry of its own for the key. It takes memory for the entry; if an allocation fails
     /// nothing changes.
     pub fn insert(&mut self, key: K, value: V) -> Result<(), AllocError>
     where
@@ -115,7 +115,7 @@ impl<K: MapKey, V> SortedMap<K, V> {
         self.put(entry)
     }
 
-    /// Drops the entry of the key, where there is one. It takes no memory.
+    /// Drops the entry of the key, if there is one. It takes no memory.
     pub fn remove(&mut self, key: &K)
     where
         K: Drop,

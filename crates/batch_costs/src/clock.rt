@@ -6,7 +6,7 @@ use std::time::Instant;
 /// The parts of a batch that are timed.
 pub const PARTS: usize = 4;
 
-/// The microseconds since a moment: 0 where there is no clock.
+/// The microseconds since a moment: 0 if there is no clock.
 fn micros_since(rt: &HostRuntime, since: Option<Instant>) -> u64 {
     let Some(since) = since else {
         return 0;
@@ -65,7 +65,7 @@ impl Times {
         Ok(())
     }
 
-    /// The median of a part: 0 where no batch was timed.
+    /// The median of a part: 0 if no batch was timed.
     pub fn median(&self, alloc: Global, part: usize) -> Result<u64, AllocError> {
         let mut all = Vec::new(alloc);
         for row in &self.rows {

@@ -60,8 +60,8 @@ impl Gather {
         self.held.is_empty()
     }
 
-    /// A request comes. Where the client's request that waits has the same number or a higher one,
-    /// it is ignored; a later one takes its place and goes last. Where an allocation fails nothing
+    /// A request comes. If the client's request that waits has the same number or a higher one,
+    /// it is ignored; a later one takes its place and goes last. If an allocation fails nothing
     /// changes.
     pub fn add(&mut self, request: Request) -> Result<(), AllocError>
         ensures ok { OnOk result (self.new ≡ added request self.old) }
@@ -71,11 +71,11 @@ impl Gather {
     }
 
     /// Takes the first `MOST_REQUESTS` requests that are the next of their clients into a batch, and drops those
-    /// that ran already. The others wait on, in their order. There is no batch where none is next;
-    /// those that ran are dropped all the same. Where none is next and none ran, what waits is only
+    /// that ran already. The others wait on, in their order. There is no batch if none is next;
+    /// those that ran are dropped all the same. If none is next and none ran, what waits is only
     /// looked through.
     ///
-    /// `Full` comes exactly where `n` is above `GREATEST_NUMBER`. After it and after `NoMemory`
+    /// `Full` comes exactly if `n` is above `GREATEST_NUMBER`. After it and after `NoMemory`
     /// nothing has changed.
     pub fn cut(
         &mut self,
@@ -111,7 +111,7 @@ impl Gather {
         }))
     }
 
-    /// The requests of the next batch. Where none is next and none ran already, what waits is not
+    /// The requests of the next batch. If none is next and none ran already, what waits is not
     /// touched; else what waits on is put together anew.
     fn take_fresh(&mut self, alloc: Global, sessions: &Sessions) -> Result<Vec<Request>, AllocError>
         ensures taken { IfOk result (λ requests. requests.items

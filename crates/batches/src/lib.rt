@@ -4,7 +4,7 @@
 //! `MOST_REQUESTS` of them that are the next of their clients into a batch, and drops those that ran
 //! already.
 //!
-//! It stands on `base` (lists with limits), `sessions` (which request is next) and `indexmap` (look-up
+//! It is built on `base` (lists with limits), `sessions` (which request is next) and `indexmap` (look-up
 //! by client, in order of arrival). The layer above uses `Gather::cut`: the batch is exactly what `taken` says of the
 //! requests that wait, and what waits on is exactly what `left` says.
 #![tactic(auto)]

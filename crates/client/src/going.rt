@@ -71,7 +71,7 @@ impl Talk {
         Ok(Vec::new(alloc))
     }
 
-    /// It goes on, behind these bytes, where it is not closed and nothing is outstanding.
+    /// It goes on, behind these bytes, if it is not closed and nothing is outstanding.
     pub(crate) fn go_on(
         &mut self,
         alloc: Global,

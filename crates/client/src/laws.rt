@@ -3,7 +3,7 @@
 ghost use Rattle.client.specs.Laws.{GivenInOrder, NoTurnIsLost, OutstandingIsLast, ClosedIsIdle, UnfitTalkStays};
 
 /// What a client was given are the texts of the first turns that its bytes spell, in order: each turn
-/// once, and for each request a reply that was handed in for it. Where it did not hang up, no turn is
+/// once, and for each request a reply that was handed in for it. If it did not hang up, no turn is
 /// lost: what was not taken is outstanding or waits.
 pub fn turns_are_taken_in_order()
     ensures given { GivenInOrder }
@@ -11,7 +11,7 @@ pub fn turns_are_taken_in_order()
 {}
 
 /// What is outstanding is the client's last request, and its command is the one of that number that the
-/// bytes ask. Where the client is closed nothing is outstanding, and nothing waits.
+/// bytes ask. If the client is closed nothing is outstanding, and nothing waits.
 pub fn outstanding_is_the_last_request()
     ensures last { OutstandingIsLast }
     ensures closed { ClosedIsIdle }

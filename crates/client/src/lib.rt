@@ -1,6 +1,6 @@
 //! A client's part of the server: the bytes of its connection in, its requests out, the replies to bytes.
 //!
-//! It stands on `proto` (what bytes ask, the texts of replies), `sessions` (requests), `decrees` (letters)
+//! It is built on `proto` (what bytes ask, the texts of replies), `sessions` (requests), `decrees` (letters)
 //! and `exec_lines` (what letters say). The layer above uses `Client::handle`: an Ok is the written step
 //! of the input, the letters in order and the bytes that are given. After an error the client is stopped,
 //! and gives nothing more.

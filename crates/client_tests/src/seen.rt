@@ -99,7 +99,7 @@ fn are_asked(
     Ok(letters.len() == executors && each_is_asked(alloc, letters, asked)?)
 }
 
-/// `NotOpen` where something does not hold.
+/// `NotOpen` if something does not hold.
 pub fn holds(is_so: bool) -> Result<(), Fault> {
     if is_so { Ok(()) } else { Err(Fault::NotOpen) }
 }
@@ -111,7 +111,7 @@ fn is_stopped(alloc: Global, client: &mut Client) -> bool {
         && matches!(client.handle(alloc, Input::Hangup), Err(Fault::Stopped))
 }
 
-/// What it gives and asks. Where that is refused, memory was, and it is stopped.
+/// What it gives and asks. If that is refused, memory was, and it is stopped.
 pub fn handled(
     alloc: Global,
     client: &mut Client,

@@ -14,7 +14,7 @@ pub fn committed_is_chosen()
     ensures { CommittedIsChosen }
 {}
 
-/// Where at most `u` of the `2u + 1` executors are lost, another one has saved the state of the last
+/// If at most `u` of the `2u + 1` executors are lost, another one has saved the state of the last
 /// chosen Commit, as its committed state or in its chain.
 pub fn last_commit_is_kept()
     ensures { LastCommitIsKept }

@@ -5,7 +5,7 @@
 //! the decrees that are chosen. What may happen there in any order and number is in
 //! `specs/Machine.antt`.
 //!
-//! It stands on `agreement_laws` (what a chosen decree rests on) and `run_laws` (states that are known by
+//! It is built on `agreement_laws` (what a chosen decree rests on) and `run_laws` (states that are known by
 //! their tokens). The layers above use all three laws. It has no code: each law is the contract of
 //! a function that does nothing.
 #![tactic(auto)]

@@ -1,6 +1,6 @@
-//! What a daemon is told, and what it tells: the words of its command line, and the lines of its log.
+//! The words of a daemon's command line, and the lines of its log.
 //!
-//! It stands on `clap` for the words, on `log` for the lines and on `figures` for what they are about. The program
+//! It is built on `clap` for the words, on `log` for the lines and on `figures` for what they are about. The program
 //! `eve_cached` uses `read_settings`, and `Report`, which says which lines are due: at most one of a kind a second, and
 //! the numbers of a kind's lines add up to what has happened.
 #![tactic(auto)]

@@ -9,7 +9,7 @@ use crate::standing::Standing;
 use crate::votes::Votes;
 use token::Token;
 
-/// At most so many executors there are: `2u + 1`, where at most 3 may fail.
+/// At most so many executors there are: `2u + 1`, if at most 3 may fail.
 pub const MOST_EXECUTORS: usize = 7;
 
 /// The vote of each executor for the number after the standing one, read once.

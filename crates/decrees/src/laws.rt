@@ -3,13 +3,13 @@
 
 ghost use Rattle.decrees.specs.Laws.{CommitIsBacked, GrowsByOne};
 
-/// Where the verdict is to commit a token, more than `u` executors have that token for the next
+/// If the verdict is to commit a token, more than `u` executors have that token for the next
 /// number.
 pub fn commit_is_backed()
     ensures { CommitIsBacked }
 {}
 
-/// One decree more makes a log of a log exactly where it may come next.
+/// One decree more makes a log of a log exactly if it may come next.
 pub fn a_log_grows_by_one()
     ensures { GrowsByOne }
 {}

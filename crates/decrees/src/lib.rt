@@ -1,7 +1,7 @@
 //! What the verifiers decide, the letters that they send for it, and what a list of decisions
 //! stands for.
 //!
-//! It stands on `token`, `wire` (records), `proto` (`Fault`) and `indexmap` (votes, in the order of their arrival). The
+//! It is built on `token`, `wire` (records), `proto` (`Fault`) and `indexmap` (votes, in the order of their arrival). The
 //! layer above uses `Log::standing` and `Votes::verdict`: what stands is a function of the decrees,
 //! and the verdict is a function of that and the votes.
 #![tactic(auto)]

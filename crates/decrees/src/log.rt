@@ -53,7 +53,7 @@ impl Model for Log {
     ghost invariant = { λ log. IsKept log.start log.decrees.items log.standing × (log.text ≡ decrees_text log.decrees.items) };
 }
 
-/// What stands after these decrees; none where one of them is a Commit of another number than the one
+/// What stands after these decrees; none if one of them is a Commit of another number than the one
 /// after what stands before it.
 fn standing_of(start: &Start, decrees: &[Decree]) -> Option<Standing>
     requires begins { IsTrue (could_stand start.now.place start.now.standing) }
@@ -150,7 +150,7 @@ impl Log {
     }
 
     /// Appends the texts of the decrees after the start in order, as records have them. The text shares
-    /// the pieces of the log, and only the tail is copied. Where an allocation fails a part may be
+    /// the pieces of the log, and only the tail is copied. If an allocation fails a part may be
     /// there.
     pub fn append_text(&self, text: &mut Text) -> Result<(), AllocError>
         ensures { OnOk result (text.new ≡ text.old ++ decrees_text self.now.decrees) }
@@ -158,7 +158,7 @@ impl Log {
         self.text.append_to(text)
     }
 
-    /// The decree of a place, counted from 1; none where it is forgotten, or not known yet.
+    /// The decree of a place, counted from 1; none if it is forgotten, or not known yet.
     pub fn decree(&self, place: u64) -> Option<Decree>
         ensures { result ≡ decree_after self.now.start.place self.now.decrees place }
     {
@@ -177,8 +177,8 @@ impl Log {
     }
 
     /// One decree more. A Commit of another number than the one after the standing one is
-    /// BadRecord. Where the place after it would have no number it is Stopped. Above `2^32 - 1`
-    /// decrees after the start it is NoMemory, as where an allocation fails.
+    /// BadRecord. If the place after it would have no number it is Stopped. Above `2^32 - 1`
+    /// decrees after the start it is NoMemory, as when an allocation fails.
     pub fn learn(&mut self, decree: Decree) -> Result<(), Fault>
         ensures ok { OnOk result (self.new ≡ record { start = self.old.start; decrees = self.old.decrees ++ decree ∷ [] }) }
         ensures bad { (result ≡ Err Fault.BadRecord) ↔ IsTrue (not (next (standing_in self.old) decree)) }
@@ -215,7 +215,7 @@ impl Log {
     }
 
     /// Forgets the decrees up to this place, and keeps what they stand for. Their room is given back.
-    /// Where an allocation fails nothing changes.
+    /// If an allocation fails nothing changes.
     pub fn trim(&mut self, place: u64) -> Result<(), AllocError>
         requires after { self.old.start.place ≤ place }
         requires known { place ≤ known_in self.old }

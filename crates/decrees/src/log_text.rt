@@ -39,7 +39,7 @@ impl Model for LogText {
     ghost view = { λ t. t.joined ++ t.recent };
 }
 
-/// Appends the text of a Commit, or nothing where an allocation fails.
+/// Appends the text of a Commit, or nothing if an allocation fails.
 fn append_commit(text: &mut Text, n: u64, token: &[u8; 32]) -> Result<(), AllocError>
     ensures ok { OnOk result (text.new ≡ text.old ++ 1 ∷ commit_text (n, token.now)) }
     ensures err { OnErr result (text.new ≡ text.old) }
@@ -48,7 +48,7 @@ fn append_commit(text: &mut Text, n: u64, token: &[u8; 32]) -> Result<(), AllocE
     text.put_two(&[1, b0, b1, b2, b3, b4, b5, b6, b7], token)
 }
 
-/// Appends the text of the decree, or nothing where an allocation fails.
+/// Appends the text of the decree, or nothing if an allocation fails.
 fn append_decree(text: &mut Text, decree: &Decree) -> Result<(), AllocError>
     ensures ok { OnOk result (text.new ≡ text.old ++ decree_text decree.now) }
     ensures err { OnErr result (text.new ≡ text.old) }
@@ -88,7 +88,7 @@ impl LogText {
         Ok(())
     }
 
-    /// Begins the next piece, where the texts of so many decrees fill one. The bytes stay the same.
+    /// Begins the next piece, if the texts of so many decrees fill one. The bytes stay the same.
     fn cut(&mut self, alloc: Global, known: usize) -> Result<(), AllocError>
         ensures { self.new ≡ self.old }
     {
@@ -101,7 +101,7 @@ impl LogText {
         self.recent.seal()
     }
 
-    /// Appends the text of the decree that comes after so many others. Where an allocation fails
+    /// Appends the text of the decree that comes after so many others. If an allocation fails
     /// nothing is appended.
     pub fn push(&mut self, alloc: Global, known: usize, decree: &Decree) -> Result<(), AllocError>
         ensures ok { OnOk result (self.new ≡ self.old ++ decree_text decree.now) }
@@ -122,7 +122,7 @@ impl LogText {
         Ok(text)
     }
 
-    /// Appends it to the text, and shares its pieces. Where an allocation fails a part may be there.
+    /// Appends it to the text, and shares its pieces. If an allocation fails a part may be there.
     pub fn append_to(&self, text: &mut Text) -> Result<(), AllocError>
         ensures { OnOk result (text.new ≡ text.old ++ self.now) }
     {

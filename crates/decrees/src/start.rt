@@ -22,7 +22,7 @@ impl Start {
     }
 
     /// Whether this could stand there: its numbers count as many decrees, and there is a Commit or a
-    /// Rollback where they say so.
+    /// Rollback if they say so.
     pub fn could_stand(&self) -> bool
         ensures { result ≡ could self.now.place self.now.standing }
     {

@@ -7,11 +7,11 @@ use std::time::Instant;
 /// The clock is looked at once in so many events.
 const EVENTS_BETWEEN_LOOKS: usize = 64;
 
-/// Says on standard error once a second how many events have happened, where this is a terminal.
+/// Says on standard error once a second how many events have happened, if this is a terminal.
 #[derive(Drop)]
 pub struct Dial<'a> {
     rt: &'a HostRuntime,
-    /// When it last said so, or began; `None` where nobody looks, or there is no clock.
+    /// When it last said so, or began; `None` if nobody looks, or there is no clock.
     last: Option<Instant>,
 }
 

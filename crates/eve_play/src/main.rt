@@ -1,8 +1,8 @@
 //! Plays a schedule, and shows in which world it ends: `eve-play FILE`.
 //!
-//! Status 0, and a line for each node on standard output; 1 where the file is no schedule or memory ran
-//! out, 2 for other words than one, 3 where the file cannot be read or a write failed. What is wrong
-//! stands on standard error. Where this is a terminal, a long play says there once a second how many
+//! Status 0, and a line for each node on standard output; 1 if the file is no schedule or memory ran
+//! out, 2 for other words than one, 3 if the file cannot be read or a write failed. What is wrong
+//! is said on standard error. If this is a terminal, a long play says there once a second how many
 //! events have happened.
 #![tactic(auto)]
 

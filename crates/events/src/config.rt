@@ -31,7 +31,7 @@ impl Model for Config {
 }
 
 impl Config {
-    /// Of `2u + 1` executors, as many verifiers, and so many clients. `BadSchedule` comes exactly where
+    /// Of `2u + 1` executors, as many verifiers, and so many clients. `BadSchedule` comes exactly if
     /// `u` is above 3, or the clients are not 1 to `MOST_CLIENTS`. It is the only error.
     pub fn new(u: u8, clients: u16) -> Result<Config, Fault>
         ensures ok { IfOk result (λ config. config ≡ record { u = u; clients = clients }) }

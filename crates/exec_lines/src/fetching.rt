@@ -86,7 +86,7 @@ impl State {
         Ok(Outcome::saved(Vec::new(alloc)))
     }
 
-    /// The state that stands has come, where it is behind and the parcel makes just that one.
+    /// The state that stands has come, if it is behind and the parcel makes just that one.
     pub fn on_parcel(&mut self, alloc: Global, parcel: Parcel) -> Result<Outcome, AllocError>
         ensures done { IfOk result (λ outcome. record { state = self.new; saves = outcome.saves; letters = outcome.letters.items } ≡ parcel_line self.old parcel) }
         ensures fits_none { IsTrue (not (behind self.old)) → IsOk result }

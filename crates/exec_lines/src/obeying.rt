@@ -57,7 +57,7 @@ impl State {
         need_to_others(u, id, &need, letters)
     }
 
-    /// What it asks of the others, where it is behind, after these letters.
+    /// What it asks of the others, if it is behind, after these letters.
     pub(crate) fn needs(
         &self,
         alloc: Global,

@@ -22,7 +22,7 @@ impl State {
         Ok(Outcome::nothing(alloc))
     }
 
-    /// A client's request: where it ran last it is answered again, where a later one ran it is
+    /// A client's request: if it ran last it is answered again, if a later one ran it is
     /// ignored, and else it waits for a batch.
     pub fn on_want(
         &mut self,

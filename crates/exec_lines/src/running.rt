@@ -28,7 +28,7 @@ pub struct Job<'a> {
 }
 
 impl State {
-    /// The work, where no step of it was made. It takes no memory.
+    /// The work, if no step of it was made. It takes no memory.
     pub fn job(&self) -> Option<Job>
         ensures { MatchOption result (job_of self.now.work ≡ None)
             (λ job. job_of self.now.work ≡ Some (record { base = job.base.now.state; batch = job.batch.now; ordered = job.ordered })) }
@@ -78,7 +78,7 @@ impl State {
 
     /// Runs the job, if there is one, on at most so many threads at once, and completes with what it
     /// makes: that is what some steps and ends of groups make of it. Without a job nothing changes. The
-    /// gate is told of each step.
+    /// gate sees each step.
     pub fn run<R: Threads + Wait + Sync, G: Gate + Sync>(
         &mut self,
         rt: &R,

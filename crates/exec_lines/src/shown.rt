@@ -12,7 +12,7 @@ pub struct Report {
     /// The number of its committed state.
     pub number: u64,
     pub epoch: u64,
-    /// How many tentative states stand over the committed one.
+    /// How many tentative states are over the committed one.
     pub chain: usize,
 }
 

@@ -19,7 +19,7 @@ impl State {
         self.known < place && standing.could_stand(place)
     }
 
-    /// Commits the chain up to the state that stands. Members over it, and the work, stay only where
+    /// Commits the chain up to the state that stands. Members over it, and the work, stay only if
     /// the epoch goes on. After NoMemory nothing is said of the state.
     fn stand(
         &mut self,
@@ -44,7 +44,7 @@ impl State {
         said
     }
 
-    /// So it does where it has the state that stands. The replies of the members go to their clients.
+    /// So it does if it has the state that stands. The replies of the members go to their clients.
     fn stand_over(
         &mut self,
         alloc: Global,
@@ -62,7 +62,7 @@ impl State {
         Ok(Outcome::saved(letters))
     }
 
-    /// Undoes the chain, where it has not the state that stands, and asks for that where it is then behind.
+    /// Undoes the chain, if it has not the state that stands, and asks for that if it is then behind.
     fn ask_for_state(
         &mut self,
         alloc: Global,

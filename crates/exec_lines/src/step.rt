@@ -15,7 +15,7 @@ impl State {
     /// Does what the input asks for. An input that fits no line changes nothing and is Ok; it takes no
     /// memory.
     ///
-    /// `Unfit` comes exactly where a tentative state was handed in that is not of the work: it is
+    /// `Unfit` comes exactly if a tentative state was handed in that is not of the work: it is
     /// undone, and nothing has changed. `Stopped`: a decree was to be obeyed, and a counter is at its
     /// limit. `NoMemory` is the only other error. After these two nothing is said of the state: whoever
     /// keeps its record stops.

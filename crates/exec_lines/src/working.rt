@@ -62,7 +62,7 @@ impl State {
         }
     }
 
-    /// The tentative state joins the chain, and its token is told after these letters.
+    /// The tentative state joins the chain, and its token is sent after these letters.
     pub(crate) fn complete(
         &mut self,
         u: u8,

@@ -21,9 +21,9 @@ enum Row {
     /// The new one takes what the other one answers to its need, and a parcel changes nothing once it is
     /// not behind.
     HandedOver,
-    /// Where a page that it needs is left out, nothing changes.
+    /// If a page that it needs is left out, nothing changes.
     LacksItsPage,
-    /// Where the state of number 3 stands, one of number 2 changes nothing.
+    /// If the state of number 3 stands, one of number 2 changes nothing.
     Older,
     /// One that has no more than it does not answer.
     NoMore,

@@ -52,7 +52,7 @@ pub const NO_TOKEN: Token = Token([7; 32]);
 /// Is the number of no state in any script, so that its token is `NO_TOKEN`.
 pub const NONE: u64 = 9;
 
-/// An input. Letters have their sender first. Where a state's number stands for its token, that is the
+/// An input. Letters have their sender first. If a state's number stands for its token, that is the
 /// one that was told last.
 #[derive(Clone, Copy)]
 pub enum Given {

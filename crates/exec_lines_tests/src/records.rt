@@ -139,7 +139,7 @@ fn first_chain(alloc: Global) -> Result<Chain, AllocError> {
     Ok(chain)
 }
 
-/// Where it knows as many decrees as can be counted, it asks for no more.
+/// If it knows as many decrees as can be counted, it asks for no more.
 const ASKS_NO_MORE: Script = (
     "one_that_knows_all_decrees_that_can_be_counted_is_stopped",
     U,
@@ -147,7 +147,7 @@ const ASKS_NO_MORE: Script = (
     (LEADER, &[CannotResume]),
 );
 
-/// Where no epoch can follow, it obeys no rollback.
+/// If no epoch can follow, it obeys no rollback.
 const TURNS_NO_MORE: Script = (
     "a_rollback_of_the_last_epoch_that_can_be_counted_is_stopped",
     U,

@@ -21,7 +21,7 @@ pub type Executor = ExecNode<Kept>;
 
 pub type Letters = Vec<Letter<Body>>;
 
-/// An input, and what it leaves: `*` where the record is another and else `.`, and then the letters.
+/// An input, and what it leaves: `*` if the record is another and else `.`, and then the letters.
 pub type Line = (Given, &'static [u8]);
 
 /// Lines of the executor of this number.
@@ -108,7 +108,7 @@ fn has_record(alloc: Global, executor: &mut Executor, bytes: &[u8]) -> Result<bo
     Ok(kept.as_slice() == bytes)
 }
 
-/// The letters are those that were expected, after `*` where the record is another and else `.`.
+/// The letters are those that were expected, after `*` if the record is another and else `.`.
 fn are_right(
     alloc: Global,
     executor: &mut Executor,
@@ -194,7 +194,7 @@ const LINES: [Lines; 7] = [
         OTHER,
         &[(Order(E2, 1, 1), b"."), (Adopt(1), b"* T01 T11 T21")],
     ),
-    // Want, Cut, Step, Finish, Decided: client 1 is answered, and once more where it asks again.
+    // Want, Cut, Step, Finish, Decided: client 1 is answered, and once more if it asks again.
     (
         LEADER,
         &[
@@ -268,7 +268,7 @@ pub fn restart(alloc: Global, keeper: Kept, expected: Option<&[u8]>) -> Result<(
     Ok(())
 }
 
-/// It goes on from its record also where it, or the other one, was refused some memory, which is there
+/// It goes on from its record also if it, or the other one, was refused some memory, which is there
 /// then.
 fn each_line(alloc: Global) -> Result<(), Fault> {
     let mut leader = opens(alloc, LEADER, MemKeeper::new(), Some(b">"))?;

@@ -55,7 +55,7 @@ fn play<R: Threads + Wait + Sync, G: Gate + Sync>(
     holds(leader.job().is_none())
 }
 
-/// The gate is told of each step.
+/// The gate sees each step.
 pub fn row<R: Threads + Wait + Sync, G: Gate + Sync>(
     rt: &R,
     alloc: Global,

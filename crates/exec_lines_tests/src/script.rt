@@ -14,7 +14,7 @@ use std::test::Fail;
 /// that it goes to and what it tells of: see `seen`.
 #[derive(Clone, Copy)]
 pub enum Row {
-    /// It is given this, and leaves this to be done: `*` where the record is saved and else `.`, and then
+    /// It is given this, and leaves this to be done: `*` if the record is saved and else `.`, and then
     /// the letters.
     Gives(Given, &'static [u8]),
     /// Its work is run to its end, which leaves this to be done.
@@ -24,7 +24,7 @@ pub enum Row {
     Execute(Node, u8, &'static [u8], &'static [u8]),
     /// It is given this, which is not of its work, and its record stays what it was.
     Unfit(Given),
-    /// It is given this, where a counter is at its limit.
+    /// It is given this, with a counter at its limit.
     Stopped(Given),
     /// The letters if it goes on from its record: a token for each member of its chain, the place after
     /// the decrees that it knows, and what it needs if it is behind.

@@ -63,7 +63,7 @@ pub fn are_letters(first: u8, letters: &[Letter<Body>], expected: &[u8]) -> bool
     expected.first() == Some(&first) && expected.len() == at
 }
 
-/// `NotOpen` where something does not hold.
+/// `NotOpen` if something does not hold.
 pub fn holds(is_so: bool) -> Result<(), Fault> {
     if is_so { Ok(()) } else { Err(Fault::NotOpen) }
 }

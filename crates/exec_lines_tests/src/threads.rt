@@ -71,7 +71,7 @@ const AFTER_A_STEP: Run = (
     ),
 );
 
-/// Nothing runs where nothing was begun.
+/// Nothing runs if nothing was begun.
 const NO_WORK: Run = (NOTHING, b".", NOTHING);
 
 fn runs<R: Threads + Wait + Sync>(

@@ -6,7 +6,7 @@
 //!     let letters = node.run(rt, alloc, workers, &gate)?;                 // the batch that was begun is executed
 //!     let keeper = node.end();                                            // with the record, for the next `open`
 //!
-//! It stands on `exec_lines` (the step) and `keeper` (where the record is). The layer above uses
+//! It is built on `exec_lines` (the step) and `keeper` (where the record is). The layer above uses
 //! `ExecNode::handle`: an Ok is the written step, state, letters in order and saved record. After an
 //! error the executor is stopped with the record that it had before that call, but for a tentative
 //! state that is refused, which changes nothing. `ExecNode::run` executes its work on threads, and

@@ -31,7 +31,7 @@ fn stored<K: Keeper<ExecutorRecord>>(
     }
 }
 
-/// Saves the record of this state. Where a failure could not be counted it is Stopped at once.
+/// Saves the record of this state. If a failure could not be counted it is Stopped at once.
 fn save<K: Keeper<ExecutorRecord>>(
     alloc: Global,
     u: u8,
@@ -116,7 +116,7 @@ impl<K: Keeper<ExecutorRecord>> ExecNode<K> {
     ghost use Rattle.exec_lines.specs.Job.{job_of};
     ghost use Rattle.exec_node.specs.Lent.{LendsExecutorKeeper};
 
-    /// Opens the executor `id` of `2u + 1`. Where the keeper has no record it is new, and its first
+    /// Opens the executor `id` of `2u + 1`. If the keeper has no record it is new, and its first
     /// record is saved. Else it goes on from its record: it tells the tokens of its tentative states, and
     /// asks the others for what it does not know. A record of today is left as it is; one of version 1,
     /// whose states keep their tokens, is saved as one of today before any letter is given.
@@ -315,17 +315,17 @@ impl<K: Keeper<ExecutorRecord>> ExecNode<K> {
     ///
     /// Unfit: a tentative state was handed in that is not of its work; it is undone, nothing has
     /// changed, and the executor goes on. After any other error it is stopped for good, and its record
-    /// is the old one; where it was stopped before, nothing of it changes, and what was handed in is
+    /// is the old one; if it was stopped before, nothing of it changes, and what was handed in is
     /// let go. Stopped: it was stopped before, or a save failed, or a counter is at its limit;
     /// NoMemory: an allocation failed in this call, and no save. A save that is set to fail does, and
-    /// none fails where the step saves nothing. Whether the next save is set to fail stays as it was,
+    /// none fails if the step saves nothing. Whether the next save is set to fail stays as it was,
     /// unless a save failed, which spends it.
     pub fn handle(&mut self, alloc: Global, input: Input) -> Result<Vec<Letter<Body>>, Fault>
         ensures done { IfOk result (λ letters. self.new ≡ executor_handled self.old input) }
         ensures letters { IfOk result (λ letters. letters.items ≡ (executor_outcome self.old input).letters) }
         ensures fits_none { IsTrue self.old.up → IsTrue (not (fits_a_line self.old.u self.old.id self.old.state input)) → IsTrue (not (is_refused self.old.state input)) → IsOk result }
 
-        // Where a tentative state is refused, and nowhere else.
+        // Only if a tentative state is refused.
         ensures refused { IsTrue self.old.up → IsTrue (is_refused self.old.state input) → (result ≡ Err Fault.Unfit) × (self.new ≡ self.old) }
         ensures unfit { result ≡ Err Fault.Unfit → IsTrue self.old.up × IsTrue (is_refused self.old.state input) }
 
@@ -358,7 +358,7 @@ impl<K: Keeper<ExecutorRecord>> ExecNode<K> {
         letters
     }
 
-    /// The work, where no step of it was made: its base, its batch, and whether it runs in batch order.
+    /// The work, if no step of it was made: its base, its batch, and whether it runs in batch order.
     /// It takes no memory.
     pub fn job(&self) -> Option<Job>
         ensures { MatchOption result (job_of self.now.state.work ≡ None)
@@ -394,7 +394,7 @@ impl<K: Keeper<ExecutorRecord>> ExecNode<K> {
 
     /// Runs the job, if there is one, on at most so many threads at once, completes with what it makes,
     /// saves the record, and gives the letters. What it makes is what some steps and ends of groups make
-    /// of it. Without a job nothing changes, and there are no letters. The gate is told of each step.
+    /// of it. Without a job nothing changes, and there are no letters. The gate sees each step.
     ///
     /// Stopped: it was stopped before, or the save failed, or its failure could not be counted.
     /// NoMemory: an allocation failed, and no save. After any error it is stopped for good, and its

@@ -25,7 +25,7 @@ pub fn opened(alloc: Global, keeper: Kept) -> Result<(Executor, Vec<Letter<Body>
     }
 }
 
-/// The record that is kept; where there is none, nothing.
+/// The record that is kept; if there is none, nothing.
 pub fn record(alloc: Global, keeper: &Kept) -> Result<Vec<u8>, Fault> {
     match keeper.load() {
         None => Ok(Vec::new(alloc)),

@@ -91,7 +91,7 @@ impl<R: Clock> Gate for Meeting<'_, R> {
     }
 }
 
-/// Counts what it is told, and what of it is wrong: that a step is on another page than that of its
+/// Counts what it sees, and what of it is wrong: that a step is on another page than that of its
 /// place, or outside before it was inside.
 ///
 /// The requests at the places 0 to 15 are on the pages from 48 on, that at place 16 on page 97.

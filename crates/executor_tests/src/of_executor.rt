@@ -143,7 +143,7 @@ fn mark(reply: &Reply) -> u8 {
     }
 }
 
-/// How the replies look, four at most; `.` where there is none.
+/// How the replies look, four at most; `.` if there is none.
 fn marks(replies: &[Answered]) -> [u8; 4] {
     let mut out = [b'.'; 4];
     for (place, answered) in replies.iter().enumerate() {

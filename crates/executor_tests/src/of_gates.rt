@@ -1,4 +1,4 @@
-//! What a gate is told of a round, and when.
+//! What a gate sees of a round, and when.
 
 use crate::gates::{Counts, Meeting, Waits};
 use crate::tasks::{Does, add};

@@ -60,7 +60,7 @@ pub struct BatchParts {
     pub wait: Histogram,
     /// While executors ran batches.
     pub execute: Histogram,
-    /// From then to the first decree that an executor was told.
+    /// From then to the first decree that an executor heard.
     pub agree: Histogram,
     /// From then until no letter was under way.
     pub commit: Histogram,
@@ -81,7 +81,7 @@ pub struct Replicas {
     pub view: u64,
     /// The number of the last state that was committed.
     pub number: u64,
-    /// How often a verifier was told that the leader is suspected.
+    /// How often a verifier heard that the leader is suspected.
     pub suspicions: u64,
 }
 
@@ -98,7 +98,7 @@ pub struct Memory {
     pub refusals: u64,
 }
 
-/// All that a server counts, and where it stands. It can be copied.
+/// All that a server counts, and how far it is. It can be copied.
 #[derive(Clone, Copy, Debug, PartialEq, Eq)]
 pub struct Figures {
     /// Seconds since the start.

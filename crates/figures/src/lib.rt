@@ -1,6 +1,6 @@
 //! Figures: what a server counts of its work, as one plain value that can be copied.
 //!
-//! It stands on `proto`, whose commands, replies and notices are counted by their kinds. The layers that do the
+//! It is built on `proto`, whose commands, replies and notices are counted by their kinds. The layers that do the
 //! work count into their own part; the layers above show a copy of `Figures`. No count decides anything.
 #![tactic(auto)]
 

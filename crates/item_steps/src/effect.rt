@@ -229,7 +229,7 @@ fn touch_item(exptime: i32, place: Stamp, old: Option<&Item>) -> Result<(Change,
     }
 }
 
-/// The item that stands with its number, or the reply where there is none.
+/// The item that is a number, with that, or the reply if there is none.
 fn old_number(old: Option<&Item>) -> Result<(&Item, u64), Reply>
     ensures found { IfOk result (λ r. (option_copied old.entry ≡ Some r.0.now) × (number_of r.0.now.block ≡ Some r.1)) }
     ensures missing { IfErr result (λ reply. (f : ℕ → ℕ) (place : Stamp)

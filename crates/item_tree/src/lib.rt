@@ -1,6 +1,6 @@
 //! Items as a Merkle tree: the store of a page whose digest costs what a batch wrote.
 //!
-//! It stands on `merkle`, whose map it holds, and on `items`, whose `Store` it is. The layer above uses
+//! It is built on `merkle`, whose map it holds, and on `items`, whose `Store` it is. The layer above uses
 //! `ItemTree` as it uses `PlainStore`: each call is one equation on the map from keys to items, and its
 //! digest is a function of that map. Its record is its entries in the order of their keys' paths; what has
 //! another order is refused.

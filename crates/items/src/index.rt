@@ -1,6 +1,6 @@
 //! The entries that have a due time, in a vector by those times and then by their keys.
 //!
-//! The soonest stands first. A put of a time that is later than all others, as of a session that is
+//! The soonest is first. A put of a time that is later than all others, as of a session that is
 //! renewed, goes to the end and moves nothing; what is due is taken from the front, with one move of
 //! the others.
 
@@ -69,7 +69,7 @@ impl Clone for Due {
     }
 }
 
-/// Where the time and the key stand, or would stand.
+/// Where the time and the key are, or would be.
 fn place_of(index: &[Due], time: u64, key: &Key) -> Result<usize, usize>
     requires { IsTrue (is_sorted by_due index.now) }
     ensures found { IfOk result (IsAt by_due index.now (time, key.now)) }
@@ -98,7 +98,7 @@ fn put_due(index: &mut Vec<Due>, due: Due)
     }
 }
 
-/// Takes out what stands at the time and the key, if there is a time.
+/// Takes out what is at the time and the key, if there is a time.
 pub(crate) fn remove_due(index: &mut Vec<Due>, time: Option<u64>, key: &Key)
     requires { IsTrue (is_sorted by_due index.old.items) }
     ensures removed { index.new.items ≡ without_due time key.now index.old.items }

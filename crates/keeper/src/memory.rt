@@ -6,7 +6,7 @@ use proto::Fault;
 use std::marker::Model;
 
 /// Keeps its record in memory: the very value that it was given, for which it takes no memory. For
-/// tests of what a node does when a save fails, it can be told to fail the next one.
+/// tests of what a node does when a save fails, it can be set to fail the next one.
 pub struct MemKeeper<R: ToText> {
     saved: Option<R>,
     failures: u64,
@@ -59,7 +59,7 @@ impl<R: ToText> Keeper<R> for MemKeeper<R> {
 
     ghost told = { λ k. k.fails_next };
 
-    /// Stopped: it was told to fail this save. It fails no other one.
+    /// Stopped: it was set to fail this save. It fails no other one.
     fn save(&mut self, value: R) -> Result<(), Fault>
         requires countable { self.old.failures < 2 ^ 64 - 1 }
         ensures ok { OnOk result (self.new ≡ record self.old { saved = Some (R.text value) }) }

@@ -11,7 +11,7 @@ pub fn rounds_are_one_list()
     ensures on { ListGoesOn }
 {}
 
-/// A request that was not asked yet stands behind all rounds of the run so far.
+/// A request that was not asked yet is behind all rounds of the run so far.
 pub fn asked_later_is_later()
     ensures { AskedLaterIsLater }
 {}

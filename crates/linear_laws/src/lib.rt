@@ -1,6 +1,6 @@
 //! What shows one server is linearizable: laws, and their proofs.
 //!
-//! It stands on `server_laws`, whose run it takes apart into steps on items, and on `memcached_spec`, which says
+//! It is built on `server_laws`, whose run it takes apart into steps on items, and on `memcached_spec`, which says
 //! what linearizable is. The layer above uses `reached_are_linearizable`.
 #![tactic(auto)]
 

@@ -69,7 +69,7 @@ impl<T: Drop> Link<T> {
         }
     }
 
-    /// Takes the item at the front. Where the link is empty it waits until some end puts one; each
+    /// Takes the item at the front. If the link is empty it waits until some end puts one; each
     /// end may put, so what ends a loop of takes is an item that says so.
     pub fn take<R: Wait>(&mut self, rt: &R) -> Option<T>
         ensures { MatchOption result (self.new ≡ self.old) (λ item. IsTakenOut self.old item self.new) }
@@ -94,7 +94,7 @@ impl<T: Drop> Link<T> {
         }
     }
 
-    /// Takes the item at the front, if it finds one. It does not wait for another end to put. Where it
+    /// Takes the item at the front, if it finds one. It does not wait for another end to put. If it
     /// gives none there may be one: a caller that has to see the last one takes again.
     pub fn try_take<R: Wait>(&mut self, rt: &R) -> Option<T>
         ensures { MatchOption result (self.new ≡ self.old) (λ item. IsTakenOut self.old item self.new) }

@@ -4,7 +4,7 @@
 //! end knows of the link is a value that contracts see: its own puts and takes, and a beginning of
 //! the puts and of the takes of all ends.
 //!
-//! It stands on `crossbeam_channel` (its bounded channel under a rule) and `atomic_table` (lists of
+//! It is built on `crossbeam_channel` (its bounded channel under a rule) and `atomic_table` (lists of
 //! what ends know). The layers above use `Link::take`: whatever the other ends do, what was taken
 //! is a beginning of what was put, the item is the last of it, and each put of this end stands
 //! there once, in its order. That a call returns no contract says.

@@ -7,7 +7,7 @@ use std::collections::LinkedList;
 pub const MOST_ITEMS: usize = 4096;
 
 /// What an end knows: the items that it put and those that it took, and a beginning of all puts and
-/// of all takes, each with the number of the end that made it. It stands in contracts alone: no
+/// of all takes, each with the number of the end that made it. It is in contracts alone: no
 /// value of it is ever made.
 pub struct View<T> {
     pub put: LinkedList<T>,

@@ -39,7 +39,7 @@ impl Maker {
     }
 
     /// The next event of a world of this size, in which so many letters were sent: their numbers are 1 to
-    /// `sent`. There is none where a letter was to come and none was sent. What the event names is there:
+    /// `sent`. There is none if a letter was to come and none was sent. What the event names is there:
     /// a letter, a client, a replica; that replica may be down. No event feeds bytes, hangs up or loses a
     /// replica for good. Three words are taken each time, so what is made later does not depend on how
     /// many letters were sent before.

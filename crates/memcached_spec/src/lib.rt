@@ -1,7 +1,7 @@
 //! One memcached server, and what it means that a history of its clients is linearizable: definitions, and
 //! two laws of them. Nothing here knows of replicas.
 //!
-//! It stands on `events` (a history is a list of events and what clients were given by then), `item_steps`
+//! It is built on `events` (a history is a list of events and what clients were given by then), `item_steps`
 //! (the steps of a command, and what each does and answers), `items` and `proto`. To read: `specs/Server.antt`,
 //! the server; `specs/Order.antt`, `IsLinearizable`. The layers above say that of plays and of the server
 //! that runs.

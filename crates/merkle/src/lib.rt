@@ -1,7 +1,7 @@
 //! A map as a Merkle tree over the paths of its keys: its digest is a function of the map alone, and a
 //! write hashes one path anew.
 //!
-//! It stands on `base`, whose entries it shares, and on `sha2`; `proto`, `items` and `wire` have the keys
+//! It is built on `base`, whose entries it shares, and on `sha2`; `proto`, `items` and `wire` have the keys
 //! and items that it can hold. The layer above uses `MerkleMap`: clones share all, an error leaves all
 //! unchanged, `drop_due` visits just what it drops, and `digests_tell_maps` says that equal digests are
 //! of equal maps, if digests tell the texts apart that were hashed.

@@ -1,6 +1,6 @@
 //! Figures in Prometheus' text form (version 0.0.4).
 //!
-//! It stands on `figures`. The layer above uses `metrics_of`, whose contract gives each byte of the text: the
+//! It is built on `figures`. The layer above uses `metrics_of`, whose contract gives each byte of the text: the
 //! HELP and the TYPE line of each metric, and a line for each of its values.
 #![tactic(auto)]
 

@@ -10,7 +10,7 @@ use sessions::Request;
 use std::alloc::{AllocError, Global};
 
 /// The groups in which the requests of a batch run, in order: in batch order a request's group is
-/// the first where no earlier request conflicts with it, and else the one after the last group of
+/// the first if no earlier request conflicts with it, and else the one after the last group of
 /// those. Each group has the places of its requests in the batch, and their steps.
 pub fn mix(alloc: Global, requests: &[Request]) -> Result<Vec<Group>, AllocError>
     requires { length requests.now ≤ 2 ^ 32 }

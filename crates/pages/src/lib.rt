@@ -6,7 +6,7 @@
 //! `Pages::seal` makes that new, in the layout that it is given; of the tree over the digests of all pages it
 //! makes new just the nodes above those that changed, which the first page keeps.
 //!
-//! It stands on `base` (entries, texts), on `items` and `item_tree`, whose stores hold the items of one page,
+//! It is built on `base` (entries, texts), on `items` and `item_tree`, whose stores hold the items of one page,
 //! on `wire` and `token`, which say what a page's digest is, and on `item_steps` for a law alone. The
 //! layers above write to `Pages`, which is a `Store` and can be parted into its `Page`s, each a
 //! `Store` by itself; and they keep a `Snapshot`, which is not written: it has the digest of each page,

@@ -11,7 +11,7 @@ fn byte_sum(bytes: &[u8]) -> u32
     bytes.iter().map(|b| u32::from(*b)).sum()
 }
 
-/// The number of the page in which the key stands, from 0: the sum of its bytes modulo `PAGES`.
+/// The number of the page of the key, from 0: the sum of its bytes modulo `PAGES`.
 pub fn page_of(key: &Key) -> usize
     ensures number { result ≡ page_number key.now }
     ensures small { result < page_count }

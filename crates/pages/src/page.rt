@@ -43,7 +43,7 @@ pub struct Page {
     /// Whether the digest was made since the last write.
     sealed: bool,
     /// The tree over the digests of all pages of a store. Only page 0 keeps it, so that it goes
-    /// along where the pages are parted and joined again. It spares time and no more: the tree of
+    /// along when the pages are parted and joined again. It spares time and no more: the tree of
     /// any other pages would do as well. In a box, so that the other pages stay small.
     tree: Option<Box<Tree>>,
 }
@@ -77,7 +77,7 @@ impl Model for Page {
     ghost invariant = { λ a. PageFits (map.entries (items_kept a.kept)) };
 }
 
-/// Whether each key stands in the page of this number.
+/// Whether each key is of the page of this number.
 fn all_of_page(entries: &[Entry<Key, Item>], number: usize) -> bool
     ensures { result ≡ list_all (λ entry. page_number entry.0 == number) entries.now }
 {
@@ -244,8 +244,8 @@ impl Page {
         Ok(())
     }
 
-    /// The root over these digests of all pages. Where the page keeps a tree, just the nodes are made
-    /// new that stand above a digest that differs from the one in the tree. This takes no memory.
+    /// The root over these digests of all pages. If the page keeps a tree, just the nodes are made
+    /// new that are above a digest that differs from the one in the tree. This takes no memory.
     pub(crate) fn root_over(&mut self, digests: &[[u8; 32]; PAGES]) -> [u8; 32]
         ensures root { result ≡ root_of HEIGHT digests.now }
         ensures same { self.new ≡ self.old }
@@ -285,7 +285,7 @@ impl Page {
 
     /// Drops every item that is due at the moment or before it, as `drop_due`, and answers how many
     /// entries it looked at or copied: one more than it dropped, at most, and all entries if they are
-    /// sorted and something is due. Where nothing is due the page stays shared. The only error is a
+    /// sorted and something is due. If nothing is due the page stays shared. The only error is a
     /// failed allocation, and then nothing has changed.
     pub fn drop_due_counted(&mut self, moment: u32) -> Result<u64, AllocError>
         ensures ok { OnOk result (self.new.items ≡ alive self.old.items moment) }
@@ -359,7 +359,7 @@ impl Store for Page {
         self.kept.get(key)
     }
 
-    /// Refused where an allocation fails, or in the same way where the page has 2^32 - 1 entries and none at
+    /// Refused if an allocation fails, or in the same way if the page has 2^32 - 1 entries and none at
     /// the key.
     fn put(&mut self, key: Key, item: Item) -> Result<(), AllocError>
         ensures ok { OnOk result (self.new ≡ record { items = map.insert self.old.items key item; layout = self.old.layout; sealed = false }) }

@@ -201,7 +201,7 @@ impl Store for Pages {
         }
     }
 
-    /// Refused where an allocation fails, or in the same way where the key's page has 2^32 - 1 entries and
+    /// Refused if an allocation fails, or in the same way if the key's page has 2^32 - 1 entries and
     /// none at the key.
     fn put(&mut self, key: Key, item: Item) -> Result<(), AllocError> {
         self.make_own()?;

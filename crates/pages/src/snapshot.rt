@@ -82,7 +82,7 @@ fn root_over(pages: &mut Vec<Page>) -> [u8; 32]
     pages[0].root_over(&digests)
 }
 
-/// Makes the tree over the digests of the pages, where they keep none.
+/// Makes the tree over the digests of the pages, if they keep none.
 fn grow_tree(pages: &mut Vec<Page>) -> Result<(), AllocError>
     requires { ArePages (items_of pages.old.items) }
     ensures { pages.new.items ≡ pages.old.items }

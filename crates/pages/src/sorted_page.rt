@@ -21,13 +21,13 @@ use wire::{Sink, put_page, share_text};
 
 /// Items in the order of their keys: a store by itself.
 ///
-/// Its entries are shared with its clones. Where they are, the first write copies the pointers to
-/// them, so a clone keeps what it had. The digest of the items and, where there was memory for it,
+/// Its entries are shared with its clones. If they are, the first write copies the pointers to
+/// them, so a clone keeps what it had. The digest of the items and, if there was memory for it,
 /// the text that it is of are kept until a write; clones share that text.
 pub(crate) struct SortedPage {
     alloc: Global,
     store: Arc<PlainStore, Global>,
-    /// Of the page's text; none where it is to be recomputed.
+    /// Of the page's text; none if it is to be recomputed.
     digested: Option<Digested>,
 }
 
@@ -103,7 +103,7 @@ impl SortedPage {
         }
     }
 
-    /// The text that is kept beside the digest. None where the digest is to be recomputed, or where
+    /// The text that is kept beside the digest. None if the digest is to be recomputed, or if
     /// there was no memory for the text when it was made.
     pub(crate) fn text(&self) -> Option<&Text>
         ensures { IfSome result (λ text. text.now ≡ page_text (map.entries self.now)) }
@@ -124,7 +124,7 @@ impl SortedPage {
         }
     }
 
-    /// Makes the digest new where none is kept, and keeps the text that it is of. Where there is no
+    /// Makes the digest new if none is kept, and keeps the text that it is of. If there is no
     /// memory for the text the digest is made without it; there is no error.
     pub(crate) fn refresh(&mut self)
         ensures { self.new ≡ self.old }
@@ -160,8 +160,8 @@ impl SortedPage {
     }
 
     /// Drops every item that is due at the moment or before it, as `drop_due`, and answers how many
-    /// entries it looked at or copied: of the page's index one more than it dropped, at most, and where
-    /// something is due all entries of the page. Where nothing is due the page stays shared. The only
+    /// entries it looked at or copied: of the page's index one more than it dropped, at most, and if
+    /// something is due all entries of the page. If nothing is due the page stays shared. The only
     /// error is a failed allocation, and then nothing has changed.
     pub(crate) fn drop_due_counted(&mut self, moment: u32) -> Result<u64, AllocError>
         ensures ok { OnOk result (self.new ≡ alive self.old moment) }

@@ -11,7 +11,7 @@ use token::{PAGES, inner_digest};
 /// The places of a tree over the digests of all pages. Place 0 is not used.
 const NODES: usize = 2 * PAGES;
 
-/// The tree over the digests of all pages, kept, so that other digests renew only what stands above
+/// The tree over the digests of all pages, kept, so that other digests renew only what is above
 /// those that differ.
 ///
 /// Node 1 is the root, and the nodes below node `n` are `2n` and `2n + 1`. The leaves are the last
@@ -55,7 +55,7 @@ fn set_leaves(nodes: &mut [[u8; 32]], digests: &[[u8; 32]; PAGES]) -> [bool; NOD
     changed
 }
 
-/// Makes each inner node new that stands above a changed one.
+/// Makes each inner node new that is above a changed one.
 fn renew_above(nodes: &mut [[u8; 32]], changed: &mut [bool; NODES])
     requires count { length nodes.old ≡ 2 * page_count }
     requires above { (k : ℕ) → 0 < k → k < page_count → IsAboveSame nodes.old changed.old k }
@@ -82,7 +82,7 @@ impl Tree {
     }
 
     /// Makes it the tree over these digests. Of the nodes above the leaves just those are recomputed
-    /// that stand above a leaf that differs. This takes no memory.
+    /// that are above a leaf that differs. This takes no memory.
     pub(crate) fn renew(&mut self, digests: &[[u8; 32]; PAGES])
         ensures { self.new ≡ digests.now }
     {

@@ -1,4 +1,4 @@
-//! Plays rows: schedules that stand as documents in `data/`. The first lines of each say what it shows, and
+//! Plays rows: schedules that are documents in `data/`. The first lines of each say what it shows, and
 //! its last ones, which begin with `#> `, what is printed of it.
 //!
 //! Standard input has the names of the files, one a line. It prints how many hold; a row that does not is

@@ -3,7 +3,7 @@
 use app::{SHOWN, Untold, play_text};
 use std::alloc::{AllocError, Global};
 
-/// What is to be printed: what stands behind `#> ` in the lines that begin so.
+/// What is to be printed: what is behind `#> ` in the lines that begin so.
 fn wanted(alloc: Global, row: &str) -> Result<String, AllocError> {
     let mut text = String::new(alloc);
     for line in row.lines() {

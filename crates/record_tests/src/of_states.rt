@@ -22,13 +22,13 @@ const TOKEN: [u8; 32] = [
     0x84, 0x93, 0x21, 0xb4, 0x09, 0x9e, 0x34, 0xd9, 0x2e, 0x8b, 0x19, 0xea, 0x0d, 0x26, 0x2f, 0x4e,
 ];
 
-/// The token that it has where the root is over 256 pages.
+/// The token that it has if the root is over 256 pages.
 const TOKEN_OF_TODAY: [u8; 32] = [
     0xd6, 0xfa, 0xbc, 0x9b, 0x91, 0x08, 0xa6, 0xbc, 0x5a, 0x18, 0xa7, 0x6b, 0x45, 0x60, 0x68, 0x87,
     0x8a, 0x9a, 0xa2, 0xff, 0x34, 0xd7, 0xe9, 0x24, 0xa3, 0x27, 0x59, 0x8c, 0xf0, 0xcd, 0xd3, 0x9b,
 ];
 
-/// The token that it has where the pages are kept as trees: `scripts/state_tokens` prints it.
+/// The token that it has if the pages are kept as trees: `scripts/state_tokens` prints it.
 const TOKEN_OF_TREES: [u8; 32] = [
     0xdd, 0xa8, 0x90, 0x10, 0xad, 0x50, 0x54, 0x9b, 0x64, 0xd6, 0xd5, 0x53, 0x6b, 0xe1, 0x65, 0xfd,
     0xd8, 0xea, 0xc0, 0xe8, 0xf5, 0xcf, 0x6c, 0x7f, 0x1b, 0x44, 0xae, 0xc6, 0x7e, 0x3f, 0x7e, 0xfd,
@@ -55,7 +55,7 @@ const PAGE: Part<'static> = (
     1,
 );
 
-/// Pages of today: `a` stands on page 97 of 256.
+/// Pages of today: `a` is on page 97 of 256.
 const PAGES: &[Part<'static>] = &[(&[0; 5], 97), (&[0], 1), PAGE, (&[0; 5], 158)];
 
 /// The same pages of trees.
@@ -89,7 +89,7 @@ const FIRST: Record = &[&[
     (&[0; 5], 256),
 ]];
 
-/// The record after the `set` in version 1: `a` stands on page 33 of 64.
+/// The record after the `set` in version 1: `a` is on page 33 of 64.
 const OLD_SET: Record = &[
     AFTER_1,
     OF_SET,
@@ -216,7 +216,7 @@ fn told_of(alloc: Global, state: &State) -> Result<(Told, Vec<u8>), AllocError> 
     Ok(((state.number(), token, state.form()), record))
 }
 
-/// What the bytes are read as, all of them; nothing where they are no record.
+/// What the bytes are read as, all of them; nothing if they are no record.
 fn read(alloc: Global, version: Version, bytes: &[u8]) -> Result<Option<(Told, Vec<u8>)>, Fault> {
     match State::take(alloc, version, bytes) {
         Ok((state, [])) => Ok(Some(told_of(alloc, &state)?)),
@@ -242,7 +242,7 @@ fn is_so(alloc: Global, row: &Row) -> Result<bool, Fault> {
     is_read_as(alloc, row, bytes.as_slice())
 }
 
-/// Whether the bytes are no record where they are cut here, and where this one of them is changed.
+/// Whether the bytes are no record if they are cut here, and if this one of them is changed.
 fn is_sealed_at(
     alloc: Global,
     version: Version,
@@ -255,7 +255,7 @@ fn is_sealed_at(
     Ok(changed && read(alloc, version, bytes.get(..at).unwrap_or(&[]))?.is_none())
 }
 
-/// Whether they are none where they are cut at each byte, and where each is changed.
+/// Whether they are none if they are cut at each byte, and if each is changed.
 fn is_sealed(alloc: Global, version: Version, bytes: &mut [u8]) -> Result<bool, Fault> {
     for at in 0..bytes.len() {
         if !is_sealed_at(alloc, version, bytes, at)? {

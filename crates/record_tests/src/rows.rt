@@ -7,7 +7,7 @@ use wire::{Record, read, write};
 /// Bytes, and whether they are a record.
 pub type Row<'a> = (&'a [u8], bool);
 
-/// A part of a record: bytes, and how often they stand there, one after the other.
+/// A part of a record: bytes, and how often they are there, one after the other.
 pub type Part<'a> = (&'a [u8], usize);
 
 fn add_part(bytes: &mut Vec<u8>, part: Part) -> Result<(), AllocError> {
@@ -34,7 +34,7 @@ pub fn bytes_of(alloc: Global, record: &[&[Part]]) -> Result<Vec<u8>, AllocError
     Ok(bytes)
 }
 
-/// Whether the value whose record the bytes are is written as just these bytes; nothing where they are
+/// Whether the value whose record the bytes are is written as just these bytes; nothing if they are
 /// no record.
 fn read_again<T: Record + Drop>(alloc: Global, bytes: &[u8]) -> Result<Option<bool>, Fault> {
     match read::<T>(alloc, bytes) {
@@ -72,7 +72,7 @@ fn is_told_apart<T: Record + Drop>(
     Ok(true)
 }
 
-/// Whether a record is none where it is cut at each of its bytes, and is told apart where each is changed.
+/// Whether a record is none if it is cut at each of its bytes, and is told apart if each is changed.
 fn are_told_apart<T: Record + Drop>(alloc: Global, bytes: &mut [u8]) -> Result<bool, Fault> {
     for at in 0..bytes.len() {
         let front = read_again::<T>(alloc, bytes.get(..at).unwrap_or(&[]))?;

@@ -62,7 +62,7 @@ impl Chain {
     }
 
     /// The chain whose record in this version is a prefix of the bytes, and the bytes after it. Each member is over just
-    /// the state before it, and shares its pages where they are the same. `BadRecord`: no such chain
+    /// the state before it, and shares its pages if they are the same. `BadRecord`: no such chain
     /// has a record that is a prefix of the bytes. `NoMemory` is the only other error.
     pub fn take(alloc: Global, version: Version, bytes: &[u8]) -> Result<(Chain, &[u8]), Fault>
         ensures { Takes (IsRecordedIn version) (chain_text_in version) bytes.now result }

@@ -88,7 +88,7 @@ pub(crate) fn gather_seats<J: Room>(
 }
 
 /// Takes a round apart whose seats have no step left: its pages, and the requests of each caller with
-/// their answers. It errs only where an allocation fails.
+/// their answers. It errs only if an allocation fails.
 pub(crate) fn gather<J: Room>(
     alloc: Global,
     word: &TicketWord,
@@ -111,7 +111,7 @@ pub(crate) fn gather<J: Room>(
     Ok((Pages::join(pages), running))
 }
 
-/// So many requests, which were dealt to callers in turn, in the order of the group. It errs only where an
+/// So many requests, which were dealt to callers in turn, in the order of the group. It errs only if an
 /// allocation fails.
 pub(crate) fn collect(
     alloc: Global,

@@ -4,7 +4,7 @@
 //! tickets give one order of all steps, in which the callers' steps and the pages' histories stand as
 //! they were made. So what comes out is the result of that order, whatever the schedule.
 //!
-//! It stands on `pages` and `item_steps`, and on `atomic_table` for the word of the tickets. The layer
+//! It is built on `pages` and `item_steps`, and on `atomic_table` for the word of the tickets. The layer
 //! above opens a round, has its steps made by as many threads as it likes, and uses `Round::close`: an Ok
 //! gives pages and answers that some interleaving of the group's steps leads to. No thread is started
 //! here: see `workers`.

@@ -57,7 +57,7 @@ impl<J: Room> Locked<J> {
     }
 
     /// Makes the next step of the seat's request of this index, which is a step of this page, and
-    /// draws its ticket. It errs only where an allocation fails; then nothing changes.
+    /// draws its ticket. It errs only if an allocation fails; then nothing changes.
     pub(crate) fn make(
         &mut self,
         alloc: Global,

@@ -81,7 +81,7 @@ impl<J: Room> Round<J> {
     ///
     /// The word is a new one, and `master` is the token that came with it.
     ///
-    /// `Unfit` where there are not 1 to 64 callers, or more than 64 requests, or a request of more than
+    /// `Unfit` if there are not 1 to 64 callers, or more than 64 requests, or a request of more than
     /// 64 steps, or two requests of one place, or a stamp of 2^64 or more. The only other error is want
     /// of memory.
     pub fn open(
@@ -117,8 +117,8 @@ impl<J: Room> Round<J> {
     /// Does the next step of the request, inside the lock of the page of its key, and notes its answer
     /// in the seat. A ticket is drawn for it inside the lock.
     ///
-    /// `Unfit` where the seat does not hold the place, `NotOpen` where no step is left,
-    /// `NoMemory` where an allocation fails. An `Err` changes neither the page nor the seat, and draws
+    /// `Unfit` if the seat does not hold the place, `NotOpen` if no step is left,
+    /// `NoMemory` if an allocation fails. An `Err` changes neither the page nor the seat, and draws
     /// no ticket.
     pub fn step<R: Wait, G: Gate>(
         &self,
@@ -155,7 +155,7 @@ impl<J: Room> Round<J> {
     /// Ends the round: the pages, and the requests with their answers, in the group's order.
     /// The seats are those that `open` gave, in their order.
     ///
-    /// `NotOpen` where a step is left, `NoMemory` where an allocation fails.
+    /// `NotOpen` if a step is left, `NoMemory` if an allocation fails.
     pub fn close(self, alloc: Global, seats: Vec<Seat<J>>) -> Result<(Pages, Vec<Ran>), Fault>
         requires { map (λ s. s.caller) seats.items ≡ range_with_len 0 J.callers }
         ensures ended { IfOk result (λ r. RoundResult J.base J.opening J.group seats.items r.0 (map (λ ran. ran.answers) r.1.items)) }

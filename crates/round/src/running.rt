@@ -107,7 +107,7 @@ impl Running {
         }
     }
 
-    /// Makes the next step on its page, and notes its answer. It errs only where an allocation fails; then
+    /// Makes the next step on its page, and notes its answer. It errs only if an allocation fails; then
     /// nothing changes.
     pub(crate) fn make(
         &mut self,

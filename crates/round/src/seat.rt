@@ -50,7 +50,7 @@ fn is_at(running: &[Running], index: usize, place: u32) -> bool
     }
 }
 
-/// Where the request at the place stands among these, if it does.
+/// Where the request at the place is among these, if it is.
 fn index_at(running: &[Running], place: u32) -> Option<usize>
     ensures { result ≡ position (λ r. r.task.place == place) running.now }
 {
@@ -114,7 +114,7 @@ impl<J: Room> Seat<J> {
         }
     }
 
-    /// Where the request at the place stands among those of the seat, if it does.
+    /// Where the request at the place is among those of the seat, if it is.
     pub(crate) fn index_of(&self, place: u32) -> Option<usize>
         ensures some { IfSome result (λ i. (task : Task) × (slice_get self.now.tasks i ≡ Some task) × (task.place ≡ place)) }
         ensures none { IfNone result (holds self.now place ≡ false) }
@@ -135,8 +135,8 @@ impl<J: Room> Seat<J> {
         }
     }
 
-    /// Where the request at the place stands among those of the seat, and the page on which its next
-    /// step runs. `Unfit` where the seat does not hold the place, `NotOpen` where no step is left.
+    /// Where the request at the place is among those of the seat, and the page on which its next
+    /// step runs. `Unfit` if the seat does not hold the place, `NotOpen` if no step is left.
     pub(crate) fn next(&self, place: u32) -> Result<(usize, usize), Fault>
         requires { are_apart J.group ≡ true }
         ensures ok { IfOk result (λ next. (task : Task) × (step : Step) × (slice_get self.now.tasks next.0 ≡ Some task)

@@ -59,7 +59,7 @@ impl TicketWord {
         self.table.shared.load::<Learns>(token, 0);
     }
 
-    /// Draws the ticket of one step, which from then on stands in the page's log and the caller's.
+    /// Draws the ticket of one step, which from then on is in the page's log and the caller's.
     pub(crate) fn draw(
         &self,
         page: &mut Knowledge,

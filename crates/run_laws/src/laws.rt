@@ -4,12 +4,12 @@
 ghost use Rattle.run_laws.specs.Laws.{NumberAndTokenTell, TokenTells, StateTellsBatch, HasRun, OneRun, RunGrows, CommittedIsOfRun, RunEnds};
 ghost use Rattle.run_laws.specs.Replied.{KeptWasGiven, AnsweredOnce};
 
-/// Where the texts of the states that were met have distinct digests, two states that have one number
+/// If the texts of the states that were met have distinct digests, two states that have one number
 /// and one token are the same, each of them one that was met or the first state. So are two of number
 /// 1 or more that have one token: only beside the token of the first state, which is 32 zero bytes
 /// and no digest, the number is needed.
 ///
-/// Where the texts of batches have distinct digests too, rounds that made one state were of one batch.
+/// If the texts of batches have distinct digests too, rounds that made one state were of one batch.
 pub fn token_tells_the_state()
     ensures numbered { NumberAndTokenTell }
     ensures after_first { TokenTells }
@@ -24,13 +24,13 @@ pub fn decrees_have_one_run()
     ensures one { OneRun }
 {}
 
-/// Where more decrees are chosen, more states met and more rounds executed, a run of them begins with
+/// If more decrees are chosen, more states met and more rounds executed, a run of them begins with
 /// the run before.
 pub fn more_decrees_extend_the_run()
     ensures { RunGrows }
 {}
 
-/// A state that was met is, where a Commit of its number and token is among the decrees, the state of
+/// A state that was met is, if a Commit of its number and token is among the decrees, the state of
 /// the run after so many rounds. So is a state of number 0: it is the first one.
 pub fn committed_state_is_of_the_run()
     ensures { CommittedIsOfRun }

@@ -1,6 +1,6 @@
 //! Laws of states that are known by their tokens, and of the one run that chosen decrees make.
 //!
-//! It stands on `executor`, whose rounds a run is made of. The layer above calls a law, which is the
+//! It is built on `executor`, whose rounds a run is made of. The layer above calls a law, which is the
 //! contract of a function that does nothing, or uses the lemma behind it in `proofs/Tokens.antt`,
 //! `proofs/Runs.antt` or `proofs/Replies.antt`: there the states that were met and the rounds that were
 //! executed are any that a property tells, and need be no lists.

@@ -34,7 +34,7 @@ fn kind_of(event: &Event) -> u16 {
     }
 }
 
-/// The kinds that are made of this seed where so many letters were sent; 0 where there is no such world.
+/// The kinds that are made of this seed if so many letters were sent; 0 if there is no such world.
 fn kinds_made(seed: u64, u: u8, clients: u16, sent: u64) -> u16 {
     let Ok(config) = Config::new(u, clients) else {
         return 0;
@@ -156,7 +156,7 @@ fn one_seed_makes_one_list_of_events(rt: HostRuntime) -> Result<(), Fail> {
     Ok(())
 }
 
-/// Three words are taken for an event, also where there is none.
+/// Three words are taken for an event, also if there is none.
 #[test]
 fn what_was_sent_before_changes_nothing(rt: HostRuntime) -> Result<(), Fail> {
     let mut some = Maker::new(9);

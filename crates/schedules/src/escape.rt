@@ -1,4 +1,4 @@
-//! The bytes of a Feed, as they stand in its line.
+//! The bytes of a Feed, as its line has them.
 
 ghost use Rattle.std.specs.Prelude.{◌≡◌, ◌<◌, IfOk, IfSome};
 ghost use Rattle.std.specs.Option.{option_map};
@@ -6,7 +6,7 @@ ghost use Rattle.schedules.specs.Escape as spec;
 
 use std::alloc::{AllocError, Global};
 
-/// What stands of an escape.
+/// What was read of an escape.
 #[derive(Clone, Copy)]
 pub enum Escape {
     /// Nothing.
@@ -40,7 +40,7 @@ fn hex_value(b: u8) -> Option<u8>
     }
 }
 
-/// What stands of an escape after one byte more, and the byte of which that was the last one.
+/// What was read of an escape after one byte more, and the byte of which that was the last one.
 fn escape_step(escape: Escape, b: u8) -> Option<(Escape, Option<u8>)>
     requires { spec.IsEscape escape }
     ensures step { result ≡ spec.escape_step escape b }

@@ -9,7 +9,7 @@ use thiserror::Error;
 pub enum ScheduleFault {
     #[error("1 NoMemory")]
     NoMemory,
-    /// The line of this number, counted from 1, is the first one that may not stand where it stands;
+    /// The line of this number, counted from 1, is the first one that is not allowed at its place;
     /// or it is missing.
     #[error("6 BadSchedule line {line}")]
     BadSchedule { line: u64 },

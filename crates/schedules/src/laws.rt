@@ -7,7 +7,7 @@ pub fn one_schedule_is_spelled()
     ensures { OneIsSpelled }
 {}
 
-/// Where a line is bad, the bytes spell no schedule. So what spells one is never refused, but for want
+/// If a line is bad, the bytes spell no schedule. So what spells one is never refused, but for want
 /// of memory.
 pub fn a_bad_line_spells_no_schedule()
     ensures { BadLineSpellsNone }

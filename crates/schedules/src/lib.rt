@@ -1,9 +1,9 @@
 //! Schedules: the text that says which events happen in a world, line by line.
 //!
-//! It stands on `events`, whose events the lines name, on `proto` (numbers) and on `memchr` (where
+//! It is built on `events`, whose events the lines name, on `proto` (numbers) and on `memchr` (where
 //! lines and words end). The layer above uses `Schedule::read`: it gives the one schedule that the
-//! bytes of a file spell, or the number of the first line that may not stand where it stands; and
-//! `write_printed`, which prints bytes as they stand in such a file.
+//! bytes of a file spell, or the number of the first line that is not allowed at its place; and
+//! `write_printed`, which prints bytes as they are in such a file.
 #![tactic(auto)]
 
 mod escape;

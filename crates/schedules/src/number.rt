@@ -22,7 +22,7 @@ pub fn client_in(digits: &[u8]) -> Option<u16>
     Some(u16::try_from(number).unwrap_or(u16::MAX))
 }
 
-/// An executor, or a verifier, where it is known which of them. A number above 255 is read as that: no
+/// An executor, or a verifier, if it is known which of them. A number above 255 is read as that: no
 /// world has either.
 pub fn replica_number_in(digits: &[u8]) -> Option<u8>
     ensures { result ≡ spec.replica_number_said digits.now }

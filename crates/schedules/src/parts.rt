@@ -6,7 +6,7 @@ ghost use Rattle.schedules.specs.Parts as spec;
 
 use memchr::memchr;
 
-/// What stands before the first byte that is `separator`, and what stands after it.
+/// What is before the first byte that is `separator`, and what is after it.
 pub fn parted(separator: u8, text: &[u8]) -> Option<(&[u8], &[u8])>
     ensures { option_map (λ p. (p.0.now, p.1.now)) result ≡ spec.parted separator text.now }
 {

@@ -46,7 +46,7 @@ fn append_printed(bytes: &[u8], out: &mut Vec<u8>) -> Result<(), AllocError>
 }
 
 /// Adds bytes at the end as they are printed: those from 32 to 126 other than the backslash as they
-/// are, and for another one `\r`, `\n` or `\\` where it is one of these, and else `\x` with two digits.
+/// are, and for another one `\r`, `\n` or `\\` if it is one of these, and else `\x` with two digits.
 /// As the text of a Feed this stands for the same bytes (`what_is_printed_is_read`). After a failed
 /// allocation, the only error, the vector has what it had.
 pub fn write_printed(bytes: &[u8], out: &mut Vec<u8>) -> Result<(), AllocError>

@@ -20,7 +20,7 @@ pub struct Schedule {
     pub lines: Vec<ScheduleLine>,
 }
 
-/// The first line, and what stands after it.
+/// The first line, and what comes after it.
 fn front_line(bytes: &[u8]) -> (&[u8], &[u8])
     requires { 0 < length bytes.now }
     ensures line { spec.lines_of bytes.now ≡ result.0.now ∷ spec.lines_of result.1.now }
@@ -88,7 +88,7 @@ struct Head<'a> {
     config: Config,
     /// How many lines there were so far.
     lines: u64,
-    /// What stands after them.
+    /// What comes after them.
     rest: &'a [u8],
 }
 
@@ -149,9 +149,9 @@ fn lines_in(alloc: Global, before: u64, bytes: &[u8]) -> Result<Vec<ScheduleLine
 }
 
 impl Schedule {
-    /// The one schedule that the bytes of a file spell. `BadSchedule` comes exactly where they spell
-    /// none: it has the number of the first line that may not stand where it stands, or the one after
-    /// the last line, where `u` and `clients` are missing. There is no other error than this and
+    /// The one schedule that the bytes of a file spell. `BadSchedule` comes exactly if they spell
+    /// none: it has the number of the first line that is not allowed at its place, or the one after
+    /// the last line, if `u` and `clients` are missing. There is no other error than this and
     /// `NoMemory`.
     pub fn read(alloc: Global, bytes: &[u8]) -> Result<Schedule, ScheduleFault>
         ensures spelled { IfOk result (λ schedule. spec.SpellsSchedule bytes.now schedule) }

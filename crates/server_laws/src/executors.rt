@@ -3,7 +3,7 @@
 
 ghost use Rattle.server_laws.specs.HeldLaws.{OneTextIsSpelled, OneIsRead, WorldsAreOfExecutorMachines, MetAreToldApart, SavedIsHad, EachHasOneInWorlds, ChosenIsMadeInWorlds, CommittedIsChosenInWorlds, ExecutorsKeepChosenInWorlds};
 
-/// The bytes of a record are the text of one saved state, where each tentative state in it is over just
+/// The bytes of a record are the text of one saved state, if each tentative state in it is over just
 /// the state before it. Whoever reads them gets that state.
 pub fn records_are_of_one_state()
     ensures one { OneTextIsSpelled }
@@ -17,7 +17,7 @@ pub fn worlds_are_of_executor_machines()
     ensures { WorldsAreOfExecutorMachines }
 {}
 
-/// Where digests tell the texts of the states that were met apart, the states are told apart, as
+/// If digests tell the texts of the states that were met apart, the states are told apart, as
 /// `run_laws` and `custody_laws` ask for it: only the first one has number 0, and each other has the token of
 /// its parts.
 pub fn met_are_told_apart_in_worlds()
@@ -31,7 +31,7 @@ pub fn chosen_is_made_in_worlds()
 {}
 
 /// Each of the `2u + 1` executors, up, down or lost, has one saved state: what its state has while it is up,
-/// and else what its record spells, or the first state where it never saved.
+/// and else what its record spells, or the first state if it never saved.
 pub fn each_executor_has_one_state_in_worlds()
     ensures saved { SavedIsHad }
     ensures one { EachHasOneInWorlds }
@@ -43,7 +43,7 @@ pub fn committed_is_chosen_in_worlds()
     ensures { CommittedIsChosenInWorlds }
 {}
 
-/// Where the digests of the states that executors had, in any of the worlds so far, tell them apart, and
+/// If the digests of the states that executors had, in any of the worlds so far, tell them apart, and
 /// at most `u` executors are lost for good, another one has the state of the last chosen Commit in its
 /// record, as its committed state or in its chain.
 pub fn executors_keep_in_worlds()

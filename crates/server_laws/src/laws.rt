@@ -18,7 +18,7 @@ pub fn worlds_are_in_time()
     given_is_replied_in_worlds();
 }
 
-/// Where digests tell the states that executors had in the worlds of a play apart, each of these worlds has
+/// If digests tell the states that executors had in the worlds of a play apart, each of these worlds has
 /// one run of a single server, and that of a later one begins with it: one round for each chosen Commit,
 /// what executors have committed, up, down or lost, is the run's state of its number, requests are just
 /// those that the fed bytes ask, none is answered twice, and what a client was given are the texts of the
@@ -29,7 +29,7 @@ pub fn worlds_are_of_one_server()
     worlds_are_in_time();
 }
 
-/// Where, besides, at most `u` executors are lost for good, the record of another one has the state that
+/// If, besides, at most `u` executors are lost for good, the record of another one has the state that
 /// the run ends with, as its committed state or in its chain.
 pub fn executors_keep_the_run()
     ensures { ExecutorsKeepTheRun }

@@ -2,7 +2,7 @@
 //! have committed, is of one run of a single server, which later events only extend; and the last state of
 //! that run is not lost.
 //!
-//! It stands on `worlds` (what all nodes do, stepped by events, and which decrees are chosen), on `custody_laws`
+//! It is built on `worlds` (what all nodes do, stepped by events, and which decrees are chosen), on `custody_laws`
 //! (the machine of executors by what they have saved), on `run_laws` (the run that chosen decrees make) and
 //! on `client` (what any inputs of a client lead to). Its laws come in three parts, each over the one before:
 //! what the executors of a world keep (`executors`), what clients ask and are answered (`requests`), and the

@@ -16,7 +16,7 @@ use worlds::{
 ///
 /// At each place at most one decree is chosen, and a chosen one is backed. While at most `u` of the service's verifiers
 /// are lost for good, the record of another one holds each, or begins above it with what the chosen decrees up to there
-/// stand for; if none was told to forget decrees, it holds each.
+/// stand for; if none was to forget decrees, it holds each.
 ///
 /// If digests tell the states of the executors apart, and at most `u` of the service's executors are lost for good, the
 /// record of another one has the state that the one run ends with.

@@ -7,7 +7,7 @@ ghost use Rattle.serving.specs.declared.trimming.TheConstants.{MOST_DECREES, LEF
 /// record.
 pub const MOST_DECREES: u64 = 8192;
 
-/// So many decrees stay. A node that missed fewer is told each of them. Any other node is told what stands,
+/// So many decrees stay. A node that missed fewer is sent each of them. Any other node is sent what stands,
 /// and an executor then fetches the state.
 pub const LEFT_DECREES: u64 = 4096;
 

@@ -12,8 +12,8 @@ use base::{Entry, SortedMap};
 use std::alloc::{AllocError, Global};
 use std::sync::Arc;
 
-/// Puts an entry of its own for the client. Where the map is shared, it is first copied: a pointer for
-/// each entry. Where an allocation fails nothing changes.
+/// Puts an entry of its own for the client. If the map is shared, it is first copied: a pointer for
+/// each entry. If an allocation fails nothing changes.
 pub fn put_entry(
     entries: &mut Arc<SortedMap<u16, LastReply>, Global>,
     client: u16,

@@ -4,8 +4,8 @@
 //! is the number of its last request that ran, and the reply: so a request that comes twice runs
 //! once, and is answered as before.
 //!
-//! It stands on `base` (a map in one sorted vector of shared entries) and on `proto` (commands and
-//! replies). The layers above use `Sessions::fresh`: true exactly where the request is the next of its
+//! It is built on `base` (a map in one sorted vector of shared entries) and on `proto` (commands and
+//! replies). The layers above use `Sessions::fresh`: true exactly if the request is the next of its
 //! client. A clone of `Sessions` is one pointer, and what is kept is shared until a reply is kept.
 #![tactic(auto)]
 

@@ -102,7 +102,7 @@ impl Sessions {
     }
 
     /// Whether the request is the next of its client: its number is 1 above the last kept, or 1
-    /// where none is kept. After the number 2^64 - 1 a client has no next request.
+    /// if none is kept. After the number 2^64 - 1 a client has no next request.
     #[tactic(auto, using(crate::proofs::FreshLemmas::checked_is))]
     pub fn fresh(&self, request: &Request) -> bool
         ensures { result ≡ is_next self.now request.now }
@@ -114,8 +114,8 @@ impl Sessions {
     }
 
     /// Keeps the reply of a request that ran, in place of what was kept of its client. It takes memory
-    /// for this one entry, and where the sessions are shared with a clone for a pointer to each other
-    /// one, which are shared on. Where an allocation fails nothing changes.
+    /// for this one entry, and if the sessions are shared with a clone for a pointer to each other
+    /// one, which are shared on. If an allocation fails nothing changes.
     pub fn keep(&mut self, request: &Request, reply: Reply) -> Result<(), AllocError>
         ensures ok { OnOk result (self.new
             ≡ map.insert self.old request.now.client (record { number = request.now.number; reply = reply })) }
@@ -147,7 +147,7 @@ impl Sessions {
 impl Clone for Sessions {
     ghost is_clone = { λ sessions copy. copy ≡ sessions };
 
-    /// The same sessions, shared. It takes no memory, and fails only where there are too many clones
+    /// The same sessions, shared. It takes no memory, and fails only if there are too many clones
     /// to be counted.
     fn clone(&self) -> Result<Sessions, AllocError> {
         Ok(Sessions {

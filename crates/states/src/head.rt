@@ -1,4 +1,4 @@
-//! What a state is told by, at the head of its record.
+//! What identifies a state, at the head of its record.
 
 ghost use Rattle.std.specs.Prelude.{◌≡◌, ◌↔◌, IsTrue, OnOk, ⊤};
 ghost use Rattle.token.specs.declared.form.Form.TheVariants.{Old};

@@ -1,7 +1,7 @@
 //! States of the server: items and sessions with the token by which a state is known, and the records
 //! of states.
 //!
-//! It stands on `pages`, `sessions` and `batches`, and on `wire` and `token` for records and digests.
+//! It is built on `pages`, `sessions` and `batches`, and on `wire` and `token` for records and digests.
 //! The layer above uses `State::followed_by`: the state that a batch makes of another, with its token;
 //! and for records `State::put` and `State::take`, or `State::put_after` and `State::take_after` over
 //! the state before it.

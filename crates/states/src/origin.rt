@@ -1,4 +1,4 @@
-//! What a state came from, as it is told in records.
+//! What a state came from, as records say it.
 
 ghost use Rattle.std.specs.Prelude.{◌≡◌, ◌++◌, OnOk, ⊤};
 ghost use Rattle.std.specs.Int.{w64};

@@ -19,7 +19,7 @@ use token::{Digested, Form, HashedSessions, Token, batch_digest};
 use wire::Sink;
 
 /// A state of the server: its items and sessions, and the token by which it is known. Beside the
-/// sessions it keeps their digest and, where there is memory for it, their text.
+/// sessions it keeps their digest and, if there is memory for it, their text.
 pub struct State {
     origin: Origin,
     token: Token,
@@ -165,7 +165,7 @@ impl State {
         &self.sessions
     }
 
-    /// Writes the text of what is kept of each client: shared where it is kept.
+    /// Writes the text of what is kept of each client: shared if it is kept.
     pub(crate) fn put_sessions<S: Sink>(&self, sink: &mut S) -> Result<(), S::Refusal>
         ensures { OnOk result (Puts S.holds (sessions_text self.now.sessions) sink.old sink.new) }
     {
@@ -202,7 +202,7 @@ impl State {
 
     /// The state of these parts, with its token computed from them by their form. Its number is from 1
     /// to 2^58 - 1.
-    /// The text of its sessions is kept where there is memory for it; there is no error.
+    /// The text of its sessions is kept if there is memory for it; there is no error.
     pub fn of_parts(alloc: Global, parts: Parts) -> State
         requires number { (0 < parts.origin.number) × (parts.origin.number < 2 ^ 58) }
         requires form { FitForm parts.origin.form parts.pages.items }
@@ -213,7 +213,7 @@ impl State {
         State::of_digested(parts, digested)
     }
 
-    /// The same state as of `of_parts`, where the digest of its sessions was made already. This takes
+    /// The same state as of `of_parts`, with the digest of its sessions that was made already. This takes
     /// no memory.
     pub fn of_digested(parts: Parts, digested: Digested) -> State
         requires number { (0 < parts.origin.number) × (parts.origin.number < 2 ^ 58) }

@@ -24,7 +24,7 @@ use wire::{Record, Sink};
 
 impl Head {
     /// The state that a batch led to, of this head, these sessions and items. `BadRecord`: there is
-    /// none, as where the token is not the one that comes out.
+    /// none, as when the token is not the one that comes out.
     pub(crate) fn later(
         &self,
         alloc: Global,
@@ -109,7 +109,7 @@ fn take_later(alloc: Global, bytes: &[u8]) -> Result<(State, &[u8]), Fault>
 
 impl State {
     /// Writes its record. The texts that are kept, of its pages and its sessions, are shared with a sink
-    /// that takes shared pieces. The sink may refuse it, as where an allocation fails.
+    /// that takes shared pieces. The sink may refuse it, as when an allocation fails.
     #[tactic(auto, unfolding(crate::specs::StateRecord::state_text))]
     pub fn put<S: Sink>(&self, sink: &mut S) -> Result<(), S::Refusal>
         ensures { OnOk result (Puts S.holds (state_text self.now) sink.old sink.new) }

@@ -1,6 +1,6 @@
 //! The status port's answers: a page for a browser, its data, and the metrics.
 //!
-//! It stands on `figures` and `metrics`, and on `httparse` and `serde_json`. The layer above uses `answer`, whose
+//! It is built on `figures` and `metrics`, and on `httparse` and `serde_json`. The layer above uses `answer`, whose
 //! contract gives each byte of the response for what came of a request. There is no socket here.
 #![tactic(auto)]
 

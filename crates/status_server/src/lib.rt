@@ -1,6 +1,6 @@
 //! The status port's thread: one loop over its listener and at most 32 connections.
 //!
-//! It stands on `status`, which answers, and on `mio`. It shares nothing with the cache but a copy of the figures.
+//! It is built on `status`, which answers, and on `mio`. It shares nothing with the cache but a copy of the figures.
 //! A connection has five seconds for all it does, and makes room for a newer one if 32 are open. A round answers at
 //! most 16 and is followed by a pause, so a flood of requests takes a small part of one core. What sockets give and
 //! take no contract says; the clauses here are of `Exchange`: what is left to be written is the end of the answer

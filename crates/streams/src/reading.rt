@@ -33,7 +33,7 @@ impl<R: Read> ReadOnce for R {
     }
 }
 
-/// Who is told what is read. Its contracts are its own: they say what a piece, and what a hangup, does to it.
+/// What takes what is read. Its contracts are its own: they say what a piece, and what a hangup, does to it.
 pub trait Listener {
     /// What it is after a piece, and whether it wants more.
     ghost hears: { Self → List ℕ → Bool → Self → Type 0 };

@@ -20,10 +20,10 @@ use std::marker::Model;
 use std::sync::Arc;
 use wire::{Record, Sink, put_page, share_text};
 
-/// The digest of a text, SHA-256 by FIPS 180-4, and the text itself where there was memory to keep
+/// The digest of a text, SHA-256 by FIPS 180-4, and the text itself if there was memory to keep
 /// it. The text shares the data of large items with them, and clones share the text.
 ///
-/// Contracts see it as the digest and the text. That these belong together stands in the contract
+/// Contracts see it as the digest and the text. That these belong together is said in the contract
 /// of the call that made it (`IsDigested`).
 pub struct Digested {
     digest: [u8; 32],
@@ -70,7 +70,7 @@ fn kept(alloc: Global, mut text: Text) -> Result<Arc<Text, Global>, AllocError>
 /// Room for an entry of some 30 bytes of data: longer ones make the text grow as it is written.
 const ROOM_FOR_AN_ENTRY: usize = 64;
 
-/// No bytes yet, with room for so many entries where there is memory for it.
+/// No bytes yet, with room for so many entries if there is memory for it.
 fn text_for(alloc: Global, entries: usize) -> Text
     ensures { result ≡ [] }
 {
@@ -80,7 +80,7 @@ fn text_for(alloc: Global, entries: usize) -> Text
 }
 
 impl Digested {
-    /// The text, which is kept where there is memory to share it, and its digest.
+    /// The text, which is kept if there is memory to share it, and its digest.
     fn of_text(alloc: Global, text: Text) -> Digested
         ensures { IsDigested text result }
     {
@@ -96,7 +96,7 @@ impl Digested {
 
     /// The digest of the text of a page that has these entries. The text is written once, and kept;
     /// the data of large items is shared with them.
-    /// Where there is no memory for it the digest is made without it; there is no error.
+    /// If there is no memory for it the digest is made without it; there is no error.
     pub fn of_page(alloc: Global, entries: &[Entry<Key, Item>]) -> Digested
         requires { PageFits entries.now }
         ensures { IsDigested (page_text entries.now) result }
@@ -111,9 +111,9 @@ impl Digested {
         }
     }
 
-    /// The digest of what is kept of all clients, in a state of this form. Where it is that of the text,
+    /// The digest of what is kept of all clients, in a state of this form. If it is that of the text,
     /// the text is written once, and kept; the data of large values is shared with their replies.
-    /// Where there is no memory for it the digest is made without it; there is no error.
+    /// If there is no memory for it the digest is made without it; there is no error.
     pub fn of_sessions(alloc: Global, form: Form, sessions: &HashedSessions) -> Digested
         ensures digested { AreDigested form sessions.now result }
         ensures fit { SessionsFit sessions.now }
@@ -157,7 +157,7 @@ impl Digested {
         &self.digest
     }
 
-    /// The text, where it is kept. All of it is in pieces.
+    /// The text, if it is kept. All of it is in pieces.
     pub fn text(&self) -> Option<&Text>
         ensures some { IfSome result (λ text. self.now.1 ≡ Some text.now) }
         ensures none { IfNone result (self.now.1 ≡ None) }
@@ -187,7 +187,7 @@ impl Digested {
 impl Clone for Digested {
     ghost is_clone = { λ digested copy. copy ≡ digested };
 
-    /// The same digest, and the same text, shared. It takes no memory, and fails only where a text
+    /// The same digest, and the same text, shared. It takes no memory, and fails only if a text
     /// has too many clones to be counted.
     fn clone(&self) -> Result<Digested, AllocError> {
         let text = match &self.text {

@@ -7,7 +7,7 @@ pub const OLD_BLOCK_BYTES: usize = 65536;
 
 /// How the digests in a state's token are computed.
 ///
-/// The items of every state stand on `PAGES` pages. A state that was read from a record of version 1
+/// The items of every state are on `PAGES` pages. A state that was read from a record of version 1
 /// keeps the token that it had there: its root is over 64 pages, each of them four of today's.
 #[derive(Clone, Copy, Debug, PartialEq, Eq)]
 pub enum Form {

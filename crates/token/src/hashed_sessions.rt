@@ -83,7 +83,7 @@ impl HashedSessions {
     }
 
     /// To be called before replies are kept for a state of this form: from then on the digests are there,
-    /// where the form asks for them and there is memory for them. What is missing is hashed.
+    /// if the form asks for them and there is memory for them. What is missing is hashed.
     pub fn prepare(&mut self, alloc: Global, form: Form)
         ensures { self.new ≡ self.old }
     {
@@ -97,8 +97,8 @@ impl HashedSessions {
         }
     }
 
-    /// Keeps the reply of a request that ran, as `Sessions::keep`. A long one is hashed where the digests
-    /// are there. Where an allocation fails no session changes.
+    /// Keeps the reply of a request that ran, as `Sessions::keep`. A long one is hashed if the digests
+    /// are there. If an allocation fails no session changes.
     pub fn keep(&mut self, request: &Request, reply: Reply) -> Result<(), AllocError>
         ensures ok { OnOk result (self.new
             ≡ map.insert self.old request.now.client (record { number = request.now.number; reply = reply })) }

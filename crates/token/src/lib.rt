@@ -1,6 +1,6 @@
 //! Tokens: the digests by which states are known, and the digests that they are made from.
 //!
-//! It stands on `wire`, whose texts it digests, on `base` (entries, texts) and on `sha2`, which is
+//! It is built on `wire`, whose texts it digests, on `base` (entries, texts) and on `sha2`, which is
 //! SHA-256 by FIPS 180-4. The layers above use `Token::new` and the digests beside it: each is the
 //! word `digest` of the text of its arguments. They keep a digest beside its text as `Digested`, and
 //! the digests of long replies beside the sessions as `ReplyDigests`: nothing else here takes memory.

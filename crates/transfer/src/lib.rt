@@ -10,7 +10,7 @@
 //! digests. So the token is that of what came, and no sender is believed. Between two states of form 2,
 //! or two of form 3, neither side does work per item.
 //!
-//! It stands on `states` and `executor`, whose states it hands over, on `pages`, and on `wire` for
+//! It is built on `states` and `executor`, whose states it hands over, on `pages`, and on `wire` for
 //! the records. The layer above uses `Need::of_state`, `answer` and `take`: each is its definition,
 //! and `a_state_is_handed_over` is the law of the three together.
 #![tactic(auto)]

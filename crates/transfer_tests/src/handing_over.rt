@@ -18,7 +18,7 @@ enum Row {
     WithoutPages,
     /// Without its one page it is refused, and then the whole is taken.
     LacksItsPage,
-    /// It is refused where another number is asked for.
+    /// It is refused if another number is asked for.
     OtherNumber,
     /// Or another token.
     OtherToken,
@@ -69,13 +69,13 @@ fn is_part_refused(alloc: Global, own: &State, more: &State) -> Result<bool, Fau
     is_refused(alloc, own, part(alloc, own, more)?, more.number(), &token)
 }
 
-/// Whether the answer is refused where this number is asked for.
+/// Whether the answer is refused if this number is asked for.
 fn is_number_refused(alloc: Global, own: &State, more: &State, n: u64) -> Result<bool, Fault> {
     let token = more.token();
     is_refused(alloc, own, answered(alloc, own, more)?, n, &token)
 }
 
-/// Whether the answer is refused where the own token is asked for.
+/// Whether the answer is refused if the own token is asked for.
 fn is_token_refused(alloc: Global, own: &State, more: &State) -> Result<bool, Fault> {
     let token = own.token();
     is_refused(

@@ -124,7 +124,7 @@ pub fn is_taken(alloc: Global, own: &State, parcel: Parcel, more: &State) -> Res
     }
 }
 
-/// Whether the parcel is refused where a state of this number and token is asked for.
+/// Whether the parcel is refused if a state of this number and token is asked for.
 pub fn is_refused(
     alloc: Global,
     own: &State,

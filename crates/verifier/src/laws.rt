@@ -9,7 +9,7 @@ pub fn unfit_input_changes_nothing()
 {}
 
 /// A step leaves the log as it was, learns one decree that could come next, forgets a beginning and
-/// keeps what it stood for, or goes to a start above what was known. Each decree could come next where
+/// keeps what it stood for, or goes to a start above what was known. Each decree could come next if
 /// it stands, and the log begins at what could stand there.
 pub fn decrees_are_learned_in_order()
     ensures order { LearnsInOrder }

@@ -1,6 +1,6 @@
-//! A verifier: it decides with the others which decree stands at each place.
+//! A verifier: it decides with the others which decree is at each place of the log.
 //!
-//! It stands on `view_change`, `decrees` and `keeper`. The layer above uses `Verifier::handle`: an Ok
+//! It is built on `view_change`, `decrees` and `keeper`. The layer above uses `Verifier::handle`: an Ok
 //! is the written step, state, letters in order and saved record, and after an error the verifier
 //! is stopped with the record that it had before that call.
 #![tactic(auto)]

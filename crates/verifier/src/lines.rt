@@ -203,7 +203,7 @@ impl State {
         place == self.next_place() && self.log.may_follow(decree)
     }
 
-    /// So many have accepted the decree that it is learned, and all are told. Stopped: the place after it
+    /// So many have accepted the decree that it is learned, and sent to all. Stopped: the place after it
     /// would have no number.
     fn decide(
         &mut self,

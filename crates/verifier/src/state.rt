@@ -93,7 +93,7 @@ impl State {
         self.accepted.put(whole)
     }
 
-    /// Writes all of its record that stands before the decrees.
+    /// Writes all of its record that is before the decrees.
     fn put_fields(&self, u: u8, id: u8, whole: &mut Text) -> Result<(), AllocError>
         ensures { OnOk result (whole.new ≡ whole.old ++ fields_text u id self.now) }
     {

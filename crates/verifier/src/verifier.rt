@@ -35,7 +35,7 @@ fn stored<K: Keeper<Text>>(alloc: Global, u: u8, id: u8, keeper: &K) -> Option<R
     }
 }
 
-/// Saves the record of this state. Where a failure could not be counted it is Stopped at once.
+/// Saves the record of this state. If a failure could not be counted it is Stopped at once.
 fn save<K: Keeper<Text>>(
     alloc: Global,
     u: u8,
@@ -89,7 +89,7 @@ impl<K: Keeper<Text>> Verifier<K> {
     ghost use Rattle.verifier.specs.Verifier.{VerifierView, Opens, IsUnreadable, handled, outcome, IsAtLimit};
     ghost use Rattle.verifier.specs.Lent.{LendsKeeper};
 
-    /// Opens the verifier `id` of `2u + 1`. Where the keeper has no record it is new, and its first
+    /// Opens the verifier `id` of `2u + 1`. If the keeper has no record it is new, and its first
     /// record is saved. Else it goes on from its record, which it leaves as it is, and asks the others
     /// for what it does not know.
     ///
@@ -217,10 +217,10 @@ impl<K: Keeper<Text>> Verifier<K> {
     /// Does the step of the input, and gives its letters in order. What has to be saved is saved
     /// before they leave. An input that fits no line of the step changes nothing.
     ///
-    /// After an error the verifier is stopped for good, and its record is the old one; where it was
+    /// After an error the verifier is stopped for good, and its record is the old one; if it was
     /// stopped before, nothing of it changes. Stopped: it was stopped before, or a save failed, or a
     /// counter is at its limit; NoMemory: an allocation failed in this call, and no save. A save
-    /// that is set to fail does, and none fails where the step saves nothing. Whether the next save is
+    /// that is set to fail does, and none fails if the step saves nothing. Whether the next save is
     /// set to fail stays as it was, unless a save failed, which spends it.
     pub fn handle(&mut self, alloc: Global, input: Input) -> Result<Vec<Letter<Ballot>>, Fault>
         ensures done { IfOk result (λ letters. self.new ≡ handled self.old input) }
@@ -275,7 +275,7 @@ impl<K: Keeper<Text>> Verifier<K> {
         self.state.known()
     }
 
-    /// The place up to which it has forgotten decrees; 0 where it has forgotten none.
+    /// The place up to which it has forgotten decrees; 0 if it has forgotten none.
     pub fn start(&self) -> u64
         ensures { result ≡ self.now.state.start.place }
     {

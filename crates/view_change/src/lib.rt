@@ -1,7 +1,7 @@
 //! What a verifier that comes to lead a view has to propose.
 //!
-//! It stands on `decrees`. The layer above uses `Promises::choice`: what was accepted before, by as
-//! many as a decision needs, is proposed again, and anything may be proposed only where nothing was.
+//! It is built on `decrees`. The layer above uses `Promises::choice`: what was accepted before, by as
+//! many as a decision needs, is proposed again, and anything may be proposed only if nothing was.
 #![tactic(auto)]
 
 mod promises;

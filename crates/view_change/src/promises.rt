@@ -124,7 +124,7 @@ impl Promises {
     }
 
     /// What may be proposed for the place after this many known decrees: nothing before more than
-    /// `u` have promised, nor while one of them knows more decrees. Where promises hold an accepted
+    /// `u` have promised, nor while one of them knows more decrees. If promises hold an accepted
     /// decree for that place, only the one of the highest view; of several, that of the lowest
     /// sender.
     pub fn choice(&self, u: u8, known: u64) -> Choice

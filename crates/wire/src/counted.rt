@@ -11,7 +11,7 @@ use proto::Fault;
 use std::alloc::Global;
 use std::marker::Model;
 
-/// A list as it stands in a record: a count, and so many values.
+/// A list as a record has it: a count, and so many values.
 #[derive(Drop)]
 pub struct Counted<T> {
     values: Vec<T>,

@@ -36,7 +36,7 @@ fn passing_fields(flags: u32, due: u64, unique: u64, len: u32) -> [u8; 25]
     ]
 }
 
-/// Writes all that stands before the data, as one piece.
+/// Writes all that is before the data, as one piece.
 fn put_fields<S: Sink>(
     flags: u32,
     due: Option<u64>,

@@ -1,7 +1,7 @@
 //! Records: the one encoding of a value as bytes, and its reading.
 //!
-//! It stands on `base`, `proto`, `items`, `sessions` and `batches`, whose values it encodes, and on
-//! `sha2`. The layers above use `read`: it answers a value exactly where all of the bytes are the
+//! It is built on `base`, `proto`, `items`, `sessions` and `batches`, whose values it encodes, and on
+//! `sha2`. The layers above use `read`: it answers a value exactly if all of the bytes are the
 //! encoding of one that fits, and `write` and `digest`, which encode by the same `Record::put`. What is
 //! put into a `base::Text` shares the data of large items with them.
 #![tactic(auto)]

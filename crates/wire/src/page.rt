@@ -36,7 +36,7 @@ impl Model for Entries {
 }
 
 impl Entries {
-    /// These entries, which stand by strictly rising keys.
+    /// These entries, which are in the order of strictly rising keys.
     pub fn new(entries: Vec<Entry<Key, Item>>) -> Entries
         requires { IsTrue (is_sorted by_bytes entries.items) }
         ensures { result ≡ entries.items }

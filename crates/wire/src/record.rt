@@ -27,7 +27,7 @@ pub trait Record: Sized {
     ghost prefix_free: { IsPrefixFree encoding };
 }
 
-/// Appends the encoding of the value. Where an allocation fails nothing is appended.
+/// Appends the encoding of the value. If an allocation fails nothing is appended.
 pub fn write<T: Record>(alloc: Global, value: &T, out: &mut Vec<u8>) -> Result<(), AllocError>
     requires { T.fits value.now }
     ensures ok { OnOk result (out.new.items ≡ out.old.items ++ T.encoding value.now) }

@@ -1,6 +1,6 @@
 //! The words of a command line, as the programs take them.
 //!
-//! It stands on `clap`. The programs use `words_of`, and say by `WordsFault` why they do not take the words.
+//! It is built on `clap`. The programs use `words_of`, and say by `WordsFault` why they do not take the words.
 #![tactic(auto)]
 
 use clap::error::ErrorKind;

@@ -27,7 +27,7 @@ fn weight_of_all(pages: &[Page]) -> usize {
         .fold(0usize, |sum, page| sum.saturating_add(page.weight()))
 }
 
-/// How many of the pages, from the front, weigh at least so much: all where they weigh less.
+/// How many of the pages, from the front, weigh at least so much: all if they weigh less.
 fn place_of_weight(pages: &[Page], least: usize) -> usize
     ensures { result ≤ length pages.now }
 {
@@ -58,7 +58,7 @@ fn refresh_in_turn<R: Threads + Sync>(rt: &R, pages: &mut [Page])
 
 /// Recomputes the digest of each page that was written, by at most so many threads at once. The thread
 /// that calls is one of them; the others have ended when the call returns. The pages that were written
-/// may stand close together, so pages are parted by what they weigh.
+/// may be close together, so pages are parted by what they weigh.
 fn refresh_parted<R: Threads + Sync>(rt: &R, pages: &mut [Page], threads: usize)
     ensures { pages.new ≡ map refreshed pages.old }
 {
@@ -85,8 +85,8 @@ fn refresh_parted<R: Threads + Sync>(rt: &R, pages: &mut [Page], threads: usize)
     );
 }
 
-/// How many threads the pages have where the digest of the sessions is worth a thread of its own;
-/// `None` where it is not, or where there is but one thread.
+/// How many threads the pages have if the digest of the sessions is worth a thread of its own;
+/// `None` if it is not, or if there is but one thread.
 fn beside_sessions(sessions: &HashedSessions, threads: usize) -> Option<usize> {
     if threads < 2 || sessions.sessions().entries().len() < LEAST_CLIENTS {
         return None;
@@ -95,7 +95,7 @@ fn beside_sessions(sessions: &HashedSessions, threads: usize) -> Option<usize> {
 }
 
 /// Recomputes the digest of each page that was written, and the digest of the sessions in a state of this form, by at most so
-/// many threads at once as `workers` has on digests; each digest keeps its text where there is memory for it. The thread that
+/// many threads at once as `workers` has on digests; each digest keeps its text if there is memory for it. The thread that
 /// calls is one of them; the others have ended when the call returns.
 pub fn digest_all<R: Threads + Sync>(
     rt: &R,

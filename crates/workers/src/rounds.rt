@@ -53,7 +53,7 @@ fn make_all<J: Room, R: Wait, G: Gate>(
 }
 
 /// Makes the steps that are left of all seats, as far as there is memory. One seat is worked by the
-/// thread that calls, each other one by a thread of its own; where a thread cannot be started, the
+/// thread that calls, each other one by a thread of its own; if a thread cannot be started, the
 /// caller does its work too.
 fn work<J: Room + Send + Sync, R: Threads + Wait + Sync, G: Gate + Sync>(
     rt: &R,
@@ -111,7 +111,7 @@ fn within<J: Room + Send + Sync, R: Threads + Wait + Sync, G: Gate + Sync>(
 /// The requests come back with their answers, in the group's order. The pages and the answers are what
 /// some interleaving of the group's steps leads to. The stamp of a request is the base's stamp plus its place.
 ///
-/// `Unfit` where a round does not take the group: see `round::group_fits`. `NoMemory` where an
+/// `Unfit` if a round does not take the group: see `round::group_fits`. `NoMemory` if an
 /// allocation fails.
 pub fn run<R: Threads + Wait + Sync, G: Gate + Sync>(
     rt: &R,

@@ -30,12 +30,12 @@ fn played(alloc: Global, config: &Config, events: &[Event]) -> Result<World, All
 /// lost or sent again, and whichever nodes stop, are opened again or are lost for good.
 ///
 /// At each place at most one decree is chosen, by the letters of this world; a chosen one is backed; and
-/// where at most `u` verifiers are lost for good, the record of another one holds each, or begins above it
-/// with what the chosen decrees up to there stand for; where no event trims a verifier, it holds each.
+/// if at most `u` verifiers are lost for good, the record of another one holds each, or begins above it
+/// with what the chosen decrees up to there stand for; if no event trims a verifier, it holds each.
 ///
-/// Where digests tell the states apart that executors had on the way, all that clients were given and all
+/// If digests tell the states apart that executors had on the way, all that clients were given and all
 /// that executors have committed is of one run of a single server, in this world and in each one on the
-/// way to it, and more events only extend that run; and where at most `u` executors are lost for good, the
+/// way to it, and more events only extend that run; and if at most `u` executors are lost for good, the
 /// record of another one has the state that the run ends with. Then what clients asked and were given on the
 /// way is linearizable, as of one memcached server (`memcached_spec`).
 ///

@@ -1,4 +1,4 @@
-//! What the executors wait for, where no letter comes.
+//! What the executors wait for, if no letter comes.
 
 ghost use Rattle.std.specs.Prelude.{◌≡◌};
 ghost use Rattle.world.specs.Work.{work_event};

@@ -96,7 +96,7 @@ fn next_letter(stage: &mut Stage, world: &World) -> Option<Event> {
     }
 }
 
-/// A replica is lost for good, where fewer than `u` of its kind were.
+/// A replica is lost for good, if fewer than `u` of its kind were.
 fn loss(stage: &mut Stage, words: &mut Words) -> Option<Event> {
     let replica = any_replica(stage, words);
     match replica {
@@ -179,7 +179,7 @@ fn event_of(
     })
 }
 
-/// Some verifier is told that it may forget the decrees up to some place, known or not.
+/// Some verifier trims its log up to some place, known or not.
 fn trim(stage: &Stage, words: &mut Words) -> Event {
     Event::Trim {
         verifier: any_member(stage, words),

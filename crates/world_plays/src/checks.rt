@@ -84,7 +84,7 @@ fn has(chain: &Chain, number: u64, token: Token) -> bool {
     false
 }
 
-/// The number that stands at the beginning, with what stands behind its line.
+/// The number at the beginning, with what is behind its line.
 fn first_number(bytes: &[u8]) -> Option<(u32, &[u8])> {
     let mut number = 0u32;
     for i in 0..bytes.len() {

@@ -9,7 +9,7 @@ use world::World;
 pub enum Failed {
     /// Of a kind that is made of the seed.
     Kind { seed: u32 },
-    /// Of random events, where `u` replicas of each kind may fail.
+    /// Of random events, with `u` replicas of each kind that may fail.
     Random { seed: u32, u: u8 },
     /// Of a row, with a restart after so many events of the replica of this number, executors first.
     Restart { after: u32, number: u8 },

@@ -103,7 +103,7 @@ impl Judge {
         Ok(true)
     }
 
-    /// Runs the batches that led to a committed state: one, or more where an executor was told what stands.
+    /// Runs the batches that led to a committed state: one, or more if an executor was told what stands.
     /// False: they are not there, or lead to another state.
     fn run(&mut self, alloc: Global, state: &State) -> Result<bool, AllocError> {
         let Some(way) = self.way_to(alloc, state)? else {

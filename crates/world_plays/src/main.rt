@@ -7,15 +7,15 @@
 //!   partitions, batches that nobody decides, long chains, executors that diverge, storms of restarts,
 //!   losses up to `u`. All clients add one to a counter, so each is given rising numbers, and none is given
 //!   twice.
-//! - `trimmed FIRST PLAYS EVENTS`: the same, and among the events verifiers are told to forget decrees.
+//! - `trimmed FIRST PLAYS EVENTS`: the same, and among the events verifiers trim their logs.
 //! - `random FIRST SEEDS EVENTS`: for each seed, and where 0 to 3 replicas of each kind may fail, eight
 //!   clients ask twenty commands each, and then come so many events of a line `random` of a schedule.
 //! - `restarts FILE`: the row in this file, with a crash and a restart after each of its events, of each
 //!   replica. What a client is given has to be a beginning of what the row gives it; so no reply of the row
 //!   may depend on whether a request of another client came through.
 //!
-//! For each line it prints what came of the plays. A play that shows what no server would is told, and the
-//! status is 1; it is 2 where a line cannot be played.
+//! For each line it prints what came of the plays. A play that shows what no server would is printed, and the
+//! status is 1; it is 2 if a line cannot be played.
 #![tactic(auto)]
 
 mod acting;

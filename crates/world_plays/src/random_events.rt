@@ -102,7 +102,7 @@ fn made(
     Ok(world)
 }
 
-/// The play of a seed where `u` of each kind may fail. False: it shows what no server would.
+/// The play of a seed if `u` of each kind may fail. False: it shows what no server would.
 fn play(alloc: Global, seed: u32, u: u8, events: u32, counts: &mut Counts) -> Result<bool, Fault> {
     let config = Config::new(u, CLIENTS)?;
     let mut stage = Stage::new(alloc, &config)?;
@@ -118,7 +118,7 @@ fn play(alloc: Global, seed: u32, u: u8, events: u32, counts: &mut Counts) -> Re
     Ok(turns.is_some())
 }
 
-/// The plays of a seed, where 0 to 3 of each kind may fail, until one shows what no server would.
+/// The plays of a seed, if 0 to 3 of each kind may fail, until one shows what no server would.
 fn play_each(alloc: Global, seed: u32, events: u32, counts: &mut Counts) -> Result<(), Fault> {
     for u in 0..4u8 {
         if !play(alloc, seed, u, events, counts)? {

@@ -1,4 +1,4 @@
-//! A row, a schedule in which all goes well: once as it stands, and then with a crash and a restart of each
+//! A row, a schedule in which all goes well: once as it is, and then with a crash and a restart of each
 //! replica after each of its events.
 
 use crate::acting::settle;
@@ -60,7 +60,7 @@ fn is_beginning(world: &World, whole: &[Vec<u8>]) -> bool {
     })
 }
 
-/// What clients are given in the row as it stands, and how many events it has.
+/// What clients are given in the row as it is, and how many events it has.
 fn whole(alloc: Global, row: &Schedule) -> Result<(Vec<Vec<u8>>, u32), Fault> {
     let mut stage = Stage::new(alloc, &row.config)?;
     let world = played(alloc, &mut stage, row)?;

@@ -1,4 +1,4 @@
-//! Where a play stands.
+//! How far a play is.
 
 use crate::judge::Judge;
 use decrees::Node;
@@ -43,7 +43,7 @@ pub struct Again {
     pub replica: Replica,
 }
 
-/// Where a play stands.
+/// How far a play is.
 #[derive(Drop)]
 pub struct Stage {
     pub judge: Judge,
@@ -59,7 +59,7 @@ pub struct Stage {
     /// How many executors and verifiers were lost for good.
     pub lost_executors: u8,
     pub lost_verifiers: u8,
-    /// Whether verifiers are told to forget decrees.
+    /// Whether verifiers trim their logs.
     pub trims: bool,
 }
 

@@ -1,4 +1,4 @@
-//! What a client is given where no replica fails.
+//! What a client is given if no replica fails.
 
 use crate::stage::{Done, gives, sends};
 use events::Replica;

@@ -32,7 +32,7 @@ fn others_are_up(world: &World) -> bool {
         && clients.all(|place| place.is_open())
 }
 
-/// Whether the client was given all; or a beginning of it, where another node than executor 2 has stopped.
+/// Whether the client was given all; or a beginning of it, if another node than executor 2 has stopped.
 fn is_right(world: &World) -> bool {
     match world.given(1) {
         Some(given) => GIVEN.starts_with(given)

@@ -32,7 +32,7 @@ pub enum Done<'a> {
     FailSave(Replica),
 }
 
-/// Where a row stands.
+/// How far a row is.
 #[derive(Clone, Copy)]
 struct Stage {
     /// How many letters were delivered, or never come.
@@ -145,7 +145,7 @@ pub fn repeated(alloc: Global, world: World, row: &[Done], times: u8) -> Result<
     Ok(world)
 }
 
-/// The world in which the row has happened, where `u` of the replicas may fail.
+/// The world in which the row has happened, if `u` of the replicas may fail.
 pub fn played(alloc: Global, u: u8, row: &[Done]) -> Result<World, Fault> {
     let config = Config::new(u, 1)?;
     Ok(repeated(alloc, World::open(alloc, &config)?, row, 1)?)

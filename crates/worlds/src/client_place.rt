@@ -48,7 +48,7 @@ impl ClientPlace {
         }
     }
 
-    /// Gives it the input, where it was not stopped; the result is what it sends. Where its step meets an
+    /// Gives it the input, if it was not stopped; the result is what it sends. If its step meets an
     /// error it stops, and nothing is sent or given. The only error of this call is that there was no memory for
     /// what its client is given: then that and what it sends are lost, and its world is to be ended.
     #[tactic(auto, using(crate::proofs::ClientLemmas::client_does, crate::proofs::ClientLemmas::client_stops))]

@@ -53,7 +53,7 @@ impl Model for ExecutorPlace {
     ghost invariant = { λ p. IsUpAt executor_up p.slot };
 }
 
-/// Does the step of the input, and gives its letters. None: it stopped. Where a tentative state is refused
+/// Does the step of the input, and gives its letters. None: it stopped. If a tentative state is refused
 /// nothing changes, and nothing is sent.
 #[tactic(auto, using(crate::proofs::StepLemmas::ok_is_untold, crate::proofs::StepLemmas::fault_fits, crate::proofs::StepLemmas::refused_does))]
 fn stepped(node: &mut KeptExecutor, alloc: Global, input: Input) -> Option<Vec<Letter<Body>>>
@@ -112,7 +112,7 @@ impl ExecutorPlace {
         }
     }
 
-    /// Gives it the input, where it is up; the result is what it sends. Where its step meets an error it
+    /// Gives it the input, if it is up; the result is what it sends. If its step meets an error it
     /// stops, and is down with its record; then nothing is sent.
     #[tactic(auto, using(crate::proofs::StepLemmas::executor_settles, crate::proofs::StepLemmas::executor_stops))]
     pub fn settle(&mut self, alloc: Global, input: Input) -> Vec<Letter<Body>>
@@ -137,7 +137,7 @@ impl ExecutorPlace {
         }
     }
 
-    /// Opens it as number `id` of `2u + 1`, where it is down; the result is what it sends. Where that is
+    /// Opens it as number `id` of `2u + 1`, if it is down; the result is what it sends. If that is
     /// refused it stays down.
     pub fn restart(&mut self, alloc: Global, u: u8, id: u8) -> Vec<Letter<Body>>
         requires few { u < 4 }
@@ -149,7 +149,7 @@ impl ExecutorPlace {
         letters
     }
 
-    /// It stops, where it is up.
+    /// It stops, if it is up.
     pub fn crash(&mut self)
         ensures { self.new ≡ crashed_slot executor_kept self.old }
     {
@@ -163,7 +163,7 @@ impl ExecutorPlace {
         lose(&mut self.slot);
     }
 
-    /// Its next save will fail, where it is up.
+    /// Its next save will fail, if it is up.
     pub fn fail_next(&mut self)
         ensures { self.new ≡ told_slot executor_told self.old }
     {

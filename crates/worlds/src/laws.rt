@@ -15,19 +15,19 @@ pub fn one_is_chosen_in_worlds()
 {}
 
 /// In each reached world a chosen decree is backed: decrees are chosen at all places before it, and
-/// where it is a Commit, more than `u` executors have sent its token for the next number, in the epoch
+/// if it is a Commit, more than `u` executors have sent its token for the next number, in the epoch
 /// and over the token that those decrees stand for.
 pub fn chosen_is_backed_in_worlds()
     ensures { ChosenIsBackedInWorlds }
 {}
 
-/// Where at most `u` verifiers are lost for good, the record of another one holds each chosen decree, in
+/// If at most `u` verifiers are lost for good, the record of another one holds each chosen decree, in
 /// its log or as what it has accepted, or begins above it with what the chosen decrees up to there stand for.
 pub fn chosen_stands_in_worlds()
     ensures { ChosenStandsInWorlds }
 {}
 
-/// Where no verifier was told to forget decrees, and at most `u` verifiers are lost for good, the record
+/// If no verifier was to forget decrees, and at most `u` verifiers are lost for good, the record
 /// of another one holds each chosen decree, in its log or as what it has accepted.
 pub fn chosen_is_kept_in_worlds()
     ensures { ChosenIsKeptInWorlds }

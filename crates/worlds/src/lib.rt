@@ -1,6 +1,6 @@
 //! The places of a world, with what may become of each, and the laws of every world that is reached.
 //!
-//! It stands on `events`, on `client`, `exec_node` and `verifier`, whose steps a place makes and of whose step
+//! It is built on `events`, on `client`, `exec_node` and `verifier`, whose steps a place makes and of whose step
 //! functions the worlds of `specs/World.antt` are made, on `keeper`, whose keepers in memory outlive their
 //! replicas, and on `agreement_laws`, whose laws hold of each world. The layer above uses the relation `WorldNext`,
 //! of which each of its steps is to be one; `settle`, `run`, `restart`, `crash`, `lose` and `fail_next` of a place,

@@ -107,7 +107,7 @@ impl VerifierPlace {
         }
     }
 
-    /// Gives it the input, where it is up; the result is what it sends. Where its step meets an error it
+    /// Gives it the input, if it is up; the result is what it sends. If its step meets an error it
     /// stops, and is down with its record; then nothing is sent.
     #[tactic(auto, using(crate::proofs::StepLemmas::verifier_settles, crate::proofs::StepLemmas::verifier_stops))]
     pub fn settle(&mut self, alloc: Global, input: Input) -> Vec<Letter<Ballot>>
@@ -126,7 +126,7 @@ impl VerifierPlace {
         }
     }
 
-    /// Opens it as number `id` of `2u + 1`, where it is down; the result is what it sends. Where that is
+    /// Opens it as number `id` of `2u + 1`, if it is down; the result is what it sends. If that is
     /// refused it stays down.
     pub fn restart(&mut self, alloc: Global, u: u8, id: u8) -> Vec<Letter<Ballot>>
         requires few { u < 4 }
@@ -138,7 +138,7 @@ impl VerifierPlace {
         letters
     }
 
-    /// It stops, where it is up.
+    /// It stops, if it is up.
     pub fn crash(&mut self)
         ensures { self.new ≡ crashed_slot verifier_kept self.old }
     {
@@ -152,7 +152,7 @@ impl VerifierPlace {
         lose(&mut self.slot);
     }
 
-    /// Its next save will fail, where it is up.
+    /// Its next save will fail, if it is up.
     pub fn fail_next(&mut self)
         ensures { self.new ≡ told_slot verifier_told self.old }
     {

@@ -13,7 +13,7 @@ fn execute_next(alloc: Global, base: &Base, number: u8) -> Result<Tentative, Fau
     run(alloc, base, bytes.as_slice(), false)
 }
 
-/// Pushes a tentative state, which is undone where the chain does not take it.
+/// Pushes a tentative state, which is undone if the chain does not take it.
 fn push(chain: &mut Chain, tentative: Tentative) -> Result<(), Fault> {
     match chain.push(tentative) {
         Ok(()) => Ok(()),
@@ -64,8 +64,8 @@ fn record_of(alloc: Global, chain: &Chain) -> Result<Vec<u8>, AllocError> {
     Ok(record)
 }
 
-/// The record of the chain of this version at the front of the bytes, and how many bytes stand behind it;
-/// nothing where there is no such chain.
+/// The record of the chain of this version at the front of the bytes, and how many bytes are behind it;
+/// nothing if there is no such chain.
 pub fn taken_chain(
     alloc: Global,
     version: Version,

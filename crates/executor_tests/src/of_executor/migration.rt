@@ -18,7 +18,7 @@ const OLD_TOKEN: [u8; 32] = [
     0xb9, 0x82, 0x1c, 0xb6, 0x39, 0x57, 0x1b, 0xec, 0xa5, 0x7c, 0x57, 0x1f, 0xd3, 0x8e, 0x75, 0x6b,
 ];
 
-/// The page of 64 on which the key of this number stands: the sum of `k` and its digits.
+/// The page of 64 of the key of this number: the sum of `k` and its digits.
 fn old_page_of(number: u32) -> u32 {
     let digits = (number / 1000) + (number / 100 % 10) + (number / 10 % 10) + number % 10;
     (107 + 4 * 48 + digits) % 64
@@ -80,7 +80,7 @@ const AFTER: Row = Row {
     ],
 };
 
-/// The form of the chain's state, how many bytes stand behind its record, and whether the batch after it
+/// The form of the chain's state, how many bytes are behind its record, and whether the batch after it
 /// makes what it should.
 fn migrated(alloc: Global, bytes: &[u8]) -> Result<(Form, usize, bool), Fault> {
     let (chain, rest) = Chain::take(alloc, Version::First, bytes)?;

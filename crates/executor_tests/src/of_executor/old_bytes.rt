@@ -1,5 +1,5 @@
 //! The bytes of two members over the first state, of version 1 and of version 2: batch 1 sets `a`, and
-//! batch 2, of client 2, sets `!`. Both stand on page 33 of 64, and on pages 97 and 33 of 256. Their
+//! batch 2, of client 2, sets `!`. Both are on page 33 of 64, and on pages 97 and 33 of 256. Their
 //! states have the old form. Digests and tokens are those of another program.
 
 use super::*;

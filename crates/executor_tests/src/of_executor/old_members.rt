@@ -9,8 +9,8 @@ use super::*;
 use states::Version;
 use std::test::Fail;
 
-/// The token of the member of this version at the front of the bytes, and how many bytes stand behind
-/// it; nothing where there is no such member.
+/// The token of the member of this version at the front of the bytes, and how many bytes are behind
+/// it; nothing if there is no such member.
 fn taken(
     alloc: Global,
     version: Version,
@@ -200,7 +200,7 @@ fn members_are_read_so(rt: HostRuntime) -> Result<(), Fail> {
     Ok(())
 }
 
-/// Whether there is no old member where the bytes are cut here, and where this one of them is changed.
+/// Whether there is no old member if the bytes are cut here, and if this one of them is changed.
 fn is_sealed_at(alloc: Global, base: &Base, bytes: &[u8], at: usize) -> Result<bool, Fault>
     requires { at < length bytes.now }
 {

@@ -128,7 +128,7 @@ fn a_page_that_is_the_same_has_one_spelling(rt: HostRuntime) -> Result<(), Fail>
     Ok(())
 }
 
-/// Whether the bytes are no record where they are cut here, and where this one of them is changed.
+/// Whether the bytes are no record if they are cut here, and if this one of them is changed.
 fn is_sealed_at(alloc: Global, base: &Base, bytes: &[u8], at: usize) -> Result<bool, Fault>
     requires { at < length bytes.now }
 {

@@ -19,7 +19,7 @@ const FOUND: Part<'static> = (
     1,
 );
 
-/// An item at `a` with a block, and no sessions. It stands on page 33 of 64, and on page 97 of 256.
+/// An item at `a` with a block, and no sessions. It is on page 33 of 64, and on page 97 of 256.
 const ITEM: Part<'static> = (
     &[
         0, 0, 0, 0, 1, 1, b'a', 0, 0, 0, 0, 0, 0, 0, 0, 0, 0, 0, 0, 64,

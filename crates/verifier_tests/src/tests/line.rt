@@ -31,7 +31,7 @@ pub fn verifier(word: &str) -> Option<u8> {
     }
 }
 
-/// The number after this name, which stands at this place.
+/// The number after this name, which is at this place.
 pub fn number(words: &[&str], at: usize, name: &str) -> Option<u64> {
     if *words.get(at)? != name {
         return None;

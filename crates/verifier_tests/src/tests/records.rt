@@ -19,7 +19,7 @@ pub fn keeper_of(alloc: Global, bytes: &[u8]) -> Result<MemKeeper<Text>, Fault> 
     Ok(keeper)
 }
 
-/// The record that is kept; where there is none, nothing.
+/// The record that is kept; if there is none, nothing.
 pub fn record(alloc: Global, keeper: &MemKeeper<Text>) -> Result<Vec<u8>, Fault> {
     match keeper.load() {
         None => Ok(Vec::new(alloc)),

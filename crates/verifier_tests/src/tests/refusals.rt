@@ -171,7 +171,7 @@ fn answers(
     }
 }
 
-/// Does the input: the letters that were expected, and the record is another where it is to be saved.
+/// Does the input: the letters that were expected, and the record is another if it is to be saved.
 fn does(
     alloc: Global,
     verifier: &mut Verifier<MemKeeper<Text>>,
@@ -250,7 +250,7 @@ fn restarted(alloc: Global, bytes: &[u8]) -> Result<(), Fault> {
     Ok(())
 }
 
-/// Each line, and a restart: also where a line was refused some memory, which is there then.
+/// Each line, and a restart: also if a line was refused some memory, which is there then.
 fn row(alloc: Global) -> Result<(), Fault> {
     let mut verifier = opened(alloc, MemKeeper::new(), 0)?;
     let played = each_line(alloc, &mut verifier);
