@@ -1,5 +1,11 @@
 //! The event loop: one thread that accepts, reads and writes for all connections, beside a service that answers.
 //!
+//!     impl Serve for Answers { .. }       // what answers the connections: `hear`, `work`, `tick`
+//!     let admission = Admission { most: 1024, refusal: b"SERVER_ERROR too many open connections\r\n" };
+//!     let (answers, served) = serve(rt, alloc, listeners, admission, answers, |watch| {
+//!         ..                              // on this thread, while clients are served; `watch.counts` has the counts
+//!     });                                 // returns when the closure does, with no thread left
+//!
 //! All that was read in a round goes to the service as one message, and all that it says comes back as one. If
 //! little happened and the service is idle, the event loop's own thread answers. A connection is read only when its last
 //! bytes are done with and all that was said to it is written, so one that never reads holds up nobody.
