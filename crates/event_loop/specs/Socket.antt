@@ -131,7 +131,7 @@ pub record SocketRests (s : SocketView) : Type 0 where
   pub is_told : length s.traffic.waits ≡ 0 → s.untold < MOST_UNWRITTEN
 
 -- what a turn did to a socket, which may be read in it or not
-pub record HasTurn (may_read : Bool) (old new : SocketView) : Type 0 where
+pub record SocketTurns (may_read : Bool) (old new : SocketView) : Type 0 where
   -- what came of its writes, and what its read gave, if one was made
   pub results : List (Result ℕ Error)
   pub writes : new.traffic.writes ≡ old.traffic.writes ++ results

@@ -4,7 +4,7 @@ use Rattle.slab.specs.Slab.{Slab, get}
 use Rattle.event_loop.specs.declared.message.Heard.{Heard}
 use Rattle.event_loop.specs.declared.message.Said.{Said}
 use Rattle.event_loop.specs.declared.socket.Readiness.{Readiness}
-use Rattle.event_loop.specs.Socket.{SocketView, Tells, Leaves, SocketRests, IsSocketOver, HasTurn}
+use Rattle.event_loop.specs.Socket.{SocketView, Tells, Leaves, SocketRests, IsSocketOver, SocketTurns}
 
 pub record TurnsView : Type 0 where
   -- the keys of the sockets that have a turn
@@ -77,8 +77,8 @@ pub record IsGiven (old : SocketsView) (said : Said) (new : SocketsView) : Type 
 
 -- after a turn a socket is here, or it has told that it is gone
 abbrev pub IsTurned : Bool → ℕ → SocketView → Option SocketView → List Heard → List Heard → Type 0
-IsTurned may_read key s None before after = (t : SocketView) × Leaves key s t before after × IsSocketOver t × HasTurn may_read s t
-IsTurned may_read key s (Some t) before after = Tells key s t before after × HasTurn may_read s t
+IsTurned may_read key s None before after = (t : SocketView) × Leaves key s t before after × IsSocketOver t × SocketTurns may_read s t
+IsTurned may_read key s (Some t) before after = Tells key s t before after × SocketTurns may_read s t
 
 -- the first that is listed, if it is here, had its turn, and no other one did
 pub record IsTurnOf (may_read : Bool) (key : ℕ) (old new : SocketsView) (before after : List Heard) : Type 0 where

@@ -1,7 +1,7 @@
 //! One socket, and what waits to be written to it.
 
 ghost use Rattle.std.specs.Prelude.{◌≡◌, ◌++◌, ◌∷◌, ◌⊎◌, ◌+◌, [], true, false, ◌<◌, ◌≤◌, ◌↔◌, length, IfSome, IsSome, IsTrue, Ok, OnOk, OnErr};
-ghost use Rattle.event_loop.specs.Socket.{SocketWrites, SocketReads, Tells, Leaves, HasTurn, HasToTell, IsSocketOver, MayBeWritten, MayBeRead, SocketRests, new_socket, last_told};
+ghost use Rattle.event_loop.specs.Socket.{SocketWrites, SocketReads, Tells, Leaves, SocketTurns, HasToTell, IsSocketOver, MayBeWritten, MayBeRead, SocketRests, new_socket, last_told};
 ghost use Rattle.event_loop.specs.Sockets.{SocketHears, Notes};
 ghost use Rattle.event_loop.specs.declared.message.Heard.TheVariants.{Bytes, Written, Left};
 ghost use Rattle.event_loop.specs.declared.message.TheConstants.{MOST_UNWRITTEN};
@@ -265,7 +265,7 @@ impl<S: Read + Write> Socket<S> {
         ensures writes { result ≡ After.Writes → MayBeWritten self.new }
         ensures reads { result ≡ After.Reads → MayBeRead self.new }
         ensures no_memory { result ≡ After.NoMemory → HasToTell self.new }
-        ensures turn { HasTurn reads self.old self.new }
+        ensures turn { SocketTurns reads self.old self.new }
         ensures listed { self.new.is_listed ≡ self.old.is_listed }
     {
         if self.advance(alloc, key, reads, buffer, heard).is_err() {
@@ -292,7 +292,7 @@ impl<S: Read + Write> Socket<S> {
         ensures tells { Tells key self.old self.new heard.old.items heard.new.items }
         ensures told { OnOk result (length self.new.traffic.waits ≡ 0 → self.new.untold < MOST_UNWRITTEN) }
         ensures untold { OnErr result ((length self.new.traffic.waits ≡ 0) × (MOST_UNWRITTEN ≤ self.new.untold)) }
-        ensures turn { HasTurn reads self.old self.new }
+        ensures turn { SocketTurns reads self.old self.new }
         ensures listed { self.new.is_listed ≡ self.old.is_listed }
     {
         self.write();
