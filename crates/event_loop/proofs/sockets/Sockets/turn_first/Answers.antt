@@ -17,11 +17,6 @@ invariant_of-self-in-Gone g c =
     placed_gone c.self.inside.turns c.take_first.new.self c.in_ok-key.key c.in_ok-key.ensures.first c.self.inside.next c.self.inside.all c.self.invariant c.in_ok-socket.socket.now c.take_moved.new.self (sym c.in_ok-socket.ensures.value) c.try_remove.new.self
     c.try_remove.ensures.updates
 
-pub invariant_of-self-in-Gone-2 : goal.invariant_of-self-in-Gone-2
-invariant_of-self-in-Gone-2 g c =
-    placed_gone c.self.inside.turns c.take_first.new.self c.in_ok-key.key c.in_ok-key.ensures.first c.self.inside.next c.self.inside.all c.self.invariant c.in_ok-socket.socket.now c.take_moved.new.self (sym c.in_ok-socket.ensures.value) c.try_remove.new.self
-    c.try_remove.ensures.updates
-
 pub invariant_of-self-in-Rest : goal.invariant_of-self-in-Rest
 invariant_of-self-in-Rest g c =
     let tells = c.turn-after.ensures.stays (λ e. absurd (cc (sym c.in-Rest.is ∙ e))) in
@@ -42,22 +37,22 @@ returns-in-Gone g c =
     let gone = c.turn-after.ensures.gone c.in-Gone.is in
     let old : SocketsView = record { all = c.self.inside.all; turns = c.self.inside.turns; next = c.self.inside.next } in
     let now : SocketsView = record { all = c.try_remove.new.self; turns = c.take_first.new.self; next = c.self.inside.next } in
-    subst (λ (o : SocketsView). IsTurnOfFirst c.args.reads o now _ _) c.self.view_is
-    (turn_gone c.args.reads old now c.take_first.new.self c.in_ok-key.key c.in_ok-key.ensures.first c.in_ok-socket.socket.now c.set_listed.new.self c.turn-after.new.self (sym c.in_ok-socket.ensures.value) c.set_listed.ensures c.turn-after.ensures.turn refl _ _
+    subst (λ (o : SocketsView). IsTurnOfFirst c.args.reads o now c.args.heard.now.items c.turn-after.new.heard.items) c.self.view_is
+    (turn_gone c.args.reads old now c.take_first.new.self c.in_ok-key.key c.in_ok-key.ensures.first c.in_ok-socket.socket.now c.set_listed.new.self c.turn-after.new.self (sym c.in_ok-socket.ensures.value) c.set_listed.ensures c.turn-after.ensures.turn refl c.args.heard.now.items c.turn-after.new.heard.items
     c.take_moved.new.self c.try_remove.ensures.updates gone.0 gone.1)
 
 pub returns-in-Rest : goal.returns-in-Rest
 returns-in-Rest g c =
     let old : SocketsView = record { all = c.self.inside.all; turns = c.self.inside.turns; next = c.self.inside.next } in
     let now : SocketsView = record { all = with_value c.self.inside.all c.in_ok-key.key c.take_moved.new.self; turns = c.take_first.new.self; next = c.self.inside.next } in
-    subst (λ (o : SocketsView). IsTurnOfFirst c.args.reads o now _ _) c.self.view_is
-    (turn_stays c.args.reads old now c.take_first.new.self c.in_ok-key.key c.in_ok-key.ensures.first c.in_ok-socket.socket.now c.set_listed.new.self c.turn-after.new.self (sym c.in_ok-socket.ensures.value) c.set_listed.ensures c.turn-after.ensures.turn refl _ _
+    subst (λ (o : SocketsView). IsTurnOfFirst c.args.reads o now c.args.heard.now.items c.turn-after.new.heard.items) c.self.view_is
+    (turn_stays c.args.reads old now c.take_first.new.self c.in_ok-key.key c.in_ok-key.ensures.first c.in_ok-socket.socket.now c.set_listed.new.self c.turn-after.new.self (sym c.in_ok-socket.ensures.value) c.set_listed.ensures c.turn-after.ensures.turn refl c.args.heard.now.items c.turn-after.new.heard.items
     c.take_moved.new.self refl (c.take_moved.ensures ∙ ap (λ (v : SocketView). record c.turn-after.new.self { is_listed = v.is_listed }) (sym c.take_moved.ensures)) (c.turn-after.ensures.stays (λ e. absurd (cc (sym c.in-Rest.is ∙ e)))))
 
 pub returns-in_default : goal.returns-in_default
 returns-in_default g c =
     let old : SocketsView = record { all = c.self.inside.all; turns = c.self.inside.turns; next = c.self.inside.next } in
     let now : SocketsView = record { all = with_value c.self.inside.all c.in_ok-key.key c.list.new.socket; turns = c.list.new.self; next = c.self.inside.next } in
-    subst (λ (o : SocketsView). IsTurnOfFirst c.args.reads o now _ _) c.self.view_is
-    (turn_stays c.args.reads old now c.take_first.new.self c.in_ok-key.key c.in_ok-key.ensures.first c.in_ok-socket.socket.now c.set_listed.new.self c.turn-after.new.self (sym c.in_ok-socket.ensures.value) c.set_listed.ensures c.turn-after.ensures.turn refl _ _
+    subst (λ (o : SocketsView). IsTurnOfFirst c.args.reads o now c.args.heard.now.items c.turn-after.new.heard.items) c.self.view_is
+    (turn_stays c.args.reads old now c.take_first.new.self c.in_ok-key.key c.in_ok-key.ensures.first c.in_ok-socket.socket.now c.set_listed.new.self c.turn-after.new.self (sym c.in_ok-socket.ensures.value) c.set_listed.ensures c.turn-after.ensures.turn refl c.args.heard.now.items c.turn-after.new.heard.items
     c.list.new.socket refl (c.list.ensures.others ∙ ap (λ (v : SocketView). record v { is_listed = c.list.new.socket.is_listed }) c.take_moved.ensures) (c.turn-after.ensures.stays c.in_default.not-Gone))
