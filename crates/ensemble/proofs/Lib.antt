@@ -16,4 +16,5 @@ mod Cutting
 mod Served
 mod Trimming
 mod Collecting
+mod Ending
 pub mod Crossing

@@ -6,3 +6,4 @@ pub mod Trimming
 pub mod Moments
 pub mod Ensemble
 pub mod Calls
+pub mod Process
