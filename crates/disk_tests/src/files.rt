@@ -38,15 +38,17 @@ pub fn unopened(
         db: Fuse::new(db, db_calls),
     };
     let mut options = Options::new(7);
+    options.cache_pages = 8;
+    options.spill_pages = 8;
     options.checkpoint_frames = 6;
     let pager = Pager::new(alloc, files, size, options)?;
     let item = table(
         "item",
-        "CREATE TABLE item(place INTEGER PRIMARY KEY, data BLOB)",
+        "CREATE TABLE item(place INTEGER PRIMARY KEY, key BLOB NOT NULL, flags INTEGER NOT NULL, due INTEGER, stamp INTEGER NOT NULL, data BLOB NOT NULL, more BLOB) STRICT",
     );
     let process = table(
         "process",
-        "CREATE TABLE process(one INTEGER PRIMARY KEY, turn INTEGER)",
+        "CREATE TABLE process(one INTEGER PRIMARY KEY, turn INTEGER NOT NULL) STRICT",
     );
     Ok(Unopened::with_sums(alloc, pager, &[item, process], true)?)
 }

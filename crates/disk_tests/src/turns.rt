@@ -3,9 +3,10 @@
 ghost use Rattle.std.specs.Prelude.{◌≡◌, IfOk, IsTrue};
 ghost use Rattle.sqlite_trees.specs.Tree.{rowid};
 ghost use Rattle.sqlite_trees.specs.View.{is_int};
-ghost use Rattle.row_store.specs.Saved.{AllFit};
 
-use row_store::{Change, RowStore};
+use crate::samples::{item_row, key};
+use item_rows::{item_of, place_of};
+use row_store::{RowChange, RowStore};
 use sqlite_trees::error::StoreError;
 use sqlite_trees::store::Store;
 use sqlite_value::row::Row;
@@ -16,26 +17,28 @@ use std::test::Fail;
 /// So many turns are saved.
 pub const TURNS: u8 = 3;
 
-/// The last value of each of five rows of the first table, 0 if it has none, and the value of the row of the second.
+/// The value of each of five items, 0 if it is not there, and the last turn.
 pub type Content = [u8; 6];
 
-/// What the first turns leave: each puts a row, removes another one, and has its number in the second table.
+/// What the first turns leave: each puts an item, removes another one, and has its number in the second table.
 pub fn content_after(turns: u8) -> Content {
     let mut content = [0; 6];
     for turn in 0..turns {
         content[(turn % 5) as usize] = turn + 1;
-        content[(turn as usize + 2) % 5] = 0;
+        content[(turn as usize + 3) % 5] = 0;
         content[5] = turn + 1;
     }
     content
 }
 
-fn row(alloc: Global, number: u8, data: &[u8]) -> Result<Row, Fail>
+/// The row of the second table.
+fn turn_row(alloc: Global, turn: u8) -> Result<Row, Fail>
     ensures { IfOk result (λ row. IsTrue (is_int (rowid row))) }
 {
     let mut row = Row::new(alloc);
-    row.push(ValueRef::Int(number as i64))?;
-    row.push(ValueRef::Blob(data))?;
+    row.push(ValueRef::Int(0))?;
+    row.push(ValueRef::Null)?;
+    row.push(ValueRef::Int(i64::from(turn)))?;
     Ok(row)
 }
 
@@ -49,61 +52,74 @@ pub fn save<S: Store>(
     ensures { rows.new.tables ≡ 2 }
 {
     let now = turn.wrapping_add(1);
-    let item = row(alloc, turn % 5, &[now; 120])?;
-    let process = row(alloc, 0, &[now])?;
+    let item = item_row(alloc, turn % 5, now)?;
+    let last = turn_row(alloc, now)?;
+    let gone = place_of(&key(alloc, (turn % 5 + 3) % 5)?);
     let changes = [
-        Change::Put {
+        RowChange::Put {
             table: 0,
             row: item,
         },
-        Change::Put {
+        RowChange::Put {
             table: 1,
-            row: process,
+            row: last,
         },
-        Change::Remove {
+        RowChange::Remove {
             table: 0,
-            number: (turn as i64 + 2) % 5,
+            number: gone,
         },
     ];
     Ok(rows.save(&changes))
 }
 
-/// The number of the row and its data, which are so many bytes of one value.
-fn read(row: &Row) -> Option<(i64, u8)> {
-    match (row.get(0), row.get(1)) {
-        (ValueRef::Int(number), ValueRef::Blob(data)) => match data.first() {
-            Some(first) if data.iter().all(|byte| byte == first) => Some((number, *first)),
-            _ => None,
-        },
+/// The number of the item and its value, if the row has no other item.
+fn read(alloc: Global, row: &Row) -> Option<(u8, u8)> {
+    let Ok((key, item)) = item_of(alloc, row) else {
+        return None;
+    };
+    let name = *key.as_slice().first()?;
+    let number = name.checked_sub(b'a')?;
+    let value = *item.block.as_slice().first()?;
+    match item_row(alloc, number, value) {
+        Ok(same) if same.is_same(row) => Some((number, value)),
         _ => None,
     }
 }
 
-fn note(content: &mut Content, rows: &[Row], from: usize) -> bool {
+/// Writes down the values of these items. False: a row has no such item.
+fn note(alloc: Global, content: &mut Content, rows: &[Row]) -> bool {
     for row in rows {
-        match read(row) {
-            Some((number, value)) => match content.get_mut(from.wrapping_add(number as usize)) {
-                Some(place) => *place = value,
-                None => return false,
-            },
-            None => return false,
+        match read(alloc, row) {
+            Some((number, value)) if number < 5 => content[number as usize] = value,
+            _ => return false,
         }
     }
     true
+}
+
+/// The last turn, if these are the rows of the second table.
+fn turn_in(rows: &[Row]) -> Option<u8> {
+    if rows.len() > 1 {
+        return None;
+    }
+    match rows.first() {
+        Some(row) => match row.get(2) {
+            ValueRef::Int(turn) => u8::try_from(turn).ok(),
+            _ => None,
+        },
+        None => Some(0),
+    }
 }
 
 /// What is there. `None`: it cannot be read, or is nothing that was saved.
 pub fn content_of<S: Store>(alloc: Global, rows: &mut RowStore<S>) -> Option<Content>
     requires { rows.old.tables ≡ 2 }
 {
-    let Ok(items) = rows.rows(alloc, 0) else {
-        return None;
-    };
-    let Ok(process) = rows.rows(alloc, 1) else {
-        return None;
-    };
+    let items = rows.rows(alloc, 0).ok()?;
+    let last = rows.rows(alloc, 1).ok()?;
     let mut content = [0; 6];
-    if note(&mut content, &items, 0) && note(&mut content, &process, 5) {
+    content[5] = turn_in(&last)?;
+    if note(alloc, &mut content, &items) {
         Some(content)
     } else {
         None
