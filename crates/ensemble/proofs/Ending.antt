@@ -18,7 +18,7 @@ use Rattle.worlds.proofs.FirstLemmas.{get_seam, set_seam}
 use Rattle.hosts.specs.Host.{HostView}
 use Rattle.ensemble.specs.Nodes.{NodesView}
 use Rattle.ensemble.specs.Ensemble.{EnsembleView, HasSent, IsLike, IsEnsemble}
-use Rattle.ensemble.specs.Process.{kept_at, ProcessView, kept_of_host, kept_of_verifier, process_of, NoneIsLost, down_host, down_verifier, begun_with, reopened, followed, IsEnsembleAfter, MayBecome}
+use Rattle.ensemble.specs.Process.{kept_at, ProcessView, kept_of_host, kept_of_verifier, process_of, NoneIsLost, down_host, down_verifier, begun_with, reopened_ensemble, ensemble_after, IsEnsembleAfter, MayBecome}
 use Rattle.ensemble.proofs.Lists.{in_none, in_head, in_tail, get_map}
 use Rattle.ensemble.proofs.Goes.{Moves, stays, moves_by, moves_on, Goes, same_proxies, ensemble_stays}
 
@@ -137,10 +137,10 @@ counts_else e refused h = record {
   past = h.past;
 }
 
-pub begins_after : (found : ProcessView) → IsEnsembleAfter (Some found) (reopened found)
+pub begins_after : (found : ProcessView) → IsEnsembleAfter (Some found) (reopened_ensemble found)
 begins_after found before h all is =
     let back = counts_else (record before { nodes = begun_with (process_of before.nodes) }) 0 (comes_back before h all) in
-    let same : record before { nodes = begun_with (process_of before.nodes); refused = 0 } ≡ followed before (reopened found) =
+    let same : record before { nodes = begun_with (process_of before.nodes); refused = 0 } ≡ ensemble_after before (reopened_ensemble found) =
     λ i. record { nodes = begun_with (is i); asked = sym (append-nil before.asked) i; answered = sym (append-nil before.answered) i; order = sym (append-nil before.order) i; refused = 0 } in
     subst (λ (e : EnsembleView). IsEnsemble e) same back
 
@@ -149,8 +149,8 @@ goes_on_after None e now step h = step (record e { asked = []; answered = []; or
 goes_on_after (Some found) e now step h = λ before was all is. step before (h before was all is)
 
 -- what came before both, and what came before the second of them
-all_followed : (first second third : EnsembleView) → followed (followed first second) third ≡ followed first (followed second third)
-all_followed first second third = λ i. record {
+after_each_other : (first second third : EnsembleView) → ensemble_after (ensemble_after first second) third ≡ ensemble_after first (ensemble_after second third)
+after_each_other first second third = λ i. record {
   nodes = third.nodes;
   asked = append_assoc first.asked second.asked third.asked i;
   answered = append_assoc first.answered second.answered third.answered i;
@@ -158,7 +158,7 @@ all_followed first second third = λ i. record {
   refused = third.refused;
 }
 
-pub follows_after : (found : Option ProcessView) (e later : EnsembleView) → IsEnsembleAfter found e → NoneIsLost e.nodes → IsEnsembleAfter (Some (process_of e.nodes)) later → IsEnsembleAfter found (followed e later)
+pub follows_after : (found : Option ProcessView) (e later : EnsembleView) → IsEnsembleAfter found e → NoneIsLost e.nodes → IsEnsembleAfter (Some (process_of e.nodes)) later → IsEnsembleAfter found (ensemble_after e later)
 follows_after None e later h all next = next e h all refl
 follows_after (Some found) e later h all next = λ before was had is.
-    subst (λ (x : EnsembleView). IsEnsemble x) (all_followed before e later) (next (followed before e) (h before was had is) all refl)
+    subst (λ (x : EnsembleView). IsEnsemble x) (after_each_other before e later) (next (ensemble_after before e) (h before was had is) all refl)

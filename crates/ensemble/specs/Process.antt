@@ -55,20 +55,20 @@ abbrev pub begun_with : ProcessView → NodesView
 begun_with p = record { u = p.u; proxies = p.proxies; executors = map down_host p.executors; verifiers = map down_verifier p.verifiers; mail = [] }
 
 -- the ensemble of a process that begins with this: nothing was asked of it
-abbrev pub reopened : ProcessView → EnsembleView
-reopened p = record { nodes = begun_with p; asked = []; answered = []; order = []; refused = 0 }
+abbrev pub reopened_ensemble : ProcessView → EnsembleView
+reopened_ensemble p = record { nodes = begun_with p; asked = []; answered = []; order = []; refused = 0 }
 
 -- ---- processes one after the other
 
 -- what was asked and answered in the one before, and then in this one
-abbrev pub followed : EnsembleView → EnsembleView → EnsembleView
-followed before e = record { nodes = e.nodes; asked = before.asked ++ e.asked; answered = before.answered ++ e.answered; order = before.order ++ e.order; refused = e.refused }
+abbrev pub ensemble_after : EnsembleView → EnsembleView → EnsembleView
+ensemble_after before e = record { nodes = e.nodes; asked = before.asked ++ e.asked; answered = before.answered ++ e.answered; order = before.order ++ e.order; refused = e.refused }
 
 -- What is always true of an ensemble whose process began with this: whatever ensemble it was kept of, that one and this one are one ensemble.
 abbrev pub IsEnsembleAfter : Option ProcessView → EnsembleView → Type 0
 IsEnsembleAfter None e = IsEnsemble e
-IsEnsembleAfter (Some found) e = (before : EnsembleView) → IsEnsemble before → NoneIsLost before.nodes → process_of before.nodes ≡ found → IsEnsemble (followed before e)
+IsEnsembleAfter (Some found) e = (before : EnsembleView) → IsEnsemble before → NoneIsLost before.nodes → process_of before.nodes ≡ found → IsEnsemble (ensemble_after before e)
 
 -- whatever was before, the ensemble may become this one
 abbrev pub MayBecome : EnsembleView → EnsembleView → Type 0
-MayBecome e now = (before : EnsembleView) → IsEnsemble (followed before e) → IsEnsemble (followed before now)
+MayBecome e now = (before : EnsembleView) → IsEnsemble (ensemble_after before e) → IsEnsemble (ensemble_after before now)

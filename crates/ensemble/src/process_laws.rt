@@ -2,7 +2,7 @@
 
 ghost use Rattle.std.specs.Prelude.{Option, Some};
 ghost use Rattle.ensemble.specs.Ensemble.{EnsembleView, IsEnsemble};
-ghost use Rattle.ensemble.specs.Process.{ProcessView, process_of, NoneIsLost, begun_with, reopened, followed, IsEnsembleAfter, MayBecome};
+ghost use Rattle.ensemble.specs.Process.{ProcessView, process_of, NoneIsLost, begun_with, reopened_ensemble, ensemble_after, IsEnsembleAfter, MayBecome};
 
 /// A process may end between any two calls. If another one begins with what the keepers of its replicas had and what its
 /// proxies asked, with all replicas down and no letter under way, then that is an ensemble with all that was asked and
@@ -14,7 +14,7 @@ pub fn a_process_comes_back()
 /// The ensemble of a process that begins with what was found follows each ensemble of which that was kept. It holds
 /// whatever was found.
 pub fn a_reopened_ensemble_follows()
-    ensures { (found : ProcessView) → IsEnsembleAfter (Some found) (reopened found) }
+    ensures { (found : ProcessView) → IsEnsembleAfter (Some found) (reopened_ensemble found) }
 {}
 
 /// It stays so in each step that an ensemble may make whatever was before it.
@@ -26,5 +26,5 @@ pub fn an_ensemble_goes_on_after_a_process()
 /// answered is of one ensemble.
 pub fn processes_follow_each_other()
     ensures { (found : Option ProcessView) (e later : EnsembleView) → IsEnsembleAfter found e → NoneIsLost e.nodes
-        → IsEnsembleAfter (Some (process_of e.nodes)) later → IsEnsembleAfter found (followed e later) }
+        → IsEnsembleAfter (Some (process_of e.nodes)) later → IsEnsembleAfter found (ensemble_after e later) }
 {}

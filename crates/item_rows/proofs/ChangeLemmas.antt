@@ -1,7 +1,7 @@
 -- A file whose rows follow late says what it should.
 use Rattle.std.proofs.Common.{◌≡◌, ◌⊎◌, ⊎_elim, ℕ, Bool, true, false, List, [], ◌∷◌, ◌++◌, Option, None, Some, refl, sym, ap, ◌∙◌, subst}
 use Rattle.std.specs.Prelude.{◌==◌, if◌then◌else◌, IsSome}
-use Rattle.item_rows.specs.Changes.{Rows, Change, with_change, changed, or_first, last_change, IsNamed, IsUnnamed}
+use Rattle.item_rows.specs.Changes.{Rows, ItemChange, with_change, rows_after, or_first, last_change, IsNamed, IsUnnamed}
 
 module _ {X : Type 0} where
   -- what stands at a place: the last change of it, or its row
@@ -9,10 +9,10 @@ module _ {X : Type 0} where
   or_row None row = row
   or_row (Some v) row = v
 
-  abbrev one : ℕ → Change X → Option (Option X)
+  abbrev one : ℕ → ItemChange X → Option (Option X)
   one p c = if p == c.0 then Some c.1 else None
 
-  changed_row : (rows : Rows X) (c : Change X) (p : ℕ) (o : Option (Option X)) → or_row o (with_change rows c p) ≡ or_row (or_first o (one p c)) (rows p)
+  changed_row : (rows : Rows X) (c : ItemChange X) (p : ℕ) (o : Option (Option X)) → or_row o (with_change rows c p) ≡ or_row (or_first o (one p c)) (rows p)
   changed_row rows c p (Some v) = refl
   changed_row rows c p None = by (p == c.0) refl
     where
@@ -20,7 +20,7 @@ module _ {X : Type 0} where
       by true e = rw e refl
       by false e = rw e refl
 
-  says : (rows : Rows X) (cs : List (Change X)) (p : ℕ) → changed rows cs p ≡ or_row (last_change p cs) (rows p)
+  says : (rows : Rows X) (cs : List (ItemChange X)) (p : ℕ) → rows_after rows cs p ≡ or_row (last_change p cs) (rows p)
   says rows [] p = refl
   says rows (c ∷ cs) p = says (with_change rows c) cs p ∙ changed_row rows c p (last_change p cs)
 
@@ -32,24 +32,24 @@ module _ {X : Type 0} where
   or_assoc (Some v) b c = refl
   or_assoc None b c = refl
 
-  last_change-append : (p : ℕ) (xs ys : List (Change X)) → last_change p (xs ++ ys) ≡ or_first (last_change p ys) (last_change p xs)
+  last_change-append : (p : ℕ) (xs ys : List (ItemChange X)) → last_change p (xs ++ ys) ≡ or_first (last_change p ys) (last_change p xs)
   last_change-append p [] ys = or_none (last_change p ys)
   last_change-append p (c ∷ xs) ys = ap (λ (o : Option (Option X)). or_first o (one p c)) (last_change-append p xs ys) ∙ or_assoc (last_change p ys) (last_change p xs) (one p c)
 
-  pub folded : (rows now before : Rows X) (dropped kept new : List (Change X))
-      → ((p : ℕ) → changed rows (dropped ++ kept) p ≡ before p)
-      → ((p : ℕ) → (now p ≡ rows p) ⊎ (now p ≡ changed before new p))
-      → ((p : ℕ) → IsNamed p dropped → IsUnnamed p (kept ++ new) → now p ≡ changed before new p)
-      → (p : ℕ) → changed now (kept ++ new) p ≡ changed before new p
+  pub folded : (rows now before : Rows X) (dropped kept new : List (ItemChange X))
+      → ((p : ℕ) → rows_after rows (dropped ++ kept) p ≡ before p)
+      → ((p : ℕ) → (now p ≡ rows p) ⊎ (now p ≡ rows_after before new p))
+      → ((p : ℕ) → IsNamed p dropped → IsUnnamed p (kept ++ new) → now p ≡ rows_after before new p)
+      → (p : ℕ) → rows_after now (kept ++ new) p ≡ rows_after before new p
   folded rows now before dropped kept new told puts waits p = by (last_change p new) refl (last_change p kept) refl (last_change p dropped) refl
     where
-      both : changed now (kept ++ new) p ≡ or_row (or_first (last_change p new) (last_change p kept)) (now p)
+      both : rows_after now (kept ++ new) p ≡ or_row (or_first (last_change p new) (last_change p kept)) (now p)
       both = says now (kept ++ new) p ∙ ap (λ (o : Option (Option X)). or_row o (now p)) (last_change-append p kept new)
 
       was : before p ≡ or_row (or_first (last_change p kept) (last_change p dropped)) (rows p)
       was = sym (told p) ∙ (says rows (dropped ++ kept) p ∙ ap (λ (o : Option (Option X)). or_row o (rows p)) (last_change-append p dropped kept))
 
-      by : (n : Option (Option X)) → last_change p new ≡ n → (k : Option (Option X)) → last_change p kept ≡ k → (d : Option (Option X)) → last_change p dropped ≡ d → changed now (kept ++ new) p ≡ changed before new p
+      by : (n : Option (Option X)) → last_change p new ≡ n → (k : Option (Option X)) → last_change p kept ≡ k → (d : Option (Option X)) → last_change p dropped ≡ d → rows_after now (kept ++ new) p ≡ rows_after before new p
       by (Some v) in_new k in_kept d in_dropped = both ∙ (λ i. or_row (or_first (in_new i) (last_change p kept)) (now p)) ∙ sym (says before new p ∙ ap (λ (o : Option (Option X)). or_row o (before p)) in_new)
       by None in_new (Some v) in_kept d in_dropped =
           (both ∙ (λ i. or_row (or_first (in_new i) (in_kept i)) (now p)))
@@ -61,5 +61,5 @@ module _ {X : Type 0} where
           (both ∙ (λ i. or_row (or_first (in_new i) (in_kept i)) (now p)))
           ∙ ⊎_elim
           (λ (stays : now p ≡ rows p). stays ∙ sym ((says before new p ∙ ap (λ (o : Option (Option X)). or_row o (before p)) in_new) ∙ (was ∙ (λ i. or_row (or_first (in_kept i) (in_dropped i)) (rows p)))))
-          (λ (is : now p ≡ changed before new p). is)
+          (λ (is : now p ≡ rows_after before new p). is)
           (puts p)

@@ -18,16 +18,16 @@ abbrev pub place_of : List ℕ → ℕ
 place_of key = page_number key * 2 ^ 55 + first_bits key
 
 -- a number of 64 bits, as a signed one
-abbrev pub number_of : ℕ → Value
-number_of n = Int (cast_signed w64 n)
+abbrev pub number_column : ℕ → Value
+number_column n = Int (cast_signed w64 n)
 
-abbrev pub due_of : Option ℕ → Value
-due_of None = Null
-due_of (Some due) = number_of due
+abbrev pub due_column : Option ℕ → Value
+due_column None = Null
+due_column (Some due) = number_column due
 
 -- its place, no value for the column of the place, and its columns; no other item has the place
 abbrev pub item_row : List ℕ → Item → Row
-item_row key item = Int (pos (place_of key)) ∷ Null ∷ Blob key ∷ Int (pos item.flags) ∷ due_of item.due ∷ number_of item.unique ∷ Blob item.block ∷ Null ∷ []
+item_row key item = Int (pos (place_of key)) ∷ Null ∷ Blob key ∷ Int (pos item.flags) ∷ due_column item.due ∷ number_column item.unique ∷ Blob item.block ∷ Null ∷ []
 
 abbrev pub DueFits : Option ℕ → Type 0
 DueFits None = ⊤

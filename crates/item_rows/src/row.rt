@@ -7,7 +7,7 @@ ghost use Rattle.items.specs.declared.item.Item.{Item as AnItem};
 ghost use Rattle.sqlite_value.specs.Order.{column};
 ghost use Rattle.sqlite_value.specs.Value.{owned};
 ghost use Rattle.sqlite_value.specs.declared.value.Value.TheVariants as sql;
-ghost use Rattle.item_rows.specs.Row.{number_of, due_of, item_row, DueFits, ItemFits};
+ghost use Rattle.item_rows.specs.Row.{number_column, due_column, item_row, DueFits, ItemFits};
 
 use crate::place::place_of;
 use items::Item;
@@ -17,7 +17,7 @@ use sqlite_value::value::ValueRef;
 use std::alloc::{AllocError, Global};
 
 fn due_value(due: Option<u64>) -> ValueRef<'static>
-    ensures { owned result ≡ due_of due }
+    ensures { owned result ≡ due_column due }
 {
     match due {
         None => ValueRef::Null,
@@ -79,8 +79,8 @@ fn flags_in(row: &Row) -> Result<u32, Fault>
 }
 
 fn due_in(row: &Row) -> Result<Option<u64>, Fault>
-    ensures ok { IfOk result (λ due. (column row.now 4 ≡ due_of due) × DueFits due) }
-    ensures bad { IfErr result (λ fault. (fault ≡ Fault.BadRecord) × ((due : Option ℕ) → column row.now 4 ≢ due_of due)) }
+    ensures ok { IfOk result (λ due. (column row.now 4 ≡ due_column due) × DueFits due) }
+    ensures bad { IfErr result (λ fault. (fault ≡ Fault.BadRecord) × ((due : Option ℕ) → column row.now 4 ≢ due_column due)) }
 {
     match row.get(4) {
         ValueRef::Null => Ok(None),
@@ -90,8 +90,8 @@ fn due_in(row: &Row) -> Result<Option<u64>, Fault>
 }
 
 fn unique_in(row: &Row) -> Result<u64, Fault>
-    ensures ok { IfOk result (λ unique. column row.now 5 ≡ number_of unique) }
-    ensures bad { IfErr result (λ fault. (fault ≡ Fault.BadRecord) × ((unique : ℕ) → column row.now 5 ≢ number_of unique)) }
+    ensures ok { IfOk result (λ unique. column row.now 5 ≡ number_column unique) }
+    ensures bad { IfErr result (λ fault. (fault ≡ Fault.BadRecord) × ((unique : ℕ) → column row.now 5 ≢ number_column unique)) }
 {
     match row.get(5) {
         ValueRef::Int(unique) => Ok(unique.cast_unsigned()),

@@ -4,19 +4,17 @@ use Rattle.std.proofs.lemmas.List.{append-nil}
 use Rattle.connections.specs.Connection.{ConnectionView}
 use Rattle.connections.specs.Connections.{ConnectionsView, IsConnections}
 use Rattle.connections.specs.Places.{place_in}
-use Rattle.ensemble.specs.Nodes.{NodesView}
 use Rattle.ensemble.specs.Ensemble.{EnsembleView, IsEnsemble}
-use Rattle.ensemble.specs.Process as of_ensemble
-use Rattle.ensemble.specs.Process.{ProcessView, process_of, NoneIsLost, IsEnsembleAfter}
+use Rattle.ensemble.specs.Process.{ProcessView, process_of, reopened_ensemble, ensemble_after, IsEnsembleAfter}
 use Rattle.service.specs.declared.assignment.Assignment.{Assignment}
 use Rattle.service.specs.declared.assignment.Outstanding.{Outstanding}
 use Rattle.service.specs.declared.pause.Pause.{Pause}
 use Rattle.service.specs.Service.{ServiceView, IsAssigned, IsService, HasMoments, HasEnsemble, Waits}
-use Rattle.service.specs.Process.{IsWhole, KeptService, kept_of, HasAll, NobodyWaits, reopened, followed, IsServiceAfter, AreInTurn, all_followed}
+use Rattle.service.specs.Process.{IsWhole, KeptService, kept_of, HasAll, NobodyWaits, reopened_service, service_after, IsServiceAfter, AreInTurn, services_after}
 
 -- a law of `ensemble`
 abbrev pub EnsembleFollows : Type 0
-EnsembleFollows = (found : ProcessView) → IsEnsembleAfter (Some found) (of_ensemble.reopened found)
+EnsembleFollows = (found : ProcessView) → IsEnsembleAfter (Some found) (reopened_ensemble found)
 
 nobody : (key : ℕ) (c : ConnectionView) → place_in [] key ≡ Some c → ⊥
 nobody key c at = cc at
@@ -39,7 +37,7 @@ ended v waiting pauses = record v {
   connections = record v.connections { table = [] };
   waiting = waiting;
   line = [];
-  replicas = record { ensemble = of_ensemble.followed v.replicas.ensemble (of_ensemble.reopened (process_of v.replicas.ensemble.nodes)); refused = 0; pauses = pauses };
+  replicas = record { ensemble = ensemble_after v.replicas.ensemble (reopened_ensemble (process_of v.replicas.ensemble.nodes)); refused = 0; pauses = pauses };
 }
 
 module _ (v : ServiceView) (waiting : List (Option Outstanding)) (pauses : List Pause) where
@@ -72,7 +70,7 @@ module _ (v : ServiceView) (waiting : List (Option Outstanding)) (pauses : List 
       let old : EnsembleView = v.replicas.ensemble in
       let was : IsEnsemble old = subst (λ (e : EnsembleView). IsEnsemble e) h.these h.world in
       record {
-        ensemble = of_ensemble.followed old (of_ensemble.reopened (process_of old.nodes));
+        ensemble = ensemble_after old (reopened_ensemble (process_of old.nodes));
         these = refl;
         world = follows (process_of old.nodes) old was all refl;
         same_asked = append-nil old.asked ∙ (sym (ap (λ (e : EnsembleView). e.asked) h.these) ∙ h.same_asked);
@@ -91,10 +89,10 @@ module _ (v : ServiceView) (waiting : List (Option Outstanding)) (pauses : List 
   }
 
 -- what another process begins with follows each service of which it was kept
-pub begins_after : EnsembleFollows → (found : KeptService) (waiting : List (Option Outstanding)) (pauses : List Pause) → NobodyWaits waiting → IsServiceAfter (Some found) (reopened found waiting pauses)
+pub begins_after : EnsembleFollows → (found : KeptService) (waiting : List (Option Outstanding)) (pauses : List Pause) → NobodyWaits waiting → IsServiceAfter (Some found) (reopened_service found waiting pauses)
 begins_after follows found waiting pauses none before h all is =
     let whole = still_whole before waiting pauses follows none all h in
-    let same : ended before waiting pauses ≡ followed before (reopened (kept_of before) waiting pauses) = λ i. record {
+    let same : ended before waiting pauses ≡ service_after before (reopened_service (kept_of before) waiting pauses) = λ i. record {
       connections = record {
         table = [];
         next = before.connections.next;
@@ -110,11 +108,11 @@ begins_after follows found waiting pauses none before h all is =
       assignments = sym (append-nil before.assignments) i;
       waiting = waiting;
       line = [];
-      replicas = record { ensemble = of_ensemble.followed before.replicas.ensemble (of_ensemble.reopened (process_of before.replicas.ensemble.nodes)); refused = 0; pauses = pauses };
+      replicas = record { ensemble = ensemble_after before.replicas.ensemble (reopened_ensemble (process_of before.replicas.ensemble.nodes)); refused = 0; pauses = pauses };
     } in
-    subst (λ (k : KeptService). IsWhole (followed before (reopened k waiting pauses))) is (subst (λ (x : ServiceView). IsWhole x) same whole)
+    subst (λ (k : KeptService). IsWhole (service_after before (reopened_service k waiting pauses))) is (subst (λ (x : ServiceView). IsWhole x) same whole)
 
 -- what always holds of a service holds of processes one after the other
-pub all_whole : (v : ServiceView) (later : List ServiceView) → IsWhole v → HasAll v → AreInTurn (Some (kept_of v)) later → IsWhole (all_followed v later)
+pub all_whole : (v : ServiceView) (later : List ServiceView) → IsWhole v → HasAll v → AreInTurn (Some (kept_of v)) later → IsWhole (services_after v later)
 all_whole v [] h all turns = h
-all_whole v (next ∷ later) h all turns = all_whole (followed v next) later (turns.0 v h all refl) turns.1 turns.2
+all_whole v (next ∷ later) h all turns = all_whole (service_after v next) later (turns.0 v h all refl) turns.1 turns.2

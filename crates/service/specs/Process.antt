@@ -2,9 +2,7 @@
 use Rattle.std.specs.Prelude.{◌≡◌, ◌++◌, ℕ, List, [], ◌∷◌, Option, None, Some}
 use Rattle.connections.specs.Connections.{ConnectionsView, no_connections, IsConnections}
 use Rattle.connections.specs.History.{HistoryView, IsHistory}
-use Rattle.ensemble.specs.Ensemble.{EnsembleView}
-use Rattle.ensemble.specs.Process as of_ensemble
-use Rattle.ensemble.specs.Process.{ProcessView, process_of, NoneIsLost}
+use Rattle.ensemble.specs.Process.{ProcessView, process_of, NoneIsLost, reopened_ensemble, ensemble_after}
 use Rattle.service.specs.declared.assignment.Assignment.{Assignment}
 use Rattle.service.specs.declared.assignment.Outstanding.{Outstanding}
 use Rattle.service.specs.declared.pause.Pause.{Pause}
@@ -12,13 +10,13 @@ use Rattle.service.specs.Owed.{Remembers}
 use Rattle.service.specs.Service.{ReplicasView, ServiceView, Waits, IsService, HasMoments, HasEnsemble}
 
 -- what passed the connections
-abbrev pub history_of : ConnectionsView → HistoryView
-history_of c = record { heard = c.heard; given = c.given; passed = c.passed }
+abbrev pub passed_history : ConnectionsView → HistoryView
+passed_history c = record { heard = c.heard; given = c.given; passed = c.passed }
 
 -- What always holds of a service.
 pub record IsWhole (v : ServiceView) : Type 0 where
   pub connections : IsConnections v.connections
-  pub history : IsHistory (history_of v.connections)
+  pub history : IsHistory (passed_history v.connections)
   pub moments : HasMoments v
   pub service : IsService v
   pub ensemble : HasEnsemble v
@@ -46,8 +44,8 @@ abbrev pub NobodyWaits : List (Option Outstanding) → Type 0
 NobodyWaits waiting = (a : Assignment) → Waits waiting a → ⊥
 
 -- the service of a process that begins with this: nothing was asked of it, and it has these places for what proxies wait for
-abbrev pub reopened : KeptService → List (Option Outstanding) → List Pause → ServiceView
-reopened kept waiting pauses = record {
+abbrev pub reopened_service : KeptService → List (Option Outstanding) → List Pause → ServiceView
+reopened_service kept waiting pauses = record {
   connections = record no_connections { next = kept.next };
   asked = [];
   answered = [];
@@ -55,13 +53,13 @@ reopened kept waiting pauses = record {
   assignments = [];
   waiting = waiting;
   line = [];
-  replicas = record { ensemble = of_ensemble.reopened kept.replicas; refused = 0; pauses = pauses };
+  replicas = record { ensemble = reopened_ensemble kept.replicas; refused = 0; pauses = pauses };
 }
 
 -- ---- processes one after the other
 
-abbrev pub connections_followed : ConnectionsView → ConnectionsView → ConnectionsView
-connections_followed before c = record {
+abbrev pub connections_after : ConnectionsView → ConnectionsView → ConnectionsView
+connections_after before c = record {
   table = c.table;
   next = c.next;
   heard = before.heard ++ c.heard;
@@ -71,26 +69,26 @@ connections_followed before c = record {
   replied = before.replied ++ c.replied;
 }
 
-abbrev pub replicas_followed : ReplicasView → ReplicasView → ReplicasView
-replicas_followed before r = record { ensemble = of_ensemble.followed before.ensemble r.ensemble; refused = r.refused; pauses = r.pauses }
+abbrev pub replicas_after : ReplicasView → ReplicasView → ReplicasView
+replicas_after before r = record { ensemble = ensemble_after before.ensemble r.ensemble; refused = r.refused; pauses = r.pauses }
 
 -- all that was asked and given in the one before, and then in this one. Connections, and what proxies wait for, are those of this one
-abbrev pub followed : ServiceView → ServiceView → ServiceView
-followed before v = record {
-  connections = connections_followed before.connections v.connections;
+abbrev pub service_after : ServiceView → ServiceView → ServiceView
+service_after before v = record {
+  connections = connections_after before.connections v.connections;
   asked = before.asked ++ v.asked;
   answered = before.answered ++ v.answered;
   order = before.order ++ v.order;
   assignments = before.assignments ++ v.assignments;
   waiting = v.waiting;
   line = v.line;
-  replicas = replicas_followed before.replicas v.replicas;
+  replicas = replicas_after before.replicas v.replicas;
 }
 
 -- What always holds of a service whose process began with this: whatever service it was kept of, that one and this one are one service.
 abbrev pub IsServiceAfter : Option KeptService → ServiceView → Type 0
 IsServiceAfter None v = IsWhole v
-IsServiceAfter (Some found) v = (before : ServiceView) → IsWhole before → HasAll before → kept_of before ≡ found → IsWhole (followed before v)
+IsServiceAfter (Some found) v = (before : ServiceView) → IsWhole before → HasAll before → kept_of before ≡ found → IsWhole (service_after before v)
 
 -- processes one after the other, the first of which began with this: each later one began with what was kept of the one before it
 abbrev pub AreInTurn : Option KeptService → List ServiceView → Type 0
@@ -98,6 +96,6 @@ AreInTurn found [] = Unit {0}
 AreInTurn found (v ∷ later) = IsServiceAfter found v × HasAll v × AreInTurn (Some (kept_of v)) later
 
 -- all that was asked and given in this one, and then in the later ones
-abbrev pub all_followed : ServiceView → List ServiceView → ServiceView
-all_followed v [] = v
-all_followed v (next ∷ later) = all_followed (followed v next) later
+abbrev pub services_after : ServiceView → List ServiceView → ServiceView
+services_after v [] = v
+services_after v (next ∷ later) = services_after (service_after v next) later

@@ -4,7 +4,7 @@ ghost use Rattle.std.specs.Prelude.{◌∷◌, List, Option, Some, None};
 ghost use Rattle.service.specs.declared.assignment.Outstanding.{Outstanding};
 ghost use Rattle.service.specs.declared.pause.Pause.{Pause};
 ghost use Rattle.service.specs.Service.{ServiceView};
-ghost use Rattle.service.specs.Process.{IsWhole, KeptService, NobodyWaits, reopened, IsServiceAfter, AreInTurn, all_followed};
+ghost use Rattle.service.specs.Process.{IsWhole, KeptService, NobodyWaits, reopened_service, IsServiceAfter, AreInTurn, services_after};
 
 use ensemble::a_reopened_ensemble_follows;
 
@@ -12,7 +12,7 @@ use ensemble::a_reopened_ensemble_follows;
 /// whatever was found.
 pub fn a_reopened_service_follows()
     ensures { (found : KeptService) (waiting : List (Option Outstanding)) (pauses : List Pause) → NobodyWaits waiting
-        → IsServiceAfter (Some found) (reopened found waiting pauses) }
+        → IsServiceAfter (Some found) (reopened_service found waiting pauses) }
 {
     a_reopened_ensemble_follows();
 }
@@ -20,5 +20,5 @@ pub fn a_reopened_service_follows()
 /// What always holds of a service holds of all that was asked and given in processes one after the other, each of which
 /// began with what was kept of the one before it.
 pub fn services_follow_each_other()
-    ensures { (v : ServiceView) (later : List ServiceView) → AreInTurn None (v ∷ later) → IsWhole (all_followed v later) }
+    ensures { (v : ServiceView) (later : List ServiceView) → AreInTurn None (v ∷ later) → IsWhole (services_after v later) }
 {}
