@@ -6,7 +6,15 @@ ghost use Rattle.service.specs.declared.pause.Pause.{Pause};
 ghost use Rattle.service.specs.Service.{ServiceView};
 ghost use Rattle.service.specs.Process.{IsWhole, KeptService, NobodyWaits, reopened_service, IsServiceAfter, AreInTurn, services_after};
 
+use crate::service::Service;
 use ensemble::a_reopened_ensemble_follows;
+
+/// A service that was opened is the first of such processes. The call does nothing.
+pub fn a_service_is_whole(service: &Service)
+    ensures { IsWhole service.now }
+{
+    service.shows();
+}
 
 /// The service of a process that begins with what was found follows each service of which that was kept. It holds
 /// whatever was found.
