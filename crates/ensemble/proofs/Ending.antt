@@ -20,6 +20,7 @@ use Rattle.ensemble.specs.Nodes.{NodesView}
 use Rattle.ensemble.specs.Ensemble.{EnsembleView, HasSent, IsLike, IsEnsemble}
 use Rattle.ensemble.specs.Process.{kept_at, ProcessView, kept_of_host, kept_of_verifier, process_of, NoneIsLost, down_host, down_verifier, begun_with, reopened_ensemble, ensemble_after, IsEnsembleAfter, MayBecome}
 use Rattle.ensemble.proofs.Lists.{in_none, in_head, in_tail, get_map}
+use Rattle.ensemble.proofs.Served.{any_count}
 use Rattle.ensemble.proofs.Goes.{Moves, stays, moves_by, moves_on, Goes, same_proxies, ensemble_stays}
 
 abbrev slot_of : HostView → Slot ExecutorView
@@ -117,29 +118,9 @@ comes_back e h all = ensemble_stays e (begun_with (process_of e.nodes)) h (begin
 
 -- ---- processes one after the other
 
--- what an ensemble counts as refused is in no law of it
-counts_else : (e : EnsembleView) (refused : ℕ) → IsEnsemble e → IsEnsemble (record e { refused = refused })
-counts_else e refused h = record {
-  config = h.config;
-  events = h.events;
-  now = h.now;
-  same_u = h.same_u;
-  clients = h.clients;
-  through = h.through;
-  like = h.like;
-  numbered = h.numbered;
-  in_order = h.in_order;
-  fed = h.fed;
-  answers = h.answers;
-  ordered_asks = h.ordered_asks;
-  ordered_answers = h.ordered_answers;
-  cuts = h.cuts;
-  past = h.past;
-}
-
 pub begins_after : (found : ProcessView) → IsEnsembleAfter (Some found) (reopened_ensemble found)
 begins_after found before h all is =
-    let back = counts_else (record before { nodes = begun_with (process_of before.nodes) }) 0 (comes_back before h all) in
+    let back = any_count (record before { nodes = begun_with (process_of before.nodes) }) 0 (comes_back before h all) in
     let same : record before { nodes = begun_with (process_of before.nodes); refused = 0 } ≡ ensemble_after before (reopened_ensemble found) =
     λ i. record { nodes = begun_with (is i); asked = sym (append-nil before.asked) i; answered = sym (append-nil before.answered) i; order = sym (append-nil before.order) i; refused = 0 } in
     subst (λ (e : EnsembleView). IsEnsemble e) same back
