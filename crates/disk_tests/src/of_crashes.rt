@@ -7,41 +7,40 @@
 ghost use Rattle.std.specs.Prelude.{◌≡◌, IfOk};
 
 use crate::files::{Image, TestDisk, TestRows, image_of, made, opened};
-use crate::turns::{Content, TURNS, content_after, content_of, save};
+use crate::turns::{Content, TURNS, content_after, content_of, save_all};
 use row_store::crash_and_reopen;
 use sqlite_disk::Crash;
 use std::alloc::Global;
 use std::process::Abort;
 use std::test::Fail;
 
-/// Saves turn after turn, until one fails: how many were saved.
-fn save_all(alloc: Global, rows: &mut TestRows) -> Result<u8, Fail>
-    requires { rows.old.tables ≡ 2 }
-    ensures { rows.new.tables ≡ 2 }
-{
-    for turn in 0..TURNS {
-        if save(alloc, rows, turn)?.is_err() {
-            return Ok(turn);
-        }
-    }
-    Ok(TURNS)
-}
-
 /// Whether it is what so many saves leave, or those and the next one.
 fn is_old_or_new(content: Option<Content>, saved: u8) -> bool {
     content == Some(content_after(saved)) || content == Some(content_after(saved.wrapping_add(1)))
 }
 
+/// Saves turn after turn, stops, and opens again: how many were saved, and what is there.
+fn crashed(alloc: Global, mut rows: TestRows) -> (Option<u8>, Option<Content>)
+    requires { rows.tables ≡ 2 }
+{
+    let saved = save_all(alloc, &mut rows);
+    match crash_and_reopen(rows) {
+        Ok(mut again) => (saved, content_of(alloc, &mut again)),
+        Err(_) => (saved, None),
+    }
+}
+
 /// Stops the files at these calls, and opens them again. Whether all turns were saved before.
 fn stopped_at(rt: &impl Abort, alloc: Global, log_calls: u64, db_calls: u64) -> Result<bool, Fail> {
-    let Some(mut rows) = made(alloc, log_calls, db_calls)? else {
+    let Some(rows) = made(alloc, log_calls, db_calls)? else {
         return Ok(false);
     };
-    let saved = save_all(alloc, &mut rows)?;
-    match crash_and_reopen(rows) {
-        Ok(mut again) => assert!(rt; is_old_or_new(content_of(alloc, &mut again), saved)),
-        Err(_) => panic!(rt; "it does not open again"),
-    }
+    let (saved, content) = crashed(alloc, rows);
+    let saved = saved.ok_or("no memory")?;
+    assert!(rt;
+        is_old_or_new(content, saved),
+        "{log_calls} {db_calls}: {content:?}"
+    );
     Ok(saved == TURNS)
 }
 
@@ -144,10 +143,10 @@ fn left_at(alloc: Global, log_calls: u64, db_calls: u64) -> Result<Option<Left>,
     let Some(mut rows) = made(alloc, log_calls, db_calls)? else {
         return Ok(None);
     };
-    let saved = save_all(alloc, &mut rows)?;
+    let saved = save_all(alloc, &mut rows);
     let files = rows.into_store().close();
     Ok(Some(Left {
-        saved,
+        saved: saved.ok_or("no memory")?,
         log: both_of(alloc, files.log)?,
         db: both_of(alloc, files.db)?,
     }))

@@ -1,7 +1,7 @@
 //! Damage at each byte of both files: it is told when the files are opened or read, or what is read is what some save made.
 
 use crate::files::{Image, image_of, made, opened};
-use crate::turns::{TURNS, content_of, is_of_a_turn, save};
+use crate::turns::{TURNS, content_of, is_of_a_turn, save_all};
 use std::alloc::Global;
 use std::process::Abort;
 use std::test::Fail;
@@ -11,10 +11,11 @@ fn written(alloc: Global) -> Result<(Image, Image), Fail> {
     let Some(mut rows) = made(alloc, u64::MAX, u64::MAX)? else {
         return Err("it is not made".into());
     };
-    for turn in 0..TURNS {
-        save(alloc, &mut rows, turn)??;
-    }
+    let saved = save_all(alloc, &mut rows);
     let files = rows.into_store().close();
+    if saved != Some(TURNS) {
+        return Err("not all turns are saved".into());
+    }
     Ok((image_of(alloc, &files.log)?, image_of(alloc, &files.db)?))
 }
 

@@ -32,11 +32,13 @@ fn is_read_back(alloc: Global, bytes: &[u8], item: Item) -> Result<bool, Fail> {
     let key = key_of(alloc, bytes)?;
     let row = row_of(alloc, &key, &item)?;
     let (again, same) = item_of(alloc, &row)?;
-    Ok(again == key
-        && same.block.as_slice() == item.block.as_slice()
-        && same.flags == item.flags
-        && same.due == item.due
-        && same.unique == item.unique)
+    Ok(
+        again == key
+            && same.block.as_slice() == item.block.as_slice()
+            && same.flags == item.flags
+            && same.due == item.due
+            && same.unique == item.unique,
+    )
 }
 
 /// An item of a block of so many bytes.
@@ -62,12 +64,7 @@ fn items_are_read_back(rt: HostRuntime) -> Result<(), Fail> {
 }
 
 /// The row with another value in one column, or one column more.
-fn with_column(
-    alloc: Global,
-    row: &Row,
-    column: usize,
-    value: ValueRef<'_>,
-) -> Result<Row, Fail> {
+fn with_column(alloc: Global, row: &Row, column: usize, value: ValueRef<'_>) -> Result<Row, Fail> {
     let mut made = Row::new(alloc);
     for at in 0..row.len().max(column.saturating_add(1)) {
         made.push(if at == column { value } else { row.get(at) })?;

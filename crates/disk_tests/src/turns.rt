@@ -3,16 +3,15 @@
 ghost use Rattle.std.specs.Prelude.{◌≡◌, IfOk, IsTrue};
 ghost use Rattle.sqlite_trees.specs.Tree.{rowid};
 ghost use Rattle.sqlite_trees.specs.View.{is_int};
+ghost use Rattle.row_store.specs.Saved.{ChangesFit};
 
 use crate::samples::{item_row, key};
 use item_rows::{item_of, place_of};
 use row_store::{RowChange, RowStore};
-use sqlite_trees::error::StoreError;
 use sqlite_trees::store::Store;
 use sqlite_value::row::Row;
 use sqlite_value::value::ValueRef;
-use std::alloc::Global;
-use std::test::Fail;
+use std::alloc::{AllocError, Global};
 
 /// So many turns are saved.
 pub const TURNS: u8 = 3;
@@ -32,7 +31,7 @@ pub fn content_after(turns: u8) -> Content {
 }
 
 /// The row of the second table.
-fn turn_row(alloc: Global, turn: u8) -> Result<Row, Fail>
+fn turn_row(alloc: Global, turn: u8) -> Result<Row, AllocError>
     ensures { IfOk result (λ row. IsTrue (is_int (rowid row))) }
 {
     let mut row = Row::new(alloc);
@@ -42,20 +41,15 @@ fn turn_row(alloc: Global, turn: u8) -> Result<Row, Fail>
     Ok(row)
 }
 
-/// Saves what the turn changes.
-pub fn save<S: Store>(
-    alloc: Global,
-    rows: &mut RowStore<S>,
-    turn: u8,
-) -> Result<Result<(), StoreError>, Fail>
-    requires { rows.old.tables ≡ 2 }
-    ensures { rows.new.tables ≡ 2 }
+/// What the turn changes.
+fn changes(alloc: Global, turn: u8) -> Result<[RowChange; 3], AllocError>
+    ensures { IfOk result (λ changes. ChangesFit 2 changes.items) }
 {
     let now = turn.wrapping_add(1);
+    let gone = place_of(&key(alloc, (turn % 5 + 3) % 5)?);
     let item = item_row(alloc, turn % 5, now)?;
     let last = turn_row(alloc, now)?;
-    let gone = place_of(&key(alloc, (turn % 5 + 3) % 5)?);
-    let changes = [
+    Ok([
         RowChange::Put {
             table: 0,
             row: item,
@@ -68,8 +62,33 @@ pub fn save<S: Store>(
             table: 0,
             number: gone,
         },
-    ];
-    Ok(rows.save(&changes))
+    ])
+}
+
+/// Saves what the turn changes: whether that was saved. `None`: there was no memory for it.
+fn save<S: Store>(alloc: Global, rows: &mut RowStore<S>, turn: u8) -> Option<bool>
+    requires { rows.old.tables ≡ 2 }
+    ensures { rows.new.tables ≡ 2 }
+{
+    match changes(alloc, turn) {
+        Ok(changes) => Some(rows.save(&changes).is_ok()),
+        Err(_) => None,
+    }
+}
+
+/// Saves turn after turn, until one is not saved: how many were saved. `None`: there was no memory for one.
+pub fn save_all<S: Store>(alloc: Global, rows: &mut RowStore<S>) -> Option<u8>
+    requires { rows.old.tables ≡ 2 }
+    ensures { rows.new.tables ≡ 2 }
+{
+    for turn in 0..TURNS {
+        match save(alloc, rows, turn) {
+            Some(true) => {}
+            Some(false) => return Some(turn),
+            None => return None,
+        }
+    }
+    Some(TURNS)
 }
 
 /// The number of the item and its value, if the row has no other item.

@@ -1,5 +1,5 @@
 -- Where the row of an item is, and what it has.
-use Rattle.std.specs.Prelude.{◌≡◌, ◌⊎◌, ℕ, pos, ◌+◌, ◌*◌, ◌/◌, ◌^◌, ◌<◌, ◌≤◌, List, [], ◌∷◌, length, take, Option, None, Some, ⊤}
+use Rattle.std.specs.Prelude.{ℕ, pos, ◌+◌, ◌*◌, ◌/◌, ◌^◌, ◌<◌, ◌≤◌, List, [], ◌∷◌, length, take, Option, None, Some, ⊤}
 use Rattle.std.specs.Int.{w64, from_be_bytes, cast_signed}
 use Rattle.sha2.specs.Sha256.{sha256}
 use Rattle.proto.specs.declared.block.TheConstants.{MOST_BLOCK_BYTES}
