@@ -17,4 +17,5 @@ mod Served
 mod Trimming
 mod Collecting
 mod Ending
+mod Continuing
 pub mod Crossing

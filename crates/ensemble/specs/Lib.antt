@@ -7,3 +7,4 @@ pub mod Moments
 pub mod Ensemble
 pub mod Calls
 pub mod Process
+pub mod Steps

@@ -1,8 +1,11 @@
 //! What holds of an ensemble when its process ends, and another process begins with what was kept: laws.
 
-ghost use Rattle.std.specs.Prelude.{Option, Some};
+ghost use Rattle.std.specs.Prelude.{List, Option, Some};
 ghost use Rattle.ensemble.specs.Ensemble.{EnsembleView, IsEnsemble};
-ghost use Rattle.ensemble.specs.Process.{ProcessView, process_of, NoneIsLost, begun_with, reopened_ensemble, ensemble_after, IsEnsembleAfter, MayBecome};
+ghost use Rattle.ensemble.specs.Process.{ProcessView, process_of, NoneIsLost, begun_with, reopened_ensemble, ensemble_after, IsEnsembleAfter};
+ghost use Rattle.ensemble.specs.Steps.{AreEnsembleSteps, last_ensemble};
+
+use worlds::a_run_is_steps;
 
 /// A process may end between any two calls. If another one begins with what the keepers of its replicas had and what its
 /// proxies asked, with all replicas down and no letter under way, then that is an ensemble with all that was asked and
@@ -17,10 +20,13 @@ pub fn a_reopened_ensemble_follows()
     ensures { (found : ProcessView) → IsEnsembleAfter (Some found) (reopened_ensemble found) }
 {}
 
-/// It stays so in each step that an ensemble may make whatever was before it.
+/// It stays so whatever the calls of an ensemble do.
 pub fn an_ensemble_goes_on_after_a_process()
-    ensures { (found : Option ProcessView) (e now : EnsembleView) → MayBecome e now → IsEnsembleAfter found e → IsEnsembleAfter found now }
-{}
+    ensures { (found : Option ProcessView) (e : EnsembleView) (later : List EnsembleView) → AreEnsembleSteps e later
+        → IsEnsembleAfter found e → IsEnsembleAfter found (last_ensemble e later) }
+{
+    a_run_is_steps();
+}
 
 /// Of processes one after the other, each of which began with what was kept of the one before it, all that was asked and
 /// answered is of one ensemble.
