@@ -16,7 +16,20 @@ fn written(alloc: Global) -> Result<(Image, Image), Fail> {
     if saved != Some(TURNS) {
         return Err("not all turns are saved".into());
     }
-    Ok((image_of(alloc, &files.log)?, image_of(alloc, &files.db)?))
+    Ok((
+        short(image_of(alloc, &files.log)?),
+        short(image_of(alloc, &files.db)?),
+    ))
+}
+
+/// The file with at most 4,096 zeros at its end: an open of it takes less time.
+fn short(image: Image) -> Image {
+    let Image { bytes, len } = image;
+    let used = bytes.len();
+    Image {
+        bytes,
+        len: len.min(used.saturating_add(4096 - used % 4096)),
+    }
 }
 
 /// Whether damage was told.
