@@ -22,7 +22,7 @@ use Rattle.grammar.specs.declared.turn.Turn.{Turn}
 use Rattle.grammar.specs.declared.turn.Turn.TheVariants.{Ask, Say, Close}
 use Rattle.grammar.specs.Turns.{is_left_out, profile_show, profile_turn, memcached_turn}
 use Rattle.grammar.specs.Asks.{SpellsIn, SpellsProfile, commands_in, TextsShown, IsAskedIn}
-use Rattle.grammar.specs.Orders.{IsExecutedIn, IsAnsweredIn}
+use Rattle.grammar.specs.Orders.{IsExecutedFrom, IsAnsweredFrom}
 use Rattle.grammar.proofs.LimitLemmas.{memcached_has_text}
 
 -- ---- what is asked
@@ -68,13 +68,13 @@ module _ (P : ℕ → replies.Reply → Type 0) where
 
 -- ---- what is executed and answered
 
-executed_to : (lines : List Line) (client : ℕ) (bytes : List ℕ) → IsExecutedIn Profile lines client bytes → IsExecutedFor lines client bytes
+executed_to : (lines : List Line) (client : ℕ) (bytes : List ℕ) → IsExecutedFrom Profile lines client bytes → IsExecutedFor lines client bytes
 executed_to lines client bytes e =
     let s : SpellsProfile bytes e.turns = e.spells in
     let same : commands_in e.turns ≡ asked s.spelled = ap commands_in s.are ∙ commands_of_profile s.spelled in
     record { turns = s.spelled; rest = s.rest; spells = s.spells; count = e.count; made = e.made ∙ ap (λ (cs : List Command). flat_map steps (take e.count cs)) same }
 
-executed_from : (lines : List Line) (client : ℕ) (bytes : List ℕ) → IsExecutedFor lines client bytes → IsExecutedIn Profile lines client bytes
+executed_from : (lines : List Line) (client : ℕ) (bytes : List ℕ) → IsExecutedFor lines client bytes → IsExecutedFrom Profile lines client bytes
 executed_from lines client bytes e = record {
   turns = map profile_turn e.turns;
   spells = record { spelled = e.turns; rest = e.rest; spells = e.spells; are = refl };
@@ -82,7 +82,7 @@ executed_from lines client bytes e = record {
   made = e.made ∙ ap (λ (cs : List Command). flat_map steps (take e.count cs)) (sym (commands_of_profile e.turns));
 }
 
-pub executed_as_before : (lines : List Line) (client : ℕ) (bytes : List ℕ) → IsExecutedIn Profile lines client bytes ↔ IsExecutedFor lines client bytes
+pub executed_as_before : (lines : List Line) (client : ℕ) (bytes : List ℕ) → IsExecutedFrom Profile lines client bytes ↔ IsExecutedFor lines client bytes
 executed_as_before lines client bytes = (executed_to lines client bytes, executed_from lines client bytes)
 
 -- a part of turns of the profile is some
@@ -115,11 +115,11 @@ splits (u ∷ turns) (t ∷ taken) more e =
         rest_of [] = []
         rest_of (x ∷ xs) = xs
 
-pub answered_as_before : (lines : List Line) (client : ℕ) (bytes given : List ℕ) → IsAnsweredIn Profile lines client bytes given ↔ IsAnsweredBy lines client bytes given
+pub answered_as_before : (lines : List Line) (client : ℕ) (bytes given : List ℕ) → IsAnsweredFrom Profile lines client bytes given ↔ IsAnsweredBy lines client bytes given
 unfolding executed_to executed_from
 answered_as_before lines client bytes given = (to, from)
   where
-    to : IsAnsweredIn Profile lines client bytes given → IsAnsweredBy lines client bytes given
+    to : IsAnsweredFrom Profile lines client bytes given → IsAnsweredBy lines client bytes given
     to a =
         let e = a.executed in
         let s : SpellsProfile bytes e.turns = e.spells in
@@ -134,7 +134,7 @@ answered_as_before lines client bytes given = (to, from)
           texts = to_profile_texts (P (asked s.spelled)) 1 p.first given (subst (λ (z : List Command × List Turn). TextsShown (P z.0) 1 z.1 given) (λ i. (same i, p.first_are i)) a.texts);
         }
 
-    from : IsAnsweredBy lines client bytes given → IsAnsweredIn Profile lines client bytes given
+    from : IsAnsweredBy lines client bytes given → IsAnsweredFrom Profile lines client bytes given
     from a =
         let e = a.executed in
         let P = λ (cs : List Command) (number : ℕ) (r : replies.Reply). slice_get (replies_from (take e.count cs) (map (λ (m : Made). m.answer) (made_for client lines))) (number - 1) ≡ Some r in

@@ -16,7 +16,7 @@ use Rattle.grammar.specs.declared.reader.Reader.TheVariants.{Profile, Memcached}
 use Rattle.grammar.specs.declared.turn.Turn.{Turn}
 use Rattle.grammar.specs.Turns.{profile_turn, memcached_turn}
 use Rattle.grammar.specs.Asks.{SpellsIn, SpellsProfile, SpellsMemcached}
-use Rattle.grammar.specs.Reads.{new_reader, HasReadIn, HasReadProfile, HasReadMemcached, GoesOnReading, ReadsOn, ReadsOnProfile, ReadsOnMemcached}
+use Rattle.grammar.specs.Reads.{new_reader, HasReadIn, HasReadProfile, HasReadMemcached, GoesOnReading, ReaderReads, ReadsOnProfile, ReadsOnMemcached}
 
 -- ---- one list is spelled
 
@@ -64,10 +64,10 @@ profile_more fed piece read more old new true e h g =
 profile_more fed piece read more old new false e h g = profile.reads_on fed piece read more old new h e g
 
 -- a piece after what was read
-pub read_more : (d : Dialect) (old new : Reader) (fed piece : List ℕ) (turns more : List Turn) → HasReadIn d old fed turns → ReadsOn old piece more new → HasReadIn d new (fed ++ piece) (turns ++ more)
+pub read_more : (d : Dialect) (old new : Reader) (fed piece : List ℕ) (turns more : List Turn) → HasReadIn d old fed turns → ReaderReads old piece more new → HasReadIn d new (fed ++ piece) (turns ++ more)
 read_more dialect.Profile old new fed piece turns more h g =
-    let r : ReadsOnProfile h.state piece more new = subst (λ (x : Reader). ReadsOn x piece more new) h.is g in
+    let r : ReadsOnProfile h.state piece more new = subst (λ (x : Reader). ReaderReads x piece more new) h.is g in
     record { state = r.state; read = h.read ++ r.read; is = r.is; reads = profile_more fed piece h.read r.read h.state r.state h.state.closed refl h.reads r.reads; are = both_are profile_turn h.read r.read turns more h.are r.are }
 read_more dialect.Memcached old new fed piece turns more h g =
-    let r : ReadsOnMemcached h.state piece more new = subst (λ (x : Reader). ReadsOn x piece more new) h.is g in
+    let r : ReadsOnMemcached h.state piece more new = subst (λ (x : Reader). ReaderReads x piece more new) h.is g in
     record { state = r.state; read = h.read ++ r.read; is = r.is; reads = memcached.read_on fed piece h.read r.read h.state r.state h.reads r.reads; are = both_are memcached_turn h.read r.read turns more h.are r.are }

@@ -8,15 +8,15 @@ use Rattle.grammar.specs.declared.turn.Turn.{Turn}
 use Rattle.grammar.specs.Asks.{SpellsIn, commands_in, TextsShown}
 
 -- Of the commands that the bytes ask in the grammar, in their order, the first ones were executed for this client, each once and whole.
-pub record IsExecutedIn (d : Dialect) (lines : List Line) (client : ℕ) (all : List ℕ) : Type 0 where
+pub record IsExecutedFrom (d : Dialect) (lines : List Line) (client : ℕ) (all : List ℕ) : Type 0 where
   pub turns : List Turn
   pub spells : SpellsIn d all turns
   pub count : ℕ
   pub made : map (λ m. m.step) (made_for client lines) ≡ flat_map steps (take count (commands_in turns))
 
 -- The client was given the texts of its first turns, with replies that these lines made.
-pub record IsAnsweredIn (d : Dialect) (lines : List Line) (client : ℕ) (all given : List ℕ) : Type 0 where
-  pub executed : IsExecutedIn d lines client all
+pub record IsAnsweredFrom (d : Dialect) (lines : List Line) (client : ℕ) (all given : List ℕ) : Type 0 where
+  pub executed : IsExecutedFrom d lines client all
   pub taken : List Turn
   pub more : List Turn
   pub first : executed.turns ≡ taken ++ more

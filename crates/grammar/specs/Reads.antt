@@ -57,6 +57,6 @@ pub record ReadsOnMemcached (old : memcached.State) (piece : List ℕ) (turns : 
   pub are : turns ≡ map memcached_turn read
 
 -- What a reader makes of a piece: the turns that end in it.
-abbrev pub ReadsOn : Reader → List ℕ → List Turn → Reader → Type 0
-ReadsOn (Profile old) piece turns new = ReadsOnProfile old piece turns new
-ReadsOn (Memcached old) piece turns new = ReadsOnMemcached old piece turns new
+abbrev pub ReaderReads : Reader → List ℕ → List Turn → Reader → Type 0
+ReaderReads (Profile old) piece turns new = ReadsOnProfile old piece turns new
+ReaderReads (Memcached old) piece turns new = ReadsOnMemcached old piece turns new

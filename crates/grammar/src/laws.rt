@@ -9,7 +9,7 @@ ghost use Rattle.memcached_spec.specs.Server.{Line};
 ghost use Rattle.memcached_spec.specs.Order.{IsExecutedFor, IsAnsweredBy};
 ghost use Rattle.grammar.specs.Turns.{is_left_out};
 ghost use Rattle.grammar.specs.Asks.{SpellsIn, IsAskedIn};
-ghost use Rattle.grammar.specs.Orders.{IsExecutedIn, IsAnsweredIn};
+ghost use Rattle.grammar.specs.Orders.{IsExecutedFrom, IsAnsweredFrom};
 ghost use Rattle.grammar.specs.declared.reader.Dialect.{Dialect};
 ghost use Rattle.grammar.specs.declared.reader.Dialect.TheVariants.{Profile};
 ghost use Rattle.grammar.specs.declared.turn.Turn.{Turn};
@@ -36,6 +36,6 @@ pub fn each_command_has_a_text()
 /// In the profile all this is what is said of the clients of a world.
 pub fn profile_is_as_before()
     ensures asked { (bytes : List ℕ) (number : ℕ) (command : Command) → IsAskedIn Profile bytes number command ↔ IsAsked bytes number command }
-    ensures executed { (lines : List Line) (client : ℕ) (bytes : List ℕ) → IsExecutedIn Profile lines client bytes ↔ IsExecutedFor lines client bytes }
-    ensures answered { (lines : List Line) (client : ℕ) (bytes given : List ℕ) → IsAnsweredIn Profile lines client bytes given ↔ IsAnsweredBy lines client bytes given }
+    ensures executed { (lines : List Line) (client : ℕ) (bytes : List ℕ) → IsExecutedFrom Profile lines client bytes ↔ IsExecutedFor lines client bytes }
+    ensures answered { (lines : List Line) (client : ℕ) (bytes given : List ℕ) → IsAnsweredFrom Profile lines client bytes given ↔ IsAnsweredBy lines client bytes given }
 {}

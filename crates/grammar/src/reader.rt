@@ -2,7 +2,7 @@
 
 ghost use Rattle.std.specs.Prelude.{◌≡◌, IfOk, map};
 ghost use Rattle.grammar.specs.Turns.{profile_turn, memcached_turn};
-ghost use Rattle.grammar.specs.Reads.{new_reader, ReadsOn};
+ghost use Rattle.grammar.specs.Reads.{new_reader, ReaderReads};
 
 use crate::turn::{Turn, of_memcached, of_profile};
 use std::alloc::{AllocError, Global};
@@ -60,7 +60,7 @@ impl Reader {
     ///
     /// The only error is a failed allocation. After it a part may have been read, and the reader is to be let go.
     pub fn feed(&mut self, alloc: Global, piece: &[u8]) -> Result<Vec<Turn>, AllocError>
-        ensures { IfOk result (λ turns. ReadsOn self.old piece.now turns.items self.new) }
+        ensures { IfOk result (λ turns. ReaderReads self.old piece.now turns.items self.new) }
     {
         match self {
             Reader::Profile(reader) => {

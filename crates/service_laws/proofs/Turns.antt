@@ -11,7 +11,7 @@ use Rattle.proto.proofs.SpellsLemmas.{spells_one}
 use Rattle.grammar.specs.declared.reader.Dialect.{Dialect}
 use Rattle.grammar.specs.declared.turn.Turn.{Turn}
 use Rattle.grammar.specs.Asks.{SpellsIn, commands_in, IsAskedIn}
-use Rattle.grammar.specs.Orders.{IsExecutedIn}
+use Rattle.grammar.specs.Orders.{IsExecutedFrom}
 use Rattle.grammar.proofs.ReadLemmas.{some_spelled, one_spelled}
 use Rattle.grammar.proofs.AskLemmas.{shown_imply}
 use Rattle.item_steps.specs.Steps.{steps, reply}
@@ -322,7 +322,7 @@ module _ (d : Dialect) (heard given : List (ℕ × List ℕ)) (moments_of : List
       ran_first : for_connection.ran ≡ take (length for_connection.ran) (commands_in turns)
       ran_first = beginning for_connection.ran (commands_in turns) (λ i x at. let same : 0 + i ≡ i = omega arith in sym (ap (slice_get (commands_in turns)) same) ∙ for_connection.theirs i x at)
 
-      pub executed_for : IsExecutedIn d all c (bytes_of_connection c heard)
+      pub executed_for : IsExecutedFrom d all c (bytes_of_connection c heard)
       executed_for = record { turns = turns; spells = spells; count = length for_connection.ran; made = for_connection.made ∙ ap (flat_map steps) ran_first }
 
       reply_there : (number : ℕ) (r : replies.Reply) → WasAnsweredFor run xs c number r → slice_get (replies_from (take (length for_connection.ran) (commands_in turns)) (answers_made c all)) (number - 1) ≡ Some r

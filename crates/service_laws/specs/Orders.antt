@@ -12,7 +12,7 @@ use Rattle.run_laws.specs.Run.{Executed}
 use Rattle.run_laws.specs.Replied.{GivenIn}
 use Rattle.memcached_spec.specs.Server.{Line, Tick, IsDone}
 use Rattle.grammar.specs.declared.reader.Dialect.{Dialect}
-use Rattle.grammar.specs.Orders.{IsExecutedIn, IsAnsweredIn}
+use Rattle.grammar.specs.Orders.{IsExecutedFrom, IsAnsweredFrom}
 use Rattle.connections.specs.Connections.{bytes_of_connection}
 use Rattle.connections.specs.History.{Passed, heard_among, given_among, moments_among}
 use Rattle.server_laws.specs.Saved.{DigestsAreDistinct}
@@ -34,8 +34,8 @@ RanInTurn run assignments = (b : Assignment) (place t : ℕ) → Contains assign
 pub record IsConnectionOrder (d : Dialect) (heard given : List (ℕ × List ℕ)) (moments : List ℕ) (lines : List Line) : Type 0 where
   pub done : IsDone lines
   pub ticks : (moment : ℕ) → Contains lines (Tick moment) → Contains moments moment
-  pub asked_only : (c : ℕ) → IsExecutedIn d lines c (bytes_of_connection c heard)
-  pub answered : (c : ℕ) → IsAnsweredIn d lines c (bytes_of_connection c heard) (bytes_of_connection c given)
+  pub asked_only : (c : ℕ) → IsExecutedFrom d lines c (bytes_of_connection c heard)
+  pub answered : (c : ℕ) → IsAnsweredFrom d lines c (bytes_of_connection c heard) (bytes_of_connection c given)
 
 -- At a moment of the play the first command had its reply, and the second one was not asked yet.
 pub record WasAnsweredBefore (events : List Event) (worlds : List WorldView) (a b : Assignment) : Type 0 where

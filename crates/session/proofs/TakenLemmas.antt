@@ -12,7 +12,7 @@ use Rattle.grammar.specs.declared.turn.Turn.{Turn}
 use Rattle.grammar.specs.declared.turn.Turn.TheVariants.{Ask, Say, Close}
 use Rattle.grammar.specs.Turns.{said_text}
 use Rattle.grammar.specs.Asks.{commands_in, TextsShown, BeginsIn}
-use Rattle.grammar.specs.Reads.{HasReadIn, ReadsOn}
+use Rattle.grammar.specs.Reads.{HasReadIn, ReaderReads}
 use Rattle.grammar.proofs.ReadLemmas.{some_spelled, none_read, read_spells, read_more}
 use Rattle.grammar.proofs.AskLemmas.{begins_longer, shown_imply, shown-append, commands_push}
 use Rattle.session.specs.declared.session.Awaited.{Awaited}

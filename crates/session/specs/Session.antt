@@ -8,7 +8,7 @@ use Rattle.grammar.specs.declared.reader.Reader.{Reader}
 use Rattle.grammar.specs.declared.turn.Turn.{Turn}
 use Rattle.grammar.specs.declared.turn.Turn.TheVariants.{Ask, Say, Close}
 use Rattle.grammar.specs.Turns.{said_text, is_left_out}
-use Rattle.grammar.specs.Reads.{new_reader, ReadsOn}
+use Rattle.grammar.specs.Reads.{new_reader, ReaderReads}
 use Rattle.session.specs.declared.session.Awaited.{Awaited}
 use Rattle.session.specs.declared.session.Ready.{Ready}
 use Rattle.session.specs.declared.session.Session.{Session}
@@ -56,7 +56,7 @@ session_fed s turns now = session_goes_on (record s { reader = now; waiting = s.
 
 abbrev pub IsFedSessionIf : Bool → Session → List ℕ → SessionStep → Type 0
 IsFedSessionIf true s piece g = g ≡ session_stays s
-IsFedSessionIf false s piece g = (turns : List Turn) × (now : Reader) × ReadsOn s.reader piece turns now × (g ≡ session_fed s turns now)
+IsFedSessionIf false s piece g = (turns : List Turn) × (now : Reader) × ReaderReads s.reader piece turns now × (g ≡ session_fed s turns now)
 
 -- A piece of the client's bytes comes. If it is closed, nothing is read.
 abbrev pub IsFedSession : Session → List ℕ → SessionStep → Type 0
