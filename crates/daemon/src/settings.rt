@@ -110,10 +110,7 @@ fn dialect(command: &mut Command<'_>, text: &str) -> Result<Dialect, Error> {
     match text {
         "memcached" => Ok(Dialect::Memcached),
         "profile" => Ok(Dialect::Profile),
-        _ => Err(command.error(
-            ErrorKind::InvalidValue,
-            "a dialect is memcached or profile",
-        )?),
+        _ => Err(command.error(ErrorKind::InvalidValue, "a dialect is memcached or profile")?),
     }
 }
 

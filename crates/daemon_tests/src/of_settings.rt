@@ -49,7 +49,8 @@ fn defaults(alloc: Global) -> bool {
 }
 
 fn all_given(alloc: Global) -> bool {
-    let words = "--listen 0.0.0.0:1 --u 3 --listen [::1]:2 --connections=10000 --dialect profile --status 127.0.0.1:3";
+    let words =
+        "--listen 0.0.0.0:1 --u 3 --listen [::1]:2 --connections=10000 --dialect profile --status 127.0.0.1:3";
     match read(alloc, words) {
         Some(Ok(settings)) => {
             listens(&settings, &["0.0.0.0:1", "[::1]:2"])

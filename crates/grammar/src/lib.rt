@@ -10,8 +10,6 @@ mod reader;
 mod turn;
 
 pub use dialect::{Show, write_shown};
-pub use laws::{
-    each_command_has_a_text, longer_bytes_ask_more, one_reading, profile_is_as_before,
-};
+pub use laws::{each_command_has_a_text, longer_bytes_ask_more, one_reading, profile_is_as_before};
 pub use reader::{Dialect, Reader};
 pub use turn::{Notice, Turn, leaves_out};

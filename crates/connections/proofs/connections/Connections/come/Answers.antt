@@ -27,9 +27,11 @@ invariant_of-self-2 c =
 
 pub returns-clause-here : goal.returns-clause-here
 returns-clause-here c =
+    let s = c.self.inside in
     let at = c.args.at in
     let table = c.grow_to.new.table.items in
     let fits : at.key < length table = search rules in
     let t = there table at.key fits in
     let set : c.put.new.table.items ≡ slice_set table at.key (Some (new_connection s.dialect at.number)) = c.put.ensures ∙ ap (λ (x : ConnectionView). slice_set table at.key (Some x)) c.new.ensures in
-    ap (λ (x : List (Option ConnectionView)). place_in x at.key) set ∙ set_place table at.key (Some (new_connection s.dialect at.number)) t.0 t.1
+    subst (λ (x : ConnectionsView). place_in c.put.new.table.items at.key ≡ Some (new_connection x.dialect at.number)) c.self.view_is
+    (ap (λ (x : List (Option ConnectionView)). place_in x at.key) set ∙ set_place table at.key (Some (new_connection s.dialect at.number)) t.0 t.1)
