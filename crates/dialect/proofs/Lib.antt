@@ -1,0 +1,9 @@
+mod RunLemmas
+mod NewlineLemmas
+mod MeaningLemmas
+mod PieceLemmas
+mod StageLemmas
+mod NoreplyLemmas
+mod RefusalLemmas
+mod ManyLemmas
+pub mod SpellsLemmas

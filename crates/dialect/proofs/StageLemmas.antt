@@ -1,0 +1,122 @@
+-- What a step of a reader gives.
+use Rattle.std.proofs.Common.{◌≡◌, ℕ, zero, suc, ◌+◌, ◌-◌, ◌<◌, ◌≤◌, Bool, true, false, List, [], ◌∷◌, ◌++◌, length, take, drop, Option, refl, sym, ap, ◌∙◌, subst, arith}
+use Rattle.std.specs.Option.{option_to_list}
+use Rattle.std.proofs.lemmas.List.{take_all, take_at, append_assoc, append-nil, length-append, length-take, take-append-drop}
+use Rattle.std.proofs.lemmas.Bool.Decides.{nat_tests}
+use Rattle.proto.specs.declared.line.Header.{Header}
+use Rattle.proto.specs.declared.block.TheConstants.{MOST_BLOCK_BYTES}
+use Rattle.dialect.specs.Meaning.{meaning, block_turn}
+use Rattle.dialect.specs.State.{State, Step, state_at, to, start, is_binary, run, Runs, IsState}
+use Rattle.dialect.specs.Grammar.{HasNoNewline}
+use Rattle.dialect.specs.Stage.{starts_binary, GoesOn, IsReading}
+use Rattle.dialect.specs.declared.line.TheConstants.{MOST_LINE_BYTES}
+use Rattle.dialect.specs.declared.turn.Notice.TheVariants as notice
+use Rattle.dialect.specs.declared.turn.Turn.{Turn}
+use Rattle.dialect.specs.declared.turn.Turn.TheVariants.{Close}
+use Rattle.dialect.specs.declared.part.Part.{Part}
+use Rattle.dialect.specs.declared.part.Part.TheVariants as part
+use Rattle.dialect.proofs.RunLemmas.{run_none, run_closed, run_line, run_end, run_long, run_binary, run_block, run_whole_block, run_unread, run_all_unread, runs_by, runs_on, starts_take, is_128}
+
+take_whole : (xs : List ℕ) → take (length xs) xs ≡ xs
+take_whole xs = take_all (length xs) xs (omega arith)
+
+-- A piece that ends nothing.
+
+pub line_goes_on : (held piece : List ℕ) → GoesOn part.Line held piece → run (state_at part.Line held) piece ≡ to [] (state_at part.Line (held ++ piece))
+line_goes_on held piece g = run_line held piece g.0 g.1 g.2
+
+pub block_goes_on : (h : Header) (held piece : List ℕ) → GoesOn (part.Block h) held piece → run (state_at (part.Block h) held) piece ≡ to [] (state_at (part.Block h) (held ++ piece))
+block_goes_on h held piece g = run_block h held piece g
+
+pub unread_goes_on : (left : ℕ) (turn : Option Turn) (held piece : List ℕ) → held ≡ [] → GoesOn (part.Unread left turn) held piece
+    → run (state_at (part.Unread left turn) held) piece ≡ to [] (state_at (part.Unread (left - length piece) turn) held)
+unread_goes_on left turn held piece e g =
+    ap (λ (ys : List ℕ). run (state_at (part.Unread left turn) ys) piece) e ∙ run_unread left turn piece g ∙ ap (λ (ys : List ℕ). to [] (state_at (part.Unread (left - length piece) turn) ys)) (sym e)
+
+pub closed_goes_on : (held piece : List ℕ) → held ≡ [] → run (state_at part.Closed held) piece ≡ to [] (state_at part.Closed held)
+closed_goes_on held piece e =
+    ap (λ (ys : List ℕ). run (state_at part.Closed ys) piece) e ∙ run_closed piece ∙ ap (λ (ys : List ℕ). to [] (state_at part.Closed ys)) (sym e)
+
+-- the first byte of the binary protocol
+pub binary_held : (held piece : List ℕ) → starts_binary held piece ≡ true → held ≡ []
+binary_held held [] e = absurd (let f : false ≡ true = e in cc)
+binary_held [] (b ∷ piece) e = refl
+binary_held (c ∷ held) (b ∷ piece) e = absurd (let f : false ≡ true = e in cc)
+
+binary_first : (held piece : List ℕ) → starts_binary held piece ≡ true → run (state_at part.Line held) (take 1 piece) ≡ to (Close notice.Binary ∷ []) (state_at part.Closed [])
+binary_first held [] e = absurd (let f : false ≡ true = e in cc)
+binary_first [] (b ∷ piece) e =
+    let is : 128 ≡ b = is_128 b e in
+    subst (λ (c : ℕ). run start (c ∷ []) ≡ to (Close notice.Binary ∷ []) (state_at part.Closed [])) is (run_binary [])
+binary_first (c ∷ held) (b ∷ piece) e = absurd (let f : false ≡ true = e in cc)
+
+module _ (held piece : List ℕ) (before after : List Turn) where
+  pub binary_runs : starts_binary held piece ≡ true → after ≡ before ++ Close notice.Binary ∷ [] → Runs (state_at part.Line held) (take 1 piece) before after (state_at part.Closed held)
+  binary_runs q t = runs_by _ _ before after _ (to (Close notice.Binary ∷ []) (state_at part.Closed [])) (binary_first held piece q) t (ap (λ (ys : List ℕ). state_at part.Closed ys) (binary_held held piece q))
+
+  -- all of the piece is on the line
+  pub open_runs : starts_binary held piece ≡ false → HasNoNewline piece → length held + length piece < MOST_LINE_BYTES → after ≡ before
+      → Runs (state_at part.Line held) (take (length piece) piece) before after (state_at part.Line (held ++ piece))
+  open_runs q h l t = subst (λ (ys : List ℕ). Runs (state_at part.Line held) ys before after (state_at part.Line (held ++ piece))) (sym (take_whole piece))
+      (runs_by _ _ before after _ _ (run_line held piece q h l) (t ∙ sym (append-nil before)) refl)
+
+  pub long_runs : (n : ℕ) → starts_binary held piece ≡ false → 0 < n → n ≤ length piece → HasNoNewline (take n piece) → length held + n ≡ MOST_LINE_BYTES → after ≡ before ++ Close notice.LineTooLong ∷ []
+      → Runs (state_at part.Line held) (take n piece) before after (state_at part.Closed [])
+  long_runs n q some m h l t =
+      let count : length (take n piece) ≡ n = rw (length-take n piece) (grind (arith, nat_tests)) in
+      runs_by _ _ before after _ _ (run_long held (take n piece) (starts_take held piece n q) h (omega (arith, count, some)) (omega (arith, count, l))) t refl
+
+  -- the line and its end
+  pub end_runs : (k : ℕ) (new : State) → starts_binary held piece ≡ false → k < length piece → HasNoNewline (take k piece) → length held + k < MOST_LINE_BYTES → piece ≡ take k piece ++ 10 ∷ drop (k + 1) piece
+      → after ≡ before ++ (meaning (held ++ take k piece)).turns → new ≡ state_at (meaning (held ++ take k piece)).part []
+      → Runs (state_at part.Line held) (take (k + 1) piece) before after new
+  end_runs k new q m h l e t n =
+      let count : length (take k piece) ≡ k = rw (length-take k piece) (grind (arith, nat_tests)) in
+      let front : take (k + 1) piece ≡ take k piece ++ 10 ∷ [] =
+      ap (take (k + 1)) (e ∙ sym (append_assoc (take k piece) (10 ∷ []) (drop (k + 1) piece)))
+      ∙ take_at (take k piece ++ 10 ∷ []) (drop (k + 1) piece) (k + 1) (length-append (take k piece) (10 ∷ []) ∙ ap (λ i. i + 1) count) in
+      subst (λ (ys : List ℕ). Runs (state_at part.Line held) ys before after new) (sym front)
+      (runs_by _ _ before after new _ (run_end held (take k piece) (starts_take held piece k q) h (omega (arith, count, l))) t n)
+
+  -- part of a block
+  pub block_runs : (h : Header) (n : ℕ) → n ≤ length piece → length held + n < h.size + 2 → after ≡ before
+      → Runs (state_at (part.Block h) held) (take n piece) before after (state_at (part.Block h) (held ++ take n piece))
+  block_runs h n m l t =
+      let count : length (take n piece) ≡ n = rw (length-take n piece) (grind (arith, nat_tests)) in
+      runs_by _ _ before after _ _ (run_block h held (take n piece) (omega (arith, count, l))) (t ∙ sym (append-nil before)) refl
+
+  -- the rest of a block
+  pub whole_runs : (h : Header) (n : ℕ) (new : State) → 0 < n → n ≤ length piece → length held + n ≡ h.size + 2 → after ≡ before ++ option_to_list (block_turn h (held ++ take n piece)) → new ≡ start
+      → Runs (state_at (part.Block h) held) (take n piece) before after new
+  whole_runs h n new some m l t e =
+      let count : length (take n piece) ≡ n = rw (length-take n piece) (grind (arith, nat_tests)) in
+      runs_by _ _ before after new _ (run_whole_block h held (take n piece) (omega (arith, count, some)) (omega (arith, count, l))) t e
+
+  -- all that is not kept
+  pub unread_runs : (left : ℕ) (turn : Option Turn) (new : State) → held ≡ [] → 0 < left → left ≤ length piece → after ≡ before ++ option_to_list turn → new ≡ start
+      → Runs (state_at (part.Unread left turn) held) (take left piece) before after new
+  unread_runs left turn new e some m t n =
+      let count : length (take left piece) ≡ left = rw (length-take left piece) (grind (arith, nat_tests)) in
+      runs_by _ _ before after new _ (ap (λ (ys : List ℕ). run (state_at (part.Unread left turn) ys) (take left piece)) e ∙ run_all_unread left turn (take left piece) (omega (arith, count, some)) count) t n
+
+  -- all of a piece that ends nothing
+  pub none_runs : (old new : State) → run old piece ≡ to [] new → after ≡ before → Runs old (take (length piece) piece) before after new
+  none_runs old new e t = subst (λ (ys : List ℕ). Runs old ys before after new) (sym (take_whole piece)) (runs_by old piece before after new (to [] new) e (t ∙ sym (append-nil before)) refl)
+
+-- Pieces.
+
+pub reading_begins : (old : State) (piece : List ℕ) (turns : List Turn) → IsState old → turns ≡ [] → IsReading old piece turns old piece
+reading_begins old piece turns i e = record { front = []; split = refl; runs = runs_by old [] [] turns old (to [] old) (run_none old) e refl; state = i }
+
+pub reading_goes : (old now new : State) (piece left : List ℕ) (before after : List Turn) (n : ℕ) → IsReading old piece before now left → Runs now (take n left) before after new → IsState new
+    → IsReading old piece after new (drop n left)
+reading_goes old now new piece left before after n r s i = record {
+  front = r.front ++ take n left;
+  split = r.split ∙ ap (λ (ys : List ℕ). r.front ++ ys) (sym (take-append-drop n left)) ∙ sym (append_assoc r.front (take n left) (drop n left));
+  runs = runs_on old now new r.front (take n left) [] before after r.runs s;
+  state = i;
+}
+
+pub reading_ends : (old new : State) (piece left : List ℕ) (turns : List Turn) → IsReading old piece turns new left → left ≡ [] → Runs old piece [] turns new
+reading_ends old new piece left turns r e =
+    subst (λ (ys : List ℕ). Runs old ys [] turns new) (sym (r.split ∙ ap (λ (ys : List ℕ). r.front ++ ys) e ∙ append-nil r.front)) r.runs
