@@ -3,18 +3,18 @@ use Rattle.std.proofs.Common.{◌≡◌, ℕ, zero, suc, ◌+◌, ◌<◌, ◌�
 use Rattle.std.specs.Prelude.{ℤ, nat_lt}
 use Rattle.std.specs.Option.{option_map_or}
 use Rattle.std.specs.List.{list_any}
-use Rattle.proto.specs.Line.{key_of, words}
+use Rattle.proto.specs.Line.{◌>>=◌, key_of, words}
 use Rattle.proto.specs.declared.block.TheConstants.{MOST_BLOCK_BYTES}
 use Rattle.proto.specs.declared.command.StoreVerb.{StoreVerb}
 use Rattle.proto.specs.declared.command.Update.{Update}
 use Rattle.proto.specs.declared.line.Header.{Header}
 use Rattle.proto.specs.declared.line.Kind.{Kind}
 use Rattle.proto.specs.declared.line.Kind.TheVariants as kind
-use Rattle.dialect.specs.Number.{unsigned_of, flags_of, exptime_of, size_of}
+use Rattle.dialect.specs.Number.{unsigned_of, flags_of, exptime_of, block_size_of}
 use Rattle.dialect.specs.Name.{name_of}
-use Rattle.dialect.specs.Line.{◌>>=◌, is_quiet, is_end, is_delete_end, is_http_version, says, too_large, sized, storage, header_of, cas_kind, store_line, cas_line, delete_line, touch_line, delta_line, verbosity_line, timed_line, line_of}
-use Rattle.dialect.specs.Meaning.{meaning, meaning_of_words, given, unknown, without_return}
-use Rattle.dialect.specs.State.{IsWithin}
+use Rattle.dialect.specs.Line.{says_noreply, is_end, is_delete_end, is_http_version, says_notice, too_large, sized, storage, header_of, cas_kind, store_line, cas_line, delete_line, touch_line, delta_line, verbosity_line, timed_line, line_of}
+use Rattle.dialect.specs.Meaning.{meaning, meaning_of_words, meaning_of_line, unknown, without_return}
+use Rattle.dialect.specs.State.{HoldsWithin}
 use Rattle.dialect.specs.declared.line.TheConstants.{MOST_LINE_BYTES}
 use Rattle.dialect.specs.declared.line.Name.{Name}
 use Rattle.dialect.specs.declared.line.Name.TheVariants as name
@@ -68,7 +68,7 @@ store_sound v quiet (k ∷ []) = tt
 store_sound v quiet (k ∷ f ∷ []) = tt
 store_sound v quiet (k ∷ f ∷ e ∷ []) = tt
 store_sound v quiet (k ∷ f ∷ e ∷ n ∷ last) =
-    if_sound (is_end last) _ _ (storage_sound quiet (size_of n) (header_of quiet (Some (kind.Plain v)) k f e) (header_size quiet (Some (kind.Plain v)) k f e)) tt
+    if_sound (is_end last) _ _ (storage_sound quiet (block_size_of n) (header_of quiet (Some (kind.Plain v)) k f e) (header_size quiet (Some (kind.Plain v)) k f e)) tt
 
 cas_sound : (quiet : Bool) (ws : List (List ℕ)) → IsSound (cas_line quiet ws)
 cas_sound quiet [] = tt
@@ -77,7 +77,7 @@ cas_sound quiet (k ∷ f ∷ []) = tt
 cas_sound quiet (k ∷ f ∷ e ∷ []) = tt
 cas_sound quiet (k ∷ f ∷ e ∷ n ∷ []) = tt
 cas_sound quiet (k ∷ f ∷ e ∷ n ∷ u ∷ last) =
-    if_sound (is_end last) _ _ (storage_sound quiet (size_of n) (header_of quiet (cas_kind u) k f e) (header_size quiet (cas_kind u) k f e)) tt
+    if_sound (is_end last) _ _ (storage_sound quiet (block_size_of n) (header_of quiet (cas_kind u) k f e) (header_size quiet (cas_kind u) k f e)) tt
 
 delete_sound : (quiet : Bool) (ws : List (List ℕ)) → IsSound (delete_line quiet ws)
 delete_sound quiet [] = tt
@@ -120,22 +120,22 @@ line_sound name.Shutdown quiet ws = tt
 line_sound name.MetaNoop quiet ws = tt
 line_sound name.Http quiet ws = if_sound (list_any is_http_version ws) _ _ tt tt
 
-given_within : (l : Line) (ws : List (List ℕ)) → IsSound l → IsWithin (given l ws).part []
+given_within : (l : Line) (ws : List (List ℕ)) → IsSound l → HoldsWithin (meaning_of_line l ws).part []
 given_within (Gives turn) ws s = lit< tt
 given_within (Closes notice) ws s = refl
 given_within (Reads r) ws s = lit< tt
 given_within (Opens h) ws s = (omega arith, s)
 given_within (Skips n turn) ws s = (s, refl)
 
-words_within : (ws : List (List ℕ)) → IsWithin (meaning_of_words ws).part []
+words_within : (ws : List (List ℕ)) → HoldsWithin (meaning_of_words ws).part []
 words_within [] = lit< tt
 words_within (w ∷ ws) = by (name_of w)
   where
-    by : (n : Option Name) → IsWithin (option_map_or (λ (m : Name). given (line_of m (is_quiet ws) ws) ws) n unknown).part []
+    by : (n : Option Name) → HoldsWithin (option_map_or (λ (m : Name). meaning_of_line (line_of m (says_noreply ws) ws) ws) n unknown).part []
     by None = lit< tt
-    by (Some n) = given_within (line_of n (is_quiet ws) ws) ws (line_sound n (is_quiet ws) ws)
+    by (Some n) = given_within (line_of n (says_noreply ws) ws) ws (line_sound n (says_noreply ws) ws)
 
 -- what comes after a line, where nothing of it is there
-pub meaning_within : (line : List ℕ) → IsWithin (meaning line).part []
+pub meaning_within : (line : List ℕ) → HoldsWithin (meaning line).part []
 unfolding meaning
 meaning_within line = words_within (words (without_return line))

@@ -4,9 +4,8 @@ use Rattle.std.proofs.lemmas.List.{take_all, take-append-drop, drop_more}
 use Rattle.std.proofs.lemmas.Bool.{or_from}
 use Rattle.std.proofs.lemmas.Bool.Decides.{nat_tests}
 use Rattle.memchr.specs.Find.{IsFirstByte, is_byte}
-use Rattle.dialect.specs.State.{is_newline}
-use Rattle.dialect.specs.Grammar.{HasNoNewline}
-use Rattle.dialect.specs.Stage.{FindsNewline}
+use Rattle.proto.specs.Grammar.{is_newline}
+use Rattle.proto.specs.Stage.{HasNoNewline, FindsNewline}
 
 not_true : (b : Bool) → ¬ (b ≡ true) → b ≡ false
 not_true true h = absurd (h refl)

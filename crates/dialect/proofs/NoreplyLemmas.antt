@@ -2,7 +2,7 @@
 use Rattle.std.proofs.Common.{◌≡◌, ℕ, ◌+◌, Bool, true, false, List, [], ◌∷◌, length, Option, Some, None, IfSome, refl, sym, ap, ◌∙◌, subst, if◌then◌else◌}
 use Rattle.std.specs.Prelude.{ℤ, nat_lt, bytes_eq, drop, take}
 use Rattle.std.specs.Option.{option_map_or}
-use Rattle.proto.specs.Line.{key_of, words}
+use Rattle.proto.specs.Line.{◌>>=◌, key_of, words}
 use Rattle.proto.specs.Grammar.{filled}
 use Rattle.proto.specs.declared.block.TheConstants.{MOST_BLOCK_BYTES}
 use Rattle.proto.specs.declared.command.StoreVerb.{StoreVerb}
@@ -11,12 +11,12 @@ use Rattle.proto.specs.declared.command.Update.TheVariants as update
 use Rattle.proto.specs.declared.line.Header.{Header}
 use Rattle.proto.specs.declared.line.Kind.{Kind}
 use Rattle.proto.specs.declared.line.Kind.TheVariants as kind
-use Rattle.dialect.specs.Number.{unsigned_of, flags_of, exptime_of, size_of}
+use Rattle.dialect.specs.Number.{unsigned_of, flags_of, exptime_of, block_size_of}
 use Rattle.dialect.specs.Name.{name_of}
-use Rattle.dialect.specs.Line.{◌>>=◌, is_quiet, is_end, is_delete_end, said, says, shown, removes, too_large, sized, storage, header_of, cas_kind, store_line, cas_line, delete_line, touch_line, delta_line, verbosity_line, line_of}
-use Rattle.dialect.specs.Meaning.{Meaning, meaning, meaning_of_words, given, unknown, block_turn, without_return}
+use Rattle.dialect.specs.Line.{says_noreply, is_end, is_delete_end, said, says_notice, shown, removes, too_large, sized, storage, header_of, cas_kind, store_line, cas_line, delete_line, touch_line, delta_line, verbosity_line, line_of}
+use Rattle.dialect.specs.Meaning.{Meaning, meaning, meaning_of_words, meaning_of_line, unknown, block_turn, without_return}
 use Rattle.dialect.specs.Text.{notice_text}
-use Rattle.dialect.specs.Laws.{takes_noreply, IsNoreply, GivesNothing, AllGiveNothing, PartGivesNothing}
+use Rattle.dialect.specs.Laws.{takes_noreply, IsNoreply, ShowsNothing, AllShowNothing, PartShowsNothing}
 use Rattle.dialect.specs.declared.turn.Notice.{Notice}
 use Rattle.dialect.specs.declared.turn.Notice.TheVariants as notice
 use Rattle.dialect.specs.declared.turn.Show.TheVariants as show
@@ -30,11 +30,11 @@ use Rattle.dialect.proofs.RunLemmas.{taken}
 
 -- the line gives no bytes
 abbrev IsMute : Line → Type 0
-IsMute (Gives turn) = IfSome turn GivesNothing
+IsMute (Gives turn) = IfSome turn ShowsNothing
 IsMute (Closes n) = notice_text n ≡ []
 IsMute (Reads r) = ⊥
 IsMute (Opens h) = h.quiet ≡ true
-IsMute (Skips n turn) = IfSome turn GivesNothing
+IsMute (Skips n turn) = IfSome turn ShowsNothing
 
 if_mute : (b : Bool) (x y : Line) → IsMute x → IsMute y → IsMute (if b then x else y)
 if_mute true x y p q = p
@@ -44,21 +44,21 @@ map_or_mute : {A : Type 0} (o : Option A) (f : A → Line) (d : Line) → ((x : 
 map_or_mute None f d p q = q
 map_or_mute (Some x) f d p q = p x
 
-said_mute : (quiet : Bool) (n : Notice) → quiet ≡ true → IfSome (said quiet n) GivesNothing
+said_mute : (quiet : Bool) (n : Notice) → quiet ≡ true → IfSome (said quiet n) ShowsNothing
 said_mute true n e = tt
 said_mute false n e = absurd (let f : false ≡ true = e in cc)
 
-too_large_mute : (h : Header) → h.quiet ≡ true → IfSome (too_large h) GivesNothing
+too_large_mute : (h : Header) → h.quiet ≡ true → IfSome (too_large h) ShowsNothing
 too_large_mute h e = by (removes h.kind)
   where
-    by : (b : Bool) → IfSome (if b then Some (Ask (command.Update (update.Delete h.key)) (if h.quiet then show.Quiet else show.Instead notice.TooLarge)) else said h.quiet notice.TooLarge) GivesNothing
+    by : (b : Bool) → IfSome (if b then Some (Ask (command.Update (update.Delete h.key)) (if h.quiet then show.Quiet else show.Instead notice.TooLarge)) else said h.quiet notice.TooLarge) ShowsNothing
     by true = taken h.quiet _ _ e
     by false = said_mute h.quiet notice.TooLarge e
 
-block_mute : (h : Header) (block : List ℕ) → h.quiet ≡ true → IfSome (block_turn h block) GivesNothing
+block_mute : (h : Header) (block : List ℕ) → h.quiet ≡ true → IfSome (block_turn h block) ShowsNothing
 block_mute h block e = by (bytes_eq (drop h.size block) (13 ∷ 10 ∷ []))
   where
-    by : (b : Bool) → IfSome (if b then Some (Ask (filled h (take h.size block)) (shown h.quiet)) else said h.quiet notice.BadChunk) GivesNothing
+    by : (b : Bool) → IfSome (if b then Some (Ask (filled h (take h.size block)) (shown h.quiet)) else said h.quiet notice.BadChunk) ShowsNothing
     by true = taken h.quiet _ _ e
     by false = said_mute h.quiet notice.BadChunk e
 
@@ -87,7 +87,7 @@ store_mute v [] = tt
 store_mute v (k ∷ []) = tt
 store_mute v (k ∷ f ∷ []) = tt
 store_mute v (k ∷ f ∷ e ∷ []) = tt
-store_mute v (k ∷ f ∷ e ∷ n ∷ last) = if_mute (is_end last) _ _ (storage_mute (size_of n) (header_of true (Some (kind.Plain v)) k f e) (header_quiet (Some (kind.Plain v)) k f e)) tt
+store_mute v (k ∷ f ∷ e ∷ n ∷ last) = if_mute (is_end last) _ _ (storage_mute (block_size_of n) (header_of true (Some (kind.Plain v)) k f e) (header_quiet (Some (kind.Plain v)) k f e)) tt
 
 cas_mute : (ws : List (List ℕ)) → IsMute (cas_line true ws)
 cas_mute [] = tt
@@ -95,7 +95,7 @@ cas_mute (k ∷ []) = tt
 cas_mute (k ∷ f ∷ []) = tt
 cas_mute (k ∷ f ∷ e ∷ []) = tt
 cas_mute (k ∷ f ∷ e ∷ n ∷ []) = tt
-cas_mute (k ∷ f ∷ e ∷ n ∷ u ∷ last) = if_mute (is_end last) _ _ (storage_mute (size_of n) (header_of true (cas_kind u) k f e) (header_quiet (cas_kind u) k f e)) tt
+cas_mute (k ∷ f ∷ e ∷ n ∷ u ∷ last) = if_mute (is_end last) _ _ (storage_mute (block_size_of n) (header_of true (cas_kind u) k f e) (header_quiet (cas_kind u) k f e)) tt
 
 delete_mute : (ws : List (List ℕ)) → IsMute (delete_line true ws)
 delete_mute [] = tt
@@ -138,9 +138,9 @@ line_mute name.MetaNoop ws e = not_so e
 line_mute name.Http ws e = not_so e
 
 abbrev GivesNone : Meaning → Type 0
-GivesNone m = AllGiveNothing m.turns × PartGivesNothing m.part
+GivesNone m = AllShowNothing m.turns × PartShowsNothing m.part
 
-given_mute : (l : Line) (ws : List (List ℕ)) → IsMute l → GivesNone (given l ws)
+given_mute : (l : Line) (ws : List (List ℕ)) → IsMute l → GivesNone (meaning_of_line l ws)
 given_mute (Gives None) ws m = (tt, tt)
 given_mute (Gives (Some turn)) ws m = ((m, tt), tt)
 given_mute (Closes n) ws m = ((m, tt), tt)
@@ -148,11 +148,11 @@ given_mute (Reads r) ws m = absurd m
 given_mute (Opens h) ws m = (tt, λ block. block_mute h block m)
 given_mute (Skips n turn) ws m = (tt, m)
 
-pub noreply_gives_nothing : (line : List ℕ) → IsNoreply line → AllGiveNothing (meaning line).turns × PartGivesNothing (meaning line).part
+pub noreply_gives_nothing : (line : List ℕ) → IsNoreply line → AllShowNothing (meaning line).turns × PartShowsNothing (meaning line).part
 unfolding meaning
 noreply_gives_nothing line i =
-    let base : GivesNone (given (line_of i.called true i.others) i.others) = given_mute (line_of i.called true i.others) i.others (line_mute i.called i.others i.takes) in
-    let quiet : GivesNone (given (line_of i.called (is_quiet i.others) i.others) i.others) = subst (λ (q : Bool). GivesNone (given (line_of i.called q i.others) i.others)) (sym i.last) base in
+    let base : GivesNone (meaning_of_line (line_of i.called true i.others) i.others) = given_mute (line_of i.called true i.others) i.others (line_mute i.called i.others i.takes) in
+    let quiet : GivesNone (meaning_of_line (line_of i.called (says_noreply i.others) i.others) i.others) = subst (λ (q : Bool). GivesNone (meaning_of_line (line_of i.called q i.others) i.others)) (sym i.last) base in
     let named : GivesNone (meaning_of_words (i.first ∷ i.others)) =
-    subst (λ (n : Option Name). GivesNone (option_map_or (λ (m : Name). given (line_of m (is_quiet i.others) i.others) i.others) n unknown)) (sym i.named) quiet in
+    subst (λ (n : Option Name). GivesNone (option_map_or (λ (m : Name). meaning_of_line (line_of m (says_noreply i.others) i.others) i.others) n unknown)) (sym i.named) quiet in
     subst (λ (ws : List (List ℕ)). GivesNone (meaning_of_words ws)) (sym i.splits) named

@@ -8,11 +8,11 @@ use Rattle.proto.specs.Key.{is_key, is_key_byte}
 use Rattle.std.specs.List.{list_all}
 use Rattle.proto.specs.declared.key.TheConstants.{MOST_KEYS, MOST_KEY_BYTES}
 use Rattle.proto.specs.declared.line.TheConstants as profile
-use Rattle.dialect.specs.Reading.{head, key_text, read_text, fits, pieces, has_room, IsPiece, asked}
+use Rattle.dialect.specs.Reading.{head, key_text, read_text, fits, piece_turns, has_room, IsPiece, read_command}
 use Rattle.dialect.specs.declared.turn.Show.TheVariants as show
 use Rattle.dialect.specs.declared.turn.Turn.{Turn}
 use Rattle.dialect.specs.declared.turn.Turn.TheVariants.{Ask}
-use Rattle.dialect.specs.declared.line.Reading.{Reading}
+use Rattle.dialect.specs.declared.line.ReadVerb.{ReadVerb}
 use Rattle.dialect.proofs.RunLemmas.{chosen, taken, lt_yes, lt_no, le_yes, le_no}
 
 pub and_parts : (x y : Bool) → (x && y) ≡ true → (x ≡ true) × (y ≡ true)
@@ -23,27 +23,27 @@ and_last : (x y : Bool) → y ≡ false → (x && y) ≡ false
 and_last true y e = e
 and_last false y e = refl
 
-pub text_one : (r : Reading) (k : List ℕ) → length (read_text r (k ∷ [])) ≡ length (head r) + length k + 3
+pub text_one : (r : ReadVerb) (k : List ℕ) → length (read_text r (k ∷ [])) ≡ length (head r) + length k + 3
 unfolding read_text
 text_one r k = simp length-append (omega arith)
 
-pub text_more : (r : Reading) (ks : List (List ℕ)) (k : List ℕ) → length (read_text r (ks ++ k ∷ [])) ≡ length (read_text r ks) + length k + 1
+pub text_more : (r : ReadVerb) (ks : List (List ℕ)) (k : List ℕ) → length (read_text r (ks ++ k ∷ [])) ≡ length (read_text r ks) + length k + 1
 unfolding read_text
 text_more r ks k = simp (flat_map-append, length-append) (omega arith)
 
-pub fits_yes : (r : Reading) (ks : List (List ℕ)) → length ks ≤ MOST_KEYS → length (read_text r ks) ≤ profile.MOST_LINE_BYTES → fits r ks ≡ true
+pub fits_yes : (r : ReadVerb) (ks : List (List ℕ)) → length ks ≤ MOST_KEYS → length (read_text r ks) ≤ profile.MOST_LINE_BYTES → fits r ks ≡ true
 unfolding fits
 fits_yes r ks l m = grind (arith, nat_tests)
 
-pub fits_many : (r : Reading) (ks : List (List ℕ)) → MOST_KEYS < length ks → fits r ks ≡ false
+pub fits_many : (r : ReadVerb) (ks : List (List ℕ)) → MOST_KEYS < length ks → fits r ks ≡ false
 unfolding fits
 fits_many r ks l = grind (arith, nat_tests)
 
-pub fits_long : (r : Reading) (ks : List (List ℕ)) → profile.MOST_LINE_BYTES < length (read_text r ks) → fits r ks ≡ false
+pub fits_long : (r : ReadVerb) (ks : List (List ℕ)) → profile.MOST_LINE_BYTES < length (read_text r ks) → fits r ks ≡ false
 unfolding fits
 fits_long r ks l = and_last (nat_le (length ks) MOST_KEYS) (nat_le (length (read_text r ks)) profile.MOST_LINE_BYTES) (grind (arith, nat_tests))
 
-module _ (r : Reading) (ks : List (List ℕ)) (bytes : ℕ) (p : IsPiece r ks bytes) (k : List ℕ) where
+module _ (r : ReadVerb) (ks : List (List ℕ)) (bytes : ℕ) (p : IsPiece r ks bytes) (k : List ℕ) where
   longer : length (ks ++ k ∷ []) ≡ length ks + 1
   longer = length-append ks (k ∷ [])
 
@@ -78,11 +78,11 @@ module _ (r : Reading) (ks : List (List ℕ)) (bytes : ℕ) (p : IsPiece r ks by
           fits_many r (ks ++ k ∷ []) (omega (arith, longer, many))
 
   -- the key goes on the piece
-  pub goes_on : (more : List (List ℕ)) → has_room (length ks) (bytes + length k + 1) ≡ true → pieces r ks (k ∷ more) ≡ pieces r (ks ++ k ∷ []) more
+  pub goes_on : (more : List (List ℕ)) → has_room (length ks) (bytes + length k + 1) ≡ true → piece_turns r ks (k ∷ more) ≡ piece_turns r (ks ++ k ∷ []) more
   goes_on more e = taken (fits r (ks ++ k ∷ [])) _ _ (fits_as ∙ e)
 
   -- the key begins the next piece
-  pub begins : (more : List (List ℕ)) → has_room (length ks) (bytes + length k + 1) ≡ false → pieces r ks (k ∷ more) ≡ Ask (asked r ks) show.Items ∷ pieces r (k ∷ []) more
+  pub begins : (more : List (List ℕ)) → has_room (length ks) (bytes + length k + 1) ≡ false → piece_turns r ks (k ∷ more) ≡ Ask (read_command r ks) show.Items ∷ piece_turns r (k ∷ []) more
   begins more e = chosen (fits r (ks ++ k ∷ [])) _ _ (fits_as ∙ e)
 
 -- a key has at most 250 bytes
@@ -92,7 +92,7 @@ key_short k e =
     le_yes (length k) MOST_KEY_BYTES (and_parts (nat_le 1 (length k)) (nat_le (length k) MOST_KEY_BYTES) front).1
 
 -- a piece of one key
-pub one_piece : (r : Reading) (k : List ℕ) (n : ℕ) → n ≡ length (head r) → n ≤ 45 → is_key k ≡ true → IsPiece r (k ∷ []) (n + length k + 3)
+pub one_piece : (r : ReadVerb) (k : List ℕ) (n : ℕ) → n ≡ length (head r) → n ≤ 45 → is_key k ≡ true → IsPiece r (k ∷ []) (n + length k + 3)
 one_piece r k n e l key =
     let small : length k ≤ 250 = key_short k key in
     record {
@@ -102,10 +102,10 @@ one_piece r k n e l key =
       short = omega (arith, small, l);
     }
 
-pub fits_few : (r : Reading) (ks : List (List ℕ)) → fits r ks ≡ true → length ks ≤ MOST_KEYS
+pub fits_few : (r : ReadVerb) (ks : List (List ℕ)) → fits r ks ≡ true → length ks ≤ MOST_KEYS
 unfolding fits
 fits_few r ks e = le_yes (length ks) MOST_KEYS (and_parts (nat_le (length ks) MOST_KEYS) (nat_le (length (read_text r ks)) profile.MOST_LINE_BYTES) e).0
 
-pub fits_short : (r : Reading) (ks : List (List ℕ)) → fits r ks ≡ true → length (read_text r ks) ≤ profile.MOST_LINE_BYTES
+pub fits_short : (r : ReadVerb) (ks : List (List ℕ)) → fits r ks ≡ true → length (read_text r ks) ≤ profile.MOST_LINE_BYTES
 unfolding fits
 fits_short r ks e = le_yes (length (read_text r ks)) profile.MOST_LINE_BYTES (and_parts (nat_le (length ks) MOST_KEYS) (nat_le (length (read_text r ks)) profile.MOST_LINE_BYTES) e).1

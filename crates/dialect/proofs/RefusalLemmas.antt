@@ -11,11 +11,11 @@ use Rattle.proto.specs.declared.command.Command.TheVariants as command
 use Rattle.proto.specs.declared.command.Update.TheVariants as update
 use Rattle.proto.specs.declared.line.Header.{Header}
 use Rattle.proto.specs.declared.line.Kind.TheVariants as kind
-use Rattle.dialect.specs.Number.{unsigned_of, exptime_of, size_of}
+use Rattle.dialect.specs.Number.{unsigned_of, exptime_of, block_size_of}
 use Rattle.dialect.specs.Name.{name_of}
-use Rattle.dialect.specs.Reading.{pieces, read_turns, keys_in, fits, asked}
-use Rattle.dialect.specs.Line.{is_quiet, is_end, is_delete_end, is_http_version, said, removes, too_large, sized, storage, header_of, cas_kind, store_line, cas_line, delete_line, touch_line, delta_line, verbosity_line, timed_line, line_of}
-use Rattle.dialect.specs.Meaning.{meaning, meaning_of_words, given, unknown, without_return}
+use Rattle.dialect.specs.Reading.{piece_turns, read_turns, keys_in, fits, read_command}
+use Rattle.dialect.specs.Line.{says_noreply, is_end, is_delete_end, is_http_version, said, removes, too_large, sized, storage, header_of, cas_kind, store_line, cas_line, delete_line, touch_line, delta_line, verbosity_line, timed_line, line_of}
+use Rattle.dialect.specs.Meaning.{meaning, meaning_of_words, meaning_of_line, unknown, without_return}
 use Rattle.dialect.specs.Laws.{commands, speaks, OnlyRemoves, UnreadOnlyRemoves}
 use Rattle.dialect.specs.declared.turn.Notice.{Notice}
 use Rattle.dialect.specs.declared.turn.Notice.TheVariants as notice
@@ -24,7 +24,7 @@ use Rattle.dialect.specs.declared.turn.Turn.{Turn}
 use Rattle.dialect.specs.declared.turn.Turn.TheVariants.{Ask, Say, Close}
 use Rattle.dialect.specs.declared.line.Name.{Name}
 use Rattle.dialect.specs.declared.line.Name.TheVariants as name
-use Rattle.dialect.specs.declared.line.Reading.{Reading}
+use Rattle.dialect.specs.declared.line.ReadVerb.{ReadVerb}
 use Rattle.dialect.specs.declared.line.Line.{Line}
 use Rattle.dialect.specs.declared.line.Line.TheVariants.{Gives, Closes, Reads, Opens, Skips}
 
@@ -32,24 +32,24 @@ use Rattle.dialect.specs.declared.line.Line.TheVariants.{Gives, Closes, Reads, O
 abbrev IsEither : List Turn → Type 0
 IsEither turns = (speaks turns ≡ false) ⊎ (commands turns ≡ [])
 
-ask_either : (r : Reading) (ks : List (List ℕ)) (k : List ℕ) (more : List (List ℕ)) (b : Bool) → speaks (pieces r (ks ++ k ∷ []) more) ≡ false → speaks (pieces r (k ∷ []) more) ≡ false
-    → speaks (if b then pieces r (ks ++ k ∷ []) more else Ask (asked r ks) show.Items ∷ pieces r (k ∷ []) more) ≡ false
+ask_either : (r : ReadVerb) (ks : List (List ℕ)) (k : List ℕ) (more : List (List ℕ)) (b : Bool) → speaks (piece_turns r (ks ++ k ∷ []) more) ≡ false → speaks (piece_turns r (k ∷ []) more) ≡ false
+    → speaks (if b then piece_turns r (ks ++ k ∷ []) more else Ask (read_command r ks) show.Items ∷ piece_turns r (k ∷ []) more) ≡ false
 ask_either r ks k more true p q = p
 ask_either r ks k more false p q = q
 
-pieces_ask : (r : Reading) (ks more : List (List ℕ)) → speaks (pieces r ks more) ≡ false
+pieces_ask : (r : ReadVerb) (ks more : List (List ℕ)) → speaks (piece_turns r ks more) ≡ false
 pieces_ask r ks [] = refl
 pieces_ask r ks (k ∷ more) = ask_either r ks k more (fits r (ks ++ k ∷ [])) (pieces_ask r (ks ++ k ∷ []) more) (pieces_ask r (k ∷ []) more)
 
-reads_either : (r : Reading) (ks : List (List ℕ)) → IsEither (read_turns r ks)
+reads_either : (r : ReadVerb) (ks : List (List ℕ)) → IsEither (read_turns r ks)
 reads_either r [] = inr refl
 reads_either r (k ∷ ks) = by (list_all is_key (k ∷ ks))
   where
-    by : (b : Bool) → IsEither (if b then pieces r (k ∷ []) ks else Say notice.BadFormat ∷ [])
+    by : (b : Bool) → IsEither (if b then piece_turns r (k ∷ []) ks else Say notice.BadFormat ∷ [])
     by true = inl (pieces_ask r (k ∷ []) ks)
     by false = inr refl
 
-given_either : (l : Line) (ws : List (List ℕ)) → IsEither (given l ws).turns
+given_either : (l : Line) (ws : List (List ℕ)) → IsEither (meaning_of_line l ws).turns
 given_either (Gives None) ws = inl refl
 given_either (Gives (Some (Ask c s))) ws = inl refl
 given_either (Gives (Some (Say n))) ws = inr refl
@@ -63,9 +63,9 @@ words_either : (ws : List (List ℕ)) → IsEither (meaning_of_words ws).turns
 words_either [] = inr refl
 words_either (w ∷ ws) = by (name_of w)
   where
-    by : (n : Option Name) → IsEither (option_map_or (λ (m : Name). given (line_of m (is_quiet ws) ws) ws) n unknown).turns
+    by : (n : Option Name) → IsEither (option_map_or (λ (m : Name). meaning_of_line (line_of m (says_noreply ws) ws) ws) n unknown).turns
     by None = inr refl
-    by (Some n) = given_either (line_of n (is_quiet ws) ws) ws
+    by (Some n) = given_either (line_of n (says_noreply ws) ws) ws
 
 pub refused_asks_nothing : (line : List ℕ) → speaks (meaning line).turns ≡ true → commands (meaning line).turns ≡ []
 unfolding meaning
@@ -116,7 +116,7 @@ store_removes v quiet [] = tt
 store_removes v quiet (k ∷ []) = tt
 store_removes v quiet (k ∷ f ∷ []) = tt
 store_removes v quiet (k ∷ f ∷ e ∷ []) = tt
-store_removes v quiet (k ∷ f ∷ e ∷ n ∷ last) = if_removal (is_end last) _ _ (storage_removes quiet (size_of n) (header_of quiet (Some (kind.Plain v)) k f e)) tt
+store_removes v quiet (k ∷ f ∷ e ∷ n ∷ last) = if_removal (is_end last) _ _ (storage_removes quiet (block_size_of n) (header_of quiet (Some (kind.Plain v)) k f e)) tt
 
 cas_removes : (quiet : Bool) (ws : List (List ℕ)) → IsRemoval (cas_line quiet ws)
 cas_removes quiet [] = tt
@@ -124,7 +124,7 @@ cas_removes quiet (k ∷ []) = tt
 cas_removes quiet (k ∷ f ∷ []) = tt
 cas_removes quiet (k ∷ f ∷ e ∷ []) = tt
 cas_removes quiet (k ∷ f ∷ e ∷ n ∷ []) = tt
-cas_removes quiet (k ∷ f ∷ e ∷ n ∷ u ∷ last) = if_removal (is_end last) _ _ (storage_removes quiet (size_of n) (header_of quiet (cas_kind u) k f e)) tt
+cas_removes quiet (k ∷ f ∷ e ∷ n ∷ u ∷ last) = if_removal (is_end last) _ _ (storage_removes quiet (block_size_of n) (header_of quiet (cas_kind u) k f e)) tt
 
 delete_removes : (quiet : Bool) (ws : List (List ℕ)) → IsRemoval (delete_line quiet ws)
 delete_removes quiet [] = tt
@@ -167,7 +167,7 @@ line_removes name.Shutdown quiet ws = tt
 line_removes name.MetaNoop quiet ws = tt
 line_removes name.Http quiet ws = if_removal (list_any is_http_version ws) _ _ tt tt
 
-given_removes : (l : Line) (ws : List (List ℕ)) → IsRemoval l → UnreadOnlyRemoves (given l ws).part
+given_removes : (l : Line) (ws : List (List ℕ)) → IsRemoval l → UnreadOnlyRemoves (meaning_of_line l ws).part
 given_removes (Gives turn) ws p = tt
 given_removes (Closes n) ws p = tt
 given_removes (Reads r) ws p = tt
@@ -178,9 +178,9 @@ words_remove : (ws : List (List ℕ)) → UnreadOnlyRemoves (meaning_of_words ws
 words_remove [] = tt
 words_remove (w ∷ ws) = by (name_of w)
   where
-    by : (n : Option Name) → UnreadOnlyRemoves (option_map_or (λ (m : Name). given (line_of m (is_quiet ws) ws) ws) n unknown).part
+    by : (n : Option Name) → UnreadOnlyRemoves (option_map_or (λ (m : Name). meaning_of_line (line_of m (says_noreply ws) ws) ws) n unknown).part
     by None = tt
-    by (Some n) = given_removes (line_of n (is_quiet ws) ws) ws (line_removes n (is_quiet ws) ws)
+    by (Some n) = given_removes (line_of n (says_noreply ws) ws) ws (line_removes n (says_noreply ws) ws)
 
 pub unread_only_removes : (line : List ℕ) → UnreadOnlyRemoves (meaning line).part
 unfolding meaning

@@ -5,10 +5,11 @@ use Rattle.std.specs.Option.{option_to_list}
 use Rattle.std.proofs.lemmas.List.{append_assoc, append-nil, length-append}
 use Rattle.std.proofs.lemmas.Bool.{or_parts}
 use Rattle.std.proofs.lemmas.Bool.Decides.{nat_tests}
+use Rattle.proto.specs.Grammar.{is_newline}
 use Rattle.proto.specs.declared.line.Header.{Header}
 use Rattle.dialect.specs.Meaning.{meaning, block_turn}
-use Rattle.dialect.specs.State.{State, Step, state_at, to, start, is_newline, is_binary, line_step, block_step, unread_step, step, and_then, run, Runs}
-use Rattle.dialect.specs.Grammar.{HasNoNewline}
+use Rattle.dialect.specs.State.{State, ReaderStep, state_at, to, start, is_binary, line_step, block_step, unread_step, step, and_then, run, Runs}
+use Rattle.proto.specs.Stage.{HasNoNewline}
 use Rattle.dialect.specs.Stage.{starts_binary}
 use Rattle.dialect.specs.declared.line.TheConstants.{MOST_LINE_BYTES}
 use Rattle.dialect.specs.declared.turn.Notice.TheVariants as notice
@@ -47,9 +48,9 @@ pub run-append : (s : State) (a b : List ℕ) → run s (a ++ b) ≡ and_then (r
 unfolding run
 run-append s [] b = refl
 run-append s (x ∷ a) b =
-    let first : Step = step s x in
-    let front : Step = run first.state a in
-    let back : Step = run front.state b in
+    let first : ReaderStep = step s x in
+    let front : ReaderStep = run first.state a in
+    let back : ReaderStep = run front.state b in
     ap (and_then first.turns) (run-append first.state a b) ∙ ap (λ (ts : List Turn). to ts back.state) (sym (append_assoc first.turns front.turns back.turns))
 
 pub run_none : (s : State) → run s [] ≡ to [] s
@@ -62,9 +63,9 @@ run_closed [] = refl
 run_closed (x ∷ xs) = run_closed xs
 
 -- one byte, and then more
-pub run_first : (s : State) (x : ℕ) (xs : List ℕ) (f : Step) → step s x ≡ f → run s (x ∷ xs) ≡ and_then f.turns (run f.state xs)
+pub run_first : (s : State) (x : ℕ) (xs : List ℕ) (f : ReaderStep) → step s x ≡ f → run s (x ∷ xs) ≡ and_then f.turns (run f.state xs)
 unfolding run
-run_first s x xs f e = ap (λ (g : Step). and_then g.turns (run g.state xs)) e
+run_first s x xs f e = ap (λ (g : ReaderStep). and_then g.turns (run g.state xs)) e
 
 -- A line.
 
@@ -116,9 +117,9 @@ pub run_end : (text xs : List ℕ) → starts_binary text xs ≡ false → HasNo
     → run (state_at part.Line text) (xs ++ 10 ∷ []) ≡ to (meaning (text ++ xs)).turns (state_at (meaning (text ++ xs)).part [])
 run_end text xs q h l =
     run-append (state_at part.Line text) xs (10 ∷ [])
-    ∙ ap (λ (s : Step). and_then s.turns (run s.state (10 ∷ []))) (run_line text xs q h l)
+    ∙ ap (λ (s : ReaderStep). and_then s.turns (run s.state (10 ∷ []))) (run_line text xs q h l)
     ∙ run_first (state_at part.Line (text ++ xs)) 10 [] _ (line_ends (text ++ xs))
-    ∙ ap (λ (s : Step). and_then (meaning (text ++ xs)).turns s) (run_none (state_at (meaning (text ++ xs)).part []))
+    ∙ ap (λ (s : ReaderStep). and_then (meaning (text ++ xs)).turns s) (run_none (state_at (meaning (text ++ xs)).part []))
     ∙ ap (λ (ts : List Turn). to ts (state_at (meaning (text ++ xs)).part [])) (append-nil (meaning (text ++ xs)).turns)
 
 -- a line that is too long
@@ -128,7 +129,7 @@ run_long text [] q h some l = absurd (omega arith)
 run_long text (x ∷ []) q h some l =
     let parts = or_parts _ _ h in
     run_first (state_at part.Line text) x [] _ (line_too_long text x q parts.0 (omega arith))
-    ∙ ap (λ (s : Step). and_then (Close notice.LineTooLong ∷ []) s) (run_none (state_at part.Closed []))
+    ∙ ap (λ (s : ReaderStep). and_then (Close notice.LineTooLong ∷ []) s) (run_none (state_at part.Closed []))
 run_long text (x ∷ y ∷ xs) q h some l =
     let parts = or_parts _ _ h in
     run_first (state_at part.Line text) x (y ∷ xs) (to [] (state_at part.Line (text ++ x ∷ []))) (line_goes text x q parts.0 (omega arith))
@@ -136,7 +137,7 @@ run_long text (x ∷ y ∷ xs) q h some l =
 
 -- the first byte of the binary protocol
 pub run_binary : (xs : List ℕ) → run start (128 ∷ xs) ≡ to (Close notice.Binary ∷ []) (state_at part.Closed [])
-run_binary xs = run_first start 128 xs _ line_binary ∙ ap (λ (s : Step). and_then (Close notice.Binary ∷ []) s) (run_closed xs)
+run_binary xs = run_first start 128 xs _ line_binary ∙ ap (λ (s : ReaderStep). and_then (Close notice.Binary ∷ []) s) (run_closed xs)
 
 -- A block.
 
@@ -162,7 +163,7 @@ pub run_whole_block : (h : Header) (block xs : List ℕ) → 0 < length xs → l
 run_whole_block h block [] some l = absurd (omega arith)
 run_whole_block h block (x ∷ []) some l =
     run_first (state_at (part.Block h) block) x [] _ (block_ends h block x (omega arith))
-    ∙ ap (λ (s : Step). and_then (option_to_list (block_turn h (block ++ x ∷ []))) s) (run_none start)
+    ∙ ap (λ (s : ReaderStep). and_then (option_to_list (block_turn h (block ++ x ∷ []))) s) (run_none start)
     ∙ ap (λ (ts : List Turn). to ts start) (append-nil (option_to_list (block_turn h (block ++ x ∷ []))))
 run_whole_block h block (x ∷ y ∷ xs) some l =
     run_first (state_at (part.Block h) block) x (y ∷ xs) (to [] (state_at (part.Block h) (block ++ x ∷ []))) (block_goes h block x (omega arith))
@@ -199,7 +200,7 @@ run_all_unread left turn [] some l = absurd (omega arith)
 run_all_unread left turn (x ∷ []) some l =
     ap (λ (n : ℕ). run (state_at (part.Unread n turn) []) (x ∷ [])) (sym l)
     ∙ run_first (state_at (part.Unread 1 turn) []) x [] _ (unread_ends turn x)
-    ∙ ap (λ (s : Step). and_then (option_to_list turn) s) (run_none start)
+    ∙ ap (λ (s : ReaderStep). and_then (option_to_list turn) s) (run_none start)
     ∙ ap (λ (ts : List Turn). to ts start) (append-nil (option_to_list turn))
 run_all_unread left turn (x ∷ y ∷ xs) some l =
     run_first (state_at (part.Unread left turn) []) x (y ∷ xs) (to [] (state_at (part.Unread (left - 1) turn) [])) (unread_goes left turn x (omega arith))
@@ -208,10 +209,10 @@ run_all_unread left turn (x ∷ y ∷ xs) some l =
 -- Steps of code.
 
 -- a reader's step, by what it comes to
-pub runs_by : (old : State) (bytes : List ℕ) (before after : List Turn) (new : State) (s : Step) → run old bytes ≡ s → after ≡ before ++ s.turns → new ≡ s.state → Runs old bytes before after new
+pub runs_by : (old : State) (bytes : List ℕ) (before after : List Turn) (new : State) (s : ReaderStep) → run old bytes ≡ s → after ≡ before ++ s.turns → new ≡ s.state → Runs old bytes before after new
 runs_by old bytes before after new s e t n = record {
-  turns = t ∙ ap (λ (r : Step). before ++ r.turns) (sym e);
-  state = n ∙ ap (λ (r : Step). r.state) (sym e);
+  turns = t ∙ ap (λ (r : ReaderStep). before ++ r.turns) (sym e);
+  state = n ∙ ap (λ (r : ReaderStep). r.state) (sym e);
 }
 
 -- two steps one after the other
@@ -219,5 +220,5 @@ pub runs_on : (old mid new : State) (a b : List ℕ) (before between after : Lis
 runs_on old mid new a b before between after r s =
     let same : run mid b ≡ run (run old a).state b = ap (λ (m : State). run m b) r.state in
     runs_by old (a ++ b) before after new (and_then (run old a).turns (run (run old a).state b)) (run-append old a b)
-    (s.turns ∙ ap (λ (ts : List Turn). ts ++ (run mid b).turns) r.turns ∙ append_assoc before (run old a).turns (run mid b).turns ∙ ap (λ (t : Step). before ++ ((run old a).turns ++ t.turns)) same)
-    (s.state ∙ ap (λ (t : Step). t.state) same)
+    (s.turns ∙ ap (λ (ts : List Turn). ts ++ (run mid b).turns) r.turns ∙ append_assoc before (run old a).turns (run mid b).turns ∙ ap (λ (t : ReaderStep). before ++ ((run old a).turns ++ t.turns)) same)
+    (s.state ∙ ap (λ (t : ReaderStep). t.state) same)

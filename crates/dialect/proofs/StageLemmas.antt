@@ -6,9 +6,9 @@ use Rattle.std.proofs.lemmas.Bool.Decides.{nat_tests}
 use Rattle.proto.specs.declared.line.Header.{Header}
 use Rattle.proto.specs.declared.block.TheConstants.{MOST_BLOCK_BYTES}
 use Rattle.dialect.specs.Meaning.{meaning, block_turn}
-use Rattle.dialect.specs.State.{State, Step, state_at, to, start, is_binary, run, Runs, IsState}
-use Rattle.dialect.specs.Grammar.{HasNoNewline}
-use Rattle.dialect.specs.Stage.{starts_binary, GoesOn, IsReading}
+use Rattle.dialect.specs.State.{State, ReaderStep, state_at, to, start, is_binary, run, Runs, IsReaderState}
+use Rattle.proto.specs.Stage.{HasNoNewline}
+use Rattle.dialect.specs.Stage.{starts_binary, EndsNothing, IsPartRead}
 use Rattle.dialect.specs.declared.line.TheConstants.{MOST_LINE_BYTES}
 use Rattle.dialect.specs.declared.turn.Notice.TheVariants as notice
 use Rattle.dialect.specs.declared.turn.Turn.{Turn}
@@ -22,13 +22,13 @@ take_whole xs = take_all (length xs) xs (omega arith)
 
 -- A piece that ends nothing.
 
-pub line_goes_on : (held piece : List ℕ) → GoesOn part.Line held piece → run (state_at part.Line held) piece ≡ to [] (state_at part.Line (held ++ piece))
+pub line_goes_on : (held piece : List ℕ) → EndsNothing part.Line held piece → run (state_at part.Line held) piece ≡ to [] (state_at part.Line (held ++ piece))
 line_goes_on held piece g = run_line held piece g.0 g.1 g.2
 
-pub block_goes_on : (h : Header) (held piece : List ℕ) → GoesOn (part.Block h) held piece → run (state_at (part.Block h) held) piece ≡ to [] (state_at (part.Block h) (held ++ piece))
+pub block_goes_on : (h : Header) (held piece : List ℕ) → EndsNothing (part.Block h) held piece → run (state_at (part.Block h) held) piece ≡ to [] (state_at (part.Block h) (held ++ piece))
 block_goes_on h held piece g = run_block h held piece g
 
-pub unread_goes_on : (left : ℕ) (turn : Option Turn) (held piece : List ℕ) → held ≡ [] → GoesOn (part.Unread left turn) held piece
+pub unread_goes_on : (left : ℕ) (turn : Option Turn) (held piece : List ℕ) → held ≡ [] → EndsNothing (part.Unread left turn) held piece
     → run (state_at (part.Unread left turn) held) piece ≡ to [] (state_at (part.Unread (left - length piece) turn) held)
 unread_goes_on left turn held piece e g =
     ap (λ (ys : List ℕ). run (state_at (part.Unread left turn) ys) piece) e ∙ run_unread left turn piece g ∙ ap (λ (ys : List ℕ). to [] (state_at (part.Unread (left - length piece) turn) ys)) (sym e)
@@ -105,11 +105,11 @@ module _ (held piece : List ℕ) (before after : List Turn) where
 
 -- Pieces.
 
-pub reading_begins : (old : State) (piece : List ℕ) (turns : List Turn) → IsState old → turns ≡ [] → IsReading old piece turns old piece
+pub reading_begins : (old : State) (piece : List ℕ) (turns : List Turn) → IsReaderState old → turns ≡ [] → IsPartRead old piece turns old piece
 reading_begins old piece turns i e = record { front = []; split = refl; runs = runs_by old [] [] turns old (to [] old) (run_none old) e refl; state = i }
 
-pub reading_goes : (old now new : State) (piece left : List ℕ) (before after : List Turn) (n : ℕ) → IsReading old piece before now left → Runs now (take n left) before after new → IsState new
-    → IsReading old piece after new (drop n left)
+pub reading_goes : (old now new : State) (piece left : List ℕ) (before after : List Turn) (n : ℕ) → IsPartRead old piece before now left → Runs now (take n left) before after new → IsReaderState new
+    → IsPartRead old piece after new (drop n left)
 reading_goes old now new piece left before after n r s i = record {
   front = r.front ++ take n left;
   split = r.split ∙ ap (λ (ys : List ℕ). r.front ++ ys) (sym (take-append-drop n left)) ∙ sym (append_assoc r.front (take n left) (drop n left));
@@ -117,6 +117,6 @@ reading_goes old now new piece left before after n r s i = record {
   state = i;
 }
 
-pub reading_ends : (old new : State) (piece left : List ℕ) (turns : List Turn) → IsReading old piece turns new left → left ≡ [] → Runs old piece [] turns new
+pub reading_ends : (old new : State) (piece left : List ℕ) (turns : List Turn) → IsPartRead old piece turns new left → left ≡ [] → Runs old piece [] turns new
 reading_ends old new piece left turns r e =
     subst (λ (ys : List ℕ). Runs old ys [] turns new) (sym (r.split ∙ ap (λ (ys : List ℕ). r.front ++ ys) e ∙ append-nil r.front)) r.runs

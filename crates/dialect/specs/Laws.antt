@@ -11,13 +11,13 @@ use Rattle.proto.specs.declared.command.Update.TheVariants as update
 use Rattle.proto.specs.declared.reply.Found.{Found}
 use Rattle.proto.specs.declared.reply.Reply.TheVariants as reply
 use Rattle.dialect.specs.Name.{name_of}
-use Rattle.dialect.specs.Line.{is_quiet}
+use Rattle.dialect.specs.Line.{says_noreply}
 use Rattle.dialect.specs.Meaning.{meaning, block_turn, without_return}
-use Rattle.dialect.specs.Reading.{asked, read_text}
+use Rattle.dialect.specs.Reading.{read_command, read_text}
 use Rattle.dialect.specs.Text.{notice_text, shown_text}
 use Rattle.dialect.specs.declared.line.Name.{Name}
 use Rattle.dialect.specs.declared.line.Name.TheVariants as name
-use Rattle.dialect.specs.declared.line.Reading.{Reading}
+use Rattle.dialect.specs.declared.line.ReadVerb.{ReadVerb}
 use Rattle.dialect.specs.declared.part.Part.{Part}
 use Rattle.dialect.specs.declared.part.Part.TheVariants as part
 use Rattle.dialect.specs.declared.turn.Show.{Show}
@@ -55,24 +55,24 @@ pub record IsNoreply (line : List ℕ) : Type 0 where
   pub splits : words (without_return line) ≡ first ∷ others
   pub named : name_of first ≡ Some called
   pub takes : takes_noreply called ≡ true
-  pub last : is_quiet others ≡ true
+  pub last : says_noreply others ≡ true
 
 -- no byte is given, whatever the reply is
-abbrev pub GivesNothing : Turn → Type 0
-GivesNothing (Ask c s) = s ≡ show.Quiet
-GivesNothing (Say n) = ⊥
-GivesNothing (Close n) = notice_text n ≡ []
+abbrev pub ShowsNothing : Turn → Type 0
+ShowsNothing (Ask c s) = s ≡ show.Quiet
+ShowsNothing (Say n) = ⊥
+ShowsNothing (Close n) = notice_text n ≡ []
 
-abbrev pub AllGiveNothing : List Turn → Type 0
-AllGiveNothing [] = Unit {0}
-AllGiveNothing (turn ∷ turns) = GivesNothing turn × AllGiveNothing turns
+abbrev pub AllShowNothing : List Turn → Type 0
+AllShowNothing [] = Unit {0}
+AllShowNothing (turn ∷ turns) = ShowsNothing turn × AllShowNothing turns
 
 -- nor at the end of what belongs to a line, whatever its bytes are
-abbrev pub PartGivesNothing : Part → Type 0
-PartGivesNothing part.Line = Unit {0}
-PartGivesNothing (part.Block h) = (block : List ℕ) → IfSome (block_turn h block) GivesNothing
-PartGivesNothing (part.Unread n turn) = IfSome turn GivesNothing
-PartGivesNothing part.Closed = Unit {0}
+abbrev pub PartShowsNothing : Part → Type 0
+PartShowsNothing part.Line = Unit {0}
+PartShowsNothing (part.Block h) = (block : List ℕ) → IfSome (block_turn h block) ShowsNothing
+PartShowsNothing (part.Unread n turn) = IfSome turn ShowsNothing
+PartShowsNothing part.Closed = Unit {0}
 
 -- What is refused.
 
@@ -120,16 +120,16 @@ all_keys (Say n ∷ turns) = all_keys turns
 all_keys (Close n ∷ turns) = all_keys turns
 
 -- a command of the profile over 1 to MOST_KEYS keys, whose line has at most the profile's bytes
-pub record IsPieceTurn (r : Reading) (turn : Turn) : Type 0 where
+pub record IsPieceTurn (r : ReadVerb) (turn : Turn) : Type 0 where
   pub keys : List (List ℕ)
   pub shows : Show
-  pub is : turn ≡ Ask (asked r keys) shows
+  pub is : turn ≡ Ask (read_command r keys) shows
   pub valid : list_all is_key keys ≡ true
   pub some : 1 ≤ length keys
   pub few : length keys ≤ MOST_KEYS
   pub short : length (read_text r keys) ≤ profile.MOST_LINE_BYTES
 
-abbrev pub ArePieces : Reading → List Turn → Type 0
+abbrev pub ArePieces : ReadVerb → List Turn → Type 0
 ArePieces r [] = Unit {0}
 ArePieces r (turn ∷ turns) = IsPieceTurn r turn × ArePieces r turns
 

@@ -5,7 +5,7 @@ use Rattle.proto.specs.Line.{words, ends_in_return}
 use Rattle.proto.specs.Grammar.{filled}
 use Rattle.proto.specs.declared.line.Header.{Header}
 use Rattle.dialect.specs.Name.{name_of}
-use Rattle.dialect.specs.Line.{is_quiet, line_of, said, shown}
+use Rattle.dialect.specs.Line.{says_noreply, line_of, said, shown}
 use Rattle.dialect.specs.Reading.{read_turns, keys_in}
 use Rattle.dialect.specs.declared.turn.Notice.TheVariants as notice
 use Rattle.dialect.specs.declared.turn.Turn.{Turn}
@@ -20,12 +20,12 @@ pub record Meaning : Type 0 where
   pub turns : List Turn
   pub part : Part
 
-abbrev pub given : Line → List (List ℕ) → Meaning
-given (Gives turn) ws = record { turns = option_to_list turn; part = part.Line }
-given (Closes notice) ws = record { turns = Close notice ∷ []; part = part.Closed }
-given (Reads r) ws = record { turns = read_turns r (keys_in r ws); part = part.Line }
-given (Opens h) ws = record { turns = []; part = part.Block h }
-given (Skips n turn) ws = record { turns = []; part = part.Unread n turn }
+abbrev pub meaning_of_line : Line → List (List ℕ) → Meaning
+meaning_of_line (Gives turn) ws = record { turns = option_to_list turn; part = part.Line }
+meaning_of_line (Closes notice) ws = record { turns = Close notice ∷ []; part = part.Closed }
+meaning_of_line (Reads r) ws = record { turns = read_turns r (keys_in r ws); part = part.Line }
+meaning_of_line (Opens h) ws = record { turns = []; part = part.Block h }
+meaning_of_line (Skips n turn) ws = record { turns = []; part = part.Unread n turn }
 
 abbrev pub unknown : Meaning
 unknown = record { turns = Say notice.UnknownName ∷ []; part = part.Line }
@@ -33,7 +33,7 @@ unknown = record { turns = Say notice.UnknownName ∷ []; part = part.Line }
 -- the words of a line
 abbrev pub meaning_of_words : List (List ℕ) → Meaning
 meaning_of_words [] = unknown
-meaning_of_words (w ∷ ws) = option_map_or (λ name. given (line_of name (is_quiet ws) ws) ws) (name_of w) unknown
+meaning_of_words (w ∷ ws) = option_map_or (λ name. meaning_of_line (line_of name (says_noreply ws) ws) ws) (name_of w) unknown
 
 -- a byte 13 at the end is no part of the line
 abbrev pub without_return : List ℕ → List ℕ

@@ -1,20 +1,9 @@
 -- The names of commands.
 use Rattle.std.specs.Prelude.{ℕ, List, ◌||◌, if◌then◌else◌, Option, Some, None, codes, bytes_eq}
 use Rattle.std.specs.Option.{option_map_or, option_or}
-use Rattle.proto.specs.declared.command.StoreVerb.{StoreVerb}
-use Rattle.proto.specs.declared.command.StoreVerb.TheVariants.{Set, Add, Replace, Append, Prepend}
+use Rattle.proto.specs.Line.{verb_of}
 use Rattle.dialect.specs.declared.line.Name.{Name}
 use Rattle.dialect.specs.declared.line.Name.TheVariants as name
-
--- the name of a storage command other than cas
-abbrev pub verb_of : List ℕ → Option StoreVerb
-verb_of w =
-    if bytes_eq w (codes "set") then Some Set
-    else if bytes_eq w (codes "add") then Some Add
-    else if bytes_eq w (codes "replace") then Some Replace
-    else if bytes_eq w (codes "append") then Some Append
-    else if bytes_eq w (codes "prepend") then Some Prepend
-    else None
 
 -- the name of a command with keys, and no block
 abbrev pub key_name_of : List ℕ → Option Name
@@ -27,8 +16,8 @@ key_name_of w =
     else if bytes_eq w (codes "gats") then Some name.Gats
     else None
 
-abbrev pub other_name_of : List ℕ → Option Name
-other_name_of w =
+abbrev pub keyless_name_of : List ℕ → Option Name
+keyless_name_of w =
     if bytes_eq w (codes "version") then Some name.Version
     else if bytes_eq w (codes "quit") then Some name.Quit
     else if bytes_eq w (codes "verbosity") then Some name.Verbosity
@@ -44,4 +33,4 @@ name_of w =
     if bytes_eq w (codes "get") then Some name.Get
     else if bytes_eq w (codes "gets") then Some name.Gets
     else if bytes_eq w (codes "cas") then Some name.Cas
-    else option_map_or (λ verb. Some (name.Store verb)) (verb_of w) (option_or (key_name_of w) (other_name_of w))
+    else option_map_or (λ verb. Some (name.Store verb)) (verb_of w) (option_or (key_name_of w) (keyless_name_of w))

@@ -29,6 +29,6 @@ exptime_of (c ∷ cs) =
     else option_map wrapped (number_below (2 ^ 63) (c ∷ cs))
 
 -- the size of a block: below 2^31 - 2, and it may have a plus in front
-abbrev pub size_of : List ℕ → Option ℕ
-size_of [] = None
-size_of (c ∷ cs) = if c == 43 then number_below (2 ^ 31 - 2) cs else number_below (2 ^ 31 - 2) (c ∷ cs)
+abbrev pub block_size_of : List ℕ → Option ℕ
+block_size_of [] = None
+block_size_of (c ∷ cs) = if c == 43 then number_below (2 ^ 31 - 2) cs else number_below (2 ^ 31 - 2) (c ∷ cs)

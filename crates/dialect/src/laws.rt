@@ -10,9 +10,9 @@ ghost use Rattle.proto.specs.declared.reply.Reply.TheVariants.{Values};
 ghost use Rattle.dialect.specs.Grammar.{Spells};
 ghost use Rattle.dialect.specs.Meaning.{meaning};
 ghost use Rattle.dialect.specs.Reading.{head, read_turns};
-ghost use Rattle.dialect.specs.Laws.{IsNoreply, AllGiveNothing, PartGivesNothing, commands, speaks, UnreadOnlyRemoves, all_keys, ArePieces, all_found, bytes_shown};
+ghost use Rattle.dialect.specs.Laws.{IsNoreply, AllShowNothing, PartShowsNothing, commands, speaks, UnreadOnlyRemoves, all_keys, ArePieces, all_found, bytes_shown};
 ghost use Rattle.dialect.specs.declared.turn.Turn.{Turn};
-ghost use Rattle.dialect.specs.declared.line.Reading.{Reading};
+ghost use Rattle.dialect.specs.declared.line.ReadVerb.{ReadVerb};
 
 /// One list of bytes spells one list of turns.
 pub fn one_list_is_spelled()
@@ -29,7 +29,7 @@ pub fn longer_bytes_spell_more()
 /// A line that says `noreply` gives no bytes, whatever the replies are, nor does the block that belongs
 /// to it, whatever its bytes are.
 pub fn a_noreply_line_gives_no_bytes()
-    ensures { (line : List ℕ) → IsNoreply line → AllGiveNothing (meaning line).turns × PartGivesNothing (meaning line).part }
+    ensures { (line : List ℕ) → IsNoreply line → AllShowNothing (meaning line).turns × PartShowsNothing (meaning line).part }
 {}
 
 /// A line that is answered by a text asks nothing.
@@ -43,12 +43,12 @@ pub fn a_refused_line_asks_nothing()
 /// A line of many keys is as good as one command over all of them.
 pub fn a_get_of_many_keys_is_one_get()
     // The keys of its commands, in order, are its keys.
-    ensures keys { (r : Reading) (k : List ℕ) (ks : List (List ℕ)) → list_all is_key (k ∷ ks) ≡ true → all_keys (read_turns r (k ∷ ks)) ≡ k ∷ ks }
+    ensures keys { (r : ReadVerb) (k : List ℕ) (ks : List (List ℕ)) → list_all is_key (k ∷ ks) ≡ true → all_keys (read_turns r (k ∷ ks)) ≡ k ∷ ks }
 
     // Each is a command of the profile, on a line of its own within the profile's limits.
-    ensures pieces { (r : Reading) (k : List ℕ) (ks : List (List ℕ)) → length (head r) ≤ 45 → list_all is_key (k ∷ ks) ≡ true → ArePieces r (read_turns r (k ∷ ks)) }
+    ensures pieces { (r : ReadVerb) (k : List ℕ) (ks : List (List ℕ)) → length (head r) ≤ 45 → list_all is_key (k ∷ ks) ≡ true → ArePieces r (read_turns r (k ∷ ks)) }
 
     // What is given is the reply of one command that finds what they find.
-    ensures shown { (r : Reading) (k : List ℕ) (ks : List (List ℕ)) (found : List (List Found)) → list_all is_key (k ∷ ks) ≡ true
+    ensures shown { (r : ReadVerb) (k : List ℕ) (ks : List (List ℕ)) (found : List (List Found)) → list_all is_key (k ∷ ks) ≡ true
         → length found ≡ length (read_turns r (k ∷ ks)) → bytes_shown (read_turns r (k ∷ ks)) found ≡ reply_text (Values (all_found found)) }
 {}

@@ -34,7 +34,7 @@ pub enum Name {
 
 /// A command that reads any number of keys.
 #[derive(Clone, Copy, PartialEq, Eq)]
-pub enum Reading {
+pub enum ReadVerb {
     Get,
     Gets,
     Gat(i32),
@@ -49,7 +49,7 @@ pub enum Line {
     /// The last line: the text is given, and nothing more is read.
     Closes(Notice),
     /// A command over the keys that stand on the line.
-    Reads(Reading),
+    Reads(ReadVerb),
     /// A correct storage line: its block follows.
     Opens(Header),
     /// So many bytes follow that are not read, and then this turn, if any.

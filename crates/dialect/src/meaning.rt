@@ -1,14 +1,14 @@
 //! What a line asks.
 
 ghost use Rattle.std.specs.Prelude.{◌≡◌, ◌<◌, ◌^◌, ◌++◌, ℤ, IfOk, OnOk, MatchResult, map, false};
-ghost use Rattle.proto.specs.Line.{words, key_of as key_value};
+ghost use Rattle.proto.specs.Line.{words, key_of as key_value, counting as counting_value};
 ghost use Rattle.dialect.specs.Line as spec;
 ghost use Rattle.dialect.specs.declared.line.Line.{Line as LineValue};
-ghost use Rattle.dialect.specs.Meaning.{meaning, meaning_of_words, without_return as line_without_return, given};
+ghost use Rattle.dialect.specs.Meaning.{meaning, meaning_of_words, without_return as line_without_return, meaning_of_line};
 
-use crate::line::{Line, Name, Reading};
+use crate::line::{Line, Name, ReadVerb};
 use crate::name::name_of;
-use crate::number::{exptime_of, flags_of, size_of, unsigned_in};
+use crate::number::{exptime_of, flags_of, block_size_of, unsigned_in};
 use crate::part::Part;
 use crate::reading::{push_some, read_keys};
 use crate::turn::{Notice, Show, Turn};
@@ -34,8 +34,8 @@ fn key_of(alloc: Global, word: &[u8]) -> Result<Option<Key>, AllocError>
 }
 
 /// Whether the last word is `noreply`.
-fn is_quiet(words: &[&[u8]]) -> bool
-    ensures { result ≡ spec.is_quiet (map (λ w. w.now) words.now) }
+fn says_noreply(words: &[&[u8]]) -> bool
+    ensures { result ≡ spec.says_noreply (map (λ w. w.now) words.now) }
 {
     let mut quiet = false;
     for word in words {
@@ -50,8 +50,8 @@ pub fn said(quiet: bool, notice: Notice) -> Option<Turn>
     if quiet { None } else { Some(Turn::Say(notice)) }
 }
 
-fn says(quiet: bool, notice: Notice) -> Line
-    ensures { result ≡ spec.says quiet notice }
+fn says_notice(quiet: bool, notice: Notice) -> Line
+    ensures { result ≡ spec.says_notice quiet notice }
 {
     Line::Gives(said(quiet, notice))
 }
@@ -62,8 +62,8 @@ pub fn shown(quiet: bool) -> Show
     if quiet { Show::Quiet } else { Show::Whole }
 }
 
-fn asks(quiet: bool, update: Update) -> Line
-    ensures { result ≡ spec.asks quiet update }
+fn asks_update(quiet: bool, update: Update) -> Line
+    ensures { result ≡ spec.asks_update quiet update }
 {
     Line::Gives(Some(Turn::Ask(Command::Update(update), shown(quiet))))
 }
@@ -168,13 +168,13 @@ fn store_line(
     ensures { IfOk result (λ l. l ≡ spec.store_line verb quiet (map (λ w. w.now) words.now)) }
 {
     let [key, flags, exptime, size, last @ ..] = words else {
-        return Ok(says(quiet, Notice::UnknownName));
+        return Ok(says_notice(quiet, Notice::UnknownName));
     };
     if !is_end(last) {
-        return Ok(says(quiet, Notice::UnknownName));
+        return Ok(says_notice(quiet, Notice::UnknownName));
     }
-    let Some(size) = size_of(size) else {
-        return Ok(says(quiet, Notice::BadFormat));
+    let Some(size) = block_size_of(size) else {
+        return Ok(says_notice(quiet, Notice::BadFormat));
     };
     let kind = Some(Kind::Plain(verb));
     let header = header_of(alloc, quiet, kind, key, flags, exptime, size)?;
@@ -191,13 +191,13 @@ fn cas_line(alloc: Global, quiet: bool, words: &[&[u8]]) -> Result<Line, AllocEr
     ensures { IfOk result (λ l. l ≡ spec.cas_line quiet (map (λ w. w.now) words.now)) }
 {
     let [key, flags, exptime, size, unique, last @ ..] = words else {
-        return Ok(says(quiet, Notice::UnknownName));
+        return Ok(says_notice(quiet, Notice::UnknownName));
     };
     if !is_end(last) {
-        return Ok(says(quiet, Notice::UnknownName));
+        return Ok(says_notice(quiet, Notice::UnknownName));
     }
-    let Some(size) = size_of(size) else {
-        return Ok(says(quiet, Notice::BadFormat));
+    let Some(size) = block_size_of(size) else {
+        return Ok(says_notice(quiet, Notice::BadFormat));
     };
     let header = header_of(alloc, quiet, cas_kind(unique), key, flags, exptime, size)?;
     Ok(sized(quiet, size, header))
@@ -218,14 +218,14 @@ fn delete_line(alloc: Global, quiet: bool, words: &[&[u8]]) -> Result<Line, Allo
     ensures { IfOk result (λ l. l ≡ spec.delete_line quiet (map (λ w. w.now) words.now)) }
 {
     let [key, last @ ..] = words else {
-        return Ok(says(quiet, Notice::UnknownName));
+        return Ok(says_notice(quiet, Notice::UnknownName));
     };
     if !is_delete_end(last) {
-        return Ok(says(quiet, Notice::BadDelete));
+        return Ok(says_notice(quiet, Notice::BadDelete));
     }
     match key_of(alloc, key)? {
-        None => Ok(says(quiet, Notice::BadFormat)),
-        Some(key) => Ok(asks(quiet, Update::Delete { key })),
+        None => Ok(says_notice(quiet, Notice::BadFormat)),
+        Some(key) => Ok(asks_update(quiet, Update::Delete { key })),
     }
 }
 
@@ -233,22 +233,22 @@ fn touch_line(alloc: Global, quiet: bool, words: &[&[u8]]) -> Result<Line, Alloc
     ensures { IfOk result (λ l. l ≡ spec.touch_line quiet (map (λ w. w.now) words.now)) }
 {
     let [key, exptime, last @ ..] = words else {
-        return Ok(says(quiet, Notice::UnknownName));
+        return Ok(says_notice(quiet, Notice::UnknownName));
     };
     if !is_end(last) {
-        return Ok(says(quiet, Notice::UnknownName));
+        return Ok(says_notice(quiet, Notice::UnknownName));
     }
     let Some(key) = key_of(alloc, key)? else {
-        return Ok(says(quiet, Notice::BadFormat));
+        return Ok(says_notice(quiet, Notice::BadFormat));
     };
     match exptime_of(exptime) {
-        None => Ok(says(quiet, Notice::BadExptime)),
-        Some(exptime) => Ok(asks(quiet, Update::Touch { key, exptime })),
+        None => Ok(says_notice(quiet, Notice::BadExptime)),
+        Some(exptime) => Ok(asks_update(quiet, Update::Touch { key, exptime })),
     }
 }
 
 fn counting(up: bool, key: Key, delta: u64) -> Update
-    ensures { result ≡ spec.counting up key delta }
+    ensures { result ≡ counting_value up key delta }
 {
     if up {
         Update::Incr { key, delta }
@@ -261,17 +261,17 @@ fn delta_line(alloc: Global, up: bool, quiet: bool, words: &[&[u8]]) -> Result<L
     ensures { IfOk result (λ l. l ≡ spec.delta_line up quiet (map (λ w. w.now) words.now)) }
 {
     let [key, delta, last @ ..] = words else {
-        return Ok(says(quiet, Notice::UnknownName));
+        return Ok(says_notice(quiet, Notice::UnknownName));
     };
     if !is_end(last) {
-        return Ok(says(quiet, Notice::UnknownName));
+        return Ok(says_notice(quiet, Notice::UnknownName));
     }
     let Some(key) = key_of(alloc, key)? else {
-        return Ok(says(quiet, Notice::BadFormat));
+        return Ok(says_notice(quiet, Notice::BadFormat));
     };
     match unsigned_in(delta) {
-        None => Ok(says(quiet, Notice::BadDelta)),
-        Some(delta) => Ok(asks(quiet, counting(up, key, delta))),
+        None => Ok(says_notice(quiet, Notice::BadDelta)),
+        Some(delta) => Ok(asks_update(quiet, counting(up, key, delta))),
     }
 }
 
@@ -279,14 +279,14 @@ fn verbosity_line(quiet: bool, words: &[&[u8]]) -> Line
     ensures { result ≡ spec.verbosity_line quiet (map (λ w. w.now) words.now) }
 {
     let [level, last @ ..] = words else {
-        return says(quiet, Notice::UnknownName);
+        return says_notice(quiet, Notice::UnknownName);
     };
     if !is_end(last) {
-        return says(quiet, Notice::UnknownName);
+        return says_notice(quiet, Notice::UnknownName);
     }
     match unsigned_in(level) {
-        None => says(quiet, Notice::BadFormat),
-        Some(_) => says(quiet, Notice::Done),
+        None => says_notice(quiet, Notice::BadFormat),
+        Some(_) => says_notice(quiet, Notice::Done),
     }
 }
 
@@ -306,14 +306,14 @@ fn http_line(words: &[&[u8]]) -> Line
             return Line::Closes(Notice::Http);
         }
     }
-    says(false, Notice::UnknownName)
+    says_notice(false, Notice::UnknownName)
 }
 
 /// The exptime of a `gat`, or what is said where there is none.
 fn timed(words: &[&[u8]]) -> Result<i32, Notice>
     ensures { MatchResult result
         (λ exptime. (read : ℤ → LineValue) → spec.timed_line read (map (λ w. w.now) words.now) ≡ read exptime)
-        (λ notice. (read : ℤ → LineValue) → spec.timed_line read (map (λ w. w.now) words.now) ≡ spec.says false notice) }
+        (λ notice. (read : ℤ → LineValue) → spec.timed_line read (map (λ w. w.now) words.now) ≡ spec.says_notice false notice) }
 {
     let [exptime, ..] = words else {
         return Err(Notice::UnknownName);
@@ -327,26 +327,26 @@ fn line_of(alloc: Global, name: Name, quiet: bool, words: &[&[u8]]) -> Result<Li
     Ok(match name {
         Name::Store(verb) => store_line(alloc, verb, quiet, words)?,
         Name::Cas => cas_line(alloc, quiet, words)?,
-        Name::Get => Line::Reads(Reading::Get),
-        Name::Gets => Line::Reads(Reading::Gets),
+        Name::Get => Line::Reads(ReadVerb::Get),
+        Name::Gets => Line::Reads(ReadVerb::Gets),
         Name::Gat => match timed(words) {
-            Ok(exptime) => Line::Reads(Reading::Gat(exptime)),
-            Err(notice) => says(false, notice),
+            Ok(exptime) => Line::Reads(ReadVerb::Gat(exptime)),
+            Err(notice) => says_notice(false, notice),
         },
         Name::Gats => match timed(words) {
-            Ok(exptime) => Line::Reads(Reading::Gats(exptime)),
-            Err(notice) => says(false, notice),
+            Ok(exptime) => Line::Reads(ReadVerb::Gats(exptime)),
+            Err(notice) => says_notice(false, notice),
         },
         Name::Delete => delete_line(alloc, quiet, words)?,
         Name::Touch => touch_line(alloc, quiet, words)?,
         Name::Incr => delta_line(alloc, true, quiet, words)?,
         Name::Decr => delta_line(alloc, false, quiet, words)?,
-        Name::Version => says(false, Notice::Version),
+        Name::Version => says_notice(false, Notice::Version),
         Name::Quit => Line::Closes(Notice::Silent),
         Name::Verbosity => verbosity_line(quiet, words),
-        Name::FlushAll => says(quiet, Notice::FlushRefused),
-        Name::Shutdown => says(quiet, Notice::ShutdownRefused),
-        Name::MetaNoop => says(false, Notice::MetaNoop),
+        Name::FlushAll => says_notice(quiet, Notice::FlushRefused),
+        Name::Shutdown => says_notice(quiet, Notice::ShutdownRefused),
+        Name::MetaNoop => says_notice(false, Notice::MetaNoop),
         Name::Http => http_line(words),
     })
 }
@@ -358,8 +358,8 @@ fn give(
     words: &[&[u8]],
     turns: &mut Vec<Turn>,
 ) -> Result<Part, AllocError>
-    ensures turns { OnOk result (turns.new.items ≡ turns.old.items ++ (given line (map (λ w. w.now) words.now)).turns) }
-    ensures part { IfOk result (λ part. part ≡ (given line (map (λ w. w.now) words.now)).part) }
+    ensures turns { OnOk result (turns.new.items ≡ turns.old.items ++ (meaning_of_line line (map (λ w. w.now) words.now)).turns) }
+    ensures part { IfOk result (λ part. part ≡ (meaning_of_line line (map (λ w. w.now) words.now)).part) }
 {
     match line {
         Line::Gives(turn) => {
@@ -401,7 +401,7 @@ fn read_words(alloc: Global, words: &[&[u8]], turns: &mut Vec<Turn>) -> Result<P
     match name_of(first) {
         None => give(alloc, unknown, others, turns),
         Some(name) => {
-            let line = line_of(alloc, name, is_quiet(others), others)?;
+            let line = line_of(alloc, name, says_noreply(others), others)?;
             give(alloc, line, others, turns)
         }
     }

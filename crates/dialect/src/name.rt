@@ -1,13 +1,14 @@
 //! The names of commands.
 
 ghost use Rattle.std.specs.Prelude.{◌≡◌};
+ghost use Rattle.proto.specs.Line.{verb_of as verb_value};
 ghost use Rattle.dialect.specs.Name as spec;
 
 use crate::line::Name;
 use proto::StoreVerb;
 
 fn verb_of(word: &[u8]) -> Option<StoreVerb>
-    ensures { result ≡ spec.verb_of word.now }
+    ensures { result ≡ verb_value word.now }
 {
     if word == b"set".as_slice() {
         Some(StoreVerb::Set)
@@ -45,8 +46,8 @@ fn key_name_of(word: &[u8]) -> Option<Name>
     }
 }
 
-fn other_name_of(word: &[u8]) -> Option<Name>
-    ensures { result ≡ spec.other_name_of word.now }
+fn keyless_name_of(word: &[u8]) -> Option<Name>
+    ensures { result ≡ spec.keyless_name_of word.now }
 {
     if word == b"version".as_slice() {
         Some(Name::Version)
@@ -83,5 +84,5 @@ pub fn name_of(word: &[u8]) -> Option<Name>
     if let Some(verb) = verb_of(word) {
         return Some(Name::Store(verb));
     }
-    key_name_of(word).or(other_name_of(word))
+    key_name_of(word).or(keyless_name_of(word))
 }

@@ -3,7 +3,7 @@
 ghost use Rattle.std.specs.Prelude.{◌≡◌, ◌≤◌, ◌^◌, ◌-◌, ◌+◌, IfSome};
 ghost use Rattle.std.specs.Option.{option_map};
 ghost use Rattle.proto.specs.Number.{number_below};
-ghost use Rattle.dialect.specs.Number.{unsigned_of, flags_of as flags_value, exptime_of as exptime_value, size_of as size_value, wrapped, wrapped_minus};
+ghost use Rattle.dialect.specs.Number.{unsigned_of, flags_of as flags_value, exptime_of as exptime_value, block_size_of as size_value, wrapped, wrapped_minus};
 
 use crate::line::MOST_SIZE;
 use proto::number_in;
@@ -96,7 +96,7 @@ fn size_in(digits: &[u8]) -> Option<u32>
 }
 
 /// The size of a block: a number up to `MOST_SIZE`, which may have a plus in front.
-pub fn size_of(word: &[u8]) -> Option<u32>
+pub fn block_size_of(word: &[u8]) -> Option<u32>
     ensures size { result ≡ size_value word.now }
     ensures limit { IfSome result (λ size. size ≤ MOST_SIZE) }
 {

@@ -1,9 +1,9 @@
 //! A client's stream, piece by piece.
 
 ghost use Rattle.std.specs.Prelude.{◌≡◌, ◌≤◌, ◌+◌, ◌++◌, [], List, ℕ, length, IfOk, OnOk, OnErr};
-ghost use Rattle.dialect.specs.State.{Runs, IsState, start, run};
+ghost use Rattle.dialect.specs.State.{Runs, IsReaderState, start, run};
 ghost use Rattle.dialect.specs.Grammar.{HasRead};
-ghost use Rattle.dialect.specs.Stage.{staged};
+ghost use Rattle.dialect.specs.Stage.{stage_state};
 ghost use Rattle.dialect.specs.declared.turn.Turn.{Turn as TurnValue};
 ghost use Rattle.proto.specs.declared.block.TheConstants.{MOST_BLOCK_BYTES};
 
@@ -26,21 +26,21 @@ impl Drop for Reader {
 }
 
 impl Model for Reader {
-    ghost use Rattle.dialect.specs.State.{State, IsState};
-    ghost use Rattle.dialect.specs.Stage.{staged};
+    ghost use Rattle.dialect.specs.State.{State, IsReaderState};
+    ghost use Rattle.dialect.specs.Stage.{stage_state};
 
     ghost Value = { State };
 
-    ghost view = { λ a. staged a.stage };
+    ghost view = { λ a. stage_state a.stage };
 
-    ghost invariant = { λ a. IsState (staged a.stage) };
+    ghost invariant = { λ a. IsReaderState (stage_state a.stage) };
 }
 
 /// Reads all of the piece, and adds the turns that end in it.
 fn read_piece(alloc: Global, stage: &mut Stage, piece: &[u8]) -> Result<Vec<Turn>, AllocError>
-    requires { IsState (staged stage.old) }
-    ensures runs { IfOk result (λ turns. Runs (staged stage.old) piece.now [] turns.items (staged stage.new)) }
-    ensures state { OnOk result (IsState (staged stage.new)) }
+    requires { IsReaderState (stage_state stage.old) }
+    ensures runs { IfOk result (λ turns. Runs (stage_state stage.old) piece.now [] turns.items (stage_state stage.new)) }
+    ensures state { OnOk result (IsReaderState (stage_state stage.new)) }
 {
     let mut turns = Vec::new(alloc);
     let mut unread = piece;

@@ -8,7 +8,7 @@ ghost use Rattle.proto.specs.Key.{is_key};
 ghost use Rattle.dialect.specs.Reading as spec;
 ghost use Rattle.dialect.specs.Reading.{has_room as room_left};
 
-use crate::line::Reading;
+use crate::line::ReadVerb;
 use crate::turn::{Notice, Show, Turn};
 use itoa::Buffer;
 use proto::{Command, Key, Keys, MOST_KEYS, MOST_LINE_BYTES as MOST_PROFILE_BYTES, is_key_text};
@@ -26,38 +26,38 @@ pub fn push_some(turn: Option<Turn>, turns: &mut Vec<Turn>) -> Result<(), AllocE
 }
 
 /// The command of the profile that reads these keys.
-fn asked(reading: Reading, keys: Keys) -> Command
-    ensures { result ≡ spec.asked reading keys }
+fn read_command(reading: ReadVerb, keys: Keys) -> Command
+    ensures { result ≡ spec.read_command reading keys }
 {
     match reading {
-        Reading::Get => Command::Get(keys),
-        Reading::Gets => Command::Gets(keys),
-        Reading::Gat(exptime) => Command::Gat(exptime, keys),
-        Reading::Gats(exptime) => Command::Gats(exptime, keys),
+        ReadVerb::Get => Command::Get(keys),
+        ReadVerb::Gets => Command::Gets(keys),
+        ReadVerb::Gat(exptime) => Command::Gat(exptime, keys),
+        ReadVerb::Gats(exptime) => Command::Gats(exptime, keys),
     }
 }
 
-fn none_notice(reading: Reading) -> Notice
+fn none_notice(reading: ReadVerb) -> Notice
     ensures { result ≡ spec.none_notice reading }
 {
     match reading {
-        Reading::Get => Notice::UnknownName,
-        Reading::Gets => Notice::UnknownName,
-        Reading::Gat(_) => Notice::NoItems,
-        Reading::Gats(_) => Notice::NoItems,
+        ReadVerb::Get => Notice::UnknownName,
+        ReadVerb::Gets => Notice::UnknownName,
+        ReadVerb::Gat(_) => Notice::NoItems,
+        ReadVerb::Gats(_) => Notice::NoItems,
     }
 }
 
 /// How many bytes stand before the keys on a line of the profile.
-fn head_len(reading: Reading) -> usize
+fn head_len(reading: ReadVerb) -> usize
     ensures bytes { result ≡ length (spec.head reading) }
     ensures short { result ≤ 45 }
 {
     match reading {
-        Reading::Get => 3,
-        Reading::Gets => 4,
-        Reading::Gat(exptime) => 4 + Buffer::new().format(exptime).len(),
-        Reading::Gats(exptime) => 5 + Buffer::new().format(exptime).len(),
+        ReadVerb::Get => 3,
+        ReadVerb::Gets => 4,
+        ReadVerb::Gat(exptime) => 4 + Buffer::new().format(exptime).len(),
+        ReadVerb::Gats(exptime) => 5 + Buffer::new().format(exptime).len(),
     }
 }
 
@@ -82,7 +82,7 @@ fn one_key(alloc: Global, word: &[u8]) -> Result<Vec<Key>, AllocError>
 }
 
 /// The keys of a piece that has one, and how many bytes its line has.
-fn first_key(alloc: Global, reading: Reading, word: &[u8]) -> Result<(Vec<Key>, usize), AllocError>
+fn first_key(alloc: Global, reading: ReadVerb, word: &[u8]) -> Result<(Vec<Key>, usize), AllocError>
     requires { is_key word.now ≡ true }
     ensures { IfOk result (λ r. (r.0.items ≡ word.now ∷ []) × spec.IsPiece reading r.0.items r.1) }
 {
@@ -101,7 +101,7 @@ fn has_room(keys: usize, bytes: usize) -> bool
 /// the line of the piece has then.
 fn push_key(
     alloc: Global,
-    reading: Reading,
+    reading: ReadVerb,
     word: &[u8],
     keys: &mut Vec<Key>,
     bytes: usize,
@@ -110,8 +110,8 @@ fn push_key(
     requires key { is_key word.now ≡ true }
     requires piece { spec.IsPiece reading keys.old.items bytes }
     ensures piece { IfOk result (λ bytes. spec.IsPiece reading keys.new.items bytes) }
-    ensures turns { OnOk result ((more : List (List ℕ)) → turns.new.items ++ spec.pieces reading keys.new.items more
-        ≡ turns.old.items ++ spec.pieces reading keys.old.items (word.now ∷ more)) }
+    ensures turns { OnOk result ((more : List (List ℕ)) → turns.new.items ++ spec.piece_turns reading keys.new.items more
+        ≡ turns.old.items ++ spec.piece_turns reading keys.old.items (word.now ∷ more)) }
 {
     let longer = bytes + word.len() + 1;
     if has_room(keys.len(), longer) {
@@ -120,34 +120,34 @@ fn push_key(
     }
     let (first, bytes) = first_key(alloc, reading, word)?;
     let piece = mem::replace(keys, first);
-    turns.push(Turn::Ask(asked(reading, Keys::new(piece)), Show::Items))?;
+    turns.push(Turn::Ask(read_command(reading, Keys::new(piece)), Show::Items))?;
     Ok(bytes)
 }
 
 /// Adds the turns for these keys, of which there is one more than the others.
 fn push_pieces(
     alloc: Global,
-    reading: Reading,
+    reading: ReadVerb,
     first: &[u8],
     others: &[&[u8]],
     turns: &mut Vec<Turn>,
 ) -> Result<(), AllocError>
     requires first { is_key first.now ≡ true }
     requires others { list_all is_key (map (λ w. w.now) others.now) ≡ true }
-    ensures { OnOk result (turns.new.items ≡ turns.old.items ++ spec.pieces reading (first.now ∷ []) (map (λ w. w.now) others.now)) }
+    ensures { OnOk result (turns.new.items ≡ turns.old.items ++ spec.piece_turns reading (first.now ∷ []) (map (λ w. w.now) others.now)) }
 {
     let (mut keys, mut bytes) = first_key(alloc, reading, first)?;
     for word in others {
         bytes = push_key(alloc, reading, word, &mut keys, bytes, turns)?;
     }
-    turns.push(Turn::Ask(asked(reading, Keys::new(keys)), Show::Whole))?;
+    turns.push(Turn::Ask(read_command(reading, Keys::new(keys)), Show::Whole))?;
     Ok(())
 }
 
 /// Adds the turns of a line that reads the keys that these words are.
 fn read_all(
     alloc: Global,
-    reading: Reading,
+    reading: ReadVerb,
     words: &[&[u8]],
     turns: &mut Vec<Turn>,
 ) -> Result<(), AllocError>
@@ -165,14 +165,14 @@ fn read_all(
 }
 
 /// The words of a line that are its keys: those after the exptime, if there is one.
-fn keys_in<'a, 'b>(reading: Reading, words: &'a [&'b [u8]]) -> &'a [&'b [u8]]
+fn keys_in<'a, 'b>(reading: ReadVerb, words: &'a [&'b [u8]]) -> &'a [&'b [u8]]
     ensures { map (λ w. w.now) result.now ≡ spec.keys_in reading (map (λ w. w.now) words.now) }
 {
     let at = match reading {
-        Reading::Get => 0,
-        Reading::Gets => 0,
-        Reading::Gat(_) => 1,
-        Reading::Gats(_) => 1,
+        ReadVerb::Get => 0,
+        ReadVerb::Gets => 0,
+        ReadVerb::Gat(_) => 1,
+        ReadVerb::Gats(_) => 1,
     };
     let (_, keys) = words.split_at(words.len().min(at));
     keys
@@ -181,7 +181,7 @@ fn keys_in<'a, 'b>(reading: Reading, words: &'a [&'b [u8]]) -> &'a [&'b [u8]]
 /// Adds the turns of a line, by the words after its name.
 pub fn read_keys(
     alloc: Global,
-    reading: Reading,
+    reading: ReadVerb,
     words: &[&[u8]],
     turns: &mut Vec<Turn>,
 ) -> Result<(), AllocError>

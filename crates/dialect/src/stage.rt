@@ -4,11 +4,12 @@ ghost use Rattle.std.specs.Prelude.{◌≡◌, ◌≤◌, ◌<◌, ◌+◌, ◌+
 ghost use Rattle.std.specs.Bool.{OnTrue};
 ghost use Rattle.std.specs.Option.{option_to_list};
 ghost use Rattle.proto.specs.Grammar.{filled};
+ghost use Rattle.proto.specs.Stage.{FindsNewline};
 ghost use Rattle.proto.specs.declared.block.TheConstants.{MOST_BLOCK_BYTES};
 ghost use Rattle.dialect.specs.declared.line.TheConstants.{MOST_LINE_BYTES};
 ghost use Rattle.dialect.specs.Meaning.{meaning, block_turn as block_value};
-ghost use Rattle.dialect.specs.State.{state_at, run, to, start, Runs, IsState, IsWithin};
-ghost use Rattle.dialect.specs.Stage.{staged, starts_binary as binary_start, Cuts, FindsNewline, IsBlockOf, IsUnreadOf, GoesOn};
+ghost use Rattle.dialect.specs.State.{state_at, run, to, start, Runs, IsReaderState, HoldsWithin};
+ghost use Rattle.dialect.specs.Stage.{stage_state, starts_binary as binary_start, CutsLine, IsBlockOf, IsUnreadOf, EndsNothing};
 
 use crate::line::MOST_LINE_BYTES;
 use crate::meaning::{read_line, said, shown};
@@ -46,7 +47,7 @@ fn newline_in(bytes: &[u8]) -> Option<usize>
 /// How a line of which so many bytes are there goes on.
 fn cut_of(held: usize, piece: &[u8]) -> Cut
     requires { held < MOST_LINE_BYTES }
-    ensures { Cuts held piece.now result }
+    ensures { CutsLine held piece.now result }
 {
     let room = MOST_LINE_BYTES - held;
     if piece.len() < room {
@@ -111,7 +112,7 @@ fn block_turn(header: Header, mut held: Vec<u8>) -> Result<Option<Turn>, AllocEr
 
 impl Stage {
     pub fn new(alloc: Global) -> Stage
-        ensures { staged result ≡ start }
+        ensures { stage_state result ≡ start }
     {
         Stage {
             part: Part::Line,
@@ -121,8 +122,8 @@ impl Stage {
 
     /// A copy with room for the rest of the block.
     pub fn copy(&self, alloc: Global) -> Result<Stage, AllocError>
-        requires { IsState (staged self.now) }
-        ensures { IfOk result (λ copy. staged copy ≡ staged self.now) }
+        requires { IsReaderState (stage_state self.now) }
+        ensures { IfOk result (λ copy. stage_state copy ≡ stage_state self.now) }
     {
         let room = match &self.part {
             Part::Block(header) => header.size as usize + 2,
@@ -138,8 +139,8 @@ impl Stage {
 
     /// Whether the piece ends neither a line nor what belongs to it.
     pub fn goes_on(&self, piece: &[u8]) -> bool
-        requires { IsState (staged self.now) }
-        ensures { OnTrue result (GoesOn self.now.part self.now.held.items piece.now) }
+        requires { IsReaderState (stage_state self.now) }
+        ensures { OnTrue result (EndsNothing self.now.part self.now.held.items piece.now) }
     {
         match &self.part {
             Part::Line => {
@@ -155,11 +156,11 @@ impl Stage {
 
     /// Adds a piece that ends neither a line nor what belongs to it. An `Err` changes nothing.
     pub fn extend(&mut self, piece: &[u8]) -> Result<(), AllocError>
-        requires state { IsState (staged self.old) }
-        requires goes_on { GoesOn self.old.part self.old.held.items piece.now }
-        ensures ok { OnOk result (run (staged self.old) piece.now ≡ to [] (staged self.new)) }
-        ensures state { IsState (staged self.new) }
-        ensures err { OnErr result (staged self.new ≡ staged self.old) }
+        requires state { IsReaderState (stage_state self.old) }
+        requires goes_on { EndsNothing self.old.part self.old.held.items piece.now }
+        ensures ok { OnOk result (run (stage_state self.old) piece.now ≡ to [] (stage_state self.new)) }
+        ensures state { IsReaderState (stage_state self.new) }
+        ensures err { OnErr result (stage_state self.new ≡ stage_state self.old) }
     {
         match &mut self.part {
             Part::Line => self.held.extend_from_slice(piece),
@@ -182,8 +183,8 @@ impl Stage {
         requires short { length self.old.held.items < MOST_LINE_BYTES }
         requires some { 0 < length piece.now }
         ensures count { IfOk result (λ n. (0 < n) × (n ≤ length piece.now)) }
-        ensures runs { IfOk result (λ n. Runs (staged self.old) (take n piece.now) turns.old.items turns.new.items (staged self.new)) }
-        ensures state { OnOk result (IsState (staged self.new)) }
+        ensures runs { IfOk result (λ n. Runs (stage_state self.old) (take n piece.now) turns.old.items turns.new.items (stage_state self.new)) }
+        ensures state { OnOk result (IsReaderState (stage_state self.new)) }
     {
         if starts_binary(self.held.as_slice(), piece) {
             turns.push(Turn::Close(Notice::Binary))?;
@@ -213,7 +214,7 @@ impl Stage {
     /// Gives the turns of the line that is held. Room is made for the block that follows, if one does.
     fn end_line(&mut self, alloc: Global, turns: &mut Vec<Turn>) -> Result<(), AllocError>
         ensures turns { OnOk result (turns.new.items ≡ turns.old.items ++ (meaning self.old.held.items).turns) }
-        ensures part { OnOk result (staged self.new ≡ state_at (meaning self.old.held.items).part []) }
+        ensures part { OnOk result (stage_state self.new ≡ state_at (meaning self.old.held.items).part []) }
     {
         let part = read_line(alloc, self.held.as_slice(), turns)?;
         self.held.clear();
@@ -232,11 +233,11 @@ impl Stage {
         turns: &mut Vec<Turn>,
     ) -> Result<usize, AllocError>
         requires block { IsBlockOf size self.old.part }
-        requires within { IsState (staged self.old) }
+        requires within { IsReaderState (stage_state self.old) }
         requires some { 0 < length piece.now }
         ensures count { IfOk result (λ n. (0 < n) × (n ≤ length piece.now)) }
-        ensures runs { IfOk result (λ n. Runs (staged self.old) (take n piece.now) turns.old.items turns.new.items (staged self.new)) }
-        ensures state { OnOk result (IsState (staged self.new)) }
+        ensures runs { IfOk result (λ n. Runs (stage_state self.old) (take n piece.now) turns.old.items turns.new.items (stage_state self.new)) }
+        ensures state { OnOk result (IsReaderState (stage_state self.new)) }
     {
         let whole = size as usize + 2;
         let n = (whole - self.held.len()).min(piece.len());
@@ -259,7 +260,7 @@ impl Stage {
         requires whole { length self.old.held.items ≡ size + 2 }
         requires small { size ≤ MOST_BLOCK_BYTES }
         ensures turns { OnOk result ((h : Header) → self.old.part ≡ Part.Block h → turns.new.items ≡ turns.old.items ++ option_to_list (block_value h self.old.held.items)) }
-        ensures start { OnOk result (staged self.new ≡ start) }
+        ensures start { OnOk result (stage_state self.new ≡ start) }
     {
         let held = mem::replace(&mut self.held, Vec::new(alloc));
         if let Part::Block(header) = mem::replace(&mut self.part, Part::Line) {
@@ -275,11 +276,11 @@ impl Stage {
         turns: &mut Vec<Turn>,
     ) -> Result<usize, AllocError>
         requires unread { IsUnreadOf left self.old.part }
-        requires within { IsState (staged self.old) }
+        requires within { IsReaderState (stage_state self.old) }
         requires some { 0 < length piece.now }
         ensures count { IfOk result (λ n. (0 < n) × (n ≤ length piece.now)) }
-        ensures runs { IfOk result (λ n. Runs (staged self.old) (take n piece.now) turns.old.items turns.new.items (staged self.new)) }
-        ensures state { OnOk result (IsState (staged self.new)) }
+        ensures runs { IfOk result (λ n. Runs (stage_state self.old) (take n piece.now) turns.old.items turns.new.items (stage_state self.new)) }
+        ensures state { OnOk result (IsReaderState (stage_state self.new)) }
     {
         let left = left as usize;
         if piece.len() < left {
@@ -300,11 +301,11 @@ impl Stage {
         piece: &[u8],
         turns: &mut Vec<Turn>,
     ) -> Result<usize, AllocError>
-        requires within { IsState (staged self.old) }
+        requires within { IsReaderState (stage_state self.old) }
         requires some { 0 < length piece.now }
         ensures count { IfOk result (λ n. (0 < n) × (n ≤ length piece.now)) }
-        ensures runs { IfOk result (λ n. Runs (staged self.old) (take n piece.now) turns.old.items turns.new.items (staged self.new)) }
-        ensures state { OnOk result (IsState (staged self.new)) }
+        ensures runs { IfOk result (λ n. Runs (stage_state self.old) (take n piece.now) turns.old.items turns.new.items (stage_state self.new)) }
+        ensures state { OnOk result (IsReaderState (stage_state self.new)) }
     {
         match &self.part {
             Part::Line => self.step_line(alloc, piece, turns),

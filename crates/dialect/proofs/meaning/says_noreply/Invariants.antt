@@ -1,6 +1,6 @@
 use Rattle.std.proofs.Common.{◌≡◌, drop, map, false}
 use Rattle.dialect.specs.Line.{ends_quiet}
-use Rattle.dialect.proofs.meaning.is_quiet.Given as goal
+use Rattle.dialect.proofs.meaning.says_noreply.Given as goal
 
 -- the words that are left decide, after those so far
 abbrev pub invariant-loop-word : goal.invariant-loop-word
