@@ -79,9 +79,9 @@ cas_sound quiet (k ∷ f ∷ e ∷ n ∷ []) = tt
 cas_sound quiet (k ∷ f ∷ e ∷ n ∷ u ∷ last) =
     if_sound (is_end last) _ _ (storage_sound quiet (block_size_of n) (header_of quiet (cas_kind u) k f e) (header_size quiet (cas_kind u) k f e)) tt
 
-delete_sound : (quiet : Bool) (ws : List (List ℕ)) → IsSound (delete_line quiet ws)
-delete_sound quiet [] = tt
-delete_sound quiet (k ∷ last) = if_sound (is_delete_end last) _ _ (map_or_sound (key_of k) _ _ (λ key. tt) tt) tt
+delete_sound : (ws : List (List ℕ)) → IsSound (delete_line ws)
+delete_sound [] = tt
+delete_sound (k ∷ last) = if_sound (is_delete_end last) _ _ (map_or_sound (key_of k) _ _ (λ key. tt) tt) tt
 
 touch_sound : (quiet : Bool) (ws : List (List ℕ)) → IsSound (touch_line quiet ws)
 touch_sound quiet [] = tt
@@ -108,7 +108,7 @@ line_sound name.Get quiet ws = tt
 line_sound name.Gets quiet ws = tt
 line_sound name.Gat quiet ws = timed_sound _ ws (λ exptime. tt)
 line_sound name.Gats quiet ws = timed_sound _ ws (λ exptime. tt)
-line_sound name.Delete quiet ws = delete_sound quiet ws
+line_sound name.Delete quiet ws = delete_sound ws
 line_sound name.Touch quiet ws = touch_sound quiet ws
 line_sound name.Incr quiet ws = delta_sound true quiet ws
 line_sound name.Decr quiet ws = delta_sound false quiet ws

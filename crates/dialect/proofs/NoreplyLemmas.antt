@@ -13,10 +13,10 @@ use Rattle.proto.specs.declared.line.Kind.{Kind}
 use Rattle.proto.specs.declared.line.Kind.TheVariants as kind
 use Rattle.dialect.specs.Number.{unsigned_of, flags_of, exptime_of, block_size_of}
 use Rattle.dialect.specs.Name.{name_of}
-use Rattle.dialect.specs.Line.{says_noreply, is_end, is_delete_end, said, says_notice, shown, removes, too_large, sized, storage, header_of, cas_kind, store_line, cas_line, delete_line, touch_line, delta_line, verbosity_line, line_of}
+use Rattle.dialect.specs.Line.{says_noreply, is_end, is_delete_end, said, says_notice, shown, removes, too_large, sized, storage, header_of, cas_kind, store_line, cas_line, delete_of, delete_line, touch_line, delta_line, verbosity_line, line_of}
 use Rattle.dialect.specs.Meaning.{Meaning, meaning, meaning_of_words, meaning_of_line, unknown, block_turn, without_return}
 use Rattle.dialect.specs.Text.{notice_text}
-use Rattle.dialect.specs.Laws.{takes_noreply, IsNoreply, ShowsNothing, AllShowNothing, PartShowsNothing}
+use Rattle.dialect.specs.Laws.{leaves_out, IsNoreply, ShowsNothing, AllShowNothing, PartShowsNothing}
 use Rattle.dialect.specs.declared.turn.Notice.{Notice}
 use Rattle.dialect.specs.declared.turn.Notice.TheVariants as notice
 use Rattle.dialect.specs.declared.turn.Show.TheVariants as show
@@ -35,6 +35,9 @@ IsMute (Closes n) = notice_text n ≡ []
 IsMute (Reads r) = ⊥
 IsMute (Opens h) = h.quiet ≡ true
 IsMute (Skips n turn) = IfSome turn ShowsNothing
+
+not_so : {P : Type 0} → false ≡ true → P
+not_so e = absurd (let f : false ≡ true = e in cc)
 
 if_mute : (b : Bool) (x y : Line) → IsMute x → IsMute y → IsMute (if b then x else y)
 if_mute true x y p q = p
@@ -97,9 +100,12 @@ cas_mute (k ∷ f ∷ e ∷ []) = tt
 cas_mute (k ∷ f ∷ e ∷ n ∷ []) = tt
 cas_mute (k ∷ f ∷ e ∷ n ∷ u ∷ last) = if_mute (is_end last) _ _ (storage_mute (block_size_of n) (header_of true (cas_kind u) k f e) (header_quiet (cas_kind u) k f e)) tt
 
-delete_mute : (ws : List (List ℕ)) → IsMute (delete_line true ws)
-delete_mute [] = tt
-delete_mute (k ∷ last) = if_mute (is_delete_end last) _ _ (map_or_mute (key_of k) _ _ (λ key. refl) tt) tt
+delete_of_mute : (k : List ℕ) (last : List (List ℕ)) → IsMute (delete_of true k last)
+delete_of_mute k last = if_mute (is_delete_end last) _ _ (map_or_mute (key_of k) _ _ (λ key. refl) tt) tt
+
+delete_mute : (ws : List (List ℕ)) → says_noreply (drop 1 ws) ≡ true → IsMute (delete_line ws)
+delete_mute [] e = not_so e
+delete_mute (k ∷ last) e = subst (λ (quiet : Bool). IsMute (delete_of quiet k last)) (sym e) (delete_of_mute k last)
 
 touch_mute : (ws : List (List ℕ)) → IsMute (touch_line true ws)
 touch_mute [] = tt
@@ -115,25 +121,26 @@ verbosity_mute : (ws : List (List ℕ)) → IsMute (verbosity_line true ws)
 verbosity_mute [] = tt
 verbosity_mute (n ∷ last) = if_mute (is_end last) _ _ tt tt
 
-not_so : {P : Type 0} → false ≡ true → P
-not_so e = absurd (let f : false ≡ true = e in cc)
+-- the line gives no bytes where it says noreply
+quietly : (line : Bool → Line) (quiet : Bool) → quiet ≡ true → IsMute (line true) → IsMute (line quiet)
+quietly line quiet e m = subst (λ (q : Bool). IsMute (line q)) (sym e) m
 
-line_mute : (n : Name) (ws : List (List ℕ)) → takes_noreply n ≡ true → IsMute (line_of n true ws)
-line_mute (name.Store v) ws e = store_mute v ws
-line_mute name.Cas ws e = cas_mute ws
+line_mute : (n : Name) (ws : List (List ℕ)) → leaves_out n ws ≡ true → IsMute (line_of n (says_noreply ws) ws)
+line_mute (name.Store v) ws e = quietly (λ quiet. store_line v quiet ws) (says_noreply ws) e (store_mute v ws)
+line_mute name.Cas ws e = quietly (λ quiet. cas_line quiet ws) (says_noreply ws) e (cas_mute ws)
 line_mute name.Get ws e = not_so e
 line_mute name.Gets ws e = not_so e
 line_mute name.Gat ws e = not_so e
 line_mute name.Gats ws e = not_so e
-line_mute name.Delete ws e = delete_mute ws
-line_mute name.Touch ws e = touch_mute ws
-line_mute name.Incr ws e = delta_mute true ws
-line_mute name.Decr ws e = delta_mute false ws
+line_mute name.Delete ws e = delete_mute ws e
+line_mute name.Touch ws e = quietly (λ quiet. touch_line quiet ws) (says_noreply ws) e (touch_mute ws)
+line_mute name.Incr ws e = quietly (λ quiet. delta_line true quiet ws) (says_noreply ws) e (delta_mute true ws)
+line_mute name.Decr ws e = quietly (λ quiet. delta_line false quiet ws) (says_noreply ws) e (delta_mute false ws)
 line_mute name.Version ws e = not_so e
 line_mute name.Quit ws e = refl
-line_mute name.Verbosity ws e = verbosity_mute ws
-line_mute name.FlushAll ws e = tt
-line_mute name.Shutdown ws e = tt
+line_mute name.Verbosity ws e = quietly (λ quiet. verbosity_line quiet ws) (says_noreply ws) e (verbosity_mute ws)
+line_mute name.FlushAll ws e = said_mute (says_noreply ws) notice.FlushRefused e
+line_mute name.Shutdown ws e = said_mute (says_noreply ws) notice.ShutdownRefused e
 line_mute name.MetaNoop ws e = not_so e
 line_mute name.Http ws e = not_so e
 
@@ -150,9 +157,9 @@ given_mute (Skips n turn) ws m = (tt, m)
 
 pub noreply_gives_nothing : (line : List ℕ) → IsNoreply line → AllShowNothing (meaning line).turns × PartShowsNothing (meaning line).part
 unfolding meaning
-noreply_gives_nothing line i =
-    let base : GivesNone (meaning_of_line (line_of i.called true i.others) i.others) = given_mute (line_of i.called true i.others) i.others (line_mute i.called i.others i.takes) in
-    let quiet : GivesNone (meaning_of_line (line_of i.called (says_noreply i.others) i.others) i.others) = subst (λ (q : Bool). GivesNone (meaning_of_line (line_of i.called q i.others) i.others)) (sym i.last) base in
+noreply_gives_nothing bytes i =
+    let line : GivesNone (meaning_of_line (line_of i.called (says_noreply i.others) i.others) i.others) =
+    given_mute (line_of i.called (says_noreply i.others) i.others) i.others (line_mute i.called i.others i.quiet) in
     let named : GivesNone (meaning_of_words (i.first ∷ i.others)) =
-    subst (λ (n : Option Name). GivesNone (option_map_or (λ (m : Name). meaning_of_line (line_of m (says_noreply i.others) i.others) i.others) n unknown)) (sym i.named) quiet in
+    subst (λ (n : Option Name). GivesNone (option_map_or (λ (m : Name). meaning_of_line (line_of m (says_noreply i.others) i.others) i.others) n unknown)) (sym i.named) line in
     subst (λ (ws : List (List ℕ)). GivesNone (meaning_of_words ws)) (sym i.splits) named

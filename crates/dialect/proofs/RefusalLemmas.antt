@@ -126,9 +126,9 @@ cas_removes quiet (k ∷ f ∷ e ∷ []) = tt
 cas_removes quiet (k ∷ f ∷ e ∷ n ∷ []) = tt
 cas_removes quiet (k ∷ f ∷ e ∷ n ∷ u ∷ last) = if_removal (is_end last) _ _ (storage_removes quiet (block_size_of n) (header_of quiet (cas_kind u) k f e)) tt
 
-delete_removes : (quiet : Bool) (ws : List (List ℕ)) → IsRemoval (delete_line quiet ws)
-delete_removes quiet [] = tt
-delete_removes quiet (k ∷ last) = if_removal (is_delete_end last) _ _ (map_or_removal (key_of k) _ _ (λ key. tt) tt) tt
+delete_removes : (ws : List (List ℕ)) → IsRemoval (delete_line ws)
+delete_removes [] = tt
+delete_removes (k ∷ last) = if_removal (is_delete_end last) _ _ (map_or_removal (key_of k) _ _ (λ key. tt) tt) tt
 
 touch_removes : (quiet : Bool) (ws : List (List ℕ)) → IsRemoval (touch_line quiet ws)
 touch_removes quiet [] = tt
@@ -155,7 +155,7 @@ line_removes name.Get quiet ws = tt
 line_removes name.Gets quiet ws = tt
 line_removes name.Gat quiet ws = timed_removes _ ws (λ exptime. tt)
 line_removes name.Gats quiet ws = timed_removes _ ws (λ exptime. tt)
-line_removes name.Delete quiet ws = delete_removes quiet ws
+line_removes name.Delete quiet ws = delete_removes ws
 line_removes name.Touch quiet ws = touch_removes quiet ws
 line_removes name.Incr quiet ws = delta_removes true quiet ws
 line_removes name.Decr quiet ws = delta_removes false quiet ws

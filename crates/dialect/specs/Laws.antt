@@ -1,5 +1,5 @@
 -- What the laws of the dialect say.
-use Rattle.std.specs.Prelude.{◌≡◌, ℕ, ◌<◌, ◌≤◌, List, [], ◌∷◌, ◌++◌, length, Bool, true, false, Option, IfSome, Some, IsTrue}
+use Rattle.std.specs.Prelude.{◌≡◌, ℕ, ◌<◌, ◌≤◌, List, [], ◌∷◌, ◌++◌, length, drop, Bool, true, false, Option, IfSome, Some, IsTrue}
 use Rattle.std.specs.List.{list_all}
 use Rattle.proto.specs.Key.{is_key}
 use Rattle.proto.specs.Line.{words}
@@ -27,35 +27,34 @@ use Rattle.dialect.specs.declared.turn.Turn.TheVariants.{Ask, Say, Close}
 
 -- noreply.
 
--- whether noreply at the end of its line leaves out all bytes of a command
-abbrev pub takes_noreply : Name → Bool
-takes_noreply (name.Store verb) = true
-takes_noreply name.Cas = true
-takes_noreply name.Get = false
-takes_noreply name.Gets = false
-takes_noreply name.Gat = false
-takes_noreply name.Gats = false
-takes_noreply name.Delete = true
-takes_noreply name.Touch = true
-takes_noreply name.Incr = true
-takes_noreply name.Decr = true
-takes_noreply name.Version = false
-takes_noreply name.Quit = true
-takes_noreply name.Verbosity = true
-takes_noreply name.FlushAll = true
-takes_noreply name.Shutdown = true
-takes_noreply name.MetaNoop = false
-takes_noreply name.Http = false
+-- whether the words after a command's name leave out all bytes: the last is noreply. The first word of a delete is a key.
+abbrev pub leaves_out : Name → List (List ℕ) → Bool
+leaves_out (name.Store verb) ws = says_noreply ws
+leaves_out name.Cas ws = says_noreply ws
+leaves_out name.Get ws = false
+leaves_out name.Gets ws = false
+leaves_out name.Gat ws = false
+leaves_out name.Gats ws = false
+leaves_out name.Delete ws = says_noreply (drop 1 ws)
+leaves_out name.Touch ws = says_noreply ws
+leaves_out name.Incr ws = says_noreply ws
+leaves_out name.Decr ws = says_noreply ws
+leaves_out name.Version ws = false
+leaves_out name.Quit ws = says_noreply ws
+leaves_out name.Verbosity ws = says_noreply ws
+leaves_out name.FlushAll ws = says_noreply ws
+leaves_out name.Shutdown ws = says_noreply ws
+leaves_out name.MetaNoop ws = false
+leaves_out name.Http ws = false
 
--- the line has the name of such a command, and its last word is noreply
+-- the line is that of a command, and says noreply
 pub record IsNoreply (line : List ℕ) : Type 0 where
   pub first : List ℕ
   pub others : List (List ℕ)
   pub called : Name
   pub splits : words (without_return line) ≡ first ∷ others
   pub named : name_of first ≡ Some called
-  pub takes : takes_noreply called ≡ true
-  pub last : says_noreply others ≡ true
+  pub quiet : leaves_out called others ≡ true
 
 -- no byte is given, whatever the reply is
 abbrev pub ShowsNothing : Turn → Type 0

@@ -119,12 +119,16 @@ is_delete_end (w ∷ v ∷ u ∷ ws) = false
 abbrev pub on_key : Bool → List ℕ → (List ℕ → Line) → Line
 on_key quiet w line = option_map_or line (key_of w) (says_notice quiet notice.BadFormat)
 
--- <key> [0] [noreply]
-abbrev pub delete_line : Bool → List (List ℕ) → Line
-delete_line quiet [] = says_notice quiet notice.UnknownName
-delete_line quiet (k ∷ last) =
+-- a key, with what stands after it
+abbrev pub delete_of : Bool → List ℕ → List (List ℕ) → Line
+delete_of quiet k last =
     if is_delete_end last then on_key quiet k (λ key. asks_update quiet (update.Delete key))
     else says_notice quiet notice.BadDelete
+
+-- <key> [0] [noreply]. A key that is `noreply` says nothing of the reply.
+abbrev pub delete_line : List (List ℕ) → Line
+delete_line [] = says_notice false notice.UnknownName
+delete_line (k ∷ last) = delete_of (says_noreply last) k last
 
 -- <key> <exptime> [noreply]
 abbrev pub touch_line : Bool → List (List ℕ) → Line
@@ -164,7 +168,7 @@ line_of name.Get quiet ws = Reads reading.Get
 line_of name.Gets quiet ws = Reads reading.Gets
 line_of name.Gat quiet ws = timed_line (λ exptime. Reads (reading.Gat exptime)) ws
 line_of name.Gats quiet ws = timed_line (λ exptime. Reads (reading.Gats exptime)) ws
-line_of name.Delete quiet ws = delete_line quiet ws
+line_of name.Delete quiet ws = delete_line ws
 line_of name.Touch quiet ws = touch_line quiet ws
 line_of name.Incr quiet ws = delta_line true quiet ws
 line_of name.Decr quiet ws = delta_line false quiet ws

@@ -214,12 +214,14 @@ fn is_delete_end(words: &[&[u8]]) -> bool
     }
 }
 
-fn delete_line(alloc: Global, quiet: bool, words: &[&[u8]]) -> Result<Line, AllocError>
-    ensures { IfOk result (λ l. l ≡ spec.delete_line quiet (map (λ w. w.now) words.now)) }
+fn delete_of(
+    alloc: Global,
+    quiet: bool,
+    key: &[u8],
+    last: &[&[u8]],
+) -> Result<Line, AllocError>
+    ensures { IfOk result (λ l. l ≡ spec.delete_of quiet key.now (map (λ w. w.now) last.now)) }
 {
-    let [key, last @ ..] = words else {
-        return Ok(says_notice(quiet, Notice::UnknownName));
-    };
     if !is_delete_end(last) {
         return Ok(says_notice(quiet, Notice::BadDelete));
     }
@@ -227,6 +229,16 @@ fn delete_line(alloc: Global, quiet: bool, words: &[&[u8]]) -> Result<Line, Allo
         None => Ok(says_notice(quiet, Notice::BadFormat)),
         Some(key) => Ok(asks_update(quiet, Update::Delete { key })),
     }
+}
+
+/// A `noreply` counts behind the key: `delete noreply` is answered.
+fn delete_line(alloc: Global, words: &[&[u8]]) -> Result<Line, AllocError>
+    ensures { IfOk result (λ l. l ≡ spec.delete_line (map (λ w. w.now) words.now)) }
+{
+    let [key, last @ ..] = words else {
+        return Ok(says_notice(false, Notice::UnknownName));
+    };
+    delete_of(alloc, says_noreply(last), key, last)
 }
 
 fn touch_line(alloc: Global, quiet: bool, words: &[&[u8]]) -> Result<Line, AllocError>
@@ -337,7 +349,7 @@ fn line_of(alloc: Global, name: Name, quiet: bool, words: &[&[u8]]) -> Result<Li
             Ok(exptime) => Line::Reads(ReadVerb::Gats(exptime)),
             Err(notice) => says_notice(false, notice),
         },
-        Name::Delete => delete_line(alloc, quiet, words)?,
+        Name::Delete => delete_line(alloc, words)?,
         Name::Touch => touch_line(alloc, quiet, words)?,
         Name::Incr => delta_line(alloc, true, quiet, words)?,
         Name::Decr => delta_line(alloc, false, quiet, words)?,

@@ -66,11 +66,18 @@ const STORAGE: [Row; 26] = [
     (b"set k 0 0 1 noreply\r\n5xxmn\r\n", b"MN\r\n"),
 ];
 
-const OTHERS: [Row; 36] = [
+const OTHERS: [Row; 39] = [
     (b"delete k\r\n", b"delete k\n"),
     (b"delete k 0\r\n", b"delete k\n"),
     (b"delete k noreply\r\n", b"delete k (quiet)\n"),
     (b"delete k 0 noreply\r\n", b"delete k (quiet)\n"),
+    // The first word is a key.
+    (b"delete noreply\r\n", b"delete noreply\n"),
+    (b"delete noreply 0\r\n", b"delete noreply\n"),
+    (
+        b"delete noreply noreply\r\n",
+        b"delete noreply (quiet)\n",
+    ),
     (b"delete k 1\r\n", BAD_DELETE),
     (b"delete k 0 0\r\n", BAD_DELETE),
     (b"delete k 1 noreply\r\n", b""),
