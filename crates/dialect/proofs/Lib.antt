@@ -6,4 +6,6 @@ mod StageLemmas
 mod NoreplyLemmas
 mod RefusalLemmas
 mod ManyLemmas
+mod ProfileLemmas
+mod ProfileLineLemmas
 pub mod SpellsLemmas

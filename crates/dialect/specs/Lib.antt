@@ -8,3 +8,4 @@ pub mod Grammar
 pub mod Text
 pub mod Stage
 pub mod Laws
+pub mod Profile

@@ -4,11 +4,15 @@
 ghost use Rattle.std.specs.Prelude.{◌≡◌, ◌≤◌, ◌++◌, ◌∷◌, [], List, ℕ, length, true};
 ghost use Rattle.std.specs.List.{list_all};
 ghost use Rattle.proto.specs.Key.{is_key};
+ghost use Rattle.proto.specs.Grammar.{block_turn as profile_block_turn};
+ghost use Rattle.proto.specs.Line.{meaning as profile_meaning};
 ghost use Rattle.proto.specs.Text.{reply_text};
+ghost use Rattle.proto.specs.declared.line.Header.{Header};
 ghost use Rattle.proto.specs.declared.reply.Found.{Found};
 ghost use Rattle.proto.specs.declared.reply.Reply.TheVariants.{Values};
 ghost use Rattle.dialect.specs.Grammar.{Spells};
-ghost use Rattle.dialect.specs.Meaning.{meaning};
+ghost use Rattle.dialect.specs.Meaning.{meaning, block_turn};
+ghost use Rattle.dialect.specs.Profile.{AsksTheSame, BlockAsksTheSame};
 ghost use Rattle.dialect.specs.Reading.{head, read_turns};
 ghost use Rattle.dialect.specs.Laws.{IsNoreply, AllShowNothing, PartShowsNothing, commands, speaks, UnreadOnlyRemoves, all_keys, ArePieces, all_found, bytes_shown};
 ghost use Rattle.dialect.specs.declared.turn.Turn.{Turn};
@@ -51,4 +55,13 @@ pub fn a_get_of_many_keys_is_one_get()
     // What is given is the reply of one command that finds what they find.
     ensures shown { (r : ReadVerb) (k : List ℕ) (ks : List (List ℕ)) (found : List (List Found)) → list_all is_key (k ∷ ks) ≡ true
         → length found ≡ length (read_turns r (k ∷ ks)) → bytes_shown (read_turns r (k ∷ ks)) found ≡ reply_text (Values (all_found found)) }
+{}
+
+/// A line of the profile asks the same command in the dialect, with the same of its reply shown. A `get` asks its keys
+/// as the law above says.
+pub fn a_line_of_the_profile_asks_the_same()
+    ensures line { (line : List ℕ) → AsksTheSame (profile_meaning line) (meaning line) }
+
+    // Its block, with the two bytes after it.
+    ensures block { (header : Header) (block end : List ℕ) → length block ≡ header.size → BlockAsksTheSame (profile_block_turn header block end) (block_turn header (block ++ end)) }
 {}

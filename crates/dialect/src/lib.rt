@@ -21,8 +21,9 @@ mod turn;
 mod writing;
 
 pub use laws::{
-    a_get_of_many_keys_is_one_get, a_noreply_line_gives_no_bytes, a_refused_line_asks_nothing,
-    longer_bytes_spell_more, one_list_is_spelled,
+    a_get_of_many_keys_is_one_get, a_line_of_the_profile_asks_the_same,
+    a_noreply_line_gives_no_bytes, a_refused_line_asks_nothing, longer_bytes_spell_more,
+    one_list_is_spelled,
 };
 pub use line::{MOST_LINE_BYTES, MOST_SIZE};
 pub use reader::Reader;
