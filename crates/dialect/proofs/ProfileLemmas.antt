@@ -50,6 +50,7 @@ below_at limit text n e v l =
     both : (x y : Bool) → x ≡ true → y ≡ true → (x && y) ≡ true
     both true y e f = f
     both false y e f = e
+
     tested : (m limit : ℕ) → m < limit → nat_lt m limit ≡ true
     tested m limit l = grind (arith, nat_tests)
 
@@ -86,9 +87,11 @@ time_as (c ∷ cs) x e = by (c == 45) refl e
     minus : (n : ℕ) → n ≤ 2 ^ 31 → wrapped_minus n ≡ neg_ℤ (pos n)
     minus n l = let same : n % 2 ^ 32 ≡ n = low n (omega (arith, l)) in
         ap (λ (m : ℕ). if nat_le m (2 ^ 31) then neg_ℤ (pos m) else pos (2 ^ 32 - m)) same ∙ taken (nat_le n (2 ^ 31)) _ _ (grind (arith, nat_tests))
+
     plain : (n : ℕ) → n < 2 ^ 31 → wrapped n ≡ pos n
     plain n l = let same : n % 2 ^ 32 ≡ n = low n (omega (arith, l)) in
         ap (λ (m : ℕ). if nat_lt m (2 ^ 31) then pos m else neg_ℤ (pos (2 ^ 32 - m))) same ∙ taken (nat_lt n (2 ^ 31)) _ _ (grind (arith, nat_tests))
+
     by : (b : Bool) → (c == 45) ≡ b
         → (if b then (if is_number cs && nat_le (digits_value 10 cs) (2 ^ 31) then Some (neg_ℤ (pos (digits_value 10 cs))) else None)
         else (if is_number (c ∷ cs) && nat_lt (digits_value 10 (c ∷ cs)) (2 ^ 31) then Some (pos (digits_value 10 (c ∷ cs))) else None)) ≡ Some x → exptime_of (c ∷ cs) ≡ Some x

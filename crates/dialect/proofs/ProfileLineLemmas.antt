@@ -138,7 +138,7 @@ module _ (w f e n : List ℕ) (last : List (List ℕ)) where
   store_agrees : (v : StoreVerb) (fs : Option ℕ) → number_below (2 ^ 32) f ≡ fs → (x : Option ℤ) → profile_number.exptime_of e ≡ x → (s : Option ℕ) → number_below (2 ^ 31) n ≡ s
       → (q : Option Bool) → profile.quiet_of last ≡ q → (k : Option (List ℕ)) → key_of w ≡ k
       → AsksTheSame (profile.opens_or_bad (((fs >>= λ flags. x >>= λ exptime. s >>= λ size. Some (flags, exptime, size)) >>= λ numbers. q >>= λ quiet. k >>= λ key.
-        Some (let h : Header = record { kind = kind.Plain v; key = key; flags = numbers.0; exptime = numbers.1; size = numbers.2; quiet = quiet } in h))))
+      Some (let h : Header = record { kind = kind.Plain v; key = key; flags = numbers.0; exptime = numbers.1; size = numbers.2; quiet = quiet } in h))))
       (meaning_of_line (store_line v (says_noreply (w ∷ f ∷ e ∷ n ∷ last)) (w ∷ f ∷ e ∷ n ∷ last)) (w ∷ f ∷ e ∷ n ∷ last))
   store_agrees v None a x b s c q d k g = tt
   store_agrees v (Some fs) a None b s c q d k g = tt
@@ -151,7 +151,7 @@ module _ (w f e n : List ℕ) (last : List (List ℕ)) where
   cas_agrees : (u : List ℕ) (fs : Option ℕ) → number_below (2 ^ 32) f ≡ fs → (x : Option ℤ) → profile_number.exptime_of e ≡ x → (s : Option ℕ) → number_below (2 ^ 31) n ≡ s
       → (i : Option ℕ) → number_below (2 ^ 64) u ≡ i → (q : Option Bool) → profile.quiet_of last ≡ q → (k : Option (List ℕ)) → key_of w ≡ k
       → AsksTheSame (profile.opens_or_bad (((fs >>= λ flags. x >>= λ exptime. s >>= λ size. Some (flags, exptime, size)) >>= λ numbers. i >>= λ unique. q >>= λ quiet. k >>= λ key.
-        Some (let h : Header = record { kind = kind.Cas unique; key = key; flags = numbers.0; exptime = numbers.1; size = numbers.2; quiet = quiet } in h))))
+      Some (let h : Header = record { kind = kind.Cas unique; key = key; flags = numbers.0; exptime = numbers.1; size = numbers.2; quiet = quiet } in h))))
       (meaning_of_line (cas_line (says_noreply (w ∷ f ∷ e ∷ n ∷ u ∷ last)) (w ∷ f ∷ e ∷ n ∷ u ∷ last)) (w ∷ f ∷ e ∷ n ∷ u ∷ last))
   cas_agrees u None a x b s c i j q d k g = tt
   cas_agrees u (Some fs) a None b s c i j q d k g = tt

@@ -8,7 +8,7 @@ ghost use Rattle.dialect.specs.Meaning.{meaning, meaning_of_words, without_retur
 
 use crate::line::{Line, Name, ReadVerb};
 use crate::name::name_of;
-use crate::number::{exptime_of, flags_of, block_size_of, unsigned_in};
+use crate::number::{block_size_of, exptime_of, flags_of, unsigned_in};
 use crate::part::Part;
 use crate::reading::{push_some, read_keys};
 use crate::turn::{Notice, Show, Turn};
@@ -214,12 +214,7 @@ fn is_delete_end(words: &[&[u8]]) -> bool
     }
 }
 
-fn delete_of(
-    alloc: Global,
-    quiet: bool,
-    key: &[u8],
-    last: &[&[u8]],
-) -> Result<Line, AllocError>
+fn delete_of(alloc: Global, quiet: bool, key: &[u8], last: &[&[u8]]) -> Result<Line, AllocError>
     ensures { IfOk result (λ l. l ≡ spec.delete_of quiet key.now (map (λ w. w.now) last.now)) }
 {
     if !is_delete_end(last) {
