@@ -1,5 +1,5 @@
 -- What a line asks in the profile, it asks in the dialect too.
-use Rattle.std.proofs.Common.{◌≡◌, ℕ, ◌+◌, ◌<◌, ◌≤◌, ◌^◌, ◌%◌, Bool, true, false, List, [], ◌∷◌, length, Option, Some, None, refl, sym, ap, ◌∙◌, subst, arith, ◌&&◌, if◌then◌else◌}
+use Rattle.std.proofs.Common.{◌≡◌, ℕ, ◌+◌, ◌-◌, ◌<◌, ◌≤◌, ◌^◌, ◌%◌, Bool, true, false, List, [], ◌∷◌, length, Option, Some, None, refl, sym, ap, ◌∙◌, subst, arith, ◌&&◌, if◌then◌else◌}
 use Rattle.std.specs.Prelude.{ℤ, pos, neg_ℤ, ◌==◌, nat_lt, nat_le, codes, bytes_eq}
 use Rattle.std.specs.Str.{all_ascii_digits}
 use Rattle.std.specs.Str.Parse.{digits_value}
@@ -64,23 +64,23 @@ unsigned_as : (limit : ℕ) (text : List ℕ) (n : ℕ) → number_below limit t
 unsigned_as limit [] n e l = absurd (let f : false ≡ true = (below_parts limit [] n e).0 in cc)
 unsigned_as limit (c ∷ cs) n e l =
     let p = below_parts limit (c ∷ cs) n e in
-    chosen (c == 43) _ _ (no_plus c cs p.0) ∙ below_at (2 ^ 64) (c ∷ cs) n p.0 p.1.1 l
+    chosen (c == 43) _ _ (no_plus c cs p.0) ∙ below_at (2 ^ 64) (c ∷ cs) n p.0 p.2 l
 
 low : (n : ℕ) → n < 2 ^ 32 → n % 2 ^ 32 ≡ n
 low n l = omega (arith, l)
 
 flags_as : (text : List ℕ) (n : ℕ) → number_below (2 ^ 32) text ≡ Some n → flags_of text ≡ Some n
 flags_as text n e =
-    let l : n < 2 ^ 32 = (below_parts (2 ^ 32) text n e).1.0 in
+    let l : n < 2 ^ 32 = (below_parts (2 ^ 32) text n e).1 in
     ap (option_map (λ n. n % 2 ^ 32)) (unsigned_as (2 ^ 32) text n e (omega (arith, l))) ∙ ap Some (low n l)
 
 size_as : (text : List ℕ) (n : ℕ) → number_below (2 ^ 31) text ≡ Some n → n ≤ MOST_BLOCK_BYTES → block_size_of text ≡ Some n
 size_as [] n e l = absurd (let f : false ≡ true = (below_parts (2 ^ 31) [] n e).0 in cc)
 size_as (c ∷ cs) n e l =
     let p = below_parts (2 ^ 31) (c ∷ cs) n e in
-    chosen (c == 43) _ _ (no_plus c cs p.0) ∙ below_at (2 ^ 31 - 2) (c ∷ cs) n p.0 p.1.1 (omega (arith, l))
+    chosen (c == 43) _ _ (no_plus c cs p.0) ∙ below_at (2 ^ 31 - 2) (c ∷ cs) n p.0 p.2 (omega (arith, l))
 
-time_as : (text : List ℕ) (x : ℤ) → profile_number.exptime_of text ≡ Some x → exptime_of text ≡ Some x
+pub time_as : (text : List ℕ) (x : ℤ) → profile_number.exptime_of text ≡ Some x → exptime_of text ≡ Some x
 time_as [] x e = absurd (cc)
 time_as (c ∷ cs) x e = by (c == 45) refl e
   where
@@ -113,7 +113,7 @@ time_as (c ∷ cs) x e = by (c == 45) refl e
 -- noreply.
 
 -- a word that is another has its tests
-word_is : (w t : List ℕ) → bytes_eq w t ≡ true → w ≡ t
+pub word_is : (w t : List ℕ) → bytes_eq w t ≡ true → w ≡ t
 word_is w t e = (bytes_eq-Decides w t).0 e
 
 not_noreply : {A : Type 0} (read : List ℕ → Option A) (w : List ℕ) (x : A) → read (codes "noreply") ≡ None → read w ≡ Some x → bytes_eq w (codes "noreply") ≡ false
@@ -153,7 +153,7 @@ pub delta_is : (up : Bool) (k w : List ℕ) (last : List (List ℕ)) (q : Bool) 
     → delta_line up (ends_quiet false (k ∷ w ∷ last)) (k ∷ w ∷ last) ≡ asks_update q (counting up key n)
 delta_is up k w last q key n e f g =
     let ends = quiet_ends last q e in
-    let l : n < 2 ^ 64 = (below_parts (2 ^ 64) w n g).1.0 in
+    let l : n < 2 ^ 64 = (below_parts (2 ^ 64) w n g).1 in
     ap (λ (quiet : Bool). delta_line up quiet (k ∷ w ∷ last)) (ends.1 (bytes_eq w (codes "noreply")) (not_noreply (number_below (2 ^ 64)) w n refl g))
     ∙ taken (is_end last) _ _ ends.0
     ∙ ap (λ (o : Option (List ℕ)). option_map_or (λ key. option_map_or (λ n. asks_update q (counting up key n)) (unsigned_of w) (says_notice q notice.BadDelta)) o (says_notice q notice.BadFormat)) f
@@ -190,7 +190,7 @@ module _ (w f e n : List ℕ) (last : List (List ℕ)) (q : Bool) (key : List �
       ≡ Opens (record { kind = kind.Cas unique; key = key; flags = flags; exptime = exptime; size = size; quiet = q })
   cas_is u unique a b c i d g l =
       let ends = quiet_ends last q d in
-      let small : unique < 2 ^ 64 = (below_parts (2 ^ 64) u unique i).1.0 in
+      let small : unique < 2 ^ 64 = (below_parts (2 ^ 64) u unique i).1 in
       let asked : cas_kind u ≡ Some (kind.Cas unique) = ap (λ (o : Option ℕ). o >>= λ unique. Some (kind.Cas unique)) (unsigned_as (2 ^ 64) u unique i small) in
       ap (λ (quiet : Bool). cas_line quiet (w ∷ f ∷ e ∷ n ∷ u ∷ last)) (ends.1 (bytes_eq u (codes "noreply")) (not_noreply (number_below (2 ^ 64)) u unique refl i))
       ∙ taken (is_end last) _ _ ends.0

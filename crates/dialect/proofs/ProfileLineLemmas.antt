@@ -1,5 +1,5 @@
 -- What a line asks in the profile, it asks in the dialect too: the names of commands, and all of a line.
-use Rattle.std.proofs.Common.{◌≡◌, ℕ, ◌+◌, ◌-◌, ◌≤◌, Bool, true, false, List, [], ◌∷◌, ◌++◌, length, take, drop, Option, Some, None, refl, sym, ap, ◌∙◌, subst, arith, ◌&&◌, if◌then◌else◌}
+use Rattle.std.proofs.Common.{◌≡◌, ℕ, ◌+◌, ◌-◌, ◌≤◌, ◌^◌, Bool, true, false, List, [], ◌∷◌, ◌++◌, length, take, drop, Option, Some, None, refl, sym, ap, ◌∙◌, subst, arith, ◌&&◌, if◌then◌else◌}
 use Rattle.std.specs.Prelude.{ℤ, nat_lt, nat_le, codes, bytes_eq}
 use Rattle.std.specs.List.{list_all}
 use Rattle.std.specs.Option.{option_map_or, option_or}
@@ -137,7 +137,7 @@ module _ (w v : List ℕ) (last : List (List ℕ)) where
 module _ (w f e n : List ℕ) (last : List (List ℕ)) where
   store_agrees : (v : StoreVerb) (fs : Option ℕ) → number_below (2 ^ 32) f ≡ fs → (x : Option ℤ) → profile_number.exptime_of e ≡ x → (s : Option ℕ) → number_below (2 ^ 31) n ≡ s
       → (q : Option Bool) → profile.quiet_of last ≡ q → (k : Option (List ℕ)) → key_of w ≡ k
-      → AsksTheSame (profile.opens_or_bad (((fs >>= λ flags. x >>= λ exptime. s >>= λ size. Some (flags, exptime, size)) >>= λ numbers. q >>= λ quiet. k >>= λ key.
+      → AsksTheSame (profile.opens_or_bad (((fs >>= λ flags. x >>= λ exptime. s >>= λ size. Some (let t : ℕ × ℤ × ℕ = (flags, exptime, size) in t)) >>= λ numbers. q >>= λ quiet. k >>= λ key.
       Some (let h : Header = record { kind = kind.Plain v; key = key; flags = numbers.0; exptime = numbers.1; size = numbers.2; quiet = quiet } in h))))
       (meaning_of_line (store_line v (says_noreply (w ∷ f ∷ e ∷ n ∷ last)) (w ∷ f ∷ e ∷ n ∷ last)) (w ∷ f ∷ e ∷ n ∷ last))
   store_agrees v None a x b s c q d k g = tt
@@ -150,7 +150,7 @@ module _ (w f e n : List ℕ) (last : List (List ℕ)) where
 
   cas_agrees : (u : List ℕ) (fs : Option ℕ) → number_below (2 ^ 32) f ≡ fs → (x : Option ℤ) → profile_number.exptime_of e ≡ x → (s : Option ℕ) → number_below (2 ^ 31) n ≡ s
       → (i : Option ℕ) → number_below (2 ^ 64) u ≡ i → (q : Option Bool) → profile.quiet_of last ≡ q → (k : Option (List ℕ)) → key_of w ≡ k
-      → AsksTheSame (profile.opens_or_bad (((fs >>= λ flags. x >>= λ exptime. s >>= λ size. Some (flags, exptime, size)) >>= λ numbers. i >>= λ unique. q >>= λ quiet. k >>= λ key.
+      → AsksTheSame (profile.opens_or_bad (((fs >>= λ flags. x >>= λ exptime. s >>= λ size. Some (let t : ℕ × ℤ × ℕ = (flags, exptime, size) in t)) >>= λ numbers. i >>= λ unique. q >>= λ quiet. k >>= λ key.
       Some (let h : Header = record { kind = kind.Cas unique; key = key; flags = numbers.0; exptime = numbers.1; size = numbers.2; quiet = quiet } in h))))
       (meaning_of_line (cas_line (says_noreply (w ∷ f ∷ e ∷ n ∷ u ∷ last)) (w ∷ f ∷ e ∷ n ∷ u ∷ last)) (w ∷ f ∷ e ∷ n ∷ u ∷ last))
   cas_agrees u None a x b s c i j q d k g = tt
@@ -221,7 +221,7 @@ of_gat [] = tt
 of_gat (e ∷ ks) = by (profile_number.exptime_of e) refl (nat_le 1 (length ks) && nat_le (length ks) MOST_KEYS && list_all is_key ks)
   where
     by : (x : Option ℤ) → profile_number.exptime_of e ≡ x → (b : Bool)
-        → AsksTheSame (profile.whole_or_bad ((x >>= λ exptime. (if b then Some ks else None) >>= λ keys. Some (exptime, keys)) >>= λ timed. Some (profile_turn.Ask (command.Gat timed.0 timed.1) false)))
+        → AsksTheSame (profile.whole_or_bad ((x >>= λ exptime. (if b then Some ks else None) >>= λ keys. Some (let t : ℤ × List (List ℕ) = (exptime, keys) in t)) >>= λ timed. Some (profile_turn.Ask (command.Gat timed.0 timed.1) false)))
         (meaning_of_line (line_of name.Gat false (e ∷ ks)) (e ∷ ks))
     by None is b = tt
     by (Some x) is false = tt
@@ -232,7 +232,7 @@ of_gats [] = tt
 of_gats (e ∷ ks) = by (profile_number.exptime_of e) refl (nat_le 1 (length ks) && nat_le (length ks) MOST_KEYS && list_all is_key ks)
   where
     by : (x : Option ℤ) → profile_number.exptime_of e ≡ x → (b : Bool)
-        → AsksTheSame (profile.whole_or_bad ((x >>= λ exptime. (if b then Some ks else None) >>= λ keys. Some (exptime, keys)) >>= λ timed. Some (profile_turn.Ask (command.Gats timed.0 timed.1) false)))
+        → AsksTheSame (profile.whole_or_bad ((x >>= λ exptime. (if b then Some ks else None) >>= λ keys. Some (let t : ℤ × List (List ℕ) = (exptime, keys) in t)) >>= λ timed. Some (profile_turn.Ask (command.Gats timed.0 timed.1) false)))
         (meaning_of_line (line_of name.Gats false (e ∷ ks)) (e ∷ ks))
     by None is b = tt
     by (Some x) is false = tt

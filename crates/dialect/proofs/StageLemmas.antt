@@ -1,5 +1,5 @@
 -- What a step of a reader gives.
-use Rattle.std.proofs.Common.{◌≡◌, ℕ, zero, suc, ◌+◌, ◌-◌, ◌<◌, ◌≤◌, Bool, true, false, List, [], ◌∷◌, ◌++◌, length, take, drop, Option, refl, sym, ap, ◌∙◌, subst, arith}
+use Rattle.std.proofs.Common.{◌≡◌, ℕ, zero, suc, ◌+◌, ◌-◌, ◌<◌, ◌≤◌, Bool, true, false, List, [], ◌∷◌, ◌++◌, length, take, drop, Option, refl, sym, ap, ◌∙◌, subst, arith, Result, Ok, Err, OnOk}
 use Rattle.std.specs.Option.{option_to_list}
 use Rattle.std.proofs.lemmas.List.{take_all, take_at, append_assoc, append-nil, length-append, length-take, take-append-drop}
 use Rattle.std.proofs.lemmas.Bool.Decides.{nat_tests}
@@ -8,17 +8,24 @@ use Rattle.proto.specs.declared.block.TheConstants.{MOST_BLOCK_BYTES}
 use Rattle.dialect.specs.Meaning.{meaning, block_turn}
 use Rattle.dialect.specs.State.{State, ReaderStep, state_at, to, start, is_binary, run, Runs, IsReaderState}
 use Rattle.proto.specs.Stage.{HasNoNewline}
-use Rattle.dialect.specs.Stage.{starts_binary, EndsNothing, IsPartRead}
+use Rattle.dialect.specs.Stage.{starts_binary, EndsNothing, IsPartRead, CutsLine, IsBlockOf, IsUnreadOf}
 use Rattle.dialect.specs.declared.line.TheConstants.{MOST_LINE_BYTES}
 use Rattle.dialect.specs.declared.turn.Notice.TheVariants as notice
 use Rattle.dialect.specs.declared.turn.Turn.{Turn}
 use Rattle.dialect.specs.declared.turn.Turn.TheVariants.{Close}
 use Rattle.dialect.specs.declared.part.Part.{Part}
 use Rattle.dialect.specs.declared.part.Part.TheVariants as part
+use Rattle.dialect.specs.declared.stage.Cut.TheVariants.{End, TooLong, Open}
+use Rattle.dialect.proofs.MeaningLemmas.{meaning_within}
 use Rattle.dialect.proofs.RunLemmas.{run_none, run_closed, run_line, run_end, run_long, run_binary, run_block, run_whole_block, run_unread, run_all_unread, runs_by, runs_on, starts_take, is_128}
 
 take_whole : (xs : List ℕ) → take (length xs) xs ≡ xs
 take_whole xs = take_all (length xs) xs (omega arith)
+
+-- what follows from a call's Ok
+pub on_ok : {T E : Type 0} (r : Result T E) (P Q : Type 0) → (P → Q) → OnOk r P → OnOk r Q
+on_ok (Ok x) P Q f h = f h
+on_ok (Err e) P Q f h = tt
 
 -- A piece that ends nothing.
 
@@ -36,6 +43,32 @@ unread_goes_on left turn held piece e g =
 pub closed_goes_on : (held piece : List ℕ) → held ≡ [] → run (state_at part.Closed held) piece ≡ to [] (state_at part.Closed held)
 closed_goes_on held piece e =
     ap (λ (ys : List ℕ). run (state_at part.Closed ys) piece) e ∙ run_closed piece ∙ ap (λ (ys : List ℕ). to [] (state_at part.Closed ys)) (sym e)
+
+-- the same, where the part is told apart
+pub line_extends : (p : Part) (held piece now : List ℕ) → p ≡ part.Line → EndsNothing p held piece → now ≡ held ++ piece → run (state_at p held) piece ≡ to [] (state_at p now)
+line_extends p held piece now is g e =
+    subst (λ (q : Part). run (state_at q held) piece ≡ to [] (state_at q now)) (sym is)
+    (line_goes_on held piece (subst (λ (q : Part). EndsNothing q held piece) is g) ∙ ap (λ (ys : List ℕ). to [] (state_at part.Line ys)) (sym e))
+
+pub block_extends : (p : Part) (h : Header) (held piece now : List ℕ) → p ≡ part.Block h → EndsNothing p held piece → now ≡ held ++ piece → run (state_at p held) piece ≡ to [] (state_at p now)
+block_extends p h held piece now is g e =
+    subst (λ (q : Part). run (state_at q held) piece ≡ to [] (state_at q now)) (sym is)
+    (block_goes_on h held piece (subst (λ (q : Part). EndsNothing q held piece) is g) ∙ ap (λ (ys : List ℕ). to [] (state_at (part.Block h) ys)) (sym e))
+
+pub unread_short : (p : Part) (left : ℕ) (turn : Option Turn) (held piece : List ℕ) → p ≡ part.Unread left turn → EndsNothing p held piece → length piece < left
+unread_short p left turn held piece is g = subst (λ (q : Part). EndsNothing q held piece) is g
+
+pub unread_extends : (p : Part) (left now : ℕ) (turn : Option Turn) (held piece : List ℕ) → p ≡ part.Unread left turn → IsReaderState (state_at p held) → EndsNothing p held piece → now ≡ left - length piece
+    → run (state_at p held) piece ≡ to [] (state_at (part.Unread now turn) held)
+unread_extends p left now turn held piece is within g e =
+    let in_unread : IsReaderState (state_at (part.Unread left turn) held) = subst (λ (q : Part). IsReaderState (state_at q held)) is within in
+    subst (λ (q : Part). run (state_at q held) piece ≡ to [] (state_at (part.Unread now turn) held)) (sym is)
+    (unread_goes_on left turn held piece in_unread.1 (unread_short p left turn held piece is g) ∙ ap (λ (n : ℕ). to [] (state_at (part.Unread n turn) held)) (sym e))
+
+pub closed_extends : (p : Part) (held piece : List ℕ) → p ≡ part.Closed → IsReaderState (state_at p held) → run (state_at p held) piece ≡ to [] (state_at p held)
+closed_extends p held piece is within =
+    let none : held ≡ [] = subst (λ (q : Part). IsReaderState (state_at q held)) is within in
+    subst (λ (q : Part). run (state_at q held) piece ≡ to [] (state_at q held)) (sym is) (closed_goes_on held piece none)
 
 -- the first byte of the binary protocol
 pub binary_held : (held piece : List ℕ) → starts_binary held piece ≡ true → held ≡ []
@@ -102,6 +135,71 @@ module _ (held piece : List ℕ) (before after : List Turn) where
   -- all of a piece that ends nothing
   pub none_runs : (old new : State) → run old piece ≡ to [] new → after ≡ before → Runs old (take (length piece) piece) before after new
   none_runs old new e t = subst (λ (ys : List ℕ). Runs old ys before after new) (sym (take_whole piece)) (runs_by old piece before after new (to [] new) e (t ∙ sym (append-nil before)) refl)
+
+-- Steps of code, where the part is told apart.
+
+module _ (p : Part) (held piece : List ℕ) (before after : List Turn) where
+  pub binary_step : p ≡ part.Line → starts_binary held piece ≡ true → after ≡ before ++ Close notice.Binary ∷ [] → Runs (state_at p held) (take 1 piece) before after (state_at part.Closed held)
+  binary_step is q t = subst (λ (q : Part). Runs (state_at q held) (take 1 piece) before after (state_at part.Closed held)) (sym is) (binary_runs held piece before after q t)
+
+  pub open_step : (now : List ℕ) → p ≡ part.Line → starts_binary held piece ≡ false → CutsLine (length held) piece Open → now ≡ held ++ piece → after ≡ before
+      → Runs (state_at p held) (take (length piece) piece) before after (state_at p now)
+  open_step now is q cut e t =
+      subst (λ (q : Part). Runs (state_at q held) (take (length piece) piece) before after (state_at q now)) (sym is)
+      (subst (λ (ys : List ℕ). Runs (state_at part.Line held) (take (length piece) piece) before after (state_at part.Line ys)) (sym e) (open_runs held piece before after q cut.0 cut.1 t))
+
+  pub long_step : (n : ℕ) (now : List ℕ) → p ≡ part.Line → starts_binary held piece ≡ false → CutsLine (length held) piece (TooLong n) → now ≡ [] → after ≡ before ++ Close notice.LineTooLong ∷ []
+      → Runs (state_at p held) (take n piece) before after (state_at part.Closed now)
+  long_step n now is q cut e t =
+      subst (λ (q : Part). Runs (state_at q held) (take n piece) before after (state_at part.Closed now)) (sym is)
+      (subst (λ (ys : List ℕ). Runs (state_at part.Line held) (take n piece) before after (state_at part.Closed ys)) (sym e) (long_runs held piece before after n q cut.0 cut.1 cut.2 cut.3 t))
+
+  pub end_step : (k : ℕ) (line : List ℕ) (new : State) → p ≡ part.Line → starts_binary held piece ≡ false → CutsLine (length held) piece (End k) → line ≡ held ++ take k piece
+      → after ≡ before ++ (meaning line).turns → new ≡ state_at (meaning line).part [] → Runs (state_at p held) (take (k + 1) piece) before after new
+  end_step k line new is q cut e t n =
+      subst (λ (q : Part). Runs (state_at q held) (take (k + 1) piece) before after new) (sym is)
+      (end_runs held piece before after k new q cut.0 cut.1 cut.2 cut.3 (t ∙ ap (λ (ys : List ℕ). before ++ (meaning ys).turns) e) (n ∙ ap (λ (ys : List ℕ). state_at (meaning ys).part []) e))
+
+  pub block_step_runs : (size n : ℕ) (now : List ℕ) → IsBlockOf size p → now ≡ held ++ take n piece → n ≤ length piece → length held + n < size + 2 → after ≡ before
+      → Runs (state_at p held) (take n piece) before after (state_at p now)
+  block_step_runs size n now is e m l t = by p is
+    where
+      by : (q : Part) → IsBlockOf size q → Runs (state_at q held) (take n piece) before after (state_at q now)
+      by part.Line is = absurd is
+      by (part.Block h) is =
+          subst (λ (ys : List ℕ). Runs (state_at (part.Block h) held) (take n piece) before after (state_at (part.Block h) ys)) (sym e)
+          (block_runs held piece before after h n m (subst (λ (s : ℕ). length held + n < s + 2) (sym is) l) t)
+      by (part.Unread left turn) is = absurd is
+      by part.Closed is = absurd is
+
+  pub whole_step_runs : (size n : ℕ) (now : List ℕ) (new : State) → IsBlockOf size p → now ≡ held ++ take n piece → 0 < n → n ≤ length piece → length held + n ≡ size + 2
+      → ((h : Header) → p ≡ part.Block h → after ≡ before ++ option_to_list (block_turn h now)) → new ≡ start → Runs (state_at p held) (take n piece) before after new
+  whole_step_runs size n now new is e some m l t start_is = by p is t
+    where
+      by : (q : Part) → IsBlockOf size q → ((h : Header) → q ≡ part.Block h → after ≡ before ++ option_to_list (block_turn h now)) → Runs (state_at q held) (take n piece) before after new
+      by part.Line is t = absurd is
+      by (part.Block h) is t =
+          whole_runs held piece before after h n new some m (subst (λ (s : ℕ). length held + n ≡ s + 2) (sym is) l)
+          (t h refl ∙ ap (λ (ys : List ℕ). before ++ option_to_list (block_turn h ys)) e) start_is
+      by (part.Unread left turn) is t = absurd is
+      by part.Closed is t = absurd is
+
+  pub unread_step_runs : (left n : ℕ) (turn : Option Turn) (now : Part) → p ≡ part.Unread n turn → IsUnreadOf left p → IsReaderState (state_at p held) → left ≤ length piece
+      → after ≡ before ++ option_to_list turn → now ≡ part.Line → Runs (state_at p held) (take left piece) before after (state_at now held)
+  unread_step_runs left n turn now is of within m t e =
+      let same : n ≡ left = subst (λ (q : Part). IsUnreadOf left q) is of in
+      let state : IsReaderState (state_at (part.Unread n turn) held) = subst (λ (q : Part). IsReaderState (state_at q held)) is within in
+      let some : 0 < left = subst (λ (k : ℕ). 0 < k) same state.0 in
+      let begins : state_at now held ≡ start = ap (λ (q : Part). state_at q held) e ∙ ap (λ (ys : List ℕ). state_at part.Line ys) state.1 in
+      subst (λ (q : Part). Runs (state_at q held) (take left piece) before after (state_at now held)) (sym (is ∙ ap (λ (k : ℕ). part.Unread k turn) same))
+      (unread_runs held piece before after left turn (state_at now held) state.1 some m t begins)
+
+  pub closed_step : p ≡ part.Closed → IsReaderState (state_at p held) → after ≡ before → Runs (state_at p held) (take (length piece) piece) before after (state_at p held)
+  closed_step is within t = none_runs held piece before after (state_at p held) (state_at p held) (closed_extends p held piece is within) t
+
+-- a line that ended leaves a reader within its limits
+pub after_line : (line : List ℕ) (new : State) → new ≡ state_at (meaning line).part [] → IsReaderState new
+after_line line new e = subst (λ (s : State). IsReaderState s) (sym e) (meaning_within line)
 
 -- Pieces.
 

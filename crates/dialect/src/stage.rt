@@ -1,6 +1,6 @@
 //! The inside of a reader: what it reads next, and what it holds of that.
 
-ghost use Rattle.std.specs.Prelude.{◌≡◌, ◌≤◌, ◌<◌, ◌+◌, ◌++◌, [], length, take, false, IfOk, OnOk, OnErr};
+ghost use Rattle.std.specs.Prelude.{◌≡◌, ◌≤◌, ◌<◌, ◌+◌, ◌-◌, ◌++◌, [], length, take, false, IfOk, OnOk, OnErr};
 ghost use Rattle.std.specs.Bool.{OnTrue};
 ghost use Rattle.std.specs.Option.{option_to_list};
 ghost use Rattle.proto.specs.Grammar.{filled};
@@ -61,6 +61,14 @@ fn cut_of(held: usize, piece: &[u8]) -> Cut
         Some(at) => Cut::End(at),
         None => Cut::TooLong(room),
     }
+}
+
+/// How many bytes are left after some.
+fn less(left: u32, bytes: usize) -> u32
+    requires { bytes < left }
+    ensures { result ≡ left - bytes }
+{
+    left - bytes as u32
 }
 
 fn fill(header: Header, block: Block) -> Command
@@ -166,7 +174,7 @@ impl Stage {
             Part::Line => self.held.extend_from_slice(piece),
             Part::Block(_) => self.held.extend_from_slice(piece),
             Part::Unread(left, _) => {
-                *left -= piece.len() as u32;
+                *left = less(*left, piece.len());
                 Ok(())
             }
             Part::Closed => Ok(()),
