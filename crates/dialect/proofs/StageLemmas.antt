@@ -1,5 +1,6 @@
 -- What a step of a reader gives.
-use Rattle.std.proofs.Common.{◌≡◌, ℕ, zero, suc, ◌+◌, ◌-◌, ◌<◌, ◌≤◌, Bool, true, false, List, [], ◌∷◌, ◌++◌, length, take, drop, Option, refl, sym, ap, ◌∙◌, subst, arith, Result, Ok, Err, OnOk}
+use Rattle.std.proofs.Common.{◌≡◌, ℕ, zero, suc, ◌+◌, ◌-◌, ◌<◌, ◌≤◌, Bool, true, false, List, [], ◌∷◌, ◌++◌, length, take, drop, Option, refl, sym, ap, ◌∙◌, subst, arith, min, if◌then◌else◌, Result, Ok, Err, OnOk}
+use Rattle.std.specs.Result.{is_ok}
 use Rattle.std.specs.Option.{option_to_list}
 use Rattle.std.proofs.lemmas.List.{take_all, take_at, append_assoc, append-nil, length-append, length-take, take-append-drop}
 use Rattle.std.proofs.lemmas.Bool.Decides.{nat_tests}
@@ -22,10 +23,10 @@ use Rattle.dialect.proofs.RunLemmas.{run_none, run_closed, run_line, run_end, ru
 take_whole : (xs : List ℕ) → take (length xs) xs ≡ xs
 take_whole xs = take_all (length xs) xs (omega arith)
 
--- what follows from a call's Ok
-pub on_ok : {T E : Type 0} (r : Result T E) (P Q : Type 0) → (P → Q) → OnOk r P → OnOk r Q
-on_ok (Ok x) P Q f h = f h
-on_ok (Err e) P Q f h = tt
+-- what follows where a call is Ok
+pub on_ok : {T E : Type 0} (r : Result T E) (now more same : List ℕ) (Q : Type 0) → now ≡ (if is_ok r then more else same) → (now ≡ more → Q) → OnOk r Q
+on_ok (Ok x) now more same Q e f = f e
+on_ok (Err x) now more same Q e f = tt
 
 -- A piece that ends nothing.
 
@@ -138,6 +139,15 @@ module _ (held piece : List ℕ) (before after : List Turn) where
 
 -- Steps of code, where the part is told apart.
 
+min_first : (n a b : ℕ) → n ≡ min a b → n ≤ a
+min_first n a b e = grind (arith, nat_tests)
+
+min_last : (n a b : ℕ) → n ≡ min a b → n ≤ b
+min_last n a b e = grind (arith, nat_tests)
+
+below_all : (held n size : ℕ) → held < size → n ≤ size - held → ¬ (held + n ≡ size) → held + n < size
+below_all held n size l m more = omega (arith, l, m, more)
+
 module _ (p : Part) (held piece : List ℕ) (before after : List Turn) where
   pub binary_step : p ≡ part.Line → starts_binary held piece ≡ true → after ≡ before ++ Close notice.Binary ∷ [] → Runs (state_at p held) (take 1 piece) before after (state_at part.Closed held)
   binary_step is q t = subst (λ (q : Part). Runs (state_at q held) (take 1 piece) before after (state_at part.Closed held)) (sym is) (binary_runs held piece before after q t)
@@ -160,29 +170,45 @@ module _ (p : Part) (held piece : List ℕ) (before after : List Turn) where
       subst (λ (q : Part). Runs (state_at q held) (take (k + 1) piece) before after new) (sym is)
       (end_runs held piece before after k new q cut.0 cut.1 cut.2 cut.3 (t ∙ ap (λ (ys : List ℕ). before ++ (meaning ys).turns) e) (n ∙ ap (λ (ys : List ℕ). state_at (meaning ys).part []) e))
 
-  pub block_step_runs : (size n : ℕ) (now : List ℕ) → IsBlockOf size p → now ≡ held ++ take n piece → n ≤ length piece → length held + n < size + 2 → after ≡ before
-      → Runs (state_at p held) (take n piece) before after (state_at p now)
-  block_step_runs size n now is e m l t = by p is
+  -- a block takes no more than its bytes and those of the piece
+  now_length : (n : ℕ) (now : List ℕ) → n ≤ length piece → now ≡ held ++ take n piece → length now ≡ length held + n
+  now_length n now m e =
+      let count : length (take n piece) ≡ n = rw (length-take n piece) (grind (arith, nat_tests)) in
+      ap (λ (ys : List ℕ). length ys) e ∙ length-append held (take n piece) ∙ ap (λ (k : ℕ). length held + k) count
+
+  pub block_step_runs : (size n : ℕ) (now : List ℕ) → IsBlockOf size p → IsReaderState (state_at p held) → n ≡ min (size + 2 - length held) (length piece) → now ≡ held ++ take n piece
+      → ¬ (length now ≡ size + 2) → after ≡ before → Runs (state_at p held) (take n piece) before after (state_at p now)
+  block_step_runs size n now is within least e more t = by p is within
     where
-      by : (q : Part) → IsBlockOf size q → Runs (state_at q held) (take n piece) before after (state_at q now)
-      by part.Line is = absurd is
-      by (part.Block h) is =
+      by : (q : Part) → IsBlockOf size q → IsReaderState (state_at q held) → Runs (state_at q held) (take n piece) before after (state_at q now)
+      by part.Line is within = absurd is
+      by (part.Block h) is within =
+          let short : length held < size + 2 = subst (λ (s : ℕ). length held < s + 2) is within.0 in
+          let m : n ≤ length piece = min_last n (size + 2 - length held) (length piece) least in
+          let room : n ≤ size + 2 - length held = min_first n (size + 2 - length held) (length piece) least in
+          let not_all : ¬ (length held + n ≡ size + 2) = λ same. more (now_length n now m e ∙ same) in
+          let l : length held + n < size + 2 = below_all (length held) n (size + 2) short room not_all in
           subst (λ (ys : List ℕ). Runs (state_at (part.Block h) held) (take n piece) before after (state_at (part.Block h) ys)) (sym e)
           (block_runs held piece before after h n m (subst (λ (s : ℕ). length held + n < s + 2) (sym is) l) t)
-      by (part.Unread left turn) is = absurd is
-      by part.Closed is = absurd is
+      by (part.Unread left turn) is within = absurd is
+      by part.Closed is within = absurd is
 
-  pub whole_step_runs : (size n : ℕ) (now : List ℕ) (new : State) → IsBlockOf size p → now ≡ held ++ take n piece → 0 < n → n ≤ length piece → length held + n ≡ size + 2
-      → ((h : Header) → p ≡ part.Block h → after ≡ before ++ option_to_list (block_turn h now)) → new ≡ start → Runs (state_at p held) (take n piece) before after new
-  whole_step_runs size n now new is e some m l t start_is = by p is t
+  pub whole_step_runs : (size n : ℕ) (now : List ℕ) (new : State) → IsBlockOf size p → IsReaderState (state_at p held) → n ≡ min (size + 2 - length held) (length piece) → now ≡ held ++ take n piece
+      → length now ≡ size + 2 → ((h : Header) → p ≡ part.Block h → after ≡ before ++ option_to_list (block_turn h now)) → new ≡ start → Runs (state_at p held) (take n piece) before after new
+  whole_step_runs size n now new is within least e all t begins = by p is within t
     where
-      by : (q : Part) → IsBlockOf size q → ((h : Header) → q ≡ part.Block h → after ≡ before ++ option_to_list (block_turn h now)) → Runs (state_at q held) (take n piece) before after new
-      by part.Line is t = absurd is
-      by (part.Block h) is t =
+      by : (q : Part) → IsBlockOf size q → IsReaderState (state_at q held) → ((h : Header) → q ≡ part.Block h → after ≡ before ++ option_to_list (block_turn h now))
+          → Runs (state_at q held) (take n piece) before after new
+      by part.Line is within t = absurd is
+      by (part.Block h) is within t =
+          let short : length held < size + 2 = subst (λ (s : ℕ). length held < s + 2) is within.0 in
+          let m : n ≤ length piece = min_last n (size + 2 - length held) (length piece) least in
+          let l : length held + n ≡ size + 2 = sym (now_length n now m e) ∙ all in
+          let some : 0 < n = omega (arith, l, short) in
           whole_runs held piece before after h n new some m (subst (λ (s : ℕ). length held + n ≡ s + 2) (sym is) l)
-          (t h refl ∙ ap (λ (ys : List ℕ). before ++ option_to_list (block_turn h ys)) e) start_is
-      by (part.Unread left turn) is t = absurd is
-      by part.Closed is t = absurd is
+          (t h refl ∙ ap (λ (ys : List ℕ). before ++ option_to_list (block_turn h ys)) e) begins
+      by (part.Unread left turn) is within t = absurd is
+      by part.Closed is within t = absurd is
 
   pub unread_step_runs : (left n : ℕ) (turn : Option Turn) (now : Part) → p ≡ part.Unread n turn → IsUnreadOf left p → IsReaderState (state_at p held) → left ≤ length piece
       → after ≡ before ++ option_to_list turn → now ≡ part.Line → Runs (state_at p held) (take left piece) before after (state_at now held)

@@ -1,3 +1,4 @@
+use Rattle.std.proofs.Common.{◌++◌}
 use Rattle.dialect.proofs.StageLemmas.{on_ok, line_extends, block_extends, unread_short, unread_extends, closed_extends}
 use Rattle.dialect.proofs.stage.Stage.extend.Goals as goal
 
@@ -6,12 +7,13 @@ less-requires c = unread_short c.args.self.now.part c.in-Unread.left c.in-Unread
 
 pub returns-in-Line-clause-ok : goal.returns-in-Line-clause-ok
 returns-in-Line-clause-ok c =
-    on_ok c.extend_from_slice.result _ _ (line_extends c.args.self.now.part c.args.self.now.held.items c.args.piece.now c.extend_from_slice.new.self.items c.in-Line.is c.requires.goes_on) c.extend_from_slice.ensures.items
+    on_ok c.extend_from_slice.result c.extend_from_slice.new.self.items (c.args.self.now.held.items ++ c.args.piece.now) c.args.self.now.held.items _ c.extend_from_slice.ensures.items
+    (line_extends c.args.self.now.part c.args.self.now.held.items c.args.piece.now c.extend_from_slice.new.self.items c.in-Line.is c.requires.goes_on)
 
 pub returns-in-Block-clause-ok : goal.returns-in-Block-clause-ok
 returns-in-Block-clause-ok c =
-    on_ok c.extend_from_slice-in-Block.result _ _
-    (block_extends c.args.self.now.part c.in-Block.field-0 c.args.self.now.held.items c.args.piece.now c.extend_from_slice-in-Block.new.self.items c.in-Block.is c.requires.goes_on) c.extend_from_slice-in-Block.ensures.items
+    on_ok c.extend_from_slice-in-Block.result c.extend_from_slice-in-Block.new.self.items (c.args.self.now.held.items ++ c.args.piece.now) c.args.self.now.held.items _ c.extend_from_slice-in-Block.ensures.items
+    (block_extends c.args.self.now.part c.in-Block.field-0 c.args.self.now.held.items c.args.piece.now c.extend_from_slice-in-Block.new.self.items c.in-Block.is c.requires.goes_on)
 
 pub returns-in-Unread-clause-ok : goal.returns-in-Unread-clause-ok
 returns-in-Unread-clause-ok c =
