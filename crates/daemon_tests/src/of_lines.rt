@@ -2,6 +2,7 @@
 
 use daemon::{Due, Settings, resident_pages, tell, tell_listening, tell_start, tell_status};
 use figures::Replicas;
+use grammar::Dialect;
 use log::sink::{Lines, Memory};
 use std::alloc::Global;
 use std::net::{Ipv4Addr, SocketAddr, SocketAddrV4};
@@ -93,6 +94,7 @@ fn the_start_is_told(rt: HostRuntime) -> Result<(), Fail> {
         status: Some(address),
         u: 2,
         connections: 77,
+        dialect: Dialect::Memcached,
     };
     tell_start(&memory, &settings);
     tell_status(&memory, address);
