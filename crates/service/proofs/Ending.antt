@@ -94,6 +94,7 @@ begins_after follows found waiting pauses none before h all is =
     let whole = still_whole before waiting pauses follows none all h in
     let same : ended before waiting pauses ≡ service_after before (reopened_service (kept_of before) waiting pauses) = λ i. record {
       connections = record {
+        dialect = before.connections.dialect;
         table = [];
         next = before.connections.next;
         heard = sym (append-nil before.connections.heard) i;
