@@ -2,7 +2,6 @@
 _eve_cached() {
     local word=${COMP_WORDS[COMP_CWORD]}
     case ${COMP_WORDS[COMP_CWORD - 1]} in
-        --dialect) COMPREPLY=($(compgen -W "memcached profile" -- "$word")) ;;
         --u) COMPREPLY=($(compgen -W "0 1 2 3" -- "$word")) ;;
         --dialect) COMPREPLY=($(compgen -W "memcached profile" -- "$word")) ;;
         --listen | --status | --connections) COMPREPLY=() ;;
