@@ -1,5 +1,5 @@
 -- A process of a service that ends, and others that begin with what was kept.
-use Rattle.std.proofs.Common.{◌≡◌, ℕ, List, [], ◌∷◌, ◌++◌, Option, None, Some, refl, sym, ap, ◌∙◌, subst}
+use Rattle.std.proofs.Common.{◌≡◌, ℕ, List, [], ◌∷◌, Option, Some, refl, sym, ap, ◌∙◌, subst}
 use Rattle.std.proofs.lemmas.List.{append-nil}
 use Rattle.connections.specs.Connection.{ConnectionView}
 use Rattle.connections.specs.Connections.{ConnectionsView, IsConnections}
@@ -9,7 +9,7 @@ use Rattle.ensemble.specs.Process.{ProcessView, process_of, reopened_ensemble, e
 use Rattle.service.specs.declared.assignment.Assignment.{Assignment}
 use Rattle.service.specs.declared.assignment.Outstanding.{Outstanding}
 use Rattle.service.specs.declared.pause.Pause.{Pause}
-use Rattle.service.specs.Service.{ServiceView, IsAssigned, IsService, HasMoments, HasEnsemble, Waits}
+use Rattle.service.specs.Service.{ServiceView, IsAssigned, IsService, HasEnsemble}
 use Rattle.service.specs.Process.{IsWhole, KeptService, kept_of, HasAll, NobodyWaits, reopened_service, service_after, IsServiceAfter, AreInTurn, services_after}
 
 -- a law of `ensemble`
