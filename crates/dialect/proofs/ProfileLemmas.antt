@@ -13,7 +13,6 @@ use Rattle.proto.specs.Number as profile_number
 use Rattle.proto.specs.Number.{is_number, number_below}
 use Rattle.proto.specs.declared.block.TheConstants.{MOST_BLOCK_BYTES}
 use Rattle.proto.specs.declared.command.StoreVerb.{StoreVerb}
-use Rattle.proto.specs.declared.command.Update.{Update}
 use Rattle.proto.specs.declared.command.Update.TheVariants as update
 use Rattle.proto.specs.declared.line.Header.{Header}
 use Rattle.proto.specs.declared.line.Kind.{Kind}
@@ -21,7 +20,6 @@ use Rattle.proto.specs.declared.line.Kind.TheVariants as kind
 use Rattle.dialect.specs.Number.{unsigned_of, flags_of, exptime_of, block_size_of, wrapped, wrapped_minus}
 use Rattle.dialect.specs.Line.{ends_quiet, is_end, says_notice, asks_update, sized, storage, header_of, cas_kind, store_line, cas_line, delete_of, touch_line, delta_line}
 use Rattle.dialect.specs.declared.turn.Notice.TheVariants as notice
-use Rattle.dialect.specs.declared.line.Line.{Line}
 use Rattle.dialect.specs.declared.line.Line.TheVariants.{Opens}
 use Rattle.dialect.proofs.PieceLemmas.{and_parts}
 use Rattle.dialect.proofs.RunLemmas.{chosen, taken, lt_yes, le_yes}

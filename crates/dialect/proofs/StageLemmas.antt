@@ -1,13 +1,12 @@
 -- What a step of a reader gives.
-use Rattle.std.proofs.Common.{◌≡◌, ℕ, zero, suc, ◌+◌, ◌-◌, ◌<◌, ◌≤◌, Bool, true, false, List, [], ◌∷◌, ◌++◌, length, take, drop, Option, refl, sym, ap, ◌∙◌, subst, arith, min, if◌then◌else◌, Result, Ok, Err, OnOk}
+use Rattle.std.proofs.Common.{◌≡◌, ℕ, ◌+◌, ◌-◌, ◌<◌, ◌≤◌, true, false, List, [], ◌∷◌, ◌++◌, length, take, drop, Option, refl, sym, ap, ◌∙◌, subst, arith, min, if◌then◌else◌, Result, Ok, Err, OnOk}
 use Rattle.std.specs.Result.{is_ok}
 use Rattle.std.specs.Option.{option_to_list}
 use Rattle.std.proofs.lemmas.List.{take_all, take_at, append_assoc, append-nil, length-append, length-take, take-append-drop}
 use Rattle.std.proofs.lemmas.Bool.Decides.{nat_tests}
 use Rattle.proto.specs.declared.line.Header.{Header}
-use Rattle.proto.specs.declared.block.TheConstants.{MOST_BLOCK_BYTES}
 use Rattle.dialect.specs.Meaning.{meaning, block_turn}
-use Rattle.dialect.specs.State.{State, ReaderStep, state_at, to, start, is_binary, run, Runs, IsReaderState}
+use Rattle.dialect.specs.State.{State, state_at, to, start, run, Runs, IsReaderState}
 use Rattle.proto.specs.Stage.{HasNoNewline}
 use Rattle.dialect.specs.Stage.{starts_binary, EndsNothing, IsPartRead, CutsLine, IsBlockOf, IsUnreadOf}
 use Rattle.dialect.specs.declared.line.TheConstants.{MOST_LINE_BYTES}

@@ -1,5 +1,5 @@
 -- What the laws of the dialect say.
-use Rattle.std.specs.Prelude.{◌≡◌, ℕ, ◌<◌, ◌≤◌, List, [], ◌∷◌, ◌++◌, length, drop, Bool, true, false, Option, IfSome, Some, IsTrue}
+use Rattle.std.specs.Prelude.{◌≡◌, ℕ, ◌≤◌, List, [], ◌∷◌, ◌++◌, length, drop, Bool, true, false, IfSome, Some}
 use Rattle.std.specs.List.{list_all}
 use Rattle.proto.specs.Key.{is_key}
 use Rattle.proto.specs.Line.{words}
@@ -12,7 +12,7 @@ use Rattle.proto.specs.declared.reply.Found.{Found}
 use Rattle.proto.specs.declared.reply.Reply.TheVariants as reply
 use Rattle.dialect.specs.Name.{name_of}
 use Rattle.dialect.specs.Line.{says_noreply}
-use Rattle.dialect.specs.Meaning.{meaning, block_turn, without_return}
+use Rattle.dialect.specs.Meaning.{block_turn, without_return}
 use Rattle.dialect.specs.Reading.{read_command, read_text}
 use Rattle.dialect.specs.Text.{notice_text, shown_text}
 use Rattle.dialect.specs.declared.line.Name.{Name}

@@ -18,7 +18,7 @@ use Rattle.dialect.specs.declared.turn.Notice.TheVariants as notice
 use Rattle.dialect.specs.declared.turn.Show.{Show}
 use Rattle.dialect.specs.declared.turn.Show.TheVariants as show
 use Rattle.dialect.specs.declared.turn.Turn.{Turn}
-use Rattle.dialect.specs.declared.turn.Turn.TheVariants.{Ask, Say, Close}
+use Rattle.dialect.specs.declared.turn.Turn.TheVariants.{Ask, Say}
 use Rattle.dialect.specs.declared.line.Name.{Name}
 use Rattle.dialect.specs.declared.line.Name.TheVariants as name
 use Rattle.dialect.specs.declared.line.ReadVerb.TheVariants as reading

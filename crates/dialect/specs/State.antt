@@ -4,7 +4,7 @@ use Rattle.std.specs.Option.{option_to_list}
 use Rattle.proto.specs.Grammar.{is_newline}
 use Rattle.proto.specs.declared.block.TheConstants.{MOST_BLOCK_BYTES}
 use Rattle.proto.specs.declared.line.Header.{Header}
-use Rattle.dialect.specs.Meaning.{Meaning, meaning, block_turn}
+use Rattle.dialect.specs.Meaning.{meaning, block_turn}
 use Rattle.dialect.specs.declared.line.TheConstants.{MOST_LINE_BYTES}
 use Rattle.dialect.specs.declared.turn.Notice.TheVariants as notice
 use Rattle.dialect.specs.declared.turn.Turn.{Turn}

@@ -74,10 +74,7 @@ const OTHERS: [Row; 39] = [
     // The first word is a key.
     (b"delete noreply\r\n", b"delete noreply\n"),
     (b"delete noreply 0\r\n", b"delete noreply\n"),
-    (
-        b"delete noreply noreply\r\n",
-        b"delete noreply (quiet)\n",
-    ),
+    (b"delete noreply noreply\r\n", b"delete noreply (quiet)\n"),
     (b"delete k 1\r\n", BAD_DELETE),
     (b"delete k 0 0\r\n", BAD_DELETE),
     (b"delete k 1 noreply\r\n", b""),
