@@ -1,4 +1,4 @@
--- What comes after a line stands within its limits.
+-- What comes after a line is within its limits.
 use Rattle.std.proofs.Common.{◌≡◌, ℕ, ◌+◌, ◌<◌, ◌≤◌, Bool, true, false, List, [], ◌∷◌, Option, Some, None, IfSome, refl, arith, lit<, if◌then◌else◌}
 use Rattle.std.specs.Prelude.{ℤ, nat_lt}
 use Rattle.std.specs.Option.{option_map_or}
@@ -133,7 +133,7 @@ words_within (w ∷ ws) = by (name_of w)
     by None = lit< tt
     by (Some n) = given_within (line_of n (says_noreply ws) ws) ws (line_sound n (says_noreply ws) ws)
 
--- what comes after a line, where nothing of it is there
+-- what comes after a line, if nothing of it is there yet
 pub meaning_within : (line : List ℕ) → HoldsWithin (meaning line).part []
 unfolding meaning
 meaning_within line = words_within (words (without_return line))

@@ -119,7 +119,7 @@ verbosity_mute : (ws : List (List ℕ)) → IsMute (verbosity_line true ws)
 verbosity_mute [] = tt
 verbosity_mute (n ∷ last) = if_mute (is_end last) _ _ tt tt
 
--- the line gives no bytes where it says noreply
+-- the line gives no bytes if it says noreply
 quietly : (line : Bool → Line) (quiet : Bool) → quiet ≡ true → IsMute (line true) → IsMute (line quiet)
 quietly line quiet e m = subst (λ (q : Bool). IsMute (line q)) (sym e) m
 

@@ -121,7 +121,7 @@ not_noreply read w x none some = by (bytes_eq w (codes "noreply")) refl
     by true e = absurd (let f : Some x ≡ None = sym some ∙ ap read (word_is w (codes "noreply") e) ∙ none in cc)
     by false e = refl
 
--- what stands behind the last needed word
+-- the words behind the last needed one
 pub quiet_ends : (last : List (List ℕ)) (q : Bool) → profile.quiet_of last ≡ Some q → (is_end last ≡ true) × ((b : Bool) → b ≡ false → ends_quiet b last ≡ q)
 quiet_ends [] q e = (refl, λ b f. f ∙ some_is false q e)
 quiet_ends (w ∷ []) q e = let p = passed (bytes_eq w (codes "noreply")) true q e in (refl, λ b f. p.0 ∙ p.1)

@@ -137,7 +137,7 @@ abbrev pub all_found : List (List Found) → List Found
 all_found [] = []
 all_found (found ∷ more) = found ++ all_found more
 
--- the bytes that are given for turns, where the reply to each has these items
+-- the bytes that are given for turns, if the reply to each has these items
 abbrev pub bytes_shown : List Turn → List (List Found) → List ℕ
 bytes_shown [] found = []
 bytes_shown (turn ∷ turns) [] = []

@@ -72,7 +72,7 @@ pub record Runs (old : State) (bytes : List ℕ) (before after : List Turn) (new
   pub turns : after ≡ before ++ (run old bytes).turns
   pub state : new ≡ (run old bytes).state
 
--- what is held stands within its limits
+-- what is held is within its limits
 abbrev pub HoldsWithin : Part → List ℕ → Type 0
 HoldsWithin part.Line held = length held < MOST_LINE_BYTES
 HoldsWithin (part.Block h) held = (length held < h.size + 2) × (h.size ≤ MOST_BLOCK_BYTES)
