@@ -1,5 +1,5 @@
 -- A line of many keys is as good as one command.
-use Rattle.std.proofs.Common.{◌≡◌, ℕ, ◌+◌, ◌≤◌, Bool, true, false, List, [], ◌∷◌, ◌++◌, length, refl, sym, ap, ◌∙◌, subst, arith, lit≤, ◌&&◌, if◌then◌else◌}
+use Rattle.std.proofs.Common.{◌≡◌, ℕ, ◌≤◌, Bool, true, false, List, [], ◌∷◌, ◌++◌, length, refl, sym, ap, ◌∙◌, subst, arith, lit≤, ◌&&◌, if◌then◌else◌}
 use Rattle.std.specs.Prelude.{flat_map, codes}
 use Rattle.std.specs.List.{list_all}
 use Rattle.std.proofs.lemmas.List.{append_assoc, append-nil, length-append}
@@ -87,7 +87,7 @@ pieces_of_keys r k ks h e =
     let parts = and_parts (is_key k) (list_all is_key ks) e in
     are_pieces r (k ∷ []) ks h (one_good r k h parts.0) parts.1
 
--- what is given for some turns, where each finds what is here, is what one command gives that finds all of it
+-- turns that find these items give what one command gives that finds all of them
 abbrev ShowsAsOne : List Turn → Type 0
 ShowsAsOne turns = (found : List (List Found)) → length found ≡ length turns → bytes_shown turns found ≡ reply_text (reply.Values (all_found found))
 

@@ -1,21 +1,19 @@
--- What comes after a line stands within its limits.
-use Rattle.std.proofs.Common.{◌≡◌, ℕ, zero, suc, ◌+◌, ◌<◌, ◌≤◌, Bool, true, false, List, [], ◌∷◌, length, Option, Some, None, IfSome, refl, sym, ap, ◌∙◌, arith, lit<, if◌then◌else◌}
+-- What comes after a line is within its limits.
+use Rattle.std.proofs.Common.{◌≡◌, ℕ, ◌+◌, ◌<◌, ◌≤◌, Bool, true, false, List, [], ◌∷◌, Option, Some, None, IfSome, refl, arith, lit<, if◌then◌else◌}
 use Rattle.std.specs.Prelude.{ℤ, nat_lt}
 use Rattle.std.specs.Option.{option_map_or}
 use Rattle.std.specs.List.{list_any}
 use Rattle.proto.specs.Line.{◌>>=◌, key_of, words}
 use Rattle.proto.specs.declared.block.TheConstants.{MOST_BLOCK_BYTES}
 use Rattle.proto.specs.declared.command.StoreVerb.{StoreVerb}
-use Rattle.proto.specs.declared.command.Update.{Update}
 use Rattle.proto.specs.declared.line.Header.{Header}
 use Rattle.proto.specs.declared.line.Kind.{Kind}
 use Rattle.proto.specs.declared.line.Kind.TheVariants as kind
 use Rattle.dialect.specs.Number.{unsigned_of, flags_of, exptime_of, block_size_of}
 use Rattle.dialect.specs.Name.{name_of}
-use Rattle.dialect.specs.Line.{says_noreply, is_end, is_delete_end, is_http_version, says_notice, too_large, sized, storage, header_of, cas_kind, store_line, cas_line, delete_line, touch_line, delta_line, verbosity_line, timed_line, line_of}
+use Rattle.dialect.specs.Line.{says_noreply, is_end, is_delete_end, is_http_version, too_large, sized, storage, header_of, cas_kind, store_line, cas_line, delete_line, touch_line, delta_line, verbosity_line, timed_line, line_of}
 use Rattle.dialect.specs.Meaning.{meaning, meaning_of_words, meaning_of_line, unknown, without_return}
 use Rattle.dialect.specs.State.{HoldsWithin}
-use Rattle.dialect.specs.declared.line.TheConstants.{MOST_LINE_BYTES}
 use Rattle.dialect.specs.declared.line.Name.{Name}
 use Rattle.dialect.specs.declared.line.Name.TheVariants as name
 use Rattle.dialect.specs.declared.line.Line.{Line}
@@ -135,7 +133,7 @@ words_within (w ∷ ws) = by (name_of w)
     by None = lit< tt
     by (Some n) = given_within (line_of n (says_noreply ws) ws) ws (line_sound n (says_noreply ws) ws)
 
--- what comes after a line, where nothing of it is there
+-- what comes after a line, if nothing of it is there yet
 pub meaning_within : (line : List ℕ) → HoldsWithin (meaning line).part []
 unfolding meaning
 meaning_within line = words_within (words (without_return line))

@@ -1,8 +1,8 @@
 -- A line that says noreply gives no bytes.
-use Rattle.std.proofs.Common.{◌≡◌, ℕ, ◌+◌, Bool, true, false, List, [], ◌∷◌, length, Option, Some, None, IfSome, refl, sym, ap, ◌∙◌, subst, if◌then◌else◌}
+use Rattle.std.proofs.Common.{◌≡◌, ℕ, ◌+◌, Bool, true, false, List, [], ◌∷◌, Option, Some, None, IfSome, refl, sym, subst, if◌then◌else◌}
 use Rattle.std.specs.Prelude.{ℤ, nat_lt, bytes_eq, drop, take}
 use Rattle.std.specs.Option.{option_map_or}
-use Rattle.proto.specs.Line.{◌>>=◌, key_of, words}
+use Rattle.proto.specs.Line.{◌>>=◌, key_of}
 use Rattle.proto.specs.Grammar.{filled}
 use Rattle.proto.specs.declared.block.TheConstants.{MOST_BLOCK_BYTES}
 use Rattle.proto.specs.declared.command.StoreVerb.{StoreVerb}
@@ -12,16 +12,14 @@ use Rattle.proto.specs.declared.line.Header.{Header}
 use Rattle.proto.specs.declared.line.Kind.{Kind}
 use Rattle.proto.specs.declared.line.Kind.TheVariants as kind
 use Rattle.dialect.specs.Number.{unsigned_of, flags_of, exptime_of, block_size_of}
-use Rattle.dialect.specs.Name.{name_of}
-use Rattle.dialect.specs.Line.{says_noreply, is_end, is_delete_end, said, says_notice, shown, removes, too_large, sized, storage, header_of, cas_kind, store_line, cas_line, delete_of, delete_line, touch_line, delta_line, verbosity_line, line_of}
-use Rattle.dialect.specs.Meaning.{Meaning, meaning, meaning_of_words, meaning_of_line, unknown, block_turn, without_return}
+use Rattle.dialect.specs.Line.{says_noreply, is_end, is_delete_end, said, shown, removes, too_large, sized, storage, header_of, cas_kind, store_line, cas_line, delete_of, delete_line, touch_line, delta_line, verbosity_line, line_of}
+use Rattle.dialect.specs.Meaning.{Meaning, meaning, meaning_of_words, meaning_of_line, unknown, block_turn}
 use Rattle.dialect.specs.Text.{notice_text}
 use Rattle.dialect.specs.Laws.{leaves_out, IsNoreply, ShowsNothing, AllShowNothing, PartShowsNothing}
 use Rattle.dialect.specs.declared.turn.Notice.{Notice}
 use Rattle.dialect.specs.declared.turn.Notice.TheVariants as notice
 use Rattle.dialect.specs.declared.turn.Show.TheVariants as show
-use Rattle.dialect.specs.declared.turn.Turn.{Turn}
-use Rattle.dialect.specs.declared.turn.Turn.TheVariants.{Ask, Say, Close}
+use Rattle.dialect.specs.declared.turn.Turn.TheVariants.{Ask}
 use Rattle.dialect.specs.declared.line.Name.{Name}
 use Rattle.dialect.specs.declared.line.Name.TheVariants as name
 use Rattle.dialect.specs.declared.line.Line.{Line}
@@ -121,7 +119,7 @@ verbosity_mute : (ws : List (List ℕ)) → IsMute (verbosity_line true ws)
 verbosity_mute [] = tt
 verbosity_mute (n ∷ last) = if_mute (is_end last) _ _ tt tt
 
--- the line gives no bytes where it says noreply
+-- the line gives no bytes if it says noreply
 quietly : (line : Bool → Line) (quiet : Bool) → quiet ≡ true → IsMute (line true) → IsMute (line quiet)
 quietly line quiet e m = subst (λ (q : Bool). IsMute (line q)) (sym e) m
 

@@ -1,6 +1,6 @@
 -- The lines of the profile that a line of many keys is read as.
-use Rattle.std.proofs.Common.{◌≡◌, ℕ, ◌+◌, ◌<◌, ◌≤◌, Bool, true, false, List, [], ◌∷◌, ◌++◌, length, refl, sym, ap, ◌∙◌, arith, lit≤, ◌&&◌, if◌then◌else◌}
-use Rattle.std.specs.Prelude.{flat_map, codes, nat_le, nat_lt}
+use Rattle.std.proofs.Common.{◌≡◌, ℕ, ◌+◌, ◌<◌, ◌≤◌, Bool, true, false, List, [], ◌∷◌, ◌++◌, length, refl, sym, ap, ◌∙◌, arith, lit≤, ◌&&◌}
+use Rattle.std.specs.Prelude.{nat_le, nat_lt}
 use Rattle.std.proofs.lemmas.List.{length-append}
 use Rattle.std.proofs.lemmas.Grind.{flat_map-append}
 use Rattle.std.proofs.lemmas.Bool.Decides.{nat_tests}
@@ -8,9 +8,8 @@ use Rattle.proto.specs.Key.{is_key, is_key_byte}
 use Rattle.std.specs.List.{list_all}
 use Rattle.proto.specs.declared.key.TheConstants.{MOST_KEYS, MOST_KEY_BYTES}
 use Rattle.proto.specs.declared.line.TheConstants as profile
-use Rattle.dialect.specs.Reading.{head, key_text, read_text, fits, piece_turns, has_room, IsPiece, read_command}
+use Rattle.dialect.specs.Reading.{head, read_text, fits, piece_turns, has_room, IsPiece, read_command}
 use Rattle.dialect.specs.declared.turn.Show.TheVariants as show
-use Rattle.dialect.specs.declared.turn.Turn.{Turn}
 use Rattle.dialect.specs.declared.turn.Turn.TheVariants.{Ask}
 use Rattle.dialect.specs.declared.line.ReadVerb.{ReadVerb}
 use Rattle.dialect.proofs.RunLemmas.{chosen, taken, lt_yes, lt_no, le_yes, le_no}

@@ -13,7 +13,6 @@ use Rattle.proto.specs.Number as profile_number
 use Rattle.proto.specs.Number.{is_number, number_below}
 use Rattle.proto.specs.declared.block.TheConstants.{MOST_BLOCK_BYTES}
 use Rattle.proto.specs.declared.command.StoreVerb.{StoreVerb}
-use Rattle.proto.specs.declared.command.Update.{Update}
 use Rattle.proto.specs.declared.command.Update.TheVariants as update
 use Rattle.proto.specs.declared.line.Header.{Header}
 use Rattle.proto.specs.declared.line.Kind.{Kind}
@@ -21,7 +20,6 @@ use Rattle.proto.specs.declared.line.Kind.TheVariants as kind
 use Rattle.dialect.specs.Number.{unsigned_of, flags_of, exptime_of, block_size_of, wrapped, wrapped_minus}
 use Rattle.dialect.specs.Line.{ends_quiet, is_end, says_notice, asks_update, sized, storage, header_of, cas_kind, store_line, cas_line, delete_of, touch_line, delta_line}
 use Rattle.dialect.specs.declared.turn.Notice.TheVariants as notice
-use Rattle.dialect.specs.declared.line.Line.{Line}
 use Rattle.dialect.specs.declared.line.Line.TheVariants.{Opens}
 use Rattle.dialect.proofs.PieceLemmas.{and_parts}
 use Rattle.dialect.proofs.RunLemmas.{chosen, taken, lt_yes, le_yes}
@@ -123,7 +121,7 @@ not_noreply read w x none some = by (bytes_eq w (codes "noreply")) refl
     by true e = absurd (let f : Some x ≡ None = sym some ∙ ap read (word_is w (codes "noreply") e) ∙ none in cc)
     by false e = refl
 
--- what stands behind the last needed word
+-- the words behind the last needed one
 pub quiet_ends : (last : List (List ℕ)) (q : Bool) → profile.quiet_of last ≡ Some q → (is_end last ≡ true) × ((b : Bool) → b ≡ false → ends_quiet b last ≡ q)
 quiet_ends [] q e = (refl, λ b f. f ∙ some_is false q e)
 quiet_ends (w ∷ []) q e = let p = passed (bytes_eq w (codes "noreply")) true q e in (refl, λ b f. p.0 ∙ p.1)

@@ -1,5 +1,5 @@
 -- What a line asks in the profile, it asks in the dialect too: the names of commands, and all of a line.
-use Rattle.std.proofs.Common.{◌≡◌, ℕ, ◌+◌, ◌-◌, ◌≤◌, ◌^◌, Bool, true, false, List, [], ◌∷◌, ◌++◌, length, take, drop, Option, Some, None, refl, sym, ap, ◌∙◌, subst, arith, ◌&&◌, if◌then◌else◌}
+use Rattle.std.proofs.Common.{◌≡◌, ℕ, ◌-◌, ◌^◌, Bool, true, false, List, [], ◌∷◌, ◌++◌, length, take, Option, Some, None, refl, sym, ap, ◌∙◌, subst, ◌&&◌, if◌then◌else◌}
 use Rattle.std.specs.Prelude.{ℤ, nat_lt, nat_le, codes, bytes_eq}
 use Rattle.std.specs.List.{list_all}
 use Rattle.std.specs.Option.{option_map_or, option_or}
@@ -25,21 +25,18 @@ use Rattle.proto.specs.declared.line.Name.TheVariants as profile_name
 use Rattle.proto.specs.declared.turn.Notice.{Notice as ProfileNotice}
 use Rattle.proto.specs.declared.turn.Notice.TheVariants as profile_notice
 use Rattle.proto.specs.declared.turn.Turn.TheVariants as profile_turn
-use Rattle.dialect.specs.Number.{exptime_of}
 use Rattle.dialect.specs.Name.{name_of}
-use Rattle.dialect.specs.Line.{says_noreply, says_notice, asks_update, shown, said, store_line, cas_line, delete_of, delete_line, touch_line, delta_line, line_of}
-use Rattle.dialect.specs.Meaning.{Meaning, meaning, meaning_of_words, meaning_of_line, unknown, without_return, block_turn}
-use Rattle.dialect.specs.Profile.{ends_line, AsksTheSame, BlockAsksTheSame}
+use Rattle.dialect.specs.Line.{says_noreply, says_notice, shown, said, store_line, cas_line, delete_line, touch_line, delta_line, line_of}
+use Rattle.dialect.specs.Meaning.{Meaning, meaning, meaning_of_words, meaning_of_line, unknown, block_turn}
+use Rattle.dialect.specs.Profile.{AsksTheSame, BlockAsksTheSame}
 use Rattle.dialect.specs.declared.line.Name.{Name}
 use Rattle.dialect.specs.declared.line.Name.TheVariants as name
 use Rattle.dialect.specs.declared.line.Line.{Line}
 use Rattle.dialect.specs.declared.line.Line.TheVariants.{Reads}
 use Rattle.dialect.specs.declared.line.ReadVerb.TheVariants as reading
 use Rattle.dialect.specs.declared.turn.Notice.TheVariants as notice
-use Rattle.dialect.specs.declared.turn.Turn.{Turn}
 use Rattle.dialect.specs.declared.turn.Turn.TheVariants.{Ask}
 use Rattle.dialect.proofs.ProfileLemmas.{some_is, word_is, time_as, delete_is, touch_is, delta_is, store_is, cas_is}
-use Rattle.dialect.proofs.RunLemmas.{taken}
 
 -- Names.
 

@@ -8,7 +8,7 @@ use Rattle.std.proofs.lemmas.Bool.Decides.{nat_tests}
 use Rattle.proto.specs.Grammar.{is_newline}
 use Rattle.proto.specs.declared.line.Header.{Header}
 use Rattle.dialect.specs.Meaning.{meaning, block_turn}
-use Rattle.dialect.specs.State.{State, ReaderStep, state_at, to, start, is_binary, line_step, block_step, unread_step, step, and_then, run, Runs}
+use Rattle.dialect.specs.State.{State, ReaderStep, state_at, to, start, is_binary, step, and_then, run, Runs}
 use Rattle.proto.specs.Stage.{HasNoNewline}
 use Rattle.dialect.specs.Stage.{starts_binary}
 use Rattle.dialect.specs.declared.line.TheConstants.{MOST_LINE_BYTES}

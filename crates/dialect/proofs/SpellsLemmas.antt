@@ -1,5 +1,5 @@
 -- What bytes spell is what a reader gives of them, byte by byte.
-use Rattle.std.proofs.Common.{◌≡◌, ℕ, zero, suc, ◌+◌, ◌-◌, ◌<◌, ◌≤◌, Bool, true, false, List, [], ◌∷◌, ◌++◌, length, Option, refl, sym, ap, ◌∙◌, subst, arith, lit<}
+use Rattle.std.proofs.Common.{◌≡◌, ℕ, ◌+◌, ◌-◌, ◌<◌, ◌≤◌, Bool, true, false, List, [], ◌∷◌, ◌++◌, length, Option, refl, sym, ap, ◌∙◌, subst, arith, lit<}
 use Rattle.std.specs.Prelude.{nat_le}
 use Rattle.std.specs.Option.{option_to_list}
 use Rattle.std.proofs.lemmas.List.{append_assoc, append-nil, length-append}
@@ -9,7 +9,7 @@ use Rattle.proto.specs.Grammar.{is_newline}
 use Rattle.proto.specs.Stage.{HasNoNewline}
 use Rattle.proto.specs.declared.line.Header.{Header}
 use Rattle.dialect.specs.Meaning.{meaning, block_turn}
-use Rattle.dialect.specs.State.{State, ReaderStep, state_at, to, start, is_binary, step, and_then, run, Runs, HoldsWithin}
+use Rattle.dialect.specs.State.{State, ReaderStep, state_at, to, start, is_binary, and_then, run, Runs, HoldsWithin}
 use Rattle.dialect.specs.Grammar.{IsText, IsOneLine, more_bytes, Spells, part_of_line, part_of_block, line, with_block, unread, closing, too_long, binary, HasRead}
 use Rattle.dialect.specs.Stage.{starts_binary}
 use Rattle.dialect.specs.declared.line.TheConstants.{MOST_LINE_BYTES}

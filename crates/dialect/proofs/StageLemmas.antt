@@ -1,13 +1,12 @@
 -- What a step of a reader gives.
-use Rattle.std.proofs.Common.{◌≡◌, ℕ, zero, suc, ◌+◌, ◌-◌, ◌<◌, ◌≤◌, Bool, true, false, List, [], ◌∷◌, ◌++◌, length, take, drop, Option, refl, sym, ap, ◌∙◌, subst, arith, min, if◌then◌else◌, Result, Ok, Err, OnOk}
+use Rattle.std.proofs.Common.{◌≡◌, ℕ, ◌+◌, ◌-◌, ◌<◌, ◌≤◌, true, false, List, [], ◌∷◌, ◌++◌, length, take, drop, Option, refl, sym, ap, ◌∙◌, subst, arith, min, if◌then◌else◌, Result, Ok, Err, OnOk}
 use Rattle.std.specs.Result.{is_ok}
 use Rattle.std.specs.Option.{option_to_list}
 use Rattle.std.proofs.lemmas.List.{take_all, take_at, append_assoc, append-nil, length-append, length-take, take-append-drop}
 use Rattle.std.proofs.lemmas.Bool.Decides.{nat_tests}
 use Rattle.proto.specs.declared.line.Header.{Header}
-use Rattle.proto.specs.declared.block.TheConstants.{MOST_BLOCK_BYTES}
 use Rattle.dialect.specs.Meaning.{meaning, block_turn}
-use Rattle.dialect.specs.State.{State, ReaderStep, state_at, to, start, is_binary, run, Runs, IsReaderState}
+use Rattle.dialect.specs.State.{State, state_at, to, start, run, Runs, IsReaderState}
 use Rattle.proto.specs.Stage.{HasNoNewline}
 use Rattle.dialect.specs.Stage.{starts_binary, EndsNothing, IsPartRead, CutsLine, IsBlockOf, IsUnreadOf}
 use Rattle.dialect.specs.declared.line.TheConstants.{MOST_LINE_BYTES}
@@ -23,7 +22,7 @@ use Rattle.dialect.proofs.RunLemmas.{run_none, run_closed, run_line, run_end, ru
 take_whole : (xs : List ℕ) → take (length xs) xs ≡ xs
 take_whole xs = take_all (length xs) xs (omega arith)
 
--- what follows where a call is Ok
+-- what follows if a call is Ok
 pub on_ok : {T E : Type 0} (r : Result T E) (now more same : List ℕ) (Q : Type 0) → now ≡ (if is_ok r then more else same) → (now ≡ more → Q) → OnOk r Q
 on_ok (Ok x) now more same Q e f = f e
 on_ok (Err x) now more same Q e f = tt
@@ -45,7 +44,7 @@ pub closed_goes_on : (held piece : List ℕ) → held ≡ [] → run (state_at p
 closed_goes_on held piece e =
     ap (λ (ys : List ℕ). run (state_at part.Closed ys) piece) e ∙ run_closed piece ∙ ap (λ (ys : List ℕ). to [] (state_at part.Closed ys)) (sym e)
 
--- the same, where the part is told apart
+-- the same, if the part is known by an equation
 pub line_extends : (p : Part) (held piece now : List ℕ) → p ≡ part.Line → EndsNothing p held piece → now ≡ held ++ piece → run (state_at p held) piece ≡ to [] (state_at p now)
 line_extends p held piece now is g e =
     subst (λ (q : Part). run (state_at q held) piece ≡ to [] (state_at q now)) (sym is)
@@ -137,7 +136,7 @@ module _ (held piece : List ℕ) (before after : List Turn) where
   pub none_runs : (old new : State) → run old piece ≡ to [] new → after ≡ before → Runs old (take (length piece) piece) before after new
   none_runs old new e t = subst (λ (ys : List ℕ). Runs old ys before after new) (sym (take_whole piece)) (runs_by old piece before after new (to [] new) e (t ∙ sym (append-nil before)) refl)
 
--- Steps of code, where the part is told apart.
+-- Steps of code: the part is known by an equation.
 
 min_first : (n a b : ℕ) → n ≡ min a b → n ≤ a
 min_first n a b e = grind (arith, nat_tests)

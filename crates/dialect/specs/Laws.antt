@@ -1,5 +1,5 @@
 -- What the laws of the dialect say.
-use Rattle.std.specs.Prelude.{◌≡◌, ℕ, ◌<◌, ◌≤◌, List, [], ◌∷◌, ◌++◌, length, drop, Bool, true, false, Option, IfSome, Some, IsTrue}
+use Rattle.std.specs.Prelude.{◌≡◌, ℕ, ◌≤◌, List, [], ◌∷◌, ◌++◌, length, drop, Bool, true, false, IfSome, Some}
 use Rattle.std.specs.List.{list_all}
 use Rattle.proto.specs.Key.{is_key}
 use Rattle.proto.specs.Line.{words}
@@ -12,7 +12,7 @@ use Rattle.proto.specs.declared.reply.Found.{Found}
 use Rattle.proto.specs.declared.reply.Reply.TheVariants as reply
 use Rattle.dialect.specs.Name.{name_of}
 use Rattle.dialect.specs.Line.{says_noreply}
-use Rattle.dialect.specs.Meaning.{meaning, block_turn, without_return}
+use Rattle.dialect.specs.Meaning.{block_turn, without_return}
 use Rattle.dialect.specs.Reading.{read_command, read_text}
 use Rattle.dialect.specs.Text.{notice_text, shown_text}
 use Rattle.dialect.specs.declared.line.Name.{Name}
@@ -137,7 +137,7 @@ abbrev pub all_found : List (List Found) → List Found
 all_found [] = []
 all_found (found ∷ more) = found ++ all_found more
 
--- the bytes that are given for turns, where the reply to each has these items
+-- the bytes that are given for turns, if the reply to each has these items
 abbrev pub bytes_shown : List Turn → List (List Found) → List ℕ
 bytes_shown [] found = []
 bytes_shown (turn ∷ turns) [] = []

@@ -18,14 +18,14 @@ use Rattle.dialect.specs.declared.turn.Notice.TheVariants as notice
 use Rattle.dialect.specs.declared.turn.Show.{Show}
 use Rattle.dialect.specs.declared.turn.Show.TheVariants as show
 use Rattle.dialect.specs.declared.turn.Turn.{Turn}
-use Rattle.dialect.specs.declared.turn.Turn.TheVariants.{Ask, Say, Close}
+use Rattle.dialect.specs.declared.turn.Turn.TheVariants.{Ask, Say}
 use Rattle.dialect.specs.declared.line.Name.{Name}
 use Rattle.dialect.specs.declared.line.Name.TheVariants as name
 use Rattle.dialect.specs.declared.line.ReadVerb.TheVariants as reading
 use Rattle.dialect.specs.declared.line.Line.{Line}
 use Rattle.dialect.specs.declared.line.Line.TheVariants.{Gives, Closes, Reads, Opens, Skips}
 
--- whether the last word is noreply; quiet where there is none
+-- whether the last word is noreply; quiet if there is none
 abbrev pub ends_quiet : Bool → List (List ℕ) → Bool
 ends_quiet quiet [] = quiet
 ends_quiet quiet (w ∷ ws) = ends_quiet (bytes_eq w (codes "noreply")) ws
@@ -34,7 +34,7 @@ ends_quiet quiet (w ∷ ws) = ends_quiet (bytes_eq w (codes "noreply")) ws
 abbrev pub says_noreply : List (List ℕ) → Bool
 says_noreply ws = ends_quiet false ws
 
--- a text, where the line does not say noreply
+-- a text, if the line does not say noreply
 abbrev pub said : Bool → Notice → Option Turn
 said quiet notice = if quiet then None else Some (Say notice)
 
@@ -74,7 +74,7 @@ abbrev pub sized : Bool → ℕ → Option Header → Line
 sized quiet size None = Skips (size + 2) (said quiet notice.BadFormat)
 sized quiet size (Some h) = if nat_lt MOST_BLOCK_BYTES size then Skips (size + 2) (too_large h) else Opens h
 
--- a storage line. Where its size can be read its block is taken away with it, whatever else is bad: a value is not read as commands.
+-- a storage line. If its size can be read its block is skipped, whatever else is bad: a value is not read as commands.
 abbrev pub storage : Bool → Option ℕ → (ℕ → Option Header) → Line
 storage quiet None header = says_notice quiet notice.BadFormat
 storage quiet (Some size) header = sized quiet size (header size)
@@ -108,18 +108,18 @@ cas_line quiet (k ∷ f ∷ e ∷ n ∷ u ∷ last) =
     else says_notice quiet notice.UnknownName
 cas_line quiet _ = says_notice quiet notice.UnknownName
 
--- what may stand after the key of a delete: a time of 0, and noreply
+-- what may follow the key of a delete: a time of 0, and noreply
 abbrev pub is_delete_end : List (List ℕ) → Bool
 is_delete_end [] = true
 is_delete_end (w ∷ []) = bytes_eq w (codes "0") || bytes_eq w (codes "noreply")
 is_delete_end (w ∷ v ∷ []) = bytes_eq w (codes "0") && bytes_eq v (codes "noreply")
 is_delete_end (w ∷ v ∷ u ∷ ws) = false
 
--- an update of the key that stands there
+-- an update of the key that the word is
 abbrev pub on_key : Bool → List ℕ → (List ℕ → Line) → Line
 on_key quiet w line = option_map_or line (key_of w) (says_notice quiet notice.BadFormat)
 
--- a key, with what stands after it
+-- a key, with the words after it
 abbrev pub delete_of : Bool → List ℕ → List (List ℕ) → Line
 delete_of quiet k last =
     if is_delete_end last then on_key quiet k (λ key. asks_update quiet (update.Delete key))

@@ -1,5 +1,5 @@
 -- What a line means, and what comes after it.
-use Rattle.std.specs.Prelude.{ℕ, ◌+◌, ◌-◌, List, [], ◌∷◌, length, take, drop, Bool, true, false, nat_lt, nat_le, if◌then◌else◌, Option, Some, None, bytes_eq}
+use Rattle.std.specs.Prelude.{ℕ, ◌-◌, List, [], ◌∷◌, length, take, drop, if◌then◌else◌, Option, Some, bytes_eq}
 use Rattle.std.specs.Option.{option_map_or, option_to_list}
 use Rattle.proto.specs.Line.{words, ends_in_return}
 use Rattle.proto.specs.Grammar.{filled}

@@ -1,5 +1,5 @@
--- The numbers of the dialect. What stands on a line has more bits than what is kept of it.
-use Rattle.std.specs.Prelude.{ℕ, ◌+◌, ◌-◌, ◌%◌, ◌^◌, List, [], ◌∷◌, ◌==◌, nat_lt, nat_le, if◌then◌else◌, ℤ, pos, neg_ℤ, Option, Some, None}
+-- The numbers of the dialect. A number on a line has more bits than what is kept of it.
+use Rattle.std.specs.Prelude.{ℕ, ◌+◌, ◌-◌, ◌%◌, ◌^◌, List, [], ◌∷◌, ◌==◌, nat_lt, nat_le, if◌then◌else◌, ℤ, pos, neg_ℤ, Option, None}
 use Rattle.std.specs.Option.{option_map}
 use Rattle.proto.specs.Number.{number_below}
 

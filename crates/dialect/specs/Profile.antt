@@ -1,5 +1,5 @@
 -- What a line of the profile asks in the dialect.
-use Rattle.std.specs.Prelude.{◌≡◌, ℕ, ◌≤◌, List, [], ◌∷◌, Bool, Option, Some}
+use Rattle.std.specs.Prelude.{◌≡◌, ◌≤◌, List, [], ◌∷◌, Bool, Option, Some}
 use Rattle.proto.specs.declared.block.TheConstants.{MOST_BLOCK_BYTES}
 use Rattle.proto.specs.declared.command.Command.{Command}
 use Rattle.proto.specs.declared.command.Command.TheVariants as command

@@ -1,5 +1,5 @@
 -- The commands that a line with any number of keys asks.
-use Rattle.std.specs.Prelude.{ℕ, ◌≡◌, ◌≤◌, List, [], ◌∷◌, ◌++◌, length, drop, Bool, ◌&&◌, nat_lt, nat_le, if◌then◌else◌, ℤ, codes, flat_map}
+use Rattle.std.specs.Prelude.{ℕ, ◌≡◌, ◌≤◌, List, [], ◌∷◌, ◌++◌, length, drop, Bool, ◌&&◌, nat_lt, nat_le, if◌then◌else◌, codes, flat_map}
 use Rattle.std.specs.List.{list_all}
 use Rattle.std.specs.Fmt.{signed_decimal}
 use Rattle.proto.specs.Key.{is_key}
@@ -22,7 +22,7 @@ read_command Gets ks = command.Gets ks
 read_command (Gat exptime) ks = command.Gat exptime ks
 read_command (Gats exptime) ks = command.Gats exptime ks
 
--- what stands before its keys
+-- what a line has before its keys
 abbrev pub head : ReadVerb → List ℕ
 head Get = codes "get"
 head Gets = codes "gets"
@@ -36,7 +36,7 @@ key_text k = 32 ∷ k
 unfoldable pub read_text : ReadVerb → List (List ℕ) → List ℕ
 read_text r ks = head r ++ (flat_map key_text ks ++ codes "\r\n")
 
--- The keys may stand on one line of the profile.
+-- The keys fit on one line of the profile.
 unfoldable pub fits : ReadVerb → List (List ℕ) → Bool
 fits r ks = nat_le (length ks) MOST_KEYS && nat_le (length (read_text r ks)) profile.MOST_LINE_BYTES
 
@@ -47,7 +47,7 @@ piece_turns r ks (k ∷ more) =
     if fits r (ks ++ k ∷ []) then piece_turns r (ks ++ k ∷ []) more
     else Ask (read_command r ks) show.Items ∷ piece_turns r (k ∷ []) more
 
--- what is said where there is no key
+-- what is said if there is no key
 abbrev pub none_notice : ReadVerb → Notice
 none_notice Get = notice.UnknownName
 none_notice Gets = notice.UnknownName

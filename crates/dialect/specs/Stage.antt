@@ -1,7 +1,6 @@
 -- The inside of a reader.
-use Rattle.std.specs.Prelude.{◌≡◌, ℕ, ◌+◌, ◌<◌, ◌≤◌, List, [], ◌∷◌, ◌++◌, length, take, drop, Bool, false, Option, Some, None}
+use Rattle.std.specs.Prelude.{◌≡◌, ℕ, ◌+◌, ◌<◌, ◌≤◌, List, [], ◌∷◌, ◌++◌, length, take, drop, Bool, false}
 use Rattle.proto.specs.Stage.{HasNoNewline}
-use Rattle.proto.specs.declared.line.Header.{Header}
 use Rattle.dialect.specs.State.{State, state_at, is_binary, Runs, IsReaderState}
 use Rattle.dialect.specs.declared.line.TheConstants.{MOST_LINE_BYTES}
 use Rattle.dialect.specs.declared.turn.Turn.{Turn}

@@ -4,7 +4,7 @@ use Rattle.std.specs.Option.{option_to_list}
 use Rattle.proto.specs.Grammar.{is_newline}
 use Rattle.proto.specs.declared.block.TheConstants.{MOST_BLOCK_BYTES}
 use Rattle.proto.specs.declared.line.Header.{Header}
-use Rattle.dialect.specs.Meaning.{Meaning, meaning, block_turn}
+use Rattle.dialect.specs.Meaning.{meaning, block_turn}
 use Rattle.dialect.specs.declared.line.TheConstants.{MOST_LINE_BYTES}
 use Rattle.dialect.specs.declared.turn.Notice.TheVariants as notice
 use Rattle.dialect.specs.declared.turn.Turn.{Turn}
@@ -72,7 +72,7 @@ pub record Runs (old : State) (bytes : List ℕ) (before after : List Turn) (new
   pub turns : after ≡ before ++ (run old bytes).turns
   pub state : new ≡ (run old bytes).state
 
--- what is held stands within its limits
+-- what is held is within its limits
 abbrev pub HoldsWithin : Part → List ℕ → Type 0
 HoldsWithin part.Line held = length held < MOST_LINE_BYTES
 HoldsWithin (part.Block h) held = (length held < h.size + 2) × (h.size ≤ MOST_BLOCK_BYTES)

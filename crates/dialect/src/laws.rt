@@ -40,7 +40,7 @@ pub fn a_noreply_line_gives_no_bytes()
 pub fn a_refused_line_asks_nothing()
     ensures line { (line : List ℕ) → speaks (meaning line).turns ≡ true → commands (meaning line).turns ≡ [] }
 
-    // Where its block is not kept, the most that is asked is to remove a key.
+    // If its block is not kept, the most that is asked is to remove a key.
     ensures block { (line : List ℕ) → UnreadOnlyRemoves (meaning line).part }
 {}
 

@@ -1,7 +1,7 @@
 //! memcached's dialect of the text protocol: what a client's stream of bytes asks of the profile of `proto`, as
 //! memcached 1.6.18 reads it.
 //!
-//! It stands on `proto` (keys, commands, blocks, replies), `base` (lists with limits), `memchr` (line ends) and `itoa`
+//! It is built on `proto` (keys, commands, blocks, replies), `base` (lists with limits), `memchr` (line ends) and `itoa`
 //! (decimals). The layer above uses `Reader::feed`: the turns given so far are those that the bytes fed so far spell,
 //! however they were cut; and `write_shown`, the bytes of a reply as its turn shows it.
 //!

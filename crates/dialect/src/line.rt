@@ -48,7 +48,7 @@ pub enum Line {
     Gives(Option<Turn>),
     /// The last line: the text is given, and nothing more is read.
     Closes(Notice),
-    /// A command over the keys that stand on the line.
+    /// A command over the keys of the line.
     Reads(ReadVerb),
     /// A correct storage line: its block follows.
     Opens(Header),

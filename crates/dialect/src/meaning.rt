@@ -68,7 +68,7 @@ fn asks_update(quiet: bool, update: Update) -> Line
     Line::Gives(Some(Turn::Ask(Command::Update(update), shown(quiet))))
 }
 
-/// Whether no word stands there, or one.
+/// Whether there is at most one word.
 fn is_end(words: &[&[u8]]) -> bool
     ensures { result ≡ spec.is_end (map (λ w. w.now) words.now) }
 {
@@ -316,7 +316,7 @@ fn http_line(words: &[&[u8]]) -> Line
     says_notice(false, Notice::UnknownName)
 }
 
-/// The exptime of a `gat`, or what is said where there is none.
+/// The exptime of a `gat`, or what is said if there is none.
 fn timed(words: &[&[u8]]) -> Result<i32, Notice>
     ensures { MatchResult result
         (λ exptime. (read : ℤ → LineValue) → spec.timed_line read (map (λ w. w.now) words.now) ≡ read exptime)

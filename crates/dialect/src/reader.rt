@@ -67,7 +67,7 @@ impl Reader {
     /// those that were given before, and then these, however the bytes were cut. After a Close there are
     /// none, whatever comes. The only error is a failed allocation, and it changes nothing.
     ///
-    /// A piece in which nothing ends is added in place, and what was held is copied only where something
+    /// A piece in which nothing ends is added in place, and what was held is copied only if something
     /// does, so the cost is linear in the bytes, however they are cut.
     pub fn feed(&mut self, alloc: Global, piece: &[u8]) -> Result<Vec<Turn>, AllocError>
         ensures runs { IfOk result (λ turns. Runs self.old piece.now [] turns.items self.new) }

@@ -48,7 +48,7 @@ fn none_notice(reading: ReadVerb) -> Notice
     }
 }
 
-/// How many bytes stand before the keys on a line of the profile.
+/// How many bytes a line of the profile has before its keys.
 fn head_len(reading: ReadVerb) -> usize
     ensures bytes { result ≡ length (spec.head reading) }
     ensures short { result ≤ 45 }

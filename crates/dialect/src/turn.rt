@@ -9,7 +9,7 @@ pub enum Notice {
     /// The name is no command's, or there are too few or too many words.
     UnknownName,
     BadFormat,
-    /// What stands after the key of a `delete`.
+    /// The words after the key of a `delete` are bad.
     BadDelete,
     BadExptime,
     BadDelta,

@@ -1,5 +1,5 @@
-//! Lines with their blocks, and what is told of them: each row stands in the page that says what the
-//! dialect is, and was tried against memcached 1.6.18.
+//! Lines with their blocks, and what is told of them: the rows are those of the page that says what
+//! the dialect is, and were tried with memcached 1.6.18.
 
 use crate::tell::is_told;
 use std::alloc::{AllocError, Global};
@@ -74,10 +74,7 @@ const OTHERS: [Row; 39] = [
     // The first word is a key.
     (b"delete noreply\r\n", b"delete noreply\n"),
     (b"delete noreply 0\r\n", b"delete noreply\n"),
-    (
-        b"delete noreply noreply\r\n",
-        b"delete noreply (quiet)\n",
-    ),
+    (b"delete noreply noreply\r\n", b"delete noreply (quiet)\n"),
     (b"delete k 1\r\n", BAD_DELETE),
     (b"delete k 0 0\r\n", BAD_DELETE),
     (b"delete k 1 noreply\r\n", b""),

@@ -162,7 +162,7 @@ fn gets_of_many_keys(rt: HostRuntime) -> Result<(), Fail> {
     let alloc = rt.alloc();
     assert!(rt; is_in_pieces(alloc, 1, [64, 64, 1])?);
     assert!(rt; is_in_pieces(alloc, 1, [64, 64, 64])?);
-    // Eight keys of 250 bytes stand on a line of 2,048.
+    // Eight keys of 250 bytes fit on a line of 2,048.
     assert!(rt; is_in_pieces(alloc, 250, [8, 8, 3])?);
     // 28 keys of 72 bytes and their spaces are 2,044 bytes, with `get` and the line end 2,049.
     assert!(rt; is_in_pieces(alloc, 72, [27, 27, 5])?);
