@@ -190,9 +190,7 @@ impl<S: Read + Write + Drop> Sockets<S> {
             leaver: socket.leaver(),
         };
         match after {
-            After::Gone => {
-                self.all.try_remove(key);
-            }
+            After::Gone => drop(self.all.try_remove(key)),
             After::Rest => {}
             _ => self.turns.list(key, socket),
         }

@@ -1,5 +1,8 @@
-use Rattle.std.proofs.Common.{rules, [], ap, ◌∙◌}
-use Rattle.std.specs.Prelude.{take}
+use Rattle.std.proofs.Common.{rules, ℕ, List, [], ◌∷◌, ◌++◌, length, ap, ◌∙◌}
+use Rattle.std.specs.Prelude.{take, Result}
+use Rattle.std.specs.declared.io.Error.{Error}
+use Rattle.std.proofs.lemmas.List.{length-append}
+use Rattle.event_loop.specs.Socket.{SocketView}
 use Rattle.event_loop.proofs.SocketLemmas.{writes_once}
 use Rattle.event_loop.proofs.socket.Socket.write_once.Goals as goal
 
@@ -18,5 +21,5 @@ returns-in-Interrupted-clause-writes g c = writes_once _ _ ([]) c.write.result (
 pub returns-in_default : goal.returns-in_default
 returns-in_default g c = record {
   writes = writes_once _ _ ([]) c.write.result (search rules) (search rules) (search rules) (search rules) (search rules) (search rules) (search rules);
-  one = search rules;
+  one = ap (λ (l : List (Result ℕ Error)). length l) (c.write.ensures.log ∙ ap (λ (s : SocketView). s.traffic.writes ++ c.write.result ∷ []) c.self.view_is) ∙ length-append c.args.self.now.traffic.writes (c.write.result ∷ []);
 }
