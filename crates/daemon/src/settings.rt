@@ -12,7 +12,7 @@ use std::net::SocketAddr;
 pub const MOST_CONNECTIONS: u16 = 10000;
 
 /// The version of the daemon. `CHANGELOG.md` says what its numbers mean.
-pub const VERSION: &str = "1.1.0";
+pub const VERSION: &str = "2.0.0";
 
 const AFTER: &str =
     "It serves memcached's text protocol until a signal ends it. All items are in its memory.";

@@ -102,7 +102,7 @@ fn the_start_is_told(rt: HostRuntime) -> Result<(), Fail> {
         are(
             &memory.into_lines(),
             &[
-                "[INFO ] eve_cached 1.1.0 with u 2: at most 77 connections",
+                "[INFO ] eve_cached 2.0.0 with u 2: at most 77 connections",
                 "[INFO ] figures on http://127.0.0.1:11280/"
             ]
         )

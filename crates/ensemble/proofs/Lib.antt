@@ -16,4 +16,6 @@ mod Cutting
 mod Served
 mod Trimming
 mod Collecting
+mod Ending
+mod Continuing
 pub mod Crossing

@@ -71,7 +71,7 @@ since_more early late more moment (inr later) = inr (Contains-append_left late m
 
 -- ---- the moment of now
 
-now_both : (now : Option ℕ) (early late : Order) → now_from now (early ++ late) ≡ now_from (now_from now early) late
+pub now_both : (now : Option ℕ) (early late : Order) → now_from now (early ++ late) ≡ now_from (now_from now early) late
 now_both now [] late = refl
 now_both now ((key, noted.Asked) ∷ early) late = now_both None early late
 now_both now ((key, noted.Answered) ∷ early) late = now_both now early late

@@ -6,3 +6,5 @@ pub mod Trimming
 pub mod Moments
 pub mod Ensemble
 pub mod Calls
+pub mod Process
+pub mod Steps

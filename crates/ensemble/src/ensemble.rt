@@ -267,12 +267,8 @@ impl Ensemble {
         self.refused
     }
 
-    /// How many steps all executors have made. A decree that an executor obeys is a step.
-    pub fn steps(&self) -> u64 {
-        self.progress.seen().steps
-    }
-
-    /// How far it has come, for whoever waits for a reply.
+    /// How far it has come, for whoever waits for a reply. It is a figure: nothing is promised of it. A proxy asks again
+    /// and suspects the leader by it, and a reply is right whenever a proxy does.
     pub fn seen(&self) -> Seen {
         self.progress.seen()
     }

@@ -23,6 +23,7 @@ mod nodes;
 mod noted;
 mod opening;
 mod posting;
+mod process_laws;
 mod progress;
 mod refusing;
 mod showing;
@@ -34,6 +35,10 @@ pub use answer::Answer;
 pub use ensemble::Ensemble;
 pub use noted::Noted;
 pub use pages::PAGES;
+pub use process_laws::{
+    a_process_comes_back, a_reopened_ensemble_follows, an_ensemble_goes_on_after_a_process,
+    processes_follow_each_other,
+};
 pub use serving::Seen;
 pub use times::Times;
 pub use worlds::{Config, Replica};

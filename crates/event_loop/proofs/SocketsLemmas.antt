@@ -1,13 +1,15 @@
 -- What a change of one socket does to the table.
-use Rattle.std.proofs.Common.{◌≡◌, ◌≢◌, ℕ, false, List, [], ◌∷◌, ◌++◌, refl, ap, sym, ◌∙◌, subst, rules, ◌<◌, ◌+◌, length, arith, inl, inr}
+use Rattle.std.proofs.Common.{◌≡◌, ◌≢◌, ℕ, Bool, false, List, [], ◌∷◌, ◌++◌, refl, ap, sym, ◌∙◌, subst, rules, ◌<◌, ◌+◌, length, arith, inl, inr}
 use Rattle.std.specs.Prelude.{Option, Some, None, IsSome, Contains}
 use Rattle.std.proofs.lemmas.Bool.{cases_eq}
 use Rattle.slab.specs.Slab.{Slab, get, with_value, Updates}
 use Rattle.slab.proofs.SlabLemmas.{Updates-with_value, Contains-cons_cases}
+use Rattle.event_loop.specs.declared.message.Heard.{Heard}
 use Rattle.event_loop.specs.declared.message.Said.{Said}
 use Rattle.event_loop.specs.Traffic.{Traffic}
-use Rattle.event_loop.specs.Socket.{SocketView, SocketRests, new_socket}
-use Rattle.event_loop.specs.Sockets.{TurnsView, SocketsView, IsPlaced, Lists, IsSameButListed, SocketHears, HearsListed, IsGiven, AreAllGiven}
+use Rattle.event_loop.specs.Socket.{SocketView, SocketRests, SocketTurns, IsSocketOver, Tells, Leaves, new_socket}
+use Rattle.event_loop.specs.Sockets.{TurnsView, SocketsView, IsPlaced, Lists, IsSameButListed, SocketHears, HearsListed, IsGiven, AreAllGiven, IsTurned, IsTurnOfListed, IsTurnOfFirst}
+use Rattle.event_loop.proofs.SocketLemmas.{turn_listed}
 
 module _ (all : Slab SocketView) (key : ℕ) (s : SocketView) (e : get all key ≡ Some s) where
   same : (s' : SocketView) → get all key ≡ Some s' → s ≡ s'
@@ -126,3 +128,40 @@ given_here old said s h t turns e n hears listed =
 pub given_more : (all : List Said) (said : Said) (a b c : SocketsView) → AreAllGiven a all b → IsGiven b said c → AreAllGiven a (all ++ said ∷ []) c
 given_more [] said a b c p q = (c, subst (λ (v : SocketsView). IsGiven v said c) p q, refl)
 given_more (first ∷ rest) said a b c p q = (p.0, p.1, given_more rest said p.0 b c p.2 q)
+
+-- whether it is listed is no part of what it tells
+tells_listed : (key : ℕ) (s t x : SocketView) (i : Bool) (before after : List Heard) → Tells key (record s { is_listed = i }) t before after → x ≡ record t { is_listed = x.is_listed } → Tells key s x before after
+tells_listed key s t x i before after h same =
+    subst (λ (v : SocketView). Tells key s v before after) (sym same)
+    (record { more = h.more; heard = h.heard; about = h.about; told = h.told; untold = h.untold; said = h.said; number = h.number; closes = h.closes; ended = h.ended })
+
+-- the first that was listed had its turn
+module _ (may_read : Bool) (old now : SocketsView) (popped : TurnsView) (key : ℕ) (first : old.turns ≡ record popped { keys = key ∷ popped.keys }) (s a t : SocketView) (e : get old.all key ≡ Some s) (unlisted : a ≡ record s { is_listed = false }) (turn : SocketTurns may_read a t) (next : now.next ≡ old.next) (before after : List Heard) where
+  turns_on : (x : SocketView) → x ≡ record t { is_listed = x.is_listed } → SocketTurns may_read s x
+  turns_on x same = turn_listed may_read s t x false (subst (λ (z : SocketView). SocketTurns may_read z t) unlisted turn) same
+
+  tells_on : (between : List Heard) (x : SocketView) → Tells key a t before between → x ≡ record t { is_listed = x.is_listed } → Tells key s x before between
+  tells_on between x tells same = tells_listed key s t x false before between (subst (λ (z : SocketView). Tells key z t before between) unlisted tells) same
+
+  is_turn : ((other : ℕ) → other ≢ key → get now.all other ≡ get old.all other) → IsTurned may_read key s (get now.all key) before after → IsTurnOfFirst may_read old now before after
+  is_turn others turned =
+      subst (λ (listed : TurnsView). IsTurnOfListed may_read listed.keys old now before after) (sym first) (record {
+        absent = λ none. let clash : ◌≡◌ {A = Option SocketView} None (Some s) = sym none ∙ e in absurd (cc clash);
+        turned = λ s' e'. subst (λ (z : SocketView). IsTurned may_read key z (get now.all key) before after) (cc (sym e ∙ e')) turned;
+        others = others;
+        next = next;
+      })
+
+  -- and is here
+  pub turn_stays : (x : SocketView) → now.all ≡ with_value old.all key x → x ≡ record t { is_listed = x.is_listed } → Tells key a t before after → IsTurnOfFirst may_read old now before after
+  turn_stays x is same tells =
+      let u = put old.all key s e x in
+      let here : get now.all key ≡ Some x = ap (λ (all : Slab SocketView). get all key) is ∙ u.changed in
+      is_turn (λ other differs. ap (λ (all : Slab SocketView). get all other) is ∙ u.others other differs)
+      (subst (λ (o : Option SocketView). IsTurned may_read key s o before after) (sym here) (tells_on after x tells same, turns_on x same))
+
+  -- and is gone
+  pub turn_gone : (x : SocketView) → Updates (with_value old.all key x) now.all key None → Leaves key a t before after → IsSocketOver t → IsTurnOfFirst may_read old now before after
+  turn_gone x u leaves over =
+      is_turn (others_gone old.all key s e x now.all u)
+      (subst (λ (o : Option SocketView). IsTurned may_read key s o before after) (sym u.changed) (t, record { between = leaves.between; tells = tells_on leaves.between t leaves.tells refl; left = leaves.left }, over, turns_on t refl))

@@ -1,5 +1,5 @@
 -- What one read does to a reader whose bytes are known.
-use Rattle.std.specs.Prelude.{ℕ, ◌≢◌, List, [], Option, ⊤}
+use Rattle.std.specs.Prelude.{ℕ, ◌≡◌, ◌≢◌, false, List, [], Option, ⊤}
 use Rattle.std.specs.Io.KnownBytes.{Consumes, Keeps}
 use Rattle.event_loop.specs.declared.input.Piece.{Piece}
 use Rattle.event_loop.specs.declared.input.Piece.TheVariants.{Bytes, Nothing, Interrupted, End}
@@ -18,3 +18,17 @@ bytes_of_piece (Bytes bytes has_more) = bytes.items
 bytes_of_piece Nothing = []
 bytes_of_piece Interrupted = []
 bytes_of_piece End = []
+
+-- nothing is left to read until an event tells of more
+abbrev pub IsEmptied : Piece → Type 0
+IsEmptied (Bytes bytes has_more) = has_more ≡ false
+IsEmptied Nothing = ⊤
+IsEmptied Interrupted = ⊥
+IsEmptied End = ⊥
+
+-- the other side closed the stream, the read failed, or its bytes are lost
+abbrev pub IsEnd : Piece → Type 0
+IsEnd (Bytes bytes has_more) = ⊥
+IsEnd Nothing = ⊥
+IsEnd Interrupted = ⊥
+IsEnd End = ⊤

@@ -1,9 +1,12 @@
 -- What contracts see of a socket, and what it tells the service.
-use Rattle.std.specs.Prelude.{◌≡◌, ◌⊎◌, ℕ, ◌<◌, ◌≤◌, Bool, true, false, List, [], ◌∷◌, ◌++◌, length, flat_map, All, if◌then◌else◌}
+use Rattle.std.specs.Prelude.{◌≡◌, ◌≢◌, ◌⊎◌, ◌↔◌, ℕ, ◌+◌, ◌<◌, ◌≤◌, Bool, true, false, List, [], ◌∷◌, ◌++◌, length, flat_map, sum_by, All, Result, if◌then◌else◌}
+use Rattle.std.specs.declared.io.Error.{Error}
 use Rattle.event_loop.specs.declared.message.Heard.{Heard}
 use Rattle.event_loop.specs.declared.message.Heard.TheVariants.{Came, Bytes, Written, Left}
 use Rattle.event_loop.specs.declared.message.TheConstants.{MOST_UNWRITTEN}
-use Rattle.event_loop.specs.Traffic.{Traffic, IsWritten}
+use Rattle.event_loop.specs.declared.input.Piece.{Piece}
+use Rattle.event_loop.specs.Input.{IsEmptied, IsEnd}
+use Rattle.event_loop.specs.Traffic.{Traffic, IsWritten, One, IsFailed, IsBlocked}
 
 pub record SocketView : Type 0 where
   pub number : ℕ
@@ -47,12 +50,36 @@ bytes_told_by (Left k n) = []
 abbrev pub told_in : List Heard → List ℕ
 told_in messages = flat_map bytes_told_by messages
 
+-- the bytes that a message tells of as written
+abbrev pub written_told_by : Heard → ℕ
+written_told_by (Came k n) = 0
+written_told_by (Bytes k n bytes) = 0
+written_told_by (Written k n count) = count
+written_told_by (Left k n) = 0
+
 -- what waited was written up to some place, and nothing else happened
 pub record SocketWrites (old new : SocketView) : Type 0 where
   pub piece : List ℕ
   pub traffic : IsWritten old.traffic piece new.traffic
   pub ended : old.has_ended ≡ true → new.has_ended ≡ true
+  -- what came of the writes: the socket ends by one that failed, and rests from one that was to wait
+  pub results : List (Result ℕ Error)
+  pub writes : new.traffic.writes ≡ old.traffic.writes ++ results
+  pub failed : One IsFailed results → new.has_ended ≡ true
+  pub only_failed : new.has_ended ≡ true → (old.has_ended ≡ true) ⊎ One IsFailed results
+  pub blocked : old.is_writable ≡ true → (new.is_writable ≡ true) ⊎ One IsBlocked results
   pub others : new ≡ record old { traffic = new.traffic; is_writable = new.is_writable; has_ended = new.has_ended }
+
+-- one read was made, and its bytes were told or are lost
+pub record SocketReads (old new : SocketView) : Type 0 where
+  pub piece : Piece
+  pub reads : new.traffic.reads ≡ old.traffic.reads ++ piece ∷ []
+  pub writes : new.traffic.writes ≡ old.traffic.writes
+  pub failed : IsEnd piece → new.has_ended ≡ true
+  pub only_failed : new.has_ended ≡ true → IsEnd piece ⊎ (new.told ≢ new.traffic.got)
+  pub emptied : (new.is_readable ≡ true) ⊎ IsEmptied piece
+  pub outstanding : (new.is_outstanding ≡ true) ↔ (length old.told < length new.told)
+  pub others : new ≡ record old { traffic = new.traffic; told = new.told; is_readable = new.is_readable; is_outstanding = new.is_outstanding; has_ended = new.has_ended }
 
 -- the socket went from old to new, and the messages of the service from `before` to `after`
 pub record Tells (key : ℕ) (old new : SocketView) (before after : List Heard) : Type 0 where
@@ -61,6 +88,8 @@ pub record Tells (key : ℕ) (old new : SocketView) (before after : List Heard) 
   pub about : All (IsAbout key old.number) more
   -- each byte that was told is in one of them, in order
   pub told : new.told ≡ old.told ++ told_in more
+  -- what was not told of as written is told in one of them, or is still to be told
+  pub untold : sum_by written_told_by more + new.untold ≡ old.untold
   pub said : new.traffic.said ≡ old.traffic.said
   pub number : new.number ≡ old.number
   pub closes : new.closes ≡ old.closes
@@ -100,3 +129,28 @@ pub record SocketRests (s : SocketView) : Type 0 where
   pub reads : MayBeRead s → ⊥
   -- the service knows that all is written, if it may wait for it
   pub is_told : length s.traffic.waits ≡ 0 → s.untold < MOST_UNWRITTEN
+
+-- what a turn did to a socket, which may be read in it or not
+pub record SocketTurns (may_read : Bool) (old new : SocketView) : Type 0 where
+  -- what came of its writes, and what its read gave, if one was made
+  pub results : List (Result ℕ Error)
+  pub writes : new.traffic.writes ≡ old.traffic.writes ++ results
+  pub pieces : List Piece
+  pub reads : new.traffic.reads ≡ old.traffic.reads ++ pieces
+  pub once : length pieces ≤ 1
+  -- what could be written or read was, but nothing is read while the service waits to be told that all is written
+  pub is_written : MayBeWritten old → 0 < length results
+  pub is_read : may_read ≡ true → MayBeRead old → (0 < length pieces) ⊎ (MOST_UNWRITTEN ≤ new.untold)
+  -- it ends by a write or a read, or since bytes that it read are lost
+  pub ended : new.has_ended ≡ true → (old.has_ended ≡ true) ⊎ One IsFailed results ⊎ One IsEnd pieces ⊎ (new.told ≢ new.traffic.got)
+  pub failed : One IsFailed results ⊎ One IsEnd pieces → new.has_ended ≡ true
+  -- it rests from writes or reads only if the stream says so
+  pub blocked : old.is_writable ≡ true → (new.is_writable ≡ true) ⊎ One IsBlocked results
+  pub emptied : old.is_readable ≡ true → (new.is_readable ≡ true) ⊎ One IsEmptied pieces
+  -- the service has bytes of it if it had before, or was told of more
+  pub outstanding : (new.is_outstanding ≡ true) ↔ ((old.is_outstanding ≡ true) ⊎ (length old.told < length new.told))
+  pub others : new ≡ record old { traffic = new.traffic; told = new.told; untold = new.untold; is_readable = new.is_readable; is_writable = new.is_writable; is_outstanding = new.is_outstanding; has_ended = new.has_ended; is_listed = new.is_listed }
+
+-- there is something that the service has to be told: that the socket has ended, or that all is written
+abbrev pub HasToTell : SocketView → Type 0
+HasToTell s = (IsSocketOver s × (s.closes ≡ false)) ⊎ ((length s.traffic.waits ≡ 0) × (MOST_UNWRITTEN ≤ s.untold))

@@ -4,7 +4,7 @@ use Rattle.slab.specs.Slab.{Slab, get}
 use Rattle.event_loop.specs.declared.message.Heard.{Heard}
 use Rattle.event_loop.specs.declared.message.Said.{Said}
 use Rattle.event_loop.specs.declared.socket.Readiness.{Readiness}
-use Rattle.event_loop.specs.Socket.{SocketView, Tells, Leaves, SocketRests}
+use Rattle.event_loop.specs.Socket.{SocketView, Tells, Leaves, SocketRests, IsSocketOver, SocketTurns}
 
 pub record TurnsView : Type 0 where
   -- the keys of the sockets that have a turn
@@ -76,23 +76,23 @@ pub record IsGiven (old : SocketsView) (said : Said) (new : SocketsView) : Type 
   pub next : new.next ≡ old.next
 
 -- after a turn a socket is here, or it has told that it is gone
-abbrev pub IsTurned : ℕ → SocketView → Option SocketView → List Heard → List Heard → Type 0
-IsTurned key s None before after = (t : SocketView) × Leaves key s t before after
-IsTurned key s (Some t) before after = Tells key s t before after
+abbrev pub IsTurned : Bool → ℕ → SocketView → Option SocketView → List Heard → List Heard → Type 0
+IsTurned may_read key s None before after = (t : SocketView) × Leaves key s t before after × IsSocketOver t × SocketTurns may_read s t
+IsTurned may_read key s (Some t) before after = Tells key s t before after × SocketTurns may_read s t
 
 -- the first that is listed, if it is here, had its turn, and no other one did
-pub record IsTurnOf (key : ℕ) (old new : SocketsView) (before after : List Heard) : Type 0 where
+pub record IsTurnOf (may_read : Bool) (key : ℕ) (old new : SocketsView) (before after : List Heard) : Type 0 where
   pub absent : get old.all key ≡ None → after ≡ before
-  pub turned : (s : SocketView) → get old.all key ≡ Some s → IsTurned key s (get new.all key) before after
+  pub turned : (s : SocketView) → get old.all key ≡ Some s → IsTurned may_read key s (get new.all key) before after
   pub others : (other : ℕ) → other ≢ key → get new.all other ≡ get old.all other
   pub next : new.next ≡ old.next
 
-abbrev pub IsTurnOfListed : List ℕ → SocketsView → SocketsView → List Heard → List Heard → Type 0
-IsTurnOfListed [] old new before after = (new ≡ old) × (after ≡ before)
-IsTurnOfListed (key ∷ keys) old new before after = IsTurnOf key old new before after
+abbrev pub IsTurnOfListed : Bool → List ℕ → SocketsView → SocketsView → List Heard → List Heard → Type 0
+IsTurnOfListed may_read [] old new before after = (new ≡ old) × (after ≡ before)
+IsTurnOfListed may_read (key ∷ keys) old new before after = IsTurnOf may_read key old new before after
 
-abbrev pub IsTurnOfFirst : SocketsView → SocketsView → List Heard → List Heard → Type 0
-IsTurnOfFirst old new before after = IsTurnOfListed old.turns.keys old new before after
+abbrev pub IsTurnOfFirst : Bool → SocketsView → SocketsView → List Heard → List Heard → Type 0
+IsTurnOfFirst may_read old new before after = IsTurnOfListed may_read old.turns.keys old new before after
 
 -- all of these were given, in order
 abbrev pub AreAllGiven : SocketsView → List Said → SocketsView → Type 0

@@ -1,6 +1,6 @@
 //! A stream, and the bytes that wait to be written to it.
 
-ghost use Rattle.std.specs.Prelude.{◌≡◌, ◌≤◌, ◌++◌, [], length, take, IfOk, OnOk, OnErr};
+ghost use Rattle.std.specs.Prelude.{◌≡◌, ◌≤◌, ◌++◌, ◌∷◌, [], length, take, IfOk, OnOk, OnErr};
 ghost use Rattle.event_loop.specs.Input.{IsPieceRead, bytes_of_piece};
 ghost use Rattle.event_loop.specs.Traffic.{IsWritten};
 
@@ -17,30 +17,33 @@ use std::marker::Model;
 pub struct Buffered<S: Read + Write> {
     stream: S,
     output: Output,
-    /// What reads gave, and what is written or waits. Only contracts read these: a log has no bytes.
-    got: Log<(), Vec<u8>>,
+    /// What each read gave, what came of each write, and what is written or waits. Only contracts read these: a log
+    /// has no bytes.
+    reads: Log<(), Piece>,
+    writes: Log<(), io::Result<usize>>,
     said: Log<(), Vec<u8>>,
 }
 
 impl<S: Read + Write> Model for Buffered<S> {
-    ghost use Rattle.event_loop.specs.Traffic.{Traffic, IsTraffic, bytes_in_log};
+    ghost use Rattle.event_loop.specs.Traffic.{Traffic, IsTraffic, bytes_in_log, pieces_in_log, bytes_read_in, results_in_log};
 
     ghost Value = { Traffic };
 
-    ghost view = { λ b. record { remaining = S.remaining b.stream; contents = S.contents b.stream; got = bytes_in_log b.got.items; said = bytes_in_log b.said.items; waits = b.output } };
+    ghost view = { λ b. record { remaining = S.remaining b.stream; contents = S.contents b.stream; reads = pieces_in_log b.reads.items; got = bytes_read_in b.reads.items; writes = results_in_log b.writes.items; said = bytes_in_log b.said.items; waits = b.output } };
 
-    ghost invariant = { λ b. IsTraffic (record { remaining = S.remaining b.stream; contents = S.contents b.stream; got = bytes_in_log b.got.items; said = bytes_in_log b.said.items; waits = b.output }) };
+    ghost invariant = { λ b. IsTraffic (record { remaining = S.remaining b.stream; contents = S.contents b.stream; reads = pieces_in_log b.reads.items; got = bytes_read_in b.reads.items; writes = results_in_log b.writes.items; said = bytes_in_log b.said.items; waits = b.output }) };
 }
 
 impl<S: Read + Write> Buffered<S> {
     /// A stream through which nothing went.
     pub fn new(alloc: Global, stream: S) -> Buffered<S>
-        ensures { result ≡ record { remaining = S.remaining stream; contents = S.contents stream; got = []; said = []; waits = [] } }
+        ensures { result ≡ record { remaining = S.remaining stream; contents = S.contents stream; reads = []; got = []; writes = []; said = []; waits = [] } }
     {
         Buffered {
             stream,
             output: Output::new(alloc),
-            got: Log::new(),
+            reads: Log::new(),
+            writes: Log::new(),
             said: Log::new(),
         }
     }
@@ -68,21 +71,24 @@ impl<S: Read + Write> Buffered<S> {
         ensures count { IfOk result (λ n. n ≤ length self.old.waits) }
         ensures ok { IfOk result (λ n. IsWritten self.old (take n self.old.waits) self.new) }
         ensures err { OnErr result (IsWritten self.old [] self.new) }
+        ensures log { self.new.writes ≡ self.old.writes ++ result ∷ [] }
     {
-        self.output.write(&mut self.stream)
+        let result = self.output.write(&mut self.stream);
+        self.writes = self.writes.and(&(), &result);
+        result
     }
 
     /// Reads once, as much as the buffer holds.
     pub fn read(&mut self, alloc: Global, buffer: &mut [u8]) -> Piece
         ensures piece { IsPieceRead self.old.remaining self.new.remaining result }
+        ensures log { self.new.reads ≡ self.old.reads ++ result ∷ [] }
         ensures got { self.new.got ≡ self.old.got ++ bytes_of_piece result }
+        ensures writes { self.new.writes ≡ self.old.writes }
         ensures said { self.new.said ≡ self.old.said }
         ensures waits { self.new.waits ≡ self.old.waits }
     {
         let piece = read_once(&mut self.stream, alloc, buffer);
-        if let Piece::Bytes { bytes, .. } = &piece {
-            self.got = self.got.and(&(), bytes);
-        }
+        self.reads = self.reads.and(&(), &piece);
         piece
     }
 

@@ -312,7 +312,7 @@ impl EventLoop {
 
     /// The turn of the socket that was listed first.
     fn turn_first(&mut self, micros: u64, reads: bool)
-        ensures { IsTurnOfFirst self.old.sockets self.new.sockets self.old.heard.items self.new.heard.items }
+        ensures { IsTurnOfFirst reads self.old.sockets self.new.sockets self.old.heard.items self.new.heard.items }
     {
         let buffer = self.buffer.as_mut_slice();
         let Some(turned) = self

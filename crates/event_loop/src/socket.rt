@@ -1,7 +1,7 @@
 //! One socket, and what waits to be written to it.
 
 ghost use Rattle.std.specs.Prelude.{◌≡◌, ◌++◌, ◌∷◌, ◌⊎◌, ◌+◌, [], true, false, ◌<◌, ◌≤◌, ◌↔◌, length, IfSome, IsSome, IsTrue, Ok, OnOk, OnErr};
-ghost use Rattle.event_loop.specs.Socket.{SocketWrites, Tells, Leaves, IsSocketOver, MayBeWritten, MayBeRead, SocketRests, new_socket, last_told};
+ghost use Rattle.event_loop.specs.Socket.{SocketWrites, SocketReads, Tells, Leaves, SocketTurns, HasToTell, IsSocketOver, MayBeWritten, MayBeRead, SocketRests, new_socket, last_told};
 ghost use Rattle.event_loop.specs.Sockets.{SocketHears, Notes};
 ghost use Rattle.event_loop.specs.declared.message.Heard.TheVariants.{Bytes, Written, Left};
 ghost use Rattle.event_loop.specs.declared.message.TheConstants.{MOST_UNWRITTEN};
@@ -108,7 +108,7 @@ impl<S: Read + Write> Model for Socket<S> {
 impl<S: Read + Write> Socket<S> {
     /// A connection of which nothing was read.
     pub fn new(alloc: Global, stream: S, number: u64) -> Socket<S>
-        ensures { result ≡ new_socket number (record { remaining = S.remaining stream; contents = S.contents stream; got = []; said = []; waits = [] }) }
+        ensures { result ≡ new_socket number (record { remaining = S.remaining stream; contents = S.contents stream; reads = []; got = []; writes = []; said = []; waits = [] }) }
     {
         Socket {
             traffic: Buffered::new(alloc, stream),
@@ -264,6 +264,8 @@ impl<S: Read + Write> Socket<S> {
         ensures rests { result ≡ After.Rest → SocketRests self.new }
         ensures writes { result ≡ After.Writes → MayBeWritten self.new }
         ensures reads { result ≡ After.Reads → MayBeRead self.new }
+        ensures no_memory { result ≡ After.NoMemory → HasToTell self.new }
+        ensures turn { SocketTurns reads self.old self.new }
         ensures listed { self.new.is_listed ≡ self.old.is_listed }
     {
         if self.advance(alloc, key, reads, buffer, heard).is_err() {
@@ -289,6 +291,8 @@ impl<S: Read + Write> Socket<S> {
     ) -> Result<(), AllocError>
         ensures tells { Tells key self.old self.new heard.old.items heard.new.items }
         ensures told { OnOk result (length self.new.traffic.waits ≡ 0 → self.new.untold < MOST_UNWRITTEN) }
+        ensures untold { OnErr result ((length self.new.traffic.waits ≡ 0) × (MOST_UNWRITTEN ≤ self.new.untold)) }
+        ensures turn { SocketTurns reads self.old self.new }
         ensures listed { self.new.is_listed ≡ self.old.is_listed }
     {
         self.write();
@@ -319,9 +323,21 @@ impl<S: Read + Write> Socket<S> {
 
     /// Writes what waits, until all is written, the socket takes no more or the others have their turns.
     fn write(&mut self)
+        ensures writes { SocketWrites self.old self.new }
+        ensures one { MayBeWritten self.old → length self.old.traffic.writes < length self.new.traffic.writes }
+        ensures none { (MayBeWritten self.old → ⊥) → self.new ≡ self.old }
+    {
+        if self.may_be_written() {
+            self.write_once();
+            self.write_on();
+        }
+    }
+
+    /// Writes what still waits in so many writes.
+    fn write_on(&mut self)
         ensures { SocketWrites self.old self.new }
     {
-        for _ in 0..MOST_WRITES {
+        for _ in 1..MOST_WRITES {
             if !self.may_be_written() {
                 break;
             }
@@ -332,7 +348,8 @@ impl<S: Read + Write> Socket<S> {
 
     /// One write.
     fn write_once(&mut self)
-        ensures { SocketWrites self.old self.new }
+        ensures writes { SocketWrites self.old self.new }
+        ensures one { length self.new.traffic.writes ≡ length self.old.traffic.writes + 1 }
     {
         match self.traffic.write() {
             Ok(0) => self.has_ended = true,
@@ -353,6 +370,7 @@ impl<S: Read + Write> Socket<S> {
         ensures little { self.old.untold < MOST_UNWRITTEN → (result ≡ Ok tt) × (self.new ≡ self.old) × (heard.new.items ≡ heard.old.items) }
         ensures told { OnOk result (length self.old.traffic.waits ≡ 0 → MOST_UNWRITTEN ≤ self.old.untold → (self.new ≡ record self.old { untold = 0 }) × (heard.new.items ≡ heard.old.items ++ Written key self.old.number self.old.untold ∷ [])) }
         ensures err { OnErr result ((self.new ≡ self.old) × (heard.new.items ≡ heard.old.items)) }
+        ensures same { self.new ≡ record self.old { untold = self.new.untold } }
     {
         if self.is_behind() || self.untold < MOST_UNWRITTEN {
             return Ok(());
@@ -374,6 +392,7 @@ impl<S: Read + Write> Socket<S> {
         ensures end { self.old.is_read_closed ≡ true → (heard.new.items ≡ heard.old.items) ⊎ (self.new.is_readable ≡ true) }
         ensures waits { self.new.traffic.waits ≡ self.old.traffic.waits }
         ensures untold { self.new.untold ≡ self.old.untold }
+        ensures reads { SocketReads self.old self.new }
         ensures listed { self.new.is_listed ≡ self.old.is_listed }
     {
         match self.traffic.read(alloc, buffer) {
@@ -400,6 +419,7 @@ impl<S: Read + Write> Socket<S> {
     fn tell_end(&self, key: usize, heard: &mut Vec<Heard>) -> Result<(), AllocError>
         ensures told { OnOk result (heard.new.items ≡ heard.old.items ++ last_told key self.now) }
         ensures err { OnErr result (heard.new.items ≡ heard.old.items) }
+        ensures closed { OnErr result (self.now.closes ≡ false) }
     {
         if !self.closes {
             heard.push(Heard::Left {

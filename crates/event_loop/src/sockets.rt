@@ -98,7 +98,7 @@ impl<S: Read + Write + Drop> Sockets<S> {
 
     /// One more, under the next key and number: its number. None if memory runs out.
     pub fn insert(&mut self, alloc: Global, stream: S) -> Option<u64>
-        ensures here { IfSome result (λ number. (number ≡ self.old.next) × Updates self.old.all self.new.all self.old.all.vacant_key (Some (new_socket number (record { remaining = S.remaining stream; contents = S.contents stream; got = []; said = []; waits = [] })))) }
+        ensures here { IfSome result (λ number. (number ≡ self.old.next) × Updates self.old.all self.new.all self.old.all.vacant_key (Some (new_socket number (record { remaining = S.remaining stream; contents = S.contents stream; reads = []; got = []; writes = []; said = []; waits = [] })))) }
         ensures next { IfSome result (λ number. self.new.next ≡ self.old.next + 1) }
         ensures none { IfNone result ((key : ℕ) → get self.new.all key ≡ get self.old.all key) }
         ensures same_next { IfNone result (self.new.next ≡ self.old.next) }
@@ -178,7 +178,7 @@ impl<S: Read + Write + Drop> Sockets<S> {
         buffer: &mut [u8],
         heard: &mut Vec<Heard>,
     ) -> Option<Turned>
-        ensures { IsTurnOfFirst self.old self.new heard.old.items heard.new.items }
+        ensures { IsTurnOfFirst reads self.old self.new heard.old.items heard.new.items }
     {
         let key = self.turns.take_first()?;
         let socket = self.all.get_mut(key)?;
@@ -190,9 +190,7 @@ impl<S: Read + Write + Drop> Sockets<S> {
             leaver: socket.leaver(),
         };
         match after {
-            After::Gone => {
-                self.all.try_remove(key);
-            }
+            After::Gone => drop(self.all.try_remove(key)),
             After::Rest => {}
             _ => self.turns.list(key, socket),
         }

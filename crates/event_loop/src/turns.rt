@@ -1,6 +1,6 @@
 //! The sockets that have a turn.
 
-ghost use Rattle.std.specs.Prelude.{◌≡◌, ◌∷◌, [], false, length, MatchOption};
+ghost use Rattle.std.specs.Prelude.{◌≡◌, ◌∷◌, [], false, length, MatchOption, IfNone};
 ghost use Rattle.event_loop.specs.Sockets.{Lists};
 
 use crate::socket::Socket;
@@ -60,7 +60,8 @@ impl Turns {
 
     /// Takes out the first.
     pub fn take_first(&mut self) -> Option<usize>
-        ensures { MatchOption result (self.new ≡ self.old) (λ key. self.old ≡ record self.new { keys = key ∷ self.new.keys }) }
+        ensures first { MatchOption result (self.new ≡ self.old) (λ key. self.old ≡ record self.new { keys = key ∷ self.new.keys }) }
+        ensures none { IfNone result (self.old.keys ≡ []) }
     {
         self.keys.pop_front()
     }

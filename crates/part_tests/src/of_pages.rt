@@ -74,11 +74,23 @@ fn old_root_agrees(state: &State) -> bool {
         && state.0.old_root() == token::root(&digests, OLD_HEIGHT)
 }
 
+/// Which pages have entries.
+fn filled(entries: &[Entry<Key, Item>]) -> [bool; PAGES] {
+    let mut filled = [false; PAGES];
+    for entry in entries {
+        filled[page_of(entry.key()) & (PAGES - 1)] = true;
+    }
+    filled
+}
+
 /// Whether each digest and the root are those of the plain store, from scratch.
 fn agree(state: &State) -> bool {
-    let mut digests = [[0u8; 32]; PAGES];
+    let mut digests = [EMPTY; PAGES];
+    let filled = filled(state.1.as_slice());
     for number in 0..PAGES {
-        digests[number] = digest_of(state.1.as_slice(), number, PAGES - 1);
+        if filled[number] {
+            digests[number] = digest_of(state.1.as_slice(), number, PAGES - 1);
+        }
         if state.0.digest(number) != digests[number] {
             return false;
         }
@@ -429,49 +441,97 @@ fn digests_texts_and_sets_of_pages(rt: HostRuntime) -> Result<(), Fail> {
     Ok(())
 }
 
-/// Ten random steps, each from the last state.
-fn add_states(
-    alloc: Global,
-    words: &mut Lcg64Xsh32,
-    states: &mut Vec<State>,
-) -> Result<(), AllocError> {
-    for _ in 0..10usize {
-        if let Some(state) = states.last() {
-            let next = changed(alloc, words, state, Layout::Sorted)?;
-            states.push(next)?;
-        }
+/// The digests of all pages, and the root behind them.
+type Digests = [[u8; 32]; PAGES + 1];
+
+fn digests_of(kept: &Snapshot) -> Digests {
+    let mut digests = [[0u8; 32]; PAGES + 1];
+    for number in 0..PAGES {
+        digests[number] = kept.digest(number);
     }
-    Ok(())
+    digests[PAGES] = kept.root();
+    digests
 }
 
-fn last_agrees(states: &[State]) -> bool {
-    match states.last() {
-        Some(state) => agree(state),
+/// A state, and the digests that it had when it was made.
+type Made = (State, Digests);
+
+/// Whether the pages of the state have the digests that they had when it was made.
+fn is_as_it_was(made: &Made) -> bool {
+    digests_of(&made.0.0) == made.1
+}
+
+/// Makes a random step from the last state: whether the state after it agrees, and the one before it is as it was.
+fn step(alloc: Global, words: &mut Lcg64Xsh32, chain: &mut Vec<Made>) -> Result<bool, AllocError> {
+    let Some(last) = chain.last() else {
+        return Ok(false);
+    };
+    let state = changed(alloc, words, &last.0, Layout::Sorted)?;
+    let is_kept = is_as_it_was(last);
+    let digests = digests_of(&state.0);
+    let is_right = agree(&state);
+    chain.push((state, digests))?;
+    Ok(is_kept && is_right)
+}
+
+/// Takes so many steps back: whether the state before them is as it was.
+fn undo(chain: &mut Vec<Made>, steps: usize) -> bool {
+    chain.truncate(chain.len().saturating_sub(steps).max(1));
+    match chain.last() {
+        Some(last) => is_as_it_was(last),
         None => false,
     }
 }
 
-/// Ten steps, and some of the last ones undone: whether the state before and after that agrees.
-fn agrees_with_undo(
-    alloc: Global,
-    words: &mut Lcg64Xsh32,
-    states: &mut Vec<State>,
-) -> Result<[bool; 2], AllocError> {
-    add_states(alloc, words, states)?;
-    let before = last_agrees(states.as_slice());
-    let back = 1 + (words.next_word() % 9) as usize;
-    states.truncate(states.len().saturating_sub(back));
-    Ok([before, last_agrees(states.as_slice())])
+/// Puts an item at a key that has none, on opened pages, and removes it again: whether the pages differ between, and
+/// have their digests, entries and texts again after that.
+fn put_and_undo(alloc: Global, made: &Made) -> Result<bool, AllocError> {
+    let kept = &made.0.0;
+    let put = with_five(alloc, kept, Some(7))?;
+    let mut pages = put.open()?;
+    pages.remove(&key(alloc, b"a")?)?;
+    let undone = pages.seal(Layout::Sorted)?;
+    Ok(
+        put.root() != kept.root()
+            && put.digest(97) != kept.digest(97)
+            && digests_of(&undone) == made.1
+            && undone.is_same_page(alloc, kept, 97)?
+            && has_text_of(alloc, &undone, kept)?,
+    )
 }
 
-/// 1,000 random steps, of which some of the last 10 are undone after every 10th.
+/// Whether page 97 has the same text in both.
+fn has_text_of(alloc: Global, pages: &Snapshot, kept: &Snapshot) -> Result<bool, AllocError> {
+    let text = text_of(alloc, kept, 97)?.joined(alloc)?;
+    has_text(alloc, pages, 97, text.as_slice())
+}
+
+/// A step, and then another one that is undone at once. After one step in four, one to three are taken back.
+fn step_with_undo(
+    alloc: Global,
+    words: &mut Lcg64Xsh32,
+    chain: &mut Vec<Made>,
+) -> Result<[bool; 3], AllocError> {
+    let is_right = step(alloc, words, chain)?;
+    let is_undone = match chain.last() {
+        Some(last) => put_and_undo(alloc, last)?,
+        None => false,
+    };
+    let word = words.next_word() as usize;
+    let is_back = word % 4 > 0 || undo(chain, 1 + word / 4 % 3);
+    Ok([is_right, is_undone, is_back])
+}
+
+/// 1,000 random steps, each looked at, some of which are taken back.
 #[test]
 fn random_steps_with_undo(rt: HostRuntime) -> Result<(), Fail> {
     let mut words = Lcg64Xsh32::seed_from_u64(20);
-    let mut states = vec![in rt.alloc(); new_state(rt.alloc(), Layout::Sorted)?]?;
-    for tens in 0..100u32 {
-        let agree = agrees_with_undo(rt.alloc(), &mut words, &mut states)?;
-        assert!(rt; agree == [true, true], "{tens}: {agree:?}");
+    let state = new_state(rt.alloc(), Layout::Sorted)?;
+    let digests = digests_of(&state.0);
+    let mut chain = vec![in rt.alloc(); (state, digests)]?;
+    for steps in 0..1000u32 {
+        let is_right = step_with_undo(rt.alloc(), &mut words, &mut chain)?;
+        assert!(rt; is_right == [true; 3], "{steps}: {is_right:?}");
     }
     Ok(())
 }

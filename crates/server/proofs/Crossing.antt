@@ -2,6 +2,7 @@
 use denote.Param.Send.{IsSend, sendable}
 use Rattle.std.proofs.Crossing.{crosses}
 use Rattle.std.proofs.alloc.Global.TheSendSync as global
+use Rattle.std.proofs.collections.VecDeque.TheSendSync as deque
 use Rattle.std.proofs.vec.Vec.TheSendSync as vec
 use Rattle.event_loop.proofs.message.Said.TheSendSync as said
 use Rattle.service.proofs.Crossing.{service_send}
@@ -13,6 +14,7 @@ ruleset parts = (
   said.the_send,
   lost.the_send,
   lost.the_field_send,
+  deque.the_send,
   vec.the_send,
   global.the_send,
   global.the_field_send,

@@ -1,7 +1,9 @@
 -- Messages that are handed in one after the other.
-use Rattle.std.proofs.Common.{◌≡◌, ℕ, List, [], ◌∷◌, ◌++◌, refl, ap, sym, ◌∙◌, ◌⊎◌, subst, inl, inr}
-use Rattle.std.specs.Prelude.{false, Result, Ok, Err, IfOk, OnErr, Contains}
-use Rattle.std.proofs.lemmas.List.Elements.{All-append, All-cons, All-nil, Contains-append_left}
+use Rattle.std.proofs.Common.{◌≡◌, ℕ, ◌+◌, ◌<◌, ◌≤◌, List, [], ◌∷◌, ◌++◌, length, refl, ap, sym, ◌∙◌, ◌⊎◌, subst, append_assoc, arith, inl, inr}
+use Rattle.std.specs.Prelude.{false, Result, Ok, Err, IfOk, OnErr}
+use Rattle.std.specs.List.{AllZip}
+use Rattle.std.proofs.lemmas.List.{append-nil, length-append, nil_from_length}
+use Rattle.std.proofs.lemmas.List.Elements.{AllZip-push}
 use Rattle.base.specs.declared.fault.Fault.{Fault}
 use Rattle.connections.specs.declared.said.Said as of_service
 use Rattle.connections.specs.Connections.{HasSameLogs}
@@ -11,7 +13,7 @@ use Rattle.service.specs.Service.{ServiceView, HasSameRequests}
 use Rattle.server.specs.declared.answering.Lost.{Lost}
 use Rattle.event_loop.specs.declared.message.Heard.{Heard}
 use Rattle.event_loop.specs.declared.message.Said.{Said}
-use Rattle.server.specs.Answering.{AnsweringView, Says, SaysNothing, IsSameBut, SaysEach, IsClosing, Closings, IsLastMessage, IsSaidOf, SaysWhat, IsToldAfter, HandsIn, HandsInAll}
+use Rattle.server.specs.Answering.{AnsweringView, Says, SaysNothing, IsSameBut, SaysEach, Closings, IsLastMessage, IsSaidOf, SaysWhat, IsToldAfter, HandsIn, HandsInAll}
 
 -- one more
 pub in_more : (heard : List Heard) (one : Heard) (v between now : AnsweringView) → HandsInAll heard v between → HandsIn one between now → HandsInAll (heard ++ one ∷ []) v now
@@ -59,19 +61,60 @@ pub each_same : (v between now : AnsweringView) (all : List Said) → SaysEach v
 each_same v between now [] a b = record { service = b.service ∙ a.service; said_is = b.said_is ∙ a.said_is }
 each_same v between now (first ∷ all) each b = (each.0, each.1, each_same each.0 between now all each.2 b)
 
--- one more of those that were lost is told so
-pub closes_more : (v between popped now : AnsweringView) (lost : Lost) (one : Said) → Closings v between → IsSameBut between popped → Contains v.lost lost → IsLastMessage lost.key lost.number one → Says popped one now → Closings v now
-closes_more v between popped now lost one before same there last says = (
-  before.0 ++ one ∷ [],
-  All-append (IsClosing v.lost) before.0 (one ∷ []) before.1 (All-cons (IsClosing v.lost) one [] (record { of = lost; is_lost = there; last = last }) (All-nil (IsClosing v.lost))),
-  each_more v popped now before.0 one (each_same v between popped before.0 before.2 same) says,
-)
+-- Of those that were lost so many were told so, in order. The rest are lost still, and some again.
+pub record ClosesSoMany (count : ℕ) (v now : AnsweringView) : Type 0 where
+  pub told : List Lost
+  pub rest : List Lost
+  pub again : List Lost
+  pub before : v.lost ≡ told ++ rest
+  pub after : now.lost ≡ rest ++ again
+  pub counted : length told ≡ count
+  pub closings : List Said
+  pub last : AllZip (λ of said. IsLastMessage of.key of.number said) told closings
+  pub says : SaysEach v closings now
 
--- who is lost after one was taken and told so was lost before
-pub lost_before : (old popped now : List Lost) (lost : Lost) (one : Said) → old ≡ popped ++ lost ∷ [] → IsLastMessage lost.key lost.number one → (now ≡ popped) ⊎ (now ≡ popped ++ record { key = one.key; number = one.number } ∷ []) → (x : Lost) → Contains now x → Contains old x
-lost_before old popped now lost one is last becomes x has =
-    let again : record { key = one.key; number = one.number } ≡ lost = λ i. record { key = last.key_is i; number = last.number_is i } in
-    subst (λ (l : List Lost). Contains l x) (sym is) (elim becomes [
-      | inl same ↦ Contains-append_left popped (lost ∷ []) x (subst (λ (l : List Lost). Contains l x) same has)
-      | inr more ↦ subst (λ (z : Lost). Contains (popped ++ z ∷ []) x) again (subst (λ (l : List Lost). Contains l x) more has)
-    ])
+-- none so far
+pub closes_none : (v : AnsweringView) → ClosesSoMany 0 v v
+closes_none v = record { told = []; rest = v.lost; again = []; before = refl; after = sym (append-nil v.lost); counted = refl; closings = []; last = tt; says = record { service = refl; said_is = refl } }
+
+-- one more
+module _ (count : ℕ) (v between popped now : AnsweringView) (lost : Lost) (one : Said) (so_far : ClosesSoMany count v between) (same : IsSameBut between popped) (last : IsLastMessage lost.key lost.number one) (says : Says popped one now) where
+  closes_first : (rest added : List Lost) → v.lost ≡ so_far.told ++ lost ∷ rest → now.lost ≡ rest ++ added → ClosesSoMany (count + 1) v now
+  closes_first rest added before after = record {
+    told = so_far.told ++ lost ∷ [];
+    rest = rest;
+    again = added;
+    before = before ∙ sym (append_assoc so_far.told (lost ∷ []) rest);
+    after = after;
+    counted = length-append so_far.told (lost ∷ []) ∙ ap (λ n. n + 1) so_far.counted;
+    closings = so_far.closings ++ one ∷ [];
+    last = AllZip-push (λ of said. IsLastMessage of.key of.number said) so_far.told so_far.closings lost one so_far.last last;
+    says = each_more v popped now so_far.closings one (each_same v between popped so_far.closings so_far.says same) says;
+  }
+
+  closes_next : (rest : List Lost) → v.lost ≡ so_far.told ++ rest → rest ++ so_far.again ≡ lost ∷ popped.lost → count < length v.lost → (now.lost ≡ popped.lost) ⊎ ((x : Lost) × (now.lost ≡ popped.lost ++ x ∷ [])) → ClosesSoMany (count + 1) v now
+  closes_next [] before first more becomes = absurd (omega (arith, more, so_far.counted, ap (λ (l : List Lost). length l) before, length-append so_far.told []))
+  closes_next (x ∷ rest) before first more becomes =
+      let same_lost : x ≡ lost = cc first in
+      let left : popped.lost ≡ rest ++ so_far.again = cc first in
+      let is : v.lost ≡ so_far.told ++ lost ∷ rest = before ∙ ap (λ (z : Lost). so_far.told ++ z ∷ rest) same_lost in
+      elim becomes [
+        | inl kept ↦ closes_first rest so_far.again is (kept ∙ left)
+        | inr more ↦ closes_first rest (so_far.again ++ more.0 ∷ []) is (more.1 ∙ ap (λ (l : List Lost). l ++ more.0 ∷ []) left ∙ append_assoc rest so_far.again (more.0 ∷ []))
+      ]
+
+  pub closes_more : between.lost ≡ lost ∷ popped.lost → count < length v.lost → (now.lost ≡ popped.lost) ⊎ (now.lost ≡ popped.lost ++ record { key = one.key; number = one.number } ∷ []) → ClosesSoMany (count + 1) v now
+  closes_more first more becomes =
+      closes_next so_far.rest so_far.before (sym so_far.after ∙ first) more
+      (elim becomes [ inl kept ↦ inl kept | inr again ↦ inr (record { key = one.key; number = one.number }, again) ])
+
+-- who is lost is there to be told
+pub closes_some : (count : ℕ) (v now : AnsweringView) → ClosesSoMany count v now → count < length v.lost → 0 < length now.lost
+closes_some count v now c more = omega (arith, more, c.counted, ap (λ (l : List Lost). length l) c.before, length-append c.told c.rest, ap (λ (l : List Lost). length l) c.after, length-append c.rest c.again)
+
+-- all were told
+pub closes_all : (count : ℕ) (v now : AnsweringView) → ClosesSoMany count v now → length v.lost ≤ count → Closings v now
+closes_all count v now c all =
+    let none : c.rest ≡ [] = nil_from_length c.rest (omega (arith, all, c.counted, ap (λ (l : List Lost). length l) c.before, length-append c.told c.rest)) in
+    let each : c.told ≡ v.lost = sym (append-nil c.told) ∙ ap (λ (l : List Lost). c.told ++ l) (sym none) ∙ sym c.before in
+    (c.closings, subst (λ (l : List Lost). AllZip (λ of said. IsLastMessage of.key of.number said) l c.closings) each c.last, c.says)

@@ -1,5 +1,6 @@
 -- What stands between the event loop and the service: what it hands in, and what it hands out.
-use Rattle.std.specs.Prelude.{◌≡◌, ◌⊎◌, ℕ, List, [], ◌∷◌, ◌++◌, true, false, map, All, Contains, Some, Result, Ok, Err, refl}
+use Rattle.std.specs.Prelude.{◌≡◌, ◌⊎◌, ℕ, List, [], ◌∷◌, ◌++◌, true, false, map, Some, Result, Ok, Err, refl}
+use Rattle.std.specs.List.{AllZip}
 use Rattle.std.specs.Coded.{Coded, code_by, coded×, coded_list}
 use Rattle.base.specs.declared.fault.Fault.{Fault}
 use Rattle.connections.specs.declared.said.Said as of_service
@@ -138,15 +139,9 @@ abbrev pub SaysEach : AnsweringView → List Said → AnsweringView → Type 0
 SaysEach v [] now = IsSameBut v now
 SaysEach v (one ∷ more) now = (between : AnsweringView) × Says v one between × SaysEach between more now
 
--- it closes one of these connections, which is told nothing more
-pub record IsClosing (lost : List Lost) (said : Said) : Type 0 where
-  pub of : Lost
-  pub is_lost : Contains lost of
-  pub last : IsLastMessage of.key of.number said
-
--- connections that were lost are told so
+-- Each connection that was lost is told so, in order, and is told nothing more.
 abbrev pub Closings : AnsweringView → AnsweringView → Type 0
-Closings v now = (closings : List Said) × All (IsClosing v.lost) closings × SaysEach v closings now
+Closings v now = (closings : List Said) × AllZip (λ of said. IsLastMessage of.key of.number said) v.lost closings × SaysEach v closings now
 
 -- The service works at this moment, and this is what it gives: each thing at the key of its connection, which is here afterwards unless it is told to close. Unless something was refused it asks what waits.
 pub record ServiceWorks (moment : ℕ) (v : ServiceView) (given : List of_service.Said) (now : ServiceView) : Type 0 where

@@ -7,6 +7,7 @@ use event_loop::{Heard, Said, Serve};
 use figures::Figures;
 use service::{Fault, Service};
 use std::alloc::Global;
+use std::collections::VecDeque;
 use std::marker::Model;
 use std::mem;
 use std::rt::Clock;
@@ -26,7 +27,7 @@ pub struct Answering {
     service: Service,
     said: Vec<Said>,
     /// There is room for one of each connection.
-    lost: Vec<Lost>,
+    lost: VecDeque<Lost>,
 }
 
 /// What the service says, as a message to the event loop.
@@ -95,7 +96,7 @@ impl Answering {
         ensures made { IfOk result (λ a. a ≡ record { service = service; said = []; lost = [] }) }
         ensures back { IfErr result (λ s. s ≡ service) }
     {
-        match Vec::with_capacity(alloc, most) {
+        match VecDeque::with_capacity(alloc, most) {
             Ok(lost) => Ok(Answering {
                 alloc,
                 service,
@@ -162,7 +163,7 @@ impl Answering {
         if let Err(refused) = self.said.push(said) {
             let Said { key, number, .. } = refused.value;
             self.service.leave(key, number);
-            let _ = self.lost.push(Lost { key, number });
+            let _ = self.lost.push_back(Lost { key, number });
         }
     }
 
@@ -175,12 +176,12 @@ impl Answering {
         }
     }
 
-    /// Closes those that are lost, as far as there is memory.
+    /// Tells each of those that are lost so, once. If memory runs out for one it stays lost.
     fn close_lost(&mut self)
         ensures { Closings self.old self.new }
     {
         for _ in 0..self.lost.len() {
-            if let Some(lost) = self.lost.pop() {
+            if let Some(lost) = self.lost.pop_front() {
                 self.say(last(self.alloc, lost.key, lost.number));
             }
         }

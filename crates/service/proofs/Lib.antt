@@ -6,3 +6,4 @@ pub mod MomentLemmas
 pub mod OwedLemmas
 pub mod ToldLemmas
 pub mod TickLemmas
+mod Ending

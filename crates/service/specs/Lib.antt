@@ -4,3 +4,4 @@ pub mod Service
 pub mod Steps
 pub mod Told
 pub mod Ticks
+pub mod Process

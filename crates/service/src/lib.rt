@@ -22,6 +22,7 @@ mod nodes;
 mod note;
 mod pause;
 mod pool;
+mod process_laws;
 mod replicas;
 mod service;
 mod ticking;
@@ -32,5 +33,8 @@ pub use connections::{Dialect, MOST_PLACES, MOST_UNWRITTEN, Said};
 pub use ensemble::{Config, Replica};
 pub use figures::Figures;
 pub use incidents::Incidents;
+pub use process_laws::{
+    a_reopened_service_follows, a_service_is_whole, services_follow_each_other,
+};
 pub use proto::Fault;
 pub use service::Service;

@@ -8,8 +8,10 @@
 
 mod law;
 mod orders;
+mod processes;
 mod replicas;
 
 pub use law::serves;
 pub use orders::service_is_linearizable;
+pub use processes::processes_are_linearizable;
 pub use replicas::replicas_agree_and_keep;

@@ -1,5 +1,8 @@
-use Rattle.event_loop.proofs.SocketLemmas.{writes_then}
+use Rattle.event_loop.proofs.SocketLemmas.{writes_then, writes_nothing}
 use Rattle.event_loop.proofs.socket.Socket.write.Goals as goal
 
-pub loop-preserved : goal.loop-preserved
-loop-preserved g c = writes_then _ _ _ c.loop.invariant c.write_once.ensures
+pub returns-then-may_be_written-clause-writes : goal.returns-then-may_be_written-clause-writes
+returns-then-may_be_written-clause-writes g c = writes_then _ _ _ c.write_once.ensures.writes c.write_on.ensures
+
+pub returns-else-may_be_written-clause-writes : goal.returns-else-may_be_written-clause-writes
+returns-else-may_be_written-clause-writes g c = writes_nothing _

@@ -1,31 +1,26 @@
-use Rattle.std.proofs.Common.{◌≡◌, ℕ, sym, subst, ◌∙◌, ap}
+use Rattle.std.proofs.Common.{◌≡◌, ℕ, refl, sym, subst, ◌∙◌, ap}
 use Rattle.std.specs.Prelude.{Some}
-use Rattle.slab.specs.Slab.{get}
+use Rattle.slab.specs.Slab.{get, with_value}
 use Rattle.event_loop.specs.Socket.{SocketView, SocketRests}
-use Rattle.event_loop.specs.Sockets.{TurnsView, IsPlaced}
-use Rattle.event_loop.proofs.SocketsLemmas.{placed_none, placed_gone, placed_resting, placed_again}
+use Rattle.event_loop.specs.Sockets.{TurnsView, SocketsView, IsPlaced, IsTurnOfFirst}
+use Rattle.event_loop.proofs.SocketsLemmas.{placed_none, placed_gone, placed_resting, placed_again, turn_stays, turn_gone}
 use Rattle.event_loop.proofs.sockets.Sockets.turn_first.Goals as goal
 
 pub invariant_of-self : goal.invariant_of-self
-invariant_of-self g c = subst (λ (t : TurnsView). (k : ℕ) (x : SocketView) → get c.self.inside.all k ≡ Some x → IsPlaced k t c.self.inside.next x) (sym c.in_err-key.ensures) c.self.invariant
+invariant_of-self g c = subst (λ (t : TurnsView). (k : ℕ) (x : SocketView) → get c.self.inside.all k ≡ Some x → IsPlaced k t c.self.inside.next x) (sym c.in_err-key.ensures.first) c.self.invariant
 
 pub invariant_of-self-in_err-socket : goal.invariant_of-self-in_err-socket
-invariant_of-self-in_err-socket g c = placed_none c.self.inside.turns c.take_first.new.self c.in_ok-key.key c.in_ok-key.ensures c.self.inside.next c.self.inside.all c.self.invariant (sym c.in_err-socket.ensures.value)
+invariant_of-self-in_err-socket g c = placed_none c.self.inside.turns c.take_first.new.self c.in_ok-key.key c.in_ok-key.ensures.first c.self.inside.next c.self.inside.all c.self.invariant (sym c.in_err-socket.ensures.value)
 
 pub invariant_of-self-in-Gone : goal.invariant_of-self-in-Gone
 invariant_of-self-in-Gone g c =
-    placed_gone c.self.inside.turns c.take_first.new.self c.in_ok-key.key c.in_ok-key.ensures c.self.inside.next c.self.inside.all c.self.invariant c.in_ok-socket.socket.now c.take_moved.new.self (sym c.in_ok-socket.ensures.value) c.try_remove.new.self
-    c.try_remove.ensures.updates
-
-pub invariant_of-self-in-Gone-2 : goal.invariant_of-self-in-Gone-2
-invariant_of-self-in-Gone-2 g c =
-    placed_gone c.self.inside.turns c.take_first.new.self c.in_ok-key.key c.in_ok-key.ensures c.self.inside.next c.self.inside.all c.self.invariant c.in_ok-socket.socket.now c.take_moved.new.self (sym c.in_ok-socket.ensures.value) c.try_remove.new.self
+    placed_gone c.self.inside.turns c.take_first.new.self c.in_ok-key.key c.in_ok-key.ensures.first c.self.inside.next c.self.inside.all c.self.invariant c.in_ok-socket.socket.now c.take_moved.new.self (sym c.in_ok-socket.ensures.value) c.try_remove.new.self
     c.try_remove.ensures.updates
 
 pub invariant_of-self-in-Rest : goal.invariant_of-self-in-Rest
 invariant_of-self-in-Rest g c =
     let tells = c.turn-after.ensures.stays (λ e. absurd (cc (sym c.in-Rest.is ∙ e))) in
-    placed_resting c.self.inside.turns c.take_first.new.self c.in_ok-key.key c.in_ok-key.ensures c.self.inside.next c.self.inside.all c.self.invariant c.in_ok-socket.socket.now c.take_moved.new.self (sym c.in_ok-socket.ensures.value)
+    placed_resting c.self.inside.turns c.take_first.new.self c.in_ok-key.key c.in_ok-key.ensures.first c.self.inside.next c.self.inside.all c.self.invariant c.in_ok-socket.socket.now c.take_moved.new.self (sym c.in_ok-socket.ensures.value)
     (ap (λ (s : SocketView). s.number) c.take_moved.ensures ∙ tells.number ∙ ap (λ (s : SocketView). s.number) c.set_listed.ensures)
     (ap (λ (s : SocketView). s.is_listed) c.take_moved.ensures ∙ c.turn-after.ensures.listed ∙ ap (λ (s : SocketView). s.is_listed) c.set_listed.ensures)
     (subst (λ (s : SocketView). SocketRests s) (sym c.take_moved.ensures) (c.turn-after.ensures.rests c.in-Rest.is))
@@ -33,6 +28,31 @@ invariant_of-self-in-Rest g c =
 pub invariant_of-self-in_default : goal.invariant_of-self-in_default
 invariant_of-self-in_default g c =
     let tells = c.turn-after.ensures.stays c.in_default.not-Gone in
-    placed_again c.self.inside.turns c.take_first.new.self c.in_ok-key.key c.in_ok-key.ensures c.self.inside.next c.self.inside.all c.self.invariant c.in_ok-socket.socket.now c.list.new.socket (sym c.in_ok-socket.ensures.value) c.take_moved.new.self
+    placed_again c.self.inside.turns c.take_first.new.self c.in_ok-key.key c.in_ok-key.ensures.first c.self.inside.next c.self.inside.all c.self.invariant c.in_ok-socket.socket.now c.list.new.socket (sym c.in_ok-socket.ensures.value) c.take_moved.new.self
     c.list.new.self (ap (λ (s : SocketView). s.number) c.take_moved.ensures ∙ tells.number ∙ ap (λ (s : SocketView). s.number) c.set_listed.ensures)
     (ap (λ (s : SocketView). s.is_listed) c.take_moved.ensures ∙ c.turn-after.ensures.listed ∙ ap (λ (s : SocketView). s.is_listed) c.set_listed.ensures) c.list.ensures
+
+pub returns-in-Gone : goal.returns-in-Gone
+returns-in-Gone g c =
+    let gone = c.turn-after.ensures.gone c.in-Gone.is in
+    let old : SocketsView = record { all = c.self.inside.all; turns = c.self.inside.turns; next = c.self.inside.next } in
+    let now : SocketsView = record { all = c.try_remove.new.self; turns = c.take_first.new.self; next = c.self.inside.next } in
+    subst (λ (o : SocketsView). IsTurnOfFirst c.args.reads o now c.args.heard.now.items c.turn-after.new.heard.items) c.self.view_is
+    (turn_gone c.args.reads old now c.take_first.new.self c.in_ok-key.key c.in_ok-key.ensures.first c.in_ok-socket.socket.now c.set_listed.new.self c.turn-after.new.self (sym c.in_ok-socket.ensures.value) c.set_listed.ensures c.turn-after.ensures.turn refl c.args.heard.now.items c.turn-after.new.heard.items
+    c.take_moved.new.self c.try_remove.ensures.updates gone.0 gone.1)
+
+pub returns-in-Rest : goal.returns-in-Rest
+returns-in-Rest g c =
+    let old : SocketsView = record { all = c.self.inside.all; turns = c.self.inside.turns; next = c.self.inside.next } in
+    let now : SocketsView = record { all = with_value c.self.inside.all c.in_ok-key.key c.take_moved.new.self; turns = c.take_first.new.self; next = c.self.inside.next } in
+    subst (λ (o : SocketsView). IsTurnOfFirst c.args.reads o now c.args.heard.now.items c.turn-after.new.heard.items) c.self.view_is
+    (turn_stays c.args.reads old now c.take_first.new.self c.in_ok-key.key c.in_ok-key.ensures.first c.in_ok-socket.socket.now c.set_listed.new.self c.turn-after.new.self (sym c.in_ok-socket.ensures.value) c.set_listed.ensures c.turn-after.ensures.turn refl c.args.heard.now.items c.turn-after.new.heard.items
+    c.take_moved.new.self refl (c.take_moved.ensures ∙ ap (λ (v : SocketView). record c.turn-after.new.self { is_listed = v.is_listed }) (sym c.take_moved.ensures)) (c.turn-after.ensures.stays (λ e. absurd (cc (sym c.in-Rest.is ∙ e)))))
+
+pub returns-in_default : goal.returns-in_default
+returns-in_default g c =
+    let old : SocketsView = record { all = c.self.inside.all; turns = c.self.inside.turns; next = c.self.inside.next } in
+    let now : SocketsView = record { all = with_value c.self.inside.all c.in_ok-key.key c.list.new.socket; turns = c.list.new.self; next = c.self.inside.next } in
+    subst (λ (o : SocketsView). IsTurnOfFirst c.args.reads o now c.args.heard.now.items c.turn-after.new.heard.items) c.self.view_is
+    (turn_stays c.args.reads old now c.take_first.new.self c.in_ok-key.key c.in_ok-key.ensures.first c.in_ok-socket.socket.now c.set_listed.new.self c.turn-after.new.self (sym c.in_ok-socket.ensures.value) c.set_listed.ensures c.turn-after.ensures.turn refl c.args.heard.now.items c.turn-after.new.heard.items
+    c.list.new.socket refl (c.list.ensures.others ∙ ap (λ (v : SocketView). record v { is_listed = c.list.new.socket.is_listed }) c.take_moved.ensures) (c.turn-after.ensures.stays c.in_default.not-Gone))

@@ -1,0 +1,156 @@
+//! What is saved in each turn, and what has to be there after it.
+
+ghost use Rattle.std.specs.Prelude.{◌≡◌, IfOk, IsTrue};
+ghost use Rattle.sqlite_trees.specs.Tree.{rowid};
+ghost use Rattle.sqlite_trees.specs.View.{is_int};
+ghost use Rattle.row_store.specs.Saved.{ChangesFit};
+
+use crate::samples::{item_row, key};
+use item_rows::{item_of, place_of};
+use row_store::{RowChange, RowStore};
+use sqlite_trees::store::Store;
+use sqlite_value::row::Row;
+use sqlite_value::value::ValueRef;
+use std::alloc::{AllocError, Global};
+
+/// So many turns are saved.
+pub const TURNS: u8 = 3;
+
+/// The value of each of five items, 0 if it is not there, and the last turn.
+pub type Content = [u8; 6];
+
+/// What the first turns leave: each puts an item, removes another one, and has its number in the second table.
+pub fn content_after(turns: u8) -> Content {
+    let mut content = [0; 6];
+    for turn in 0..turns {
+        content[(turn % 5) as usize] = turn + 1;
+        content[(turn as usize + 3) % 5] = 0;
+        content[5] = turn + 1;
+    }
+    content
+}
+
+/// The row of the second table.
+fn turn_row(alloc: Global, turn: u8) -> Result<Row, AllocError>
+    ensures { IfOk result (λ row. IsTrue (is_int (rowid row))) }
+{
+    let mut row = Row::new(alloc);
+    row.push(ValueRef::Int(0))?;
+    row.push(ValueRef::Null)?;
+    row.push(ValueRef::Int(i64::from(turn)))?;
+    Ok(row)
+}
+
+/// What the turn changes.
+fn changes(alloc: Global, turn: u8) -> Result<[RowChange; 3], AllocError>
+    ensures { IfOk result (λ changes. ChangesFit 2 changes.items) }
+{
+    let now = turn.wrapping_add(1);
+    let gone = place_of(&key(alloc, (turn % 5 + 3) % 5)?);
+    let item = item_row(alloc, turn % 5, now)?;
+    let last = turn_row(alloc, now)?;
+    Ok([
+        RowChange::Put {
+            table: 0,
+            row: item,
+        },
+        RowChange::Put {
+            table: 1,
+            row: last,
+        },
+        RowChange::Remove {
+            table: 0,
+            number: gone,
+        },
+    ])
+}
+
+/// Saves what the turn changes: whether that was saved. `None`: there was no memory for it.
+fn save<S: Store>(alloc: Global, rows: &mut RowStore<S>, turn: u8) -> Option<bool>
+    requires { rows.old.tables ≡ 2 }
+    ensures { rows.new.tables ≡ 2 }
+{
+    match changes(alloc, turn) {
+        Ok(changes) => Some(rows.save(&changes).is_ok()),
+        Err(_) => None,
+    }
+}
+
+/// Saves turn after turn, until one is not saved: how many were saved. `None`: there was no memory for one.
+pub fn save_all<S: Store>(alloc: Global, rows: &mut RowStore<S>) -> Option<u8>
+    requires { rows.old.tables ≡ 2 }
+    ensures { rows.new.tables ≡ 2 }
+{
+    for turn in 0..TURNS {
+        match save(alloc, rows, turn) {
+            Some(true) => {}
+            Some(false) => return Some(turn),
+            None => return None,
+        }
+    }
+    Some(TURNS)
+}
+
+/// The number of the item and its value, if the row has no other item.
+fn read(alloc: Global, row: &Row) -> Option<(u8, u8)> {
+    let Ok((key, item)) = item_of(alloc, row) else {
+        return None;
+    };
+    let name = *key.as_slice().first()?;
+    let number = name.checked_sub(b'a')?;
+    let value = *item.block.as_slice().first()?;
+    match item_row(alloc, number, value) {
+        Ok(same) if same.is_same(row) => Some((number, value)),
+        _ => None,
+    }
+}
+
+/// Writes down the values of these items. False: a row has no such item.
+fn note(alloc: Global, content: &mut Content, rows: &[Row]) -> bool {
+    for row in rows {
+        match read(alloc, row) {
+            Some((number, value)) if number < 5 => content[number as usize] = value,
+            _ => return false,
+        }
+    }
+    true
+}
+
+/// The last turn, if these are the rows of the second table.
+fn turn_in(rows: &[Row]) -> Option<u8> {
+    if rows.len() > 1 {
+        return None;
+    }
+    match rows.first() {
+        Some(row) => match row.get(2) {
+            ValueRef::Int(turn) => u8::try_from(turn).ok(),
+            _ => None,
+        },
+        None => Some(0),
+    }
+}
+
+/// What is there. `None`: it cannot be read, or is nothing that was saved.
+pub fn content_of<S: Store>(alloc: Global, rows: &mut RowStore<S>) -> Option<Content>
+    requires { rows.old.tables ≡ 2 }
+{
+    let items = rows.rows(alloc, 0).ok()?;
+    let last = rows.rows(alloc, 1).ok()?;
+    let mut content = [0; 6];
+    content[5] = turn_in(&last)?;
+    if note(alloc, &mut content, &items) {
+        Some(content)
+    } else {
+        None
+    }
+}
+
+/// Whether this is what the first turns leave, for some number of them up to this one.
+pub fn is_of_a_turn(content: Content, most: u8) -> bool {
+    for turns in 0..TURNS {
+        if turns <= most && content_after(turns) == content {
+            return true;
+        }
+    }
+    content_after(most) == content
+}

@@ -1,0 +1,104 @@
+-- What always holds of a service, also of one whose process began with what another one left.
+use Rattle.std.specs.Prelude.{◌≡◌, ◌++◌, ℕ, List, [], ◌∷◌, Option, None, Some}
+use Rattle.grammar.specs.declared.reader.Dialect.{Dialect}
+use Rattle.connections.specs.Connections.{ConnectionsView, no_connections, IsConnections}
+use Rattle.connections.specs.History.{HistoryView, IsHistory}
+use Rattle.ensemble.specs.Process.{ProcessView, process_of, NoneIsLost, reopened_ensemble, ensemble_after}
+use Rattle.service.specs.declared.assignment.Assignment.{Assignment}
+use Rattle.service.specs.declared.assignment.Outstanding.{Outstanding}
+use Rattle.service.specs.declared.pause.Pause.{Pause}
+use Rattle.service.specs.Owed.{Remembers}
+use Rattle.service.specs.Service.{ReplicasView, ServiceView, Waits, IsService, HasMoments, HasEnsemble}
+
+-- what passed the connections
+abbrev pub passed_history : ConnectionsView → HistoryView
+passed_history c = record { heard = c.heard; given = c.given; passed = c.passed }
+
+-- What always holds of a service.
+pub record IsWhole (v : ServiceView) : Type 0 where
+  pub connections : IsConnections v.connections
+  pub history : IsHistory (passed_history v.connections)
+  pub moments : HasMoments v
+  pub service : IsService v
+  pub ensemble : HasEnsemble v
+  pub remembers : Remembers v.line v.waiting v.connections.table
+
+-- ---- what is kept
+
+-- What is kept of a service: what is kept of its replicas and proxies, the grammar in which bytes are read, and the least number that the next connection may have.
+pub record KeptService : Type 0 where
+  pub replicas : ProcessView
+  pub dialect : Dialect
+  pub next : ℕ
+
+-- what is kept if the process ends now
+abbrev pub kept_of : ServiceView → KeptService
+kept_of v = record { replicas = process_of v.replicas.ensemble.nodes; dialect = v.connections.dialect; next = v.connections.next }
+
+-- no replica is lost for good
+abbrev pub HasAll : ServiceView → Type 0
+HasAll v = NoneIsLost v.replicas.ensemble.nodes
+
+-- ---- another process begins
+
+-- nobody waits
+abbrev pub NobodyWaits : List (Option Outstanding) → Type 0
+NobodyWaits waiting = (a : Assignment) → Waits waiting a → ⊥
+
+-- the service of a process that begins with this: nothing was asked of it, and it has these places for what proxies wait for
+abbrev pub reopened_service : KeptService → List (Option Outstanding) → List Pause → ServiceView
+reopened_service kept waiting pauses = record {
+  connections = record (no_connections kept.dialect) { next = kept.next };
+  asked = [];
+  answered = [];
+  order = [];
+  assignments = [];
+  waiting = waiting;
+  line = [];
+  replicas = record { ensemble = reopened_ensemble kept.replicas; refused = 0; pauses = pauses };
+}
+
+-- ---- processes one after the other
+
+abbrev pub connections_after : ConnectionsView → ConnectionsView → ConnectionsView
+connections_after before c = record {
+  dialect = c.dialect;
+  table = c.table;
+  next = c.next;
+  heard = before.heard ++ c.heard;
+  given = before.given ++ c.given;
+  passed = before.passed ++ c.passed;
+  taken = before.taken ++ c.taken;
+  replied = before.replied ++ c.replied;
+}
+
+abbrev pub replicas_after : ReplicasView → ReplicasView → ReplicasView
+replicas_after before r = record { ensemble = ensemble_after before.ensemble r.ensemble; refused = r.refused; pauses = r.pauses }
+
+-- all that was asked and given in the one before, and then in this one. Connections, and what proxies wait for, are those of this one
+abbrev pub service_after : ServiceView → ServiceView → ServiceView
+service_after before v = record {
+  connections = connections_after before.connections v.connections;
+  asked = before.asked ++ v.asked;
+  answered = before.answered ++ v.answered;
+  order = before.order ++ v.order;
+  assignments = before.assignments ++ v.assignments;
+  waiting = v.waiting;
+  line = v.line;
+  replicas = replicas_after before.replicas v.replicas;
+}
+
+-- What always holds of a service whose process began with this: whatever service it was kept of, that one and this one are one service.
+abbrev pub IsServiceAfter : Option KeptService → ServiceView → Type 0
+IsServiceAfter None v = IsWhole v
+IsServiceAfter (Some found) v = (before : ServiceView) → IsWhole before → HasAll before → kept_of before ≡ found → IsWhole (service_after before v)
+
+-- processes one after the other, the first of which began with this: each later one began with what was kept of the one before it
+abbrev pub AreInTurn : Option KeptService → List ServiceView → Type 0
+AreInTurn found [] = Unit {0}
+AreInTurn found (v ∷ later) = IsServiceAfter found v × HasAll v × AreInTurn (Some (kept_of v)) later
+
+-- all that was asked and given in this one, and then in the later ones
+abbrev pub services_after : ServiceView → List ServiceView → ServiceView
+services_after v [] = v
+services_after v (next ∷ later) = services_after (service_after v next) later
