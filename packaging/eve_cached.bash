@@ -3,8 +3,9 @@ _eve_cached() {
     local word=${COMP_WORDS[COMP_CWORD]}
     case ${COMP_WORDS[COMP_CWORD - 1]} in
         --u) COMPREPLY=($(compgen -W "0 1 2 3" -- "$word")) ;;
+        --dialect) COMPREPLY=($(compgen -W "memcached profile" -- "$word")) ;;
         --listen | --status | --connections) COMPREPLY=() ;;
-        *) COMPREPLY=($(compgen -W "--listen --u --connections --status --help --version" -- "$word")) ;;
+        *) COMPREPLY=($(compgen -W "--listen --u --connections --dialect --status --help --version" -- "$word")) ;;
     esac
 }
 complete -F _eve_cached eve_cached

@@ -3,7 +3,9 @@ use Rattle.std.proofs.Common.{◌≡◌, inl, inr, ⊎_elim, ℕ, ◌+◌, ◌<�
 use Rattle.std.specs.Prelude.{◌≢◌, Contains}
 use Rattle.proto.specs.declared.command.Command.{Command}
 use Rattle.proto.specs.declared.reply.Reply as replies
-use Rattle.memcached_spec.specs.Asked.{IsAsked}
+use Rattle.grammar.specs.declared.reader.Dialect.{Dialect}
+use Rattle.grammar.specs.Asks.{IsAskedIn}
+use Rattle.grammar.proofs.AskLemmas.{asked_stays}
 use Rattle.session.specs.Session.{SessionStep}
 use Rattle.session.specs.Taken.{SessionOk}
 use Rattle.session.proofs.TakenLemmas.{session_implies}
@@ -12,7 +14,6 @@ use Rattle.connections.specs.Connection.{ConnectionView}
 use Rattle.connections.specs.Places.{place_in}
 use Rattle.connections.specs.Connections.{ConnectionsView, bytes_of_connection, WasReplied, IsAnswered, untaken, IsHere, IsConnections}
 use Rattle.connections.proofs.PlaceLemmas.{same_or_not}
-use Rattle.memcached_spec.proofs.Longer.{asked_longer}
 use Rattle.connections.proofs.TextLemmas.{answered_implies}
 use Rattle.connections.proofs.StepLemmas.{MayAsk}
 
@@ -23,29 +24,30 @@ pub record Moved (v now : ConnectionsView) (key number : ℕ) : Type 0 where
   pub was_number : was.number ≡ number
   pub others : (k : ℕ) → k ≢ key → place_in now.table k ≡ place_in v.table k
   pub own : (c : ConnectionView) → place_in now.table key ≡ Some c → (c.number ≡ number) × IsHere now c
+  pub dialect : now.dialect ≡ v.dialect
   pub next : now.next ≡ v.next
   pub taken : now.taken ≡ v.taken
   pub heard : (h : ℕ) → h ≢ number → bytes_of_connection h now.heard ≡ bytes_of_connection h v.heard
   pub given : (h : ℕ) → h ≢ number → bytes_of_connection h now.given ≡ bytes_of_connection h v.given
   pub longer : (more : List ℕ) × (bytes_of_connection number now.heard ≡ bytes_of_connection number v.heard ++ more)
   pub replied : (h q : ℕ) (r : replies.Reply) → WasReplied v.replied h q r → WasReplied now.replied h q r
-  pub answered : IsAnswered (WasReplied now.replied number) (bytes_of_connection number now.heard) (bytes_of_connection number now.given)
+  pub answered : IsAnswered now.dialect (WasReplied now.replied number) (bytes_of_connection number now.heard) (bytes_of_connection number now.given)
 
 -- a connection that did not move, as its bytes and its replies did not
-pub stays_here : (v now : ConnectionsView) (c : ConnectionView) → now.next ≡ v.next → now.taken ≡ v.taken → bytes_of_connection c.number now.heard ≡ bytes_of_connection c.number v.heard → bytes_of_connection c.number now.given ≡ bytes_of_connection c.number v.given
+pub stays_here : (v now : ConnectionsView) (c : ConnectionView) → now.dialect ≡ v.dialect → now.next ≡ v.next → now.taken ≡ v.taken → bytes_of_connection c.number now.heard ≡ bytes_of_connection c.number v.heard → bytes_of_connection c.number now.given ≡ bytes_of_connection c.number v.given
     → ((q : ℕ) (r : replies.Reply) → WasReplied v.replied c.number q r → WasReplied now.replied c.number q r) → IsHere v c → IsHere now c
-stays_here v now c next taken heard given replied h = record {
+stays_here v now c dialect next taken heard given replied h = record {
   below = subst (λ (n : ℕ). c.number < n) (sym next) h.below;
-  talks = subst (λ (z : List ℕ × List ℕ). SessionOk (WasReplied now.replied c.number) z.0 c.session z.1) (λ i. (sym heard i, sym given i))
-      (session_implies (WasReplied v.replied c.number) (WasReplied now.replied c.number) (bytes_of_connection c.number v.heard) c.session (bytes_of_connection c.number v.given) replied h.talks);
+  talks = subst (λ (z : Dialect × List ℕ × List ℕ). SessionOk z.0 (WasReplied now.replied c.number) z.1 c.session z.2) (λ i. (sym dialect i, sym heard i, sym given i))
+      (session_implies v.dialect (WasReplied v.replied c.number) (WasReplied now.replied c.number) (bytes_of_connection c.number v.heard) c.session (bytes_of_connection c.number v.given) replied h.talks);
   counted = λ e in_it is. h.counted e (subst (λ (es : List (CommandNumber × Command)). Contains es e) taken in_it) is;
 }
 
-pub answered_same : (v now : ConnectionsView) (n : ℕ) → bytes_of_connection n now.heard ≡ bytes_of_connection n v.heard → bytes_of_connection n now.given ≡ bytes_of_connection n v.given
-    → ((q : ℕ) (r : replies.Reply) → WasReplied v.replied n q r → WasReplied now.replied n q r) → IsAnswered (WasReplied v.replied n) (bytes_of_connection n v.heard) (bytes_of_connection n v.given) → IsAnswered (WasReplied now.replied n) (bytes_of_connection n now.heard) (bytes_of_connection n now.given)
-answered_same v now n heard given replied is =
-    subst (λ (z : List ℕ × List ℕ). IsAnswered (WasReplied now.replied n) z.0 z.1) (λ i. (sym heard i, sym given i))
-    (answered_implies (WasReplied v.replied n) (WasReplied now.replied n) (bytes_of_connection n v.heard) (bytes_of_connection n v.given) replied is)
+pub answered_same : (v now : ConnectionsView) (n : ℕ) → now.dialect ≡ v.dialect → bytes_of_connection n now.heard ≡ bytes_of_connection n v.heard → bytes_of_connection n now.given ≡ bytes_of_connection n v.given
+    → ((q : ℕ) (r : replies.Reply) → WasReplied v.replied n q r → WasReplied now.replied n q r) → IsAnswered v.dialect (WasReplied v.replied n) (bytes_of_connection n v.heard) (bytes_of_connection n v.given) → IsAnswered now.dialect (WasReplied now.replied n) (bytes_of_connection n now.heard) (bytes_of_connection n now.given)
+answered_same v now n dialect heard given replied is =
+    subst (λ (z : Dialect × List ℕ × List ℕ). IsAnswered z.0 (WasReplied now.replied n) z.1 z.2) (λ i. (sym dialect i, sym heard i, sym given i))
+    (answered_implies v.dialect (WasReplied v.replied n) (WasReplied now.replied n) (bytes_of_connection n v.heard) (bytes_of_connection n v.given) replied is)
 
 module _ (v now : ConnectionsView) (key number : ℕ) (ok : IsConnections v) (m : Moved v now key number) where
   -- who is there now was there, or another one of that number
@@ -61,17 +63,16 @@ module _ (v now : ConnectionsView) (key number : ℕ) (ok : IsConnections v) (m 
       (λ (differs : k ≢ key).
       let before : place_in v.table k ≡ Some c = sym (m.others k differs) ∙ at in
       let other : c.number ≢ number = λ same. differs (ok.one_place k key c m.was before m.was_at (same ∙ sym m.was_number)) in
-      stays_here v now c m.next m.taken (m.heard c.number other) (m.given c.number other) (m.replied c.number) (ok.here k c before))
+      stays_here v now c m.dialect m.next m.taken (m.heard c.number other) (m.given c.number other) (m.replied c.number) (ok.here k c before))
       (same_or_not k key)
 
-  asked_now : (e : CommandNumber × Command) → Contains v.taken e → IsAsked (bytes_of_connection e.0.connection now.heard) e.0.turn e.1
+  asked_now : (e : CommandNumber × Command) → Contains v.taken e → IsAskedIn now.dialect (bytes_of_connection e.0.connection now.heard) e.0.turn e.1
   asked_now e in_it = ⊎_elim
       (λ (same : e.0.connection ≡ number).
-      let P : ℕ × List ℕ → Type 0 = λ z. IsAsked z.1 e.0.turn e.1 in
-      let long = asked_longer (bytes_of_connection e.0.connection v.heard) m.longer.0 e.0.turn e.1 (ok.asked e in_it) in
+      let long = asked_stays v.dialect (bytes_of_connection e.0.connection v.heard) m.longer.0 e.0.turn e.1 (ok.asked e in_it) in
       let eq : bytes_of_connection e.0.connection v.heard ++ m.longer.0 ≡ bytes_of_connection e.0.connection now.heard = ap (λ (n : ℕ). bytes_of_connection n v.heard ++ m.longer.0) same ∙ (sym m.longer.1 ∙ ap (λ (n : ℕ). bytes_of_connection n now.heard) (sym same)) in
-      subst (λ (bytes : List ℕ). IsAsked bytes e.0.turn e.1) eq long)
-      (λ (differs : e.0.connection ≢ number). subst (λ (bytes : List ℕ). IsAsked bytes e.0.turn e.1) (sym (m.heard e.0.connection differs)) (ok.asked e in_it))
+      subst (λ (z : Dialect × List ℕ). IsAskedIn z.0 z.1 e.0.turn e.1) (λ i. (sym m.dialect i, eq i)) long)
+      (λ (differs : e.0.connection ≢ number). subst (λ (z : Dialect × List ℕ). IsAskedIn z.0 z.1 e.0.turn e.1) (λ i. (sym m.dialect i, sym (m.heard e.0.connection differs) i)) (ok.asked e in_it))
       (same_or_not e.0.connection number)
 
   pub moved_keeps : IsConnections now
@@ -81,8 +82,8 @@ module _ (v now : ConnectionsView) (key number : ℕ) (ok : IsConnections v) (m 
         let b = back i c at_i in let e = back j d at_j in
         ok.one_place i j b.0 e.0 b.1 e.1 (b.2 ∙ (same ∙ sym e.2));
     answered = λ n. ⊎_elim
-        (λ (same : n ≡ number). subst (λ (x : ℕ). IsAnswered (WasReplied now.replied x) (bytes_of_connection x now.heard) (bytes_of_connection x now.given)) (sym same) m.answered)
-        (λ (differs : n ≢ number). answered_same v now n (m.heard n differs) (m.given n differs) (m.replied n) (ok.answered n))
+        (λ (same : n ≡ number). subst (λ (x : ℕ). IsAnswered now.dialect (WasReplied now.replied x) (bytes_of_connection x now.heard) (bytes_of_connection x now.given)) (sym same) m.answered)
+        (λ (differs : n ≢ number). answered_same v now n m.dialect (m.heard n differs) (m.given n differs) (m.replied n) (ok.answered n))
         (same_or_not n number);
     fresh = λ n above.
         let below = (ok.here key m.was m.was_at).below in

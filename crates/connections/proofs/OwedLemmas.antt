@@ -6,7 +6,7 @@ use Rattle.std.proofs.Math.Nat.{le-min}
 use Rattle.base.specs.declared.fault.Fault.{Fault}
 use Rattle.proto.specs.declared.command.Command.{Command}
 use Rattle.proto.specs.declared.reply.Reply as replies
-use Rattle.proto.specs.Text.{given_text}
+use Rattle.dialect.specs.Text.{shown_text}
 use Rattle.session.specs.declared.session.Awaited.{Awaited}
 use Rattle.session.specs.declared.session.Session.{Session}
 use Rattle.session.specs.Session.{SessionStep, session_stays, session_goes_on, is_outstanding_as, session_answered, answered_if_taken, answered_to_awaited}
@@ -61,8 +61,8 @@ replies_on c turn reply = by_command c.session.command refl
     by None e = still c turn (inr (ap (λ (x : Option Awaited). is_outstanding_as x turn) e))
     by (Some a) e =
         let s : Session = record c.session { outstanding = None } in
-        cond_both (a.number == turn) (session_goes_on s (given_text reply a.quiet)) (session_stays c.session) (Replies c turn)
-        (λ _. moves c turn s (session_goes_on s (given_text reply a.quiet)) refl (where_asks s (given_text reply a.quiet) s.outstanding s.closed))
+        cond_both (a.number == turn) (session_goes_on s (shown_text reply a.show)) (session_stays c.session) (Replies c turn)
+        (λ _. moves c turn s (session_goes_on s (shown_text reply a.show)) refl (where_asks s (shown_text reply a.show) s.outstanding s.closed))
         (λ differs. still c turn (inr (ap (λ (x : Option Awaited). is_outstanding_as x turn) e ∙ differs)))
 
     by_command : (o : Option Command) → c.session.command ≡ o → Replies c turn (answered_if_taken c.session turn reply o)
@@ -115,11 +115,11 @@ took_at at old table ready t =
 pub none_to_take : (v : ConnectionsView) (at : Place) (table : List (Option ConnectionView)) → IsConnections v → TakesAt at v.table table None → HasNoneToTake at v.table
 none_to_take v at table ok t c e number =
     let p = subst (λ (o : Option (Option ConnectionView)). TakesIn at v.table table None o) (place_there v.table at.key c e) t in
-    let live = (ok.here at.key c e).talks.live in
+    let talks = (ok.here at.key c e).talks in
     ⊎_elim
     (λ (taken : c.session.command ≡ None). inl taken)
     (λ (rest : (c.session.outstanding ≡ None) ⊎ (MOST_UNWRITTEN ≤ c.unwritten)). ⊎_elim
-    (λ (none : c.session.outstanding ≡ None). inl (none_pending c.session.outstanding c.session.command live.pending live.is_pending none).0)
+    (λ (none : c.session.outstanding ≡ None). inl (none_pending c.session.outstanding c.session.command talks.pending talks.is_pending none).0)
     (λ (much : MOST_UNWRITTEN ≤ c.unwritten). inr much)
     rest)
     (subst (λ (b : Bool). TakesWhere b c p.0 None) (eq-eqb c.number at.number number) p.1).1

@@ -4,9 +4,10 @@ use Rattle.std.specs.Prelude.{◌==◌}
 use Rattle.std.proofs.lemmas.Bool.{cond_both}
 use Rattle.proto.specs.declared.command.Command.{Command}
 use Rattle.proto.specs.declared.reply.Reply as replies
-use Rattle.proto.specs.declared.turn.Turn.{Turn}
-use Rattle.proto.specs.declared.turn.Turn.TheVariants.{Ask, Say, Close}
-use Rattle.proto.specs.Text.{notice_text, given_text}
+use Rattle.grammar.specs.declared.turn.Turn.{Turn}
+use Rattle.grammar.specs.declared.turn.Turn.TheVariants.{Ask, Say, Close}
+use Rattle.dialect.specs.Text.{shown_text}
+use Rattle.grammar.specs.Turns.{said_text}
 use Rattle.session.specs.declared.session.Awaited.{Awaited}
 use Rattle.session.specs.declared.session.Session.{Session}
 use Rattle.session.specs.Session.{SessionStep, session_stays, session_goes, session_goes_if, session_goes_on, IsFedSession, IsFedSessionIf, session_answered, answered_if_taken, answered_to_awaited}
@@ -29,9 +30,9 @@ asks_may s g (inr h) = inr h
 
 go_asks : (s : Session) (bytes : List ℕ) (turns : List Turn) → Asks s (session_goes s bytes turns)
 go_asks s bytes [] = inl (refl, refl, refl)
-go_asks s bytes (Say notice ∷ turns) = go_asks s (bytes ++ notice_text notice) turns
+go_asks s bytes (Say notice ∷ turns) = go_asks s (bytes ++ said_text notice) turns
 go_asks s bytes (Close notice ∷ turns) = inl (refl, refl, refl)
-go_asks s bytes (Ask command quiet ∷ turns) = inr (command, refl, refl)
+go_asks s bytes (Ask command show ∷ turns) = inr (command, refl, refl)
 
 pub where_asks : (s : Session) (bytes : List ℕ) (o : Option Awaited) (closed : Bool) → Asks s (session_goes_if s bytes o closed)
 where_asks s bytes None false = go_asks s bytes s.waiting
@@ -54,8 +55,8 @@ replied_asks s turn reply = by_command s.command
     by None = inl (refl, refl)
     by (Some a) =
         let s' : Session = record s { outstanding = None } in
-        cond_both (a.number == turn) (session_goes_on s' (given_text reply a.quiet)) (session_stays s) (MayAsk s)
-        (λ _. asks_may s' (session_goes_on s' (given_text reply a.quiet)) (where_asks s' (given_text reply a.quiet) s'.outstanding s'.closed))
+        cond_both (a.number == turn) (session_goes_on s' (shown_text reply a.show)) (session_stays s) (MayAsk s)
+        (λ _. asks_may s' (session_goes_on s' (shown_text reply a.show)) (where_asks s' (shown_text reply a.show) s'.outstanding s'.closed))
         (λ _. inl (refl, refl))
 
     by_command : (o : Option Command) → MayAsk s (answered_if_taken s turn reply o)

@@ -1,18 +1,21 @@
 -- A command that is taken is the outstanding one, and the next of its connection.
 use Rattle.std.proofs.Common.{◌≡◌, ◌⊎◌, inl, inr, ⊎_elim, ℕ, zero, suc, ◌+◌, ◌-◌, ◌<◌, Bool, List, [], ◌∷◌, ◌++◌, length, Option, Some, None, refl, sym, ap, ◌∙◌, subst, arith, slice_get, slice_set}
 use Rattle.std.specs.Prelude.{◌≢◌, Contains}
-use Rattle.std.proofs.lemmas.List.Elements.{Contains-append_right, Contains-append_cases}
+use Rattle.std.proofs.lemmas.List.Elements.{Contains-append_left, Contains-append_right, Contains-append_cases}
 use Rattle.proto.specs.declared.command.Command.{Command}
 use Rattle.proto.specs.declared.reply.Reply as replies
-use Rattle.proto.specs.declared.turn.Turn.{Turn}
-use Rattle.proto.specs.declared.turn.Turn.TheVariants.{Ask, Say, Close}
-use Rattle.proto.proofs.SpellsLemmas.{reads_spells, spelled_alone}
-use Rattle.memcached_spec.specs.Asked.{asked, TextsBy, IsAsked, HasText}
+use Rattle.dialect.specs.declared.turn.Show.{Show}
+use Rattle.grammar.specs.declared.turn.Turn.{Turn}
+use Rattle.grammar.specs.declared.turn.Turn.TheVariants.{Ask, Say, Close}
+use Rattle.grammar.specs.Asks.{SpellsIn, commands_in, TextsShown, IsAskedIn}
+use Rattle.grammar.proofs.ReadLemmas.{read_spells}
+use Rattle.grammar.proofs.ProfileLemmas.{spelled_has_text}
+use Rattle.memcached_spec.specs.Asked.{HasText}
 use Rattle.session.specs.declared.session.Awaited.{Awaited}
 use Rattle.session.specs.declared.session.Session.{Session}
 use Rattle.session.specs.Session.{IsTakenOfSession}
-use Rattle.session.specs.Taken.{IsPending, LiveSession}
-use Rattle.session.proofs.TakenLemmas.{taken_ok}
+use Rattle.session.specs.Taken.{IsPending, HasAllRead}
+use Rattle.session.proofs.TakenLemmas.{going_on, taken_ok}
 use Rattle.session.specs.declared.session.Ready.{Ready}
 use Rattle.connections.specs.declared.connections.CommandNumber.{CommandNumber}
 use Rattle.connections.specs.Connection.{ConnectionView, IsTaken}
@@ -21,11 +24,11 @@ use Rattle.connections.specs.Connections.{ConnectionsView, bytes_of_connection, 
 use Rattle.connections.proofs.PlaceLemmas.{set_place, other_place, place_there, same_or_not}
 
 -- the command behind some turns
-asked_behind : (taken turns : List Turn) (command : Command) (quiet : Bool) → slice_get (asked (taken ++ Ask command quiet ∷ turns)) (length (asked taken)) ≡ Some command
-asked_behind [] turns command quiet = refl
-asked_behind (Ask other q ∷ taken) turns command quiet = asked_behind taken turns command quiet
-asked_behind (Say n ∷ taken) turns command quiet = asked_behind taken turns command quiet
-asked_behind (Close n ∷ taken) turns command quiet = asked_behind taken turns command quiet
+asked_behind : (taken turns : List Turn) (command : Command) (show : Show) → slice_get (commands_in ((taken ++ Ask command show ∷ []) ++ turns)) (length (commands_in taken)) ≡ Some command
+asked_behind [] turns command show = refl
+asked_behind (Ask other s ∷ taken) turns command show = asked_behind taken turns command show
+asked_behind (Say n ∷ taken) turns command show = asked_behind taken turns command show
+asked_behind (Close n ∷ taken) turns command show = asked_behind taken turns command show
 
 module _ {X : Type 0} where
   -- an element of a list that got one more
@@ -45,12 +48,12 @@ module _ {X : Type 0} where
   one_of x a (suc k, lt, e) = absurd (omega (arith, lt))
 
 -- each command among turns that were answered has a reply
-answered_turn : (P : ℕ → replies.Reply → Type 0) (q : ℕ) (turns : List Turn) (bytes : List ℕ) → TextsBy P q turns bytes → (k : ℕ) → k < length (asked turns) → (reply : replies.Reply) × P (q + k) reply
+answered_turn : (P : ℕ → replies.Reply → Type 0) (q : ℕ) (turns : List Turn) (bytes : List ℕ) → TextsShown P q turns bytes → (k : ℕ) → k < length (commands_in turns) → (reply : replies.Reply) × P (q + k) reply
 answered_turn P q [] bytes texts k below = absurd (omega (arith, below))
 answered_turn P q (Say n ∷ turns) bytes texts k below = answered_turn P q turns texts.0 texts.2 k below
 answered_turn P q (Close n ∷ turns) bytes texts k below = answered_turn P q turns texts.0 texts.2 k below
-answered_turn P q (Ask command quiet ∷ turns) bytes texts zero below = (texts.0, subst (λ (n : ℕ). P n texts.0) (omega arith) texts.2)
-answered_turn P q (Ask command quiet ∷ turns) bytes texts (suc k) below =
+answered_turn P q (Ask command show ∷ turns) bytes texts zero below = (texts.0, subst (λ (n : ℕ). P n texts.0) (omega arith) texts.2)
+answered_turn P q (Ask command show ∷ turns) bytes texts (suc k) below =
     let r = answered_turn P (q + 1) turns texts.1 texts.4 k (omega (arith, below)) in
     (r.0, subst (λ (n : ℕ). P n r.0) (omega arith) r.1)
 
@@ -61,39 +64,46 @@ module _ (v : ConnectionsView) (ok : IsConnections v) (key : ℕ) (c : Connectio
   of : IsTakenOfSession c.session ready t.session
   of = t.of_session
 
-  live : LiveSession (bytes_of_connection c.number v.heard) c.session h.talks.taken
-  live = h.talks.live
+  abbrev all : List ℕ
+  all = bytes_of_connection c.number v.heard
 
-  pend : live.pending ≡ Ask ready.command ready.quiet ∷ []
-  pend = subst (λ (z : Option Awaited × Option Command). IsPending z.0 z.1 live.pending) (λ i. (of.outstanding i, of.untaken i)) live.is_pending ∙ (λ i. Ask ready.command (of.quiet i) ∷ [])
+  abbrev show : Show
+  show = of.asked.show
 
-  split : live.turns ≡ h.talks.taken ++ Ask ready.command ready.quiet ∷ c.session.waiting
-  split = live.split ∙ ap (λ (ts : List Turn). h.talks.taken ++ (ts ++ c.session.waiting)) pend
+  live : HasAllRead v.dialect all c.session (h.talks.taken ++ h.talks.pending)
+  live = h.talks.live (going_on v.dialect (WasReplied v.replied c.number) all c.session (bytes_of_connection c.number v.given) of.asked h.talks of.outstanding)
+
+  pend : h.talks.pending ≡ Ask ready.command show ∷ []
+  pend = subst (λ (z : Option Awaited × Option Command). IsPending z.0 z.1 h.talks.pending) (λ i. (of.outstanding i, of.untaken i)) h.talks.is_pending
+
+  split : live.turns ≡ (h.talks.taken ++ Ask ready.command show ∷ []) ++ c.session.waiting
+  split = live.split ∙ ap (λ (ts : List Turn). (h.talks.taken ++ ts) ++ c.session.waiting) pend
+
+  spells : SpellsIn v.dialect all live.turns
+  spells = read_spells v.dialect c.session.reader all live.turns live.reads
 
   turn_is : ready.turn ≡ c.session.last
-  turn_is = sym of.turn ∙ live.own of.asked of.outstanding
+  turn_is = sym of.turn ∙ h.talks.own of.asked of.outstanding
 
-  last_is : c.session.last ≡ length (asked h.talks.taken) + 1
-  last_is = live.number ∙ ap (λ (ts : List Turn). length (asked h.talks.taken) + length ts) pend
+  last_is : c.session.last ≡ length (commands_in h.talks.taken) + 1
+  last_is = h.talks.number ∙ ap (λ (ts : List Turn). length (commands_in h.talks.taken) + length ts) pend
 
-  pub is_asked : IsAsked (bytes_of_connection c.number v.heard) ready.turn ready.command
+  pub is_asked : IsAskedIn v.dialect all ready.turn ready.command
   is_asked =
-      let s = reads_spells (bytes_of_connection c.number v.heard) live.turns c.session.reader live.reads in
-      let place : ready.turn - 1 ≡ length (asked h.talks.taken) = let a = turn_is in let b = last_is in omega (arith, a, b) in
+      let place : ready.turn - 1 ≡ length (commands_in h.talks.taken) = let a = turn_is in let b = last_is in omega (arith, a, b) in
       record {
         turns = live.turns;
-        rest = s.0;
-        spells = s.1;
+        spells = spells;
         from_one = let a = turn_is in let b = last_is in omega (arith, a, b);
-        is = (λ i. slice_get (asked (split i)) (place i)) ∙ asked_behind h.talks.taken c.session.waiting ready.command ready.quiet;
+        is = (λ i. slice_get (commands_in (split i)) (place i)) ∙ asked_behind h.talks.taken c.session.waiting ready.command show;
       }
 
   pub has_text : HasText ready.command ready.quiet
   has_text =
-      let s = reads_spells (bytes_of_connection c.number v.heard) live.turns c.session.reader live.reads in
-      let there : Contains live.turns (Ask ready.command ready.quiet) = subst (λ (ts : List Turn). Contains ts (Ask ready.command ready.quiet)) (sym split)
-      (Contains-append_right h.talks.taken (Ask ready.command ready.quiet ∷ c.session.waiting) (Ask ready.command ready.quiet) (0, omega arith, refl)) in
-      spelled_alone (bytes_of_connection c.number v.heard) live.turns s.0 ready.command ready.quiet s.1 there
+      let own : Contains (h.talks.taken ++ Ask ready.command show ∷ []) (Ask ready.command show) = Contains-append_right h.talks.taken (Ask ready.command show ∷ []) (Ask ready.command show) (0, omega arith, refl) in
+      let there : Contains live.turns (Ask ready.command show) = subst (λ (ts : List Turn). Contains ts (Ask ready.command show)) (sym split)
+      (Contains-append_left (h.talks.taken ++ Ask ready.command show ∷ []) c.session.waiting (Ask ready.command show) own) in
+      subst (HasText ready.command) of.quiet (spelled_has_text v.dialect all live.turns ready.command show spells there)
 
   pub before : AreBefore v.taken c.number ready.turn
   before e in_it is =
@@ -128,7 +138,7 @@ module _ (v : ConnectionsView) (ok : IsConnections v) (key : ℕ) (c : Connectio
       let last : t.session.last ≡ c.session.last = ap (λ (s : Session). s.last) of.now_is in
       subst (IsHere now) (sym t.now_is) (record {
         below = h.below;
-        talks = taken_ok (WasReplied v.replied c.number) (bytes_of_connection c.number v.heard) c.session (bytes_of_connection c.number v.given) ready t.session of h.talks;
+        talks = taken_ok v.dialect (WasReplied v.replied c.number) (bytes_of_connection c.number v.heard) c.session (bytes_of_connection c.number v.given) ready t.session of h.talks;
         counted = λ e in_it is. ⊎_elim
             (λ (old : Contains v.taken e). let n = h.counted e old is in omega (arith, n, none, last))
             (λ (new : entry ≡ e). let n : ready.turn ≡ e.0.turn = ap (λ (x : CommandNumber × Command). x.0.turn) new in let turn = turn_is in omega (arith, n, turn, none, last))
@@ -185,7 +195,7 @@ module _ (v : ConnectionsView) (ok : IsConnections v) (key : ℕ) (c : Connectio
     fresh = ok.fresh;
     asked = λ e in_it. ⊎_elim
         (λ (old : Contains v.taken e). ok.asked e old)
-        (λ (new : entry ≡ e). subst (λ (x : CommandNumber × Command). IsAsked (bytes_of_connection x.0.connection v.heard) x.0.turn x.1) new is_asked)
+        (λ (new : entry ≡ e). subst (λ (x : CommandNumber × Command). IsAskedIn v.dialect (bytes_of_connection x.0.connection v.heard) x.0.turn x.1) new is_asked)
         (old_or_new e in_it);
     below = λ e in_it. ⊎_elim
         (λ (old : Contains v.taken e). ok.below e old)

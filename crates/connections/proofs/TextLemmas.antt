@@ -5,16 +5,16 @@ use Rattle.std.proofs.lemmas.Bool.{eq-eqb, eqb-true}
 use Rattle.std.proofs.lemmas.List.{append-nil}
 use Rattle.std.proofs.lemmas.List.Concat.{flat_map-append}
 use Rattle.proto.specs.declared.reply.Reply as replies
-use Rattle.memcached_spec.proofs.Longer.{front_longer}
-use Rattle.session.proofs.TakenLemmas.{texts_imply}
+use Rattle.grammar.specs.declared.reader.Dialect.{Dialect}
+use Rattle.grammar.proofs.AskLemmas.{begins_longer, shown_imply}
 use Rattle.connections.specs.Connections.{bytes_in, bytes_of_connection, IsAnswered}
 
 -- what was answered in order stays so where more comes, and more replies do
-pub answered_longer : (P Q : ℕ → replies.Reply → Type 0) (heard more given : List ℕ) → ((q : ℕ) (r : replies.Reply) → P q r → Q q r) → IsAnswered P heard given → IsAnswered Q (heard ++ more) given
-answered_longer P Q heard more given f is = record { taken = is.taken; texts = texts_imply P Q f 1 is.taken given is.texts; first = front_longer heard more is.taken is.first }
+pub answered_longer : (d : Dialect) (P Q : ℕ → replies.Reply → Type 0) (heard more given : List ℕ) → ((q : ℕ) (r : replies.Reply) → P q r → Q q r) → IsAnswered d P heard given → IsAnswered d Q (heard ++ more) given
+answered_longer d P Q heard more given f is = record { taken = is.taken; texts = shown_imply P Q f 1 is.taken given is.texts; first = begins_longer d heard more is.taken is.first }
 
-pub answered_implies : (P Q : ℕ → replies.Reply → Type 0) (heard given : List ℕ) → ((q : ℕ) (r : replies.Reply) → P q r → Q q r) → IsAnswered P heard given → IsAnswered Q heard given
-answered_implies P Q heard given f is = record { taken = is.taken; texts = texts_imply P Q f 1 is.taken given is.texts; first = is.first }
+pub answered_implies : (d : Dialect) (P Q : ℕ → replies.Reply → Type 0) (heard given : List ℕ) → ((q : ℕ) (r : replies.Reply) → P q r → Q q r) → IsAnswered d P heard given → IsAnswered d Q heard given
+answered_implies d P Q heard given f is = record { taken = is.taken; texts = shown_imply P Q f 1 is.taken given is.texts; first = is.first }
 
 -- ---- the bytes of one number
 

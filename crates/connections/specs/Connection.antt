@@ -1,6 +1,7 @@
 -- A connection, as contracts see it, and what its calls do.
 use Rattle.std.specs.Prelude.{◌≡◌, ℕ, ◌+◌, ◌-◌, ◌^◌, ◌<◌, min, length, List}
 use Rattle.proto.specs.declared.reply.Reply as replies
+use Rattle.grammar.specs.declared.reader.Dialect.{Dialect}
 use Rattle.session.specs.declared.session.Ready.{Ready}
 use Rattle.session.specs.declared.session.Session.{Session}
 use Rattle.session.specs.Session.{SessionStep, new_session, IsFedSession, session_answered, IsTakenOfSession}
@@ -12,8 +13,9 @@ pub record ConnectionView : Type 0 where
   -- how many bytes it was given that are not written yet, at most 2^64 - 1
   pub unwritten : ℕ
 
-abbrev pub new_connection : ℕ → ConnectionView
-new_connection number = record { number = number; session = new_session; unwritten = 0 }
+-- nothing came of it yet
+abbrev pub new_connection : Dialect → ℕ → ConnectionView
+new_connection d number = record { number = number; session = new_session d; unwritten = 0 }
 
 -- the connection after a step of its session, which leaves this
 abbrev pub after_given : ConnectionView → SessionStep → ConnectionView

@@ -2,8 +2,9 @@
 use Rattle.std.specs.Prelude.{◌≡◌, ℕ, ◌+◌, ◌≤◌, ◌<◌, ◌==◌, Bool, false, List, [], ◌∷◌, ◌++◌, flat_map, Option, Some, None, Result, Ok, Err, Contains, slice_get, if◌then◌else◌}
 use Rattle.proto.specs.declared.command.Command.{Command}
 use Rattle.proto.specs.declared.reply.Reply as replies
-use Rattle.proto.specs.declared.turn.Turn.{Turn}
-use Rattle.memcached_spec.specs.Asked.{TextsBy, Front, IsAsked}
+use Rattle.grammar.specs.declared.reader.Dialect.{Dialect}
+use Rattle.grammar.specs.declared.turn.Turn.{Turn}
+use Rattle.grammar.specs.Asks.{TextsShown, BeginsIn, IsAskedIn}
 use Rattle.session.specs.Taken.{SessionOk}
 use Rattle.base.specs.declared.fault.Fault.{Fault}
 use Rattle.connections.specs.declared.connections.CommandNumber.{CommandNumber}
@@ -13,6 +14,8 @@ use Rattle.connections.specs.History.{Passed, heard_as, given_as, heard_among, g
 use Rattle.connections.specs.Places.{place_in}
 
 pub record ConnectionsView : Type 0 where
+  -- in which grammar their bytes are read
+  pub dialect : Dialect
   -- by the event loop's keys
   pub table : List (Option ConnectionView)
   -- the least number that the next connection may have
@@ -39,11 +42,11 @@ bytes_of_connection number log = flat_map (bytes_in number) log
 abbrev pub WasReplied : List (CommandNumber × replies.Reply) → ℕ → ℕ → replies.Reply → Type 0
 WasReplied replied number turn reply = Contains replied (record { connection = number; turn = turn }, reply)
 
--- What was given are the texts of the first turns that the bytes spell, in order: for each command a reply of which P holds at its number.
-pub record IsAnswered (P : ℕ → replies.Reply → Type 0) (heard given : List ℕ) : Type 0 where
+-- What was given are the texts of the first turns that the bytes spell in the grammar, in order: for each command a reply of which P holds at its number.
+pub record IsAnswered (d : Dialect) (P : ℕ → replies.Reply → Type 0) (heard given : List ℕ) : Type 0 where
   pub taken : List Turn
-  pub texts : TextsBy P 1 taken given
-  pub first : Front heard taken
+  pub texts : TextsShown P 1 taken given
+  pub first : BeginsIn d heard taken
 
 -- the commands of this connection that were taken come before this one
 abbrev pub AreBefore : List (CommandNumber × Command) → ℕ → ℕ → Type 0
@@ -54,10 +57,11 @@ abbrev pub AreReplied : List (CommandNumber × replies.Reply) → ℕ → ℕ �
 AreReplied replied number turn = (k : ℕ) → 1 ≤ k → k < turn → (reply : replies.Reply) × WasReplied replied number k reply
 
 -- no connection came
-abbrev pub no_connections : ConnectionsView
-no_connections = record { table = []; next = 0; heard = []; given = []; passed = []; taken = []; replied = [] }
+abbrev pub no_connections : Dialect → ConnectionsView
+no_connections d = record { dialect = d; table = []; next = 0; heard = []; given = []; passed = []; taken = []; replied = [] }
 
 pub record HasSameLogs (v now : ConnectionsView) : Type 0 where
+  pub dialect : now.dialect ≡ v.dialect
   pub heard : now.heard ≡ v.heard
   pub given : now.given ≡ v.given
   pub passed : now.passed ≡ v.passed
@@ -79,7 +83,7 @@ untaken (Some command) = 1
 -- a connection that is here
 pub record IsHere (v : ConnectionsView) (c : ConnectionView) : Type 0 where
   pub below : c.number < v.next
-  pub talks : SessionOk (WasReplied v.replied c.number) (bytes_of_connection c.number v.heard) c.session (bytes_of_connection c.number v.given)
+  pub talks : SessionOk v.dialect (WasReplied v.replied c.number) (bytes_of_connection c.number v.heard) c.session (bytes_of_connection c.number v.given)
   -- the commands that were taken come before the one that was not
   pub counted : (e : CommandNumber × Command) → Contains v.taken e → e.0.connection ≡ c.number → e.0.turn + untaken c.session.command ≤ c.session.last
 
@@ -87,10 +91,10 @@ pub record IsConnections (v : ConnectionsView) : Type 0 where
   pub here : (key : ℕ) (c : ConnectionView) → place_in v.table key ≡ Some c → IsHere v c
   pub one_place : (i j : ℕ) (c d : ConnectionView) → place_in v.table i ≡ Some c → place_in v.table j ≡ Some d → c.number ≡ d.number → i ≡ j
   -- each connection, here or gone, was answered in order
-  pub answered : (number : ℕ) → IsAnswered (WasReplied v.replied number) (bytes_of_connection number v.heard) (bytes_of_connection number v.given)
+  pub answered : (number : ℕ) → IsAnswered v.dialect (WasReplied v.replied number) (bytes_of_connection number v.heard) (bytes_of_connection number v.given)
   pub fresh : (number : ℕ) → v.next ≤ number → (bytes_of_connection number v.heard ≡ []) × (bytes_of_connection number v.given ≡ [])
   -- a command that was taken is the one of its number that the bytes of its connection ask
-  pub asked : (e : CommandNumber × Command) → Contains v.taken e → IsAsked (bytes_of_connection e.0.connection v.heard) e.0.turn e.1
+  pub asked : (e : CommandNumber × Command) → Contains v.taken e → IsAskedIn v.dialect (bytes_of_connection e.0.connection v.heard) e.0.turn e.1
   pub below : (e : CommandNumber × Command) → Contains v.taken e → e.0.connection < v.next
   -- each command is taken once
   pub once : (i j : ℕ) (a b : CommandNumber × Command) → slice_get v.taken i ≡ Some a → slice_get v.taken j ≡ Some b → a.0.connection ≡ b.0.connection → a.0.turn ≡ b.0.turn → i ≡ j

@@ -2,6 +2,7 @@
 
 ghost use Rattle.std.specs.Prelude.{◌≡◌, ℕ};
 
+use grammar::Dialect;
 use proto::{Fault, Reply};
 use session::{Ready, Session};
 use std::alloc::Global;
@@ -42,13 +43,13 @@ impl Connection {
     ghost use Rattle.connections.specs.Connection.{IsFedTo, ConnectionAnswers, IsTaken, new_connection};
     ghost use Rattle.connections.specs.declared.connection.TheConstants.{MOST_UNWRITTEN};
 
-    /// The connection of this number, of which nothing came yet.
-    pub fn new(alloc: Global, number: u64) -> Connection
-        ensures { result ≡ new_connection number }
+    /// The connection of this number, of which nothing came yet, and whose bytes are read in this grammar.
+    pub fn new(alloc: Global, dialect: Dialect, number: u64) -> Connection
+        ensures { result ≡ new_connection dialect number }
     {
         Connection {
             number,
-            session: Session::new(alloc),
+            session: Session::new(alloc, dialect),
             unwritten: 0,
         }
     }

@@ -7,6 +7,7 @@ use crate::history::History;
 use crate::places::Place;
 use crate::said::Said;
 use crate::table;
+use grammar::Dialect;
 use http_server::Log;
 use proto::{Command, Fault, Reply};
 use session::Ready;
@@ -22,6 +23,8 @@ pub struct CommandNumber {
 
 /// The connections that are here, by the event loop's keys, with the history of all that ever came.
 pub struct Connections {
+    /// In which grammar their bytes are read.
+    dialect: Dialect,
     table: Vec<Option<Connection>>,
     /// The least number that the next connection may have.
     next: u64,
@@ -35,6 +38,7 @@ pub struct Connections {
 impl Drop for Connections {
     fn drop(self) {
         let Connections {
+            dialect: _,
             table: _,
             next: _,
             history: _,
@@ -49,9 +53,9 @@ impl Model for Connections {
 
     ghost Value = { ConnectionsView };
 
-    ghost view = { λ c. record { table = c.table.items; next = c.next; heard = c.history.heard; given = c.history.given; passed = c.history.passed; taken = c.taken.items; replied = c.replied.items } };
+    ghost view = { λ c. record { dialect = c.dialect; table = c.table.items; next = c.next; heard = c.history.heard; given = c.history.given; passed = c.history.passed; taken = c.taken.items; replied = c.replied.items } };
 
-    ghost invariant = { λ c. IsConnections (record { table = c.table.items; next = c.next; heard = c.history.heard; given = c.history.given; passed = c.history.passed; taken = c.taken.items; replied = c.replied.items }) };
+    ghost invariant = { λ c. IsConnections (record { dialect = c.dialect; table = c.table.items; next = c.next; heard = c.history.heard; given = c.history.given; passed = c.history.passed; taken = c.taken.items; replied = c.replied.items }) };
 }
 
 impl Connections {
@@ -65,11 +69,12 @@ impl Connections {
     ghost use Rattle.connections.specs.declared.table.TheConstants.{MOST_PLACES};
     ghost use Rattle.connections.specs.Connections.{IsConnections, no_connections, HasSameLogs, PassesOn, AreBefore, AreReplied};
 
-    /// No connection came.
-    pub fn new(alloc: Global) -> Connections
-        ensures { result ≡ no_connections }
+    /// No connection came. Their bytes are to be read in this grammar.
+    pub fn new(alloc: Global, dialect: Dialect) -> Connections
+        ensures { result ≡ no_connections dialect }
     {
         Connections {
+            dialect,
             table: Vec::new(alloc),
             next: 0,
             history: History::new(),
@@ -85,7 +90,7 @@ impl Connections {
     /// another connection is at the key; Full: the key is 65,536 or more; NoMemory: an allocation failed.
     pub fn come(&mut self, alloc: Global, at: Place) -> Result<(), Fault>
         ensures logs { HasSameLogs self.old self.new }
-        ensures here { OnOk result (place_in self.new.table at.key ≡ Some (new_connection at.number)) }
+        ensures here { OnOk result (place_in self.new.table at.key ≡ Some (new_connection self.old.dialect at.number)) }
         ensures next { OnOk result ((self.old.next ≤ at.number) × (self.new.next ≡ at.number + 1)) }
         ensures err { OnErr result (self.new.next ≡ self.old.next) }
         ensures same { OnErr result (IsGrown self.old.table self.new.table) }
@@ -102,7 +107,11 @@ impl Connections {
         }
         let next = at.number.checked_add(1).ok_or(Fault::Unfit)?;
         table::grow_to(&mut self.table, at.key)?;
-        table::put(&mut self.table, at.key, Connection::new(alloc, at.number));
+        table::put(
+            &mut self.table,
+            at.key,
+            Connection::new(alloc, self.dialect, at.number),
+        );
         self.next = next;
         Ok(())
     }
@@ -127,6 +136,7 @@ impl Connections {
         ensures fed { IfOk result (λ said. IsFedAt at piece.items self.old.table self.new.table said) }
         ensures same_others { HasSameOthers at.key self.old.table self.new.table }
         ensures others { (self.new.taken ≡ self.old.taken) × (self.new.replied ≡ self.old.replied) × (self.new.next ≡ self.old.next) }
+        ensures dialect { self.new.dialect ≡ self.old.dialect }
     {
         if !table::is_here(&self.table, at) {
             return Err(Fault::Unfit);
@@ -148,6 +158,7 @@ impl Connections {
         ensures text { IfSome result (λ ready. HasText ready.command ready.quiet) }
         ensures same_others { HasSameOthers at.key self.old.table self.new.table }
         ensures others { (self.new.heard ≡ self.old.heard) × (self.new.given ≡ self.old.given) × (self.new.passed ≡ self.old.passed) × (self.new.replied ≡ self.old.replied) × (self.new.next ≡ self.old.next) }
+        ensures dialect { self.new.dialect ≡ self.old.dialect }
     {
         let ready = table::take(&mut self.table, at)?;
         let number = CommandNumber {
@@ -174,6 +185,7 @@ impl Connections {
         ensures answered { IfSome result (λ said. IsAnsweredAt at turn reply self.old.table self.new.table said) }
         ensures same_others { HasSameOthers at.key self.old.table self.new.table }
         ensures others { (self.new.heard ≡ self.old.heard) × (self.new.taken ≡ self.old.taken) × (self.new.next ≡ self.old.next) }
+        ensures dialect { self.new.dialect ≡ self.old.dialect }
     {
         if !table::is_here(&self.table, at) {
             return None;
@@ -208,6 +220,7 @@ impl Connections {
         ensures told { IfSome result (λ said. IsToldAt at self.old.table self.new.table said) }
         ensures fails { IfSome result (λ said. IsToldToLeave at self.new.table said) }
         ensures others { (self.new.heard ≡ self.old.heard) × (self.new.taken ≡ self.old.taken) × (self.new.replied ≡ self.old.replied) × (self.new.next ≡ self.old.next) }
+        ensures dialect { self.new.dialect ≡ self.old.dialect }
     {
         if !table::is_here(&self.table, at) {
             return None;

@@ -1,6 +1,7 @@
 //! Connections: a session for each, whose command is handed on.
 //!
-//! It stands on `session`, which reads the bytes, keeps one command outstanding and writes the replies in order.
+//! It stands on `session`, which reads the bytes, keeps one command outstanding and writes the replies in order, and on
+//! `grammar`: all of them are read in one grammar.
 //! The command is taken (`take`), is asked of a client proxy by the layer above, and the reply comes back
 //! (`answer`). The layer above uses `Connections`: the connections that are here, by the event loop's keys, and
 //! what all that ever came were given.
@@ -15,6 +16,7 @@ mod table;
 
 pub use connection::{Connection, MOST_UNWRITTEN};
 pub use connections::{CommandNumber, Connections};
+pub use grammar::Dialect;
 pub use history::{History, Passing};
 pub use places::Place;
 pub use said::Said;

@@ -4,6 +4,7 @@ ghost use Rattle.std.specs.Prelude.{◌<◌, ◌≤◌, ◌≡◌, length};
 
 use clap::error::ErrorKind;
 use clap::{Arg, ArgAction, ArgMatches, Command, Error, value_parser};
+use grammar::Dialect;
 use std::alloc::Global;
 use std::net::SocketAddr;
 
@@ -11,7 +12,7 @@ use std::net::SocketAddr;
 pub const MOST_CONNECTIONS: u16 = 10000;
 
 /// The version of the daemon. `CHANGELOG.md` says what its numbers mean.
-pub const VERSION: &str = "1.1.0";
+pub const VERSION: &str = "2.0.0";
 
 const AFTER: &str =
     "It serves memcached's text protocol until a signal ends it. All items are in its memory.";
@@ -27,6 +28,8 @@ pub struct Settings {
     pub u: u8,
     /// So many connections are served at once.
     pub connections: u16,
+    /// In which grammar clients' bytes are read.
+    pub dialect: Dialect,
     ghost few: { u < 4 },
 }
 
@@ -60,6 +63,15 @@ fn connections_option<'a>(alloc: Global) -> Arg<'a> {
         .help("The most connections at once")
 }
 
+/// The option for the grammar of clients' bytes.
+fn dialect_option<'a>(alloc: Global) -> Arg<'a> {
+    Arg::new(alloc, "dialect")
+        .long("dialect")
+        .value_name("DIALECT")
+        .default_value("memcached")
+        .help("memcached: as memcached reads; profile: only what docs/protocol.md lists")
+}
+
 /// The option for the figures.
 fn status_option<'a>(alloc: Global) -> Arg<'a> {
     Arg::new(alloc, "status")
@@ -77,6 +89,7 @@ fn command<'a>(alloc: Global) -> Result<Command<'a>, Error> {
         .arg(listen_option(alloc))?
         .arg(u_option(alloc))?
         .arg(connections_option(alloc))?
+        .arg(dialect_option(alloc))?
         .arg(status_option(alloc))?;
     Ok(command)
 }
@@ -89,6 +102,15 @@ fn address(command: &mut Command<'_>, text: &str) -> Result<SocketAddr, Error> {
             ErrorKind::ValueValidation,
             "an address is of the form 127.0.0.1:11211 or [::1]:11211",
         )?),
+    }
+}
+
+/// The grammar that the text names.
+fn dialect(command: &mut Command<'_>, text: &str) -> Result<Dialect, Error> {
+    match text {
+        "memcached" => Ok(Dialect::Memcached),
+        "profile" => Ok(Dialect::Profile),
+        _ => Err(command.error(ErrorKind::InvalidValue, "a dialect is memcached or profile")?),
     }
 }
 
@@ -116,6 +138,7 @@ fn given(
         Some(text) => Some(address(command, text)?),
         None => None,
     };
+    let dialect = dialect(command, matches.get_str("dialect").unwrap_or("memcached"))?;
     match (
         matches.get_one::<u8>("u"),
         matches.get_one::<u16>("connections"),
@@ -125,6 +148,7 @@ fn given(
             status,
             u,
             connections,
+            dialect,
         }),
         _ => Err(command.error(ErrorKind::InvalidValue, "a value is not valid")?),
     }

@@ -2,6 +2,7 @@
 
 use daemon::{Due, Settings, resident_pages, tell, tell_listening, tell_start, tell_status};
 use figures::Replicas;
+use grammar::Dialect;
 use log::sink::{Lines, Memory};
 use std::alloc::Global;
 use std::net::{Ipv4Addr, SocketAddr, SocketAddrV4};
@@ -93,6 +94,7 @@ fn the_start_is_told(rt: HostRuntime) -> Result<(), Fail> {
         status: Some(address),
         u: 2,
         connections: 77,
+        dialect: Dialect::Memcached,
     };
     tell_start(&memory, &settings);
     tell_status(&memory, address);
@@ -100,7 +102,7 @@ fn the_start_is_told(rt: HostRuntime) -> Result<(), Fail> {
         are(
             &memory.into_lines(),
             &[
-                "[INFO ] eve_cached 1.1.0 with u 2: at most 77 connections",
+                "[INFO ] eve_cached 2.0.0 with u 2: at most 77 connections",
                 "[INFO ] figures on http://127.0.0.1:11280/"
             ]
         )

@@ -3,6 +3,7 @@
 use clap::Error;
 use clap::error::ErrorKind;
 use daemon::{Settings, read_settings};
+use grammar::Dialect;
 use std::alloc::Global;
 use std::net::SocketAddr;
 use std::test::Fail;
@@ -40,6 +41,7 @@ fn defaults(alloc: Global) -> bool {
             listens(&settings, &["127.0.0.1:11211"])
                 && settings.u == 1
                 && settings.connections == 1024
+                && settings.dialect == Dialect::Memcached
                 && settings.status.is_none()
         }
         _ => false,
@@ -48,12 +50,13 @@ fn defaults(alloc: Global) -> bool {
 
 fn all_given(alloc: Global) -> bool {
     let words =
-        "--listen 0.0.0.0:1 --u 3 --listen [::1]:2 --connections=10000 --status 127.0.0.1:3";
+        "--listen 0.0.0.0:1 --u 3 --listen [::1]:2 --connections=10000 --dialect profile --status 127.0.0.1:3";
     match read(alloc, words) {
         Some(Ok(settings)) => {
             listens(&settings, &["0.0.0.0:1", "[::1]:2"])
                 && settings.u == 3
                 && settings.connections == 10000
+                && settings.dialect == Dialect::Profile
                 && matches!(&settings.status, Some(address) if is_at(address, "127.0.0.1:3"))
         }
         _ => false,
@@ -102,6 +105,7 @@ fn other_words_are_refused(rt: HostRuntime) -> Result<(), Fail> {
         ("--u 1 --u 1", ErrorKind::ArgumentConflict),
         ("--connections 0", ErrorKind::ValueValidation),
         ("--connections 10001", ErrorKind::ValueValidation),
+        ("--dialect meta", ErrorKind::InvalidValue),
         ("--listen 127.0.0.1", ErrorKind::ValueValidation),
         ("--listen localhost:1", ErrorKind::ValueValidation),
         ("--listen", ErrorKind::InvalidValue),

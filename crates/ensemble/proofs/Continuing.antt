@@ -1,22 +1,21 @@
 -- Each step that an ensemble may make it may make after what was before it.
-use Rattle.std.proofs.Common.{◌≡◌, inl, inr, ℕ, List, [], ◌∷◌, ◌++◌, Option, None, Some, refl, sym, ◌∙◌, subst, append_assoc}
+use Rattle.std.proofs.Common.{◌≡◌, inl, inr, ℕ, List, [], ◌∷◌, ◌++◌, Option, None, Some, sym, ◌∙◌, subst, append_assoc}
 use Rattle.std.specs.Prelude.{Bool}
 use Rattle.proto.specs.declared.reply.Reply as replies
 use Rattle.sessions.specs.declared.request.Request.{Request}
 use Rattle.worlds.specs.Runs.{RunIsSteps}
 use Rattle.proxies.proofs.ProxyLemmas.{ask_is_fed, answer_is_replied, again_is_asked}
-use Rattle.ensemble.specs.declared.noted.Noted.{Noted}
 use Rattle.ensemble.specs.declared.noted.Noted.TheVariants as noted
 use Rattle.ensemble.specs.Nodes.{NodesView}
 use Rattle.ensemble.specs.Moments.{now_from, IsNow}
 use Rattle.ensemble.specs.Ensemble.{EnsembleView, IsEnsemble, answer_log, order_log, moment_entry}
-use Rattle.ensemble.specs.Process.{ProcessView, ensemble_after, IsEnsembleAfter, MayBecome}
+use Rattle.ensemble.specs.Process.{ProcessView, ensemble_after, IsEnsembleAfter}
 use Rattle.ensemble.specs.Steps.{ExecutorsGoOn, VerifiersGoOn, NodesGoOn, LetterComes, ProxyAsks, IsEnsembleStep, AreEnsembleSteps, last_ensemble}
 use Rattle.ensemble.proofs.Moments.{Order, now_both}
 use Rattle.ensemble.proofs.Goes.{ensemble_noted}
 use Rattle.ensemble.proofs.Going.{take_held_goes, cut_goes, collect_goes, open_executor_goes, open_verifier_at_goes, suspect_at_goes, trim_at_goes, run_jobs_goes, again_at_goes, deliver_goes, asks_goes}
 use Rattle.ensemble.proofs.Served.{any_count}
-use Rattle.ensemble.proofs.Ending.{goes_on_after}
+use Rattle.ensemble.proofs.Ending.{MayBecome, goes_on_after}
 
 -- what is the moment of now is so whatever was noted before
 still_from : (was : Option ℕ) (order : Order) (moment : ℕ) → now_from None order ≡ Some moment → now_from was order ≡ Some moment

@@ -18,7 +18,7 @@ use Rattle.worlds.proofs.FirstLemmas.{get_seam, set_seam}
 use Rattle.hosts.specs.Host.{HostView}
 use Rattle.ensemble.specs.Nodes.{NodesView}
 use Rattle.ensemble.specs.Ensemble.{EnsembleView, HasSent, IsLike, IsEnsemble}
-use Rattle.ensemble.specs.Process.{kept_at, ProcessView, kept_of_host, kept_of_verifier, process_of, NoneIsLost, down_host, down_verifier, begun_with, reopened_ensemble, ensemble_after, IsEnsembleAfter, MayBecome}
+use Rattle.ensemble.specs.Process.{kept_at, ProcessView, kept_of_host, kept_of_verifier, process_of, NoneIsLost, down_host, down_verifier, begun_with, reopened_ensemble, ensemble_after, IsEnsembleAfter}
 use Rattle.ensemble.proofs.Lists.{in_none, in_head, in_tail, get_map}
 use Rattle.ensemble.proofs.Served.{any_count}
 use Rattle.ensemble.proofs.Goes.{Moves, stays, moves_by, moves_on, Goes, same_proxies, ensemble_stays}
@@ -124,6 +124,10 @@ begins_after found before h all is =
     let same : record before { nodes = begun_with (process_of before.nodes); refused = 0 } ≡ ensemble_after before (reopened_ensemble found) =
     λ i. record { nodes = begun_with (is i); asked = sym (append-nil before.asked) i; answered = sym (append-nil before.answered) i; order = sym (append-nil before.order) i; refused = 0 } in
     subst (λ (e : EnsembleView). IsEnsemble e) same back
+
+-- whatever was before, the ensemble may become this one
+abbrev pub MayBecome : EnsembleView → EnsembleView → Type 0
+MayBecome e now = (before : EnsembleView) → IsEnsemble (ensemble_after before e) → IsEnsemble (ensemble_after before now)
 
 pub goes_on_after : (found : Option ProcessView) (e now : EnsembleView) → MayBecome e now → IsEnsembleAfter found e → IsEnsembleAfter found now
 goes_on_after None e now step h = step (record e { asked = []; answered = []; order = [] }) h

@@ -68,7 +68,3 @@ ensemble_after before e = record { nodes = e.nodes; asked = before.asked ++ e.as
 abbrev pub IsEnsembleAfter : Option ProcessView → EnsembleView → Type 0
 IsEnsembleAfter None e = IsEnsemble e
 IsEnsembleAfter (Some found) e = (before : EnsembleView) → IsEnsemble before → NoneIsLost before.nodes → process_of before.nodes ≡ found → IsEnsemble (ensemble_after before e)
-
--- whatever was before, the ensemble may become this one
-abbrev pub MayBecome : EnsembleView → EnsembleView → Type 0
-MayBecome e now = (before : EnsembleView) → IsEnsemble (ensemble_after before e) → IsEnsemble (ensemble_after before now)

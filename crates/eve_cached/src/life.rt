@@ -136,6 +136,7 @@ pub fn run<
         connections: usize::from(settings.connections),
         refusal: TOO_MANY,
         u: settings.u,
+        dialect: settings.dialect,
     };
     let Ports { clients, status } = match open_ports(rt, rt.alloc(), &settings) {
         Ok(ports) => ports,

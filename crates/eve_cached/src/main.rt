@@ -1,4 +1,4 @@
-//! A memcached server on replicas, as a daemon: `eve_cached --listen ADDR:PORT --u U --connections N --status ADDR:PORT`.
+//! A memcached server on replicas, as a daemon: `eve_cached --listen ADDR:PORT --u U --connections N --dialect DIALECT --status ADDR:PORT`.
 //!
 //! It serves until a signal ends it, and tells on standard error what an operator wants to know. Status 0 for `--help`
 //! and `--version`, 1 if memory ran out before it served, 2 for other words, 3 if it cannot listen or cannot start, or

@@ -68,7 +68,7 @@ pub record SaysNothing (v now : AnsweringView) : Type 0 where
 -- The service is told that a connection comes, and takes it or does not. Each other one is as it was.
 pub record HandsCame (key number : ℕ) (v now : AnsweringView) : Type 0 where
   pub nothing : SaysNothing v now
-  pub becomes : (place_in now.service.connections.table key ≡ Some (new_connection number)) ⊎ IsGrown v.service.connections.table now.service.connections.table
+  pub becomes : (place_in now.service.connections.table key ≡ Some (new_connection v.service.connections.dialect number)) ⊎ IsGrown v.service.connections.table now.service.connections.table
   pub others : HasSameOthers key v.service.connections.table now.service.connections.table
 
 pub record AreWritten (key number count : ℕ) (v between now : AnsweringView) : Type 0 where

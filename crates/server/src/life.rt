@@ -7,7 +7,7 @@ use crate::fault::ServeFault;
 use crate::watcher::Watcher;
 use event_loop::{Admission, Refused, Watch, read_out};
 use mio::net::TcpListener as Listener;
-use service::{Config, Fault, Service};
+use service::{Config, Dialect, Fault, Service};
 use std::alloc::Global;
 use std::io::Read;
 use std::net::{Net, TcpListener, TcpStream};
@@ -36,13 +36,15 @@ pub struct Options {
     pub refusal: &'static [u8],
     /// There are `2u + 1` executors and `2u + 1` verifiers.
     pub u: u8,
+    /// In which grammar the bytes of connections are read.
+    pub dialect: Dialect,
     ghost few: { u < 4 },
 }
 
 /// The service over its replicas, for an event loop of at most so many sockets at once.
 fn open(alloc: Global, options: Options, most: usize) -> Result<Answering, ServeFault> {
     let config = Config::new(options.u, PROXIES)?;
-    let service = Service::open(alloc, &config)?;
+    let service = Service::open(alloc, &config, options.dialect)?;
     match Answering::new(alloc, service, most) {
         Ok(answering) => Ok(answering),
         Err(service) => {
@@ -105,7 +107,7 @@ fn serve_all<
     }
 }
 
-/// Serves memcached's text protocol on the listener, kept on `2u + 1` executors and `2u + 1` verifiers in
+/// Serves the profile of memcached's text protocol on the listener, kept on `2u + 1` executors and `2u + 1` verifiers in
 /// this process, to 64 connections at once. It returns after the end or a fault of `until`: no more connections are
 /// taken then, those that are here are closed, and no thread is left. The service comes back, for whoever asks what it
 /// came through or what its laws say; its `end` ends it. It starts threads and waits for them, so no clause says what
@@ -126,6 +128,7 @@ pub fn serve<
         connections: MOST_CONNECTIONS,
         refusal: TOO_MANY,
         u,
+        dialect: Dialect::Profile,
     };
     serve_all(rt, alloc, listeners, options, |_| read_out(until))
 }

@@ -1,5 +1,5 @@
 -- A process of a service that ends, and others that begin with what was kept.
-use Rattle.std.proofs.Common.{◌≡◌, ℕ, List, [], ◌∷◌, ◌++◌, Option, None, Some, refl, sym, ap, ◌∙◌, subst}
+use Rattle.std.proofs.Common.{◌≡◌, ℕ, List, [], ◌∷◌, Option, Some, refl, sym, ap, ◌∙◌, subst}
 use Rattle.std.proofs.lemmas.List.{append-nil}
 use Rattle.connections.specs.Connection.{ConnectionView}
 use Rattle.connections.specs.Connections.{ConnectionsView, IsConnections}
@@ -9,7 +9,7 @@ use Rattle.ensemble.specs.Process.{ProcessView, process_of, reopened_ensemble, e
 use Rattle.service.specs.declared.assignment.Assignment.{Assignment}
 use Rattle.service.specs.declared.assignment.Outstanding.{Outstanding}
 use Rattle.service.specs.declared.pause.Pause.{Pause}
-use Rattle.service.specs.Service.{ServiceView, IsAssigned, IsService, HasMoments, HasEnsemble, Waits}
+use Rattle.service.specs.Service.{ServiceView, IsAssigned, IsService, HasEnsemble}
 use Rattle.service.specs.Process.{IsWhole, KeptService, kept_of, HasAll, NobodyWaits, reopened_service, service_after, IsServiceAfter, AreInTurn, services_after}
 
 -- a law of `ensemble`
@@ -94,6 +94,7 @@ begins_after follows found waiting pauses none before h all is =
     let whole = still_whole before waiting pauses follows none all h in
     let same : ended before waiting pauses ≡ service_after before (reopened_service (kept_of before) waiting pauses) = λ i. record {
       connections = record {
+        dialect = before.connections.dialect;
         table = [];
         next = before.connections.next;
         heard = sym (append-nil before.connections.heard) i;

@@ -5,8 +5,9 @@ use Rattle.std.proofs.lemmas.List.{append-nil}
 use Rattle.std.proofs.lemmas.List.Elements.{Contains-append_left, Contains-append_cases}
 use Rattle.base.specs.declared.fault.Fault.{Fault}
 use Rattle.proto.specs.declared.reply.Reply as replies
-use Rattle.memcached_spec.specs.Asked.{IsAsked}
-use Rattle.memcached_spec.proofs.Longer.{asked_longer}
+use Rattle.grammar.specs.declared.reader.Dialect.{Dialect}
+use Rattle.grammar.specs.Asks.{IsAskedIn}
+use Rattle.grammar.proofs.AskLemmas.{asked_stays}
 use Rattle.connections.specs.declared.connections.CommandNumber.{CommandNumber}
 use Rattle.connections.specs.declared.places.Place.{Place}
 use Rattle.connections.specs.declared.said.Said.{Said}
@@ -76,9 +77,9 @@ handed_more order now passed more same were moment c =
 -- ---- one moment
 
 -- it stays one as more is asked and answered
-moment_stays : (order more : Order) (assignments added : List Assignment) (answered now : Replies) (passed late : List Passed) → ((x : (ℕ × ℕ) × replies.Reply) → Contains answered x → Contains now x)
-    → ((moment : ℕ) → Contains (moments_in more) moment → IsPassedSince passed late moment) → WasMoment order assignments answered passed late → WasMoment (order ++ more) (assignments ++ added) now passed late
-moment_stays order more assignments added answered now passed late kept since was = record {
+moment_stays : (d : Dialect) (order more : Order) (assignments added : List Assignment) (answered now : Replies) (passed late : List Passed) → ((x : (ℕ × ℕ) × replies.Reply) → Contains answered x → Contains now x)
+    → ((moment : ℕ) → Contains (moments_in more) moment → IsPassedSince passed late moment) → WasMoment d order assignments answered passed late → WasMoment d (order ++ more) (assignments ++ added) now passed late
+moment_stays d order more assignments added answered now passed late kept since was = record {
   order_then = was.order_then;
   later_order = was.later_order ++ more;
   split_order = ap (λ (o : Order). o ++ more) was.split_order ∙ append_assoc was.order_then was.later_order more;
@@ -87,7 +88,7 @@ moment_stays order more assignments added answered now passed late kept since wa
   split_asked = ap (λ (xs : List Assignment). xs ++ added) was.split_asked ∙ append_assoc was.asked_then was.asked_later added;
   ordered = was.ordered;
   heard = was.heard;
-  given = λ c. answered_implies (WasAnsweredBy was.asked_then answered was.order_then c) (WasAnsweredBy was.asked_then now was.order_then c) (bytes_of_connection c (heard_among passed)) (bytes_of_connection c (given_among passed))
+  given = λ c. answered_implies d (WasAnsweredBy was.asked_then answered was.order_then c) (WasAnsweredBy was.asked_then now was.order_then c) (bytes_of_connection c (heard_among passed)) (bytes_of_connection c (given_among passed))
       (λ turn reply w. (w.0, w.1, w.2, w.3, kept ((w.0.proxy, w.0.number), reply) w.4, w.5)) (was.given c);
   moments = was.moments;
   later = λ moment c. ⊎_elim
@@ -97,8 +98,8 @@ moment_stays order more assignments added answered now passed late kept since wa
 }
 
 -- and as more passes
-moment_late : (order : Order) (assignments : List Assignment) (answered : Replies) (passed late more : List Passed) → WasMoment order assignments answered passed late → WasMoment order assignments answered passed (late ++ more)
-moment_late order assignments answered passed late more was = record {
+moment_late : (d : Dialect) (order : Order) (assignments : List Assignment) (answered : Replies) (passed late more : List Passed) → WasMoment d order assignments answered passed late → WasMoment d order assignments answered passed (late ++ more)
+moment_late d order assignments answered passed late more was = record {
   order_then = was.order_then;
   later_order = was.later_order;
   split_order = was.split_order;
@@ -113,8 +114,8 @@ moment_late order assignments answered passed late more was = record {
 }
 
 -- one more piece is heard
-moment_heard : (order : Order) (assignments : List Assignment) (answered : Replies) (passed late : List Passed) (number : ℕ) (piece : List ℕ) → WasMoment order assignments answered passed late → WasMoment order assignments answered (passed ++ heard_as number piece ∷ []) late
-moment_heard order assignments answered passed late number piece was = record {
+moment_heard : (d : Dialect) (order : Order) (assignments : List Assignment) (answered : Replies) (passed late : List Passed) (number : ℕ) (piece : List ℕ) → WasMoment d order assignments answered passed late → WasMoment d order assignments answered (passed ++ heard_as number piece ∷ []) late
+moment_heard d order assignments answered passed late number piece was = record {
   order_then = was.order_then;
   later_order = was.later_order;
   split_order = was.split_order;
@@ -124,11 +125,11 @@ moment_heard order assignments answered passed late number piece was = record {
   ordered = was.ordered;
   heard = λ a i.
       let h = was.heard a i in
-      (h.0, subst (λ (bytes : List ℕ). IsAsked bytes a.turn h.0) (sym (more a.connection)) (asked_longer (bytes_of_connection a.connection (heard_among passed)) (bytes_in a.connection (number, piece)) a.turn h.0 h.1));
+      (h.0, subst (λ (bytes : List ℕ). IsAskedIn d bytes a.turn h.0) (sym (more a.connection)) (asked_stays d (bytes_of_connection a.connection (heard_among passed)) (bytes_in a.connection (number, piece)) a.turn h.0 h.1));
   given = λ c.
       let P = WasAnsweredBy was.asked_then answered was.order_then c in
-      subst (λ (z : List ℕ × List ℕ). IsAnswered P z.0 z.1) (λ i. (sym (more c) i, bytes_of_connection c (sym (nothing_given number piece passed) i)))
-      (answered_longer P P (bytes_of_connection c (heard_among passed)) (bytes_in c (number, piece)) (bytes_of_connection c (given_among passed)) (λ q r w. w) (was.given c));
+      subst (λ (z : List ℕ × List ℕ). IsAnswered d P z.0 z.1) (λ i. (sym (more c) i, bytes_of_connection c (sym (nothing_given number piece passed) i)))
+      (answered_longer d P P (bytes_of_connection c (heard_among passed)) (bytes_in c (number, piece)) (bytes_of_connection c (given_among passed)) (λ q r w. w) (was.given c));
   moments = λ moment c. subst (λ (moments : List ℕ). Contains moments moment) (sym same) (was.moments moment c);
   later = λ moment c. subst (λ (moments : List ℕ). IsSince moments (moments_among late) moment) (sym same) (was.later moment c);
 }
@@ -140,7 +141,7 @@ moment_heard order assignments answered passed late number piece was = record {
     same = moments_both passed (heard_as number piece ∷ []) ∙ append-nil (moments_among passed)
 
 -- now is one
-pub moment_now : (v : ServiceView) → IsService v → IsConnections v.connections → IsHistory (history_of v.connections) → AreHanded v.order v.connections.passed → WasMoment v.order v.assignments v.answered v.connections.passed []
+pub moment_now : (v : ServiceView) → IsService v → IsConnections v.connections → IsHistory (history_of v.connections) → AreHanded v.order v.connections.passed → WasMoment v.connections.dialect v.order v.assignments v.answered v.connections.passed []
 moment_now v ok talks logs handed = record {
   order_then = v.order;
   later_order = [];
@@ -151,10 +152,10 @@ moment_now v ok talks logs handed = record {
   ordered = ok.ordered;
   heard = λ a i.
       let e = ok.each a i in
-      (e.command, subst (λ (log : List (ℕ × List ℕ)). IsAsked (bytes_of_connection a.connection log) a.turn e.command) (sym logs.heard) (talks.asked (command_number_of a, e.command) e.taken));
+      (e.command, subst (λ (log : List (ℕ × List ℕ)). IsAskedIn v.connections.dialect (bytes_of_connection a.connection log) a.turn e.command) (sym logs.heard) (talks.asked (command_number_of a, e.command) e.taken));
   given = λ c.
-      subst (λ (z : List (ℕ × List ℕ) × List (ℕ × List ℕ)). IsAnswered (WasAnsweredBy v.assignments v.answered v.order c) (bytes_of_connection c z.0) (bytes_of_connection c z.1)) (λ i. (sym logs.heard i, sym logs.given i))
-      (answered_implies (WasReplied v.connections.replied c) (WasAnsweredBy v.assignments v.answered v.order c) (bytes_of_connection c v.connections.heard) (bytes_of_connection c v.connections.given)
+      subst (λ (z : List (ℕ × List ℕ) × List (ℕ × List ℕ)). IsAnswered v.connections.dialect (WasAnsweredBy v.assignments v.answered v.order c) (bytes_of_connection c z.0) (bytes_of_connection c z.1)) (λ i. (sym logs.heard i, sym logs.given i))
+      (answered_implies v.connections.dialect (WasReplied v.connections.replied c) (WasAnsweredBy v.assignments v.answered v.order c) (bytes_of_connection c v.connections.heard) (bytes_of_connection c v.connections.given)
       (λ turn reply w.
       let r = ok.replied (record { connection = c; turn = turn }, reply) w in
       (r.0, r.1, ap (λ (n : CommandNumber). n.connection) r.2, ap (λ (n : CommandNumber). n.turn) r.2, r.3, r.4)) (talks.answered c));
@@ -165,23 +166,23 @@ moment_now v ok talks logs handed = record {
 -- ---- all moments
 
 -- nothing passed, and a moment that was handed in is the one of now
-pub moments_stay : (v now : ServiceView) → HasMoments v → now.connections.passed ≡ v.connections.passed → (more : Order) → now.order ≡ v.order ++ more → ((moment : ℕ) → Contains (moments_in more) moment → IsPassedNow v.connections.passed moment)
+pub moments_stay : (v now : ServiceView) → HasMoments v → now.connections.dialect ≡ v.connections.dialect → now.connections.passed ≡ v.connections.passed → (more : Order) → now.order ≡ v.order ++ more → ((moment : ℕ) → Contains (moments_in more) moment → IsPassedNow v.connections.passed moment)
     → (added : List Assignment) → now.assignments ≡ v.assignments ++ added → ((x : (ℕ × ℕ) × replies.Reply) → Contains v.answered x → Contains now.answered x) → HasMoments now
-moments_stay v now were passed more order since added assignments kept early late is =
+moments_stay v now were dialect passed more order since added assignments kept early late is =
     let split : v.connections.passed ≡ early ++ late = sym passed ∙ is in
-    subst (λ (z : Order × List Assignment). WasMoment z.0 z.1 now.answered early late) (λ i. (sym order i, sym assignments i))
-    (moment_stays v.order more v.assignments added v.answered now.answered early late kept (λ moment c. now_since_passed v.connections.passed early late moment split (since moment c)) (were early late split))
+    subst (λ (z : Dialect × Order × List Assignment). WasMoment z.0 z.1 z.2 now.answered early late) (λ i. (sym dialect i, sym order i, sym assignments i))
+    (moment_stays v.connections.dialect v.order more v.assignments added v.answered now.answered early late kept (λ moment c. now_since_passed v.connections.passed early late moment split (since moment c)) (were early late split))
 
 -- nothing was asked or answered either
-pub same_moments : (v now : ServiceView) → HasMoments v → now.connections.passed ≡ v.connections.passed → now.order ≡ v.order → now.assignments ≡ v.assignments → now.answered ≡ v.answered → HasMoments now
-same_moments v now were passed order assignments answered =
-    moments_stay v now were passed [] (order ∙ sym (append-nil v.order)) (λ moment c. absurd (let lt = c.1 in omega (arith, lt))) [] (assignments ∙ sym (append-nil v.assignments)) (λ x i. subst (λ (xs : Replies). Contains xs x) (sym answered) i)
+pub same_moments : (v now : ServiceView) → HasMoments v → now.connections.dialect ≡ v.connections.dialect → now.connections.passed ≡ v.connections.passed → now.order ≡ v.order → now.assignments ≡ v.assignments → now.answered ≡ v.answered → HasMoments now
+same_moments v now were dialect passed order assignments answered =
+    moments_stay v now were dialect passed [] (order ∙ sym (append-nil v.order)) (λ moment c. absurd (let lt = c.1 in omega (arith, lt))) [] (assignments ∙ sym (append-nil v.assignments)) (λ x i. subst (λ (xs : Replies). Contains xs x) (sym answered) i)
 
 -- the replicas were handed the moment of now, and worked
 pub worked_moments : (v : ServiceView) (asked : List (Request × Bool)) (answered : Replies) (order : Order) (moment : ℕ) (answers : List Answer) → HasMoments v → answered ≡ v.answered ++ map answer_entry answers → order ≡ (v.order ++ moment_entry moment ∷ []) ++ map order_entry answers → IsPassedNow v.connections.passed moment
     → HasMoments (record v { asked = asked; answered = answered; order = order })
 worked_moments v asked answered order moment answers were is ordered now =
-    moments_stay v (record v { asked = asked; answered = answered; order = order }) were refl (moment_entry moment ∷ map order_entry answers) (ordered ∙ append_assoc v.order (moment_entry moment ∷ []) (map order_entry answers))
+    moments_stay v (record v { asked = asked; answered = answered; order = order }) were refl refl (moment_entry moment ∷ map order_entry answers) (ordered ∙ append_assoc v.order (moment_entry moment ∷ []) (map order_entry answers))
     (λ m c. subst (IsPassedNow v.connections.passed) (one m (subst (λ (moments : List ℕ). Contains (moment ∷ moments) m) (answers_no_moments answers) c)) now)
     [] (sym (append-nil v.assignments)) (λ x i. subst (λ (xs : Replies). Contains xs x) (sym is) (Contains-append_left v.answered (map answer_entry answers) x i))
   where
@@ -199,7 +200,7 @@ first_moments v none_passed none_ordered [] late is = record {
   split_asked = refl;
   ordered = refl;
   heard = λ a i. let lt = i.1 in absurd (omega (arith, lt));
-  given = λ c. answered_implies (WasReplied [] c) (WasAnsweredBy [] v.answered [] c) [] [] (λ turn reply w. let lt = w.1 in absurd (omega (arith, lt))) (none_keep.answered c);
+  given = λ c. answered_implies v.connections.dialect (WasReplied [] c) (WasAnsweredBy [] v.answered [] c) [] [] (λ turn reply w. let lt = w.1 in absurd (omega (arith, lt))) ((none_keep v.connections.dialect).answered c);
   moments = λ moment c. absurd (let lt = c.1 in omega (arith, lt));
   later = λ moment c. absurd (nothing moment (subst (λ (o : Order). Contains (moments_in o) moment) none_ordered c));
 }
@@ -209,31 +210,40 @@ first_moments v none_passed none_ordered [] late is = record {
 first_moments v none_passed none_ordered (x ∷ early) late is = absurd (let e : ◌≡◌ {A = List Passed} [] (x ∷ (early ++ late)) = sym none_passed ∙ is in cc e)
 
 -- one more passed
-one_passed : (order : Order) (assignments : List Assignment) (answered : Replies) (passed : List Passed) (x : Passed) → ((early late : List Passed) → passed ≡ early ++ late → WasMoment order assignments answered early late) → WasMoment order assignments answered (passed ++ x ∷ []) []
-    → (early late : List Passed) → passed ++ x ∷ [] ≡ early ++ late → WasMoment order assignments answered early late
-one_passed order assignments answered passed x were is early late split = ⊎_elim
-    (λ (old : (rest : List Passed) × (passed ≡ early ++ rest) × (late ≡ rest ++ x ∷ [])). subst (WasMoment order assignments answered early) (sym old.2) (moment_late order assignments answered early old.0 (x ∷ []) (were early old.0 old.1)))
-    (λ (whole : early ≡ passed ++ x ∷ []). moment_late order assignments answered early [] late (subst (λ (p : List Passed). WasMoment order assignments answered p []) (sym whole) is))
+one_passed : (d : Dialect) (order : Order) (assignments : List Assignment) (answered : Replies) (passed : List Passed) (x : Passed) → ((early late : List Passed) → passed ≡ early ++ late → WasMoment d order assignments answered early late) → WasMoment d order assignments answered (passed ++ x ∷ []) []
+    → (early late : List Passed) → passed ++ x ∷ [] ≡ early ++ late → WasMoment d order assignments answered early late
+one_passed d order assignments answered passed x were is early late split = ⊎_elim
+    (λ (old : (rest : List Passed) × (passed ≡ early ++ rest) × (late ≡ rest ++ x ∷ [])). subst (WasMoment d order assignments answered early) (sym old.2) (moment_late d order assignments answered early old.0 (x ∷ []) (were early old.0 old.1)))
+    (λ (whole : early ≡ passed ++ x ∷ []). moment_late d order assignments answered early [] late (subst (λ (p : List Passed). WasMoment d order assignments answered p []) (sym whole) is))
     (longer_split_late passed x early late split)
 
 -- a service of these connections
 abbrev pub over : ServiceView → ConnectionsView → ServiceView
 over v next = record v { connections = next }
 
--- a moment passed
-pub noted_moments : (v : ServiceView) (next : ConnectionsView) (moment : ℕ) → HasMoments v → next.passed ≡ v.connections.passed ++ moment_as moment ∷ [] → WasMoment v.order v.assignments v.answered next.passed [] → HasMoments (over v next)
-noted_moments v next moment were is now early late split =
-    one_passed v.order v.assignments v.answered v.connections.passed (moment_as moment) were (subst (λ (p : List Passed). WasMoment v.order v.assignments v.answered p []) is now) early late (sym is ∙ split)
+-- they are as these connections' bytes are read
+of_next : (v : ServiceView) (next : ConnectionsView) → HasMoments v → next.dialect ≡ v.connections.dialect → (early late : List Passed) → v.connections.passed ≡ early ++ late → WasMoment next.dialect v.order v.assignments v.answered early late
+of_next v next were dialect early late is = subst (λ (d : Dialect). WasMoment d v.order v.assignments v.answered early late) (sym dialect) (were early late is)
 
-pub heard_moments : (v : ServiceView) (next : ConnectionsView) (key number : ℕ) (piece : List ℕ) (result : Result Said Fault) → HasMoments v → Hears key number piece v.connections next result → WasMoment v.order v.assignments v.answered next.passed [] → HasMoments (over v next)
-heard_moments v next key number piece (Ok said) were hears now early late is =
-    one_passed v.order v.assignments v.answered (v.connections.passed ++ heard_as number piece ∷ []) (given_as number said.bytes.items)
-    (one_passed v.order v.assignments v.answered v.connections.passed (heard_as number piece) were (moment_heard v.order v.assignments v.answered v.connections.passed [] number piece (were v.connections.passed [] (sym (append-nil v.connections.passed)))))
-    (subst (λ (p : List Passed). WasMoment v.order v.assignments v.answered p []) hears.2 now) early late (sym hears.2 ∙ is)
-heard_moments v next key number piece (Err fault) were hears now early late is = ⊎_elim
-    (λ (same : (next.heard ≡ v.connections.heard) × (next.passed ≡ v.connections.passed)). were early late (sym same.1 ∙ is))
+-- a moment passed
+pub noted_moments : (v : ServiceView) (next : ConnectionsView) (moment : ℕ) → HasMoments v → next.dialect ≡ v.connections.dialect → next.passed ≡ v.connections.passed ++ moment_as moment ∷ [] → WasMoment next.dialect v.order v.assignments v.answered next.passed [] → HasMoments (over v next)
+noted_moments v next moment were dialect is now early late split =
+    one_passed next.dialect v.order v.assignments v.answered v.connections.passed (moment_as moment) (of_next v next were dialect) (subst (λ (p : List Passed). WasMoment next.dialect v.order v.assignments v.answered p []) is now) early late (sym is ∙ split)
+
+pub heard_moments : (v : ServiceView) (next : ConnectionsView) (key number : ℕ) (piece : List ℕ) (result : Result Said Fault) → HasMoments v → next.dialect ≡ v.connections.dialect → Hears key number piece v.connections next result → WasMoment next.dialect v.order v.assignments v.answered next.passed [] → HasMoments (over v next)
+heard_moments v next key number piece (Ok said) were dialect hears now early late is =
+    let d = next.dialect in
+    let before = of_next v next were dialect in
+    one_passed d v.order v.assignments v.answered (v.connections.passed ++ heard_as number piece ∷ []) (given_as number said.bytes.items)
+    (one_passed d v.order v.assignments v.answered v.connections.passed (heard_as number piece) before (moment_heard d v.order v.assignments v.answered v.connections.passed [] number piece (before v.connections.passed [] (sym (append-nil v.connections.passed)))))
+    (subst (λ (p : List Passed). WasMoment d v.order v.assignments v.answered p []) hears.2 now) early late (sym hears.2 ∙ is)
+heard_moments v next key number piece (Err fault) were dialect hears now early late is =
+    let d = next.dialect in
+    let before = of_next v next were dialect in
+    ⊎_elim
+    (λ (same : (next.heard ≡ v.connections.heard) × (next.passed ≡ v.connections.passed)). before early late (sym same.1 ∙ is))
     (λ (more : (next.heard ≡ v.connections.heard ++ (number, piece) ∷ []) × (next.passed ≡ v.connections.passed ++ heard_as number piece ∷ [])).
-    one_passed v.order v.assignments v.answered v.connections.passed (heard_as number piece) were (subst (λ (p : List Passed). WasMoment v.order v.assignments v.answered p []) more.1 now) early late (sym more.1 ∙ is))
+    one_passed d v.order v.assignments v.answered v.connections.passed (heard_as number piece) before (subst (λ (p : List Passed). WasMoment d v.order v.assignments v.answered p []) more.1 now) early late (sym more.1 ∙ is))
     hears.0
 
 -- what passed is of moments that had passed before
@@ -248,24 +258,24 @@ heard_handed v next key number piece (Err fault) were hears = ⊎_elim
 pub given_handed : (v : ServiceView) (order : Order) (next : ConnectionsView) (said said_now : List Said) → HasMoments v → moments_in order ≡ moments_in v.order → Gives v.connections said next said_now → AreHanded order next.passed
 given_handed v order next said said_now were same gives = subst (AreHanded order) (sym gives.3) (handed_more v.order order v.connections.passed (map passed_entry gives.0) same (handed_of v were))
 
-pub answered_moments : (v now : ServiceView) (said said_now : List Said) → HasMoments v → now.order ≡ v.order → now.assignments ≡ v.assignments → now.answered ≡ v.answered → GivesNothing v.connections said now.connections said_now ⊎ GivesOne v.connections said now.connections said_now
-    → WasMoment now.order now.assignments now.answered now.connections.passed [] → HasMoments now
-answered_moments v now said said_now were order assignments answered gives is = ⊎_elim
-    (λ (none : GivesNothing v.connections said now.connections said_now). same_moments v now were none.2 order assignments answered)
+pub answered_moments : (v now : ServiceView) (said said_now : List Said) → HasMoments v → now.connections.dialect ≡ v.connections.dialect → now.order ≡ v.order → now.assignments ≡ v.assignments → now.answered ≡ v.answered → GivesNothing v.connections said now.connections said_now ⊎ GivesOne v.connections said now.connections said_now
+    → WasMoment now.connections.dialect now.order now.assignments now.answered now.connections.passed [] → HasMoments now
+answered_moments v now said said_now were dialect order assignments answered gives is = ⊎_elim
+    (λ (none : GivesNothing v.connections said now.connections said_now). same_moments v now were dialect none.2 order assignments answered)
     (λ (one : GivesOne v.connections said now.connections said_now) early late split.
-    let kept = same_moments v (record now { connections = v.connections }) were refl order assignments answered in
-    one_passed now.order now.assignments now.answered v.connections.passed (passed_entry one.0) kept (subst (λ (p : List Passed). WasMoment now.order now.assignments now.answered p []) one.3 is) early late (sym one.3 ∙ split))
+    let kept = same_moments v (record now { connections = record v.connections { dialect = now.connections.dialect } }) were dialect refl order assignments answered in
+    one_passed now.connections.dialect now.order now.assignments now.answered v.connections.passed (passed_entry one.0) kept (subst (λ (p : List Passed). WasMoment now.connections.dialect now.order now.assignments now.answered p []) one.3 is) early late (sym one.3 ∙ split))
     gives
 
 pub assigned_moments : (v now : ServiceView) (at : Place) (proxy : ℕ) (e f : EnsembleView) (asking : Asking) (pool : List (Option Outstanding)) (said said_now : List Said) (key : ℕ) → HasMoments v → e.answered ≡ v.answered → e.order ≡ v.order → now.order ≡ f.order → now.answered ≡ f.answered
-    → AsksFor at proxy v.connections e now.connections f asking → Settles key asking pool now.waiting v.assignments now.assignments said said_now → WasMoment now.order now.assignments now.answered now.connections.passed [] → HasMoments now
+    → AsksFor at proxy v.connections e now.connections f asking → Settles key asking pool now.waiting v.assignments now.assignments said said_now → WasMoment now.connections.dialect now.order now.assignments now.answered now.connections.passed [] → HasMoments now
 assigned_moments v now at proxy e f Nothing pool said said_now key were answered order order_now answered_now asks settles is =
-    same_moments v now were asks.2 (order_now ∙ (ap (λ (x : EnsembleView). x.order) asks.0.same ∙ order)) settles.1 (answered_now ∙ (ap (λ (x : EnsembleView). x.answered) asks.0.same ∙ answered))
+    same_moments v now were asks.0.dialect asks.2 (order_now ∙ (ap (λ (x : EnsembleView). x.order) asks.0.same ∙ order)) settles.1 (answered_now ∙ (ap (λ (x : EnsembleView). x.answered) asks.0.same ∙ answered))
 assigned_moments v now at proxy e f (Asked a) pool said said_now key were answered order order_now answered_now asks settles is =
-    moments_stay v now were asks.bytes.passed (((proxy, a.number), noted.Asked) ∷ []) (order_now ∙ (asks.ordered ∙ ap (λ (o : Order). o ++ ((proxy, a.number), noted.Asked) ∷ []) order)) (λ moment c. absurd (let lt = c.1 in omega (arith, lt))) (a ∷ []) settles.1
+    moments_stay v now were asks.bytes.dialect asks.bytes.passed (((proxy, a.number), noted.Asked) ∷ []) (order_now ∙ (asks.ordered ∙ ap (λ (o : Order). o ++ ((proxy, a.number), noted.Asked) ∷ []) order)) (λ moment c. absurd (let lt = c.1 in omega (arith, lt))) (a ∷ []) settles.1
     (λ x i. subst (λ (xs : Replies). Contains xs x) (sym (answered_now ∙ (asks.answered ∙ answered))) i)
 assigned_moments v now at proxy e f (Failed given) pool said said_now key were answered order order_now answered_now asks settles is =
-    answered_moments v now said said_now were (order_now ∙ (ap (λ (x : EnsembleView). x.order) asks.0.same ∙ order)) settles.1 (answered_now ∙ (ap (λ (x : EnsembleView). x.answered) asks.0.same ∙ answered)) (inr (given, settles.2, asks.1, asks.2)) is
+    answered_moments v now said said_now were asks.0.dialect (order_now ∙ (ap (λ (x : EnsembleView). x.order) asks.0.same ∙ order)) settles.1 (answered_now ∙ (ap (λ (x : EnsembleView). x.answered) asks.0.same ∙ answered)) (inr (given, settles.2, asks.1, asks.2)) is
 
 -- asking hands in no moment
 pub asked_moments : (at : Place) (proxy : ℕ) (v next : ConnectionsView) (e f : EnsembleView) (asking : Asking) → AsksFor at proxy v e next f asking → moments_in f.order ≡ moments_in e.order

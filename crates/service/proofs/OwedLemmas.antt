@@ -9,6 +9,7 @@ use Rattle.session.specs.Session.{is_outstanding_as}
 use Rattle.session.specs.declared.session.Ready.{Ready}
 use Rattle.connections.specs.declared.connection.TheConstants.{MOST_UNWRITTEN}
 use Rattle.connections.specs.declared.places.Place.{Place}
+use Rattle.grammar.specs.declared.reader.Dialect.{Dialect}
 use Rattle.connections.specs.Connection.{ConnectionView, new_connection}
 use Rattle.connections.specs.Places.{place_in, is_of_connection, is_untaken_in, is_untaken, left_at, after_written, written_at, HasSameOthers, IsGrown}
 use Rattle.connections.specs.Owed.{HasSameOutstanding, HasCommand, ReadsFurther, AnswersOn, BecomesAt, IsTakenAt, HasNoneToTake}
@@ -143,10 +144,10 @@ left_remembers line table table_now at left pool r =
 pub grown_remembers : (line : List Waiting) (pool : Pool) (table table_now : Table) → IsGrown table table_now → Remembers line pool table → Remembers line pool table_now
 grown_remembers line pool table table_now grown r key d e = r key d (sym (grown key) ∙ e)
 
-pub came_remembers : (line : List Waiting) (pool : Pool) (table table_now : Table) (at : Place) → HasSameOthers at.key table table_now → place_in table_now at.key ≡ Some (new_connection at.number) → Remembers line pool table → Remembers line pool table_now
-came_remembers line pool table table_now at others here r =
+pub came_remembers : (dialect : Dialect) (line : List Waiting) (pool : Pool) (table table_now : Table) (at : Place) → HasSameOthers at.key table table_now → place_in table_now at.key ≡ Some (new_connection dialect at.number) → Remembers line pool table → Remembers line pool table_now
+came_remembers dialect line pool table table_now at others here r =
     step line line pool pool table table_now at others (same_line at line) (same_pool at pool)
-    (λ d e. let is : new_connection at.number ≡ d = (let s : ◌≡◌ {A = Option ConnectionView} (Some (new_connection at.number)) (Some d) = sym here ∙ e in cc s) in
+    (λ d e. let is : new_connection dialect at.number ≡ d = (let s : ◌≡◌ {A = Option ConnectionView} (Some (new_connection dialect at.number)) (Some d) = sym here ∙ e in cc s) in
     inr (at_rest line pool at.key d (sym (ap (λ (c : ConnectionView). c.session.outstanding) is))))
     r
 

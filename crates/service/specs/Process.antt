@@ -1,5 +1,6 @@
 -- What always holds of a service, also of one whose process began with what another one left.
 use Rattle.std.specs.Prelude.{◌≡◌, ◌++◌, ℕ, List, [], ◌∷◌, Option, None, Some}
+use Rattle.grammar.specs.declared.reader.Dialect.{Dialect}
 use Rattle.connections.specs.Connections.{ConnectionsView, no_connections, IsConnections}
 use Rattle.connections.specs.History.{HistoryView, IsHistory}
 use Rattle.ensemble.specs.Process.{ProcessView, process_of, NoneIsLost, reopened_ensemble, ensemble_after}
@@ -24,14 +25,15 @@ pub record IsWhole (v : ServiceView) : Type 0 where
 
 -- ---- what is kept
 
--- What is kept of a service: what is kept of its replicas and proxies, and the least number that the next connection may have.
+-- What is kept of a service: what is kept of its replicas and proxies, the grammar in which bytes are read, and the least number that the next connection may have.
 pub record KeptService : Type 0 where
   pub replicas : ProcessView
+  pub dialect : Dialect
   pub next : ℕ
 
 -- what is kept if the process ends now
 abbrev pub kept_of : ServiceView → KeptService
-kept_of v = record { replicas = process_of v.replicas.ensemble.nodes; next = v.connections.next }
+kept_of v = record { replicas = process_of v.replicas.ensemble.nodes; dialect = v.connections.dialect; next = v.connections.next }
 
 -- no replica is lost for good
 abbrev pub HasAll : ServiceView → Type 0
@@ -46,7 +48,7 @@ NobodyWaits waiting = (a : Assignment) → Waits waiting a → ⊥
 -- the service of a process that begins with this: nothing was asked of it, and it has these places for what proxies wait for
 abbrev pub reopened_service : KeptService → List (Option Outstanding) → List Pause → ServiceView
 reopened_service kept waiting pauses = record {
-  connections = record no_connections { next = kept.next };
+  connections = record (no_connections kept.dialect) { next = kept.next };
   asked = [];
   answered = [];
   order = [];
@@ -60,6 +62,7 @@ reopened_service kept waiting pauses = record {
 
 abbrev pub connections_after : ConnectionsView → ConnectionsView → ConnectionsView
 connections_after before c = record {
+  dialect = c.dialect;
   table = c.table;
   next = c.next;
   heard = before.heard ++ c.heard;

@@ -8,7 +8,8 @@ use Rattle.connections.specs.declared.connections.CommandNumber.{CommandNumber}
 use Rattle.connections.specs.declared.said.Said.{Said}
 use Rattle.connections.specs.Connections.{ConnectionsView, bytes_of_connection, IsAnswered}
 use Rattle.connections.specs.History.{Passed, heard_as, given_as, heard_among, given_among, moments_among}
-use Rattle.memcached_spec.specs.Asked.{IsAsked}
+use Rattle.grammar.specs.declared.reader.Dialect.{Dialect}
+use Rattle.grammar.specs.Asks.{IsAskedIn}
 use Rattle.base.specs.declared.fault.Fault.{Fault}
 use Rattle.ensemble.specs.declared.answer.Answer.{Answer}
 use Rattle.ensemble.specs.declared.noted.Noted.{Noted}
@@ -134,7 +135,7 @@ abbrev pub WasAnsweredBy : List Assignment → List ((ℕ × ℕ) × replies.Rep
 WasAnsweredBy assignments answered order connection turn reply = (a : Assignment) × Contains assignments a × (a.connection ≡ connection) × (a.turn ≡ turn) × Contains answered ((a.proxy, a.number), reply) × Contains order ((a.proxy, a.number), noted.Answered)
 
 -- When just this had passed, so much had been asked and answered: what was asked had been heard, and what was given answers it. The moments that the replicas had been handed had passed, and one that they were handed later is the last of these, or passed later.
-pub record WasMoment (order : List ((ℕ × ℕ) × Noted)) (assignments : List Assignment) (answered : List ((ℕ × ℕ) × replies.Reply)) (passed late : List Passed) : Type 0 where
+pub record WasMoment (d : Dialect) (order : List ((ℕ × ℕ) × Noted)) (assignments : List Assignment) (answered : List ((ℕ × ℕ) × replies.Reply)) (passed late : List Passed) : Type 0 where
   pub order_then : List ((ℕ × ℕ) × Noted)
   pub later_order : List ((ℕ × ℕ) × Noted)
   pub split_order : order ≡ order_then ++ later_order
@@ -142,14 +143,14 @@ pub record WasMoment (order : List ((ℕ × ℕ) × Noted)) (assignments : List 
   pub asked_later : List Assignment
   pub split_asked : assignments ≡ asked_then ++ asked_later
   pub ordered : asked_keys order_then ≡ map assigned_as asked_then
-  pub heard : (a : Assignment) → Contains asked_then a → (command : Command) × IsAsked (bytes_of_connection a.connection (heard_among passed)) a.turn command
-  pub given : (connection : ℕ) → IsAnswered (WasAnsweredBy asked_then answered order_then connection) (bytes_of_connection connection (heard_among passed)) (bytes_of_connection connection (given_among passed))
+  pub heard : (a : Assignment) → Contains asked_then a → (command : Command) × IsAskedIn d (bytes_of_connection a.connection (heard_among passed)) a.turn command
+  pub given : (connection : ℕ) → IsAnswered d (WasAnsweredBy asked_then answered order_then connection) (bytes_of_connection connection (heard_among passed)) (bytes_of_connection connection (given_among passed))
   pub moments : (moment : ℕ) → Contains (moments_in order_then) moment → Contains (moments_among passed) moment
   pub later : (moment : ℕ) → Contains (moments_in later_order) moment → IsSince (moments_among passed) (moments_among late) moment
 
 -- each beginning of what passed was a moment
 abbrev pub HasMoments : ServiceView → Type 0
-HasMoments v = (early late : List Passed) → v.connections.passed ≡ early ++ late → WasMoment v.order v.assignments v.answered early late
+HasMoments v = (early late : List Passed) → v.connections.passed ≡ early ++ late → WasMoment v.connections.dialect v.order v.assignments v.answered early late
 
 -- it is the last moment that passed
 abbrev pub IsPassedNow : List Passed → ℕ → Type 0
@@ -202,6 +203,7 @@ RestsUnlessRefused old new = new.refused ≡ old.refused → old.refused < 2 ^ 6
 
 -- a connection took the reply to its command, if it was here
 pub record AnswersTo (a : Assignment) (reply : replies.Reply) (v now : ConnectionsView) (said said_now : List Said) : Type 0 where
+  pub dialect : now.dialect ≡ v.dialect
   pub heard : now.heard ≡ v.heard
   pub taken : now.taken ≡ v.taken
   pub replied : (now.replied ≡ v.replied) ⊎ (now.replied ≡ v.replied ++ (command_number_of a, reply) ∷ [])

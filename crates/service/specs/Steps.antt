@@ -73,6 +73,7 @@ EndsWait old proxy number new (Some o) = KeepsWaits old new × Waits old o.assig
 -- ---- a command is asked
 
 pub record HasSameBytes (v now : ConnectionsView) : Type 0 where
+  pub dialect : now.dialect ≡ v.dialect
   pub heard : now.heard ≡ v.heard
   pub given : now.given ≡ v.given
   pub passed : now.passed ≡ v.passed
@@ -108,6 +109,7 @@ TakesNone at v now = (now.taken ≡ v.taken) ⊎ (is_here at.number now.table at
 
 -- nothing was asked
 pub record AsksNothing (v now : ConnectionsView) (e f : EnsembleView) : Type 0 where
+  pub dialect : now.dialect ≡ v.dialect
   pub taken : KeepsTaken v now
   pub same : f ≡ e
   pub heard : now.heard ≡ v.heard
@@ -120,6 +122,7 @@ AsksFor at proxy v e now f (Failed said) = AsksNothing v now e f × (now.given �
 
 -- the connection leaves
 pub record LeavesFor (v now : ConnectionsView) : Type 0 where
+  pub dialect : now.dialect ≡ v.dialect
   pub taken : now.taken ≡ v.taken
   pub heard : now.heard ≡ v.heard
   pub replied : now.replied ≡ v.replied

@@ -56,6 +56,7 @@ pub fn hear_at(
     ensures closes { IfOk result (λ said. said.closes ≡ true → place_in connections.new.table at.key ≡ None) }
     ensures told { IfOk result (λ said. IsToldAt at connections.old.table connections.new.table said) }
     ensures same_others { HasSameOthers at.key connections.old.table connections.new.table }
+    ensures dialect { connections.new.dialect ≡ connections.old.dialect }
     ensures taken { connections.new.taken ≡ connections.old.taken }
     ensures replied { connections.new.replied ≡ connections.old.replied }
     ensures remembers { StillRemembers line.old.items line.new.items connections.old.table connections.new.table }

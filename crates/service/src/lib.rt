@@ -1,6 +1,7 @@
 //! Connections over client proxies: which command is asked by which proxy, and which reply goes where.
 //!
-//!     let mut service = Service::open(alloc, &Config::new(1, 64)?)?;  // three executors and verifiers, all up
+//!     let config = Config::new(1, 64)?;                               // three executors and verifiers, 64 proxies
+//!     let mut service = Service::open(alloc, &config, Dialect::Memcached)?;
 //!     service.come(alloc, key, number)?;                              // a connection
 //!     let at_once = service.hear(alloc, key, number, bytes)?;         // what it is given before its command is answered
 //!     let said = service.work(rt, clock, alloc, seconds);             // what connections are given: the replies
@@ -28,7 +29,7 @@ mod ticking;
 mod working;
 
 pub use assignment::Assignment;
-pub use connections::{MOST_PLACES, MOST_UNWRITTEN, Said};
+pub use connections::{Dialect, MOST_PLACES, MOST_UNWRITTEN, Said};
 pub use ensemble::{Config, Replica};
 pub use figures::Figures;
 pub use incidents::Incidents;

@@ -9,7 +9,7 @@ use crate::incidents::Incidents;
 use crate::nodes::Nodes;
 use crate::note::Waiting;
 use crate::pool::Pool;
-use connections::{Connections, Place, Said};
+use connections::{Connections, Dialect, Place, Said};
 use ensemble::{Config, Ensemble};
 use figures::Figures;
 use http_server::Log;
@@ -73,11 +73,11 @@ impl Service {
     ghost use Rattle.service.specs.Owed.{Remembers, AllWait, IsFreeIn};
 
     /// A service where no connection came, over `2u + 1` executors, as many verifiers, and as many proxies as
-    /// the config has clients.
+    /// the config has clients. What connections send is read in this grammar.
     ///
     /// NoMemory: an allocation failed. Any other error is that of a node that does not open.
-    pub fn open(alloc: Global, config: &Config) -> Result<Service, Fault>
-        ensures connections { IfOk result (λ s. s.connections ≡ no_connections) }
+    pub fn open(alloc: Global, config: &Config, dialect: Dialect) -> Result<Service, Fault>
+        ensures connections { IfOk result (λ s. s.connections ≡ no_connections dialect) }
         ensures asked { IfOk result (λ s. s.asked ≡ []) }
         ensures answered { IfOk result (λ s. s.answered ≡ []) }
         ensures order { IfOk result (λ s. s.order ≡ []) }
@@ -89,7 +89,7 @@ impl Service {
         let ensemble = Ensemble::open(alloc, config)?;
         Ok(Service {
             ensemble,
-            connections: Connections::new(alloc),
+            connections: Connections::new(alloc, dialect),
             line: VecDeque::new(alloc),
             pool,
             nodes,
@@ -108,7 +108,7 @@ impl Service {
     /// others, or is 2^64 - 1, or a connection is at the key; Full: the key is 65,536 or more; NoMemory: an allocation
     /// failed.
     pub fn come(&mut self, alloc: Global, key: usize, number: u64) -> Result<(), Fault>
-        ensures here { OnOk result (place_in self.new.connections.table key ≡ Some (new_connection number)) }
+        ensures here { OnOk result (place_in self.new.connections.table key ≡ Some (new_connection self.old.connections.dialect number)) }
         ensures same { OnErr result (IsGrown self.old.connections.table self.new.connections.table) }
         ensures same_others { HasSameOthers key self.old.connections.table self.new.connections.table }
         ensures unfit { result ≡ Err Fault.Unfit → (number < self.old.connections.next) ⊎ (is_some (place_in self.old.connections.table key) ≡ true) ⊎ (number + 1 ≡ 2 ^ 64) }

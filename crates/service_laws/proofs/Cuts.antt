@@ -13,7 +13,8 @@ use Rattle.memcached_spec.proofs.Longer.{asked_longer}
 use Rattle.states.specs.State.{initial_state}
 use Rattle.executor.specs.declared.answered.Answered.{Answered}
 use Rattle.executor.proofs.RoundLemmas.{get_map}
-use Rattle.client.proofs.TakenLemmas.{texts_imply}
+use Rattle.grammar.specs.Asks.{IsAskedIn}
+use Rattle.grammar.proofs.AskLemmas.{asked_stays, same_asked_in, shown_imply}
 use Rattle.events.specs.declared.event.Event.{Event}
 use Rattle.run_laws.specs.Run.{Executed}
 use Rattle.server_laws.specs.Laws.{WorldsAreOfOneServer}
@@ -65,7 +66,7 @@ module _ (v : ServiceView) (talks : IsConnections v.connections) (logs : IsHisto
 
   module _ (run : List Executed) (is_run : IsRun (IsMet over.world.through.worlds) over.world.events over.world.now run) where
     -- now
-    run_of_now : HasMoments v → IsRunOf v.connections.heard v.connections.given (moments_among v.connections.passed) v.assignments (IsMet over.world.through.worlds) over.world.events over.world.now run
+    run_of_now : HasMoments v → IsRunOf v.connections.dialect v.connections.heard v.connections.given (moments_among v.connections.passed) v.assignments (IsMet over.world.through.worlds) over.world.events over.world.now run
     run_of_now moments = record {
       is_run = is_run;
       moments = λ r c. handed_of v moments r.batch.moment (subst (λ (o : List ((ℕ × ℕ) × Noted)). Contains (moments_in o) r.batch.moment) over.same_order (cut_moments over.ensemble.order over.world.events over.world.cuts r.batch.moment (is_run.moments r c)));
@@ -77,19 +78,19 @@ module _ (v : ServiceView) (talks : IsConnections v.connections) (logs : IsHisto
           let is = is_assignment v talks ok over a.0 a.1 in
           let own : IsAsked (fed_to a.0.proxy over.world.events) a.0.number command = subst (λ (k : ℕ × ℕ). IsAsked (fed_to k.0 over.world.events) k.1 command) (λ i. (sym a.2 i, sym a.3 i)) was in
           let same = same_asked (fed_to a.0.proxy over.world.events) a.0.number is.command command is.of_proxy own in
-          (a.0, a.1, a.2, a.3, subst (IsAsked (bytes_of_connection a.0.connection v.connections.heard) a.0.turn) same is.of_connection);
+          (a.0, a.1, a.2, a.3, subst (IsAskedIn v.connections.dialect (bytes_of_connection a.0.connection v.connections.heard) a.0.turn) same is.of_connection);
       served = is_served v talks ok over run is_run;
     }
 
     -- at an earlier moment
-    module _ (early late : List Passed) (split : v.connections.passed ≡ early ++ late) (m : WasMoment v.order v.assignments v.answered early late) (y : IsPast over.world.events over.world.through.worlds m.order_then)
+    module _ (early late : List Passed) (split : v.connections.passed ≡ early ++ late) (m : WasMoment v.connections.dialect v.order v.assignments v.answered early late) (y : IsPast over.world.events over.world.through.worlds m.order_then)
         (first more : List Executed) (is_first : IsRun (IsMet over.world.through.worlds) y.before y.now first) (extends : run ≡ first ++ more) where
       -- its bytes are a beginning of those of now
-      longer : (c number : ℕ) (command : Command) → IsAsked (bytes_of_connection c (heard_among early)) number command → IsAsked (bytes_of_connection c v.connections.heard) number command
+      longer : (c number : ℕ) (command : Command) → IsAskedIn v.connections.dialect (bytes_of_connection c (heard_among early)) number command → IsAskedIn v.connections.dialect (bytes_of_connection c v.connections.heard) number command
       longer c number command is =
           let all : bytes_of_connection c (heard_among early) ++ bytes_of_connection c (heard_among late) ≡ bytes_of_connection c v.connections.heard =
           sym (flat_map-append (bytes_in c) (heard_among early) (heard_among late)) ∙ ap (bytes_of_connection c) (sym (heard_both early late) ∙ (ap heard_among (sym split) ∙ logs.heard)) in
-          subst (λ (bytes : List ℕ). IsAsked bytes number command) all (asked_longer (bytes_of_connection c (heard_among early)) (bytes_of_connection c (heard_among late)) number command is)
+          subst (λ (bytes : List ℕ). IsAskedIn v.connections.dialect bytes number command) all (asked_stays v.connections.dialect (bytes_of_connection c (heard_among early)) (bytes_of_connection c (heard_among late)) number command is)
 
       fed_longer : (proxy number : ℕ) (command : Command) → IsAsked (fed_to proxy y.before) number command → IsAsked (fed_to proxy over.world.events) number command
       fed_longer proxy number command is =
@@ -99,7 +100,7 @@ module _ (v : ServiceView) (talks : IsConnections v.connections) (logs : IsHisto
       in_all a i = subst (λ (xs : List Assignment). Contains xs a) (sym m.split_asked) (Contains-append_left m.asked_then m.asked_later a i)
 
       -- the command that a proxy's bytes asked by then
-      asked_by_then : (proxy number : ℕ) (command : Command) → IsAsked (fed_to proxy y.before) number command → (a : Assignment) × Contains v.assignments a × (a.proxy ≡ proxy) × (a.number ≡ number) × IsAsked (bytes_of_connection a.connection (heard_among early)) a.turn command
+      asked_by_then : (proxy number : ℕ) (command : Command) → IsAsked (fed_to proxy y.before) number command → (a : Assignment) × Contains v.assignments a × (a.proxy ≡ proxy) × (a.number ≡ number) × IsAskedIn v.connections.dialect (bytes_of_connection a.connection (heard_among early)) a.turn command
       asked_by_then proxy number command was =
           let key : Contains (map assigned_as m.asked_then) (proxy, number) = subst (λ (keys : List (ℕ × ℕ)). Contains keys (proxy, number)) m.ordered (asked_in m.order_then (proxy, number) (y.asked proxy number command was)) in
           let at = place_of (map assigned_as m.asked_then) (proxy, number) key in
@@ -111,8 +112,8 @@ module _ (v : ServiceView) (talks : IsConnections v.connections) (logs : IsHisto
           let own : IsAsked (fed_to a.0.proxy over.world.events) a.0.number command = subst (λ (k : ℕ × ℕ). IsAsked (fed_to k.0 over.world.events) k.1 command) (λ i. (sym its_proxy i, sym its_number i)) (fed_longer proxy number command was) in
           let of_proxy = same_asked (fed_to a.0.proxy over.world.events) a.0.number is.command command is.of_proxy own in
           let h = m.heard a.0 then in
-          let of_connection = same_asked (bytes_of_connection a.0.connection v.connections.heard) a.0.turn h.0 is.command (longer a.0.connection a.0.turn h.0 h.1) is.of_connection in
-          (a.0, in_all a.0 then, its_proxy, its_number, subst (IsAsked (bytes_of_connection a.0.connection (heard_among early)) a.0.turn) (of_connection ∙ of_proxy) h.1)
+          let of_connection = same_asked_in v.connections.dialect (bytes_of_connection a.0.connection v.connections.heard) a.0.turn h.0 is.command (longer a.0.connection a.0.turn h.0 h.1) is.of_connection in
+          (a.0, in_all a.0 then, its_proxy, its_number, subst (IsAskedIn v.connections.dialect (bytes_of_connection a.0.connection (heard_among early)) a.0.turn) (of_connection ∙ of_proxy) h.1)
 
       -- a reply that was given by then is of the run by then
       answered_then : (c turn : ℕ) (reply : replies.Reply) → WasAnsweredBy m.asked_then v.answered m.order_then c turn reply → WasAnsweredFor first v.assignments c turn reply
@@ -125,7 +126,7 @@ module _ (v : ServiceView) (talks : IsConnections v.connections) (logs : IsHisto
           let one = is_run.once early_one.place late_one.place early_one.answered late_one.answered (record { executed = early_one.given.executed; there = there; given = early_one.given.given }) late_one.given (early_one.client_is ∙ sym late_one.client_is) (early_one.number_is ∙ sym late_one.number_is) in
           (a, in_all a was.1, was.2, was.3, record { place = early_one.place; answered = early_one.answered; given = early_one.given; client_is = early_one.client_is; number_is = early_one.number_is; reply_is = ap (λ (x : Answered). x.reply) one.1 ∙ late_one.reply_is })
 
-      run_of_then : IsRunOf (heard_among early) (given_among early) (moments_among early) v.assignments (IsMet over.world.through.worlds) y.before y.now first
+      run_of_then : IsRunOf v.connections.dialect (heard_among early) (given_among early) (moments_among early) v.assignments (IsMet over.world.through.worlds) y.before y.now first
       run_of_then = record {
         is_run = is_first;
         moments = λ r c. m.moments r.batch.moment (y.moments r.batch.moment (is_first.moments r c));
@@ -133,7 +134,7 @@ module _ (v : ServiceView) (talks : IsConnections v.connections) (logs : IsHisto
         for_one = for_one v talks ok over;
         from_one = from_one;
         asks = asked_by_then;
-        served = λ c. let g = m.given c in record { taken = g.taken; texts = texts_imply (WasAnsweredBy m.asked_then v.answered m.order_then c) (WasAnsweredFor first v.assignments c) (answered_then c) 1 g.taken (bytes_of_connection c (given_among early)) g.texts; first = g.first };
+        served = λ c. let g = m.given c in record { taken = g.taken; texts = shown_imply (WasAnsweredBy m.asked_then v.answered m.order_then c) (WasAnsweredFor first v.assignments c) (answered_then c) 1 g.taken (bytes_of_connection c (given_among early)) g.texts; first = g.first };
       }
 
     module _ (moments : HasMoments v) (in_turn : RanInTurn run v.assignments) (there : RunThere (IsMet over.world.through.worlds) [] over.world.events over.world.through.worlds run) where
@@ -143,7 +144,7 @@ module _ (v : ServiceView) (talks : IsConnections v.connections) (logs : IsHisto
       abbrev all_lines : List Line
       all_lines = lines_of (owner v.assignments) (turn_of_request v.assignments) initial_state run made.0 made.1
 
-      cut : (early late : List Passed) → v.connections.passed ≡ early ++ late → (before after : List Line) × (all_lines ≡ before ++ after) × IsConnectionOrder (heard_among early) (given_among early) (moments_among early) before
+      cut : (early late : List Passed) → v.connections.passed ≡ early ++ late → (before after : List Line) × (all_lines ≡ before ++ after) × IsConnectionOrder v.connections.dialect (heard_among early) (given_among early) (moments_among early) before
       cut early late split =
           let m = moments early late split in
           let y = over.world.past m.order_then m.later_order (over.same_order ∙ m.split_order) in
@@ -155,13 +156,13 @@ module _ (v : ServiceView) (talks : IsConnections v.connections) (logs : IsHisto
             lines_of (owner v.assignments) (turn_of_request v.assignments) initial_state r.0 lines.0 lines.1,
             lines.2,
             lines.3,
-            order_of (heard_among early) (given_among early) (moments_among early) v.assignments (IsMet over.world.through.worlds) y.before y.now r.0 (run_of_then early late split m y r.0 r.2.0 is r.2.1) turns lines.0 lines.1,
+            order_of v.connections.dialect (heard_among early) (given_among early) (moments_among early) v.assignments (IsMet over.world.through.worlds) y.before y.now r.0 (run_of_then early late split m y r.0 r.2.0 is r.2.1) turns lines.0 lines.1,
           )
 
-      has_order : (cut : (r : Executed) → Contains run r → WasCut over.world.events r.batch) → (lines : List Line) × IsConnectionOrder v.connections.heard v.connections.given (moments_among v.connections.passed) lines × AreCuts v.connections.passed lines × IsInTime v lines
+      has_order : (cut : (r : Executed) → Contains run r → WasCut over.world.events r.batch) → (lines : List Line) × IsConnectionOrder v.connections.dialect v.connections.heard v.connections.given (moments_among v.connections.passed) lines × AreCuts v.connections.dialect v.connections.passed lines × IsInTime v lines
       has_order in_time = (
         all_lines,
-        order_of v.connections.heard v.connections.given (moments_among v.connections.passed) v.assignments (IsMet over.world.through.worlds) over.world.events over.world.now run (run_of_now moments) in_turn made.0 made.1,
+        order_of v.connections.dialect v.connections.heard v.connections.given (moments_among v.connections.passed) v.assignments (IsMet over.world.through.worlds) over.world.events over.world.now run (run_of_now moments) in_turn made.0 made.1,
         cut,
         are_in_time v talks ok over moments run (run_of_now moments) in_turn in_time made.0 made.1,
       )

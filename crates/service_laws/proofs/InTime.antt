@@ -10,7 +10,7 @@ use Rattle.batches.specs.declared.batch.Batch.{Batch}
 use Rattle.states.specs.State.{StateView, initial_state}
 use Rattle.states.specs.Followed.{moment_of}
 use Rattle.executor.proofs.RoundLemmas.{get_map}
-use Rattle.memcached_spec.specs.Asked.{IsAsked}
+use Rattle.grammar.specs.Asks.{IsAskedIn}
 use Rattle.memcached_spec.specs.Server.{Line, Made, Tick, Do, made_for}
 use Rattle.run_laws.specs.Run.{Executed, IsOver, IsRunFrom}
 use Rattle.run_laws.proofs.Elements.{in_head, in_tail, in_none, first_or_other}
@@ -87,7 +87,7 @@ module _ (v : ServiceView) (talks : IsConnections v.connections) (ok : IsService
   -- ---- one batch
 
   -- a batch that was cut when the command had been asked
-  timely_of : (a : Assignment) → Contains v.assignments a → (b : Batch) → WasCut over.world.events b → (q : Request) → Contains b.requests q → q.client ≡ a.proxy → q.number ≡ a.number → IsTimely v.connections.passed a.connection a.turn b.moment
+  timely_of : (a : Assignment) → Contains v.assignments a → (b : Batch) → WasCut over.world.events b → (q : Request) → Contains b.requests q → q.client ≡ a.proxy → q.number ≡ a.number → IsTimely v.connections.dialect v.connections.passed a.connection a.turn b.moment
   timely_of a in_a b cut q in_q client number early late split not_asked =
       let m = moments early late split in
       let c = over.world.cuts cut.before cut.after cut.executor b.moment cut.split in
@@ -111,7 +111,7 @@ module _ (v : ServiceView) (talks : IsConnections v.connections) (ok : IsService
       let same_place = for_one v talks ok over at_d.0 at_a.0 d.0 a at_d.1 at_a.1 (sym (ap (λ (k : ℕ × ℕ). k.0) d.2)) (sym (ap (λ (k : ℕ × ℕ). k.1) d.2)) in
       let same : d.0 ≡ a = some_same (sym at_d.1 ∙ (ap (slice_get v.assignments) same_place ∙ at_a.1)) in
       let h = m.heard d.0 asked_so in
-      absurd (not_asked h.0 (subst (λ (x : Assignment). IsAsked (bytes_of_connection x.connection (heard_among early)) x.turn h.0) same h.1)))
+      absurd (not_asked h.0 (subst (λ (x : Assignment). IsAskedIn v.connections.dialect (bytes_of_connection x.connection (heard_among early)) x.turn h.0) same h.1)))
       (λ (new : (mid : Order) × (place.0 ≡ m.order_then ++ mid) × (m.later_order ≡ mid ++ ask ∷ behind)).
       let later : Contains (moments_in m.later_order) b.moment = subst (λ (ms : List ℕ). Contains ms b.moment) (sym (ap moments_in new.2 ∙ moments_both new.0 (ask ∷ behind))) (Contains-append_right (moments_in new.0) (moments_in behind) b.moment (moment_longer place.1 c.late b.moment then_noted)) in
       m.later b.moment later)
@@ -125,7 +125,7 @@ module _ (v : ServiceView) (talks : IsConnections v.connections) (ok : IsService
 
   -- ---- all of them
 
-  module _ (run : List Executed) (serves : IsRunOf v.connections.heard v.connections.given (moments_among v.connections.passed) v.assignments (IsMet over.world.through.worlds) over.world.events over.world.now run) (in_turn : RanInTurn run v.assignments)
+  module _ (run : List Executed) (serves : IsRunOf v.connections.dialect v.connections.heard v.connections.given (moments_among v.connections.passed) v.assignments (IsMet over.world.through.worlds) over.world.events over.world.now run) (in_turn : RanInTurn run v.assignments)
       (cut : (r : Executed) → Contains run r → WasCut over.world.events r.batch) where
     abbrev its_owner : ℕ → ℕ → ℕ
     its_owner = owner v.assignments
@@ -136,19 +136,19 @@ module _ (v : ServiceView) (talks : IsConnections v.connections) (ok : IsService
     step_in_time : (s : StateView) (e : Executed) (first : List Line) → IsOver s e → RoundMade s e first → (place : ℕ) → slice_get run place ≡ Some e → (d : Made) → Contains first (Do d) → IsStepInTime v e.batch.moment (renamed s (Do d))
     step_in_time s e first is_over round place at d i =
         let one = line_ran s e is_over first round d i in
-        let w = carried v.connections.heard v.connections.given (moments_among v.connections.passed) v.assignments (IsMet over.world.through.worlds) over.world.events over.world.now run serves in_turn s e first place d.client one at in
+        let w = carried v.connections.dialect v.connections.heard v.connections.given (moments_among v.connections.passed) v.assignments (IsMet over.world.through.worlds) over.world.events over.world.now run serves in_turn s e first place d.client one at in
         let q = one.runner.1 in
         let conn : w.a.connection ≡ owner_in its_owner s d.client =
-        sym (owner_is v.connections.heard v.connections.given (moments_among v.connections.passed) v.assignments (IsMet over.world.through.worlds) over.world.events over.world.now run serves in_turn w.a w.there) ∙ (λ j. its_owner (w.proxy j) (w.number j)) in
+        sym (owner_is v.connections.dialect v.connections.heard v.connections.given (moments_among v.connections.passed) v.assignments (IsMet over.world.through.worlds) over.world.events over.world.now run serves in_turn w.a w.there) ∙ (λ j. its_owner (w.proxy j) (w.number j)) in
         let its_number : q.number ≡ next_number s.sessions d.client = runs_next s.sessions [] e.batch.requests one.runner one.runs ∙ ap (next_number s.sessions) one.client in
         record {
           made = record d { client = owner_in its_owner s d.client };
           is = refl;
           turn = w.a.turn;
           command = q.command;
-          asked = subst (λ (c : ℕ). IsAsked (bytes_of_connection c v.connections.heard) w.a.turn q.command) conn w.asks;
+          asked = subst (λ (c : ℕ). IsAskedIn v.connections.dialect (bytes_of_connection c v.connections.heard) w.a.turn q.command) conn w.asks;
           step = subst (λ (ss : List Step). Contains ss d.step) one.made (did_step first d i);
-          timely = subst (λ (c : ℕ). IsTimely v.connections.passed c w.a.turn e.batch.moment) conn
+          timely = subst (λ (c : ℕ). IsTimely v.connections.dialect v.connections.passed c w.a.turn e.batch.moment) conn
               (timely_of w.a w.there e.batch (cut e (contains_at run place e at)) q (runner_in s e.batch one.runner one.runs) (one.client ∙ sym w.proxy) (its_number ∙ sym w.number));
         }
 

@@ -7,7 +7,7 @@ use Rattle.proto.specs.declared.command.Command.{Command}
 use Rattle.proto.specs.declared.reply.Reply as replies
 use Rattle.memcached_spec.specs.Asked.{IsAsked}
 use Rattle.memcached_spec.specs.Fed.{fed_to}
-use Rattle.client.proofs.TakenLemmas.{texts_imply}
+use Rattle.grammar.proofs.AskLemmas.{shown_imply}
 use Rattle.sessions.specs.declared.request.Request.{Request}
 use Rattle.executor.specs.declared.answered.Answered.{Answered}
 use Rattle.executor.proofs.RoundLemmas.{get_map}
@@ -68,10 +68,10 @@ module _ (v : ServiceView) (talks : IsConnections v.connections) (ok : IsService
         let sent = over.world.answers ((r.0.proxy, r.0.number), reply) (subst (λ (xs : List ((ℕ × ℕ) × replies.Reply)). Contains xs ((r.0.proxy, r.0.number), reply)) (sym over.same_answered) r.3) in
         (r.0, r.1, ap (λ (n : CommandNumber). n.connection) r.2, ap (λ (n : CommandNumber). n.turn) r.2, is.replied r.0.proxy r.0.number reply sent)
 
-    pub is_served : (connection : ℕ) → IsConnectionServed run v.assignments connection (bytes_of_connection connection v.connections.heard) (bytes_of_connection connection v.connections.given)
+    pub is_served : (connection : ℕ) → IsConnectionServed v.connections.dialect run v.assignments connection (bytes_of_connection connection v.connections.heard) (bytes_of_connection connection v.connections.given)
     is_served connection =
         let a = talks.answered connection in
-        record { taken = a.taken; texts = texts_imply (WasReplied v.connections.replied connection) (WasAnsweredFor run v.assignments connection) (was_answered connection) 1 a.taken (bytes_of_connection connection v.connections.given) a.texts; first = a.first }
+        record { taken = a.taken; texts = shown_imply (WasReplied v.connections.replied connection) (WasAnsweredFor run v.assignments connection) (was_answered connection) 1 a.taken (bytes_of_connection connection v.connections.given) a.texts; first = a.first }
 
     pub one_reply : (connection turn : ℕ) (r s : replies.Reply) → WasAnsweredFor run v.assignments connection turn r → WasAnsweredFor run v.assignments connection turn s → r ≡ s
     one_reply connection turn r s x y =

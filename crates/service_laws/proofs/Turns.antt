@@ -6,18 +6,22 @@ use Rattle.std.proofs.lemmas.Bool.{eqb-true, eq-eqb}
 use Rattle.std.proofs.lemmas.List.{length-append}
 use Rattle.proto.specs.declared.command.Command.{Command}
 use Rattle.proto.specs.declared.reply.Reply as replies
-use Rattle.proto.specs.declared.turn.Turn.{Turn}
-use Rattle.proto.specs.Grammar.{Spells}
-use Rattle.proto.proofs.SpellsLemmas.{spells_one, spells_some}
+use Rattle.proto.specs.declared.turn.Turn.{Turn as ProfileTurn}
+use Rattle.proto.proofs.SpellsLemmas.{spells_one}
+use Rattle.grammar.specs.declared.reader.Dialect.{Dialect}
+use Rattle.grammar.specs.declared.turn.Turn.{Turn}
+use Rattle.grammar.specs.Asks.{SpellsIn, commands_in, IsAskedIn}
+use Rattle.grammar.specs.Orders.{IsExecutedFrom}
+use Rattle.grammar.proofs.ReadLemmas.{some_spelled, one_spelled}
+use Rattle.grammar.proofs.AskLemmas.{shown_imply}
 use Rattle.item_steps.specs.Steps.{steps, reply}
 use Rattle.sessions.specs.Fresh.{next_number}
 use Rattle.states.specs.State.{StateView, initial_state}
 use Rattle.executor.specs.declared.answered.Answered.{Answered}
-use Rattle.client.proofs.TakenLemmas.{texts_imply}
 use Rattle.memcached_spec.specs.Asked.{asked, IsAsked}
 use Rattle.memcached_spec.specs.Fed.{fed_to}
 use Rattle.memcached_spec.specs.Server.{Line}
-use Rattle.memcached_spec.specs.Order.{replies_from, IsExecutedFor}
+use Rattle.memcached_spec.specs.Order.{replies_from}
 use Rattle.events.specs.declared.event.Event.{Event}
 use Rattle.worlds.specs.World.{WorldView}
 use Rattle.run_laws.specs.Run.{Executed, IsOver, IsRunFrom}
@@ -98,15 +102,15 @@ at_seam [] x ys = refl
 at_seam (z ∷ xs) x ys = at_seam xs x ys
 
 -- A run answers what connections asked and were given, whose commands proxies asked.
-pub record IsRunOf (heard given : List (ℕ × List ℕ)) (moments_of : List ℕ) (xs : List Assignment) (met : StateView → Type 0) (events : List Event) (w : WorldView) (run : List Executed) : Type 0 where
+pub record IsRunOf (d : Dialect) (heard given : List (ℕ × List ℕ)) (moments_of : List ℕ) (xs : List Assignment) (met : StateView → Type 0) (events : List Event) (w : WorldView) (run : List Executed) : Type 0 where
   pub is_run : IsRun met events w run
   pub moments : (r : Executed) → Contains run r → Contains moments_of r.batch.moment
   pub once : (i j : ℕ) (a b : Assignment) → slice_get xs i ≡ Some a → slice_get xs j ≡ Some b → a.connection ≡ b.connection → a.turn ≡ b.turn → i ≡ j
   pub for_one : (i j : ℕ) (a b : Assignment) → slice_get xs i ≡ Some a → slice_get xs j ≡ Some b → a.proxy ≡ b.proxy → a.number ≡ b.number → i ≡ j
   pub from_one : (a : Assignment) → Contains xs a → 1 ≤ a.turn
   -- what a proxy asked is a command that the bytes of a connection ask
-  pub asks : (proxy number : ℕ) (command : Command) → IsAsked (fed_to proxy events) number command → (a : Assignment) × Contains xs a × (a.proxy ≡ proxy) × (a.number ≡ number) × IsAsked (bytes_of_connection a.connection heard) a.turn command
-  pub served : (c : ℕ) → IsConnectionServed run xs c (bytes_of_connection c heard) (bytes_of_connection c given)
+  pub asks : (proxy number : ℕ) (command : Command) → IsAsked (fed_to proxy events) number command → (a : Assignment) × Contains xs a × (a.proxy ≡ proxy) × (a.number ≡ number) × IsAskedIn d (bytes_of_connection a.connection heard) a.turn command
+  pub served : (c : ℕ) → IsConnectionServed d run xs c (bytes_of_connection c heard) (bytes_of_connection c given)
 
 module _ (xs : List Assignment) where
   unfoldable pub owner : ℕ → ℕ → ℕ
@@ -118,9 +122,9 @@ module _ (xs : List Assignment) where
 pub same_asked : (bytes : List ℕ) (n : ℕ) (c d : Command) → IsAsked bytes n c → IsAsked bytes n d → c ≡ d
 same_asked bytes n c d x y =
     let same = spells_one bytes x.turns y.turns x.rest y.rest x.spells y.spells in
-    cc (sym x.is ∙ (ap (λ (ts : List Turn). slice_get (asked ts) (n - 1)) same.0 ∙ y.is))
+    cc (sym x.is ∙ (ap (λ (ts : List ProfileTurn). slice_get (asked ts) (n - 1)) same.0 ∙ y.is))
 
-module _ (heard given : List (ℕ × List ℕ)) (moments_of : List ℕ) (xs : List Assignment) (met : StateView → Type 0) (events : List Event) (w : WorldView) (run : List Executed) (serves : IsRunOf heard given moments_of xs met events w run) (in_turn : RanInTurn run xs) where
+module _ (d : Dialect) (heard given : List (ℕ × List ℕ)) (moments_of : List ℕ) (xs : List Assignment) (met : StateView → Type 0) (events : List Event) (w : WorldView) (run : List Executed) (serves : IsRunOf d heard given moments_of xs met events w run) (in_turn : RanInTurn run xs) where
   is_run : IsRun met events w run
   is_run = serves.is_run
 
@@ -165,7 +169,7 @@ module _ (heard given : List (ℕ × List ℕ)) (moments_of : List ℕ) (xs : Li
     pub proxy : a.proxy ≡ p
     pub number : a.number ≡ next_number s.sessions p
     pub ran : RanAt run place a
-    pub asks : IsAsked (bytes_of_connection a.connection heard) a.turn one.runner.1.command
+    pub asks : IsAskedIn d (bytes_of_connection a.connection heard) a.turn one.runner.1.command
 
   pub carried : (s : StateView) (e : Executed) (first : List Line) (place p : ℕ) (one : RanOne s e first p) → slice_get run place ≡ Some e → Carried s e first place p one
   carried s e first place p one at =
@@ -188,7 +192,7 @@ module _ (heard given : List (ℕ × List ℕ)) (moments_of : List ℕ) (xs : Li
 
   -- ---- the connection's commands, one after the other
 
-  module _ (c : ℕ) (turns : List Turn) (rest : List ℕ) (spells : Spells (bytes_of_connection c heard) turns rest) where
+  module _ (c : ℕ) (turns : List Turn) (spells : SpellsIn d (bytes_of_connection c heard) turns) where
     -- what ran in the first rounds are commands up to b
     abbrev Low : ℕ → ℕ → Type 0
     Low rounds b = (a : Assignment) (place : ℕ) → Contains xs a → a.connection ≡ c → place < rounds → RanAt run place a → a.turn ≤ b
@@ -221,16 +225,16 @@ module _ (heard given : List (ℕ × List ℕ)) (moments_of : List ℕ) (xs : Li
           let connection : w.a.connection ≡ c = sym (owner_is w.a w.there) ∙ ((λ i. its_owner (w.proxy i) (w.number i)) ∙ own) in
           (w, connection, next_is k b w.a low high w.there connection w.ran)
 
-      its_command : (p : ℕ) (one : RanOne s e first p) → owner_in its_owner s p ≡ c → slice_get (asked turns) b ≡ Some one.runner.1.command
+      its_command : (p : ℕ) (one : RanOne s e first p) → owner_in its_owner s p ≡ c → slice_get (commands_in turns) b ≡ Some one.runner.1.command
       its_command p one own =
           let w = its_next p one own in
-          let own_asks : IsAsked (bytes_of_connection c heard) w.0.a.turn one.runner.1.command = subst (λ (n : ℕ). IsAsked (bytes_of_connection n heard) w.0.a.turn one.runner.1.command) w.1 w.0.asks in
-          let same = spells_one (bytes_of_connection c heard) own_asks.turns turns own_asks.rest rest own_asks.spells spells in
+          let own_asks : IsAskedIn d (bytes_of_connection c heard) w.0.a.turn one.runner.1.command = subst (λ (n : ℕ). IsAskedIn d (bytes_of_connection n heard) w.0.a.turn one.runner.1.command) w.1 w.0.asks in
+          let same = one_spelled d (bytes_of_connection c heard) own_asks.turns turns own_asks.spells spells in
           let is = w.2 in
           let place : b ≡ w.0.a.turn - 1 = omega (arith, is) in
-          ap (slice_get (asked turns)) place ∙ subst (λ (ts : List Turn). slice_get (asked ts) (w.0.a.turn - 1) ≡ Some one.runner.1.command) same.0 own_asks.is
+          ap (slice_get (commands_in turns)) place ∙ subst (λ (ts : List Turn). slice_get (commands_in ts) (w.0.a.turn - 1) ≡ Some one.runner.1.command) same own_asks.is
 
-      one_in_turn : (x : Answered) → Contains e.replies x → its_owner x.client x.number ≡ c → OneInTurn its_owner its_turn_of c (asked turns) s e first b
+      one_in_turn : (x : Answered) → Contains e.replies x → its_owner x.client x.number ≡ c → OneInTurn its_owner its_turn_of c (commands_in turns) s e first b
       one_in_turn x there own =
           let r = answer_ran s e over first round x there in
           let own_in : owner_in its_owner s x.client ≡ c = ap (its_owner x.client) (sym r.1) ∙ own in
@@ -283,7 +287,7 @@ module _ (heard given : List (ℕ × List ℕ)) (moments_of : List ℕ) (xs : Li
             | inr is ↦ (w.0.a, w.0.there, w.1, w.2 ∙ sym is, k, omega arith, w.0.ran)
           ]
 
-    are_in_turn : (before later : List Executed) (s : StateView) (lines : List Line) (made : IsMadeOf s later lines) → IsRunFrom s later → run ≡ before ++ later → (k : ℕ) → k ≡ length before → (b : ℕ) → Low k b → High k b → AreInTurn its_owner its_turn_of c (asked turns) s later lines made b
+    are_in_turn : (before later : List Executed) (s : StateView) (lines : List Line) (made : IsMadeOf s later lines) → IsRunFrom s later → run ≡ before ++ later → (k : ℕ) → k ≡ length before → (b : ℕ) → Low k b → High k b → AreInTurn its_owner its_turn_of c (commands_in turns) s later lines made b
     are_in_turn before [] s lines made h is k len b low high = tt
     are_in_turn before (e ∷ later) s lines made h is k len b low high =
         let at : slice_get run k ≡ Some e = (λ i. slice_get (is i) (len i)) ∙ at_seam before e later in
@@ -311,17 +315,17 @@ module _ (heard given : List (ℕ × List ℕ)) (moments_of : List ℕ) (xs : Li
       abbrev all : List Line
       all = lines_of its_owner its_turn_of initial_state run lines made
 
-      for_connection : ConnectionMade its_owner its_turn_of (asked turns) run all c 0
-      for_connection = connection_made its_owner its_turn_of c (asked turns) initial_state run lines made 0 is_run.follows
+      for_connection : ConnectionMade its_owner its_turn_of (commands_in turns) run all c 0
+      for_connection = connection_made its_owner its_turn_of c (commands_in turns) initial_state run lines made 0 is_run.follows
           (are_in_turn [] run initial_state lines made is_run.follows refl 0 refl 0 (λ a place there own lt ran. absurd (omega (arith, lt))) (λ t from_one le. absurd (omega (arith, from_one, le))))
 
-      ran_first : for_connection.ran ≡ take (length for_connection.ran) (asked turns)
-      ran_first = beginning for_connection.ran (asked turns) (λ i x at. let same : 0 + i ≡ i = omega arith in sym (ap (slice_get (asked turns)) same) ∙ for_connection.theirs i x at)
+      ran_first : for_connection.ran ≡ take (length for_connection.ran) (commands_in turns)
+      ran_first = beginning for_connection.ran (commands_in turns) (λ i x at. let same : 0 + i ≡ i = omega arith in sym (ap (slice_get (commands_in turns)) same) ∙ for_connection.theirs i x at)
 
-      pub executed_for : IsExecutedFor all c (bytes_of_connection c heard)
-      executed_for = record { turns = turns; rest = rest; spells = spells; count = length for_connection.ran; made = for_connection.made ∙ ap (flat_map steps) ran_first }
+      pub executed_for : IsExecutedFrom d all c (bytes_of_connection c heard)
+      executed_for = record { turns = turns; spells = spells; count = length for_connection.ran; made = for_connection.made ∙ ap (flat_map steps) ran_first }
 
-      reply_there : (number : ℕ) (r : replies.Reply) → WasAnsweredFor run xs c number r → slice_get (replies_from (take (length for_connection.ran) (asked turns)) (answers_made c all)) (number - 1) ≡ Some r
+      reply_there : (number : ℕ) (r : replies.Reply) → WasAnsweredFor run xs c number r → slice_get (replies_from (take (length for_connection.ran) (commands_in turns)) (answers_made c all)) (number - 1) ≡ Some r
       reply_there number r (a, there, connection, turn, was) =
           let own : its_owner was.answered.client was.answered.number ≡ c = (λ i. its_owner (was.client_is i) (was.number_is i)) ∙ (owner_is a there ∙ connection) in
           let g = for_connection.replied was.given.executed was.answered (contains_at run was.place was.given.executed was.given.there) was.given.given own in
@@ -331,23 +335,23 @@ module _ (heard given : List (ℕ × List ℕ)) (moments_of : List ℕ) (xs : Li
           (subst (λ (k : ℕ). slice_get (replies_from for_connection.ran (answers_made c all)) k ≡ Some r) place (g.2 ∙ ap Some was.reply_is))
 
   -- these lines are an order of all connections
-  pub order_of : (lines : List Line) (made : IsMadeOf initial_state run lines) → IsConnectionOrder heard given moments_of (lines_of its_owner its_turn_of initial_state run lines made)
+  pub order_of : (lines : List Line) (made : IsMadeOf initial_state run lines) → IsConnectionOrder d heard given moments_of (lines_of its_owner its_turn_of initial_state run lines made)
   unfolding executed_for
   order_of lines made = record {
     done = is_done its_owner its_turn_of run lines made is_run.follows;
     ticks = ticks_of its_owner its_turn_of (Contains moments_of) initial_state run lines made is_run.follows serves.moments (inl refl);
     asked_only = λ c.
         let bytes = bytes_of_connection c heard in
-        let sp = spells_some (suc (length bytes)) bytes (omega arith) in
-        executed_for c sp.0 sp.1 sp.2 lines made;
+        let sp = some_spelled d bytes in
+        executed_for c sp.0 sp.1 lines made;
     answered = λ c.
         let is = serves.served c in
         let f = is.first in
         record {
-          executed = executed_for c f.turns f.rest f.spells lines made;
+          executed = executed_for c f.turns f.spells lines made;
           taken = is.taken;
           more = f.more;
           first = f.is;
-          texts = texts_imply (WasAnsweredFor run xs c) _ (reply_there c f.turns f.rest f.spells lines made) 1 is.taken (bytes_of_connection c given) is.texts;
+          texts = shown_imply (WasAnsweredFor run xs c) _ (reply_there c f.turns f.spells lines made) 1 is.taken (bytes_of_connection c given) is.texts;
         };
   }

@@ -11,7 +11,8 @@ use Rattle.executor.specs.declared.answered.Answered.{Answered}
 use Rattle.run_laws.specs.Run.{Executed}
 use Rattle.run_laws.specs.Replied.{GivenIn}
 use Rattle.memcached_spec.specs.Server.{Line, Tick, IsDone}
-use Rattle.memcached_spec.specs.Order.{IsExecutedFor, IsAnsweredBy}
+use Rattle.grammar.specs.declared.reader.Dialect.{Dialect}
+use Rattle.grammar.specs.Orders.{IsExecutedFrom, IsAnsweredFrom}
 use Rattle.connections.specs.Connections.{bytes_of_connection}
 use Rattle.connections.specs.History.{Passed, heard_among, given_among, moments_among}
 use Rattle.server_laws.specs.Saved.{DigestsAreDistinct}
@@ -29,12 +30,12 @@ abbrev pub RanInTurn : List Executed → List Assignment → Type 0
 RanInTurn run assignments = (b : Assignment) (place t : ℕ) → Contains assignments b → RanAt run place b → 1 ≤ t → t < b.turn
     → (a : Assignment) × Contains assignments a × (a.connection ≡ b.connection) × (a.turn ≡ t) × (earlier : ℕ) × (earlier < place) × RanAt run earlier a
 
--- What one server does in this order: each connection's first commands, in their order, each once and whole, and what it was given are the replies to them. It becomes as late as these moments, and at no other.
-pub record IsConnectionOrder (heard given : List (ℕ × List ℕ)) (moments : List ℕ) (lines : List Line) : Type 0 where
+-- What one server does in this order: each connection's first commands, in their order, each once and whole, and what it was given are the replies to them, as the grammar of its bytes has both. It becomes as late as these moments, and at no other.
+pub record IsConnectionOrder (d : Dialect) (heard given : List (ℕ × List ℕ)) (moments : List ℕ) (lines : List Line) : Type 0 where
   pub done : IsDone lines
   pub ticks : (moment : ℕ) → Contains lines (Tick moment) → Contains moments moment
-  pub asked_only : (c : ℕ) → IsExecutedFor lines c (bytes_of_connection c heard)
-  pub answered : (c : ℕ) → IsAnsweredBy lines c (bytes_of_connection c heard) (bytes_of_connection c given)
+  pub asked_only : (c : ℕ) → IsExecutedFrom d lines c (bytes_of_connection c heard)
+  pub answered : (c : ℕ) → IsAnsweredFrom d lines c (bytes_of_connection c heard) (bytes_of_connection c given)
 
 -- At a moment of the play the first command had its reply, and the second one was not asked yet.
 pub record WasAnsweredBefore (events : List Event) (worlds : List WorldView) (a b : Assignment) : Type 0 where
@@ -53,11 +54,11 @@ AreAskedInTurn events worlds assignments = (b : Assignment) (t : ℕ) → Contai
     → (a : Assignment) × Contains assignments a × (a.connection ≡ b.connection) × (a.turn ≡ t) × WasAnsweredBefore events worlds a b
 
 -- Each moment is a cut of this order: what stands before the cut had been heard by then, and answers all that had been given by then. What is asked or given later stands behind it.
-abbrev pub AreCuts : List Passed → List Line → Type 0
-AreCuts passed lines = (early late : List Passed) → passed ≡ early ++ late → (before after : List Line) × (lines ≡ before ++ after) × IsConnectionOrder (heard_among early) (given_among early) (moments_among early) before
+abbrev pub AreCuts : Dialect → List Passed → List Line → Type 0
+AreCuts d passed lines = (early late : List Passed) → passed ≡ early ++ late → (before after : List Line) × (lines ≡ before ++ after) × IsConnectionOrder d (heard_among early) (given_among early) (moments_among early) before
 
 -- The history of all connections, here or gone, is linearizable: what they asked and were given is what one server does in one order of item steps, which keeps the order of each connection and real time, and in which each command is executed at a moment that is in time for it. It is, if some world explains it in which digests tell apart the states that executors had.
 pub record IsLinearizableService (v : ServiceView) : Type 0 where
   pub serving : IsServing v
   pub in_turn : (over : HasEnsemble v) → AreAskedInTurn over.world.events over.world.through.worlds v.assignments
-  pub one_order : (over : HasEnsemble v) → DigestsAreDistinct over.world.through.worlds → (lines : List Line) × IsConnectionOrder v.connections.heard v.connections.given (moments_among v.connections.passed) lines × AreCuts v.connections.passed lines × IsInTime v lines
+  pub one_order : (over : HasEnsemble v) → DigestsAreDistinct over.world.through.worlds → (lines : List Line) × IsConnectionOrder v.connections.dialect v.connections.heard v.connections.given (moments_among v.connections.passed) lines × AreCuts v.connections.dialect v.connections.passed lines × IsInTime v lines

@@ -8,7 +8,8 @@ use service::Service;
 /// The history of all connections, here or gone, is linearizable, if digests tell the states of the executors apart.
 /// All that they asked and were given so far is what one server does in one order of item steps. The commands of each
 /// connection are in their order. A command whose bytes were heard after a reply was given comes later than what was
-/// replied to. It holds of each service at any moment, whatever happened. The call does nothing.
+/// replied to. What they ask, and the texts of their replies, are those of the grammar that the service was opened with.
+/// It holds of each service at any moment, whatever happened. The call does nothing.
 pub fn service_is_linearizable(service: &Service)
     ensures { IsLinearizableService service.now }
 {

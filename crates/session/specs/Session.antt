@@ -2,10 +2,13 @@
 use Rattle.std.specs.Prelude.{◌≡◌, ℕ, ◌+◌, ◌==◌, Bool, true, false, List, [], ◌++◌, ◌∷◌, Option, Some, None, if◌then◌else◌}
 use Rattle.proto.specs.declared.command.Command.{Command}
 use Rattle.proto.specs.declared.reply.Reply as replies
-use Rattle.proto.specs.declared.turn.Turn.{Turn}
-use Rattle.proto.specs.declared.turn.Turn.TheVariants.{Ask, Say, Close}
-use Rattle.proto.specs.Reader.{Reading, ReadsTurns}
-use Rattle.proto.specs.Text.{notice_text, given_text}
+use Rattle.dialect.specs.Text.{shown_text}
+use Rattle.grammar.specs.declared.reader.Dialect.{Dialect}
+use Rattle.grammar.specs.declared.reader.Reader.{Reader}
+use Rattle.grammar.specs.declared.turn.Turn.{Turn}
+use Rattle.grammar.specs.declared.turn.Turn.TheVariants.{Ask, Say, Close}
+use Rattle.grammar.specs.Turns.{said_text, is_left_out}
+use Rattle.grammar.specs.Reads.{new_reader, ReaderReads}
 use Rattle.session.specs.declared.session.Awaited.{Awaited}
 use Rattle.session.specs.declared.session.Ready.{Ready}
 use Rattle.session.specs.declared.session.Session.{Session}
@@ -16,8 +19,8 @@ pub record SessionStep : Type 0 where
   pub bytes : List ℕ
 
 -- nothing came yet
-abbrev pub new_session : Session
-new_session = record { reader = record { kept = []; closed = false; held = 0 }; waiting = []; last = 0; outstanding = None; command = None; closed = false }
+abbrev pub new_session : Dialect → Session
+new_session d = record { reader = new_reader d; waiting = []; last = 0; outstanding = None; command = None; closed = false }
 
 -- these bytes are given, and nothing else
 abbrev pub session_gives : Session → List ℕ → SessionStep
@@ -31,10 +34,10 @@ session_stays s = session_gives s []
 -- nothing waits any more; a command becomes the outstanding one, and the turns behind it wait on.
 abbrev pub session_goes : Session → List ℕ → List Turn → SessionStep
 session_goes s bytes [] = session_gives (record s { waiting = [] }) bytes
-session_goes s bytes (Say notice ∷ turns) = session_goes s (bytes ++ notice_text notice) turns
-session_goes s bytes (Close notice ∷ turns) = session_gives (record s { waiting = []; closed = true }) (bytes ++ notice_text notice)
-session_goes s bytes (Ask command quiet ∷ turns) =
-    session_gives (record s { waiting = turns; last = s.last + 1; outstanding = Some (record { number = s.last + 1; quiet = quiet }); command = Some command }) bytes
+session_goes s bytes (Say notice ∷ turns) = session_goes s (bytes ++ said_text notice) turns
+session_goes s bytes (Close notice ∷ turns) = session_gives (record s { waiting = []; closed = true }) (bytes ++ said_text notice)
+session_goes s bytes (Ask command show ∷ turns) =
+    session_gives (record s { waiting = turns; last = s.last + 1; outstanding = Some (record { number = s.last + 1; show = show }); command = Some command }) bytes
 
 -- it goes on if it is not closed and nothing is outstanding
 abbrev pub session_goes_if : Session → List ℕ → Option Awaited → Bool → SessionStep
@@ -47,21 +50,13 @@ session_goes_on s bytes = session_goes_if s bytes s.outstanding s.closed
 
 -- ---- a piece comes
 
--- What a reader makes of a piece: the turns that end in it; after a Close there are none.
-abbrev pub ReaderReadsOn : Bool → Reading → List ℕ → List Turn → Reading → Type 0
-ReaderReadsOn true old piece turns now = (turns ≡ []) × (now ≡ old)
-ReaderReadsOn false old piece turns now = ReadsTurns (old.kept ++ piece) turns now
-
-abbrev pub ReaderReads : Reading → List ℕ → List Turn → Reading → Type 0
-ReaderReads old piece turns now = ReaderReadsOn old.closed old piece turns now
-
 -- the turns that end in a piece wait behind the others, and it goes on
-abbrev pub session_fed : Session → List Turn → Reading → SessionStep
+abbrev pub session_fed : Session → List Turn → Reader → SessionStep
 session_fed s turns now = session_goes_on (record s { reader = now; waiting = s.waiting ++ turns }) []
 
 abbrev pub IsFedSessionIf : Bool → Session → List ℕ → SessionStep → Type 0
 IsFedSessionIf true s piece g = g ≡ session_stays s
-IsFedSessionIf false s piece g = (turns : List Turn) × (now : Reading) × ReaderReads s.reader piece turns now × (g ≡ session_fed s turns now)
+IsFedSessionIf false s piece g = (turns : List Turn) × (now : Reader) × ReaderReads s.reader piece turns now × (g ≡ session_fed s turns now)
 
 -- A piece of the client's bytes comes. If it is closed, nothing is read.
 abbrev pub IsFedSession : Session → List ℕ → SessionStep → Type 0
@@ -76,7 +71,7 @@ is_outstanding_as (Some asked) number = asked.number == number
 
 abbrev pub answered_to_awaited : Session → ℕ → replies.Reply → Option Awaited → SessionStep
 answered_to_awaited s number reply None = session_stays s
-answered_to_awaited s number reply (Some asked) = if asked.number == number then session_goes_on (record s { outstanding = None }) (given_text reply asked.quiet) else session_stays s
+answered_to_awaited s number reply (Some asked) = if asked.number == number then session_goes_on (record s { outstanding = None }) (shown_text reply asked.show) else session_stays s
 
 -- before its command was taken there is no reply to it
 abbrev pub answered_if_taken : Session → ℕ → replies.Reply → Option Command → SessionStep
@@ -94,6 +89,6 @@ pub record IsTakenOfSession (s : Session) (ready : Ready) (now : Session) : Type
   pub asked : Awaited
   pub outstanding : s.outstanding ≡ Some asked
   pub turn : asked.number ≡ ready.turn
-  pub quiet : asked.quiet ≡ ready.quiet
+  pub quiet : is_left_out asked.show ≡ ready.quiet
   pub untaken : s.command ≡ Some ready.command
   pub now_is : now ≡ record s { command = None }

@@ -1,11 +1,13 @@
 //! A session, and what comes of each call.
 
 ghost use Rattle.std.specs.Prelude.{◌≡◌, ◌+◌, ◌^◌, ◌⊎◌, Some, None, IfOk, IfErr, IfSome, IfNone, OnOk, Err, is_some};
-ghost use Rattle.proto.specs.Text.{given_text};
+ghost use Rattle.dialect.specs.Text.{shown_text};
+ghost use Rattle.grammar.specs.Turns.{is_left_out};
 ghost use Rattle.session.specs.Session.{SessionStep, IsFedSession, session_answered, session_goes as taken, session_goes_on as went_on, new_session, IsTakenOfSession};
 
 use crate::turns::Turns;
-use proto::{Command, Fault, Reader, Reply, Turn, write_reply};
+use grammar::{Dialect, Reader, Show, Turn, leaves_out, write_shown};
+use proto::{Command, Fault, Reply};
 use std::alloc::Global;
 
 /// The command that waits for its reply.
@@ -13,8 +15,8 @@ use std::alloc::Global;
 pub struct Awaited {
     /// The how manyth command of the session it is, from 1.
     pub number: u64,
-    /// Whether its reply is left out of what the client is given.
-    pub quiet: bool,
+    /// What the client is shown of its reply.
+    pub show: Show,
 }
 
 /// A command to be executed.
@@ -55,12 +57,12 @@ impl Drop for Session {
 }
 
 impl Session {
-    /// Of a client of which nothing came yet.
-    pub fn new(alloc: Global) -> Session
-        ensures { result ≡ new_session }
+    /// Of a client of which nothing came yet, whose bytes are read in this grammar.
+    pub fn new(alloc: Global, dialect: Dialect) -> Session
+        ensures { result ≡ new_session dialect }
     {
         Session {
-            reader: Reader::new(alloc),
+            reader: Reader::new(alloc, dialect),
             waiting: Turns::new(alloc),
             last: 0,
             outstanding: None,
@@ -70,14 +72,14 @@ impl Session {
     }
 
     /// The command becomes the outstanding one.
-    fn ask(&mut self, command: Command, quiet: bool) -> Result<(), Fault>
-        ensures ok { OnOk result (self.new ≡ record self.old { last = self.old.last + 1; outstanding = Some (record { number = self.old.last + 1; quiet = quiet }); command = Some command }) }
+    fn ask(&mut self, command: Command, show: Show) -> Result<(), Fault>
+        ensures ok { OnOk result (self.new ≡ record self.old { last = self.old.last + 1; outstanding = Some (record { number = self.old.last + 1; show = show }); command = Some command }) }
         ensures stopped { result ≡ Err Fault.Stopped → self.old.last + 1 ≡ 2 ^ 64 }
         ensures only { IfErr result (λ fault. fault ≡ Fault.Stopped) }
     {
         let number = self.last.checked_add(1).ok_or(Fault::Stopped)?;
         self.last = number;
-        self.outstanding = Some(Awaited { number, quiet });
+        self.outstanding = Some(Awaited { number, show });
         self.command = Some(command);
         Ok(())
     }
@@ -97,7 +99,7 @@ impl Session {
                     self.closed = true;
                     return Ok(());
                 }
-                Turn::Ask(command, quiet) => return self.ask(command, quiet),
+                Turn::Ask(command, show) => return self.ask(command, show),
             }
         }
         Ok(())
@@ -136,15 +138,13 @@ impl Session {
     }
 
     /// The outstanding command is answered by this reply.
-    fn give(&mut self, alloc: Global, reply: &Reply, quiet: bool) -> Result<Vec<u8>, Fault>
-        ensures ok { IfOk result (λ bytes. record { session = self.new; bytes = bytes.items } ≡ went_on (record self.old { outstanding = None }) (given_text reply.now quiet)) }
-        ensures stopped { result ≡ Err Fault.Stopped → (went_on (record self.old { outstanding = None }) (given_text reply.now quiet)).session.last ≡ 2 ^ 64 }
+    fn give(&mut self, alloc: Global, reply: &Reply, show: Show) -> Result<Vec<u8>, Fault>
+        ensures ok { IfOk result (λ bytes. record { session = self.new; bytes = bytes.items } ≡ went_on (record self.old { outstanding = None }) (shown_text reply.now show)) }
+        ensures stopped { result ≡ Err Fault.Stopped → (went_on (record self.old { outstanding = None }) (shown_text reply.now show)).session.last ≡ 2 ^ 64 }
         ensures only { IfErr result (λ fault. (fault ≡ Fault.NoMemory) ⊎ (fault ≡ Fault.Stopped)) }
     {
         let mut bytes = Vec::new(alloc);
-        if !quiet {
-            write_reply(reply, &mut bytes)?;
-        }
+        write_shown(reply, show, &mut bytes)?;
         self.outstanding = None;
         self.go_on(&mut bytes)?;
         Ok(bytes)
@@ -162,11 +162,11 @@ impl Session {
         if self.command.is_some() {
             return Ok(Vec::new(alloc));
         }
-        let quiet = match &self.outstanding {
-            Some(asked) if asked.number == number => asked.quiet,
+        let show = match &self.outstanding {
+            Some(asked) if asked.number == number => asked.show,
             _ => return Ok(Vec::new(alloc)),
         };
-        self.give(alloc, reply, quiet)
+        self.give(alloc, reply, show)
     }
 
     /// Takes the outstanding command, once. `None`, and nothing changes: it was taken, or none is outstanding.
@@ -179,7 +179,7 @@ impl Session {
         Some(Ready {
             turn: asked.number,
             command,
-            quiet: asked.quiet,
+            quiet: leaves_out(asked.show),
         })
     }
 

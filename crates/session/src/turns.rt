@@ -2,7 +2,7 @@
 
 ghost use Rattle.std.specs.Prelude.{◌≡◌, ◌∷◌, ◌++◌, [], OnOk, OnErr, MatchOption};
 
-use proto::Turn;
+use grammar::Turn;
 use std::alloc::{AllocError, Global};
 use std::collections::VecDeque;
 use std::marker::Model;
@@ -21,7 +21,7 @@ impl Drop for Turns {
 
 impl Model for Turns {
     ghost use Rattle.std.specs.Prelude.{List};
-    ghost use Rattle.proto.specs.declared.turn.Turn.{Turn};
+    ghost use Rattle.grammar.specs.declared.turn.Turn.{Turn};
 
     ghost Value = { List Turn };
 

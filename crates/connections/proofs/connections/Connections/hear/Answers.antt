@@ -17,7 +17,7 @@ on_err (Err e) P p = p
 pub invariant_of-self : goal.invariant_of-self
 invariant_of-self c =
     let s = c.self.inside in
-    let v : ConnectionsView = record { table = s.table.items; next = s.next; heard = s.history.heard; given = s.history.given; passed = s.history.passed; taken = s.taken.items; replied = s.replied.items } in
+    let v : ConnectionsView = record { dialect = s.dialect; table = s.table.items; next = s.next; heard = s.history.heard; given = s.history.given; passed = s.history.passed; taken = s.taken.items; replied = s.replied.items } in
     let here : is_here c.args.at.number s.table.items c.args.at.key ≡ true = search rules in
     subst IsConnections (λ i. record v { table = c.feed.new.table.items; heard = c.hear.new.self.heard; given = sym c.hear.ensures.given i; passed = c.hear.new.self.passed })
     (relogged _ c.hear.new.self.passed (failed_at_keeps v c.args.at c.args.piece.items c.feed.new.table.items _ c.hear.new.self.heard c.self.invariant here c.in_err-said.ensures c.hear.ensures.heard))
@@ -25,14 +25,14 @@ invariant_of-self c =
 pub returns-in_err-said-clause-leaves : goal.returns-in_err-said-clause-leaves
 returns-in_err-said-clause-leaves c =
     let s = c.self.inside in
-    let v : ConnectionsView = record { table = s.table.items; next = s.next; heard = s.history.heard; given = s.history.given; passed = s.history.passed; taken = s.taken.items; replied = s.replied.items } in
+    let v : ConnectionsView = record { dialect = s.dialect; table = s.table.items; next = s.next; heard = s.history.heard; given = s.history.given; passed = s.history.passed; taken = s.taken.items; replied = s.replied.items } in
     let here : is_here c.args.at.number s.table.items c.args.at.key ≡ true = search rules in
     on_err _ _ (ap (is_of_connection c.args.at.number) (failed_leaves v c.args.at c.args.piece.items c.feed.new.table.items _ here c.in_err-said.ensures))
 
 pub invariant_of-self-2 : goal.invariant_of-self-2
 invariant_of-self-2 c =
     let s = c.self.inside in
-    let v : ConnectionsView = record { table = s.table.items; next = s.next; heard = s.history.heard; given = s.history.given; passed = s.history.passed; taken = s.taken.items; replied = s.replied.items } in
+    let v : ConnectionsView = record { dialect = s.dialect; table = s.table.items; next = s.next; heard = s.history.heard; given = s.history.given; passed = s.history.passed; taken = s.taken.items; replied = s.replied.items } in
     let here : is_here c.args.at.number s.table.items c.args.at.key ≡ true = search rules in
     relogged _ c.give.new.self.passed (fed_at_keeps v c.args.at c.args.piece.items c.feed.new.table.items c.in_ok-said.said c.give.new.self.heard c.give.new.self.given c.self.invariant here c.in_ok-said.ensures
     (c.give.ensures.heard ∙ c.hear.ensures.heard) (c.give.ensures.given ∙ ap (λ (log : List (ℕ × List ℕ)). log ++ (c.args.at.number, c.in_ok-said.said.bytes.items) ∷ []) c.hear.ensures.given))
@@ -40,7 +40,7 @@ invariant_of-self-2 c =
 pub returns-clause-closes : goal.returns-clause-closes
 returns-clause-closes c =
     let s = c.self.inside in
-    let v : ConnectionsView = record { table = s.table.items; next = s.next; heard = s.history.heard; given = s.history.given; passed = s.history.passed; taken = s.taken.items; replied = s.replied.items } in
+    let v : ConnectionsView = record { dialect = s.dialect; table = s.table.items; next = s.next; heard = s.history.heard; given = s.history.given; passed = s.history.passed; taken = s.taken.items; replied = s.replied.items } in
     let here : is_here c.args.at.number s.table.items c.args.at.key ≡ true = search rules in
     closed_leaves v c.args.at c.args.piece.items c.feed.new.table.items c.in_ok-said.said here c.in_ok-said.ensures
 
@@ -55,7 +55,7 @@ returns-clause-same_others c = subst (λ (v : ConnectionsView). HasSameOthers c.
 pub returns-in_err-said-clause-left : goal.returns-in_err-said-clause-left
 returns-in_err-said-clause-left c =
     let s = c.self.inside in
-    let v : ConnectionsView = record { table = s.table.items; next = s.next; heard = s.history.heard; given = s.history.given; passed = s.history.passed; taken = s.taken.items; replied = s.replied.items } in
+    let v : ConnectionsView = record { dialect = s.dialect; table = s.table.items; next = s.next; heard = s.history.heard; given = s.history.given; passed = s.history.passed; taken = s.taken.items; replied = s.replied.items } in
     let here : is_here c.args.at.number s.table.items c.args.at.key ≡ true = search rules in
     on_err _ _ (subst (λ (x : ConnectionsView). c.feed.new.table.items ≡ left_at c.args.at x.table) c.self.view_is (failed_table v c.args.at c.args.piece.items c.feed.new.table.items _ here c.in_err-said.ensures))
 
@@ -67,20 +67,20 @@ returns-then-not-is_here-clause-left c =
 pub returns-clause-reads : goal.returns-clause-reads
 returns-clause-reads c =
     let s = c.self.inside in
-    let v : ConnectionsView = record { table = s.table.items; next = s.next; heard = s.history.heard; given = s.history.given; passed = s.history.passed; taken = s.taken.items; replied = s.replied.items } in
+    let v : ConnectionsView = record { dialect = s.dialect; table = s.table.items; next = s.next; heard = s.history.heard; given = s.history.given; passed = s.history.passed; taken = s.taken.items; replied = s.replied.items } in
     let here : is_here c.args.at.number s.table.items c.args.at.key ≡ true = search rules in
     subst (λ (x : ConnectionsView). BecomesAt ReadsFurther c.args.at x.table c.feed.new.table.items) c.self.view_is (reads_at v c.args.at c.args.piece.items c.feed.new.table.items c.in_ok-said.said here c.in_ok-said.ensures)
 
 pub returns-clause-told : goal.returns-clause-told
 returns-clause-told c =
     let s = c.self.inside in
-    let v : ConnectionsView = record { table = s.table.items; next = s.next; heard = s.history.heard; given = s.history.given; passed = s.history.passed; taken = s.taken.items; replied = s.replied.items } in
+    let v : ConnectionsView = record { dialect = s.dialect; table = s.table.items; next = s.next; heard = s.history.heard; given = s.history.given; passed = s.history.passed; taken = s.taken.items; replied = s.replied.items } in
     let here : is_here c.args.at.number s.table.items c.args.at.key ≡ true = search rules in
     subst (λ (x : ConnectionsView). IsToldAt c.args.at x.table c.feed.new.table.items c.in_ok-said.said) c.self.view_is (fed_told v c.args.at c.args.piece.items c.feed.new.table.items c.in_ok-said.said here c.in_ok-said.ensures)
 
 pub returns-clause-fed : goal.returns-clause-fed
 returns-clause-fed c =
     let s = c.self.inside in
-    let v : ConnectionsView = record { table = s.table.items; next = s.next; heard = s.history.heard; given = s.history.given; passed = s.history.passed; taken = s.taken.items; replied = s.replied.items } in
+    let v : ConnectionsView = record { dialect = s.dialect; table = s.table.items; next = s.next; heard = s.history.heard; given = s.history.given; passed = s.history.passed; taken = s.taken.items; replied = s.replied.items } in
     let here : is_here c.args.at.number s.table.items c.args.at.key ≡ true = search rules in
     subst (λ (x : ConnectionsView). IsFedAt c.args.at c.args.piece.items x.table c.feed.new.table.items c.in_ok-said.said) c.self.view_is (fed_at v c.args.at c.args.piece.items c.feed.new.table.items c.in_ok-said.said here c.in_ok-said.ensures)

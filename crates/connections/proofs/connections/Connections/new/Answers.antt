@@ -6,6 +6,7 @@ use Rattle.connections.proofs.connections.Connections.new.Goals as goal
 pub invariant_of-result : goal.invariant_of-result
 invariant_of-result c =
     subst IsConnections (λ i. record {
+      dialect = c.args.dialect;
       table = sym c.new.ensures.items i;
       next = 0;
       heard = (sym c.new-2.ensures i).heard;
@@ -13,4 +14,4 @@ invariant_of-result c =
       passed = (sym c.new-2.ensures i).passed;
       taken = sym c.new-3.ensures i;
       replied = sym c.new-4.ensures i;
-    }) none_keep
+    }) (none_keep c.args.dialect)

@@ -1,0 +1,11 @@
+pub mod Number
+pub mod Name
+pub mod Line
+pub mod Reading
+pub mod Meaning
+pub mod State
+pub mod Grammar
+pub mod Text
+pub mod Stage
+pub mod Laws
+pub mod Profile

@@ -1,0 +1,9 @@
+use Rattle.std.proofs.Common.{◌≡◌, ◌++◌, map}
+use Rattle.grammar.specs.Turns.{profile_turn}
+use Rattle.grammar.proofs.reader.all_of_profile.Given as goal
+
+abbrev pub invariant-loop-turn : goal.invariant-loop-turn
+invariant-loop-turn l = record {
+  whole : l.yielded ++ l.turn-iterator.rest.items ≡ l.fn.read.items;
+  mapped : l.turns.items ≡ map profile_turn l.yielded;
+}

@@ -1,0 +1,4 @@
+pub mod Turns
+pub mod Asks
+pub mod Reads
+pub mod Orders
