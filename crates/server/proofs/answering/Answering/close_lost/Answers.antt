@@ -1,4 +1,4 @@
-use Rattle.std.proofs.Common.{rules, ◌≡◌, ◌+◌, ◌<◌, ◌∷◌, length, ap, sym, ◌∙◌, subst, arith}
+use Rattle.std.proofs.Common.{rules, ◌≡◌, ◌+◌, ◌<◌, length, ap, sym, ◌∙◌, subst, arith}
 use Rattle.server.specs.Answering.{AnsweringView, IsSameBut}
 use Rattle.server.proofs.HandLemmas.{ClosesSoMany, closes_none, closes_more, closes_some, closes_all}
 use Rattle.server.proofs.answering.Answering.close_lost.Goals.{in-Some, in_default}
