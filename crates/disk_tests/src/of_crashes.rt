@@ -4,7 +4,7 @@
 //! row of tests stops one of the two files, or both, at the call of each number, and looks at what is there afterwards:
 //! what the saves that answered Ok have made, or that and the next one.
 
-ghost use Rattle.std.specs.Prelude.{◌≡◌, IfOk};
+ghost use Rattle.std.specs.Prelude.{◌≡◌};
 
 use crate::files::{Image, TestDisk, TestRows, image_of, made, opened};
 use crate::turns::{Content, TURNS, content_after, content_of, save_all};

@@ -43,7 +43,7 @@ fn turn_row(alloc: Global, turn: u8) -> Result<Row, AllocError>
 
 /// What the turn changes.
 fn changes(alloc: Global, turn: u8) -> Result<[RowChange; 3], AllocError>
-    ensures { IfOk result (λ changes. ChangesFit 2 changes.items) }
+    ensures { IfOk result (λ changes. ChangesFit 2 changes) }
 {
     let now = turn.wrapping_add(1);
     let gone = place_of(&key(alloc, (turn % 5 + 3) % 5)?);

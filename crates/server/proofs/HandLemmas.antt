@@ -3,7 +3,6 @@ use Rattle.std.proofs.Common.{◌≡◌, ℕ, ◌+◌, ◌<◌, ◌≤◌, List,
 use Rattle.std.specs.Prelude.{false, Result, Ok, Err, IfOk, OnErr}
 use Rattle.std.specs.List.{AllZip}
 use Rattle.std.proofs.lemmas.List.{append-nil, length-append, nil_from_length}
-use Rattle.std.proofs.lemmas.List.Elements.{AllZip-push}
 use Rattle.base.specs.declared.fault.Fault.{Fault}
 use Rattle.connections.specs.declared.said.Said as of_service
 use Rattle.connections.specs.Connections.{HasSameLogs}
@@ -73,6 +72,13 @@ pub record ClosesSoMany (count : ℕ) (v now : AnsweringView) : Type 0 where
   pub last : AllZip (λ of said. IsLastMessage of.key of.number said) told closings
   pub says : SaysEach v closings now
 
+-- they are told so, and one more
+last_more : (told : List Lost) (closings : List Said) (lost : Lost) (one : Said) → AllZip (λ of said. IsLastMessage of.key of.number said) told closings → IsLastMessage lost.key lost.number one → AllZip (λ of said. IsLastMessage of.key of.number said) (told ++ lost ∷ []) (closings ++ one ∷ [])
+last_more [] [] lost one all last = (last, tt)
+last_more [] (said ∷ closings) lost one all last = absurd all
+last_more (of ∷ told) [] lost one all last = absurd all
+last_more (of ∷ told) (said ∷ closings) lost one all last = (all.0, last_more told closings lost one all.1 last)
+
 -- none so far
 pub closes_none : (v : AnsweringView) → ClosesSoMany 0 v v
 closes_none v = record { told = []; rest = v.lost; again = []; before = refl; after = sym (append-nil v.lost); counted = refl; closings = []; last = tt; says = record { service = refl; said_is = refl } }
@@ -88,7 +94,7 @@ module _ (count : ℕ) (v between popped now : AnsweringView) (lost : Lost) (one
     after = after;
     counted = length-append so_far.told (lost ∷ []) ∙ ap (λ n. n + 1) so_far.counted;
     closings = so_far.closings ++ one ∷ [];
-    last = AllZip-push (λ of said. IsLastMessage of.key of.number said) so_far.told so_far.closings lost one so_far.last last;
+    last = last_more so_far.told so_far.closings lost one so_far.last last;
     says = each_more v popped now so_far.closings one (each_same v between popped so_far.closings so_far.says same) says;
   }
 
