@@ -3,11 +3,14 @@
 cd "$(dirname "$0")"
 port=$1
 work=$(mktemp -d)
-page() { id=$1; shift; php "$@" session.php "$id" 2>&1 | tr '\n' ' '; echo; }
+page() { id=$1; shift; printf '%s' "$how"; php "$@" session.php "$id" 2>&1 | tr '\n' ' '; echo; }
 for more in "" "-d memcached.sess_binary_protocol=0"; do
     echo "php-memcached session $more"
-    for i in 1 2 3; do page "one$$" -d session.save_handler=memcached -d session.save_path="127.0.0.1:$port" $more; done
+    how=${more:+text: }
+    how=${how:-binary: }
+    for i in 1 2 3; do page "one$$${more:+text}" -d session.save_handler=memcached -d session.save_path="127.0.0.1:$port" $more; done
 done
+how=
 echo "php-memcached, text: four pages at once, each holds the lock for half a second"
 for i in 1 2 3 4; do php -d session.save_handler=memcached -d session.save_path="127.0.0.1:$port" -d memcached.sess_binary_protocol=0 session.php "two$$" 0.5 > "$work/$i" 2>&1 & done
 wait

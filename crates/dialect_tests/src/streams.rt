@@ -83,7 +83,7 @@ fn some_zeros(alloc: Global, count: usize) -> Result<Vec<u8>, AllocError> {
 /// Whether a line of so many bytes with its newline is told so.
 fn is_line_told(alloc: Global, count: usize, expected: &[u8]) -> Result<bool, AllocError> {
     let mut line = b"get ".to_vec(alloc)?;
-    while line.len() < count {
+    for _ in 4..count {
         line.push(b'k')?;
     }
     is_told(alloc, &[line.as_slice(), b"\nmn\r\n"], expected)

@@ -1,6 +1,6 @@
 //! How a database over files in memory is made and opened.
 
-ghost use Rattle.std.specs.Prelude.{◌≡◌, IsTrue, IfOk};
+ghost use Rattle.std.specs.Prelude.{◌≡◌, IsTrue, IfOk, IfSome};
 ghost use Rattle.sqlite_disk.specs.Memory.{memory_is_usable};
 ghost use Rattle.sqlite_store.specs.Unopened.{AreUsable};
 
@@ -64,9 +64,22 @@ fn table(name: &'static str, sql: &'static str) -> Object<'static> {
     }
 }
 
+/// The rows of the two tables. `None`: the store is shut, or these are no tables.
+fn rows_of(store: FileStore<TestDisk>) -> Option<TestRows>
+    ensures { IfSome result (λ rows. rows.tables ≡ 2) }
+{
+    match RowStore::over(store, 2) {
+        Ok(rows) => Some(rows),
+        Err(store) => {
+            drop(store);
+            None
+        }
+    }
+}
+
 /// An empty database. `None`: the disk failed before it was made.
 pub fn made(alloc: Global, log_calls: u64, db_calls: u64) -> Result<Option<TestRows>, Fail>
-    ensures { IfOk result (λ made. (rows : _) → made ≡ Some rows → rows.tables ≡ 2) }
+    ensures { IfOk result (λ made. IfSome made (λ rows. rows.tables ≡ 2)) }
 {
     let unopened = unopened(
         alloc,
@@ -76,11 +89,11 @@ pub fn made(alloc: Global, log_calls: u64, db_calls: u64) -> Result<Option<TestR
         db_calls,
     )?;
     match unopened.create() {
-        Ok(store) => match RowStore::over(store, 2) {
-            Ok(rows) => Ok(Some(rows)),
-            Err(_) => Ok(None),
-        },
-        Err(_) => Ok(None),
+        Ok(store) => Ok(rows_of(store)),
+        Err((_, unopened)) => {
+            drop(unopened);
+            Ok(None)
+        }
     }
 }
 
@@ -125,7 +138,7 @@ fn file_of(alloc: Global, image: &Image) -> Result<Memory, Fail>
 
 /// The database in a log and a file with this content. `None`: the open is refused.
 pub fn opened(alloc: Global, log: &Image, db: &Image) -> Result<Option<TestRows>, Fail>
-    ensures { IfOk result (λ opened. (rows : _) → opened ≡ Some rows → rows.tables ≡ 2) }
+    ensures { IfOk result (λ opened. IfSome opened (λ rows. rows.tables ≡ 2)) }
 {
     let unopened = unopened(
         alloc,
@@ -135,10 +148,10 @@ pub fn opened(alloc: Global, log: &Image, db: &Image) -> Result<Option<TestRows>
         u64::MAX,
     )?;
     match unopened.open() {
-        Ok(store) => match RowStore::over(store, 2) {
-            Ok(rows) => Ok(Some(rows)),
-            Err(_) => Ok(None),
-        },
-        Err(_) => Ok(None),
+        Ok(store) => Ok(rows_of(store)),
+        Err((_, unopened)) => {
+            drop(unopened);
+            Ok(None)
+        }
     }
 }

@@ -3,7 +3,8 @@
 //! A `get` of a key of another connection has to show what the key has at some moment between question and answer. All
 //! connections add one to one counter, or read it.
 //!
-//! A line `U SEED CALLS` of standard input is a play: so many calls of a service with `2U + 1` executors, made at
+//! A line `U SEED CALLS` of standard input is a play. With a fourth word, `memcached`, connections are read in memcached's
+//! dialect, which asks the same of these lines. It is so many calls of a service with `2U + 1` executors, made at
 //! random from the seed. Connections come, ask in pieces of any length, are slow to write, and leave; ticks come, and
 //! the replicas work. Time passes when nothing is outstanding. In the end each connection that is here has to be
 //! answered. For each play it prints what came of it. The status is 1 if a reply is wrong, and 2 if a line cannot be
@@ -33,7 +34,12 @@ fn follow<R: Threads + Wait + Sync + Clock>(
     threads: &R,
     plan: Plan,
 ) -> io::Result<u8> {
-    let Plan { u, seed, calls } = plan;
+    let Plan {
+        dialect: _,
+        u,
+        seed,
+        calls,
+    } = plan;
     let Some(shown) = play(threads, rt.alloc(), plan) else {
         println!(rt; "cannot play u {u}, seed {seed}")?;
         return Ok(2);

@@ -4,7 +4,7 @@ use crate::judge::Judge;
 use crate::peer::Peer;
 use crate::plan::Plan;
 use random::Words;
-use service::{Config, Dialect, Said, Service};
+use service::{Config, Said, Service};
 use std::alloc::Global;
 use std::rt::Clock;
 use std::sync::Wait;
@@ -138,7 +138,7 @@ impl Stage {
         let config = Config::new(plan.u, PROXIES).ok()?;
         let peers = peers(alloc)?;
         let judge = Judge::new(alloc, PEERS).ok()?;
-        let service = Service::open(alloc, &config, Dialect::Profile).ok()?;
+        let service = Service::open(alloc, &config, plan.dialect).ok()?;
         Some(Stage {
             service,
             peers,
