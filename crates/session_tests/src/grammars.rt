@@ -58,39 +58,43 @@ fn is_given(
     }
 }
 
+/// Whether the client of each grammar is given just this, and asks so many commands.
+fn are_given(
+    alloc: Global,
+    bytes: &[u8],
+    reply: &Reply,
+    memcached: (&[u8], u64),
+    profile: (&[u8], u64),
+) -> bool {
+    let (given, asked) = memcached;
+    let (given_by_profile, asked_of_profile) = profile;
+    is_given(alloc, Dialect::Memcached, bytes, reply, given, asked)
+        && is_given(
+            alloc,
+            Dialect::Profile,
+            bytes,
+            reply,
+            given_by_profile,
+            asked_of_profile,
+        )
+}
+
+/// What a client of the profile is given for each line that it refuses.
+const BAD: &[u8] = b"CLIENT_ERROR bad command line format\r\n";
+
 #[test]
 fn a_delete_with_a_time_is_one_of_the_dialect(rt: HostRuntime) -> Result<(), Fail> {
     let line = b"delete k 0\r\n".as_slice();
-    let bad = b"CLIENT_ERROR bad command line format\r\n".as_slice();
-    assert!(rt;
-        is_given(
-            rt.alloc(),
-            Dialect::Memcached,
-            line,
-            &Reply::Deleted,
-            b"DELETED\r\n",
-            1
-        )
-    );
-    assert!(rt; is_given(rt.alloc(), Dialect::Profile, line, &Reply::Deleted, bad, 0));
+    let memcached = (b"DELETED\r\n".as_slice(), 1);
+    assert!(rt; are_given(rt.alloc(), line, &Reply::Deleted, memcached, (BAD, 0)));
     Ok(())
 }
 
 #[test]
 fn a_get_of_many_keys_is_asked_in_pieces(rt: HostRuntime) -> Result<(), Fail> {
     let none = nothing(rt.alloc());
-    let bad = b"CLIENT_ERROR bad command line format\r\n".as_slice();
-    assert!(rt;
-        is_given(
-            rt.alloc(),
-            Dialect::Memcached,
-            MANY_KEYS,
-            &none,
-            b"END\r\n",
-            2
-        )
-    );
-    assert!(rt; is_given(rt.alloc(), Dialect::Profile, MANY_KEYS, &none, bad, 0));
+    let memcached = (b"END\r\n".as_slice(), 2);
+    assert!(rt; are_given(rt.alloc(), MANY_KEYS, &none, memcached, (BAD, 0)));
     Ok(())
 }
 
@@ -98,17 +102,8 @@ fn a_get_of_many_keys_is_asked_in_pieces(rt: HostRuntime) -> Result<(), Fail> {
 fn the_value_of_a_line_with_a_late_exptime_is_no_command(rt: HostRuntime) -> Result<(), Fail> {
     let lines = b"set k 0 4294967295 7\r\nversion\r\n".as_slice();
     let two = b"CLIENT_ERROR bad command line format\r\nVERSION eve-1\r\n".as_slice();
-    assert!(rt;
-        is_given(
-            rt.alloc(),
-            Dialect::Memcached,
-            lines,
-            &Reply::Stored,
-            b"STORED\r\n",
-            1
-        )
-    );
-    assert!(rt; is_given(rt.alloc(), Dialect::Profile, lines, &Reply::Stored, two, 0));
+    let memcached = (b"STORED\r\n".as_slice(), 1);
+    assert!(rt; are_given(rt.alloc(), lines, &Reply::Stored, memcached, (two, 0)));
     Ok(())
 }
 
@@ -131,34 +126,17 @@ fn a_noreply_line_of_the_dialect_gives_nothing(rt: HostRuntime) -> Result<(), Fa
 #[test]
 fn each_grammar_has_its_version(rt: HostRuntime) -> Result<(), Fail> {
     let line = b"version\r\n".as_slice();
-    let own = b"VERSION 1.6.18-eve-1\r\n".as_slice();
-    assert!(rt; is_given(rt.alloc(), Dialect::Memcached, line, &Reply::Stored, own, 0));
-    assert!(rt;
-        is_given(
-            rt.alloc(),
-            Dialect::Profile,
-            line,
-            &Reply::Stored,
-            b"VERSION eve-1\r\n",
-            0
-        )
-    );
+    let own = b"VERSION eve-1\r\n".as_slice();
+    let memcached = (b"VERSION 1.6.18-eve-1\r\n".as_slice(), 0);
+    assert!(rt; are_given(rt.alloc(), line, &Reply::Stored, memcached, (own, 0)));
     Ok(())
 }
 
 #[test]
 fn nothing_is_read_after_a_quit(rt: HostRuntime) -> Result<(), Fail> {
     let lines = b"quit\r\nversion\r\n".as_slice();
-    assert!(rt;
-        is_given(
-            rt.alloc(),
-            Dialect::Memcached,
-            lines,
-            &Reply::Stored,
-            b"",
-            0
-        )
-    );
-    assert!(rt; is_given(rt.alloc(), Dialect::Profile, lines, &Reply::Stored, b"", 0));
+    let none = b"".as_slice();
+    let memcached = (none, 0);
+    assert!(rt; are_given(rt.alloc(), lines, &Reply::Stored, memcached, (none, 0)));
     Ok(())
 }
