@@ -20,7 +20,8 @@ pub fn a_reopened_ensemble_follows()
     ensures { (found : ProcessView) → IsEnsembleAfter (Some found) (reopened_ensemble found) }
 {}
 
-/// It stays so whatever the calls of an ensemble do.
+/// It stays so in each of these steps. They are those of which calls are made; that a call makes no other one, no clause
+/// of a call says.
 pub fn an_ensemble_goes_on_after_a_process()
     ensures { (found : Option ProcessView) (e : EnsembleView) (later : List EnsembleView) → AreEnsembleSteps e later
         → IsEnsembleAfter found e → IsEnsembleAfter found (last_ensemble e later) }
