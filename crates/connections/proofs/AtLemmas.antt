@@ -8,11 +8,13 @@ use Rattle.proto.specs.declared.command.Command.{Command}
 use Rattle.proto.specs.declared.reply.Reply as replies
 use Rattle.session.specs.Session.{SessionStep}
 use Rattle.session.specs.declared.session.Ready.{Ready}
+use Rattle.grammar.specs.declared.reader.Dialect.{Dialect}
+use Rattle.grammar.specs.Reads.{with_mark}
 use Rattle.connections.specs.declared.connections.CommandNumber.{CommandNumber}
 use Rattle.connections.specs.declared.places.Place.{Place}
 use Rattle.connections.specs.declared.said.Said.{Said}
 use Rattle.connections.specs.Connection.{ConnectionView, IsTaken}
-use Rattle.connections.specs.Places.{is_of_connection, connection_at, place_in, is_here, FeedsHere, FeedsIn, FeedsAt, AnswersHere, AnswersIn, AnswersAt, TakesPlace, TakesWhere, TakesIn, TakesAt, left_place, left_in, left_at, HasSameOthers, IsGrown}
+use Rattle.connections.specs.Places.{is_of_connection, comes_to, connection_at, place_in, is_here, FeedsHere, FeedsIn, FeedsAt, AnswersHere, AnswersIn, AnswersAt, TakesPlace, TakesWhere, TakesIn, TakesAt, left_place, left_in, left_at, HasSameOthers, IsGrown}
 use Rattle.memcached_spec.specs.Asked.{HasText}
 use Rattle.connections.specs.Connections.{ConnectionsView, AreBefore, AreReplied, IsConnections}
 use Rattle.connections.proofs.PlaceLemmas.{set_place, other_place, place_there, here_is}
@@ -87,6 +89,12 @@ pub if_some : (b : Bool) (now d : ConnectionView) → (if b then Some now else N
 if_some true now d e = let s : ◌≡◌ {A = Option ConnectionView} (Some now) (Some d) = e in sym (cc s)
 if_some false now d e = let s : ◌≡◌ {A = Option ConnectionView} None (Some d) = e in absurd (cc s)
 
+-- what comes with a piece to who is here
+pub comes_so : (v : ConnectionsView) → IsConnections v → (at : Place) (full : Bool) (piece : List ℕ) → is_here at.number v.table at.key ≡ true → comes_to (place_in v.table at.key) full piece ≡ with_mark v.dialect full piece
+comes_so v ok at full piece here =
+    let c = found v at here in
+    ap (λ (place : Option ConnectionView). comes_to place full piece) c.1 ∙ ap (λ (d : Dialect). with_mark d full piece) (ok.here at.key c.0 c.1).reads
+
 pub fed_at_keeps : (v : ConnectionsView) (at : Place) (piece : List ℕ) (table : List (Option ConnectionView)) (said : Said) (heard given : List (ℕ × List ℕ)) → IsConnections v → is_here at.number v.table at.key ≡ true
     → FeedsAt at piece v.table table (Ok said) → heard ≡ v.heard ++ (at.number, piece) ∷ [] → given ≡ v.given ++ (at.number, said.bytes.items) ∷ [] → IsConnections (record v { table = table; heard = heard; given = given })
 fed_at_keeps v at piece table said heard given ok here f hears gives =
@@ -108,6 +116,11 @@ failed_at_keeps v at piece table fault heard ok here f hears =
     let eq : table ≡ slice_set v.table at.key None = parts.2 ∙ ap (slice_set v.table at.key) parts.1.0 in
     subst (λ (z : List (Option ConnectionView) × List (ℕ × List ℕ)). IsConnections (record v { table = z.0; heard = z.1 })) (λ i. (sym eq i, (ap (λ (n : ℕ). v.heard ++ (n, piece) ∷ []) c.2 ∙ sym hears) i))
     (failed_keeps v ok at.key c.0 c.1 piece)
+
+pub failed_comes : (v : ConnectionsView) (at : Place) (full : Bool) (piece : List ℕ) (table : List (Option ConnectionView)) (fault : Fault) (heard : List (ℕ × List ℕ)) → IsConnections v → is_here at.number v.table at.key ≡ true
+    → FeedsAt at (comes_to (place_in v.table at.key) full piece) v.table table (Err fault) → heard ≡ v.heard ++ (at.number, with_mark v.dialect full piece) ∷ [] → IsConnections (record v { table = table; heard = heard })
+failed_comes v at full piece table fault heard ok here f is =
+    failed_at_keeps v at (with_mark v.dialect full piece) table fault heard ok here (subst (λ (x : List ℕ). FeedsAt at x v.table table (Err fault)) (comes_so v ok at full piece here) f) is
 
 -- a connection that failed is not there
 pub failed_leaves : (v : ConnectionsView) (at : Place) (piece : List ℕ) (table : List (Option ConnectionView)) (fault : Fault) → is_here at.number v.table at.key ≡ true → FeedsAt at piece v.table table (Err fault) → place_in table at.key ≡ None

@@ -4,11 +4,19 @@ use Rattle.std.specs.declared.alloc.Global.{Global}
 use Rattle.std.specs.declared.vec.Vec.{Vec}
 use Rattle.std.proofs.lemmas.List.{append-nil, map-append}
 use Rattle.connections.specs.declared.history.Passing.TheVariants as passing
-use Rattle.connections.specs.Logs.{logged, logged_one}
+use Rattle.connections.specs.declared.history.Hearing.{Hearing}
+use Rattle.connections.specs.declared.history.PassedAs.{PassedAs}
+use Rattle.connections.specs.Logs.{logged, logged_one, heard_one, heard_logged, passed_one, passed_logged}
 use Rattle.connections.specs.History.{Passed, heard_as, given_as, moment_as, heard_among, given_among, moments_among}
 
 pub logged_more : {K : Type 0} (log : List (K × Vec ℕ Global)) (e : K × Vec ℕ Global) → logged (log ++ e ∷ []) ≡ logged log ++ logged_one e ∷ []
 logged_more log e = map-append logged_one log (e ∷ [])
+
+pub heard_logged_more : (log : List (Hearing × Vec ℕ Global)) (e : Hearing × Vec ℕ Global) → heard_logged (log ++ e ∷ []) ≡ heard_logged log ++ heard_one e ∷ []
+heard_logged_more log e = map-append heard_one log (e ∷ [])
+
+pub passed_logged_more : (log : List (PassedAs × Vec ℕ Global)) (e : PassedAs × Vec ℕ Global) → passed_logged (log ++ e ∷ []) ≡ passed_logged log ++ passed_one e ∷ []
+passed_logged_more log e = map-append passed_one log (e ∷ [])
 
 -- ---- what was there first comes first
 

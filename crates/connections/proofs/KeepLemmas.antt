@@ -6,6 +6,7 @@ use Rattle.std.proofs.lemmas.List.Elements.{Contains-push, Contains-append_left}
 use Rattle.proto.specs.declared.command.Command.{Command}
 use Rattle.proto.specs.declared.reply.Reply as replies
 use Rattle.grammar.specs.declared.reader.Dialect.{Dialect}
+use Rattle.grammar.specs.Reads.{dialect_of}
 use Rattle.session.specs.Session.{SessionStep, IsFedSession, session_answered}
 use Rattle.session.specs.Taken.{SessionOk}
 use Rattle.session.proofs.TakenLemmas.{session_implies, new_ok, fed_ok, replied_ok}
@@ -13,22 +14,25 @@ use Rattle.connections.specs.declared.connections.CommandNumber.{CommandNumber}
 use Rattle.connections.specs.Connection.{ConnectionView, new_connection, after_given}
 use Rattle.connections.specs.History.{Passed}
 use Rattle.connections.specs.Places.{place_in, IsGrown}
-use Rattle.connections.specs.Connections.{ConnectionsView, no_connections, bytes_of_connection, WasReplied, IsAnswered, IsHere, IsConnections}
+use Rattle.connections.specs.Connections.{ConnectionsView, no_connections_from, bytes_of_connection, WasReplied, IsAnswered, IsHere, IsConnections}
 use Rattle.connections.proofs.PlaceLemmas.{there, set_place, other_place, place_there, same_or_not}
 use Rattle.connections.proofs.TextLemmas.{bytes_own, bytes_other, answered_longer, answered_implies}
-use Rattle.connections.proofs.StepLemmas.{MayAsk, asks_may, fed_asks, replied_asks}
+use Rattle.connections.proofs.StepLemmas.{MayAsk, asks_may, fed_asks, replied_asks, new_reads, fed_reads_so, replied_reads_so}
 use Rattle.connections.proofs.MoveLemmas.{moved_keeps, counted_on}
 
 -- ---- nobody came
 
-pub none_keep : (d : Dialect) → IsConnections (no_connections d)
-none_keep d = record {
+pub none_keep : (d : Dialect) (first : ℕ) → IsConnections (no_connections_from d first)
+none_keep d first = record {
   here = λ key c at. let e : ◌≡◌ {A = Option ConnectionView} None (Some c) = at in absurd (cc e);
   one_place = λ i j c d at_i at_j same. let e : ◌≡◌ {A = Option ConnectionView} None (Some c) = at_i in absurd (cc e);
   answered = λ n. let t = new_ok d (WasReplied [] n) in record { taken = t.taken; texts = t.texts; first = t.front };
   fresh = λ n above. (refl, refl);
   asked = λ e in_it. let lt = in_it.1 in absurd (omega (arith, lt));
   below = λ e in_it. let lt = in_it.1 in absurd (omega (arith, lt));
+  least = omega arith;
+  none_before = λ n less. (refl, refl);
+  since = λ e in_it. let lt = in_it.1 in absurd (omega (arith, lt));
   once = λ i j a b at_i at_j same turn. let e : ◌≡◌ {A = Option (CommandNumber × Command)} None (Some a) = at_i in absurd (cc e);
 }
 
@@ -36,12 +40,15 @@ none_keep d = record {
 
 pub relogged : (v : ConnectionsView) (passed : List Passed) → IsConnections v → IsConnections (record v { passed = passed })
 relogged v passed ok = record {
-  here = λ key c at. let h = ok.here key c at in record { below = h.below; talks = h.talks; counted = h.counted };
+  here = λ key c at. let h = ok.here key c at in record { below = h.below; reads = h.reads; since = h.since; talks = h.talks; counted = h.counted };
   one_place = ok.one_place;
   answered = ok.answered;
   fresh = ok.fresh;
   asked = ok.asked;
   below = ok.below;
+  least = ok.least;
+  none_before = ok.none_before;
+  since = ok.since;
   once = ok.once;
 }
 
@@ -49,12 +56,15 @@ relogged v passed ok = record {
 
 pub grown_keeps : (v : ConnectionsView) (table : List (Option ConnectionView)) → IsConnections v → IsGrown v.table table → IsConnections (record v { table = table })
 grown_keeps v table ok grown = record {
-  here = λ key c at. let h = ok.here key c (sym (grown key) ∙ at) in record { below = h.below; talks = h.talks; counted = h.counted };
+  here = λ key c at. let h = ok.here key c (sym (grown key) ∙ at) in record { below = h.below; reads = h.reads; since = h.since; talks = h.talks; counted = h.counted };
   one_place = λ i j c d at_i at_j same. ok.one_place i j c d (sym (grown i) ∙ at_i) (sym (grown j) ∙ at_j) same;
   answered = ok.answered;
   fresh = ok.fresh;
   asked = ok.asked;
   below = ok.below;
+  least = ok.least;
+  none_before = ok.none_before;
+  since = ok.since;
   once = ok.once;
 }
 
@@ -70,6 +80,8 @@ module _ (v : ConnectionsView) (ok : IsConnections v) (table : List (Option Conn
   new_here : IsHere came (new_connection v.dialect number)
   new_here = record {
     below = omega arith;
+    reads = new_reads v.dialect;
+    since = let least = ok.least in omega (arith, least, above);
     talks = let f = ok.fresh number above in
         subst (λ (z : List ℕ × List ℕ). SessionOk v.dialect (WasReplied v.replied number) z.0 (new_connection v.dialect number).session z.1) (λ i. (sym f.0 i, sym f.1 i)) (new_ok v.dialect (WasReplied v.replied number));
     counted = λ e in_it is. let b = ok.below e in_it in absurd (omega (arith, b, is, above));
@@ -86,7 +98,7 @@ module _ (v : ConnectionsView) (ok : IsConnections v) (table : List (Option Conn
   came_keeps = record {
     here = λ k c at. ⊎_elim
         (λ (new : (k ≡ key) × (new_connection v.dialect number ≡ c)). subst (IsHere came) new.1 new_here)
-        (λ (old : (k ≢ key) × (place_in v.table k ≡ Some c)). let h = ok.here k c old.1 in let b = h.below in record { below = omega (arith, b, above); talks = h.talks; counted = h.counted })
+        (λ (old : (k ≢ key) × (place_in v.table k ≡ Some c)). let h = ok.here k c old.1 in let b = h.below in record { below = omega (arith, b, above); reads = h.reads; since = h.since; talks = h.talks; counted = h.counted })
         (who k c at);
     one_place = λ i j c d at_i at_j same. ⊎_elim
         (λ (new : (i ≡ key) × (new_connection v.dialect number ≡ c)). ⊎_elim
@@ -102,6 +114,9 @@ module _ (v : ConnectionsView) (ok : IsConnections v) (table : List (Option Conn
     fresh = λ n le. ok.fresh n (omega (arith, le, above));
     asked = ok.asked;
     below = λ e in_it. let b = ok.below e in_it in omega (arith, b, above);
+    least = let least = ok.least in omega (arith, least, above);
+    none_before = ok.none_before;
+    since = ok.since;
     once = ok.once;
   }
 
@@ -115,9 +130,9 @@ module _ (v : ConnectionsView) (ok : IsConnections v) (key : ℕ) (c : Connectio
   gone : (heard given : List (ℕ × List ℕ)) (replied : List (CommandNumber × replies.Reply)) → ((h : ℕ) → h ≢ c.number → bytes_of_connection h heard ≡ bytes_of_connection h v.heard) → ((h : ℕ) → h ≢ c.number → bytes_of_connection h given ≡ bytes_of_connection h v.given)
       → ((more : List ℕ) × (bytes_of_connection c.number heard ≡ bytes_of_connection c.number v.heard ++ more)) → ((h q : ℕ) (r : replies.Reply) → WasReplied v.replied h q r → WasReplied replied h q r)
       → IsAnswered v.dialect (WasReplied replied c.number) (bytes_of_connection c.number heard) (bytes_of_connection c.number given)
-      → IsConnections (record { dialect = v.dialect; table = slice_set v.table key None; next = v.next; heard = heard; given = given; passed = v.passed; taken = v.taken; replied = replied })
+      → IsConnections (record { dialect = v.dialect; table = slice_set v.table key None; next = v.next; first = v.first; heard = heard; given = given; passed = v.passed; taken = v.taken; replied = replied })
   gone heard given replied hs gs longer rs is =
-      let now : ConnectionsView = record { dialect = v.dialect; table = slice_set v.table key None; next = v.next; heard = heard; given = given; passed = v.passed; taken = v.taken; replied = replied } in
+      let now : ConnectionsView = record { dialect = v.dialect; table = slice_set v.table key None; next = v.next; first = v.first; heard = heard; given = given; passed = v.passed; taken = v.taken; replied = replied } in
       moved_keeps v now key c.number ok (record {
         was = c;
         was_at = at;
@@ -126,6 +141,7 @@ module _ (v : ConnectionsView) (ok : IsConnections v) (key : ℕ) (c : Connectio
         own = λ d e. let clash : ◌≡◌ {A = Option ConnectionView} None (Some d) = sym (set_is None) ∙ e in absurd (cc clash);
         dialect = refl;
         next = refl;
+        first = refl;
         taken = refl;
         heard = hs;
         given = gs;
@@ -161,7 +177,7 @@ module _ (v : ConnectionsView) (ok : IsConnections v) (key : ℕ) (c : Connectio
       let talks : SessionOk v.dialect P (bytes_of_connection c.number now.heard) g.session (bytes_of_connection c.number now.given) =
       subst (λ (z : List ℕ × List ℕ). SessionOk v.dialect P z.0 g.session z.1) (λ i. (sym (bytes_own c.number v.heard piece) i, sym (bytes_own c.number v.given g.bytes) i))
       (fed_ok v.dialect P (bytes_of_connection c.number v.heard) piece c.session (bytes_of_connection c.number v.given) g h.talks fed) in
-      let here : IsHere now (after_given c g) = record { below = h.below; talks = talks; counted = λ e in_it is. counted_on e.0.turn c g (asks_may c.session g (fed_asks c.session piece g fed)) (h.counted e in_it is) } in
+      let here : IsHere now (after_given c g) = record { below = h.below; reads = fed_reads_so c.session piece g fed ∙ h.reads; since = h.since; talks = talks; counted = λ e in_it is. counted_on e.0.turn c g (asks_may c.session g (fed_asks c.session piece g fed)) (h.counted e in_it is) } in
       moved_keeps v now key c.number ok (record {
         was = c;
         was_at = at;
@@ -170,6 +186,7 @@ module _ (v : ConnectionsView) (ok : IsConnections v) (key : ℕ) (c : Connectio
         own = λ d e. let is = only d (sym (set_is p) ∙ e) in (ap (λ (x : ConnectionView). x.number) is, subst (IsHere now) (sym is) here);
         dialect = refl;
         next = refl;
+        first = refl;
         taken = refl;
         heard = λ h differs. bytes_other h c.number v.heard piece differs;
         given = λ h differs. bytes_other h c.number v.given g.bytes differs;
@@ -194,6 +211,8 @@ module _ (v : ConnectionsView) (ok : IsConnections v) (key : ℕ) (c : Connectio
       let talks : SessionOk v.dialect Q all g.session (bytes_of_connection c.number now.given) = subst (SessionOk v.dialect Q all g.session) (sym (bytes_own c.number v.given g.bytes)) talked in
       let here : IsHere now (after_given c g) = record {
         below = h.below;
+        reads = ap (λ (x : SessionStep). dialect_of x.session.reader) step ∙ (replied_reads_so c.session turn reply ∙ h.reads);
+        since = h.since;
         talks = talks;
         counted = λ e in_it is. counted_on e.0.turn c g (subst (MayAsk c.session) (sym step) (replied_asks c.session turn reply)) (h.counted e in_it is);
       } in
@@ -205,6 +224,7 @@ module _ (v : ConnectionsView) (ok : IsConnections v) (key : ℕ) (c : Connectio
         own = λ d e. let is = only d (sym (set_is p) ∙ e) in (ap (λ (x : ConnectionView). x.number) is, subst (IsHere now) (sym is) here);
         dialect = refl;
         next = refl;
+        first = refl;
         taken = refl;
         heard = λ h differs. refl;
         given = λ h differs. bytes_other h c.number v.given g.bytes differs;

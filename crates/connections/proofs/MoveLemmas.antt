@@ -26,6 +26,7 @@ pub record Moved (v now : ConnectionsView) (key number : ℕ) : Type 0 where
   pub own : (c : ConnectionView) → place_in now.table key ≡ Some c → (c.number ≡ number) × IsHere now c
   pub dialect : now.dialect ≡ v.dialect
   pub next : now.next ≡ v.next
+  pub first : now.first ≡ v.first
   pub taken : now.taken ≡ v.taken
   pub heard : (h : ℕ) → h ≢ number → bytes_of_connection h now.heard ≡ bytes_of_connection h v.heard
   pub given : (h : ℕ) → h ≢ number → bytes_of_connection h now.given ≡ bytes_of_connection h v.given
@@ -34,10 +35,12 @@ pub record Moved (v now : ConnectionsView) (key number : ℕ) : Type 0 where
   pub answered : IsAnswered now.dialect (WasReplied now.replied number) (bytes_of_connection number now.heard) (bytes_of_connection number now.given)
 
 -- a connection that did not move, as its bytes and its replies did not
-pub stays_here : (v now : ConnectionsView) (c : ConnectionView) → now.dialect ≡ v.dialect → now.next ≡ v.next → now.taken ≡ v.taken → bytes_of_connection c.number now.heard ≡ bytes_of_connection c.number v.heard → bytes_of_connection c.number now.given ≡ bytes_of_connection c.number v.given
+pub stays_here : (v now : ConnectionsView) (c : ConnectionView) → now.dialect ≡ v.dialect → now.next ≡ v.next → now.first ≡ v.first → now.taken ≡ v.taken → bytes_of_connection c.number now.heard ≡ bytes_of_connection c.number v.heard → bytes_of_connection c.number now.given ≡ bytes_of_connection c.number v.given
     → ((q : ℕ) (r : replies.Reply) → WasReplied v.replied c.number q r → WasReplied now.replied c.number q r) → IsHere v c → IsHere now c
-stays_here v now c dialect next taken heard given replied h = record {
+stays_here v now c dialect next first taken heard given replied h = record {
   below = subst (λ (n : ℕ). c.number < n) (sym next) h.below;
+  reads = h.reads ∙ sym dialect;
+  since = subst (λ (n : ℕ). n ≤ c.number) (sym first) h.since;
   talks = subst (λ (z : Dialect × List ℕ × List ℕ). SessionOk z.0 (WasReplied now.replied c.number) z.1 c.session z.2) (λ i. (sym dialect i, sym heard i, sym given i))
       (session_implies v.dialect (WasReplied v.replied c.number) (WasReplied now.replied c.number) (bytes_of_connection c.number v.heard) c.session (bytes_of_connection c.number v.given) replied h.talks);
   counted = λ e in_it is. h.counted e (subst (λ (es : List (CommandNumber × Command)). Contains es e) taken in_it) is;
@@ -63,7 +66,7 @@ module _ (v now : ConnectionsView) (key number : ℕ) (ok : IsConnections v) (m 
       (λ (differs : k ≢ key).
       let before : place_in v.table k ≡ Some c = sym (m.others k differs) ∙ at in
       let other : c.number ≢ number = λ same. differs (ok.one_place k key c m.was before m.was_at (same ∙ sym m.was_number)) in
-      stays_here v now c m.dialect m.next m.taken (m.heard c.number other) (m.given c.number other) (m.replied c.number) (ok.here k c before))
+      stays_here v now c m.dialect m.next m.first m.taken (m.heard c.number other) (m.given c.number other) (m.replied c.number) (ok.here k c before))
       (same_or_not k key)
 
   asked_now : (e : CommandNumber × Command) → Contains v.taken e → IsAskedIn now.dialect (bytes_of_connection e.0.connection now.heard) e.0.turn e.1
@@ -94,6 +97,15 @@ module _ (v now : ConnectionsView) (key number : ℕ) (ok : IsConnections v) (m 
         (m.heard n other ∙ f.0, m.given n other ∙ f.1);
     asked = λ e in_it. asked_now e (subst (λ (es : List (CommandNumber × Command)). Contains es e) m.taken in_it);
     below = λ e in_it. subst (λ (n : ℕ). e.0.connection < n) (sym m.next) (ok.below e (subst (λ (es : List (CommandNumber × Command)). Contains es e) m.taken in_it));
+    least = let least = ok.least in let next = m.next in let first = m.first in omega (arith, least, next, first);
+    none_before = λ n less.
+        let since = (ok.here key m.was m.was_at).since in
+        let is = m.was_number in
+        let first = m.first in
+        let other : n ≢ number = λ same. absurd (omega (arith, since, is, first, less, same)) in
+        let f = ok.none_before n (omega (arith, first, less)) in
+        (m.heard n other ∙ f.0, m.given n other ∙ f.1);
+    since = λ e in_it. subst (λ (n : ℕ). n ≤ e.0.connection) (sym m.first) (ok.since e (subst (λ (es : List (CommandNumber × Command)). Contains es e) m.taken in_it));
     once = λ i j a b at_i at_j.
         ok.once i j a b (subst (λ (es : List (CommandNumber × Command)). slice_get es i ≡ Some a) m.taken at_i) (subst (λ (es : List (CommandNumber × Command)). slice_get es j ≡ Some b) m.taken at_j);
   }

@@ -193,8 +193,8 @@ written_others at count table = by (slice_get table at.key)
 written_here : (v : ConnectionsView) (table : List (Option ConnectionView)) (at : Place) (count key : ℕ) (d : ConnectionView) → IsConnections v → WasWritten at count key v.table d → IsHere (record v { table = table }) d
 written_here v table at count key d ok w =
     let h = ok.here key w.was w.there in
-    let same : IsHere (record v { table = table }) w.was = record { below = h.below; talks = h.talks; counted = h.counted } in
-    let less : IsHere (record v { table = table }) (after_written count w.was) = record { below = h.below; talks = h.talks; counted = h.counted } in
+    let same : IsHere (record v { table = table }) w.was = record { below = h.below; reads = h.reads; since = h.since; talks = h.talks; counted = h.counted } in
+    let less : IsHere (record v { table = table }) (after_written count w.was) = record { below = h.below; reads = h.reads; since = h.since; talks = h.talks; counted = h.counted } in
     ⊎_elim (λ is. subst (IsHere (record v { table = table })) (sym is) same) (λ is. subst (IsHere (record v { table = table })) (sym is.0) less) w.became
 
 number_of : (at : Place) (count key : ℕ) (table : List (Option ConnectionView)) (d : ConnectionView) (w : WasWritten at count key table d) → w.was.number ≡ d.number
@@ -211,5 +211,8 @@ written_keeps v at count ok = record {
   fresh = ok.fresh;
   asked = ok.asked;
   below = ok.below;
+  least = ok.least;
+  none_before = ok.none_before;
+  since = ok.since;
   once = ok.once;
 }

@@ -1,5 +1,5 @@
 -- A command that is taken is the outstanding one, and the next of its connection.
-use Rattle.std.proofs.Common.{◌≡◌, ◌⊎◌, inl, inr, ⊎_elim, ℕ, zero, suc, ◌+◌, ◌-◌, ◌<◌, Bool, List, [], ◌∷◌, ◌++◌, length, Option, Some, None, refl, sym, ap, ◌∙◌, subst, arith, slice_get, slice_set}
+use Rattle.std.proofs.Common.{◌≡◌, ◌≤◌, ◌⊎◌, inl, inr, ⊎_elim, ℕ, zero, suc, ◌+◌, ◌-◌, ◌<◌, Bool, List, [], ◌∷◌, ◌++◌, length, Option, Some, None, refl, sym, ap, ◌∙◌, subst, arith, slice_get, slice_set}
 use Rattle.std.specs.Prelude.{◌≢◌, Contains}
 use Rattle.std.proofs.lemmas.List.Elements.{Contains-append_left, Contains-append_right, Contains-append_cases}
 use Rattle.proto.specs.declared.command.Command.{Command}
@@ -8,6 +8,7 @@ use Rattle.dialect.specs.declared.turn.Show.{Show}
 use Rattle.grammar.specs.declared.turn.Turn.{Turn}
 use Rattle.grammar.specs.declared.turn.Turn.TheVariants.{Ask, Say, Close}
 use Rattle.grammar.specs.Asks.{SpellsIn, commands_in, TextsShown, IsAskedIn}
+use Rattle.grammar.specs.Reads.{dialect_of}
 use Rattle.grammar.proofs.ReadLemmas.{read_spells}
 use Rattle.grammar.proofs.ProfileLemmas.{spelled_has_text}
 use Rattle.memcached_spec.specs.Asked.{HasText}
@@ -138,6 +139,8 @@ module _ (v : ConnectionsView) (ok : IsConnections v) (key : ℕ) (c : Connectio
       let last : t.session.last ≡ c.session.last = ap (λ (s : Session). s.last) of.now_is in
       subst (IsHere now) (sym t.now_is) (record {
         below = h.below;
+        reads = ap (λ (s : Session). dialect_of s.reader) of.now_is ∙ h.reads;
+        since = h.since;
         talks = taken_ok v.dialect (WasReplied v.replied c.number) (bytes_of_connection c.number v.heard) c.session (bytes_of_connection c.number v.given) ready t.session of h.talks;
         counted = λ e in_it is. ⊎_elim
             (λ (old : Contains v.taken e). let n = h.counted e old is in omega (arith, n, none, last))
@@ -162,6 +165,8 @@ module _ (v : ConnectionsView) (ok : IsConnections v) (key : ℕ) (c : Connectio
       let o = ok.here k d e in
       record {
         below = o.below;
+        reads = o.reads;
+        since = o.since;
         talks = o.talks;
         counted = λ x in_it is. ⊎_elim
             (λ (old : Contains v.taken x). o.counted x old is)
@@ -200,6 +205,12 @@ module _ (v : ConnectionsView) (ok : IsConnections v) (key : ℕ) (c : Connectio
     below = λ e in_it. ⊎_elim
         (λ (old : Contains v.taken e). ok.below e old)
         (λ (new : entry ≡ e). subst (λ (x : CommandNumber × Command). x.0.connection < v.next) new h.below)
+        (old_or_new e in_it);
+    least = ok.least;
+    none_before = ok.none_before;
+    since = λ e in_it. ⊎_elim
+        (λ (old : Contains v.taken e). ok.since e old)
+        (λ (new : entry ≡ e). subst (λ (x : CommandNumber × Command). v.first ≤ x.0.connection) new h.since)
         (old_or_new e in_it);
     once = once_now;
   }

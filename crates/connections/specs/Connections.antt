@@ -5,6 +5,7 @@ use Rattle.proto.specs.declared.reply.Reply as replies
 use Rattle.grammar.specs.declared.reader.Dialect.{Dialect}
 use Rattle.grammar.specs.declared.turn.Turn.{Turn}
 use Rattle.grammar.specs.Asks.{TextsShown, BeginsIn, IsAskedIn}
+use Rattle.grammar.specs.Reads.{dialect_of}
 use Rattle.session.specs.Taken.{SessionOk}
 use Rattle.base.specs.declared.fault.Fault.{Fault}
 use Rattle.connections.specs.declared.connections.CommandNumber.{CommandNumber}
@@ -20,6 +21,8 @@ pub record ConnectionsView : Type 0 where
   pub table : List (Option ConnectionView)
   -- the least number that the next connection may have
   pub next : ℕ
+  -- the least number that the first connection might have
+  pub first : ℕ
   -- what came of each connection, in order, by its number
   pub heard : List (ℕ × List ℕ)
   -- what each connection was given
@@ -56,12 +59,17 @@ AreBefore taken number turn = (e : CommandNumber × Command) → Contains taken 
 abbrev pub AreReplied : List (CommandNumber × replies.Reply) → ℕ → ℕ → Type 0
 AreReplied replied number turn = (k : ℕ) → 1 ≤ k → k < turn → (reply : replies.Reply) × WasReplied replied number k reply
 
+-- no connection came, and the first one has this number at least
+abbrev pub no_connections_from : Dialect → ℕ → ConnectionsView
+no_connections_from d first = record { dialect = d; table = []; next = first; first = first; heard = []; given = []; passed = []; taken = []; replied = [] }
+
 -- no connection came
 abbrev pub no_connections : Dialect → ConnectionsView
-no_connections d = record { dialect = d; table = []; next = 0; heard = []; given = []; passed = []; taken = []; replied = [] }
+no_connections d = no_connections_from d 0
 
 pub record HasSameLogs (v now : ConnectionsView) : Type 0 where
   pub dialect : now.dialect ≡ v.dialect
+  pub first : now.first ≡ v.first
   pub heard : now.heard ≡ v.heard
   pub given : now.given ≡ v.given
   pub passed : now.passed ≡ v.passed
@@ -83,6 +91,8 @@ untaken (Some command) = 1
 -- a connection that is here
 pub record IsHere (v : ConnectionsView) (c : ConnectionView) : Type 0 where
   pub below : c.number < v.next
+  pub reads : dialect_of c.session.reader ≡ v.dialect
+  pub since : v.first ≤ c.number
   pub talks : SessionOk v.dialect (WasReplied v.replied c.number) (bytes_of_connection c.number v.heard) c.session (bytes_of_connection c.number v.given)
   -- the commands that were taken come before the one that was not
   pub counted : (e : CommandNumber × Command) → Contains v.taken e → e.0.connection ≡ c.number → e.0.turn + untaken c.session.command ≤ c.session.last
@@ -96,5 +106,9 @@ pub record IsConnections (v : ConnectionsView) : Type 0 where
   -- a command that was taken is the one of its number that the bytes of its connection ask
   pub asked : (e : CommandNumber × Command) → Contains v.taken e → IsAskedIn v.dialect (bytes_of_connection e.0.connection v.heard) e.0.turn e.1
   pub below : (e : CommandNumber × Command) → Contains v.taken e → e.0.connection < v.next
+  -- no connection of a lower number than the first might have
+  pub least : v.first ≤ v.next
+  pub none_before : (number : ℕ) → number < v.first → (bytes_of_connection number v.heard ≡ []) × (bytes_of_connection number v.given ≡ [])
+  pub since : (e : CommandNumber × Command) → Contains v.taken e → v.first ≤ e.0.connection
   -- each command is taken once
   pub once : (i j : ℕ) (a b : CommandNumber × Command) → slice_get v.taken i ≡ Some a → slice_get v.taken j ≡ Some b → a.0.connection ≡ b.0.connection → a.0.turn ≡ b.0.turn → i ≡ j

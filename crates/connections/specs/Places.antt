@@ -3,6 +3,7 @@ use Rattle.std.specs.Prelude.{◌≡◌, ◌≢◌, ◌⊎◌, ℕ, ◌-◌, ◌
 use Rattle.base.specs.declared.fault.Fault.{Fault}
 use Rattle.base.specs.declared.fault.Fault.TheVariants as fault
 use Rattle.proto.specs.declared.reply.Reply as replies
+use Rattle.grammar.specs.Reads.{dialect_of, with_mark}
 use Rattle.session.specs.declared.session.Ready.{Ready}
 use Rattle.connections.specs.declared.connection.TheConstants.{MOST_UNWRITTEN}
 use Rattle.connections.specs.declared.places.Place.{Place}
@@ -38,6 +39,11 @@ stays_open (Ok said) = not said.closes
 stays_open (Err f) = false
 
 -- ---- a piece comes
+
+-- what comes with a piece to who is there
+abbrev pub comes_to : Option ConnectionView → Bool → List ℕ → List ℕ
+comes_to None full piece = piece
+comes_to (Some c) full piece = with_mark (dialect_of c.session.reader) full piece
 
 abbrev pub FeedsHere : Place → List ℕ → ConnectionView → Option ConnectionView → Result Said Fault → Type 0
 FeedsHere at piece c new (Ok said) = (now : ConnectionView) × IsFedTo c piece now said.bytes.items × (now.number ≡ c.number) × (new ≡ (if not said.closes then Some now else None)) × IsSaid at now said

@@ -2,7 +2,7 @@
 
 ghost use Rattle.std.specs.Prelude.{◌≡◌, ℕ};
 
-use grammar::Dialect;
+use grammar::{Conditions, Dialect};
 use proto::{Fault, Reply};
 use session::{Ready, Session};
 use std::alloc::Global;
@@ -40,6 +40,7 @@ impl Model for Connection {
 
 impl Connection {
     ghost use Rattle.std.specs.Prelude.{◌≡◌, ◌⊎◌, ◌≤◌, ◌-◌, None, IfOk, IfErr, IfSome, IfNone, is_some};
+    ghost use Rattle.grammar.specs.Reads.{dialect_of, with_mark};
     ghost use Rattle.connections.specs.Connection.{IsFedTo, ConnectionAnswers, IsTaken, new_connection};
     ghost use Rattle.connections.specs.declared.connection.TheConstants.{MOST_UNWRITTEN};
 
@@ -61,17 +62,22 @@ impl Connection {
         self.number
     }
 
-    /// Reads a piece of its bytes: the bytes that it is given at once. If a command is outstanding what comes
+    /// Reads a piece of its bytes, under these conditions: the bytes that it is given at once. If a command is outstanding what comes
     /// behind it waits, so nothing is given.
     ///
     /// NoMemory: an allocation failed; Stopped: the connection has asked 2^64 - 1 commands. After an error a part may
     /// have been read: the connection is to be closed.
-    pub fn feed(&mut self, alloc: Global, piece: &[u8]) -> Result<Vec<u8>, Fault>
-        ensures ok { IfOk result (λ bytes. IsFedTo self.old piece.now self.new bytes.items) }
+    pub fn feed(
+        &mut self,
+        alloc: Global,
+        piece: &[u8],
+        conditions: &mut Conditions,
+    ) -> Result<Vec<u8>, Fault>
+        ensures ok { IfOk result (λ bytes. IsFedTo self.old (with_mark (dialect_of self.old.session.reader) conditions.old.is_full piece.now) self.new bytes.items) }
         ensures same { self.new.number ≡ self.old.number }
         ensures only { IfErr result (λ fault. (fault ≡ Fault.NoMemory) ⊎ (fault ≡ Fault.Stopped)) }
     {
-        let bytes = self.session.feed(alloc, piece)?;
+        let bytes = self.session.feed(alloc, piece, conditions)?;
         self.unwritten = self.unwritten.saturating_add(bytes.len());
         Ok(bytes)
     }

@@ -7,7 +7,7 @@ use crate::history::History;
 use crate::places::Place;
 use crate::said::Said;
 use crate::table;
-use grammar::Dialect;
+use grammar::{Conditions, Dialect};
 use http_server::Log;
 use proto::{Command, Fault, Reply};
 use session::Ready;
@@ -28,6 +28,8 @@ pub struct Connections {
     table: Vec<Option<Connection>>,
     /// The least number that the next connection may have.
     next: u64,
+    /// The least number that the first connection might have.
+    first: u64,
     history: History,
     /// The commands that were taken.
     taken: Log<CommandNumber, Command>,
@@ -41,6 +43,7 @@ impl Drop for Connections {
             dialect: _,
             table: _,
             next: _,
+            first: _,
             history: _,
             taken: _,
             replied: _,
@@ -53,34 +56,58 @@ impl Model for Connections {
 
     ghost Value = { ConnectionsView };
 
-    ghost view = { λ c. record { dialect = c.dialect; table = c.table.items; next = c.next; heard = c.history.heard; given = c.history.given; passed = c.history.passed; taken = c.taken.items; replied = c.replied.items } };
+    ghost view = { λ c. record { dialect = c.dialect; table = c.table.items; next = c.next; first = c.first; heard = c.history.heard; given = c.history.given; passed = c.history.passed; taken = c.taken.items; replied = c.replied.items } };
 
-    ghost invariant = { λ c. IsConnections (record { dialect = c.dialect; table = c.table.items; next = c.next; heard = c.history.heard; given = c.history.given; passed = c.history.passed; taken = c.taken.items; replied = c.replied.items }) };
+    ghost invariant = { λ c. IsConnections (record { dialect = c.dialect; table = c.table.items; next = c.next; first = c.first; heard = c.history.heard; given = c.history.given; passed = c.history.passed; taken = c.taken.items; replied = c.replied.items }) };
 }
 
 impl Connections {
     ghost use Rattle.std.specs.Prelude.{◌≡◌, ◌<◌, ◌≤◌, ◌+◌, ◌^◌, ◌++◌, ◌∷◌, ◌⊎◌, [], true, false, None, Some, IfOk, IfErr, OnOk, OnErr, OnSome, IfSome, IfNone, Err, is_some};
     ghost use Rattle.memcached_spec.specs.Asked.{HasText};
+    ghost use Rattle.grammar.specs.Reads.{with_mark};
     ghost use Rattle.connections.specs.Connection.{new_connection};
     ghost use Rattle.connections.specs.Places.{place_in, is_here, is_untaken_in, left_at, written_at, HasSameOthers, IsGrown};
     ghost use Rattle.connections.specs.Owed.{ReadsFurther, AnswersOn, BecomesAt, IsTakenAt, HasNoneToTake};
     ghost use Rattle.connections.specs.History.{IsHistory, given_as, moment_as};
     ghost use Rattle.connections.specs.Told.{IsToldAt, IsToldToLeave, IsFedAt, IsAnsweredAt};
     ghost use Rattle.connections.specs.declared.table.TheConstants.{MOST_PLACES};
-    ghost use Rattle.connections.specs.Connections.{IsConnections, no_connections, HasSameLogs, PassesOn, AreBefore, AreReplied};
+    ghost use Rattle.connections.specs.Connections.{IsConnections, no_connections, no_connections_from, HasSameLogs, PassesOn, AreBefore, AreReplied};
 
     /// No connection came. Their bytes are to be read in this grammar.
     pub fn new(alloc: Global, dialect: Dialect) -> Connections
         ensures { result ≡ no_connections dialect }
     {
+        Connections::from(alloc, dialect, 0)
+    }
+
+    /// No connection came, and the first one that comes has this number at least: numbers below it were those of
+    /// connections of a process before this one.
+    pub fn from(alloc: Global, dialect: Dialect, first: u64) -> Connections
+        ensures { result ≡ no_connections_from dialect first }
+    {
         Connections {
             dialect,
             table: Vec::new(alloc),
-            next: 0,
+            next: first,
+            first,
             history: History::new(),
             taken: Log::new(),
             replied: Log::new(),
         }
+    }
+
+    /// In which grammar their bytes are read.
+    pub fn dialect(&self) -> Dialect
+        ensures { result ≡ self.now.dialect }
+    {
+        self.dialect
+    }
+
+    /// The least number that the next connection may have.
+    pub fn next(&self) -> u64
+        ensures { result ≡ self.now.next }
+    {
+        self.next
     }
 
     /// A connection comes. Connections are numbered by rising numbers; the event loop may use a key again after
@@ -116,15 +143,21 @@ impl Connections {
         Ok(())
     }
 
-    /// Reads a piece of what comes of a connection: what the connection is given at once. It stays at its key unless
+    /// Reads a piece of what comes of a connection, under these conditions: what the connection is given at once. It stays at its key unless
     /// that says that it is to be closed, and it is told whether a command of it is outstanding now.
     ///
     /// Unfit: it is not here; NoMemory: an allocation failed; Stopped: it has no number left for a command. After
     /// an error it is not here any more, and is to be closed.
-    pub fn hear(&mut self, alloc: Global, at: Place, piece: Vec<u8>) -> Result<Said, Fault>
-        ensures heard { is_here at.number self.old.table at.key ≡ true → self.new.heard ≡ self.old.heard ++ (at.number, piece.items) ∷ [] }
+    pub fn hear(
+        &mut self,
+        alloc: Global,
+        at: Place,
+        piece: Vec<u8>,
+        conditions: &mut Conditions,
+    ) -> Result<Said, Fault>
+        ensures heard { is_here at.number self.old.table at.key ≡ true → self.new.heard ≡ self.old.heard ++ (at.number, with_mark self.old.dialect conditions.old.is_full piece.items) ∷ [] }
         ensures given { IfOk result (λ said. self.new.given ≡ self.old.given ++ (at.number, said.bytes.items) ∷ []) }
-        ensures passed { is_here at.number self.old.table at.key ≡ true → PassesOn at.number piece.items self.old.passed self.new.passed result }
+        ensures passed { is_here at.number self.old.table at.key ≡ true → PassesOn at.number (with_mark self.old.dialect conditions.old.is_full piece.items) self.old.passed self.new.passed result }
         ensures to { IfOk result (λ said. (said.key ≡ at.key) × (said.number ≡ at.number)) }
         ensures not_here { is_here at.number self.old.table at.key ≡ false → (result ≡ Err Fault.Unfit) × (self.new ≡ self.old) }
         ensures err { OnErr result (self.new.given ≡ self.old.given) }
@@ -133,16 +166,18 @@ impl Connections {
         ensures reads { IfOk result (λ said. BecomesAt ReadsFurther at self.old.table self.new.table) }
         ensures closes { IfOk result (λ said. said.closes ≡ true → place_in self.new.table at.key ≡ None) }
         ensures told { IfOk result (λ said. IsToldAt at self.old.table self.new.table said) }
-        ensures fed { IfOk result (λ said. IsFedAt at piece.items self.old.table self.new.table said) }
+        ensures fed { IfOk result (λ said. IsFedAt at (with_mark self.old.dialect conditions.old.is_full piece.items) self.old.table self.new.table said) }
         ensures same_others { HasSameOthers at.key self.old.table self.new.table }
         ensures others { (self.new.taken ≡ self.old.taken) × (self.new.replied ≡ self.old.replied) × (self.new.next ≡ self.old.next) }
         ensures dialect { self.new.dialect ≡ self.old.dialect }
+        ensures since { self.new.first ≡ self.old.first }
     {
         if !table::is_here(&self.table, at) {
             return Err(Fault::Unfit);
         }
-        self.history.hear(at.number, &piece);
-        let said = table::feed(&mut self.table, alloc, at, piece)?;
+        self.history
+            .hear(at.number, self.dialect, conditions.is_full, &piece);
+        let said = table::feed(&mut self.table, alloc, at, piece, conditions)?;
         self.history.give(at.number, &said.bytes);
         Ok(said)
     }
@@ -159,6 +194,7 @@ impl Connections {
         ensures same_others { HasSameOthers at.key self.old.table self.new.table }
         ensures others { (self.new.heard ≡ self.old.heard) × (self.new.given ≡ self.old.given) × (self.new.passed ≡ self.old.passed) × (self.new.replied ≡ self.old.replied) × (self.new.next ≡ self.old.next) }
         ensures dialect { self.new.dialect ≡ self.old.dialect }
+        ensures since { self.new.first ≡ self.old.first }
     {
         let ready = table::take(&mut self.table, at)?;
         let number = CommandNumber {
@@ -186,6 +222,7 @@ impl Connections {
         ensures same_others { HasSameOthers at.key self.old.table self.new.table }
         ensures others { (self.new.heard ≡ self.old.heard) × (self.new.taken ≡ self.old.taken) × (self.new.next ≡ self.old.next) }
         ensures dialect { self.new.dialect ≡ self.old.dialect }
+        ensures since { self.new.first ≡ self.old.first }
     {
         if !table::is_here(&self.table, at) {
             return None;
@@ -221,6 +258,7 @@ impl Connections {
         ensures fails { IfSome result (λ said. IsToldToLeave at self.new.table said) }
         ensures others { (self.new.heard ≡ self.old.heard) × (self.new.taken ≡ self.old.taken) × (self.new.replied ≡ self.old.replied) × (self.new.next ≡ self.old.next) }
         ensures dialect { self.new.dialect ≡ self.old.dialect }
+        ensures since { self.new.first ≡ self.old.first }
     {
         if !table::is_here(&self.table, at) {
             return None;

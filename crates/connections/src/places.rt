@@ -2,10 +2,12 @@
 
 ghost use Rattle.std.specs.Prelude.{◌≡◌, ◌⊎◌, None, IfOk, IfErr, if◌then◌else◌};
 ghost use Rattle.connections.specs.Connection.{IsFedTo};
-ghost use Rattle.connections.specs.Places.{is_of_connection, is_untaken, stays_open, IsSaid, AnswersOne, FeedsPlace, AnswersPlace, TakesPlace, left_place, written_place};
+ghost use Rattle.grammar.specs.Reads.{dialect_of, with_mark};
+ghost use Rattle.connections.specs.Places.{is_of_connection, is_untaken, comes_to, stays_open, IsSaid, AnswersOne, FeedsPlace, AnswersPlace, TakesPlace, left_place, written_place};
 
 use crate::connection::Connection;
 use crate::said::Said;
+use grammar::Conditions;
 use proto::{Fault, Reply};
 use session::Ready;
 use std::alloc::Global;
@@ -57,12 +59,13 @@ fn feed_one(
     alloc: Global,
     at: Place,
     piece: Vec<u8>,
+    conditions: &mut Conditions,
 ) -> Result<Said, Fault>
-    ensures ok { IfOk result (λ said. IsFedTo connection.old piece.items connection.new said.bytes.items × IsSaid at connection.new said) }
+    ensures ok { IfOk result (λ said. IsFedTo connection.old (with_mark (dialect_of connection.old.session.reader) conditions.old.is_full piece.items) connection.new said.bytes.items × IsSaid at connection.new said) }
     ensures same { connection.new.number ≡ connection.old.number }
     ensures only { IfErr result (λ fault. (fault ≡ Fault.NoMemory) ⊎ (fault ≡ Fault.Stopped)) }
 {
-    let bytes = connection.feed(alloc, piece.as_slice())?;
+    let bytes = connection.feed(alloc, piece.as_slice(), conditions)?;
     Ok(said_of(connection, at, bytes))
 }
 
@@ -109,13 +112,14 @@ pub fn feed(
     alloc: Global,
     at: Place,
     piece: Vec<u8>,
+    conditions: &mut Conditions,
 ) -> Result<Said, Fault>
-    ensures { FeedsPlace at piece.items place.old place.new result }
+    ensures { FeedsPlace at (comes_to place.old conditions.old.is_full piece.items) place.old place.new result }
 {
     let Some(connection) = place else {
         return Err(Fault::Unfit);
     };
-    let fed = feed_one(connection, alloc, at, piece);
+    let fed = feed_one(connection, alloc, at, piece, conditions);
     settle(place, stays_after(&fed));
     fed
 }

@@ -1,13 +1,14 @@
 //! A table of places.
 
 ghost use Rattle.std.specs.Prelude.{◌≡◌, ◌<◌, ◌≤◌, ◌⊎◌, length, slice_set, is_some, Some, Err, OnOk, IfErr};
-ghost use Rattle.connections.specs.Places.{place_in, FeedsAt, AnswersAt, TakesAt, left_at, written_at, IsGrown};
+ghost use Rattle.connections.specs.Places.{place_in, comes_to, FeedsAt, AnswersAt, TakesAt, left_at, written_at, IsGrown};
 ghost use Rattle.connections.specs.Places.{is_here as is_here_in, is_untaken_in};
 
 use crate::connection::Connection;
 use crate::places;
 use crate::places::Place;
 use crate::said::Said;
+use grammar::Conditions;
 use proto::{Fault, Reply};
 use session::Ready;
 use std::alloc::Global;
@@ -76,11 +77,12 @@ pub fn feed(
     alloc: Global,
     at: Place,
     piece: Vec<u8>,
+    conditions: &mut Conditions,
 ) -> Result<Said, Fault>
-    ensures { FeedsAt at piece.items table.old.items table.new.items result }
+    ensures { FeedsAt at (comes_to (place_in table.old.items at.key) conditions.old.is_full piece.items) table.old.items table.new.items result }
 {
     match table.get_mut(at.key) {
-        Some(place) => places::feed(place, alloc, at, piece),
+        Some(place) => places::feed(place, alloc, at, piece, conditions),
         None => Err(Fault::Unfit),
     }
 }

@@ -14,6 +14,9 @@ report_from totals = record {
   rollbacks = told_since totals.rollbacks;
   refused = told_since totals.refused;
   failed = told_since totals.failed;
+  idle = told_since totals.idle;
+  lines = told_since totals.lines;
+  memory = told_since totals.memory;
 }
 
 abbrev pub due_lines : Report → Totals → ℕ → Due
@@ -24,6 +27,9 @@ due_lines report totals second = record {
   rollbacks = due_number report.rollbacks totals.rollbacks second;
   refused = due_number report.refused totals.refused second;
   failed = due_number report.failed totals.failed second;
+  idle = due_number report.idle totals.idle second;
+  lines = due_number report.lines totals.lines second;
+  memory = due_number report.memory totals.memory second;
 }
 
 abbrev pub report_after : Report → Totals → ℕ → Report
@@ -34,4 +40,7 @@ report_after report totals second = record {
   rollbacks = told_after report.rollbacks totals.rollbacks second;
   refused = told_after report.refused totals.refused second;
   failed = told_after report.failed totals.failed second;
+  idle = told_after report.idle totals.idle second;
+  lines = told_after report.lines totals.lines second;
+  memory = told_after report.memory totals.memory second;
 }

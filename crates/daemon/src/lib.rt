@@ -8,15 +8,15 @@
 mod laws;
 mod lines;
 mod report;
-mod resident;
 mod settings;
 mod stamped;
+mod system;
 mod told;
 
 pub use laws::lines_add_up;
-pub use lines::{NO_TARGET, tell, tell_listening, tell_start, tell_status};
+pub use lines::{NO_TARGET, tell, tell_few_files, tell_listening, tell_start, tell_status};
 pub use report::{Due, Report, Totals};
-pub use resident::resident_pages;
-pub use settings::{MOST_CONNECTIONS, Settings, VERSION, read_settings};
+pub use settings::{Listen, MOST_CONNECTIONS, Settings, read_settings};
 pub use stamped::{Stamped, seconds};
+pub use system::{open_files, process_id, resident_pages};
 pub use told::Told;

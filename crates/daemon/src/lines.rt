@@ -1,8 +1,8 @@
 //! The lines of the log.
 
 use crate::report::Due;
-use crate::settings::{Settings, VERSION};
-use figures::{NodeFigures, Replicas};
+use crate::settings::{Listen, Settings};
+use figures::{Figures, NodeFigures, Refusal, Refusals, Replicas, VERSION};
 use log::{Log, info, warn};
 use std::net::SocketAddr;
 
@@ -13,6 +13,19 @@ pub const NO_TARGET: &str = "";
 pub fn tell_start<R: Log>(rt: &R, settings: &Settings) {
     let (u, connections) = (settings.u, settings.connections);
     info!(rt; target: NO_TARGET, "eve_cached {VERSION} with u {u}: at most {connections} connections");
+    if settings.max_bytes != 0 {
+        let bytes = settings.max_bytes;
+        info!(rt; target: NO_TARGET, "nothing more is stored while the items have more than {bytes} bytes");
+    }
+    if settings.idle != 0 {
+        let seconds = settings.idle;
+        info!(rt; target: NO_TARGET, "a connection on which nothing happens for {seconds} seconds is closed");
+    }
+}
+
+/// Tells that fewer files may be open than so many connections take.
+pub fn tell_few_files<R: Log>(rt: &R, files: u64, needed: u64) {
+    warn!(rt; target: NO_TARGET, "at most {files} files may be open, and {needed} may be needed: raise LimitNOFILE, or ulimit -n");
 }
 
 /// Tells where its figures are shown.
@@ -21,8 +34,11 @@ pub fn tell_status<R: Log>(rt: &R, address: SocketAddr) {
 }
 
 /// Tells where clients are served.
-pub fn tell_listening<R: Log>(rt: &R, address: SocketAddr) {
-    info!(rt; target: NO_TARGET, "listening on {address}");
+pub fn tell_listening<R: Log>(rt: &R, listen: &Listen) {
+    match listen {
+        Listen::Tcp(address) => info!(rt; target: NO_TARGET, "listening on {address}"),
+        Listen::Unix(path) => info!(rt; target: NO_TARGET, "listening on unix:{path}"),
+    }
 }
 
 /// How many of these nodes are up.
@@ -43,19 +59,49 @@ fn tell_nodes<R: Log>(rt: &R, due: Due, replicas: &Replicas) {
     }
 }
 
-/// Tells what is due.
-pub fn tell<R: Log>(rt: &R, due: Due, replicas: &Replicas) {
-    tell_nodes(rt, due, replicas);
-    if let Some(count) = due.suspicions {
-        warn!(rt; target: NO_TARGET, "suspicions of a leader: {count}");
-    }
-    if let Some(count) = due.rollbacks {
-        warn!(rt; target: NO_TARGET, "batches rolled back: {count}");
-    }
+/// Tells of connections.
+fn tell_connections<R: Log>(rt: &R, due: Due) {
     if let Some(count) = due.refused {
         warn!(rt; target: NO_TARGET, "connections refused, since as many as allowed are open: {count}");
     }
     if let Some(count) = due.failed {
         warn!(rt; target: NO_TARGET, "accepting a connection failed, since descriptors or memory are at their limit: {count}");
     }
+    if let Some(count) = due.idle {
+        info!(rt; target: NO_TARGET, "connections closed, since nothing happened on them: {count}");
+    }
+}
+
+/// Tells of lines that were refused, and how many were since the start for each reason.
+fn tell_lines<R: Log>(rt: &R, due: Due, refusals: &Refusals) {
+    let Some(count) = due.lines else {
+        return;
+    };
+    let unknown = refusals.of(Refusal::Unknown);
+    let format = refusals.of(Refusal::Format);
+    let number = refusals.of(Refusal::Number);
+    let chunk = refusals.of(Refusal::Chunk);
+    let long = refusals.of(Refusal::Long);
+    let large = refusals.of(Refusal::Large);
+    let binary = refusals.of(Refusal::Binary);
+    let http = refusals.of(Refusal::Http);
+    let forbidden = refusals.of(Refusal::Forbidden);
+    let full = refusals.of(Refusal::Full);
+    warn!(rt; target: NO_TARGET, "lines refused: {count}; since the start {unknown} unknown, {format} format, {number} number, {chunk} chunk, {long} long, {large} large, {binary} binary, {http} http, {forbidden} forbidden, {full} full");
+}
+
+/// Tells what is due.
+pub fn tell<R: Log>(rt: &R, due: Due, figures: &Figures) {
+    tell_nodes(rt, due, &figures.replicas);
+    if let Some(count) = due.suspicions {
+        warn!(rt; target: NO_TARGET, "suspicions of a leader: {count}");
+    }
+    if let Some(count) = due.rollbacks {
+        warn!(rt; target: NO_TARGET, "batches rolled back: {count}");
+    }
+    if let Some(count) = due.memory {
+        warn!(rt; target: NO_TARGET, "memory refused, and something left undone: {count}");
+    }
+    tell_connections(rt, due);
+    tell_lines(rt, due, &figures.refusals);
 }

@@ -4,7 +4,7 @@ ghost use Rattle.std.specs.Prelude.{◌≡◌};
 ghost use Rattle.daemon.specs.Report.{report_from, due_lines, report_after};
 
 use crate::told::Told;
-use figures::{Figures, NodeFigures, plus};
+use figures::{ALL_REFUSALS, Figures, NodeFigures, Refusals, plus};
 
 /// What has happened since the start, of each kind that the log tells of.
 #[derive(Clone, Copy, Debug, PartialEq, Eq)]
@@ -21,6 +21,12 @@ pub struct Totals {
     pub refused: u64,
     /// Connections that could not be accepted.
     pub failed: u64,
+    /// Connections that were closed since nothing happened on them.
+    pub idle: u64,
+    /// Lines that were refused.
+    pub lines: u64,
+    /// How often memory was refused.
+    pub memory: u64,
 }
 
 /// How often these nodes stopped.
@@ -34,6 +40,13 @@ fn stopped(nodes: &[NodeFigures]) -> u64 {
         0,
         |sum, node| plus(sum, u64::from(!node.is_up && 0 < node.stops)),
     )
+}
+
+/// How many lines were refused, for all reasons.
+fn refused_lines(refusals: &Refusals) -> u64 {
+    ALL_REFUSALS
+        .iter()
+        .fold(0, |sum, refusal| plus(sum, refusals.of(*refusal)))
 }
 
 impl Totals {
@@ -50,6 +63,9 @@ impl Totals {
             rollbacks: figures.batches.rolled_back,
             refused: figures.connections.refused,
             failed: figures.connections.failed,
+            idle: figures.connections.idle,
+            lines: refused_lines(&figures.refusals),
+            memory: figures.memory.refusals,
         }
     }
 }
@@ -63,6 +79,9 @@ pub struct Due {
     pub rollbacks: Option<u64>,
     pub refused: Option<u64>,
     pub failed: Option<u64>,
+    pub idle: Option<u64>,
+    pub lines: Option<u64>,
+    pub memory: Option<u64>,
 }
 
 /// How far the log has told of each kind.
@@ -74,6 +93,9 @@ pub struct Report {
     pub rollbacks: Told,
     pub refused: Told,
     pub failed: Told,
+    pub idle: Told,
+    pub lines: Told,
+    pub memory: Told,
 }
 
 impl Report {
@@ -88,6 +110,9 @@ impl Report {
             rollbacks: Told::new(totals.rollbacks),
             refused: Told::new(totals.refused),
             failed: Told::new(totals.failed),
+            idle: Told::new(totals.idle),
+            lines: Told::new(totals.lines),
+            memory: Told::new(totals.memory),
         }
     }
 
@@ -103,6 +128,9 @@ impl Report {
             rollbacks: self.rollbacks.line(totals.rollbacks, second),
             refused: self.refused.line(totals.refused, second),
             failed: self.failed.line(totals.failed, second),
+            idle: self.idle.line(totals.idle, second),
+            lines: self.lines.line(totals.lines, second),
+            memory: self.memory.line(totals.memory, second),
         }
     }
 }

@@ -4,6 +4,7 @@ ghost use Rattle.std.specs.Prelude.{◌<◌, ◌≤◌, ◌≡◌, length};
 
 use clap::error::ErrorKind;
 use clap::{Arg, ArgAction, ArgMatches, Command, Error, value_parser};
+use figures::VERSION;
 use grammar::Dialect;
 use std::alloc::Global;
 use std::net::SocketAddr;
@@ -11,23 +12,39 @@ use std::net::SocketAddr;
 /// The most connections at once that may be asked for.
 pub const MOST_CONNECTIONS: u16 = 10000;
 
-/// The version of the daemon. `CHANGELOG.md` says what its numbers mean.
-pub const VERSION: &str = "2.0.0";
+/// The longest time without anything after which a connection may be closed, in seconds: some 68 years.
+const MOST_IDLE: u32 = 2147483647;
 
 const AFTER: &str =
     "It serves memcached's text protocol until a signal ends it. All items are in its memory.";
+
+/// What the address of a Unix socket begins with.
+const UNIX: &str = "unix:";
+
+/// Where clients are served.
+#[derive(Drop)]
+pub enum Listen {
+    /// At an address of the network.
+    Tcp(SocketAddr),
+    /// At a Unix socket, whose file has this path.
+    Unix(String),
+}
 
 /// What a daemon is to do.
 #[derive(Drop)]
 pub struct Settings {
     /// Where clients are served.
-    pub listen: Vec<SocketAddr>,
+    pub listen: Vec<Listen>,
     /// Where its figures are shown.
     pub status: Option<SocketAddr>,
     /// So many executors may stop, and so many verifiers.
     pub u: u8,
     /// So many connections are served at once.
     pub connections: u16,
+    /// A connection on which nothing happens for so many seconds is closed. 0: none is.
+    pub idle: u32,
+    /// Items with more bytes than this are not added to. 0: there is no limit.
+    pub max_bytes: u64,
     /// In which grammar clients' bytes are read.
     pub dialect: Dialect,
     ghost few: { u < 4 },
@@ -37,7 +54,7 @@ pub struct Settings {
 fn listen_option<'a>(alloc: Global) -> Arg<'a> {
     Arg::new(alloc, "listen")
         .long("listen")
-        .value_name("ADDR:PORT")
+        .value_name("ADDR:PORT|unix:PATH")
         .action(ArgAction::Append)
         .default_value("127.0.0.1:11211")
         .help("Where clients are served; may be given more than once")
@@ -61,6 +78,24 @@ fn connections_option<'a>(alloc: Global) -> Arg<'a> {
         .value_parser(value_parser!(u16).range(1..=i64::from(MOST_CONNECTIONS)))
         .default_value("1024")
         .help("The most connections at once")
+}
+
+/// The option for connections on which nothing happens.
+fn idle_option<'a>(alloc: Global) -> Arg<'a> {
+    Arg::new(alloc, "idle")
+        .long("idle")
+        .value_name("SECONDS")
+        .value_parser(value_parser!(u32).range(0..=i64::from(MOST_IDLE)))
+        .default_value("0")
+        .help("Closes a connection on which nothing happens for so long; 0: never")
+}
+
+/// The option for the bytes of items.
+fn max_bytes_option<'a>(alloc: Global) -> Arg<'a> {
+    Arg::new(alloc, "max-bytes")
+        .long("max-bytes")
+        .value_name("B")
+        .help("Refuses to store while the items have more bytes; with K, M or G: KiB, MiB, GiB")
 }
 
 /// The option for the grammar of clients' bytes.
@@ -89,6 +124,8 @@ fn command<'a>(alloc: Global) -> Result<Command<'a>, Error> {
         .arg(listen_option(alloc))?
         .arg(u_option(alloc))?
         .arg(connections_option(alloc))?
+        .arg(idle_option(alloc))?
+        .arg(max_bytes_option(alloc))?
         .arg(dialect_option(alloc))?
         .arg(status_option(alloc))?;
     Ok(command)
@@ -105,6 +142,49 @@ fn address(command: &mut Command<'_>, text: &str) -> Result<SocketAddr, Error> {
     }
 }
 
+/// Where the text says that clients are served.
+fn place_of(alloc: Global, command: &mut Command<'_>, text: &str) -> Result<Listen, Error> {
+    match text.strip_prefix(UNIX) {
+        Some("") => Err(command.error(
+            ErrorKind::ValueValidation,
+            "a Unix socket is of the form unix:/run/eve_cached/socket",
+        )?),
+        Some(path) => Ok(Listen::Unix(String::from_str(alloc, path)?)),
+        None => Ok(Listen::Tcp(address(command, text)?)),
+    }
+}
+
+/// The digits of a count of bytes, and how many bytes one of them stands for.
+fn parts_of_bytes(text: &str) -> (&str, u64) {
+    if let Some(digits) = text.strip_suffix('K') {
+        (digits, 1 << 10)
+    } else if let Some(digits) = text.strip_suffix('M') {
+        (digits, 1 << 20)
+    } else if let Some(digits) = text.strip_suffix('G') {
+        (digits, 1 << 30)
+    } else {
+        (text, 1)
+    }
+}
+
+/// The count of bytes that the text spells, which is not 0.
+fn bytes_of(text: &str) -> Option<u64> {
+    let (digits, unit) = parts_of_bytes(text);
+    let count = digits.parse::<u64>().ok()?.checked_mul(unit)?;
+    if count == 0 { None } else { Some(count) }
+}
+
+/// The limit of bytes that the text spells.
+fn max_bytes(command: &mut Command<'_>, text: &str) -> Result<u64, Error> {
+    match bytes_of(text) {
+        Some(count) => Ok(count),
+        None => Err(command.error(
+            ErrorKind::ValueValidation,
+            "a count of bytes is of the form 1000000, 512K, 64M or 8G",
+        )?),
+    }
+}
+
 /// The grammar that the text names.
 fn dialect(command: &mut Command<'_>, text: &str) -> Result<Dialect, Error> {
     match text {
@@ -114,15 +194,27 @@ fn dialect(command: &mut Command<'_>, text: &str) -> Result<Dialect, Error> {
     }
 }
 
-/// The addresses of clients.
-fn addresses(
-    alloc: Global,
+/// The limit of bytes that the matches name, for a daemon of this grammar. The profile has no reply for what is refused.
+fn limit_of(
     command: &mut Command<'_>,
-    texts: &[&str],
-) -> Result<Vec<SocketAddr>, Error> {
+    matches: &ArgMatches<'_>,
+    dialect: Dialect,
+) -> Result<u64, Error> {
+    match matches.get_str("max-bytes") {
+        Some(_) if dialect == Dialect::Profile => Err(command.error(
+            ErrorKind::ArgumentConflict,
+            "--max-bytes cannot be used with --dialect profile",
+        )?),
+        Some(text) => max_bytes(command, text),
+        None => Ok(0),
+    }
+}
+
+/// Where clients are served.
+fn places(alloc: Global, command: &mut Command<'_>, texts: &[&str]) -> Result<Vec<Listen>, Error> {
     let mut all = Vec::with_capacity(alloc, texts.len())?;
     for text in texts {
-        all.push(address(command, text)?)?;
+        all.push(place_of(alloc, command, text)?)?;
     }
     Ok(all)
 }
@@ -133,21 +225,25 @@ fn given(
     command: &mut Command<'_>,
     matches: &ArgMatches<'_>,
 ) -> Result<Settings, Error> {
-    let listen = addresses(alloc, command, matches.get_strs("listen").unwrap_or(&[]))?;
+    let listen = places(alloc, command, matches.get_strs("listen").unwrap_or(&[]))?;
     let status = match matches.get_str("status") {
         Some(text) => Some(address(command, text)?),
         None => None,
     };
     let dialect = dialect(command, matches.get_str("dialect").unwrap_or("memcached"))?;
+    let max_bytes = limit_of(command, matches, dialect)?;
     match (
         matches.get_one::<u8>("u"),
         matches.get_one::<u16>("connections"),
+        matches.get_one::<u32>("idle"),
     ) {
-        (Some(u), Some(connections)) if u < 4 => Ok(Settings {
+        (Some(u), Some(connections), Some(idle)) if u < 4 => Ok(Settings {
             listen,
             status,
             u,
             connections,
+            idle,
+            max_bytes,
             dialect,
         }),
         _ => Err(command.error(ErrorKind::InvalidValue, "a value is not valid")?),

@@ -1,7 +1,10 @@
 //! The text of lines.
 
-use daemon::{Due, Settings, resident_pages, tell, tell_listening, tell_start, tell_status};
-use figures::Replicas;
+use daemon::{
+    Due, Listen, Settings, open_files, resident_pages, tell, tell_few_files, tell_listening,
+    tell_start, tell_status,
+};
+use figures::{Figures, Refusal};
 use grammar::Dialect;
 use log::sink::{Lines, Memory};
 use std::alloc::Global;
@@ -9,9 +12,9 @@ use std::net::{Ipv4Addr, SocketAddr, SocketAddrV4};
 use std::test::Fail;
 
 /// What a log has that was told this.
-fn lines(alloc: Global, due: Due, replicas: &Replicas) -> Lines {
+fn lines(alloc: Global, due: Due, figures: &Figures) -> Lines {
     let memory = Memory::new(alloc);
-    tell(&memory, due, replicas);
+    tell(&memory, due, figures);
     memory.into_lines()
 }
 
@@ -27,11 +30,14 @@ fn are(lines: &Lines, texts: &[&str]) -> bool {
 
 #[test]
 fn each_kind_has_a_line(rt: HostRuntime) -> Result<(), Fail> {
-    let mut replicas = Replicas::NONE;
-    replicas.members = 3;
-    replicas.executors[0].is_up = true;
-    replicas.executors[2].is_up = true;
-    replicas.verifiers[1].is_up = true;
+    let mut figures = Figures::NONE;
+    figures.replicas.members = 3;
+    figures.replicas.executors[0].is_up = true;
+    figures.replicas.executors[2].is_up = true;
+    figures.replicas.verifiers[1].is_up = true;
+    figures.refusals.count(Refusal::Unknown);
+    figures.refusals.count(Refusal::Unknown);
+    figures.refusals.count(Refusal::Full);
     let due = Due {
         stops: Some(4),
         returns: Some(1),
@@ -39,8 +45,11 @@ fn each_kind_has_a_line(rt: HostRuntime) -> Result<(), Fail> {
         rollbacks: Some(5),
         refused: Some(100),
         failed: Some(7),
+        idle: Some(8),
+        lines: Some(3),
+        memory: Some(6),
     };
-    let told = lines(rt.alloc(), due, &replicas);
+    let told = lines(rt.alloc(), due, &figures);
     assert!(rt;
         are(
             &told,
@@ -49,8 +58,11 @@ fn each_kind_has_a_line(rt: HostRuntime) -> Result<(), Fail> {
                 "[INFO ] nodes back: 1; up are 2 of 3 executors, 1 of 3 verifiers",
                 "[WARN ] suspicions of a leader: 2",
                 "[WARN ] batches rolled back: 5",
+                "[WARN ] memory refused, and something left undone: 6",
                 "[WARN ] connections refused, since as many as allowed are open: 100",
                 "[WARN ] accepting a connection failed, since descriptors or memory are at their limit: 7",
+                "[INFO ] connections closed, since nothing happened on them: 8",
+                "[WARN ] lines refused: 3; since the start 2 unknown, 0 format, 0 number, 0 chunk, 0 long, 0 large, 0 binary, 0 http, 0 forbidden, 1 full",
             ]
         )
     );
@@ -66,8 +78,11 @@ fn what_is_not_due_is_not_told(rt: HostRuntime) -> Result<(), Fail> {
         rollbacks: None,
         refused: None,
         failed: None,
+        idle: None,
+        lines: None,
+        memory: None,
     };
-    assert!(rt; lines(rt.alloc(), due, &Replicas::NONE).is_empty());
+    assert!(rt; lines(rt.alloc(), due, &Figures::NONE).is_empty());
     Ok(())
 }
 
@@ -75,14 +90,29 @@ fn what_is_not_due_is_not_told(rt: HostRuntime) -> Result<(), Fail> {
 fn an_address_is_told(rt: HostRuntime) -> Result<(), Fail> {
     let memory = Memory::new(rt.alloc());
     let address = SocketAddr::V4(SocketAddrV4::new(Ipv4Addr::LOCALHOST, 11211));
-    tell_listening(&memory, address);
+    tell_listening(&memory, &Listen::Tcp(address));
+    assert!(rt; tells_of_a_socket(rt.alloc(), &memory));
     assert!(rt;
         are(
             &memory.into_lines(),
-            &["[INFO ] listening on 127.0.0.1:11211"]
+            &[
+                "[INFO ] listening on 127.0.0.1:11211",
+                "[INFO ] listening on unix:/run/eve.sock"
+            ]
         )
     );
     Ok(())
+}
+
+/// Tells that clients are served at a Unix socket. Whether there was memory for its path.
+fn tells_of_a_socket(alloc: Global, memory: &Memory) -> bool {
+    match String::from_str(alloc, "/run/eve.sock") {
+        Ok(path) => {
+            tell_listening(memory, &Listen::Unix(path));
+            true
+        }
+        Err(_) => false,
+    }
 }
 
 #[test]
@@ -94,15 +124,21 @@ fn the_start_is_told(rt: HostRuntime) -> Result<(), Fail> {
         status: Some(address),
         u: 2,
         connections: 77,
+        idle: 60,
+        max_bytes: 1024,
         dialect: Dialect::Memcached,
     };
     tell_start(&memory, &settings);
+    tell_few_files(&memory, 100, 137);
     tell_status(&memory, address);
     assert!(rt;
         are(
             &memory.into_lines(),
             &[
                 "[INFO ] eve_cached 2.0.0 with u 2: at most 77 connections",
+                "[INFO ] nothing more is stored while the items have more than 1024 bytes",
+                "[INFO ] a connection on which nothing happens for 60 seconds is closed",
+                "[WARN ] at most 100 files may be open, and 137 may be needed: raise LimitNOFILE, or ulimit -n",
                 "[INFO ] figures on http://127.0.0.1:11280/"
             ]
         )
@@ -116,5 +152,22 @@ fn resident_pages_are_the_second_number(rt: HostRuntime) -> Result<(), Fail> {
     assert_eq!(rt; resident_pages("5000"), None);
     assert_eq!(rt; resident_pages(""), None);
     assert_eq!(rt; resident_pages("5000 x"), None);
+    Ok(())
+}
+
+#[test]
+fn open_files_are_those_that_the_process_may_have(rt: HostRuntime) -> Result<(), Fail> {
+    let head = "Limit                     Soft Limit           Hard Limit           Units     \n";
+    assert_eq!(rt; open_files(head), None);
+    let some =
+        "Max processes   63427    63427    processes \nMax open files            1024                 1048576              files     \nMax locked memory         8388608  8388608  bytes \n";
+    assert_eq!(rt; open_files(some), Some(1024));
+    assert_eq!(rt;
+        open_files(
+            "Max open files            unlimited            unlimited            files     \n"
+        ),
+        None
+    );
+    assert_eq!(rt; open_files(""), None);
     Ok(())
 }

@@ -1,7 +1,7 @@
 //! Which lines are due.
 
 use daemon::{Due, Report, Totals};
-use figures::Figures;
+use figures::{Figures, Refusal};
 use std::test::Fail;
 
 const NOTHING: Totals = Totals {
@@ -11,6 +11,9 @@ const NOTHING: Totals = Totals {
     rollbacks: 0,
     refused: 0,
     failed: 0,
+    idle: 0,
+    lines: 0,
+    memory: 0,
 };
 
 const NO_LINE: Due = Due {
@@ -20,6 +23,9 @@ const NO_LINE: Due = Due {
     rollbacks: None,
     refused: None,
     failed: None,
+    idle: None,
+    lines: None,
+    memory: None,
 };
 
 #[test]
@@ -68,6 +74,21 @@ fn kinds_do_not_wait_for_one_another(rt: HostRuntime) -> Result<(), Fail> {
     };
     assert_eq!(rt; report.due(first, 10), one);
     assert_eq!(rt; report.due(second, 10), other);
+    Ok(())
+}
+
+#[test]
+fn lines_are_counted_over_all_reasons(rt: HostRuntime) -> Result<(), Fail> {
+    let mut figures = Figures::NONE;
+    figures.refusals.count(Refusal::Unknown);
+    figures.refusals.count(Refusal::Full);
+    figures.refusals.count(Refusal::Full);
+    figures.connections.idle = 5;
+    figures.memory.refusals = 2;
+    let totals = Totals::of(&figures);
+    assert_eq!(rt; totals.lines, 3);
+    assert_eq!(rt; totals.idle, 5);
+    assert_eq!(rt; totals.memory, 2);
     Ok(())
 }
 

@@ -2,7 +2,7 @@
 
 use clap::Error;
 use clap::error::ErrorKind;
-use daemon::{Settings, read_settings};
+use daemon::{Listen, Settings, read_settings};
 use grammar::Dialect;
 use std::alloc::Global;
 use std::net::SocketAddr;
@@ -25,6 +25,14 @@ fn is_at(address: &SocketAddr, text: &str) -> bool {
     text.parse::<SocketAddr>() == Ok(*address)
 }
 
+/// Whether this is where clients are served.
+fn is_for(listen: &Listen, text: &str) -> bool {
+    match listen {
+        Listen::Tcp(address) => is_at(address, text),
+        Listen::Unix(path) => text.strip_prefix("unix:") == Some(path.as_str()),
+    }
+}
+
 /// Whether they listen on these and no others.
 fn listens(settings: &Settings, texts: &[&str]) -> bool {
     settings.listen.len() == texts.len()
@@ -32,7 +40,7 @@ fn listens(settings: &Settings, texts: &[&str]) -> bool {
             .listen
             .iter()
             .zip(texts.iter())
-            .all(|(address, text)| is_at(address, text))
+            .all(|(listen, text)| is_for(listen, text))
 }
 
 fn defaults(alloc: Global) -> bool {
@@ -41,6 +49,8 @@ fn defaults(alloc: Global) -> bool {
             listens(&settings, &["127.0.0.1:11211"])
                 && settings.u == 1
                 && settings.connections == 1024
+                && settings.idle == 0
+                && settings.max_bytes == 0
                 && settings.dialect == Dialect::Memcached
                 && settings.status.is_none()
         }
@@ -50,12 +60,14 @@ fn defaults(alloc: Global) -> bool {
 
 fn all_given(alloc: Global) -> bool {
     let words =
-        "--listen 0.0.0.0:1 --u 3 --listen [::1]:2 --connections=10000 --dialect profile --status 127.0.0.1:3";
+        "--listen 0.0.0.0:1 --u 3 --listen [::1]:2 --listen unix:/run/e.sock --connections=10000 --idle 90 --dialect profile --status 127.0.0.1:3";
     match read(alloc, words) {
         Some(Ok(settings)) => {
-            listens(&settings, &["0.0.0.0:1", "[::1]:2"])
+            listens(&settings, &["0.0.0.0:1", "[::1]:2", "unix:/run/e.sock"])
                 && settings.u == 3
                 && settings.connections == 10000
+                && settings.idle == 90
+                && settings.max_bytes == 0
                 && settings.dialect == Dialect::Profile
                 && matches!(&settings.status, Some(address) if is_at(address, "127.0.0.1:3"))
         }
@@ -83,6 +95,30 @@ fn each_option_is_read(rt: HostRuntime) -> Result<(), Fail> {
     Ok(())
 }
 
+/// The limit of bytes that the word says.
+fn limit(alloc: Global, words: &str) -> Option<u64> {
+    match read(alloc, words)? {
+        Ok(settings) => Some(settings.max_bytes),
+        Err(_) => None,
+    }
+}
+
+#[test]
+fn a_limit_of_bytes_has_a_unit(rt: HostRuntime) -> Result<(), Fail> {
+    let rows = [
+        ("--max-bytes 1", 1),
+        ("--max-bytes 1000000", 1_000_000),
+        ("--max-bytes 3K", 3_072),
+        ("--max-bytes 64M", 67_108_864),
+        ("--max-bytes 4G", 4_294_967_296),
+        ("--max-bytes 17179869183G", 18_446_744_072_635_809_792),
+    ];
+    for (words, bytes) in rows {
+        assert_eq!(rt; limit(rt.alloc(), words), Some(bytes), "{words}");
+    }
+    Ok(())
+}
+
 #[test]
 fn help_and_version_are_no_mistake(rt: HostRuntime) -> Result<(), Fail> {
     let rows = [
@@ -106,8 +142,19 @@ fn other_words_are_refused(rt: HostRuntime) -> Result<(), Fail> {
         ("--connections 0", ErrorKind::ValueValidation),
         ("--connections 10001", ErrorKind::ValueValidation),
         ("--dialect meta", ErrorKind::InvalidValue),
+        ("--idle x", ErrorKind::ValueValidation),
+        ("--idle 2147483648", ErrorKind::ValueValidation),
+        ("--max-bytes 0", ErrorKind::ValueValidation),
+        ("--max-bytes K", ErrorKind::ValueValidation),
+        (
+            "--max-bytes 1K --dialect profile",
+            ErrorKind::ArgumentConflict,
+        ),
+        ("--max-bytes 1k", ErrorKind::ValueValidation),
+        ("--max-bytes 17179869184G", ErrorKind::ValueValidation),
         ("--listen 127.0.0.1", ErrorKind::ValueValidation),
         ("--listen localhost:1", ErrorKind::ValueValidation),
+        ("--listen unix:", ErrorKind::ValueValidation),
         ("--listen", ErrorKind::InvalidValue),
         ("--status :80", ErrorKind::ValueValidation),
         ("--port 11211", ErrorKind::UnknownArgument),

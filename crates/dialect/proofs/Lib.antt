@@ -1,9 +1,11 @@
 mod RunLemmas
+mod MetaLemmas
 mod NewlineLemmas
 mod MeaningLemmas
 mod PieceLemmas
 mod StageLemmas
 mod NoreplyLemmas
+mod QuietLemmas
 mod RefusalLemmas
 mod ManyLemmas
 mod ProfileLemmas

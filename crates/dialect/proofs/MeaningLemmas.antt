@@ -11,21 +11,24 @@ use Rattle.proto.specs.declared.line.Kind.{Kind}
 use Rattle.proto.specs.declared.line.Kind.TheVariants as kind
 use Rattle.dialect.specs.Number.{unsigned_of, flags_of, exptime_of, block_size_of}
 use Rattle.dialect.specs.Name.{name_of}
-use Rattle.dialect.specs.Line.{says_noreply, is_end, is_delete_end, is_http_version, too_large, sized, storage, header_of, cas_kind, store_line, cas_line, delete_line, touch_line, delta_line, verbosity_line, timed_line, line_of}
+use Rattle.dialect.specs.Line.{says_noreply, is_end, is_delete_end, is_http_version, too_large, opened_by, sized, storage, header_of, cas_kind, store_line, cas_line, delete_line, touch_line, delta_line, verbosity_line, timed_line, line_of}
+use Rattle.dialect.specs.Meta.{meta_line}
 use Rattle.dialect.specs.Meaning.{meaning, meaning_of_words, meaning_of_line, unknown, without_return}
 use Rattle.dialect.specs.State.{HoldsWithin}
+use Rattle.dialect.specs.declared.meta.Meta.{Meta}
 use Rattle.dialect.specs.declared.line.Name.{Name}
 use Rattle.dialect.specs.declared.line.Name.TheVariants as name
 use Rattle.dialect.specs.declared.line.Line.{Line}
 use Rattle.dialect.specs.declared.line.Line.TheVariants.{Gives, Closes, Reads, Opens, Skips}
 use Rattle.dialect.proofs.RunLemmas.{lt_no}
+use Rattle.dialect.proofs.MetaLemmas.{meta_by}
 
 -- what belongs to the line has a size within the limits
 abbrev IsSound : Line → Type 0
 IsSound (Gives turn) = Unit {0}
 IsSound (Closes notice) = Unit {0}
 IsSound (Reads r) = Unit {0}
-IsSound (Opens h) = h.size ≤ MOST_BLOCK_BYTES
+IsSound (Opens o) = o.header.size ≤ MOST_BLOCK_BYTES
 IsSound (Skips n turn) = 0 < n
 
 if_sound : (b : Bool) (x y : Line) → IsSound x → IsSound y → IsSound (if b then x else y)
@@ -52,7 +55,7 @@ sized_sound : (quiet : Bool) (size : ℕ) (header : Option Header) → IfSome he
 sized_sound quiet size None e = omega arith
 sized_sound quiet size (Some h) e = by (nat_lt MOST_BLOCK_BYTES size) refl
   where
-    by : (big : Bool) → nat_lt MOST_BLOCK_BYTES size ≡ big → IsSound (if big then Skips (size + 2) (too_large h) else Opens h)
+    by : (big : Bool) → nat_lt MOST_BLOCK_BYTES size ≡ big → IsSound (if big then Skips (size + 2) (too_large h) else Opens (opened_by h))
     by true is = omega arith
     by false is = let small : size ≤ MOST_BLOCK_BYTES = lt_no MOST_BLOCK_BYTES size is in omega (arith, e)
 
@@ -99,6 +102,9 @@ timed_sound : (read : ℤ → Line) (ws : List (List ℕ)) → ((exptime : ℤ) 
 timed_sound read [] p = tt
 timed_sound read (e ∷ ks) p = map_or_sound (exptime_of e) read _ p tt
 
+meta_sound : (m : Meta) (ws : List (List ℕ)) → IsSound (meta_line m ws)
+meta_sound m ws = meta_by IsSound (λ turn. tt) (λ size n. omega arith) (λ size key. omega arith) (λ size key ws k e. lt_no MOST_BLOCK_BYTES size e) m ws
+
 line_sound : (n : Name) (quiet : Bool) (ws : List (List ℕ)) → IsSound (line_of n quiet ws)
 line_sound (name.Store v) quiet ws = store_sound v quiet ws
 line_sound name.Cas quiet ws = cas_sound quiet ws
@@ -116,6 +122,9 @@ line_sound name.Verbosity quiet ws = verbosity_sound quiet ws
 line_sound name.FlushAll quiet ws = tt
 line_sound name.Shutdown quiet ws = tt
 line_sound name.MetaNoop quiet ws = tt
+line_sound name.Stats quiet ws = tt
+line_sound name.Crawler quiet ws = tt
+line_sound (name.Meta m) quiet ws = meta_sound m ws
 line_sound name.Http quiet ws = if_sound (list_any is_http_version ws) _ _ tt tt
 
 given_within : (l : Line) (ws : List (List ℕ)) → IsSound l → HoldsWithin (meaning_of_line l ws).part []

@@ -12,7 +12,7 @@ use Rattle.proto.specs.declared.line.Header.{Header}
 use Rattle.proto.specs.declared.line.Kind.{Kind}
 use Rattle.proto.specs.declared.line.Kind.TheVariants as kind
 use Rattle.dialect.specs.Number.{unsigned_of, flags_of, exptime_of, block_size_of}
-use Rattle.dialect.specs.Line.{says_noreply, is_end, is_delete_end, said, shown, removes, too_large, sized, storage, header_of, cas_kind, store_line, cas_line, delete_of, delete_line, touch_line, delta_line, verbosity_line, line_of}
+use Rattle.dialect.specs.Line.{says_noreply, is_end, is_delete_end, said, removes, too_large, opened_by, sized, storage, header_of, cas_kind, store_line, cas_line, delete_of, delete_line, touch_line, delta_line, verbosity_line, line_of}
 use Rattle.dialect.specs.Meaning.{Meaning, meaning, meaning_of_words, meaning_of_line, unknown, block_turn}
 use Rattle.dialect.specs.Text.{notice_text}
 use Rattle.dialect.specs.Laws.{leaves_out, IsNoreply, ShowsNothing, AllShowNothing, PartShowsNothing}
@@ -22,6 +22,7 @@ use Rattle.dialect.specs.declared.turn.Show.TheVariants as show
 use Rattle.dialect.specs.declared.turn.Turn.TheVariants.{Ask}
 use Rattle.dialect.specs.declared.line.Name.{Name}
 use Rattle.dialect.specs.declared.line.Name.TheVariants as name
+use Rattle.dialect.specs.declared.line.Opening.{Opening}
 use Rattle.dialect.specs.declared.line.Line.{Line}
 use Rattle.dialect.specs.declared.line.Line.TheVariants.{Gives, Closes, Reads, Opens, Skips}
 use Rattle.dialect.proofs.RunLemmas.{taken}
@@ -31,7 +32,7 @@ abbrev IsMute : Line → Type 0
 IsMute (Gives turn) = IfSome turn ShowsNothing
 IsMute (Closes n) = notice_text n ≡ []
 IsMute (Reads r) = ⊥
-IsMute (Opens h) = h.quiet ≡ true
+IsMute (Opens o) = (o.header.quiet ≡ true) × (o.show ≡ show.Quiet)
 IsMute (Skips n turn) = IfSome turn ShowsNothing
 
 not_so : {P : Type 0} → false ≡ true → P
@@ -56,12 +57,12 @@ too_large_mute h e = by (removes h.kind)
     by true = taken h.quiet _ _ e
     by false = said_mute h.quiet notice.TooLarge e
 
-block_mute : (h : Header) (block : List ℕ) → h.quiet ≡ true → IfSome (block_turn h block) ShowsNothing
-block_mute h block e = by (bytes_eq (drop h.size block) (13 ∷ 10 ∷ []))
+block_mute : (o : Opening) (block : List ℕ) → o.header.quiet ≡ true → o.show ≡ show.Quiet → IfSome (block_turn o block) ShowsNothing
+block_mute o block e s = by (bytes_eq (drop o.header.size block) (13 ∷ 10 ∷ []))
   where
-    by : (b : Bool) → IfSome (if b then Some (Ask (filled h (take h.size block)) (shown h.quiet)) else said h.quiet notice.BadChunk) ShowsNothing
-    by true = taken h.quiet _ _ e
-    by false = said_mute h.quiet notice.BadChunk e
+    by : (b : Bool) → IfSome (if b then Some (Ask (filled o.header (take o.header.size block)) o.show) else said o.header.quiet notice.BadChunk) ShowsNothing
+    by true = s
+    by false = said_mute o.header.quiet notice.BadChunk e
 
 -- a header has the noreply of its line
 has_quiet : (quiet : Bool) (size : ℕ) (k : Option Kind) (f : Option ℕ) (e : Option ℤ) (w : Option (List ℕ))
@@ -77,7 +78,7 @@ header_quiet k w f e size = has_quiet true size k (flags_of f) (exptime_of e) (k
 
 sized_mute : (size : ℕ) (header : Option Header) → IfSome header (λ h. h.quiet ≡ true) → IsMute (sized true size header)
 sized_mute size None e = tt
-sized_mute size (Some h) e = if_mute (nat_lt MOST_BLOCK_BYTES size) (Skips (size + 2) (too_large h)) (Opens h) (too_large_mute h e) e
+sized_mute size (Some h) e = if_mute (nat_lt MOST_BLOCK_BYTES size) (Skips (size + 2) (too_large h)) (Opens (opened_by h)) (too_large_mute h e) (e, taken h.quiet _ _ e)
 
 storage_mute : (size : Option ℕ) (header : ℕ → Option Header) → ((n : ℕ) → IfSome (header n) (λ h. h.quiet ≡ true)) → IsMute (storage true size header)
 storage_mute None header e = tt
@@ -140,6 +141,9 @@ line_mute name.Verbosity ws e = quietly (λ quiet. verbosity_line quiet ws) (say
 line_mute name.FlushAll ws e = said_mute (says_noreply ws) notice.FlushRefused e
 line_mute name.Shutdown ws e = said_mute (says_noreply ws) notice.ShutdownRefused e
 line_mute name.MetaNoop ws e = not_so e
+line_mute name.Stats ws e = not_so e
+line_mute name.Crawler ws e = not_so e
+line_mute (name.Meta m) ws e = not_so e
 line_mute name.Http ws e = not_so e
 
 abbrev GivesNone : Meaning → Type 0
@@ -150,7 +154,7 @@ given_mute (Gives None) ws m = (tt, tt)
 given_mute (Gives (Some turn)) ws m = ((m, tt), tt)
 given_mute (Closes n) ws m = ((m, tt), tt)
 given_mute (Reads r) ws m = absurd m
-given_mute (Opens h) ws m = (tt, λ block. block_mute h block m)
+given_mute (Opens o) ws m = (tt, λ block. block_mute o block m.0 m.1)
 given_mute (Skips n turn) ws m = (tt, m)
 
 pub noreply_gives_nothing : (line : List ℕ) → IsNoreply line → AllShowNothing (meaning line).turns × PartShowsNothing (meaning line).part

@@ -18,7 +18,7 @@ use Rattle.proto.specs.declared.line.Header.{Header}
 use Rattle.proto.specs.declared.line.Kind.{Kind}
 use Rattle.proto.specs.declared.line.Kind.TheVariants as kind
 use Rattle.dialect.specs.Number.{unsigned_of, flags_of, exptime_of, block_size_of, wrapped, wrapped_minus}
-use Rattle.dialect.specs.Line.{ends_quiet, is_end, says_notice, asks_update, sized, storage, header_of, cas_kind, store_line, cas_line, delete_of, touch_line, delta_line}
+use Rattle.dialect.specs.Line.{ends_quiet, is_end, says_notice, asks_update, opened_by, sized, storage, header_of, cas_kind, store_line, cas_line, delete_of, touch_line, delta_line}
 use Rattle.dialect.specs.declared.turn.Notice.TheVariants as notice
 use Rattle.dialect.specs.declared.line.Line.TheVariants.{Opens}
 use Rattle.dialect.proofs.PieceLemmas.{and_parts}
@@ -169,14 +169,14 @@ header_is quiet k w f e size key flags exptime a b c =
     as_header : ℕ → ℤ → List ℕ → Header
     as_header flags exptime key = record { kind = k; key = key; flags = flags; exptime = exptime; size = size; quiet = quiet }
 
-stored_is : (quiet : Bool) (n : List ℕ) (header : ℕ → Option Header) (size : ℕ) (h : Header) → block_size_of n ≡ Some size → size ≤ MOST_BLOCK_BYTES → header size ≡ Some h → storage quiet (block_size_of n) header ≡ Opens h
+stored_is : (quiet : Bool) (n : List ℕ) (header : ℕ → Option Header) (size : ℕ) (h : Header) → block_size_of n ≡ Some size → size ≤ MOST_BLOCK_BYTES → header size ≡ Some h → storage quiet (block_size_of n) header ≡ Opens (opened_by h)
 stored_is quiet n header size h e l f =
     ap (λ (o : Option ℕ). storage quiet o header) e ∙ ap (λ (o : Option Header). sized quiet size o) f ∙ chosen (nat_lt MOST_BLOCK_BYTES size) _ _ (grind (arith, nat_tests))
 
 module _ (w f e n : List ℕ) (last : List (List ℕ)) (q : Bool) (key : List ℕ) (flags : ℕ) (exptime : ℤ) (size : ℕ) where
   pub store_is : (v : StoreVerb) → number_below (2 ^ 32) f ≡ Some flags → profile_number.exptime_of e ≡ Some exptime → number_below (2 ^ 31) n ≡ Some size → profile.quiet_of last ≡ Some q → key_of w ≡ Some key
       → size ≤ MOST_BLOCK_BYTES → store_line v (ends_quiet false (w ∷ f ∷ e ∷ n ∷ last)) (w ∷ f ∷ e ∷ n ∷ last)
-      ≡ Opens (record { kind = kind.Plain v; key = key; flags = flags; exptime = exptime; size = size; quiet = q })
+      ≡ Opens (opened_by (record { kind = kind.Plain v; key = key; flags = flags; exptime = exptime; size = size; quiet = q }))
   store_is v a b c d g l =
       let ends = quiet_ends last q d in
       ap (λ (quiet : Bool). store_line v quiet (w ∷ f ∷ e ∷ n ∷ last)) (ends.1 (bytes_eq n (codes "noreply")) (not_noreply (number_below (2 ^ 31)) n size refl c))
@@ -185,7 +185,7 @@ module _ (w f e n : List ℕ) (last : List (List ℕ)) (q : Bool) (key : List �
 
   pub cas_is : (u : List ℕ) (unique : ℕ) → number_below (2 ^ 32) f ≡ Some flags → profile_number.exptime_of e ≡ Some exptime → number_below (2 ^ 31) n ≡ Some size → number_below (2 ^ 64) u ≡ Some unique
       → profile.quiet_of last ≡ Some q → key_of w ≡ Some key → size ≤ MOST_BLOCK_BYTES → cas_line (ends_quiet false (w ∷ f ∷ e ∷ n ∷ u ∷ last)) (w ∷ f ∷ e ∷ n ∷ u ∷ last)
-      ≡ Opens (record { kind = kind.Cas unique; key = key; flags = flags; exptime = exptime; size = size; quiet = q })
+      ≡ Opens (opened_by (record { kind = kind.Cas unique; key = key; flags = flags; exptime = exptime; size = size; quiet = q }))
   cas_is u unique a b c i d g l =
       let ends = quiet_ends last q d in
       let small : unique < 2 ^ 64 = (below_parts (2 ^ 64) u unique i).1 in

@@ -26,7 +26,7 @@ use Rattle.proto.specs.declared.turn.Notice.{Notice as ProfileNotice}
 use Rattle.proto.specs.declared.turn.Notice.TheVariants as profile_notice
 use Rattle.proto.specs.declared.turn.Turn.TheVariants as profile_turn
 use Rattle.dialect.specs.Name.{name_of}
-use Rattle.dialect.specs.Line.{says_noreply, says_notice, shown, said, store_line, cas_line, delete_line, touch_line, delta_line, line_of}
+use Rattle.dialect.specs.Line.{says_noreply, says_notice, shown, said, opened_by, store_line, cas_line, delete_line, touch_line, delta_line, line_of}
 use Rattle.dialect.specs.Meaning.{Meaning, meaning, meaning_of_words, meaning_of_line, unknown, block_turn}
 use Rattle.dialect.specs.Profile.{AsksTheSame, BlockAsksTheSame}
 use Rattle.dialect.specs.declared.line.Name.{Name}
@@ -268,17 +268,17 @@ line_agrees line = by (ends_in_return line)
     by true = words_agree (words (take (length line - 1) line))
     by false = tt
 
-pub block_agrees : (h : Header) (block end : List ℕ) → length block ≡ h.size → BlockAsksTheSame (profile_grammar.block_turn h block end) (block_turn h (block ++ end))
+pub block_agrees : (h : Header) (block end : List ℕ) → length block ≡ h.size → BlockAsksTheSame (profile_grammar.block_turn h block end) (block_turn (opened_by h) (block ++ end))
 block_agrees h block end l = by (bytes_eq end (13 ∷ 10 ∷ [])) refl (nat_lt MOST_BLOCK_BYTES h.size)
   where
-    same : (b : Bool) → bytes_eq end (13 ∷ 10 ∷ []) ≡ b → block_turn h (block ++ end) ≡ (if b then Some (Ask (filled h block) (shown h.quiet)) else said h.quiet notice.BadChunk)
+    same : (b : Bool) → bytes_eq end (13 ∷ 10 ∷ []) ≡ b → block_turn (opened_by h) (block ++ end) ≡ (if b then Some (Ask (filled h block) (shown h.quiet)) else said h.quiet notice.BadChunk)
     same b is =
         ap (λ (ys : List ℕ). if bytes_eq ys (13 ∷ 10 ∷ []) then Some (Ask (filled h (take h.size (block ++ end))) (shown h.quiet)) else said h.quiet notice.BadChunk) (drop_at block end h.size l)
         ∙ ap (λ (ys : List ℕ). if bytes_eq end (13 ∷ 10 ∷ []) then Some (Ask (filled h ys) (shown h.quiet)) else said h.quiet notice.BadChunk) (take_at block end h.size l)
         ∙ ap (λ (c : Bool). if c then Some (Ask (filled h block) (shown h.quiet)) else said h.quiet notice.BadChunk) is
 
     by : (b : Bool) → bytes_eq end (13 ∷ 10 ∷ []) ≡ b → (large : Bool)
-        → BlockAsksTheSame (if b then (if large then profile_turn.Say profile_notice.TooLarge else profile_turn.Ask (filled h block) h.quiet) else profile_turn.Close profile_notice.BadChunk) (block_turn h (block ++ end))
+        → BlockAsksTheSame (if b then (if large then profile_turn.Say profile_notice.TooLarge else profile_turn.Ask (filled h block) h.quiet) else profile_turn.Close profile_notice.BadChunk) (block_turn (opened_by h) (block ++ end))
     by true is true = tt
     by true is false = same true is
     by false is large = tt

@@ -14,14 +14,17 @@ use Rattle.proto.specs.declared.line.Kind.TheVariants as kind
 use Rattle.dialect.specs.Number.{unsigned_of, exptime_of, block_size_of}
 use Rattle.dialect.specs.Name.{name_of}
 use Rattle.dialect.specs.Reading.{piece_turns, read_turns, keys_in, fits, read_command}
-use Rattle.dialect.specs.Line.{says_noreply, is_end, is_delete_end, is_http_version, said, removes, too_large, sized, storage, header_of, cas_kind, store_line, cas_line, delete_line, touch_line, delta_line, verbosity_line, timed_line, line_of}
+use Rattle.dialect.specs.Line.{says_noreply, is_end, is_delete_end, is_http_version, said, removes, too_large, opened_by, sized, storage, header_of, cas_kind, store_line, cas_line, delete_line, touch_line, delta_line, verbosity_line, timed_line, line_of}
+use Rattle.dialect.specs.Meta.{meta_line}
 use Rattle.dialect.specs.Meaning.{meaning, meaning_of_words, meaning_of_line, unknown, without_return}
 use Rattle.dialect.specs.Laws.{commands, speaks, OnlyRemoves, UnreadOnlyRemoves}
+use Rattle.dialect.proofs.MetaLemmas.{meta_by}
 use Rattle.dialect.specs.declared.turn.Notice.{Notice}
 use Rattle.dialect.specs.declared.turn.Notice.TheVariants as notice
 use Rattle.dialect.specs.declared.turn.Show.TheVariants as show
 use Rattle.dialect.specs.declared.turn.Turn.{Turn}
 use Rattle.dialect.specs.declared.turn.Turn.TheVariants.{Ask, Say, Close}
+use Rattle.dialect.specs.declared.meta.Meta.{Meta}
 use Rattle.dialect.specs.declared.line.Name.{Name}
 use Rattle.dialect.specs.declared.line.Name.TheVariants as name
 use Rattle.dialect.specs.declared.line.ReadVerb.{ReadVerb}
@@ -109,7 +112,7 @@ storage_removes quiet (Some size) header = by (header size)
   where
     by : (h : Option Header) → IsRemoval (sized quiet size h)
     by None = said_removes quiet notice.BadFormat
-    by (Some h) = if_removal (nat_lt MOST_BLOCK_BYTES size) (Skips (size + 2) (too_large h)) (Opens h) (too_large_removes h) tt
+    by (Some h) = if_removal (nat_lt MOST_BLOCK_BYTES size) (Skips (size + 2) (too_large h)) (Opens (opened_by h)) (too_large_removes h) tt
 
 store_removes : (v : StoreVerb) (quiet : Bool) (ws : List (List ℕ)) → IsRemoval (store_line v quiet ws)
 store_removes v quiet [] = tt
@@ -148,6 +151,9 @@ timed_removes : (read : ℤ → Line) (ws : List (List ℕ)) → ((exptime : ℤ
 timed_removes read [] p = tt
 timed_removes read (e ∷ ks) p = map_or_removal (exptime_of e) read _ p tt
 
+meta_removes : (m : Meta) (ws : List (List ℕ)) → IsRemoval (meta_line m ws)
+meta_removes m ws = meta_by IsRemoval (λ turn. tt) (λ size n. tt) (λ size key. (key, refl)) (λ size key ws k e. tt) m ws
+
 line_removes : (n : Name) (quiet : Bool) (ws : List (List ℕ)) → IsRemoval (line_of n quiet ws)
 line_removes (name.Store v) quiet ws = store_removes v quiet ws
 line_removes name.Cas quiet ws = cas_removes quiet ws
@@ -165,6 +171,9 @@ line_removes name.Verbosity quiet ws = verbosity_removes quiet ws
 line_removes name.FlushAll quiet ws = tt
 line_removes name.Shutdown quiet ws = tt
 line_removes name.MetaNoop quiet ws = tt
+line_removes name.Stats quiet ws = tt
+line_removes name.Crawler quiet ws = tt
+line_removes (name.Meta m) quiet ws = meta_removes m ws
 line_removes name.Http quiet ws = if_removal (list_any is_http_version ws) _ _ tt tt
 
 given_removes : (l : Line) (ws : List (List ℕ)) → IsRemoval l → UnreadOnlyRemoves (meaning_of_line l ws).part

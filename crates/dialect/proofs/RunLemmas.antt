@@ -6,7 +6,7 @@ use Rattle.std.proofs.lemmas.List.{append_assoc, append-nil, length-append}
 use Rattle.std.proofs.lemmas.Bool.{or_parts}
 use Rattle.std.proofs.lemmas.Bool.Decides.{nat_tests}
 use Rattle.proto.specs.Grammar.{is_newline}
-use Rattle.proto.specs.declared.line.Header.{Header}
+use Rattle.dialect.specs.declared.line.Opening.{Opening}
 use Rattle.dialect.specs.Meaning.{meaning, block_turn}
 use Rattle.dialect.specs.State.{State, ReaderStep, state_at, to, start, is_binary, step, and_then, run, Runs}
 use Rattle.proto.specs.Stage.{HasNoNewline}
@@ -141,16 +141,16 @@ run_binary xs = run_first start 128 xs _ line_binary ∙ ap (λ (s : ReaderStep)
 
 -- A block.
 
-block_goes : (h : Header) (block : List ℕ) (x : ℕ) → length block + 1 < h.size + 2 → step (state_at (part.Block h) block) x ≡ to [] (state_at (part.Block h) (block ++ x ∷ []))
+block_goes : (h : Opening) (block : List ℕ) (x : ℕ) → length block + 1 < h.header.size + 2 → step (state_at (part.Block h) block) x ≡ to [] (state_at (part.Block h) (block ++ x ∷ []))
 unfolding step
-block_goes h block x l = taken (nat_lt (length (block ++ x ∷ [])) (h.size + 2)) _ _ (rw (length-append block (x ∷ [])) (grind (arith, nat_tests)))
+block_goes h block x l = taken (nat_lt (length (block ++ x ∷ [])) (h.header.size + 2)) _ _ (rw (length-append block (x ∷ [])) (grind (arith, nat_tests)))
 
-block_ends : (h : Header) (block : List ℕ) (x : ℕ) → length block + 1 ≡ h.size + 2 → step (state_at (part.Block h) block) x ≡ to (option_to_list (block_turn h (block ++ x ∷ []))) start
+block_ends : (h : Opening) (block : List ℕ) (x : ℕ) → length block + 1 ≡ h.header.size + 2 → step (state_at (part.Block h) block) x ≡ to (option_to_list (block_turn h (block ++ x ∷ []))) start
 unfolding step
-block_ends h block x l = chosen (nat_lt (length (block ++ x ∷ [])) (h.size + 2)) _ _ (rw (length-append block (x ∷ [])) (grind (arith, nat_tests)))
+block_ends h block x l = chosen (nat_lt (length (block ++ x ∷ [])) (h.header.size + 2)) _ _ (rw (length-append block (x ∷ [])) (grind (arith, nat_tests)))
 
 -- more of a block
-pub run_block : (h : Header) (block xs : List ℕ) → length block + length xs < h.size + 2 → run (state_at (part.Block h) block) xs ≡ to [] (state_at (part.Block h) (block ++ xs))
+pub run_block : (h : Opening) (block xs : List ℕ) → length block + length xs < h.header.size + 2 → run (state_at (part.Block h) block) xs ≡ to [] (state_at (part.Block h) (block ++ xs))
 run_block h block [] l = run_none (state_at (part.Block h) block) ∙ ap (λ (ys : List ℕ). to [] (state_at (part.Block h) ys)) (sym (append-nil block))
 run_block h block (x ∷ xs) l =
     run_first (state_at (part.Block h) block) x xs (to [] (state_at (part.Block h) (block ++ x ∷ []))) (block_goes h block x (omega arith))
@@ -158,7 +158,7 @@ run_block h block (x ∷ xs) l =
     ∙ ap (λ (ys : List ℕ). to [] (state_at (part.Block h) ys)) (append_assoc block (x ∷ []) xs)
 
 -- the rest of a block
-pub run_whole_block : (h : Header) (block xs : List ℕ) → 0 < length xs → length block + length xs ≡ h.size + 2
+pub run_whole_block : (h : Opening) (block xs : List ℕ) → 0 < length xs → length block + length xs ≡ h.header.size + 2
     → run (state_at (part.Block h) block) xs ≡ to (option_to_list (block_turn h (block ++ xs))) start
 run_whole_block h block [] some l = absurd (omega arith)
 run_whole_block h block (x ∷ []) some l =

@@ -7,7 +7,7 @@ use Rattle.std.proofs.lemmas.Bool.{or_parts, or_from}
 use Rattle.std.proofs.lemmas.Bool.Decides.{nat_tests}
 use Rattle.proto.specs.Grammar.{is_newline}
 use Rattle.proto.specs.Stage.{HasNoNewline}
-use Rattle.proto.specs.declared.line.Header.{Header}
+use Rattle.dialect.specs.declared.line.Opening.{Opening}
 use Rattle.dialect.specs.Meaning.{meaning, block_turn}
 use Rattle.dialect.specs.State.{State, ReaderStep, state_at, to, start, is_binary, and_then, run, Runs, HoldsWithin}
 use Rattle.dialect.specs.Grammar.{IsText, IsOneLine, more_bytes, Spells, part_of_line, part_of_block, line, with_block, unread, closing, too_long, binary, HasRead}
@@ -112,7 +112,7 @@ empty_line = record { one_line = refl; short = lit< tt; is_text = tt }
 -- What is left of a stream is spelled, whatever is read of the first line.
 record Sound (bytes : List ℕ) : Type 0 where
   in_line : (text : List ℕ) → IsOneLine text → Spells (text ++ bytes) (run (state_at part.Line text) bytes).turns
-  in_block : (text : List ℕ) (h : Header) (block : List ℕ) → IsOneLine text → (meaning text).part ≡ part.Block h → length block < h.size + 2
+  in_block : (text : List ℕ) (h : Opening) (block : List ℕ) → IsOneLine text → (meaning text).part ≡ part.Block h → length block < h.header.size + 2
       → Spells (text ++ 10 ∷ (block ++ bytes)) ((meaning text).turns ++ (run (state_at (part.Block h) block) bytes).turns)
   in_unread : (text : List ℕ) (n : ℕ) (turn : Option Turn) (skipped : List ℕ) (left : ℕ) → IsOneLine text → (meaning text).part ≡ part.Unread n turn
       → length skipped + left ≡ n → 0 < left → Spells (text ++ 10 ∷ (skipped ++ bytes)) ((meaning text).turns ++ (run (state_at (part.Unread left turn) []) bytes).turns)
@@ -163,17 +163,17 @@ module _ (b : ℕ) (bytes : List ℕ) (ih : Sound bytes) where
       (sym (ap (λ (s : ReaderStep). s.turns) (run_first (state_at part.Line text) b bytes _ (line_goes text b q e short))))
       (ih.in_line (text ++ b ∷ []) (line_push text b l q e short))
 
-  in_block : (text : List ℕ) (h : Header) (block : List ℕ) → IsOneLine text → (meaning text).part ≡ part.Block h → length block < h.size + 2
-      → (x : Bool) → nat_le (h.size + 2) (length block + 1) ≡ x
+  in_block : (text : List ℕ) (h : Opening) (block : List ℕ) → IsOneLine text → (meaning text).part ≡ part.Block h → length block < h.header.size + 2
+      → (x : Bool) → nat_le (h.header.size + 2) (length block + 1) ≡ x
       → Spells (text ++ 10 ∷ (block ++ b ∷ bytes)) ((meaning text).turns ++ (run (state_at (part.Block h) block) (b ∷ bytes)).turns)
   in_block text h block l e short true n =
-      let enough : h.size + 2 ≤ length block + 1 = le_yes (h.size + 2) (length block + 1) n in
-      let whole : length block + 1 ≡ h.size + 2 = omega (arith, enough, short) in
+      let enough : h.header.size + 2 ≤ length block + 1 = le_yes (h.header.size + 2) (length block + 1) n in
+      let whole : length block + 1 ≡ h.header.size + 2 = omega (arith, enough, short) in
       spells_as (text ++ 10 ∷ ((block ++ b ∷ []) ++ bytes)) _ _ _ (ap (λ (ys : List ℕ). text ++ 10 ∷ ys) (push_front block b bytes))
       (ap (λ (s : ReaderStep). (meaning text).turns ++ s.turns) (sym (run_from_start (state_at (part.Block h) block) (b ∷ []) bytes _ (run_whole_block h block (b ∷ []) (lit< tt) whole))))
       (with_block text (block ++ b ∷ []) bytes (run start bytes).turns h l e (length-append block (b ∷ []) ∙ whole) (ih.in_line [] empty_line))
   in_block text h block l e short false n =
-      let more : length block + 1 < h.size + 2 = le_no (h.size + 2) (length block + 1) n in
+      let more : length block + 1 < h.header.size + 2 = le_no (h.header.size + 2) (length block + 1) n in
       spells_as (text ++ 10 ∷ ((block ++ b ∷ []) ++ bytes)) _ _ _ (ap (λ (ys : List ℕ). text ++ 10 ∷ ys) (push_front block b bytes))
       (ap (λ (s : ReaderStep). (meaning text).turns ++ s.turns) (sym (run-append (state_at (part.Block h) block) (b ∷ []) bytes ∙ ap (λ (s : ReaderStep). and_then s.turns (run s.state bytes)) (run_block h block (b ∷ []) more))))
       (ih.in_block text h (block ++ b ∷ []) l e (rw (length-append block (b ∷ [])) more))
@@ -209,7 +209,7 @@ sound (b ∷ bytes) =
     let ih = sound bytes in
     record {
       in_line = λ text l. in_line b bytes ih text l (is_binary text b) (is_newline b) (nat_le MOST_LINE_BYTES (length text + 1)) refl refl refl;
-      in_block = λ text h block l e short. in_block b bytes ih text h block l e short (nat_le (h.size + 2) (length block + 1)) refl;
+      in_block = λ text h block l e short. in_block b bytes ih text h block l e short (nat_le (h.header.size + 2) (length block + 1)) refl;
       in_unread = λ text n turn skipped left l e m some. in_unread b bytes ih text n turn skipped left l e m some (nat_le left 1) refl;
     }
 

@@ -4,7 +4,7 @@ use Rattle.std.specs.Result.{is_ok}
 use Rattle.std.specs.Option.{option_to_list}
 use Rattle.std.proofs.lemmas.List.{take_all, take_at, append_assoc, append-nil, length-append, length-take, take-append-drop}
 use Rattle.std.proofs.lemmas.Bool.Decides.{nat_tests}
-use Rattle.proto.specs.declared.line.Header.{Header}
+use Rattle.dialect.specs.declared.line.Opening.{Opening}
 use Rattle.dialect.specs.Meaning.{meaning, block_turn}
 use Rattle.dialect.specs.State.{State, state_at, to, start, run, Runs, IsReaderState}
 use Rattle.proto.specs.Stage.{HasNoNewline}
@@ -32,7 +32,7 @@ on_ok (Err x) now more same Q e f = tt
 pub line_goes_on : (held piece : List ℕ) → EndsNothing part.Line held piece → run (state_at part.Line held) piece ≡ to [] (state_at part.Line (held ++ piece))
 line_goes_on held piece g = run_line held piece g.0 g.1 g.2
 
-pub block_goes_on : (h : Header) (held piece : List ℕ) → EndsNothing (part.Block h) held piece → run (state_at (part.Block h) held) piece ≡ to [] (state_at (part.Block h) (held ++ piece))
+pub block_goes_on : (h : Opening) (held piece : List ℕ) → EndsNothing (part.Block h) held piece → run (state_at (part.Block h) held) piece ≡ to [] (state_at (part.Block h) (held ++ piece))
 block_goes_on h held piece g = run_block h held piece g
 
 pub unread_goes_on : (left : ℕ) (turn : Option Turn) (held piece : List ℕ) → held ≡ [] → EndsNothing (part.Unread left turn) held piece
@@ -50,7 +50,7 @@ line_extends p held piece now is g e =
     subst (λ (q : Part). run (state_at q held) piece ≡ to [] (state_at q now)) (sym is)
     (line_goes_on held piece (subst (λ (q : Part). EndsNothing q held piece) is g) ∙ ap (λ (ys : List ℕ). to [] (state_at part.Line ys)) (sym e))
 
-pub block_extends : (p : Part) (h : Header) (held piece now : List ℕ) → p ≡ part.Block h → EndsNothing p held piece → now ≡ held ++ piece → run (state_at p held) piece ≡ to [] (state_at p now)
+pub block_extends : (p : Part) (h : Opening) (held piece now : List ℕ) → p ≡ part.Block h → EndsNothing p held piece → now ≡ held ++ piece → run (state_at p held) piece ≡ to [] (state_at p now)
 block_extends p h held piece now is g e =
     subst (λ (q : Part). run (state_at q held) piece ≡ to [] (state_at q now)) (sym is)
     (block_goes_on h held piece (subst (λ (q : Part). EndsNothing q held piece) is g) ∙ ap (λ (ys : List ℕ). to [] (state_at (part.Block h) ys)) (sym e))
@@ -112,14 +112,14 @@ module _ (held piece : List ℕ) (before after : List Turn) where
       (runs_by _ _ before after new _ (run_end held (take k piece) (starts_take held piece k q) h (omega (arith, count, l))) t n)
 
   -- part of a block
-  pub block_runs : (h : Header) (n : ℕ) → n ≤ length piece → length held + n < h.size + 2 → after ≡ before
+  pub block_runs : (h : Opening) (n : ℕ) → n ≤ length piece → length held + n < h.header.size + 2 → after ≡ before
       → Runs (state_at (part.Block h) held) (take n piece) before after (state_at (part.Block h) (held ++ take n piece))
   block_runs h n m l t =
       let count : length (take n piece) ≡ n = rw (length-take n piece) (grind (arith, nat_tests)) in
       runs_by _ _ before after _ _ (run_block h held (take n piece) (omega (arith, count, l))) (t ∙ sym (append-nil before)) refl
 
   -- the rest of a block
-  pub whole_runs : (h : Header) (n : ℕ) (new : State) → 0 < n → n ≤ length piece → length held + n ≡ h.size + 2 → after ≡ before ++ option_to_list (block_turn h (held ++ take n piece)) → new ≡ start
+  pub whole_runs : (h : Opening) (n : ℕ) (new : State) → 0 < n → n ≤ length piece → length held + n ≡ h.header.size + 2 → after ≡ before ++ option_to_list (block_turn h (held ++ take n piece)) → new ≡ start
       → Runs (state_at (part.Block h) held) (take n piece) before after new
   whole_runs h n new some m l t e =
       let count : length (take n piece) ≡ n = rw (length-take n piece) (grind (arith, nat_tests)) in
@@ -193,10 +193,10 @@ module _ (p : Part) (held piece : List ℕ) (before after : List Turn) where
       by part.Closed is within = absurd is
 
   pub whole_step_runs : (size n : ℕ) (now : List ℕ) (new : State) → IsBlockOf size p → IsReaderState (state_at p held) → n ≡ min (size + 2 - length held) (length piece) → now ≡ held ++ take n piece
-      → length now ≡ size + 2 → ((h : Header) → p ≡ part.Block h → after ≡ before ++ option_to_list (block_turn h now)) → new ≡ start → Runs (state_at p held) (take n piece) before after new
+      → length now ≡ size + 2 → ((h : Opening) → p ≡ part.Block h → after ≡ before ++ option_to_list (block_turn h now)) → new ≡ start → Runs (state_at p held) (take n piece) before after new
   whole_step_runs size n now new is within least e all t begins = by p is within t
     where
-      by : (q : Part) → IsBlockOf size q → IsReaderState (state_at q held) → ((h : Header) → q ≡ part.Block h → after ≡ before ++ option_to_list (block_turn h now))
+      by : (q : Part) → IsBlockOf size q → IsReaderState (state_at q held) → ((h : Opening) → q ≡ part.Block h → after ≡ before ++ option_to_list (block_turn h now))
           → Runs (state_at q held) (take n piece) before after new
       by part.Line is within t = absurd is
       by (part.Block h) is within t =

@@ -3,9 +3,9 @@ use Rattle.std.specs.Prelude.{◌≡◌, ℕ, ◌+◌, ◌<◌, List, [], ◌∷
 use Rattle.std.specs.List.{list_any}
 use Rattle.std.specs.Option.{option_to_list}
 use Rattle.proto.specs.Grammar.{is_newline}
-use Rattle.proto.specs.declared.line.Header.{Header}
 use Rattle.dialect.specs.Meaning.{meaning, block_turn}
 use Rattle.dialect.specs.State.{State, start, run}
+use Rattle.dialect.specs.declared.line.Opening.{Opening}
 use Rattle.dialect.specs.declared.line.TheConstants.{MOST_LINE_BYTES}
 use Rattle.dialect.specs.declared.turn.Notice.TheVariants as notice
 use Rattle.dialect.specs.declared.turn.Turn.{Turn}
@@ -27,7 +27,7 @@ pub record IsOneLine (text : List ℕ) : Type 0 where
 -- how many bytes belong to a line and are not on it
 abbrev pub more_bytes : Part → ℕ
 more_bytes part.Line = 0
-more_bytes (part.Block h) = h.size + 2
+more_bytes (part.Block o) = o.header.size + 2
 more_bytes (part.Unread n turn) = n
 more_bytes part.Closed = 0
 
@@ -39,8 +39,8 @@ pub data Spells : List ℕ → List Turn → Type 0 where
   part_of_block : (text block : List ℕ) → IsOneLine text → length block < more_bytes (meaning text).part → Spells (text ++ 10 ∷ block) (meaning text).turns
   line : (text after : List ℕ) (turns : List Turn) → IsOneLine text → (meaning text).part ≡ part.Line → Spells after turns
       → Spells (text ++ 10 ∷ after) ((meaning text).turns ++ turns)
-  with_block : (text block after : List ℕ) (turns : List Turn) (h : Header) → IsOneLine text → (meaning text).part ≡ part.Block h → length block ≡ h.size + 2 → Spells after turns
-      → Spells (text ++ 10 ∷ (block ++ after)) ((meaning text).turns ++ (option_to_list (block_turn h block) ++ turns))
+  with_block : (text block after : List ℕ) (turns : List Turn) (o : Opening) → IsOneLine text → (meaning text).part ≡ part.Block o → length block ≡ o.header.size + 2 → Spells after turns
+      → Spells (text ++ 10 ∷ (block ++ after)) ((meaning text).turns ++ (option_to_list (block_turn o block) ++ turns))
   unread : (text block after : List ℕ) (turns : List Turn) (n : ℕ) (turn : Option Turn) → IsOneLine text → (meaning text).part ≡ part.Unread n turn → length block ≡ n → Spells after turns
       → Spells (text ++ 10 ∷ (block ++ after)) ((meaning text).turns ++ (option_to_list turn ++ turns))
   -- nothing is read after these

@@ -1,5 +1,5 @@
 -- What the laws of the dialect say.
-use Rattle.std.specs.Prelude.{◌≡◌, ℕ, ◌≤◌, List, [], ◌∷◌, ◌++◌, length, drop, Bool, true, false, IfSome, Some}
+use Rattle.std.specs.Prelude.{◌≡◌, ℕ, ◌≤◌, List, [], ◌∷◌, ◌++◌, length, drop, Bool, true, false, ◌⊎◌, IfSome, Some, codes}
 use Rattle.std.specs.List.{list_all}
 use Rattle.proto.specs.Key.{is_key}
 use Rattle.proto.specs.Line.{words}
@@ -9,17 +9,22 @@ use Rattle.proto.specs.declared.command.Command.{Command}
 use Rattle.proto.specs.declared.command.Command.TheVariants as command
 use Rattle.proto.specs.declared.command.Update.TheVariants as update
 use Rattle.proto.specs.declared.reply.Found.{Found}
+use Rattle.proto.specs.declared.reply.Reply.{Reply}
 use Rattle.proto.specs.declared.reply.Reply.TheVariants as reply
 use Rattle.dialect.specs.Name.{name_of}
 use Rattle.dialect.specs.Line.{says_noreply}
+use Rattle.dialect.specs.Meta.{has}
 use Rattle.dialect.specs.Meaning.{block_turn, without_return}
 use Rattle.dialect.specs.Reading.{read_command, read_text}
 use Rattle.dialect.specs.Text.{notice_text, shown_text}
+use Rattle.dialect.specs.declared.meta.Meta.{Meta}
+use Rattle.dialect.specs.declared.meta.Meta.TheVariants as meta
 use Rattle.dialect.specs.declared.line.Name.{Name}
 use Rattle.dialect.specs.declared.line.Name.TheVariants as name
 use Rattle.dialect.specs.declared.line.ReadVerb.{ReadVerb}
 use Rattle.dialect.specs.declared.part.Part.{Part}
 use Rattle.dialect.specs.declared.part.Part.TheVariants as part
+use Rattle.dialect.specs.declared.turn.Notice.{Notice}
 use Rattle.dialect.specs.declared.turn.Show.{Show}
 use Rattle.dialect.specs.declared.turn.Show.TheVariants as show
 use Rattle.dialect.specs.declared.turn.Turn.{Turn}
@@ -45,6 +50,9 @@ leaves_out name.Verbosity ws = says_noreply ws
 leaves_out name.FlushAll ws = says_noreply ws
 leaves_out name.Shutdown ws = says_noreply ws
 leaves_out name.MetaNoop ws = false
+leaves_out name.Stats ws = false
+leaves_out name.Crawler ws = false
+leaves_out (name.Meta m) ws = false
 leaves_out name.Http ws = false
 
 -- the line is that of a command, and says noreply
@@ -69,9 +77,56 @@ AllShowNothing (turn ∷ turns) = ShowsNothing turn × AllShowNothing turns
 -- nor at the end of what belongs to a line, whatever its bytes are
 abbrev pub PartShowsNothing : Part → Type 0
 PartShowsNothing part.Line = Unit {0}
-PartShowsNothing (part.Block h) = (block : List ℕ) → IfSome (block_turn h block) ShowsNothing
+PartShowsNothing (part.Block o) = (block : List ℕ) → IfSome (block_turn o block) ShowsNothing
 PartShowsNothing (part.Unread n turn) = IfSome turn ShowsNothing
 PartShowsNothing part.Closed = Unit {0}
+
+-- Quiet meta lines.
+
+-- the flags of a meta line, of the words after its name
+abbrev pub flags_behind : Meta → List (List ℕ) → List (List ℕ)
+flags_behind meta.Get ws = drop 1 ws
+flags_behind meta.Set ws = drop 2 ws
+flags_behind meta.Delete ws = drop 1 ws
+flags_behind meta.Count ws = drop 1 ws
+
+-- the line is that of a meta command, with the flag q
+pub record IsQuietMeta (line : List ℕ) : Type 0 where
+  pub first : List ℕ
+  pub others : List (List ℕ)
+  pub called : Meta
+  pub splits : words (without_return line) ≡ first ∷ others
+  pub named : name_of first ≡ Some (name.Meta called)
+  pub quiet : has (codes "q") (flags_behind called others) ≡ true
+
+-- the replies that a quiet line does not show
+abbrev pub IsExpected : Reply → Type 0
+IsExpected reply.Stored = Unit {0}
+IsExpected reply.NotStored = ⊥
+IsExpected reply.Exists = ⊥
+IsExpected reply.NotFound = ⊥
+IsExpected reply.Deleted = Unit {0}
+IsExpected reply.Touched = ⊥
+IsExpected (reply.Number n) = Unit {0}
+IsExpected (reply.Values found) = found ≡ []
+IsExpected reply.TooLarge = ⊥
+IsExpected reply.NotNumber = ⊥
+
+-- No byte is given for an expected reply, but if the command only removes what a block that is too large would have replaced.
+abbrev pub HidesExpected : Turn → Type 0
+HidesExpected (Ask c s) = ((n : Notice) × (s ≡ show.Instead n)) ⊎ ((r : Reply) → IsExpected r → shown_text r s ≡ [])
+HidesExpected (Say n) = Unit {0}
+HidesExpected (Close n) = Unit {0}
+
+abbrev pub AllHideExpected : List Turn → Type 0
+AllHideExpected [] = Unit {0}
+AllHideExpected (turn ∷ turns) = HidesExpected turn × AllHideExpected turns
+
+abbrev pub PartHidesExpected : Part → Type 0
+PartHidesExpected part.Line = Unit {0}
+PartHidesExpected (part.Block o) = (block : List ℕ) → IfSome (block_turn o block) HidesExpected
+PartHidesExpected (part.Unread n turn) = IfSome turn HidesExpected
+PartHidesExpected part.Closed = Unit {0}
 
 -- What is refused.
 
@@ -97,7 +152,7 @@ OnlyRemoves (Close n) = Unit {0}
 
 abbrev pub UnreadOnlyRemoves : Part → Type 0
 UnreadOnlyRemoves part.Line = Unit {0}
-UnreadOnlyRemoves (part.Block h) = Unit {0}
+UnreadOnlyRemoves (part.Block o) = Unit {0}
 UnreadOnlyRemoves (part.Unread n turn) = IfSome turn OnlyRemoves
 UnreadOnlyRemoves part.Closed = Unit {0}
 

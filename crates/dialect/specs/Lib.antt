@@ -1,10 +1,13 @@
 pub mod Number
 pub mod Name
+pub mod Stats
+pub mod Meta
 pub mod Line
 pub mod Reading
 pub mod Meaning
 pub mod State
 pub mod Grammar
+pub mod MetaText
 pub mod Text
 pub mod Stage
 pub mod Laws

@@ -12,7 +12,9 @@ use Rattle.proto.specs.declared.command.Update.TheVariants as update
 use Rattle.proto.specs.declared.line.Header.{Header}
 use Rattle.proto.specs.declared.line.Kind.{Kind}
 use Rattle.proto.specs.declared.line.Kind.TheVariants as kind
+use Rattle.dialect.specs.Meta.{meta_line}
 use Rattle.dialect.specs.Number.{unsigned_of, flags_of, exptime_of, block_size_of}
+use Rattle.dialect.specs.Stats.{stats_notice, crawler_notice}
 use Rattle.dialect.specs.declared.turn.Notice.{Notice}
 use Rattle.dialect.specs.declared.turn.Notice.TheVariants as notice
 use Rattle.dialect.specs.declared.turn.Show.{Show}
@@ -22,6 +24,7 @@ use Rattle.dialect.specs.declared.turn.Turn.TheVariants.{Ask, Say}
 use Rattle.dialect.specs.declared.line.Name.{Name}
 use Rattle.dialect.specs.declared.line.Name.TheVariants as name
 use Rattle.dialect.specs.declared.line.ReadVerb.TheVariants as reading
+use Rattle.dialect.specs.declared.line.Opening.{Opening}
 use Rattle.dialect.specs.declared.line.Line.{Line}
 use Rattle.dialect.specs.declared.line.Line.TheVariants.{Gives, Closes, Reads, Opens, Skips}
 
@@ -69,10 +72,14 @@ too_large h =
     if removes h.kind then Some (Ask (command.Update (update.Delete h.key)) (if h.quiet then show.Quiet else show.Instead notice.TooLarge))
     else said h.quiet notice.TooLarge
 
+-- the reply to a storage line is shown, if the line does not say noreply
+abbrev pub opened_by : Header → Opening
+opened_by h = record { header = h; show = shown h.quiet }
+
 -- a storage line whose words are correct, if all but its size are
 abbrev pub sized : Bool → ℕ → Option Header → Line
 sized quiet size None = Skips (size + 2) (said quiet notice.BadFormat)
-sized quiet size (Some h) = if nat_lt MOST_BLOCK_BYTES size then Skips (size + 2) (too_large h) else Opens h
+sized quiet size (Some h) = if nat_lt MOST_BLOCK_BYTES size then Skips (size + 2) (too_large h) else Opens (opened_by h)
 
 -- a storage line. If its size can be read its block is skipped, whatever else is bad: a value is not read as commands.
 abbrev pub storage : Bool → Option ℕ → (ℕ → Option Header) → Line
@@ -178,4 +185,7 @@ line_of name.Verbosity quiet ws = verbosity_line quiet ws
 line_of name.FlushAll quiet ws = says_notice quiet notice.FlushRefused
 line_of name.Shutdown quiet ws = says_notice quiet notice.ShutdownRefused
 line_of name.MetaNoop quiet ws = says_notice false notice.MetaNoop
+line_of name.Stats quiet ws = says_notice false (stats_notice ws)
+line_of name.Crawler quiet ws = says_notice false (crawler_notice ws)
+line_of (name.Meta m) quiet ws = meta_line m ws
 line_of name.Http quiet ws = if list_any is_http_version ws then Closes notice.Http else says_notice false notice.UnknownName

@@ -3,13 +3,13 @@ use Rattle.std.specs.Prelude.{ℕ, ◌-◌, List, [], ◌∷◌, length, take, d
 use Rattle.std.specs.Option.{option_map_or, option_to_list}
 use Rattle.proto.specs.Line.{words, ends_in_return}
 use Rattle.proto.specs.Grammar.{filled}
-use Rattle.proto.specs.declared.line.Header.{Header}
 use Rattle.dialect.specs.Name.{name_of}
-use Rattle.dialect.specs.Line.{says_noreply, line_of, said, shown}
+use Rattle.dialect.specs.Line.{says_noreply, line_of, said}
 use Rattle.dialect.specs.Reading.{read_turns, keys_in}
 use Rattle.dialect.specs.declared.turn.Notice.TheVariants as notice
 use Rattle.dialect.specs.declared.turn.Turn.{Turn}
 use Rattle.dialect.specs.declared.turn.Turn.TheVariants.{Ask, Say, Close}
+use Rattle.dialect.specs.declared.line.Opening.{Opening}
 use Rattle.dialect.specs.declared.line.Line.{Line}
 use Rattle.dialect.specs.declared.line.Line.TheVariants.{Gives, Closes, Reads, Opens, Skips}
 use Rattle.dialect.specs.declared.part.Part.{Part}
@@ -24,7 +24,7 @@ abbrev pub meaning_of_line : Line → List (List ℕ) → Meaning
 meaning_of_line (Gives turn) ws = record { turns = option_to_list turn; part = part.Line }
 meaning_of_line (Closes notice) ws = record { turns = Close notice ∷ []; part = part.Closed }
 meaning_of_line (Reads r) ws = record { turns = read_turns r (keys_in r ws); part = part.Line }
-meaning_of_line (Opens h) ws = record { turns = []; part = part.Block h }
+meaning_of_line (Opens o) ws = record { turns = []; part = part.Block o }
 meaning_of_line (Skips n turn) ws = record { turns = []; part = part.Unread n turn }
 
 abbrev pub unknown : Meaning
@@ -44,7 +44,7 @@ unfoldable pub meaning : List ℕ → Meaning
 meaning line = meaning_of_words (words (without_return line))
 
 -- the turn of a storage line with its block, and the two bytes after it
-abbrev pub block_turn : Header → List ℕ → Option Turn
-block_turn h bytes =
-    if bytes_eq (drop h.size bytes) (13 ∷ 10 ∷ []) then Some (Ask (filled h (take h.size bytes)) (shown h.quiet))
-    else said h.quiet notice.BadChunk
+abbrev pub block_turn : Opening → List ℕ → Option Turn
+block_turn o bytes =
+    if bytes_eq (drop o.header.size bytes) (13 ∷ 10 ∷ []) then Some (Ask (filled o.header (take o.header.size bytes)) o.show)
+    else said o.header.quiet notice.BadChunk

@@ -7,7 +7,7 @@ use Rattle.proto.specs.declared.line.Line.{Line as ProfileLine}
 use Rattle.proto.specs.declared.line.Line.TheVariants.{Whole, Opens}
 use Rattle.proto.specs.declared.turn.Turn.{Turn as ProfileTurn}
 use Rattle.proto.specs.declared.turn.Turn.TheVariants as profile
-use Rattle.dialect.specs.Line.{shown}
+use Rattle.dialect.specs.Line.{shown, opened_by}
 use Rattle.dialect.specs.Reading.{read_turns}
 use Rattle.dialect.specs.Meaning.{Meaning}
 use Rattle.dialect.specs.declared.line.ReadVerb.TheVariants.{Get, Gets, Gat, Gats}
@@ -32,7 +32,7 @@ abbrev pub AsksTheSame : ProfileLine → Meaning → Type 0
 AsksTheSame (Whole (profile.Ask c quiet)) m = m ≡ meaning_of_command c quiet
 AsksTheSame (Whole (profile.Say n)) m = Unit {0}
 AsksTheSame (Whole (profile.Close n)) m = Unit {0}
-AsksTheSame (Opens h) m = h.size ≤ MOST_BLOCK_BYTES → m ≡ record { turns = []; part = part.Block h }
+AsksTheSame (Opens h) m = h.size ≤ MOST_BLOCK_BYTES → m ≡ record { turns = []; part = part.Block (opened_by h) }
 
 -- The command that the profile makes of a block is asked.
 abbrev pub BlockAsksTheSame : ProfileTurn → Option Turn → Type 0

@@ -28,19 +28,19 @@ CutsLine held piece Open = HasNoNewline piece × (held + length piece < MOST_LIN
 -- The piece ends neither a line nor what belongs to it.
 abbrev pub EndsNothing : Part → List ℕ → List ℕ → Type 0
 EndsNothing part.Line held piece = (starts_binary held piece ≡ false) × HasNoNewline piece × (length held + length piece < MOST_LINE_BYTES)
-EndsNothing (part.Block h) held piece = length held + length piece < h.size + 2
+EndsNothing (part.Block o) held piece = length held + length piece < o.header.size + 2
 EndsNothing (part.Unread left turn) held piece = length piece < left
 EndsNothing part.Closed held piece = Unit {0}
 
 abbrev pub IsBlockOf : ℕ → Part → Type 0
 IsBlockOf size part.Line = ⊥
-IsBlockOf size (part.Block h) = h.size ≡ size
+IsBlockOf size (part.Block o) = o.header.size ≡ size
 IsBlockOf size (part.Unread left turn) = ⊥
 IsBlockOf size part.Closed = ⊥
 
 abbrev pub IsUnreadOf : ℕ → Part → Type 0
 IsUnreadOf left part.Line = ⊥
-IsUnreadOf left (part.Block h) = ⊥
+IsUnreadOf left (part.Block o) = ⊥
 IsUnreadOf left (part.Unread n turn) = n ≡ left
 IsUnreadOf left part.Closed = ⊥
 

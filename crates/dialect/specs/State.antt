@@ -3,8 +3,8 @@ use Rattle.std.specs.Prelude.{◌≡◌, ℕ, ◌+◌, ◌-◌, ◌<◌, ◌≤�
 use Rattle.std.specs.Option.{option_to_list}
 use Rattle.proto.specs.Grammar.{is_newline}
 use Rattle.proto.specs.declared.block.TheConstants.{MOST_BLOCK_BYTES}
-use Rattle.proto.specs.declared.line.Header.{Header}
 use Rattle.dialect.specs.Meaning.{meaning, block_turn}
+use Rattle.dialect.specs.declared.line.Opening.{Opening}
 use Rattle.dialect.specs.declared.line.TheConstants.{MOST_LINE_BYTES}
 use Rattle.dialect.specs.declared.turn.Notice.TheVariants as notice
 use Rattle.dialect.specs.declared.turn.Turn.{Turn}
@@ -44,15 +44,15 @@ line_step line b =
     else if nat_le MOST_LINE_BYTES (length line + 1) then to (Close notice.LineTooLong ∷ []) (state_at part.Closed [])
     else to [] (state_at part.Line (line ++ b ∷ []))
 
-abbrev pub block_step : Header → List ℕ → ReaderStep
-block_step h bytes = if nat_lt (length bytes) (h.size + 2) then to [] (state_at (part.Block h) bytes) else to (option_to_list (block_turn h bytes)) start
+abbrev pub block_step : Opening → List ℕ → ReaderStep
+block_step o bytes = if nat_lt (length bytes) (o.header.size + 2) then to [] (state_at (part.Block o) bytes) else to (option_to_list (block_turn o bytes)) start
 
 abbrev pub unread_step : ℕ → Option Turn → ReaderStep
 unread_step left turn = if nat_le left 1 then to (option_to_list turn) start else to [] (state_at (part.Unread (left - 1) turn) [])
 
 abbrev pub part_step : Part → List ℕ → ℕ → ReaderStep
 part_step part.Line held b = line_step held b
-part_step (part.Block h) held b = block_step h (held ++ b ∷ [])
+part_step (part.Block o) held b = block_step o (held ++ b ∷ [])
 part_step (part.Unread left turn) held b = unread_step left turn
 part_step part.Closed held b = to [] (state_at part.Closed [])
 
@@ -75,7 +75,7 @@ pub record Runs (old : State) (bytes : List ℕ) (before after : List Turn) (new
 -- what is held is within its limits
 abbrev pub HoldsWithin : Part → List ℕ → Type 0
 HoldsWithin part.Line held = length held < MOST_LINE_BYTES
-HoldsWithin (part.Block h) held = (length held < h.size + 2) × (h.size ≤ MOST_BLOCK_BYTES)
+HoldsWithin (part.Block o) held = (length held < o.header.size + 2) × (o.header.size ≤ MOST_BLOCK_BYTES)
 HoldsWithin (part.Unread left turn) held = (0 < left) × (held ≡ [])
 HoldsWithin part.Closed held = held ≡ []
 

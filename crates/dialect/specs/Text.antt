@@ -3,6 +3,8 @@ use Rattle.std.specs.Prelude.{ℕ, List, [], codes, flat_map}
 use Rattle.proto.specs.declared.reply.Reply.{Reply}
 use Rattle.proto.specs.declared.reply.Reply.TheVariants as reply
 use Rattle.proto.specs.Text.{reply_text, value_text}
+use Rattle.dialect.specs.Stats.{report_text}
+use Rattle.dialect.specs.MetaText.{meta_text}
 use Rattle.dialect.specs.declared.turn.Notice.{Notice}
 use Rattle.dialect.specs.declared.turn.Notice.TheVariants as notice
 use Rattle.dialect.specs.declared.turn.Show.{Show}
@@ -21,8 +23,19 @@ notice_text notice.Version = codes "VERSION 1.6.18-eve-1\r\n"
 notice_text notice.Done = codes "OK\r\n"
 notice_text notice.NoItems = codes "END\r\n"
 notice_text notice.MetaNoop = codes "MN\r\n"
+notice_text notice.UnknownFlag = codes "CLIENT_ERROR invalid flag\r\n"
+notice_text notice.DuplicateFlag = codes "CLIENT_ERROR duplicate flag\r\n"
+notice_text notice.BadFlag = codes "CLIENT_ERROR invalid or duplicate flag\r\n"
+notice_text notice.BadToken = codes "CLIENT_ERROR bad token in command line format\r\n"
+notice_text notice.BadDeltaValue = codes "CLIENT_ERROR invalid numeric delta value\r\n"
+notice_text notice.BadModeLength = codes "CLIENT_ERROR incorrect length for M token\r\n"
+notice_text notice.BadSetMode = codes "CLIENT_ERROR invalid mode for ms M token\r\n"
+notice_text notice.BadCountMode = codes "CLIENT_ERROR invalid mode for ma M token\r\n"
+notice_text notice.OpaqueTooLong = codes "CLIENT_ERROR opaque token too long\r\n"
 notice_text notice.FlushRefused = codes "CLIENT_ERROR flush_all not allowed\r\n"
 notice_text notice.ShutdownRefused = codes "ERROR: shutdown not enabled\r\n"
+notice_text notice.OutOfMemory = codes "SERVER_ERROR out of memory storing object\r\n"
+notice_text (notice.Stats report) = report_text report
 notice_text notice.Silent = []
 notice_text notice.Http = []
 notice_text notice.Binary = []
@@ -46,3 +59,4 @@ shown_text r show.Whole = reply_text r
 shown_text r show.Quiet = []
 shown_text r show.Items = items_text r
 shown_text r (show.Instead notice) = notice_text notice
+shown_text r (show.Meta m) = meta_text r m

@@ -11,10 +11,11 @@ ghost use Rattle.proto.specs.declared.line.Header.{Header};
 ghost use Rattle.proto.specs.declared.reply.Found.{Found};
 ghost use Rattle.proto.specs.declared.reply.Reply.TheVariants.{Values};
 ghost use Rattle.dialect.specs.Grammar.{Spells};
+ghost use Rattle.dialect.specs.Line.{opened_by};
 ghost use Rattle.dialect.specs.Meaning.{meaning, block_turn};
 ghost use Rattle.dialect.specs.Profile.{AsksTheSame, BlockAsksTheSame};
 ghost use Rattle.dialect.specs.Reading.{head, read_turns};
-ghost use Rattle.dialect.specs.Laws.{IsNoreply, AllShowNothing, PartShowsNothing, commands, speaks, UnreadOnlyRemoves, all_keys, ArePieces, all_found, bytes_shown};
+ghost use Rattle.dialect.specs.Laws.{IsNoreply, AllShowNothing, PartShowsNothing, IsQuietMeta, AllHideExpected, PartHidesExpected, commands, speaks, UnreadOnlyRemoves, all_keys, ArePieces, all_found, bytes_shown};
 ghost use Rattle.dialect.specs.declared.turn.Turn.{Turn};
 ghost use Rattle.dialect.specs.declared.line.ReadVerb.{ReadVerb};
 
@@ -34,6 +35,12 @@ pub fn longer_bytes_spell_more()
 /// to it, whatever its bytes are.
 pub fn a_noreply_line_gives_no_bytes()
     ensures { (line : List ℕ) → IsNoreply line → AllShowNothing (meaning line).turns × PartShowsNothing (meaning line).part }
+{}
+
+/// A meta line with the flag `q` gives no byte for a reply that says that something was stored, removed or counted, or
+/// that a `mg` found nothing. Of a block that is above the limit it tells, as of all that went wrong.
+pub fn a_quiet_meta_line_hides_what_is_expected()
+    ensures { (line : List ℕ) → IsQuietMeta line → AllHideExpected (meaning line).turns × PartHidesExpected (meaning line).part }
 {}
 
 /// A line that is answered by a text asks nothing.
@@ -63,5 +70,5 @@ pub fn a_line_of_the_profile_asks_the_same()
     ensures line { (line : List ℕ) → AsksTheSame (profile_meaning line) (meaning line) }
 
     // Its block, with the two bytes after it.
-    ensures block { (header : Header) (block end : List ℕ) → length block ≡ header.size → BlockAsksTheSame (profile_block_turn header block end) (block_turn header (block ++ end)) }
+    ensures block { (header : Header) (block end : List ℕ) → length block ≡ header.size → BlockAsksTheSame (profile_block_turn header block end) (block_turn (opened_by header) (block ++ end)) }
 {}

@@ -5,27 +5,34 @@
 //! (decimals). The layer above uses `Reader::feed`: the turns given so far are those that the bytes fed so far spell,
 //! however they were cut; and `write_shown`, the bytes of a reply as its turn shows it.
 //!
-//! `stats` and the meta commands, but for `mn`, are answered by `ERROR` so far.
+//! `stats` has an answer without a text, which the layer above makes. `me` is answered by `ERROR`.
 #![tactic(auto)]
 
 mod laws;
 mod line;
 mod meaning;
+mod meta;
+mod meta_flags;
+mod meta_line;
+mod meta_text;
 mod name;
 mod number;
 mod part;
 mod reader;
 mod reading;
 mod stage;
+mod stats;
 mod turn;
 mod writing;
 
 pub use laws::{
     a_get_of_many_keys_is_one_get, a_line_of_the_profile_asks_the_same,
-    a_noreply_line_gives_no_bytes, a_refused_line_asks_nothing, longer_bytes_spell_more,
-    one_list_is_spelled,
+    a_noreply_line_gives_no_bytes, a_quiet_meta_line_hides_what_is_expected,
+    a_refused_line_asks_nothing, longer_bytes_spell_more, one_list_is_spelled,
 };
 pub use line::{MOST_LINE_BYTES, MOST_SIZE};
+pub use meta::{Field, Fields, MetaShow, Word};
 pub use reader::Reader;
+pub use stats::Report;
 pub use turn::{Notice, Show, Turn};
 pub use writing::write_shown;

@@ -1,6 +1,7 @@
 //! What a line is, by itself.
 
-use crate::turn::{Notice, Turn};
+use crate::meta::Meta;
+use crate::turn::{Notice, Show, Turn};
 use proto::{Header, StoreVerb};
 
 /// How many bytes a line has at most, with its newline.
@@ -28,6 +29,10 @@ pub enum Name {
     FlushAll,
     Shutdown,
     MetaNoop,
+    Stats,
+    /// `lru_crawler`.
+    Crawler,
+    Meta(Meta),
     /// The first word of a request of HTTP.
     Http,
 }
@@ -41,6 +46,13 @@ pub enum ReadVerb {
     Gats(i32),
 }
 
+/// A correct storage line, and what is shown of the reply to its command.
+#[derive(Drop)]
+pub struct Opening {
+    pub header: Header,
+    pub show: Show,
+}
+
 /// What a line is.
 #[derive(Drop)]
 pub enum Line {
@@ -51,7 +63,7 @@ pub enum Line {
     /// A command over the keys of the line.
     Reads(ReadVerb),
     /// A correct storage line: its block follows.
-    Opens(Header),
+    Opens(Opening),
     /// So many bytes follow that are not read, and then this turn, if any.
     Skips(u32, Option<Turn>),
 }

@@ -6,11 +6,13 @@ ghost use Rattle.dialect.specs.Line as spec;
 ghost use Rattle.dialect.specs.declared.line.Line.{Line as LineValue};
 ghost use Rattle.dialect.specs.Meaning.{meaning, meaning_of_words, without_return as line_without_return, meaning_of_line};
 
-use crate::line::{Line, Name, ReadVerb};
+use crate::line::{Line, Name, Opening, ReadVerb};
+use crate::meta_line::meta_line;
 use crate::name::name_of;
 use crate::number::{block_size_of, exptime_of, flags_of, unsigned_in};
 use crate::part::Part;
 use crate::reading::{push_some, read_keys};
+use crate::stats::{crawler_notice, stats_notice};
 use crate::turn::{Notice, Show, Turn};
 use proto::{Command, Header, Key, Kind, MOST_BLOCK_BYTES, StoreVerb, Update, is_key_text};
 use std::alloc::{AllocError, Global};
@@ -116,6 +118,14 @@ fn too_large(header: Header) -> Option<Turn>
     Some(Turn::Ask(Command::Update(Update::Delete { key }), show))
 }
 
+/// The reply to a storage line is shown, if the line does not say `noreply`.
+fn opened(header: Header) -> Opening
+    ensures { result ≡ spec.opened_by header }
+{
+    let show = shown(header.quiet);
+    Opening { header, show }
+}
+
 /// A storage line with its size, and a header if all other words are correct.
 fn sized(quiet: bool, size: u32, header: Option<Header>) -> Line
     requires { size < 2 ^ 31 }
@@ -126,7 +136,7 @@ fn sized(quiet: bool, size: u32, header: Option<Header>) -> Line
         Some(header) if size as usize > MOST_BLOCK_BYTES => {
             Line::Skips(size + 2, too_large(header))
         }
-        Some(header) => Line::Opens(header),
+        Some(header) => Line::Opens(opened(header)),
     }
 }
 
@@ -354,6 +364,9 @@ fn line_of(alloc: Global, name: Name, quiet: bool, words: &[&[u8]]) -> Result<Li
         Name::FlushAll => says_notice(quiet, Notice::FlushRefused),
         Name::Shutdown => says_notice(quiet, Notice::ShutdownRefused),
         Name::MetaNoop => says_notice(false, Notice::MetaNoop),
+        Name::Stats => says_notice(false, stats_notice(words)),
+        Name::Crawler => says_notice(false, crawler_notice(words)),
+        Name::Meta(meta) => meta_line(alloc, meta, words)?,
         Name::Http => http_line(words),
     })
 }
@@ -381,7 +394,7 @@ fn give(
             read_keys(alloc, reading, words, turns)?;
             Ok(Part::Line)
         }
-        Line::Opens(header) => Ok(Part::Block(header)),
+        Line::Opens(opening) => Ok(Part::Block(opening)),
         Line::Skips(size, turn) => Ok(Part::Unread(size, turn)),
     }
 }

@@ -5,6 +5,7 @@ ghost use Rattle.proto.specs.Line.{verb_of as verb_value};
 ghost use Rattle.dialect.specs.Name as spec;
 
 use crate::line::Name;
+use crate::meta::Meta;
 use proto::StoreVerb;
 
 fn verb_of(word: &[u8]) -> Option<StoreVerb>
@@ -59,10 +60,30 @@ fn keyless_name_of(word: &[u8]) -> Option<Name>
         Some(Name::FlushAll)
     } else if word == b"shutdown".as_slice() {
         Some(Name::Shutdown)
-    } else if word == b"mn".as_slice() {
-        Some(Name::MetaNoop)
+    } else if word == b"stats".as_slice() {
+        Some(Name::Stats)
+    } else if word == b"lru_crawler".as_slice() {
+        Some(Name::Crawler)
     } else if word == b"GET".as_slice() || word == b"POST".as_slice() {
         Some(Name::Http)
+    } else {
+        None
+    }
+}
+
+fn meta_name_of(word: &[u8]) -> Option<Name>
+    ensures { result ≡ spec.meta_name_of word.now }
+{
+    if word == b"mg".as_slice() {
+        Some(Name::Meta(Meta::Get))
+    } else if word == b"ms".as_slice() {
+        Some(Name::Meta(Meta::Set))
+    } else if word == b"md".as_slice() {
+        Some(Name::Meta(Meta::Delete))
+    } else if word == b"ma".as_slice() {
+        Some(Name::Meta(Meta::Count))
+    } else if word == b"mn".as_slice() {
+        Some(Name::MetaNoop)
     } else {
         None
     }
@@ -84,5 +105,5 @@ pub fn name_of(word: &[u8]) -> Option<Name>
     if let Some(verb) = verb_of(word) {
         return Some(Name::Store(verb));
     }
-    key_name_of(word).or(keyless_name_of(word))
+    key_name_of(word).or(keyless_name_of(word).or(meta_name_of(word)))
 }

@@ -2,6 +2,7 @@
 
 ghost use Rattle.std.specs.Prelude.{◌≡◌, IfOk};
 
+use crate::line::Opening;
 use crate::turn::Turn;
 use proto::Header;
 use std::alloc::AllocError;
@@ -11,7 +12,7 @@ use std::alloc::AllocError;
 pub enum Part {
     Line,
     /// The block of a storage line, and the two bytes after it.
-    Block(Header),
+    Block(Opening),
     /// So many bytes that are not kept, and then this turn is given, if any.
     Unread(u32, Option<Turn>),
     /// Nothing more.
@@ -31,6 +32,15 @@ fn copied_header(header: &Header) -> Result<Header, AllocError>
     })
 }
 
+fn copied_opening(opening: &Opening) -> Result<Opening, AllocError>
+    ensures { IfOk result (λ copy. copy ≡ opening.now) }
+{
+    Ok(Opening {
+        header: copied_header(&opening.header)?,
+        show: opening.show.clone()?,
+    })
+}
+
 fn copied_turn(turn: &Option<Turn>) -> Result<Option<Turn>, AllocError>
     ensures { IfOk result (λ copy. copy ≡ turn.now) }
 {
@@ -46,7 +56,7 @@ impl Clone for Part {
     fn clone(&self) -> Result<Part, AllocError> {
         Ok(match self {
             Part::Line => Part::Line,
-            Part::Block(header) => Part::Block(copied_header(header)?),
+            Part::Block(opening) => Part::Block(copied_opening(opening)?),
             Part::Unread(left, turn) => Part::Unread(*left, copied_turn(turn)?),
             Part::Closed => Part::Closed,
         })

@@ -7,12 +7,13 @@ ghost use Rattle.proto.specs.Grammar.{filled};
 ghost use Rattle.proto.specs.Stage.{FindsNewline};
 ghost use Rattle.proto.specs.declared.block.TheConstants.{MOST_BLOCK_BYTES};
 ghost use Rattle.dialect.specs.declared.line.TheConstants.{MOST_LINE_BYTES};
+ghost use Rattle.dialect.specs.declared.line.Opening.{Opening as OpeningValue};
 ghost use Rattle.dialect.specs.Meaning.{meaning, block_turn as block_value};
 ghost use Rattle.dialect.specs.State.{state_at, run, to, start, Runs, IsReaderState, HoldsWithin};
 ghost use Rattle.dialect.specs.Stage.{stage_state, starts_binary as binary_start, CutsLine, IsBlockOf, IsUnreadOf, EndsNothing};
 
-use crate::line::MOST_LINE_BYTES;
-use crate::meaning::{read_line, said, shown};
+use crate::line::{MOST_LINE_BYTES, Opening};
+use crate::meaning::{read_line, said};
 use crate::part::Part;
 use crate::reading::push_some;
 use crate::turn::{Notice, Turn};
@@ -102,11 +103,12 @@ fn fill(header: Header, block: Block) -> Command
 
 /// The turn of a storage line, from its block and the two bytes after it. The block takes over the
 /// bytes.
-fn block_turn(header: Header, mut held: Vec<u8>) -> Result<Option<Turn>, AllocError>
-    requires whole { length held.items ≡ header.size + 2 }
-    requires small { header.size ≤ MOST_BLOCK_BYTES }
-    ensures { IfOk result (λ turn. turn ≡ block_value header held.items) }
+fn block_turn(opening: Opening, mut held: Vec<u8>) -> Result<Option<Turn>, AllocError>
+    requires whole { length held.items ≡ opening.header.size + 2 }
+    requires small { opening.header.size ≤ MOST_BLOCK_BYTES }
+    ensures { IfOk result (λ turn. turn ≡ block_value opening held.items) }
 {
+    let Opening { header, show } = opening;
     let size = header.size as usize;
     let quiet = header.quiet;
     let (_, end) = held.as_slice().split_at(size);
@@ -115,7 +117,7 @@ fn block_turn(header: Header, mut held: Vec<u8>) -> Result<Option<Turn>, AllocEr
     }
     held.truncate(size);
     let block = Block::new(held)?;
-    Ok(Some(Turn::Ask(fill(header, block), shown(quiet))))
+    Ok(Some(Turn::Ask(fill(header, block), show)))
 }
 
 impl Stage {
@@ -134,7 +136,7 @@ impl Stage {
         ensures { IfOk result (λ copy. stage_state copy ≡ stage_state self.now) }
     {
         let room = match &self.part {
-            Part::Block(header) => header.size as usize + 2,
+            Part::Block(opening) => opening.header.size as usize + 2,
             _ => self.held.len(),
         };
         let mut held = Vec::with_capacity(alloc, room)?;
@@ -156,7 +158,9 @@ impl Stage {
                     && piece.len() < MOST_LINE_BYTES - self.held.len()
                     && newline_in(piece).is_none()
             }
-            Part::Block(header) => { piece.len() < header.size as usize + 2 - self.held.len() }
+            Part::Block(opening) => {
+                piece.len() < opening.header.size as usize + 2 - self.held.len()
+            }
             Part::Unread(left, _) => piece.len() < *left as usize,
             Part::Closed => true,
         }
@@ -226,8 +230,8 @@ impl Stage {
     {
         let part = read_line(alloc, self.held.as_slice(), turns)?;
         self.held.clear();
-        if let Part::Block(header) = &part {
-            self.held.reserve(header.size as usize + 2)?;
+        if let Part::Block(opening) = &part {
+            self.held.reserve(opening.header.size as usize + 2)?;
         }
         self.part = part;
         Ok(())
@@ -267,12 +271,12 @@ impl Stage {
         requires block { IsBlockOf size self.old.part }
         requires whole { length self.old.held.items ≡ size + 2 }
         requires small { size ≤ MOST_BLOCK_BYTES }
-        ensures turns { OnOk result ((h : Header) → self.old.part ≡ Part.Block h → turns.new.items ≡ turns.old.items ++ option_to_list (block_value h self.old.held.items)) }
+        ensures turns { OnOk result ((o : OpeningValue) → self.old.part ≡ Part.Block o → turns.new.items ≡ turns.old.items ++ option_to_list (block_value o self.old.held.items)) }
         ensures start { OnOk result (stage_state self.new ≡ start) }
     {
         let held = mem::replace(&mut self.held, Vec::new(alloc));
-        if let Part::Block(header) = mem::replace(&mut self.part, Part::Line) {
-            push_some(block_turn(header, held)?, turns)?;
+        if let Part::Block(opening) = mem::replace(&mut self.part, Part::Line) {
+            push_some(block_turn(opening, held)?, turns)?;
         }
         Ok(())
     }
@@ -317,8 +321,8 @@ impl Stage {
     {
         match &self.part {
             Part::Line => self.step_line(alloc, piece, turns),
-            Part::Block(header) => {
-                let size = header.size;
+            Part::Block(opening) => {
+                let size = opening.header.size;
                 self.step_block(alloc, size, piece, turns)
             }
             Part::Unread(left, _) => {

@@ -1,5 +1,7 @@
 ghost use Rattle.std.specs.Prelude.{◌≡◌};
 
+use crate::meta::MetaShow;
+use crate::stats::Report;
 use proto::Command;
 use std::alloc::AllocError;
 
@@ -23,8 +25,27 @@ pub enum Notice {
     NoItems,
     /// `MN`, of the meta command `mn`.
     MetaNoop,
+    /// A flag of `mg` or `ms` is none, or none that can be had here.
+    UnknownFlag,
+    /// A letter stands in front of two flags of `mg` or `ms`.
+    DuplicateFlag,
+    /// A flag of `md` or `ma` is bad.
+    BadFlag,
+    /// The exptime or the unique of an `mg` or `ms` is no number.
+    BadToken,
+    /// The delta of an `mg` or `ms` is no number.
+    BadDeltaValue,
+    /// The mode of an `mg` or `ms` is no single byte.
+    BadModeLength,
+    BadSetMode,
+    BadCountMode,
+    OpaqueTooLong,
     FlushRefused,
     ShutdownRefused,
+    /// The items have more bytes than the server may store.
+    OutOfMemory,
+    /// An answer to `stats`.
+    Stats(Report),
     /// No text, at `quit`.
     Silent,
     /// No text, at a line of HTTP.
@@ -34,7 +55,7 @@ pub enum Notice {
 }
 
 /// What a client is shown of a command's reply.
-#[derive(Clone, Copy, PartialEq, Eq)]
+#[derive(Drop)]
 pub enum Show {
     /// All of it.
     Whole,
@@ -44,6 +65,8 @@ pub enum Show {
     Items,
     /// Another text in its place.
     Instead(Notice),
+    /// The answer of a meta command.
+    Meta(MetaShow),
 }
 
 /// What comes next on a client's stream. A line with its block gives no, one or more of them.
@@ -57,12 +80,26 @@ pub enum Turn {
     Close(Notice),
 }
 
+impl Clone for Show {
+    ghost is_clone = { λ show copy. copy ≡ show };
+
+    fn clone(&self) -> Result<Show, AllocError> {
+        Ok(match self {
+            Show::Whole => Show::Whole,
+            Show::Quiet => Show::Quiet,
+            Show::Items => Show::Items,
+            Show::Instead(notice) => Show::Instead(*notice),
+            Show::Meta(show) => Show::Meta(show.clone()?),
+        })
+    }
+}
+
 impl Clone for Turn {
     ghost is_clone = { λ turn copy. copy ≡ turn };
 
     fn clone(&self) -> Result<Turn, AllocError> {
         Ok(match self {
-            Turn::Ask(command, show) => Turn::Ask(command.clone()?, *show),
+            Turn::Ask(command, show) => Turn::Ask(command.clone()?, show.clone()?),
             Turn::Say(notice) => Turn::Say(*notice),
             Turn::Close(notice) => Turn::Close(*notice),
         })

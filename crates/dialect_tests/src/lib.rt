@@ -3,6 +3,10 @@
 #![tactic(auto)]
 
 #[cfg(test)]
+mod meta_rows;
+#[cfg(test)]
+mod meta_shown;
+#[cfg(test)]
 mod rows;
 #[cfg(test)]
 mod shown;

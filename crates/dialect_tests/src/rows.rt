@@ -1,8 +1,7 @@
 //! Lines with their blocks, and what is told of them: the rows are those of the page that says what
 //! the dialect is, and were tried with memcached 1.6.18.
 
-use crate::tell::is_told;
-use std::alloc::{AllocError, Global};
+use crate::tell::{Row, are_told};
 use std::test::Fail;
 
 const FORMAT: &[u8] = b"CLIENT_ERROR bad command line format\r\n";
@@ -15,8 +14,6 @@ const BAD_DELTA: &[u8] = b"CLIENT_ERROR invalid numeric delta argument\r\n";
 
 const BAD_DELETE: &[u8] =
     b"CLIENT_ERROR bad command line format.  Usage: delete <key> [noreply]\r\n";
-
-type Row = (&'static [u8], &'static [u8]);
 
 const STORAGE: [Row; 26] = [
     (b"set k 0 0 5\r\nhello\r\n", b"set k 0 0 hello\n"),
@@ -112,6 +109,44 @@ const OTHERS: [Row; 39] = [
     (b"mn\r\n\x80\x00mn\r\n", b"MN\r\nclosed\n"),
 ];
 
+// All figures and the settings have no text here.
+const STATS: [Row; 19] = [
+    (b"stats\r\nmn\r\n", b"MN\r\n"),
+    (b"stats settings\r\nmn\r\n", b"MN\r\n"),
+    (b"stats reset\r\n", b"RESET\r\n"),
+    (b"stats reset noreply\r\n", b"RESET\r\n"),
+    (b"stats items\r\n", b"END\r\n"),
+    (b"stats conns\r\n", b"END\r\n"),
+    (
+        b"stats slabs\r\n",
+        b"STAT active_slabs 0\r\nSTAT total_malloced 0\r\nEND\r\n",
+    ),
+    (b"stats sizes\r\n", b"STAT sizes_status disabled\r\nEND\r\n"),
+    (b"stats detail on\r\n", b"OK\r\n"),
+    (b"stats detail off noreply\r\n", b"OK\r\n"),
+    (b"stats detail dump\r\n", b"END\r\n"),
+    (
+        b"stats detail\r\n",
+        b"CLIENT_ERROR usage: stats detail on|off|dump\r\n",
+    ),
+    (
+        b"stats detail often\r\n",
+        b"CLIENT_ERROR usage: stats detail on|off|dump\r\n",
+    ),
+    (
+        b"stats cachedump 1 10\r\n",
+        b"CLIENT_ERROR stats cachedump not allowed\r\n",
+    ),
+    (b"stats noreply\r\n", UNKNOWN),
+    (b"stats nonsense\r\n", UNKNOWN),
+    (
+        b"lru_crawler metadump all\r\n",
+        b"ERROR metadump not allowed\r\n",
+    ),
+    (b"lru_crawler enable\r\n", UNKNOWN),
+    (b"lru_crawler\r\n", UNKNOWN),
+];
+
 const READS: [Row; 13] = [
     (b"get a\r\n", b"get a\n"),
     (b"  get   a  b \n", b"get a b\n"),
@@ -128,15 +163,6 @@ const READS: [Row; 13] = [
     (b"get a\r\r\n", FORMAT),
 ];
 
-fn are_told(alloc: Global, rows: &[Row]) -> Result<bool, AllocError> {
-    for (bytes, expected) in rows {
-        if !is_told(alloc, &[*bytes], *expected)? {
-            return Ok(false);
-        }
-    }
-    Ok(true)
-}
-
 #[test]
 fn storage_lines(rt: HostRuntime) -> Result<(), Fail> {
     assert!(rt; are_told(rt.alloc(), STORAGE.as_slice())?);
@@ -146,6 +172,12 @@ fn storage_lines(rt: HostRuntime) -> Result<(), Fail> {
 #[test]
 fn other_lines(rt: HostRuntime) -> Result<(), Fail> {
     assert!(rt; are_told(rt.alloc(), OTHERS.as_slice())?);
+    Ok(())
+}
+
+#[test]
+fn stats_lines(rt: HostRuntime) -> Result<(), Fail> {
+    assert!(rt; are_told(rt.alloc(), STATS.as_slice())?);
     Ok(())
 }
 

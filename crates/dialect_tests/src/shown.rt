@@ -17,7 +17,12 @@ fn one_found(alloc: Global) -> Result<Values, AllocError> {
 }
 
 /// Whether the reply is shown so, behind what is there.
-fn is_shown(alloc: Global, reply: &Reply, show: Show, expected: &[u8]) -> Result<bool, AllocError> {
+fn is_shown(
+    alloc: Global,
+    reply: &Reply,
+    show: &Show,
+    expected: &[u8],
+) -> Result<bool, AllocError> {
     let mut out = b"> ".to_vec(alloc)?;
     if write_shown(reply, show, &mut out).is_err() {
         write_shown(reply, show, &mut out)?;
@@ -30,21 +35,21 @@ fn are_items_shown(alloc: Global, reply: &Reply) -> Result<bool, AllocError> {
         is_shown(
             alloc,
             reply,
-            Show::Whole,
+            &Show::Whole,
             b"> VALUE k 7 5\r\nhello\r\nEND\r\n",
-        )? && is_shown(alloc, reply, Show::Items, b"> VALUE k 7 5\r\nhello\r\n")?
-            && is_shown(alloc, reply, Show::Quiet, b"> ")?,
+        )? && is_shown(alloc, reply, &Show::Items, b"> VALUE k 7 5\r\nhello\r\n")?
+            && is_shown(alloc, reply, &Show::Quiet, b"> ")?,
     )
 }
 
 fn is_delete_shown(alloc: Global, reply: &Reply) -> Result<bool, AllocError> {
     Ok(
-        is_shown(alloc, reply, Show::Whole, b"> DELETED\r\n")?
-            && is_shown(alloc, reply, Show::Items, b"> DELETED\r\n")?
+        is_shown(alloc, reply, &Show::Whole, b"> DELETED\r\n")?
+            && is_shown(alloc, reply, &Show::Items, b"> DELETED\r\n")?
             && is_shown(
                 alloc,
                 reply,
-                Show::Instead(Notice::TooLarge),
+                &Show::Instead(Notice::TooLarge),
                 b"> SERVER_ERROR object too large for cache\r\n",
             )?,
     )

@@ -1,8 +1,11 @@
 //! Turns as lines of text.
 
-use dialect::{Reader, Show, Turn};
+use dialect::{Field, MetaShow, Reader, Show, Turn};
 use proto::{Command, Key, StoreVerb, Update};
 use std::alloc::{AllocError, Global};
+
+/// Bytes of a stream, and what is expected of them.
+pub type Row = (&'static [u8], &'static [u8]);
 
 fn add_key(key: &Key, out: &mut Vec<u8>) -> Result<(), AllocError> {
     out.extend_from_slice(b" ")?;
@@ -115,7 +118,33 @@ fn add_command(alloc: Global, command: &Command, out: &mut Vec<u8>) -> Result<()
     }
 }
 
-fn add_show(show: Show, out: &mut Vec<u8>) -> Result<(), AllocError> {
+fn add_field(field: &Field, out: &mut Vec<u8>) -> Result<(), AllocError> {
+    match field {
+        Field::Flags => out.extend_from_slice(b" flags"),
+        Field::Size => out.extend_from_slice(b" size"),
+        Field::Unique => out.extend_from_slice(b" unique"),
+        Field::Word(word) => {
+            out.extend_from_slice(b" ")?;
+            out.extend_from_slice(word.as_slice())
+        }
+    }
+}
+
+fn add_meta(show: &MetaShow, out: &mut Vec<u8>) -> Result<(), AllocError> {
+    out.extend_from_slice(b" (meta")?;
+    if show.quiet {
+        out.extend_from_slice(b" quiet")?;
+    }
+    if show.value {
+        out.extend_from_slice(b" value")?;
+    }
+    for field in show.fields.as_slice() {
+        add_field(field, out)?;
+    }
+    out.extend_from_slice(b")\n")
+}
+
+fn add_show(show: &Show, out: &mut Vec<u8>) -> Result<(), AllocError> {
     match show {
         Show::Whole => out.extend_from_slice(b"\n"),
         Show::Quiet => out.extend_from_slice(b" (quiet)\n"),
@@ -124,6 +153,7 @@ fn add_show(show: Show, out: &mut Vec<u8>) -> Result<(), AllocError> {
             out.extend_from_slice(b" -> ")?;
             out.extend_from_slice(notice.text())
         }
+        Show::Meta(show) => add_meta(show, out),
     }
 }
 
@@ -131,7 +161,7 @@ fn add_turn(alloc: Global, turn: &Turn, out: &mut Vec<u8>) -> Result<(), AllocEr
     match turn {
         Turn::Ask(command, show) => {
             add_command(alloc, command, out)?;
-            add_show(*show, out)
+            add_show(show, out)
         }
         Turn::Say(notice) => out.extend_from_slice(notice.text()),
         Turn::Close(notice) => {
@@ -179,4 +209,14 @@ pub fn is_told(alloc: Global, pieces: &[&[u8]], expected: &[u8]) -> Result<bool,
     let mut out = Vec::new(alloc);
     tell_pieces(alloc, &mut Reader::new(alloc), pieces, &mut out)?;
     Ok(out.as_slice() == expected)
+}
+
+/// Whether of each row what is expected is told of its bytes.
+pub fn are_told(alloc: Global, rows: &[Row]) -> Result<bool, AllocError> {
+    for (bytes, expected) in rows {
+        if !is_told(alloc, &[*bytes], *expected)? {
+            return Ok(false);
+        }
+    }
+    Ok(true)
 }

@@ -1,5 +1,5 @@
 -- Hosts of executors go to other threads, and so does an ensemble.
-use denote.Param.Send.{IsSend, sendable}
+use denote.Param.Send.{IsSend, IsSync, sendable}
 use Rattle.std.proofs.Crossing.{crosses}
 use Rattle.std.proofs.alloc.Global.TheSendSync as global
 use Rattle.std.proofs.option.Option.TheSendSync as option
@@ -39,6 +39,7 @@ use Rattle.rollback.specs.contracts.saved_chain.SavedChain as saved_chain
 use Rattle.transfer.specs.contracts.parcel.Parcel as parcel
 use Rattle.exec_lines.specs.contracts.body.Body as body
 use Rattle.exec_lines.specs.contracts.state.State as executor
+use Rattle.exec_lines.specs.contracts.record.Saved as saved
 use Rattle.exec_lines.specs.contracts.record.ExecutorRecord as kept
 use Rattle.worlds.specs.contracts.executor_place.ExecutorPlace as place
 use Rattle.hosts.specs.contracts.executor_host.ExecutorHost as host
@@ -48,6 +49,7 @@ use Rattle.ensemble.proofs.noted.Noted.TheSendSync as noted
 use Rattle.ensemble.proofs.progress.Progress.TheSendSync as progress
 use Rattle.ensemble.proofs.times.Stopwatch.TheSendSync as stopwatch
 use Rattle.ensemble.specs.contracts.nodes.Nodes as nodes
+use Rattle.ensemble.specs.contracts.process_record.ProcessRecord as process
 use Rattle.ensemble.specs.contracts.ensemble.Ensemble as ensemble
 
 ruleset parts = (
@@ -101,6 +103,33 @@ ruleset parts = (
   crosses,
 )
 
+-- what a record shares
+ruleset shares = (
+  text.the_sync,
+  reply.the_field_sync,
+  reply.the_sync,
+  request.the_field_sync,
+  request.the_sync,
+  sessions.the_sync,
+  batch.the_field_sync,
+  batch.the_sync,
+  gather.the_sync,
+  token.the_field_sync,
+  token.the_sync,
+  digested.the_sync,
+  form.the_field_sync,
+  form.the_sync,
+  hashed.the_sync,
+  page_set.the_sync,
+  origin.the_field_sync,
+  origin.the_sync,
+  answered.the_field_sync,
+  answered.the_sync,
+  batch_request.the_sync,
+  standing.the_field_sync,
+  standing.the_sync,
+)
+
 state_send : IsSend state.the_row
 state_send = search (parts, sendable) depth 60 fits 20000
 
@@ -131,8 +160,23 @@ saved_member_send = search (parts, sendable) depth 60 fits 20000
 saved_chain_send : IsSend saved_chain.the_row
 saved_chain_send = search (state_send, saved_member_send, parts, sendable) depth 60 fits 20000
 
+state_sync : IsSync state.the_row
+state_sync = search (shares, parts, sendable) depth 60 fits 20000
+
+saved_member_sync : IsSync saved_member.the_row
+saved_member_sync = search (shares, parts, sendable) depth 60 fits 20000
+
+saved_chain_sync : IsSync saved_chain.the_row
+saved_chain_sync = search (state_sync, saved_member_sync, shares, parts, sendable) depth 60 fits 20000
+
+saved_send : IsSend saved.the_row
+saved_send = search (saved_chain_send, parts, sendable) depth 60 fits 20000
+
+saved_sync : IsSync saved.the_row
+saved_sync = search (saved_chain_sync, shares, parts, sendable) depth 60 fits 20000
+
 kept_send : IsSend kept.the_row
-kept_send = search (saved_chain_send, parts, sendable) depth 60 fits 20000
+kept_send = search (saved_send, saved_sync, parts, sendable) depth 60 fits 20000
 
 place_send : IsSend place.the_row
 place_send = first_of (search (executor_send, kept_send, parts, sendable) depth 60 fits 20000, search (slot.the_send, executor_send, kept_send, parts, sendable) depth 60 fits 20000)
@@ -143,5 +187,8 @@ host_send = first_of (search (place_send, body_send, letter.the_send, parts, sen
 nodes_send : IsSend nodes.the_row
 nodes_send = search (host_send, body_send, letter.the_send, verifier.the_send, proxy.the_send, deque.the_send, parts, sendable) depth 60 fits 20000
 
+process_send : IsSend process.the_row
+process_send = search (kept_send, proxy.the_send, parts, sendable) depth 60 fits 20000
+
 pub ensemble_send : IsSend ensemble.the_row
-ensemble_send = search (nodes_send, noted.the_field_send, noted.the_send, progress.the_send, stopwatch.the_field_send, log.the_send, parts, sendable) depth 60 fits 20000
+ensemble_send = search (nodes_send, process_send, noted.the_field_send, noted.the_send, progress.the_send, stopwatch.the_field_send, log.the_send, parts, sendable) depth 60 fits 20000

@@ -13,14 +13,15 @@ use Rattle.worlds.specs.Slot.{Slot}
 use Rattle.worlds.specs.declared.slot.Slot.TheVariants.{Up, Down, Gone}
 use Rattle.worlds.specs.Slots.{executor_kept, verifier_kept, crashed_slot}
 use Rattle.worlds.specs.World.{WorldView, WorldNext, changed_at}
-use Rattle.worlds.specs.Laws.{is_gone}
+use Rattle.worlds.specs.Laws.{kept_at, is_gone}
 use Rattle.worlds.proofs.FirstLemmas.{get_seam, set_seam}
 use Rattle.hosts.specs.Host.{HostView}
 use Rattle.ensemble.specs.Nodes.{NodesView}
 use Rattle.ensemble.specs.Ensemble.{EnsembleView, HasSent, IsLike, IsEnsemble}
-use Rattle.ensemble.specs.Process.{kept_at, ProcessView, kept_of_host, kept_of_verifier, process_of, NoneIsLost, down_host, down_verifier, begun_with, reopened_ensemble, ensemble_after, IsEnsembleAfter}
+use Rattle.ensemble.specs.Kept.{ProcessView, kept_of_host, kept_of_verifier, process_of, NoneIsLost, down_host, down_verifier, begun_with}
+use Rattle.ensemble.specs.Process.{reopened_ensemble, ensemble_after, IsEnsembleAfter}
 use Rattle.ensemble.proofs.Lists.{in_none, in_head, in_tail, get_map}
-use Rattle.ensemble.proofs.Served.{any_count}
+use Rattle.ensemble.proofs.Served.{any_besides}
 use Rattle.ensemble.proofs.Goes.{Moves, stays, moves_by, moves_on, Goes, same_proxies, ensemble_stays}
 
 abbrev slot_of : HostView → Slot ExecutorView
@@ -120,9 +121,9 @@ comes_back e h all = ensemble_stays e (begun_with (process_of e.nodes)) h (begin
 
 pub begins_after : (found : ProcessView) → IsEnsembleAfter (Some found) (reopened_ensemble found)
 begins_after found before h all is =
-    let back = any_count (record before { nodes = begun_with (process_of before.nodes) }) 0 (comes_back before h all) in
+    let back = any_besides (record before { nodes = begun_with (process_of before.nodes) }) 0 before.found (comes_back before h all) in
     let same : record before { nodes = begun_with (process_of before.nodes); refused = 0 } ≡ ensemble_after before (reopened_ensemble found) =
-    λ i. record { nodes = begun_with (is i); asked = sym (append-nil before.asked) i; answered = sym (append-nil before.answered) i; order = sym (append-nil before.order) i; refused = 0 } in
+    λ i. record { nodes = begun_with (is i); asked = sym (append-nil before.asked) i; answered = sym (append-nil before.answered) i; order = sym (append-nil before.order) i; refused = 0; found = before.found } in
     subst (λ (e : EnsembleView). IsEnsemble e) same back
 
 -- whatever was before, the ensemble may become this one
@@ -130,7 +131,7 @@ abbrev pub MayBecome : EnsembleView → EnsembleView → Type 0
 MayBecome e now = (before : EnsembleView) → IsEnsemble (ensemble_after before e) → IsEnsemble (ensemble_after before now)
 
 pub goes_on_after : (found : Option ProcessView) (e now : EnsembleView) → MayBecome e now → IsEnsembleAfter found e → IsEnsembleAfter found now
-goes_on_after None e now step h = step (record e { asked = []; answered = []; order = [] }) h
+goes_on_after None e now step h = step (record e { asked = []; answered = []; order = []; found = now.found }) (any_besides e e.refused now.found h)
 goes_on_after (Some found) e now step h = λ before was all is. step before (h before was all is)
 
 -- what came before both, and what came before the second of them
@@ -141,6 +142,7 @@ after_each_other first second third = λ i. record {
   answered = append_assoc first.answered second.answered third.answered i;
   order = append_assoc first.order second.order third.order i;
   refused = third.refused;
+  found = first.found;
 }
 
 pub follows_after : (found : Option ProcessView) (e later : EnsembleView) → IsEnsembleAfter found e → NoneIsLost e.nodes → IsEnsembleAfter (Some (process_of e.nodes)) later → IsEnsembleAfter found (ensemble_after e later)

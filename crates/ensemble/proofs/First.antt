@@ -20,6 +20,7 @@ use Rattle.worlds.specs.First.{first_executor, first_verifier, all_up, first_wor
 use Rattle.worlds.proofs.FirstLemmas.{reached_first, get_seam, length_all_up}
 use Rattle.proxies.specs.Proxy.{ProxyView}
 use Rattle.hosts.specs.Host.{HostView}
+use Rattle.ensemble.specs.Nodes.{AreNumbered}
 use Rattle.ensemble.specs.Calls.{AllCollected}
 use Rattle.ensemble.specs.First.{first_proxies_of, first_host, first_hosts, first_nodes, AreAllUp}
 use Rattle.ensemble.specs.Shown.{is_host_up, is_place_up}
@@ -84,7 +85,7 @@ begins_empty : (early late : Order) → [] ≡ early ++ late → [] ≡ early
 begins_empty [] late is = refl
 begins_empty (x ∷ early) late is = absurd (cc is)
 
-pub first_is_ensemble : (c : ConfigView) → IsEnsemble (record { nodes = first_nodes c; asked = []; answered = []; order = []; refused = 0 })
+pub first_is_ensemble : (c : ConfigView) → IsEnsemble (record { nodes = first_nodes c; asked = []; answered = []; order = []; refused = 0; found = None })
 first_is_ensemble c = record {
   config = c;
   events = [];
@@ -113,6 +114,9 @@ first_is_ensemble c = record {
   past = λ early late is. subst (λ (o : Order). IsPast [] (reached_first c (first_world c) refl).worlds o) (begins_empty early late is)
       (past_now c [] (first_world c) (reached_first c (first_world c) refl) [] [] [] (λ client k a at. absurd (cc at)) (λ client. (nothing_next, refl)) (λ a x. absurd (in_none a x)) (λ client number x. absurd (in_none ((client, number), noted.Answered) x)) (λ a x. absurd (in_none a x)) (λ moment x. no_cut moment x));
 }
+
+pub first_numbered : (n : ℕ) → AreNumbered (first_proxies_of n)
+first_numbered n i p at = (of_proxies n i p at).0
 
 -- ---- all are up
 

@@ -224,7 +224,7 @@ in_longer xs y x c = Contains-append_left xs (y ∷ []) x c
 
 -- one request was answered
 pub ensemble_answers : (e : EnsembleView) (n : NodesView) (h : IsEnsemble e) (g : Goes (now_from None e.order) e.nodes n h.now) (client number : ℕ) (reply : replies.Reply) → WasSent g.world.letters client number reply
-    → IsEnsemble (record { nodes = n; asked = e.asked; answered = e.answered ++ ((client, number), reply) ∷ []; order = e.order ++ ((client, number), noted.Answered) ∷ []; refused = e.refused })
+    → IsEnsemble (record { nodes = n; asked = e.asked; answered = e.answered ++ ((client, number), reply) ∷ []; order = e.order ++ ((client, number), noted.Answered) ∷ []; refused = e.refused; found = e.found })
 unfolding ensemble_stays
 ensemble_answers e n h g client number reply sent =
     let stays = ensemble_stays e n h g in

@@ -64,14 +64,14 @@ module _ (law : AnswerIsReplied) (e : EnsembleView) (h : IsEnsemble e) where
   last = now_from None e.order
 
   abbrev After : NodesView → Option Answer → Type 0
-  After n answer = IsEnsemble (record { nodes = n; asked = e.asked; answered = e.answered ++ answer_log answer; order = e.order ++ order_log answer; refused = e.refused })
+  After n answer = IsEnsemble (record { nodes = n; asked = e.asked; answered = e.answered ++ answer_log answer; order = e.order ++ order_log answer; refused = e.refused; found = e.found })
 
   -- it went on from what is left when a letter was taken
   silent : (mail : List (Letter Body)) (n : NodesView) (answer : Option Answer) → Goes last (record e.nodes { mail = mail }) n h.now → answer ≡ None → After n answer
   silent mail n answer g none =
       let whole : Goes last e.nodes n h.now = record { world = g.world; moves = g.moves; like = g.like; same_u = g.same_u; proxies = g.proxies } in
       subst (λ (o : Option Answer). After n o) (sym none)
-      (subst (λ (logs : List ((ℕ × ℕ) × replies.Reply) × List ((ℕ × ℕ) × Noted)). IsEnsemble (record { nodes = n; asked = e.asked; answered = logs.0; order = logs.1; refused = e.refused }))
+      (subst (λ (logs : List ((ℕ × ℕ) × replies.Reply) × List ((ℕ × ℕ) × Noted)). IsEnsemble (record { nodes = n; asked = e.asked; answered = logs.0; order = logs.1; refused = e.refused; found = e.found }))
       (λ i. (sym (append-nil e.answered) i, sym (append-nil e.order) i)) (ensemble_stays e n h whole))
 
   to_proxy : (l : Letter Body) (rest : List (Letter Body)) (client number : ℕ) (reply : replies.Reply) (proxies : List ProxyView) (answer : Option Answer) → IsLike (record e.nodes { mail = rest }) h.now → Contains h.now.letters l → l.to ≡ node.Client client → l.body ≡ body.Reply number reply
@@ -166,7 +166,7 @@ spelled_next client index fed bytes asked a spells text of = by (suc index == cl
 
 pub asks_goes : AskIsFed → Global → (e : EnsembleView) (h : IsEnsemble e) (mid n : NodesView) (number : ℕ) (command : Command) (quiet : Bool) (r : Request) → HasText command quiet
     → IsAskedBy e.nodes.proxies number command quiet mid.proxies r → mid ≡ record e.nodes { proxies = mid.proxies } → IsPosted mid number r n
-    → IsEnsemble (record { nodes = n; asked = e.asked ++ (r, quiet) ∷ []; answered = e.answered; order = e.order ++ ((number, r.number), noted.Asked) ∷ []; refused = e.refused })
+    → IsEnsemble (record { nodes = n; asked = e.asked ++ (r, quiet) ∷ []; answered = e.answered; order = e.order ++ ((number, r.number), noted.Asked) ∷ []; refused = e.refused; found = e.found })
 asks_goes law alloc e h mid n number command quiet r text a is posted =
     let p = a.proxy in
     let own = text.0 in
@@ -207,7 +207,7 @@ asks_goes law alloc e h mid n number command quiet r text a is posted =
     (λ (same : ◌≡◌ {A = (ℕ × ℕ) × Noted} ((number, r.number), noted.Asked) ((p, k), noted.Answered)). absurd (let kinds : noted.Asked ≡ noted.Answered = ap (λ (x : (ℕ × ℕ) × Noted). x.1) same in cc kinds))
     (Contains-push_cases e.order ((number, r.number), noted.Asked) ((p, k), noted.Answered) c) in
     let cuts : AreCut order (h.events ++ event ∷ []) = uncut_more order h.events (event ∷ []) (λ moment c. let none : cut_by event ≡ Some moment = one_cut event moment c in cc none) (still_cut e.order (((number, r.number), noted.Asked) ∷ []) h.events h.cuts) in
-    subst (λ (x : NodesView). IsEnsemble (record { nodes = x; asked = e.asked ++ entry ∷ []; answered = e.answered; order = order; refused = e.refused })) (sym n_is) (record {
+    subst (λ (x : NodesView). IsEnsemble (record { nodes = x; asked = e.asked ++ entry ∷ []; answered = e.answered; order = order; refused = e.refused; found = e.found })) (sym n_is) (record {
       config = h.config;
       events = h.events ++ event ∷ [];
       now = now;
@@ -240,28 +240,26 @@ asks_goes law alloc e h mid n number command quiet r text a is posted =
     plus_one k = omega arith
 
 -- and it is logged so
-pub asks_logged : (e : EnsembleView) (h : IsEnsemble e) (proxies : List ProxyView) (number : ℕ) (command : Command) (quiet : Bool) (r : Request) (now : List (Request × Bool)) → IsAskedBy e.nodes.proxies number command quiet proxies r → now ≡ e.asked ++ (r, quiet) ∷ []
-    → IsLogged e.asked number r.number command quiet now
-asks_logged e h proxies number command quiet r now a is =
-    let at = h.numbered a.index a.proxy a.there in
-    record {
-      request = r;
-      of_proxy = ap (λ (x : Request). x.client) a.is ∙ (ap client_number at.0 ∙ sym a.at);
-      numbered = refl;
-      asks = ap (λ (x : Request). x.command) a.is;
-      after = is;
-    }
+pub asks_logged : (asked : List (Request × Bool)) (proxies old : List ProxyView) (number : ℕ) (command : Command) (quiet : Bool) (r : Request) (now : List (Request × Bool)) → IsAskedBy old number command quiet proxies r → r.client ≡ number → now ≡ asked ++ (r, quiet) ∷ []
+    → IsLogged asked number r.number command quiet now
+asks_logged asked proxies old number command quiet r now a of is = record {
+  request = r;
+  of_proxy = of;
+  numbered = refl;
+  asks = ap (λ (x : Request). x.command) a.is;
+  after = is;
+}
 
 -- where nothing is answered
 pub deliver_none : AnswerIsReplied → (e : EnsembleView) (h : IsEnsemble e) (n : NodesView) (answer : Option Answer) → Delivers e.nodes n answer → answer ≡ None → IsEnsemble (record e { nodes = n })
 deliver_none law e h n answer d none =
-    subst (λ (logs : List ((ℕ × ℕ) × replies.Reply) × List ((ℕ × ℕ) × Noted)). IsEnsemble (record { nodes = n; asked = e.asked; answered = logs.0; order = logs.1; refused = e.refused }))
+    subst (λ (logs : List ((ℕ × ℕ) × replies.Reply) × List ((ℕ × ℕ) × Noted)). IsEnsemble (record { nodes = n; asked = e.asked; answered = logs.0; order = logs.1; refused = e.refused; found = e.found }))
     (λ i. (append-nil e.answered i, append-nil e.order i))
-    (subst (λ (o : Option Answer). IsEnsemble (record { nodes = n; asked = e.asked; answered = e.answered ++ answer_log o; order = e.order ++ order_log o; refused = e.refused })) none (deliver_goes law e h n answer d))
+    (subst (λ (o : Option Answer). IsEnsemble (record { nodes = n; asked = e.asked; answered = e.answered ++ answer_log o; order = e.order ++ order_log o; refused = e.refused; found = e.found })) none (deliver_goes law e h n answer d))
 
 -- where one is
 pub deliver_some : AnswerIsReplied → (e : EnsembleView) (h : IsEnsemble e) (n : NodesView) (answer : Option Answer) (a : Answer) (log : List ((ℕ × ℕ) × replies.Reply)) (order : Order) → Delivers e.nodes n answer → answer ≡ Some a
-    → log ≡ e.answered ++ ((a.proxy, a.number), a.reply) ∷ [] → order ≡ e.order ++ ((a.proxy, a.number), noted.Answered) ∷ [] → IsEnsemble (record { nodes = n; asked = e.asked; answered = log; order = order; refused = e.refused })
+    → log ≡ e.answered ++ ((a.proxy, a.number), a.reply) ∷ [] → order ≡ e.order ++ ((a.proxy, a.number), noted.Answered) ∷ [] → IsEnsemble (record { nodes = n; asked = e.asked; answered = log; order = order; refused = e.refused; found = e.found })
 deliver_some law e h n answer a log order d some is in_order =
-    subst (λ (logs : List ((ℕ × ℕ) × replies.Reply) × List ((ℕ × ℕ) × Noted)). IsEnsemble (record { nodes = n; asked = e.asked; answered = logs.0; order = logs.1; refused = e.refused })) (λ i. (sym is i, sym in_order i))
-    (subst (λ (o : Option Answer). IsEnsemble (record { nodes = n; asked = e.asked; answered = e.answered ++ answer_log o; order = e.order ++ order_log o; refused = e.refused })) some (deliver_goes law e h n answer d))
+    subst (λ (logs : List ((ℕ × ℕ) × replies.Reply) × List ((ℕ × ℕ) × Noted)). IsEnsemble (record { nodes = n; asked = e.asked; answered = logs.0; order = logs.1; refused = e.refused; found = e.found })) (λ i. (sym is i, sym in_order i))
+    (subst (λ (o : Option Answer). IsEnsemble (record { nodes = n; asked = e.asked; answered = e.answered ++ answer_log o; order = e.order ++ order_log o; refused = e.refused; found = e.found })) some (deliver_goes law e h n answer d))

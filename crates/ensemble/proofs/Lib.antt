@@ -6,6 +6,7 @@ mod Goes
 mod Hosts
 mod Verifiers
 mod Clients
+mod Numbered
 mod Logs
 mod Asks
 mod GhostVec
@@ -17,5 +18,6 @@ mod Served
 mod Trimming
 mod Collecting
 mod Ending
+mod Begun
 mod Continuing
 pub mod Crossing

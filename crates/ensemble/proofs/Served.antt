@@ -19,14 +19,15 @@ use Rattle.ensemble.specs.Nodes.{NodesView, AtHostIn, AtHost, AtVerifier, IsAske
 use Rattle.ensemble.specs.Shown.{outstanding_in, outstanding_at, has_letters, has_job, is_quiet, would_cut}
 use Rattle.ensemble.specs.Calls.{HostPosts}
 use Rattle.ensemble.specs.Served.{letters_asked, IsUnderWay, VerifierPosts, NoBatchAt, NoBatchBelow, IsAtRest}
+use Rattle.ensemble.specs.Kept.{ProcessView}
 use Rattle.ensemble.specs.Ensemble.{EnsembleView, IsEnsemble}
 use Rattle.ensemble.proofs.Cutting.{cut_gave_nothing}
 use Rattle.ensemble.proofs.Lists.{set_get, get_other}
 use Rattle.ensemble.proofs.Sending.{below_or_last}
 
--- what is always true of an ensemble does not depend on the count
-pub any_count : (e : EnsembleView) (refused : ℕ) → IsEnsemble e → IsEnsemble (record e { refused = refused })
-any_count e refused h = record {
+-- what is always true of an ensemble depends neither on the count nor on what was found
+pub any_besides : (e : EnsembleView) (refused : ℕ) (found : Option ProcessView) → IsEnsemble e → IsEnsemble (record e { refused = refused; found = found })
+any_besides e refused found h = record {
   config = h.config;
   events = h.events;
   now = h.now;

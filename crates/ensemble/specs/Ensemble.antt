@@ -1,6 +1,6 @@
 -- What an ensemble keeps, and what is always true of it.
 use Rattle.std.specs.Prelude.{◌≡◌, ℕ, suc, ◌==◌, Bool, true, List, [], ◌∷◌, ◌++◌, length, map, Option, None, Some, Contains, slice_get, filter, refl}
-use Rattle.std.specs.Coded.{Coded, code_by, coded×, coded_ℕ, coded_bool, coded_list}
+use Rattle.std.specs.Coded.{Coded, code_by, coded×, coded_ℕ, coded_bool, coded_list, coded_option}
 use Rattle.proto.specs.declared.command.Command.{Command}
 use Rattle.proto.specs.declared.reply.Reply as replies
 use Rattle.proto.specs.declared.turn.Turn.{Turn}
@@ -25,6 +25,7 @@ use Rattle.ensemble.specs.declared.answer.Answer.{Answer}
 use Rattle.ensemble.specs.declared.noted.Noted.{Noted}
 use Rattle.ensemble.specs.declared.noted.Noted.TheVariants as noted
 use Rattle.ensemble.specs.Nodes.{NodesView}
+use Rattle.ensemble.specs.Kept.{ProcessView}
 use Rattle.ensemble.specs.Moments.{moments_in, IsNow}
 
 pub record EnsembleView : Type 0 where
@@ -37,15 +38,22 @@ pub record EnsembleView : Type 0 where
   pub order : List ((ℕ × ℕ) × Noted)
   -- how often something was not done for want of memory, or since a bound was reached
   pub refused : ℕ
+  -- what its process began with, if it began with what was kept of another one
+  pub found : Option ProcessView
 
 -- an ensemble is identified by what it has
-abbrev pub ensemble_code : Coded NodesView → Coded Request → Coded (replies.Reply) → Coded Noted → Coded EnsembleView
-ensemble_code nodes request reply note =
-    code_by ((((NodesView × List (Request × Bool)) × List ((ℕ × ℕ) × replies.Reply)) × List ((ℕ × ℕ) × Noted)) × ℕ)
-    (coded× (coded× (coded× (coded× nodes (coded_list (coded× request coded_bool))) (coded_list (coded× (coded× coded_ℕ coded_ℕ) reply))) (coded_list (coded× (coded× coded_ℕ coded_ℕ) note))) coded_ℕ)
-    (λ e. ((((e.nodes, e.asked), e.answered), e.order), e.refused))
-    (λ p. record { nodes = p.0.0.0.0; asked = p.0.0.0.1; answered = p.0.0.1; order = p.0.1; refused = p.1 })
+abbrev pub ensemble_code : Coded NodesView → Coded Request → Coded (replies.Reply) → Coded Noted → Coded ProcessView → Coded EnsembleView
+ensemble_code nodes request reply note found =
+    code_by (((((NodesView × List (Request × Bool)) × List ((ℕ × ℕ) × replies.Reply)) × List ((ℕ × ℕ) × Noted)) × ℕ) × Option ProcessView)
+    (coded× (coded× (coded× (coded× (coded× nodes (coded_list (coded× request coded_bool))) (coded_list (coded× (coded× coded_ℕ coded_ℕ) reply))) (coded_list (coded× (coded× coded_ℕ coded_ℕ) note))) coded_ℕ) (coded_option found))
+    (λ e. (((((e.nodes, e.asked), e.answered), e.order), e.refused), e.found))
+    (λ p. record { nodes = p.0.0.0.0.0; asked = p.0.0.0.0.1; answered = p.0.0.0.1; order = p.0.0.1; refused = p.0.1; found = p.1 })
     (λ _. refl)
+
+-- what was found, if something was
+abbrev pub first_found : List (ProcessView × Bool) → Option ProcessView
+first_found [] = None
+first_found (e ∷ rest) = Some e.0
 
 -- ---- logs
 

@@ -4,6 +4,7 @@ pub mod Shown
 pub mod Served
 pub mod Trimming
 pub mod Moments
+pub mod Kept
 pub mod Ensemble
 pub mod Calls
 pub mod Process

@@ -35,6 +35,10 @@ pub record NodesView : Type 0 where
 abbrev pub size_of : NodesView → ℕ × ℕ × ℕ × ℕ
 size_of n = (n.u, length n.proxies, length n.executors, length n.verifiers)
 
+-- proxies are numbered from 1
+abbrev pub AreNumbered : List ProxyView → Type 0
+AreNumbered proxies = (i : ℕ) (p : ProxyView) → slice_get proxies i ≡ Some p → p.client ≡ suc i
+
 -- nodes are identified by what they have
 abbrev pub nodes_code : Coded ProxyView → Coded HostView → Coded (Slot VerifierView) → Coded (Letter Body) → Coded NodesView
 nodes_code proxy host verifier letter =

@@ -44,7 +44,7 @@ NodesGoOn e n = ExecutorsGoOn e n ⊎ VerifiersGoOn e n ⊎ ((number : ℕ) × A
 pub record LetterComes (e now : EnsembleView) : Type 0 where
   pub answer : Option Answer
   pub delivers : Delivers e.nodes now.nodes answer
-  pub after : now ≡ record { nodes = now.nodes; asked = e.asked; answered = e.answered ++ answer_log answer; order = e.order ++ order_log answer; refused = e.refused }
+  pub after : now ≡ record { nodes = now.nodes; asked = e.asked; answered = e.answered ++ answer_log answer; order = e.order ++ order_log answer; refused = e.refused; found = e.found }
 
 -- a proxy asks
 pub record ProxyAsks (e now : EnsembleView) : Type 0 where
@@ -58,7 +58,7 @@ pub record ProxyAsks (e now : EnsembleView) : Type 0 where
   pub asked_by : IsAskedBy e.nodes.proxies number command quiet asking.proxies request
   pub only : asking ≡ record e.nodes { proxies = asking.proxies }
   pub posted : IsPosted asking number request now.nodes
-  pub after : now ≡ record { nodes = now.nodes; asked = e.asked ++ (request, quiet) ∷ []; answered = e.answered; order = e.order ++ ((number, request.number), noted.Asked) ∷ []; refused = e.refused }
+  pub after : now ≡ record { nodes = now.nodes; asked = e.asked ++ (request, quiet) ∷ []; answered = e.answered; order = e.order ++ ((number, request.number), noted.Asked) ∷ []; refused = e.refused; found = e.found }
 
 -- one step: the nodes go on, a letter comes, a proxy asks, a moment is noted, or more is counted as refused
 abbrev pub IsEnsembleStep : EnsembleView → EnsembleView → Type 0

@@ -60,6 +60,7 @@ impl Nodes {
     pub fn ask(&mut self, number: u16, command: Command, quiet: bool) -> Result<Request, Fault>
         requires { IsFree self.old.proxies number }
         ensures ok { IfOk result (λ r. IsAskedBy self.old.proxies number command quiet self.new.proxies r) }
+        ensures numbered { IfOk result (λ r. r.client ≡ number) }
         ensures others { self.new ≡ record self.old { proxies = self.new.proxies } }
         ensures err { OnErr result (self.new ≡ self.old) }
     {

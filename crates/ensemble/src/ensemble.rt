@@ -5,6 +5,7 @@ ghost use Rattle.std.specs.Prelude.{◌≡◌};
 use crate::answer::Answer;
 use crate::nodes::Nodes;
 use crate::noted::Noted;
+use crate::process_record::ProcessRecord;
 use crate::progress::Progress;
 use crate::refusing::refuse;
 use crate::times::{Stopwatch, Times};
@@ -31,6 +32,8 @@ pub struct Ensemble {
     /// In which order requests were asked and answered, by the proxy and the request's number. Between them stand the
     /// moments that were handed in, each under the proxy 0, which there is none of.
     pub(crate) order: Log<(u16, u64), Noted>,
+    /// What its process began with, if it began with what was kept of another one.
+    pub(crate) found: Log<ProcessRecord, bool>,
     /// How often something was refused.
     pub(crate) refused: u64,
 }
@@ -40,15 +43,17 @@ impl Model for Ensemble {
     ghost use Rattle.sessions.specs.contracts.request.Request as of_request;
     ghost use Rattle.proto.specs.contracts.reply.Reply as of_reply;
     ghost use Rattle.ensemble.specs.contracts.noted.Noted as of_noted;
-    ghost use Rattle.ensemble.specs.Ensemble.{EnsembleView, IsEnsemble, ensemble_code};
+    ghost use Rattle.ensemble.specs.contracts.process_record.ProcessRecord as of_process;
+    ghost use Rattle.ensemble.specs.Ensemble.{EnsembleView, ensemble_code, first_found};
+    ghost use Rattle.ensemble.specs.Process.{IsEnsembleAfter};
 
     ghost Value = { EnsembleView };
 
-    ghost coded = { ensemble_code of_nodes.the_row.coded of_request.the_row.coded of_reply.the_row.coded of_noted.the_row.coded };
+    ghost coded = { ensemble_code of_nodes.the_row.coded of_request.the_row.coded of_reply.the_row.coded of_noted.the_row.coded of_process.the_row.coded };
 
-    ghost view = { λ e. record { nodes = e.nodes; asked = e.asked.items; answered = e.answered.items; order = e.order.items; refused = e.refused } };
+    ghost view = { λ e. record { nodes = e.nodes; asked = e.asked.items; answered = e.answered.items; order = e.order.items; refused = e.refused; found = first_found e.found.items } };
 
-    ghost invariant = { λ e. IsEnsemble (record { nodes = e.nodes; asked = e.asked.items; answered = e.answered.items; order = e.order.items; refused = 0 }) };
+    ghost invariant = { λ e. IsEnsembleAfter (first_found e.found.items) (record { nodes = e.nodes; asked = e.asked.items; answered = e.answered.items; order = e.order.items; refused = 0; found = first_found e.found.items }) };
 }
 
 impl Ensemble {
@@ -62,12 +67,14 @@ impl Ensemble {
     ghost use Rattle.ensemble.specs.Served.{IsUnderWay, letters_again, VerifierPosts};
     ghost use Rattle.memcached_spec.specs.Asked.{HasText};
     ghost use Rattle.ensemble.specs.declared.noted.Noted.TheVariants as noted;
-    ghost use Rattle.ensemble.specs.Ensemble.{IsEnsemble, IsLogged, answer_log};
+    ghost use Rattle.ensemble.specs.Ensemble.{IsLogged, answer_log};
+    ghost use Rattle.ensemble.specs.Process.{IsEnsembleAfter};
 
     /// What stands there is what events lead a world to: that world is like it, what its clients were fed is
-    /// just what was asked, and each answer was sent in it. The call does nothing.
+    /// just what was asked, and each answer was sent in it. So it is of an ensemble that was opened. One that was reopened
+    /// is so with what was asked and answered before, in whatever ensemble its record was kept of. The call does nothing.
     pub fn shows(&self)
-        ensures { IsEnsemble self.now }
+        ensures { IsEnsembleAfter self.now.found self.now }
     {
         let _ = &self.progress;
     }
@@ -104,6 +111,7 @@ impl Ensemble {
         requires free { IsFree self.old.nodes.proxies proxy }
         requires text { HasText command quiet }
         ensures ok { IfOk result (λ number. IsLogged self.old.asked proxy number command quiet self.new.asked) }
+        ensures found { self.new.found ≡ self.old.found }
         ensures answered { self.new.answered ≡ self.old.answered }
         ensures order { IfOk result (λ number. self.new.order ≡ self.old.order ++ ((proxy, number), noted.Asked) ∷ []) }
         ensures err { OnErr result (self.new ≡ self.old) }
@@ -125,6 +133,7 @@ impl Ensemble {
     /// outstanding. If there is no memory for that it is lost, which is counted (`refused`).
     pub fn again(&mut self, alloc: Global, proxy: u16)
         ensures asked { self.new.asked ≡ self.old.asked }
+        ensures found { self.new.found ≡ self.old.found }
         ensures answered { self.new.answered ≡ self.old.answered }
         ensures order { self.new.order ≡ self.old.order }
         ensures counted { self.old.refused ≤ self.new.refused }
@@ -140,6 +149,7 @@ impl Ensemble {
     /// for what it sends, that is lost, which is counted (`refused`).
     pub fn suspect(&mut self, alloc: Global, verifier: u8)
         ensures asked { self.new.asked ≡ self.old.asked }
+        ensures found { self.new.found ≡ self.old.found }
         ensures answered { self.new.answered ≡ self.old.answered }
         ensures order { self.new.order ≡ self.old.order }
         ensures told { VerifierMoves (VerifierGets Suspect) verifier self.old.nodes self.new.nodes }
@@ -155,6 +165,7 @@ impl Ensemble {
     /// Opens an executor, if it is there and down.
     fn open_executor(&mut self, alloc: Global, id: u8)
         ensures asked { self.new.asked ≡ self.old.asked }
+        ensures found { self.new.found ≡ self.old.found }
         ensures answered { self.new.answered ≡ self.old.answered }
         ensures order { self.new.order ≡ self.old.order }
         ensures counted { self.old.refused ≤ self.new.refused }
@@ -170,6 +181,7 @@ impl Ensemble {
     /// Opens a verifier, if it is there and down.
     fn open_verifier(&mut self, alloc: Global, id: u8)
         ensures asked { self.new.asked ≡ self.old.asked }
+        ensures found { self.new.found ≡ self.old.found }
         ensures answered { self.new.answered ≡ self.old.answered }
         ensures order { self.new.order ≡ self.old.order }
         ensures counted { self.old.refused ≤ self.new.refused }
@@ -185,6 +197,7 @@ impl Ensemble {
     /// Opens the replica, if it is there and down.
     fn open_replica(&mut self, alloc: Global, replica: Replica)
         ensures asked { self.new.asked ≡ self.old.asked }
+        ensures found { self.new.found ≡ self.old.found }
         ensures answered { self.new.answered ≡ self.old.answered }
         ensures order { self.new.order ≡ self.old.order }
         ensures counted { self.old.refused ≤ self.new.refused }
@@ -213,6 +226,7 @@ impl Ensemble {
     /// memory for what it sends, that is counted (`refused`).
     pub fn restart(&mut self, alloc: Global, replica: Replica) -> bool
         ensures asked { self.new.asked ≡ self.old.asked }
+        ensures found { self.new.found ≡ self.old.found }
         ensures answered { self.new.answered ≡ self.old.answered }
         ensures order { self.new.order ≡ self.old.order }
         ensures up { result ≡ is_up_at self.new.nodes replica }
@@ -289,6 +303,7 @@ impl Ensemble {
             asked,
             answered,
             order,
+            found,
             refused: _,
         } = self;
         nodes.end();
@@ -296,5 +311,6 @@ impl Ensemble {
         drop(asked);
         drop(answered);
         drop(order);
+        drop(found);
     }
 }

@@ -5,6 +5,8 @@
 //!     let answers = ensemble.work(rt, clock, alloc, seconds);             // until the replicas can do nothing more
 //!     ensemble.again(alloc, 1);                                           // no reply came: it asks all executors
 //!     ensemble.restart(alloc, Replica::Executor(0));                      // a node that stopped is opened again
+//!     let record = ensemble.record(alloc)?;                               // what is kept of it when its process ends
+//!     let ensemble = Ensemble::reopen(alloc, record)?;                    // another process goes on from there
 //!
 //! It stands on `hosts` and `worlds`, which hold the replicas, and on `proxies`, which ask. The layer above uses
 //! `Ensemble`: `ask` hands in a command, and `work` has the replicas work until nothing more can be done, and
@@ -24,7 +26,9 @@ mod noted;
 mod opening;
 mod posting;
 mod process_laws;
+mod process_record;
 mod progress;
+mod recording;
 mod refusing;
 mod showing;
 mod tending;
@@ -39,6 +43,7 @@ pub use process_laws::{
     a_process_comes_back, a_reopened_ensemble_follows, an_ensemble_goes_on_after_a_process,
     processes_follow_each_other,
 };
+pub use process_record::ProcessRecord;
 pub use serving::Seen;
 pub use times::Times;
 pub use worlds::{Config, Replica};

@@ -28,7 +28,7 @@ impl Model for Nodes {
     ghost use Rattle.worlds.specs.contracts.verifier_place.VerifierPlace as verifier;
     ghost use Rattle.decrees.specs.contracts.node.Letter as letter;
     ghost use Rattle.exec_lines.specs.contracts.body.Body as body;
-    ghost use Rattle.ensemble.specs.Nodes.{NodesView, nodes_code};
+    ghost use Rattle.ensemble.specs.Nodes.{NodesView, AreNumbered, nodes_code};
 
     ghost Value = { NodesView };
 
@@ -36,7 +36,7 @@ impl Model for Nodes {
 
     ghost view = { λ n. record { u = n.u; proxies = n.proxies.items; executors = n.executors.items; verifiers = n.verifiers.items; mail = n.mail.items } };
 
-    ghost invariant = { λ n. n.u < 4 };
+    ghost invariant = { λ n. (n.u < 4) × AreNumbered n.proxies.items };
 }
 
 /// The later one of these epochs.

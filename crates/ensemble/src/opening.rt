@@ -108,7 +108,7 @@ fn opened_nodes(alloc: Global, config: &Config) -> Result<Nodes, AllocError>
 }
 
 impl Ensemble {
-    ghost use Rattle.std.specs.Prelude.{◌≡◌, ◌⊎◌, IfOk, IfErr, []};
+    ghost use Rattle.std.specs.Prelude.{◌≡◌, ◌⊎◌, None, IfOk, IfErr, []};
     ghost use Rattle.ensemble.specs.First.{first_nodes, AreAllUp};
     ghost use Rattle.ensemble.specs.Calls.{AllCollected};
 
@@ -123,6 +123,7 @@ impl Ensemble {
         ensures answered { IfOk result (λ ensemble. ensemble.answered ≡ []) }
         ensures order { IfOk result (λ ensemble. ensemble.order ≡ []) }
         ensures refused { IfOk result (λ ensemble. ensemble.refused ≡ 0) }
+        ensures found { IfOk result (λ ensemble. ensemble.found ≡ None) }
         ensures only { IfErr result (λ fault. fault ≡ Fault.NoMemory) }
     {
         let progress = Progress::new(alloc, 2 * config.u() + 1)?;
@@ -134,6 +135,7 @@ impl Ensemble {
             asked: Log::new(),
             answered: Log::new(),
             order: Log::new(),
+            found: Log::new(),
             refused: 0,
         })
     }

@@ -2,7 +2,8 @@
 
 ghost use Rattle.std.specs.Prelude.{List, Option, Some};
 ghost use Rattle.ensemble.specs.Ensemble.{EnsembleView, IsEnsemble};
-ghost use Rattle.ensemble.specs.Process.{ProcessView, process_of, NoneIsLost, begun_with, reopened_ensemble, ensemble_after, IsEnsembleAfter};
+ghost use Rattle.ensemble.specs.Kept.{ProcessView, process_of, NoneIsLost, begun_with};
+ghost use Rattle.ensemble.specs.Process.{reopened_ensemble, ensemble_after, IsEnsembleAfter};
 ghost use Rattle.ensemble.specs.Steps.{AreEnsembleSteps, last_ensemble};
 
 use worlds::a_run_is_steps;
@@ -20,8 +21,7 @@ pub fn a_reopened_ensemble_follows()
     ensures { (found : ProcessView) → IsEnsembleAfter (Some found) (reopened_ensemble found) }
 {}
 
-/// It stays so in each of these steps. They are those of which calls are made; that a call makes no other one, no clause
-/// of a call says.
+/// It stays so in each of these steps. They are those of which calls are made: each call of `Ensemble` keeps it.
 pub fn an_ensemble_goes_on_after_a_process()
     ensures { (found : Option ProcessView) (e : EnsembleView) (later : List EnsembleView) → AreEnsembleSteps e later
         → IsEnsembleAfter found e → IsEnsembleAfter found (last_ensemble e later) }

@@ -25,15 +25,15 @@ impl Ensemble {
         0
     }
 
-    /// How many bytes the keys and the data have of all items on this page of that state: 0 if no executor is up, or
+    /// How many bytes the keys and the data have of all items on this page of that state. None: no executor is up, or
     /// there is no memory to look.
-    pub fn page_bytes(&self, alloc: Global, number: usize) -> u64 {
+    pub fn page_bytes(&self, alloc: Global, number: usize) -> Option<u64> {
         for host in &self.nodes.executors {
             if let Some(bytes) = host.page_bytes(alloc, number) {
-                return bytes;
+                return Some(bytes);
             }
         }
-        0
+        None
     }
 
     /// The latest view of the verifiers that are up: 0 if none is.

@@ -34,6 +34,7 @@ impl Ensemble {
     /// The first letter that is under way comes: what it answers.
     fn deliver(&mut self, alloc: Global) -> Option<Answer>
         ensures asked { self.new.asked ≡ self.old.asked }
+        ensures found { self.new.found ≡ self.old.found }
         ensures answered { self.new.answered ≡ self.old.answered ++ answer_log result }
         ensures order { self.new.order ≡ self.old.order ++ order_log result }
         ensures counted { self.old.refused ≤ self.new.refused }
@@ -54,6 +55,7 @@ impl Ensemble {
     /// none is wanted, or there is no memory for an answer, and nothing was done.
     fn deliver_to(&mut self, alloc: Global, decrees: bool, answers: &mut Vec<Answer>) -> bool
         ensures asked { self.new.asked ≡ self.old.asked }
+        ensures found { self.new.found ≡ self.old.found }
         ensures answered { Answers self.old.answered self.old.order answers.old.items self.new.answered self.new.order answers.new.items }
         ensures counted { self.old.refused ≤ self.new.refused }
         ensures size { size_of self.new.nodes ≡ size_of self.old.nodes }
@@ -76,6 +78,7 @@ impl Ensemble {
     /// under way.
     fn deliver_all(&mut self, alloc: Global, decrees: bool, answers: &mut Vec<Answer>)
         ensures asked { self.new.asked ≡ self.old.asked }
+        ensures found { self.new.found ≡ self.old.found }
         ensures answered { Answers self.old.answered self.old.order answers.old.items self.new.answered self.new.order answers.new.items }
         ensures counted { self.old.refused ≤ self.new.refused }
         ensures size { size_of self.new.nodes ≡ size_of self.old.nodes }
@@ -91,6 +94,7 @@ impl Ensemble {
     /// All letters come. How long that takes up to the first decree, and from then on, is counted.
     fn deliver_timed<C: Clock>(&mut self, clock: &C, alloc: Global, answers: &mut Vec<Answer>)
         ensures asked { self.new.asked ≡ self.old.asked }
+        ensures found { self.new.found ≡ self.old.found }
         ensures answered { Answers self.old.answered self.old.order answers.old.items self.new.answered self.new.order answers.new.items }
         ensures counted { self.old.refused ≤ self.new.refused }
         ensures size { size_of self.new.nodes ≡ size_of self.old.nodes }
@@ -105,6 +109,7 @@ impl Ensemble {
     /// The executor of this number gets the order that its host holds, if its turn has come: whether it has.
     fn take_held(&mut self, alloc: Global, id: u8) -> bool
         ensures asked { self.new.asked ≡ self.old.asked }
+        ensures found { self.new.found ≡ self.old.found }
         ensures answered { self.new.answered ≡ self.old.answered }
         ensures order { self.new.order ≡ self.old.order }
         ensures counted { self.old.refused ≤ self.new.refused }
@@ -118,6 +123,7 @@ impl Ensemble {
     /// Each executor gets the order whose turn has come: whether there was one.
     fn take_orders(&mut self, alloc: Global) -> bool
         ensures asked { self.new.asked ≡ self.old.asked }
+        ensures found { self.new.found ≡ self.old.found }
         ensures answered { self.new.answered ≡ self.old.answered }
         ensures order { self.new.order ≡ self.old.order }
         ensures counted { self.old.refused ≤ self.new.refused }
@@ -136,6 +142,7 @@ impl Ensemble {
     /// Each executor that has a job runs it.
     fn run<R: Threads + Wait + Sync>(&mut self, rt: &R, alloc: Global)
         ensures asked { self.new.asked ≡ self.old.asked }
+        ensures found { self.new.found ≡ self.old.found }
         ensures answered { self.new.answered ≡ self.old.answered }
         ensures order { self.new.order ≡ self.old.order }
         ensures counted { self.old.refused ≤ self.new.refused }
@@ -150,6 +157,7 @@ impl Ensemble {
     /// What the executor of this number sent when it ran its job is under way.
     fn collect(&mut self, alloc: Global, id: u8)
         ensures asked { self.new.asked ≡ self.old.asked }
+        ensures found { self.new.found ≡ self.old.found }
         ensures answered { self.new.answered ≡ self.old.answered }
         ensures order { self.new.order ≡ self.old.order }
         ensures counted { self.old.refused ≤ self.new.refused }
@@ -163,6 +171,7 @@ impl Ensemble {
     /// What each executor sent when it ran its job is under way.
     fn collect_all(&mut self, alloc: Global)
         ensures asked { self.new.asked ≡ self.old.asked }
+        ensures found { self.new.found ≡ self.old.found }
         ensures answered { self.new.answered ≡ self.old.answered }
         ensures order { self.new.order ≡ self.old.order }
         ensures counted { self.old.refused ≤ self.new.refused }
@@ -178,6 +187,7 @@ impl Ensemble {
     /// Each executor that has a job runs it. How long that takes is counted.
     fn run_timed<R: Threads + Wait + Sync, C: Clock>(&mut self, rt: &R, clock: &C, alloc: Global)
         ensures asked { self.new.asked ≡ self.old.asked }
+        ensures found { self.new.found ≡ self.old.found }
         ensures answered { self.new.answered ≡ self.old.answered }
         ensures order { self.new.order ≡ self.old.order }
         ensures counted { self.old.refused ≤ self.new.refused }
@@ -198,6 +208,7 @@ impl Ensemble {
         alloc: Global,
     ) -> bool
         ensures asked { self.new.asked ≡ self.old.asked }
+        ensures found { self.new.found ≡ self.old.found }
         ensures answered { self.new.answered ≡ self.old.answered }
         ensures order { self.new.order ≡ self.old.order }
         ensures counted { self.old.refused ≤ self.new.refused }
@@ -218,6 +229,7 @@ impl Ensemble {
     fn cut_at(&mut self, alloc: Global, id: u8, moment: u32) -> bool
         requires { IsNow self.old.order moment }
         ensures asked { self.new.asked ≡ self.old.asked }
+        ensures found { self.new.found ≡ self.old.found }
         ensures answered { self.new.answered ≡ self.old.answered }
         ensures order { self.new.order ≡ self.old.order }
         ensures counted { self.old.refused ≤ self.new.refused }
@@ -234,6 +246,7 @@ impl Ensemble {
     fn cut(&mut self, alloc: Global, moment: u32) -> bool
         requires { IsNow self.old.order moment }
         ensures asked { self.new.asked ≡ self.old.asked }
+        ensures found { self.new.found ≡ self.old.found }
         ensures answered { self.new.answered ≡ self.old.answered }
         ensures order { self.new.order ≡ self.old.order }
         ensures counted { self.old.refused ≤ self.new.refused }
@@ -254,6 +267,7 @@ impl Ensemble {
     /// The verifier of this number forgets old decrees, if its log is long.
     fn trim_at(&mut self, alloc: Global, id: u8)
         ensures asked { self.new.asked ≡ self.old.asked }
+        ensures found { self.new.found ≡ self.old.found }
         ensures answered { self.new.answered ≡ self.old.answered }
         ensures order { self.new.order ≡ self.old.order }
         ensures counted { self.old.refused ≤ self.new.refused }
@@ -267,6 +281,7 @@ impl Ensemble {
     /// Each verifier whose log is long forgets old decrees. `work` does so too.
     pub fn trim(&mut self, alloc: Global)
         ensures asked { self.new.asked ≡ self.old.asked }
+        ensures found { self.new.found ≡ self.old.found }
         ensures answered { self.new.answered ≡ self.old.answered }
         ensures order { self.new.order ≡ self.old.order }
         ensures counted { self.old.refused ≤ self.new.refused }
@@ -298,6 +313,7 @@ impl Ensemble {
     ) -> bool
         requires { IsNow self.old.order moment }
         ensures asked { self.new.asked ≡ self.old.asked }
+        ensures found { self.new.found ≡ self.old.found }
         ensures answered { Answers self.old.answered self.old.order answers.old.items self.new.answered self.new.order answers.new.items }
         ensures counted { self.old.refused ≤ self.new.refused }
         ensures size { size_of self.new.nodes ≡ size_of self.old.nodes }
@@ -329,6 +345,7 @@ impl Ensemble {
     ) -> bool
         requires { IsNow self.old.order moment }
         ensures asked { self.new.asked ≡ self.old.asked }
+        ensures found { self.new.found ≡ self.old.found }
         ensures answered { Answers self.old.answered self.old.order answers.old.items self.new.answered self.new.order answers.new.items }
         ensures counted { self.old.refused ≤ self.new.refused }
         ensures size { size_of self.new.nodes ≡ size_of self.old.nodes }
@@ -363,6 +380,7 @@ impl Ensemble {
         moment: u32,
     ) -> Vec<Answer>
         ensures asked { self.new.asked ≡ self.old.asked }
+        ensures found { self.new.found ≡ self.old.found }
         ensures answered { self.new.answered ≡ self.old.answered ++ map answer_entry result.items }
         ensures order { self.new.order ≡ (self.old.order ++ moment_entry moment ∷ []) ++ map order_entry result.items }
         ensures counted { self.old.refused ≤ self.new.refused }

@@ -3,19 +3,20 @@
 ghost use Rattle.std.specs.Prelude.{◌<◌};
 
 use crate::showing::{Shown, show};
-use crate::watching::{figures, watch};
+use crate::watching::{Known, warn_of_files, watch};
 use crate::{CANNOT, REFUSED};
-use daemon::{NO_TARGET, Settings, Stamped, tell_listening, tell_start, tell_status};
+use daemon::{Listen, NO_TARGET, Settings, Stamped, tell_listening, tell_start, tell_status};
 use log::{error, warn};
-use server::{Options, ServeFault, Service, Watcher, serve_beside};
+use server::{Listener, Options, ServeFault, Service, Watcher, serve_beside};
 use service_laws::{replicas_agree_and_keep, service_is_linearizable};
 use std::alloc::Global;
 use std::net::{Net, SocketAddr, TcpListener, TcpStream};
+use std::os::unix::fs::FileTypeExt;
+use std::os::unix::net::{UnixListener, UnixStream};
 use std::rt::{Clock, Files};
 use std::sync::Wait;
-use std::thread;
 use std::thread::Threads;
-use std::time::Instant;
+use std::{fs, io, thread};
 
 /// What a connection is given for which there is no room.
 const TOO_MANY: &[u8] = b"SERVER_ERROR too many open connections\r\n";
@@ -23,7 +24,7 @@ const TOO_MANY: &[u8] = b"SERVER_ERROR too many open connections\r\n";
 /// The listeners of a daemon.
 #[derive(Drop)]
 struct Ports {
-    clients: Vec<TcpListener>,
+    clients: Vec<Listener>,
     status: Option<TcpListener>,
 }
 
@@ -41,17 +42,50 @@ fn bound<R: Net<Listener = TcpListener, Stream = TcpStream> + Clock + Eprint>(
     }
 }
 
-/// A listener at each address. The log tells where.
-fn listeners<R: Net<Listener = TcpListener, Stream = TcpStream> + Clock + Eprint>(
+/// A listener at the Unix socket. A socket that a process has left behind is removed.
+fn bound_socket<R: Net + Files>(rt: &R, path: &str) -> io::Result<UnixListener> {
+    if let Ok(found) = fs::symlink_metadata(rt, path) {
+        if found.file_type().is_socket() && UnixStream::connect(rt, path).is_err() {
+            fs::remove_file(rt, path)?;
+        }
+    }
+    UnixListener::bind(rt, path)
+}
+
+/// A listener for clients at this place. The log tells where, or why there is none.
+fn listener<R: Net<Listener = TcpListener, Stream = TcpStream> + Clock + Files + Eprint>(
+    rt: &R,
+    listen: &Listen,
+) -> Result<Listener, u8> {
+    match listen {
+        Listen::Tcp(address) => {
+            let listener = bound(rt, *address)?;
+            let at = listener.local_addr().unwrap_or(*address);
+            tell_listening(&Stamped(rt), &Listen::Tcp(at));
+            Ok(Listener::Tcp(listener))
+        }
+        Listen::Unix(path) => match bound_socket(rt, path.as_str()) {
+            Ok(listener) => {
+                tell_listening(&Stamped(rt), listen);
+                Ok(Listener::Unix(listener))
+            }
+            Err(fault) => {
+                error!(Stamped(rt); target: NO_TARGET, "cannot listen on unix:{path}: {fault}");
+                Err(CANNOT)
+            }
+        },
+    }
+}
+
+/// A listener at each place. The log tells where.
+fn listeners<R: Net<Listener = TcpListener, Stream = TcpStream> + Clock + Files + Eprint>(
     rt: &R,
     alloc: Global,
-    addresses: &[SocketAddr],
-) -> Result<Vec<TcpListener>, u8> {
+    places: &[Listen],
+) -> Result<Vec<Listener>, u8> {
     let mut all = Vec::new(alloc);
-    for address in addresses {
-        let listener = bound(rt, *address)?;
-        tell_listening(&Stamped(rt), listener.local_addr().unwrap_or(*address));
-        if all.push(listener).is_err() {
+    for place in places {
+        if all.push(listener(rt, place)?).is_err() {
             return Err(REFUSED);
         }
     }
@@ -69,7 +103,7 @@ fn status_port<R: Net<Listener = TcpListener, Stream = TcpStream> + Clock + Epri
 }
 
 /// The listeners that the settings ask for.
-fn open_ports<R: Net<Listener = TcpListener, Stream = TcpStream> + Clock + Eprint>(
+fn open_ports<R: Net<Listener = TcpListener, Stream = TcpStream> + Clock + Files + Eprint>(
     rt: &R,
     alloc: Global,
     settings: &Settings,
@@ -92,9 +126,8 @@ fn attend<
         + Eprint
         + AllocGlobal
         + Sync,
->(rt: &R, watcher: &Watcher<'_>, status: Option<TcpListener>) {
-    let start = Instant::now(rt).ok();
-    let now = Shown::new(figures(rt, watcher, start));
+>(rt: &R, watcher: &Watcher<'_>, status: Option<TcpListener>, known: Known) {
+    let now = Shown::new(rt.alloc(), known.figures(rt, watcher));
     let shown = &now;
     thread::scope(thread::scope_env(), rt, |scope| {
         if let Some(listener) = status {
@@ -107,7 +140,7 @@ fn attend<
                 warn!(Stamped(rt); target: NO_TARGET, "no thread for the status port");
             }
         }
-        watch(rt, watcher, shown, start);
+        watch(rt, watcher, shown, known);
         shown.end();
     });
 }
@@ -131,19 +164,23 @@ pub fn run<
         + AllocGlobal
         + Sync,
 >(rt: &R, settings: Settings) -> u8 {
+    let known = Known::begin(rt, &settings);
     tell_start(&Stamped(rt), &settings);
+    warn_of_files(rt, &settings);
     let options = Options {
         connections: usize::from(settings.connections),
         refusal: TOO_MANY,
+        idle_seconds: settings.idle,
         u: settings.u,
         dialect: settings.dialect,
+        max_bytes: settings.max_bytes,
     };
     let Ports { clients, status } = match open_ports(rt, rt.alloc(), &settings) {
         Ok(ports) => ports,
         Err(status) => return status,
     };
-    let served = serve_beside(rt, rt.alloc(), clients, options, |watcher| {
-        attend(rt, watcher, status);
+    let served = serve_beside(rt, rt.alloc(), clients, options, move |watcher| {
+        attend(rt, watcher, status, known);
     });
     match served {
         Ok(service) => {

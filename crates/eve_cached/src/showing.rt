@@ -2,12 +2,13 @@
 
 use figures::Figures;
 use mio::net::TcpListener as Listener;
+use status::{History, Seen};
 use status_server::{StatusServer, Watch};
 use std::alloc::Global;
 use std::net::{Net, TcpListener, TcpStream};
 use std::rt::Clock;
 use std::sync::atomic::{AtomicBool, Ordering};
-use std::sync::{Mutex, Wait};
+use std::sync::{Mutex, MutexGuard, Wait};
 use std::time::Duration;
 use std::{io, thread};
 
@@ -15,24 +16,38 @@ use std::{io, thread};
 const PATIENCE: u64 = 1;
 
 /// What the status port shows: a copy that is made once a second. So whoever asks there never reaches the server.
-#[derive(Drop)]
 pub struct Shown {
-    figures: Mutex<Figures>,
+    seen: Mutex<Seen>,
     has_ended: AtomicBool,
+}
+
+impl Drop for Shown {
+    fn drop(self) {
+        let Shown {
+            seen: _,
+            has_ended: _,
+        } = self;
+    }
 }
 
 impl Shown {
     /// These are shown.
-    pub fn new(figures: Figures) -> Shown {
+    pub fn new(alloc: Global, figures: Figures) -> Shown {
+        let mut history = History::new(alloc);
+        // Without memory for it the page lacks a sample.
+        let _ = history.keep(&figures);
         Shown {
-            figures: Mutex::new(figures),
+            seen: Mutex::new(Seen { figures, history }),
             has_ended: AtomicBool::new(false),
         }
     }
 
-    /// These are shown from now on.
+    /// These are shown from now on, and kept in the history if a sample is due.
     pub fn renew<R: Wait>(&self, rt: &R, figures: Figures) {
-        *self.figures.lock(rt) = figures;
+        let mut guard = self.seen.lock(rt);
+        let seen = &mut *guard;
+        seen.figures = figures;
+        let _ = seen.history.keep(&figures);
     }
 
     /// The status port is to end.
@@ -47,8 +62,8 @@ impl Shown {
 }
 
 impl Watch for Shown {
-    fn figures<R: Wait>(&self, rt: &R) -> Figures {
-        *self.figures.lock(rt)
+    fn seen<R: Wait>(&self, rt: &R) -> MutexGuard<'_, Seen> {
+        self.seen.lock(rt)
     }
 }
 

@@ -1,10 +1,12 @@
 //! What the daemon tells while it serves.
 
 use crate::showing::Shown;
-use daemon::{Report, Stamped, Totals, resident_pages, seconds, tell};
-use figures::Figures;
+use daemon::{
+    Report, Settings, Stamped, Totals, open_files, process_id, resident_pages, seconds, tell,
+    tell_few_files,
+};
+use figures::{Figures, Limits, Process};
 use server::Watcher;
-use status_server::Watch;
 use std::rt::{Clock, Files};
 use std::sync::Wait;
 use std::time::{Duration, Instant};
@@ -23,24 +25,78 @@ fn resident_bytes<R: Files + AllocGlobal>(rt: &R) -> u64 {
         .saturating_mul(PAGE_BYTES)
 }
 
-/// The seconds since the start, or 0 if the clock cannot be read.
-fn uptime<R: Clock>(rt: &R, start: Option<Instant>) -> u64 {
-    match (start, Instant::now(rt)) {
-        (Some(start), Ok(now)) => now.saturating_duration_since(start).as_secs(),
-        _ => 0,
+/// So many files are open beside those of connections, at most: some twenty of the process, and 32 connections of the
+/// status port.
+const OTHER_FILES: u64 = 60;
+
+/// The number of this process, or 0 if the system does not tell.
+fn own_id<R: Files + AllocGlobal>(rt: &R) -> u64 {
+    let Ok(text) = fs::read_to_string(rt, "/proc/self/stat") else {
+        return 0;
+    };
+    process_id(text.as_str()).unwrap_or(0)
+}
+
+/// Tells if fewer files may be open than the connections may take.
+pub fn warn_of_files<R: Files + Clock + Eprint + AllocGlobal>(rt: &R, settings: &Settings) {
+    let Ok(text) = fs::read_to_string(rt, "/proc/self/limits") else {
+        return;
+    };
+    let needed = u64::from(settings.connections).saturating_add(OTHER_FILES);
+    if let Some(files) = open_files(text.as_str()) {
+        if files < needed {
+            tell_few_files(&Stamped(rt), files, needed);
+        }
     }
 }
 
-/// What the server has counted, and what this process knows of itself.
-pub fn figures<R: Wait + Clock + Files + AllocGlobal>(
-    rt: &R,
-    watcher: &Watcher<'_>,
+/// What this process knows of itself.
+#[derive(Clone, Copy)]
+pub struct Known {
+    /// When it began, by a clock that only goes on.
     start: Option<Instant>,
-) -> Figures {
-    let mut figures = watcher.figures(rt);
-    figures.uptime_seconds = uptime(rt, start);
-    figures.memory.resident_bytes = resident_bytes(rt);
-    figures
+    process: Process,
+    limits: Limits,
+}
+
+impl Known {
+    /// The process begins to serve with these settings.
+    pub fn begin<R: Clock + Files + AllocGlobal>(rt: &R, settings: &Settings) -> Known {
+        Known {
+            start: Instant::now(rt).ok(),
+            process: Process {
+                id: own_id(rt),
+                started: seconds(rt),
+            },
+            limits: Limits {
+                connections: u64::from(settings.connections),
+                idle_seconds: u64::from(settings.idle),
+                item_bytes: settings.max_bytes,
+            },
+        }
+    }
+
+    /// The seconds since the start, or 0 if the clock cannot be read.
+    fn uptime<R: Clock>(&self, rt: &R) -> u64 {
+        match (self.start, Instant::now(rt)) {
+            (Some(start), Ok(now)) => now.saturating_duration_since(start).as_secs(),
+            _ => 0,
+        }
+    }
+
+    /// What the server has counted, and what this process knows of itself.
+    pub fn figures<R: Wait + Clock + Files + AllocGlobal>(
+        &self,
+        rt: &R,
+        watcher: &Watcher<'_>,
+    ) -> Figures {
+        let mut figures = watcher.figures(rt);
+        figures.uptime_seconds = self.uptime(rt);
+        figures.process = self.process;
+        figures.limits = self.limits;
+        figures.memory.resident_bytes = resident_bytes(rt);
+        figures
+    }
 }
 
 /// Looks once a second what the server has counted, shows it and tells what is due, until the server ends by itself.
@@ -48,17 +104,20 @@ pub fn watch<R: Wait + Clock + Files + Eprint + AllocGlobal>(
     rt: &R,
     watcher: &Watcher<'_>,
     shown: &Shown,
-    start: Option<Instant>,
+    known: Known,
 ) {
-    let mut report = Report::new(Totals::of(&shown.figures(rt)));
+    let first = known.figures(rt, watcher);
+    watcher.see(rt, &first);
+    let mut report = Report::new(Totals::of(&first));
     for _ in rt.forever() {
         thread::sleep(rt, Duration::from_secs(1));
         if watcher.has_ended() {
             return;
         }
-        let figures = figures(rt, watcher, start);
+        let figures = known.figures(rt, watcher);
+        watcher.see(rt, &figures);
         shown.renew(rt, figures);
         let due = report.due(Totals::of(&figures), seconds(rt));
-        tell(&Stamped(rt), due, &figures.replicas);
+        tell(&Stamped(rt), due, &figures);
     }
 }

@@ -1,3 +1,4 @@
+pub mod Idle
 pub mod Input
 pub mod Socket
 pub mod Sockets

@@ -122,6 +122,14 @@ pub record MayBeRead (s : SocketView) : Type 0 where
   pub stays : s.closes ≡ false
   pub is_here : s.has_ended ≡ false
 
+-- nothing is owed to either side
+pub record IsQuiet (s : SocketView) : Type 0 where
+  pub has_no_turn : s.is_listed ≡ false
+  pub is_done_with : s.is_outstanding ≡ false
+  pub is_written : length s.traffic.waits ≡ 0
+  pub stays : s.closes ≡ false
+  pub is_here : s.has_ended ≡ false
+
 -- nothing is to be done until an event comes or the service says something
 pub record SocketRests (s : SocketView) : Type 0 where
   pub is_here : IsSocketOver s → ⊥

@@ -2,9 +2,11 @@
 use Rattle.std.specs.Prelude.{◌≡◌, ◌≢◌, ◌⊎◌, ◌+◌, ℕ, Bool, ◌<◌, true, false, List, [], ◌∷◌, ◌++◌, length, min, ◌^◌, ◌-◌, Option, Some, None, ◌↔◌, Contains}
 use Rattle.slab.specs.Slab.{Slab, get}
 use Rattle.event_loop.specs.declared.message.Heard.{Heard}
+use Rattle.event_loop.specs.declared.leavers.Leaver.{Leaver}
 use Rattle.event_loop.specs.declared.message.Said.{Said}
 use Rattle.event_loop.specs.declared.socket.Readiness.{Readiness}
-use Rattle.event_loop.specs.Socket.{SocketView, Tells, Leaves, SocketRests, IsSocketOver, SocketTurns}
+use Rattle.event_loop.specs.Idle.{IdleView, HasBeenIdle}
+use Rattle.event_loop.specs.Socket.{SocketView, Tells, Leaves, SocketRests, IsSocketOver, IsQuiet, SocketTurns}
 
 pub record TurnsView : Type 0 where
   -- the keys of the sockets that have a turn
@@ -98,3 +100,17 @@ IsTurnOfFirst may_read old new before after = IsTurnOfListed may_read old.turns.
 abbrev pub AreAllGiven : SocketsView → List Said → SocketsView → Type 0
 AreAllGiven old [] new = new ≡ old
 AreAllGiven old (said ∷ rest) new = (between : SocketsView) × IsGiven old said between × AreAllGiven between rest new
+
+-- one socket ended on which nothing had happened for as long as is allowed, and to which nothing was owed
+pub record EndsIdle (old : SocketsView) (idle : IdleView) (micros : ℕ) (new : SocketsView) : Type 0 where
+  pub one : Leaver
+  pub long : HasBeenIdle idle one micros
+  pub limited : 0 < idle.limit
+  pub socket : SocketView
+  pub here : get old.all one.key ≡ Some socket
+  pub number : socket.number ≡ one.number
+  pub quiet : IsQuiet socket
+  pub after : SocketView
+  pub there : get new.all one.key ≡ Some after
+  pub ends : IsSameButListed (record socket { has_ended = true }) after
+  pub others : (other : ℕ) → other ≢ one.key → get new.all other ≡ get old.all other

@@ -14,6 +14,8 @@ pub struct Counts {
     pub accepted: u64,
     /// Connections that were told that there is no room for them.
     pub refused: u64,
+    /// Connections that were closed since nothing happened on them for as long as is allowed.
+    pub idle: u64,
     /// How often a connection could not be accepted, since descriptors or memory ran out.
     pub failed: u64,
     /// Bytes that were read from connections.
@@ -30,6 +32,7 @@ impl Counts {
         open: 0,
         accepted: 0,
         refused: 0,
+        idle: 0,
         failed: 0,
         bytes_read: 0,
         bytes_written: 0,

@@ -2,22 +2,23 @@
 
 ghost use Rattle.std.specs.Prelude.{◌≡◌, ◌≤◌, ◌↔◌, ◌-◌, ◌+◌, ◌⊎◌, ◌++◌, ◌∷◌, [], ◌<◌, true, length, IsTrue};
 ghost use Rattle.slab.specs.Slab.{slab_len};
-ghost use Rattle.event_loop.specs.Sockets.{AreAllGiven, IsTurnOfFirst};
+ghost use Rattle.event_loop.specs.Sockets.{AreAllGiven, EndsIdle, IsTurnOfFirst};
 ghost use Rattle.event_loop.specs.declared.message.Heard.TheVariants.{Came};
 
 use crate::counts::{Counts, Shared, plus};
+use crate::idle::Idle;
 use crate::leavers::{Leaver, Leavers};
 use crate::listeners::{Accepted, Listeners};
 use crate::message::{Heard, Said};
 use crate::refused::RefusedConnections;
 use crate::socket::{After, Readiness};
 use crate::sockets::Sockets;
+use crate::stream::{Listener, Stream};
 use mio::event::Event;
-use mio::net::{TcpListener, TcpStream};
-use mio::{Events, Interest, Poll, Token, Waker};
+use mio::{Events, Poll, Token, Waker};
 use std::alloc::{AllocError, Global};
 use std::io::Write;
-use std::net::{Net, Shutdown};
+use std::net::Net;
 use std::time::Duration;
 use std::{io, mem};
 
@@ -34,7 +35,7 @@ const MOST_ACCEPTS: usize = 64;
 /// others are carried out must not take many.
 const MOST_PIECE_BYTES: usize = 262144;
 
-/// Which connections are let in.
+/// Which connections are let in, and how long they stay.
 #[derive(Clone, Copy)]
 pub struct Admission {
     /// So many at once. Those whose other side sends no more do not count. When a connection is to be accepted and
@@ -42,6 +43,8 @@ pub struct Admission {
     pub most: usize,
     /// What any other one is given before it is closed.
     pub refusal: &'static [u8],
+    /// One on which nothing happens for so many seconds is closed, if nothing is owed to it. 0: none is.
+    pub idle_seconds: u32,
 }
 
 impl Admission {
@@ -49,6 +52,11 @@ impl Admission {
     /// of which this was found since connections were last accepted. Their keys are below it.
     pub fn most_sockets(&self) -> usize {
         self.most.saturating_mul(3)
+    }
+
+    /// How long nothing may happen on a connection, in microseconds.
+    fn idle_micros(&self) -> u64 {
+        u64::from(self.idle_seconds).saturating_mul(1_000_000)
     }
 }
 
@@ -63,9 +71,10 @@ pub struct EventLoop {
     shown: Counts,
     /// When the bytes were read to which all that answers them was written since times were last counted.
     answered: Vec<u64>,
-    sockets: Sockets<TcpStream>,
+    sockets: Sockets<Stream>,
     leavers: Leavers,
-    refused: RefusedConnections<TcpStream>,
+    idle: Idle,
+    refused: RefusedConnections<Stream>,
     /// What is to be told to the service.
     heard: Vec<Heard>,
     buffer: Vec<u8>,
@@ -73,6 +82,8 @@ pub struct EventLoop {
     is_writing: bool,
     /// Memory ran out in the last turns, so the next are at the next tick.
     is_short: bool,
+    /// The last wait gave as many events as it may, so there may be others.
+    has_more_events: bool,
 }
 
 impl Drop for EventLoop {
@@ -87,11 +98,13 @@ impl Drop for EventLoop {
             answered: _,
             sockets: _,
             leavers: _,
+            idle: _,
             refused: _,
             heard: _,
             buffer: _,
             is_writing: _,
             is_short: _,
+            has_more_events: _,
         } = self;
     }
 }
@@ -121,7 +134,7 @@ impl EventLoop {
     pub fn new<R: Net>(
         rt: &R,
         alloc: Global,
-        listeners: Vec<TcpListener>,
+        listeners: Vec<Listener>,
         admission: Admission,
     ) -> io::Result<EventLoop> {
         let poll = Poll::new(rt)?;
@@ -136,11 +149,13 @@ impl EventLoop {
             answered: Vec::new(alloc),
             sockets: Sockets::new(alloc),
             leavers: Leavers::new(alloc),
+            idle: Idle::new(alloc, admission.idle_micros()),
             refused: RefusedConnections::new(alloc),
             heard: Vec::new(alloc),
             buffer: vec![in alloc; 0u8; MOST_PIECE_BYTES]?,
             is_writing: false,
             is_short: false,
+            has_more_events: false,
         })
     }
 
@@ -153,6 +168,7 @@ impl EventLoop {
     /// sockets that are ready are listed for a turn.
     pub fn wait(&mut self, ready: &mut Ready, limit: Option<Duration>) -> io::Result<()> {
         self.poll.poll(&mut ready.events, limit)?;
+        self.has_more_events = MOST_EVENTS <= ready.events.iter().count();
         for event in &ready.events {
             let token = event.token();
             if self.listeners.note(token) {
@@ -186,7 +202,10 @@ impl EventLoop {
 
     /// Whether something waits for a tick.
     pub fn is_stuck(&self) -> bool {
-        self.is_short || self.listeners.is_any_stuck() || self.refused.is_any()
+        self.is_short
+            || self.listeners.is_any_stuck()
+            || self.refused.is_any()
+            || self.idle.is_any()
     }
 
     /// A tenth of a second has passed.
@@ -196,12 +215,50 @@ impl EventLoop {
         self.listeners.try_again();
     }
 
+    /// Whether connections are closed on which nothing happens, and one is here.
+    pub fn closes_idle(&self) -> bool {
+        self.idle.is_any()
+    }
+
+    /// Ends those on which nothing has happened for as long as is allowed, as far as they are to be looked at. It comes
+    /// right after a wait: whatever has come by then is noted, so nobody is ended whose bytes wait to be read.
+    pub fn end_idle(&mut self, micros: u64)
+        ensures heard { self.new.heard.items ≡ self.old.heard.items }
+    {
+        if self.has_more_events {
+            return;
+        }
+        for _ in 0..self.idle.len() {
+            if !self.idle.is_due(micros) {
+                return;
+            }
+            self.look_at_next(micros);
+        }
+    }
+
+    /// Looks at one connection, and ends it if nothing has happened on it for as long as is allowed. If something is owed
+    /// to it, this counts as if something happened.
+    fn look_at_next(&mut self, micros: u64)
+        ensures ends { (self.new.sockets ≡ self.old.sockets) ⊎ EndsIdle self.old.sockets self.old.idle micros self.new.sockets }
+        ensures heard { self.new.heard.items ≡ self.old.heard.items }
+    {
+        let Some(one) = self.idle.look(micros) else {
+            return;
+        };
+        if self.sockets.is_quiet(one.key, one.number) {
+            self.sockets.end(one.key, one.number);
+            self.counts.idle = plus(self.counts.idle, 1);
+        } else {
+            self.idle.note(one.key, micros);
+        }
+    }
+
     /// Accepts the connections that wait. It comes after the turns: of those whose other side sends no more, who is
-    /// owed nothing is gone by then.
-    pub fn accept(&mut self) {
+    /// owed nothing is gone by then. It is so late in microseconds of the caller's clock.
+    pub fn accept(&mut self, micros: u64) {
         self.end_leavers();
         for at in 0..self.listeners.len() {
-            self.accept_at(at);
+            self.accept_at(at, micros);
         }
     }
 
@@ -219,10 +276,10 @@ impl EventLoop {
     }
 
     /// Accepts connections that wait at one listener.
-    fn accept_at(&mut self, at: usize) {
+    fn accept_at(&mut self, at: usize, micros: u64) {
         for _ in 0..MOST_ACCEPTS {
             match self.listeners.accept(at) {
-                Accepted::Stream(stream) => self.admit(stream),
+                Accepted::Stream(stream) => self.admit(stream, micros),
                 Accepted::Again => {}
                 Accepted::Nothing => return,
                 Accepted::Failed => {
@@ -234,23 +291,15 @@ impl EventLoop {
     }
 
     /// Lets the connection in, or tells it that there is no room for it. If memory runs out it is closed.
-    fn admit(&mut self, mut stream: TcpStream) {
+    fn admit(&mut self, mut stream: Stream, micros: u64) {
         if self.is_full() {
             self.refuse(stream);
             return;
         }
-        // Small replies leave at once.
-        let _ = stream.set_nodelay(true);
+        stream.send_at_once();
         let key = self.sockets.next_key();
-        let both = Interest::READABLE | Interest::WRITABLE;
-        if self.make_room().is_ok()
-            && self
-                .poll
-                .registry()
-                .register(&mut stream, Token(key), both)
-                .is_ok()
-        {
-            self.insert(key, stream);
+        if self.make_room().is_ok() && stream.register(&self.poll, Token(key)).is_ok() {
+            self.insert(key, stream, micros);
         }
     }
 
@@ -262,10 +311,10 @@ impl EventLoop {
     }
 
     /// Tells the connection that there is no room for it.
-    fn refuse(&mut self, mut stream: TcpStream) {
+    fn refuse(&mut self, mut stream: Stream) {
         // What does not go out at once is lost: nothing waits for a connection that is not let in.
         let _ = stream.write(self.admission.refusal);
-        if stream.shutdown(Shutdown::Write).is_ok() {
+        if stream.end_writing().is_ok() {
             self.refused.keep(stream);
         }
         self.counts.refused = plus(self.counts.refused, 1);
@@ -279,11 +328,12 @@ impl EventLoop {
     }
 
     /// Puts the connection under the key, which is the next one.
-    fn insert(&mut self, key: usize, stream: TcpStream)
+    fn insert(&mut self, key: usize, stream: Stream, micros: u64)
         ensures { (self.new.heard.items ≡ self.old.heard.items) ⊎ (self.new.heard.items ≡ self.old.heard.items ++ Came key self.old.sockets.next ∷ []) }
     {
         if let Some(number) = self.sockets.insert(self.alloc, stream) {
             let _ = self.heard.push(Heard::Came { key, number });
+            self.idle.come(key, number, micros);
             self.counts.accepted = plus(self.counts.accepted, 1);
         }
     }
@@ -327,6 +377,7 @@ impl EventLoop {
             // If there is no memory for it the time is not counted.
             let _ = self.answered.push(since);
         }
+        self.idle.note(turned.key, micros);
         match turned.after {
             After::Rest | After::Reads => {}
             After::Writes => self.is_writing = true,
@@ -335,6 +386,7 @@ impl EventLoop {
                 if let Some(number) = turned.leaver {
                     self.leavers.remove(number);
                 }
+                self.idle.leave(turned.key);
                 self.listeners.try_again();
             }
         }

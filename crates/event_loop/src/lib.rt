@@ -24,6 +24,7 @@
 mod buffered;
 mod counts;
 mod event_loop;
+mod idle;
 mod input;
 mod leavers;
 mod listeners;
@@ -37,6 +38,7 @@ mod service_thread;
 mod serving;
 mod socket;
 mod sockets;
+mod stream;
 mod turns;
 
 pub use counts::{Counts, Watch};
@@ -44,3 +46,4 @@ pub use event_loop::Admission;
 pub use message::{Heard, MOST_UNWRITTEN, Said};
 pub use service::Serve;
 pub use serving::{Refused, read_out, serve};
+pub use stream::Listener;

@@ -1,7 +1,7 @@
 //! The listeners, and what waits to be accepted at each.
 
-use mio::net::{TcpListener, TcpStream};
-use mio::{Interest, Poll, Token};
+use crate::stream::{Listener, Stream};
+use mio::{Poll, Token};
 use std::alloc::Global;
 use std::io;
 use std::io::ErrorKind;
@@ -24,7 +24,7 @@ enum Backlog {
 /// A listener, and what waits there.
 #[derive(Drop)]
 struct Port {
-    listener: TcpListener,
+    listener: Listener,
     backlog: Backlog,
 }
 
@@ -32,7 +32,7 @@ struct Port {
 #[derive(Drop)]
 pub enum Accepted {
     /// A connection.
-    Stream(TcpStream),
+    Stream(Stream),
     /// None, and another attempt may give one.
     Again,
     /// None waits.
@@ -54,13 +54,12 @@ impl Drop for Listeners {
 
 impl Listeners {
     /// The listeners, known to the poll. It fails if the system does not take one of them, or memory runs out.
-    pub fn new(alloc: Global, poll: &Poll, all: Vec<TcpListener>) -> io::Result<Listeners> {
+    pub fn new(alloc: Global, poll: &Poll, all: Vec<Listener>) -> io::Result<Listeners> {
         let mut ports = Vec::with_capacity(alloc, all.len())?;
         for listener in all {
             let mut listener = listener;
             let token = Token(FIRST.saturating_sub(ports.len()));
-            poll.registry()
-                .register(&mut listener, token, Interest::READABLE)?;
+            listener.register(poll, token)?;
             let backlog = Backlog::Due;
             ports.push(Port { listener, backlog })?;
         }
@@ -95,7 +94,7 @@ impl Listeners {
             return Accepted::Nothing;
         }
         match port.listener.accept() {
-            Ok((stream, _)) => Accepted::Stream(stream),
+            Ok(stream) => Accepted::Stream(stream),
             Err(e) => match e.kind() {
                 ErrorKind::Interrupted | ErrorKind::ConnectionAborted => Accepted::Again,
                 ErrorKind::WouldBlock => {

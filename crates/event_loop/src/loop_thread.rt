@@ -205,12 +205,15 @@ fn round<R: Threads + Wait + Sync + Clock, S: Serve>(
     ends: &mut LoopEnds,
 ) -> io::Result<()> {
     event_loop.wait(ready, limit(event_loop, ends))?;
+    if event_loop.closes_idle() {
+        event_loop.end_idle(ends.moments.micros(rt));
+    }
     ends.take_all(rt, event_loop);
     let reads = ends.has_room();
     // Sockets that are over make room for those that wait to be accepted.
     turn(rt, event_loop, ends.moments, reads);
     if reads {
-        event_loop.accept();
+        event_loop.accept(ends.moments.micros(rt));
     }
     if reads && 0 < event_loop.heard_count() && !answer_in_place(rt, service, event_loop, ends) {
         ends.hand_on(rt, event_loop);

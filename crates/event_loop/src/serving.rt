@@ -6,9 +6,9 @@ use crate::loop_thread::{LoopEnds, LoopSide, run_loop};
 use crate::moments::Moments;
 use crate::service::Serve;
 use crate::service_thread::{ServiceEnds, run_service};
+use crate::stream::Listener;
 use link::Link;
 use mio::Waker;
-use mio::net::TcpListener;
 use std::alloc::{AllocError, Global};
 use std::io::{ErrorKind, Read};
 use std::net::Net;
@@ -53,7 +53,7 @@ impl Parts {
     fn new<R: Net + Clock>(
         rt: &R,
         alloc: Global,
-        listeners: Vec<TcpListener>,
+        listeners: Vec<Listener>,
         admission: Admission,
     ) -> Result<Parts, Refused> {
         let event_loop = EventLoop::new(rt, alloc, listeners, admission)?;
@@ -141,7 +141,7 @@ fn run<'a, R: Threads + Wait + Clock + Sync, S: Serve + Send, F: FnOnce(&Watch<'
 pub fn serve<R: Net + Threads + Wait + Clock + Sync, S: Serve + Send, F: FnOnce(&Watch<'_, S>)>(
     rt: &R,
     alloc: Global,
-    listeners: Vec<TcpListener>,
+    listeners: Vec<Listener>,
     admission: Admission,
     service: S,
     beside: F,

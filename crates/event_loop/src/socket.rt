@@ -1,7 +1,7 @@
 //! One socket, and what waits to be written to it.
 
 ghost use Rattle.std.specs.Prelude.{◌≡◌, ◌++◌, ◌∷◌, ◌⊎◌, ◌+◌, [], true, false, ◌<◌, ◌≤◌, ◌↔◌, length, IfSome, IsSome, IsTrue, Ok, OnOk, OnErr};
-ghost use Rattle.event_loop.specs.Socket.{SocketWrites, SocketReads, Tells, Leaves, SocketTurns, HasToTell, IsSocketOver, MayBeWritten, MayBeRead, SocketRests, new_socket, last_told};
+ghost use Rattle.event_loop.specs.Socket.{SocketWrites, SocketReads, Tells, Leaves, SocketTurns, HasToTell, IsSocketOver, MayBeWritten, MayBeRead, IsQuiet, SocketRests, new_socket, last_told};
 ghost use Rattle.event_loop.specs.Sockets.{SocketHears, Notes};
 ghost use Rattle.event_loop.specs.declared.message.Heard.TheVariants.{Bytes, Written, Left};
 ghost use Rattle.event_loop.specs.declared.message.TheConstants.{MOST_UNWRITTEN};
@@ -248,6 +248,15 @@ impl<S: Read + Write> Socket<S> {
         ensures { IsTrue result ↔ IsSocketOver self.now }
     {
         self.has_ended || self.closes && !self.is_behind()
+    }
+
+    /// Whether nothing is owed to either side: it has no turn to come, no bytes of it are outstanding, all that was said
+    /// to it is written, and it is not to be closed.
+    pub fn is_quiet(&self) -> bool
+        ensures { IsTrue result ↔ IsQuiet self.now }
+    {
+        let is_owed = self.is_listed || self.is_outstanding || self.is_behind();
+        !is_owed && !self.closes && !self.has_ended
     }
 
     /// One turn: writes what waits, reads once if `reads`, and tells what happened.

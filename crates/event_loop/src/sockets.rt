@@ -2,7 +2,7 @@
 
 ghost use Rattle.std.specs.Prelude.{◌≡◌, ◌≢◌, ◌+◌, ℕ, [], true, false, Some, None, IfSome, IfNone, length};
 ghost use Rattle.slab.specs.Slab.{get, slab_len, Updates};
-ghost use Rattle.event_loop.specs.Socket.{SocketView, new_socket};
+ghost use Rattle.event_loop.specs.Socket.{IsQuiet, SocketView, new_socket};
 ghost use Rattle.event_loop.specs.Sockets.{IsGiven, AreAllGiven, NotesListed, IsSameButListed, IsTurnOfFirst};
 
 use crate::message::{Heard, Said};
@@ -16,6 +16,7 @@ use std::marker::Model;
 /// What came of the turn of a socket.
 #[derive(Clone, Copy)]
 pub struct Turned {
+    pub key: usize,
     pub after: After,
     pub moved: Moved,
     /// Its number, if the other side sends no more.
@@ -152,6 +153,16 @@ impl<S: Read + Write + Drop> Sockets<S> {
         leaver
     }
 
+    /// Whether the connection of this key and number is here, and nothing is owed to either side of it.
+    pub fn is_quiet(&self, key: usize, number: u64) -> bool
+        ensures quiet { result ≡ true → (s : SocketView) × (get self.now.all key ≡ Some s) × (s.number ≡ number) × IsQuiet s }
+    {
+        match self.all.get(key) {
+            Some(socket) => socket.number() == number && socket.is_quiet(),
+            None => false,
+        }
+    }
+
     /// Ends the connection of this key and number, if it is here. It has a turn then, and tells so.
     pub fn end(&mut self, key: usize, number: u64)
         ensures others { (other : ℕ) → other ≢ key → get self.new.all other ≡ get self.old.all other }
@@ -185,6 +196,7 @@ impl<S: Read + Write + Drop> Sockets<S> {
         socket.set_listed(false);
         let after = socket.turn(alloc, key, reads, buffer, heard);
         let turned = Turned {
+            key,
             after,
             moved: socket.take_moved(micros),
             leaver: socket.leaver(),

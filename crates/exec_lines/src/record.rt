@@ -12,6 +12,7 @@ use keeper::ToText;
 use rollback::SavedChain;
 use std::alloc::{AllocError, Global};
 use std::marker::Model;
+use std::sync::Arc;
 use wire::Record;
 
 /// The version that records are written in, and the kind.
@@ -41,7 +42,7 @@ impl Drop for Saved {
 /// A record that was made of a state, or one whose bytes were read.
 #[derive(Drop)]
 enum Kept {
-    Shared(Saved),
+    Shared(Arc<Saved, Global>),
     Bytes(Text),
 }
 
@@ -105,6 +106,16 @@ impl ExecutorRecord {
         }
     }
 
+    /// The record of what is saved. It is written only when it is asked for its text. The only error is a failed
+    /// allocation.
+    pub fn of_saved(alloc: Global, saved: Saved) -> Result<ExecutorRecord, AllocError>
+        ensures { IfOk result (λ found. found ≡ saved_record saved) }
+    {
+        Ok(ExecutorRecord {
+            kept: Kept::Shared(Arc::new(alloc, saved)?),
+        })
+    }
+
     /// What was saved, if the record was made of a state in this process. `None`: it has the bytes alone.
     pub fn saved(&self) -> Option<&Saved>
         ensures { IfSome result (λ saved. self.now ≡ saved_record saved.now) }
@@ -125,6 +136,14 @@ impl ToText for ExecutorRecord {
             Kept::Bytes(text) => text.clone(),
         }
     }
+
+    fn share(&self) -> Result<ExecutorRecord, AllocError> {
+        let kept = match &self.kept {
+            Kept::Shared(saved) => Kept::Shared(Arc::try_clone(saved)?),
+            Kept::Bytes(text) => Kept::Bytes(text.clone()?),
+        };
+        Ok(ExecutorRecord { kept })
+    }
 }
 
 impl State {
@@ -140,7 +159,7 @@ impl State {
             chain: self.chain.saved(alloc)?,
         };
         Ok(ExecutorRecord {
-            kept: Kept::Shared(saved),
+            kept: Kept::Shared(Arc::new(alloc, saved)?),
         })
     }
 }

@@ -462,6 +462,15 @@ impl<K: Keeper<ExecutorRecord>> ExecNode<K> {
         &mut self.keeper
     }
 
+    /// The keeper, to look at.
+    pub fn kept(&self) -> &K
+        ensures saved { K.saved result.now ≡ self.now.saved }
+        ensures failed { K.failed result.now ≡ self.now.failures }
+        ensures told { K.told result.now ≡ self.now.told }
+    {
+        &self.keeper
+    }
+
     /// Ends it: its chain is undone, and its keeper given back.
     pub fn end(self) -> K
         ensures saved { K.saved result ≡ self.saved }

@@ -4,3 +4,4 @@ pub mod Commands
 pub mod Histogram
 pub mod Kind
 pub mod Outcome
+pub mod Refusal

@@ -14,7 +14,11 @@ use crate::count::plus;
 use crate::histogram::Histogram;
 use crate::node::{MOST_NODES, NodeFigures};
 use crate::outcome::Outcome;
+use crate::refusal::Refusals;
 use proto::Reply;
+
+/// The version of the daemon. `CHANGELOG.md` says what its numbers mean.
+pub const VERSION: &str = "2.0.0";
 
 /// Connections of clients.
 #[derive(Clone, Copy, Debug, PartialEq, Eq, Default)]
@@ -25,6 +29,8 @@ pub struct Connections {
     pub accepted: u64,
     /// Closed at once since the limit was reached.
     pub refused: u64,
+    /// Closed since nothing happened on them for as long as is allowed.
+    pub idle: u64,
     /// How often a connection could not be accepted, as at the limit on descriptors.
     pub failed: u64,
     /// Bytes read from all connections.
@@ -98,14 +104,38 @@ pub struct Memory {
     pub refusals: u64,
 }
 
+/// The process.
+#[derive(Clone, Copy, Debug, PartialEq, Eq, Default)]
+pub struct Process {
+    /// Its number in the system. 0: it is not known.
+    pub id: u64,
+    /// The moment at which it began, in seconds since 1970. 0: it is not known.
+    pub started: u64,
+}
+
+/// The limits that a server was started with.
+#[derive(Clone, Copy, Debug, PartialEq, Eq, Default)]
+pub struct Limits {
+    /// Connections that are served at once. 0: it is not known.
+    pub connections: u64,
+    /// Seconds after which a connection on which nothing happens is closed. 0: none is.
+    pub idle_seconds: u64,
+    /// Bytes of keys and blocks above which nothing more is stored. 0: there is no limit.
+    pub item_bytes: u64,
+}
+
 /// All that a server counts, and how far it is. It can be copied.
 #[derive(Clone, Copy, Debug, PartialEq, Eq)]
 pub struct Figures {
     /// Seconds since the start.
     pub uptime_seconds: u64,
+    pub process: Process,
+    pub limits: Limits,
     pub connections: Connections,
     /// Commands that were answered, by kind and outcome.
     pub commands: Commands,
+    /// Lines that were answered by an error or closed the connection, by why.
+    pub refusals: Refusals,
     pub keys: Keys,
     pub batches: Batches,
     pub replicas: Replicas,
@@ -123,9 +153,24 @@ impl Connections {
         open: 0,
         accepted: 0,
         refused: 0,
+        idle: 0,
         failed: 0,
         bytes_read: 0,
         bytes_written: 0,
+    };
+}
+
+impl Process {
+    /// Nothing is known of it.
+    pub const NONE: Process = Process { id: 0, started: 0 };
+}
+
+impl Limits {
+    /// There is none.
+    pub const NONE: Limits = Limits {
+        connections: 0,
+        idle_seconds: 0,
+        item_bytes: 0,
     };
 }
 
@@ -181,8 +226,11 @@ impl Figures {
     /// Nothing was counted.
     pub const NONE: Figures = Figures {
         uptime_seconds: 0,
+        process: Process::NONE,
+        limits: Limits::NONE,
         connections: Connections::NONE,
         commands: Commands::NONE,
+        refusals: Refusals::NONE,
         keys: Keys::NONE,
         batches: Batches::NONE,
         replicas: Replicas::NONE,

@@ -12,12 +12,16 @@ mod histogram;
 mod kind;
 mod node;
 mod outcome;
+mod refusal;
 
 pub use asked::{Asked, found_in};
 pub use commands::{Commands, Outcomes};
 pub use count::{one_more, plus};
-pub use figures::{BatchParts, Batches, Connections, Figures, Keys, Memory, Replicas};
+pub use figures::{
+    BatchParts, Batches, Connections, Figures, Keys, Limits, Memory, Process, Replicas, VERSION,
+};
 pub use histogram::{BOUNDS, BUCKETS, Histogram};
 pub use kind::{ALL_KINDS, KINDS, Kind};
 pub use node::{MOST_NODES, NodeFigures};
 pub use outcome::{ALL_OUTCOMES, OUTCOMES, Outcome};
+pub use refusal::{ALL_REFUSALS, REFUSALS, Refusal, Refusals};

@@ -1,5 +1,5 @@
 -- What bytes ask stays if more bytes come, in either grammar.
-use Rattle.std.proofs.Common.{◌≡◌, ℕ, zero, suc, ◌+◌, ◌-◌, List, [], ◌∷◌, ◌++◌, length, Some, refl, sym, ◌∙◌, ap, subst, arith, append_assoc, slice_get}
+use Rattle.std.proofs.Common.{◌≡◌, ℕ, zero, suc, ◌+◌, ◌-◌, List, [], ◌∷◌, ◌++◌, length, Some, sym, ◌∙◌, ap, subst, arith, append_assoc, slice_get}
 use Rattle.proto.specs.declared.command.Command.{Command}
 use Rattle.proto.specs.declared.reply.Reply as replies
 use Rattle.dialect.specs.Text.{shown_text}
@@ -7,8 +7,8 @@ use Rattle.grammar.specs.declared.reader.Dialect.{Dialect}
 use Rattle.grammar.specs.declared.turn.Turn.{Turn}
 use Rattle.grammar.specs.declared.turn.Turn.TheVariants.{Ask, Say, Close}
 use Rattle.grammar.specs.Turns.{said_text}
-use Rattle.grammar.specs.Asks.{SpellsIn, commands_in, TextsShown, BeginsIn, IsAskedIn}
-use Rattle.grammar.proofs.ReadLemmas.{some_spelled, one_spelled, longer_spelled}
+use Rattle.grammar.specs.Asks.{commands_in, TextsShown, BeginsIn, IsAskedIn}
+use Rattle.grammar.proofs.ReadLemmas.{one_asked, more_spelled}
 
 command_stays : (turns more : List Turn) (k : ℕ) (command : Command) → slice_get (commands_in turns) k ≡ Some command → slice_get (commands_in (turns ++ more)) k ≡ Some command
 command_stays [] more k command e = absurd (cc e)
@@ -19,26 +19,19 @@ command_stays (Close notice ∷ turns) more k command e = command_stays turns mo
 
 pub asked_stays : (d : Dialect) (bytes more : List ℕ) (number : ℕ) (command : Command) → IsAskedIn d bytes number command → IsAskedIn d (bytes ++ more) number command
 asked_stays d bytes more number command is =
-    let s = some_spelled d (bytes ++ more) in
-    let longer = longer_spelled d bytes more is.turns s.0 is.spells s.1 in
-    record {
-      turns = s.0;
-      spells = s.1;
-      from_one = is.from_one;
-      is = subst (λ (turns : List Turn). slice_get (commands_in turns) (number - 1) ≡ Some command) (sym longer.1) (command_stays is.turns longer.0 (number - 1) command is.is);
-    }
+    let longer = more_spelled d bytes more is.turns is.spells in
+    record { turns = is.turns ++ longer.0; spells = longer.1; from_one = is.from_one; is = command_stays is.turns longer.0 (number - 1) command is.is }
 
 pub begins_longer : (d : Dialect) (bytes more : List ℕ) (taken : List Turn) → BeginsIn d bytes taken → BeginsIn d (bytes ++ more) taken
 begins_longer d bytes more taken front =
-    let s = some_spelled d (bytes ++ more) in
-    let longer = longer_spelled d bytes more front.turns s.0 front.spells s.1 in
-    record { turns = s.0; more = front.more ++ longer.0; spells = s.1; is = longer.1 ∙ (ap (λ (turns : List Turn). turns ++ longer.0) front.is ∙ append_assoc taken front.more longer.0) }
+    let longer = more_spelled d bytes more front.turns front.spells in
+    record { turns = front.turns ++ longer.0; more = front.more ++ longer.0; spells = longer.1; is = ap (λ (turns : List Turn). turns ++ longer.0) front.is ∙ append_assoc taken front.more longer.0 }
 
 -- one command has a number
 pub same_asked_in : (d : Dialect) (bytes : List ℕ) (n : ℕ) (c e : Command) → IsAskedIn d bytes n c → IsAskedIn d bytes n e → c ≡ e
 same_asked_in d bytes n c e x y =
-    let same = one_spelled d bytes x.turns y.turns x.spells y.spells in
-    cc (sym x.is ∙ (ap (λ (ts : List Turn). slice_get (commands_in ts) (n - 1)) same ∙ y.is))
+    let same = one_asked d bytes x.turns y.turns x.spells y.spells in
+    cc (sym x.is ∙ (ap (λ (cs : List Command). slice_get cs (n - 1)) same ∙ y.is))
 
 -- ---- texts
 

@@ -1,5 +1,5 @@
 -- In the profile all is what is said of the clients of a world; and each command has a text of its own.
-use Rattle.std.proofs.Common.{◌≡◌, ℕ, zero, suc, ◌+◌, ◌-◌, ◌≤◌, Bool, true, false, List, [], ◌∷◌, ◌++◌, length, map, take, flat_map, Some, refl, sym, ap, ◌∙◌, subst, arith, slice_get}
+use Rattle.std.proofs.Common.{◌≡◌, ℕ, zero, suc, ◌+◌, ◌-◌, Bool, true, false, List, [], ◌∷◌, ◌++◌, map, take, flat_map, Some, refl, sym, ap, ◌∙◌, subst, arith, slice_get}
 use Rattle.std.specs.Prelude.{◌↔◌, Contains}
 use Rattle.std.proofs.lemmas.List.{map-append}
 use Rattle.proto.specs.declared.command.Command.{Command}
@@ -8,22 +8,24 @@ use Rattle.proto.specs.declared.turn.Turn.{Turn as ProfileTurn}
 use Rattle.proto.specs.declared.turn.Turn.TheVariants as profile
 use Rattle.proto.specs.Text.{given_text}
 use Rattle.proto.proofs.SpellsLemmas.{spelled_alone}
-use Rattle.dialect.specs.declared.turn.Turn.{Turn as MemcachedTurn}
-use Rattle.dialect.specs.declared.turn.Turn.TheVariants as memcached
 use Rattle.dialect.specs.declared.turn.Show.{Show}
 use Rattle.dialect.specs.Text.{shown_text}
+use Rattle.dialect.specs.State.{start}
 use Rattle.item_steps.specs.Steps.{steps}
 use Rattle.memcached_spec.specs.Asked.{asked, TextsBy, IsAsked, HasText}
 use Rattle.memcached_spec.specs.Server.{Line, Made, made_for}
 use Rattle.memcached_spec.specs.Order.{replies_from, IsExecutedFor, IsAnsweredBy}
 use Rattle.grammar.specs.declared.reader.Dialect.{Dialect}
-use Rattle.grammar.specs.declared.reader.Dialect.TheVariants.{Profile, Memcached}
+use Rattle.grammar.specs.declared.reader.Dialect.TheVariants.{Profile, Memcached, Limited}
 use Rattle.grammar.specs.declared.turn.Turn.{Turn}
 use Rattle.grammar.specs.declared.turn.Turn.TheVariants.{Ask, Say, Close}
-use Rattle.grammar.specs.Turns.{is_left_out, profile_show, profile_turn, memcached_turn}
+use Rattle.grammar.specs.Turns.{is_left_out, profile_show, profile_turn}
+use Rattle.grammar.specs.Limit.{limited_turns}
 use Rattle.grammar.specs.Asks.{SpellsIn, SpellsProfile, commands_in, TextsShown, IsAskedIn}
 use Rattle.grammar.specs.Orders.{IsExecutedFrom, IsAnsweredFrom}
+use Rattle.grammar.proofs.TurnLemmas.{turn_asks}
 use Rattle.grammar.proofs.LimitLemmas.{memcached_has_text}
+use Rattle.grammar.proofs.FullLemmas.{limited_has_text}
 
 -- ---- what is asked
 
@@ -180,24 +182,9 @@ profile_ask (profile.Ask d quiet ∷ turns) c s (zero, lt, e) = (quiet, (0, omeg
 profile_ask (profile.Say n ∷ turns) c s (zero, lt, e) = absurd (let clash : Say (Rattle.grammar.specs.declared.turn.Notice.TheVariants.Profile n) ≡ Ask c s = e in cc clash)
 profile_ask (profile.Close n ∷ turns) c s (zero, lt, e) = absurd (let clash : Close (Rattle.grammar.specs.declared.turn.Notice.TheVariants.Profile n) ≡ Ask c s = e in cc clash)
 
-memcached_ask : (turns : List MemcachedTurn) (c : Command) (s : Show) → Contains (map memcached_turn turns) (Ask c s) → Contains turns (memcached.Ask c s)
-memcached_ask [] c s (i, lt, e) = absurd (omega (arith, lt))
-memcached_ask (turn ∷ turns) c s (suc i, lt, e) =
-    let at = memcached_ask turns c s (i, omega (arith, lt), e) in
-    let below = at.1 in
-    (suc at.0, omega (arith, below), at.2)
-memcached_ask (memcached.Ask d x ∷ turns) c s (zero, lt, e) = (0, omega arith, ap back e)
-  where
-    back : Turn → MemcachedTurn
-    back (Ask k y) = memcached.Ask k y
-    back (Say n) = memcached.Ask d x
-    back (Close n) = memcached.Ask d x
-memcached_ask (memcached.Say n ∷ turns) c s (zero, lt, e) = absurd (let clash : Say (Rattle.grammar.specs.declared.turn.Notice.TheVariants.Memcached n) ≡ Ask c s = e in cc clash)
-memcached_ask (memcached.Close n ∷ turns) c s (zero, lt, e) = absurd (let clash : Close (Rattle.grammar.specs.declared.turn.Notice.TheVariants.Memcached n) ≡ Ask c s = e in cc clash)
-
 pub spelled_has_text : (d : Dialect) (bytes : List ℕ) (turns : List Turn) (command : Command) (show : Show) → SpellsIn d bytes turns → Contains turns (Ask command show) → HasText command (is_left_out show)
 spelled_has_text Profile bytes turns command show s there =
     let one = profile_ask s.spelled command show (subst (λ (ts : List Turn). Contains ts (Ask command show)) s.are there) in
     subst (HasText command) (sym (left_out one.0) ∙ ap is_left_out one.2) (spelled_alone bytes s.spelled s.rest command one.0 s.spells one.1)
-spelled_has_text Memcached bytes turns command show s there =
-    memcached_has_text bytes s.spelled command show s.spells (memcached_ask s.spelled command show (subst (λ (ts : List Turn). Contains ts (Ask command show)) s.are there))
+spelled_has_text Memcached bytes turns command show s there = memcached_has_text bytes s.spelled command show s.spells (turn_asks s.spelled turns command show s.are there)
+spelled_has_text Limited bytes turns command show s there = limited_has_text bytes command show (turn_asks (limited_turns false start bytes) turns command show s there)

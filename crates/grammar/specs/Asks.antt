@@ -1,17 +1,19 @@
 -- What bytes ask in either grammar, and which bytes answer it.
-use Rattle.std.specs.Prelude.{◌≡◌, ℕ, ◌+◌, ◌-◌, ◌≤◌, List, [], ◌∷◌, ◌++◌, map, Some, slice_get}
+use Rattle.std.specs.Prelude.{◌≡◌, ℕ, ◌+◌, ◌-◌, ◌≤◌, false, List, [], ◌∷◌, ◌++◌, map, Some, slice_get}
 use Rattle.proto.specs.declared.command.Command.{Command}
 use Rattle.proto.specs.declared.reply.Reply as replies
 use Rattle.proto.specs.declared.turn.Turn.{Turn as ProfileTurn}
 use Rattle.proto.specs.Grammar as profile
 use Rattle.dialect.specs.declared.turn.Turn.{Turn as MemcachedTurn}
 use Rattle.dialect.specs.Grammar as memcached
+use Rattle.dialect.specs.State.{start}
 use Rattle.dialect.specs.Text.{shown_text}
 use Rattle.grammar.specs.declared.reader.Dialect.{Dialect}
-use Rattle.grammar.specs.declared.reader.Dialect.TheVariants.{Profile, Memcached}
+use Rattle.grammar.specs.declared.reader.Dialect.TheVariants.{Profile, Memcached, Limited}
 use Rattle.grammar.specs.declared.turn.Turn.{Turn}
 use Rattle.grammar.specs.declared.turn.Turn.TheVariants.{Ask, Say, Close}
-use Rattle.grammar.specs.Turns.{said_text, profile_turn, memcached_turn}
+use Rattle.grammar.specs.Turns.{said_text, profile_turn, AreTurnsOf}
+use Rattle.grammar.specs.Limit.{limited_turns}
 
 -- The bytes spell these turns in the profile.
 pub record SpellsProfile (bytes : List ℕ) (turns : List Turn) : Type 0 where
@@ -20,15 +22,20 @@ pub record SpellsProfile (bytes : List ℕ) (turns : List Turn) : Type 0 where
   pub spells : profile.Spells bytes spelled rest
   pub are : turns ≡ map profile_turn spelled
 
--- They spell these turns as memcached reads them.
+-- They spell these turns as memcached reads them. What `stats` gives are some figures.
 pub record SpellsMemcached (bytes : List ℕ) (turns : List Turn) : Type 0 where
   pub spelled : List MemcachedTurn
   pub spells : memcached.Spells bytes spelled
-  pub are : turns ≡ map memcached_turn spelled
+  pub are : AreTurnsOf spelled turns
+
+-- Bytes and marks spell these turns: as memcached reads the bytes, but storage commands are refused behind a mark of a server that may store no more.
+abbrev pub SpellsLimited : List ℕ → List Turn → Type 0
+SpellsLimited bytes turns = AreTurnsOf (limited_turns false start bytes) turns
 
 abbrev pub SpellsIn : Dialect → List ℕ → List Turn → Type 0
 SpellsIn Profile bytes turns = SpellsProfile bytes turns
 SpellsIn Memcached bytes turns = SpellsMemcached bytes turns
+SpellsIn Limited bytes turns = SpellsLimited bytes turns
 
 -- the commands that turns ask, in order: the first one is command 1
 abbrev pub commands_in : List Turn → List Command

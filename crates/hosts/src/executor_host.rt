@@ -4,7 +4,8 @@ ghost use Rattle.std.specs.Prelude.{◌≡◌, ◌<◌, ◌≤◌, ◌*◌};
 
 use crate::held::{hold, is_order};
 use decrees::Letter;
-use exec_lines::{Body, Input};
+use exec_lines::{Body, ExecutorRecord, Input};
+use keeper::MemKeeper;
 use std::alloc::Global;
 use std::marker::Model;
 use std::mem;
@@ -49,6 +50,17 @@ impl ExecutorHost {
     {
         ExecutorHost {
             place: ExecutorPlace::unopened(),
+            held: Vec::new(alloc),
+            sent: Vec::new(alloc),
+        }
+    }
+
+    /// The host of an executor that is down, with this keeper.
+    pub fn down(alloc: Global, keeper: MemKeeper<ExecutorRecord>) -> ExecutorHost
+        ensures { result ≡ record { slot = Down keeper; held = []; sent = [] } }
+    {
+        ExecutorHost {
+            place: ExecutorPlace::down(keeper),
             held: Vec::new(alloc),
             sent: Vec::new(alloc),
         }

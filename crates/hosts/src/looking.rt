@@ -1,11 +1,15 @@
 //! What a host shows of its executor.
 
-ghost use Rattle.std.specs.Prelude.{◌≡◌};
+ghost use Rattle.std.specs.Prelude.{◌≡◌, IfOk, Some};
+ghost use Rattle.worlds.specs.Laws.{kept_at, is_gone};
+ghost use Rattle.worlds.specs.Slots.{executor_kept};
 ghost use Rattle.hosts.specs.Shown.{job_len_of, steps_of, epoch_of};
 
 use crate::executor_host::ExecutorHost;
+use exec_lines::ExecutorRecord;
+use keeper::MemKeeper;
 use pages::PAGES;
-use std::alloc::Global;
+use std::alloc::{AllocError, Global};
 
 impl ExecutorHost {
     /// How many requests the batch has that the executor is to run, if it is up and has a job.
@@ -31,6 +35,20 @@ impl ExecutorHost {
     {
         let report = self.place.node()?.state().report();
         Some(report.epoch)
+    }
+
+    /// A keeper that has what is kept of the executor, whether it is up, down or lost. The record is shared.
+    pub fn kept(&self) -> Result<MemKeeper<ExecutorRecord>, AllocError>
+        ensures { IfOk result (λ keeper. keeper ≡ kept_at executor_kept self.now.slot) }
+    {
+        self.place.kept()
+    }
+
+    /// Whether the executor is lost for good.
+    pub fn is_lost(&self) -> bool
+        ensures { result ≡ is_gone (Some self.now.slot) }
+    {
+        self.place.is_lost()
     }
 
     /// The number of the executor's committed state, if it is up.

@@ -5,7 +5,7 @@ use Rattle.item_rows.specs.Changes.{Rows, ItemChange, with_change, rows_after, o
 
 module _ {X : Type 0} where
   -- what stands at a place: the last change of it, or its row
-  abbrev or_row : Option (Option X) → Option X → Option X
+  abbrev pub or_row : Option (Option X) → Option X → Option X
   or_row None row = row
   or_row (Some v) row = v
 
@@ -20,7 +20,8 @@ module _ {X : Type 0} where
       by true e = rw e refl
       by false e = rw e refl
 
-  says : (rows : Rows X) (cs : List (ItemChange X)) (p : ℕ) → rows_after rows cs p ≡ or_row (last_change p cs) (rows p)
+  -- what changes say of a place
+  pub says : (rows : Rows X) (cs : List (ItemChange X)) (p : ℕ) → rows_after rows cs p ≡ or_row (last_change p cs) (rows p)
   says rows [] p = refl
   says rows (c ∷ cs) p = says (with_change rows c) cs p ∙ changed_row rows c p (last_change p cs)
 
@@ -32,7 +33,7 @@ module _ {X : Type 0} where
   or_assoc (Some v) b c = refl
   or_assoc None b c = refl
 
-  last_change-append : (p : ℕ) (xs ys : List (ItemChange X)) → last_change p (xs ++ ys) ≡ or_first (last_change p ys) (last_change p xs)
+  pub last_change-append : (p : ℕ) (xs ys : List (ItemChange X)) → last_change p (xs ++ ys) ≡ or_first (last_change p ys) (last_change p xs)
   last_change-append p [] ys = or_none (last_change p ys)
   last_change-append p (c ∷ xs) ys = ap (λ (o : Option (Option X)). or_first o (one p c)) (last_change-append p xs ys) ∙ or_assoc (last_change p ys) (last_change p xs) (one p c)
 

@@ -1,1 +1,1 @@
-mod ChangeLemmas
+pub mod ChangeLemmas

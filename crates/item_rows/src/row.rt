@@ -7,7 +7,7 @@ ghost use Rattle.items.specs.declared.item.Item.{Item as AnItem};
 ghost use Rattle.sqlite_value.specs.Order.{column};
 ghost use Rattle.sqlite_value.specs.Value.{owned};
 ghost use Rattle.sqlite_value.specs.declared.value.Value.TheVariants as sql;
-ghost use Rattle.item_rows.specs.Row.{number_column, due_column, item_row, DueFits, ItemFits};
+ghost use Rattle.item_rows.specs.Row.{number_column, due_column, full_row, item_row, HasColumns, DueFits, ItemFits};
 
 use crate::place::place_of;
 use items::Item;
@@ -33,12 +33,18 @@ fn push_two(row: &mut Row, first: ValueRef<'_>, second: ValueRef<'_>) -> Result<
     row.push(second)
 }
 
-/// The row of an item that is alone at its place. The only error is a failed allocation.
-pub fn row_of(alloc: Global, key: &Key, item: &Item) -> Result<Row, AllocError>
-    ensures { IfOk result (λ row. row ≡ item_row key.now item.now) }
+/// The row of this number, which has an item and, after its columns, what is beside it at its place.
+pub(crate) fn row_with(
+    alloc: Global,
+    place: i64,
+    key: &Key,
+    item: &Item,
+    more: ValueRef<'_>,
+) -> Result<Row, AllocError>
+    ensures { IfOk result (λ row. row ≡ full_row place key.now item.now (owned more.entry)) }
 {
     let mut row = Row::new(alloc);
-    push_two(&mut row, ValueRef::Int(place_of(key)), ValueRef::Null)?;
+    push_two(&mut row, ValueRef::Int(place), ValueRef::Null)?;
     push_two(
         &mut row,
         ValueRef::Blob(key.as_slice()),
@@ -49,12 +55,15 @@ pub fn row_of(alloc: Global, key: &Key, item: &Item) -> Result<Row, AllocError>
         due_value(item.due),
         ValueRef::Int(item.unique.cast_signed()),
     )?;
-    push_two(
-        &mut row,
-        ValueRef::Blob(item.block.as_slice()),
-        ValueRef::Null,
-    )?;
+    push_two(&mut row, ValueRef::Blob(item.block.as_slice()), more)?;
     Ok(row)
+}
+
+/// The row of an item that is alone at its place. The only error is a failed allocation.
+pub fn row_of(alloc: Global, key: &Key, item: &Item) -> Result<Row, AllocError>
+    ensures { IfOk result (λ row. row ≡ item_row key.now item.now) }
+{
+    row_with(alloc, place_of(key), key, item, ValueRef::Null)
 }
 
 fn key_in(alloc: Global, row: &Row) -> Result<Key, Fault>
@@ -112,11 +121,10 @@ fn block_in(alloc: Global, row: &Row) -> Result<Block, Fault>
     }
 }
 
-/// The item of a row that is alone at its place, as `row_of` made it. Anything else is a BadRecord. The only other error
-/// is a failed allocation, NoMemory.
-pub fn item_of(alloc: Global, row: &Row) -> Result<(Key, Item), Fault>
-    ensures ok { IfOk result (λ read. row.now ≡ item_row read.0 read.1) }
-    ensures bad { result ≡ Err Fault.BadRecord → (key : List ℕ) (item : AnItem) → IsKey key → ItemFits item → row.now ≢ item_row key item }
+/// The key and the item in the columns of a row.
+pub(crate) fn columns_in(alloc: Global, row: &Row) -> Result<(Key, Item), Fault>
+    ensures ok { IfOk result (λ read. HasColumns row.now read.0 read.1) }
+    ensures bad { result ≡ Err Fault.BadRecord → (key : List ℕ) (item : AnItem) → IsKey key → ItemFits item → ¬ HasColumns row.now key item }
     ensures only { IfErr result (λ fault. (fault ≡ Fault.NoMemory) ⊎ (fault ≡ Fault.BadRecord)) }
 {
     let key = key_in(alloc, row)?;
@@ -126,6 +134,17 @@ pub fn item_of(alloc: Global, row: &Row) -> Result<(Key, Item), Fault>
         due: due_in(row)?,
         unique: unique_in(row)?,
     };
+    Ok((key, item))
+}
+
+/// The item of a row that is alone at its place, as `row_of` made it. Anything else is a BadRecord. The only other error
+/// is a failed allocation, NoMemory.
+pub fn item_of(alloc: Global, row: &Row) -> Result<(Key, Item), Fault>
+    ensures ok { IfOk result (λ read. row.now ≡ item_row read.0 read.1) }
+    ensures bad { result ≡ Err Fault.BadRecord → (key : List ℕ) (item : AnItem) → IsKey key → ItemFits item → row.now ≢ item_row key item }
+    ensures only { IfErr result (λ fault. (fault ≡ Fault.NoMemory) ⊎ (fault ≡ Fault.BadRecord)) }
+{
+    let (key, item) = columns_in(alloc, row)?;
     if row_of(alloc, &key, &item)?.is_same(row) {
         Ok((key, item))
     } else {

@@ -1,8 +1,10 @@
-ghost use Rattle.std.specs.Prelude.{◌≡◌, ◌<◌, ◌+◌, ◌^◌, ◌-◌, None, Some, true, false, OnOk, OnErr, Err, IsOk, IsTrue, not};
+ghost use Rattle.std.specs.Prelude.{◌≡◌, ◌<◌, ◌+◌, ◌^◌, ◌-◌, None, Some, true, false, OnOk, OnErr, Err, IfOk, IsOk, IsTrue, not};
+ghost use Rattle.std.specs.Option.{option_map};
 
 use crate::keeper::Keeper;
 use crate::to_text::ToText;
 use proto::Fault;
+use std::alloc::AllocError;
 use std::marker::Model;
 
 /// Keeps its record in memory: the very value that it was given, for which it takes no memory. For
@@ -37,11 +39,38 @@ impl<R: ToText> MemKeeper<R> {
     pub fn new() -> MemKeeper<R>
         ensures { result ≡ record { saved = None; failures = 0; fails_next = false } }
     {
+        MemKeeper::of(None, 0)
+    }
+
+    /// A keeper that has this record, if one was saved, and of which so many saves have failed.
+    pub fn of(saved: Option<R>, failures: u64) -> MemKeeper<R>
+        ensures { result ≡ record { saved = option_map R.text saved; failures = failures; fails_next = false } }
+    {
         MemKeeper {
-            saved: None,
-            failures: 0,
+            saved,
+            failures,
             fails_next: false,
         }
+    }
+
+    /// A keeper that has the same. The record is shared.
+    pub fn share(&self) -> Result<MemKeeper<R>, AllocError>
+        ensures { IfOk result (λ keeper. keeper ≡ self.now) }
+    {
+        let value = match &self.saved {
+            Some(value) => Some(value.share()?),
+            None => None,
+        };
+        let mut keeper = MemKeeper::of(value, self.failures);
+        keeper.fails_next = self.fails_next;
+        Ok(keeper)
+    }
+
+    /// Whether the next save is set to fail.
+    pub fn is_set_to_fail(&self) -> bool
+        ensures { result ≡ self.now.fails_next }
+    {
+        self.fails_next
     }
 
     /// The next save will fail. To say it twice is to say it once.

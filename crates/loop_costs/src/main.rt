@@ -7,7 +7,7 @@ mod store;
 mod stub;
 
 use crate::stub::Stub;
-use event_loop::{Admission, read_out, serve};
+use event_loop::{Admission, Listener, read_out, serve};
 use mio::net::TcpListener;
 use std::io;
 use std::net::{Ipv4Addr, SocketAddr, SocketAddrV4};
@@ -38,9 +38,10 @@ fn main(rt: HostRuntime) -> io::Result<()> {
     let admission = Admission {
         most: most_of(words.as_slice()),
         refusal: b"SERVER_ERROR too many sessions\r\n",
+        idle_seconds: 0,
     };
     let mut listeners = Vec::with_capacity(alloc, 1)?;
-    listeners.push(listener)?;
+    listeners.push(Listener::Tcp(listener))?;
     let stub = Stub::new(alloc);
     let (stub, served) = serve(&rt, alloc, listeners, admission, stub, |_| {
         read_out(&mut rt.stdin());

@@ -10,7 +10,11 @@ use Rattle.figures.specs.declared.kind.Kind.{Kind}
 use Rattle.figures.specs.declared.kind.TheConstants.{ALL_KINDS}
 use Rattle.figures.specs.declared.outcome.Outcome.{Outcome}
 use Rattle.figures.specs.declared.outcome.TheConstants.{ALL_OUTCOMES}
+use Rattle.figures.specs.declared.refusal.Refusal.{Refusal}
+use Rattle.figures.specs.declared.refusal.Refusals.{Refusals}
+use Rattle.figures.specs.declared.refusal.TheConstants.{ALL_REFUSALS}
 use Rattle.figures.specs.Kind.{kind_has}
+use Rattle.figures.specs.Refusal.{refusal_count}
 use Rattle.figures.specs.Commands.{kind_count}
 use Rattle.figures.specs.Count.{sum_of}
 use Rattle.metrics.specs.declared.metric.Metric.{Metric}
@@ -52,6 +56,14 @@ commands_text commands = flat_map (command_text commands)
 -- the lines of all commands
 unfoldable pub all_commands_text : Commands → List ℕ
 all_commands_text commands = commands_text commands ALL_KINDS
+
+-- the lines of these reasons for which lines are refused
+abbrev pub refusals_text : Refusals → List Refusal → List ℕ
+refusals_text counts = flat_map (λ r. whole_sample_text metric.LinesRefused (labels.Why r) (refusal_count counts r))
+
+-- the lines of all reasons
+unfoldable pub all_refusals_text : Refusals → List ℕ
+all_refusals_text counts = refusals_text counts ALL_REFUSALS
 
 abbrev pub bucket_bit : Bool → ℕ
 bucket_bit true = 1
@@ -99,6 +111,7 @@ histogram_text m h =
 abbrev pub samples_text : Figures → Metric → List ℕ
 samples_text f (metric.Plain p) = whole_sample_text (metric.Plain p) labels.None (plain_value f p)
 samples_text f metric.Commands = all_commands_text f.commands
+samples_text f metric.LinesRefused = all_refusals_text f.refusals
 samples_text f metric.NodeUp = all_nodes_text metric.NodeUp f.replicas
 samples_text f metric.NodeStops = all_nodes_text metric.NodeStops f.replicas
 samples_text f metric.ReplySeconds = histogram_text metric.ReplySeconds f.reply_times

@@ -9,6 +9,7 @@ use Rattle.metrics.specs.Plain.{plain_name, plain_help, plain_type}
 abbrev pub metric_name : Metric → List ℕ
 metric_name (metric.Plain p) = plain_name p
 metric_name metric.Commands = codes "eve_commands_total"
+metric_name metric.LinesRefused = codes "eve_lines_refused_total"
 metric_name metric.NodeUp = codes "eve_node_up"
 metric_name metric.NodeStops = codes "eve_node_stops_total"
 metric_name metric.ReplySeconds = codes "eve_reply_seconds"
@@ -21,6 +22,7 @@ metric_name metric.BatchCommitSeconds = codes "eve_batch_commit_seconds"
 abbrev pub metric_help : Metric → List ℕ
 metric_help (metric.Plain p) = plain_help p
 metric_help metric.Commands = codes "Commands that were answered, by command and outcome."
+metric_help metric.LinesRefused = codes "Lines that were answered by an error or closed the connection, by why."
 metric_help metric.NodeUp = codes "Whether the executor or verifier is up."
 metric_help metric.NodeStops = codes "Times that the executor or verifier was found down."
 metric_help metric.ReplySeconds = codes "Time from when bytes were read to when their replies were written."
@@ -33,6 +35,7 @@ metric_help metric.BatchCommitSeconds = codes "Time in a round from there until 
 abbrev pub metric_type_of : Metric → MetricType
 metric_type_of (metric.Plain p) = plain_type p
 metric_type_of metric.Commands = Counter
+metric_type_of metric.LinesRefused = Counter
 metric_type_of metric.NodeUp = Gauge
 metric_type_of metric.NodeStops = Counter
 metric_type_of metric.ReplySeconds = Histogram

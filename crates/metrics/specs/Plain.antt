@@ -8,9 +8,12 @@ use Rattle.metrics.specs.declared.metric_type.MetricType.TheVariants.{Counter, G
 
 abbrev pub plain_name : Plain → List ℕ
 plain_name plain.UptimeSeconds = codes "eve_uptime_seconds"
+plain_name plain.StartSeconds = codes "process_start_time_seconds"
 plain_name plain.ConnectionsOpen = codes "eve_connections_open"
+plain_name plain.ConnectionsLimit = codes "eve_connections_limit"
 plain_name plain.ConnectionsAccepted = codes "eve_connections_accepted_total"
 plain_name plain.ConnectionsRefused = codes "eve_connections_refused_total"
+plain_name plain.ConnectionsIdle = codes "eve_idle_connections_closed_total"
 plain_name plain.AcceptFailures = codes "eve_accept_failures_total"
 plain_name plain.BytesRead = codes "eve_bytes_read_total"
 plain_name plain.BytesWritten = codes "eve_bytes_written_total"
@@ -26,14 +29,18 @@ plain_name plain.StateNumber = codes "eve_state_number"
 plain_name plain.Suspicions = codes "eve_suspicions_total"
 plain_name plain.Items = codes "eve_items"
 plain_name plain.ItemBytes = codes "eve_item_bytes"
+plain_name plain.ItemBytesLimit = codes "eve_item_bytes_limit"
 plain_name plain.ResidentMemory = codes "eve_resident_memory_bytes"
 plain_name plain.Refusals = codes "eve_refusals_total"
 
 abbrev pub plain_help : Plain → List ℕ
 plain_help plain.UptimeSeconds = codes "Seconds since the start."
+plain_help plain.StartSeconds = codes "The moment of the start in seconds since 1970, 0 if it is not known."
 plain_help plain.ConnectionsOpen = codes "Connections that are open."
+plain_help plain.ConnectionsLimit = codes "The most connections at once."
 plain_help plain.ConnectionsAccepted = codes "Connections that were accepted."
 plain_help plain.ConnectionsRefused = codes "Connections that were closed at once, at the limit on connections."
+plain_help plain.ConnectionsIdle = codes "Connections that were closed since nothing happened on them."
 plain_help plain.AcceptFailures = codes "Times that no connection could be accepted, as at the limit on descriptors."
 plain_help plain.BytesRead = codes "Bytes read from clients."
 plain_help plain.BytesWritten = codes "Bytes written to clients."
@@ -49,14 +56,18 @@ plain_help plain.StateNumber = codes "The number of the last committed state."
 plain_help plain.Suspicions = codes "Times that the leader was suspected."
 plain_help plain.Items = codes "Items in one state."
 plain_help plain.ItemBytes = codes "Bytes of the keys and values of all items in one state."
+plain_help plain.ItemBytesLimit = codes "The most bytes of keys and values that may be stored, 0 if there is no limit."
 plain_help plain.ResidentMemory = codes "Resident memory of the process, 0 if it is not known."
 plain_help plain.Refusals = codes "Times that the service was refused memory and left something undone."
 
 abbrev pub plain_type : Plain → MetricType
 plain_type plain.UptimeSeconds = Gauge
+plain_type plain.StartSeconds = Gauge
 plain_type plain.ConnectionsOpen = Gauge
+plain_type plain.ConnectionsLimit = Gauge
 plain_type plain.ConnectionsAccepted = Counter
 plain_type plain.ConnectionsRefused = Counter
+plain_type plain.ConnectionsIdle = Counter
 plain_type plain.AcceptFailures = Counter
 plain_type plain.BytesRead = Counter
 plain_type plain.BytesWritten = Counter
@@ -72,14 +83,18 @@ plain_type plain.StateNumber = Gauge
 plain_type plain.Suspicions = Counter
 plain_type plain.Items = Gauge
 plain_type plain.ItemBytes = Gauge
+plain_type plain.ItemBytesLimit = Gauge
 plain_type plain.ResidentMemory = Gauge
 plain_type plain.Refusals = Counter
 
 abbrev pub plain_value : Figures → Plain → ℕ
 plain_value f plain.UptimeSeconds = f.uptime_seconds
+plain_value f plain.StartSeconds = f.process.started
 plain_value f plain.ConnectionsOpen = f.connections.open
+plain_value f plain.ConnectionsLimit = f.limits.connections
 plain_value f plain.ConnectionsAccepted = f.connections.accepted
 plain_value f plain.ConnectionsRefused = f.connections.refused
+plain_value f plain.ConnectionsIdle = f.connections.idle
 plain_value f plain.AcceptFailures = f.connections.failed
 plain_value f plain.BytesRead = f.connections.bytes_read
 plain_value f plain.BytesWritten = f.connections.bytes_written
@@ -95,5 +110,6 @@ plain_value f plain.StateNumber = f.replicas.number
 plain_value f plain.Suspicions = f.replicas.suspicions
 plain_value f plain.Items = f.memory.items
 plain_value f plain.ItemBytes = f.memory.item_bytes
+plain_value f plain.ItemBytesLimit = f.limits.item_bytes
 plain_value f plain.ResidentMemory = f.memory.resident_bytes
 plain_value f plain.Refusals = f.memory.refusals

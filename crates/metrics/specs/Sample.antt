@@ -11,6 +11,7 @@ use Rattle.metrics.specs.declared.sample.Number.TheVariants.{Whole, Micros}
 use Rattle.metrics.specs.declared.sample.Sample.{Sample}
 use Rattle.figures.specs.Kind.{kind_name}
 use Rattle.figures.specs.Outcome.{outcome_name}
+use Rattle.figures.specs.Refusal.{refusal_name}
 use Rattle.metrics.specs.Metric.{metric_name}
 use Rattle.metrics.specs.Number.{seconds_text}
 
@@ -31,6 +32,7 @@ bound_text None = codes "+Inf"
 abbrev pub labels_text : Labels → List ℕ
 labels_text labels.None = []
 labels_text (labels.Command k o) = codes "{command=\"" ++ kind_name k ++ codes "\",outcome=\"" ++ outcome_name o ++ codes "\"}"
+labels_text (labels.Why refusal) = codes "{why=\"" ++ refusal_name refusal ++ codes "\"}"
 labels_text (labels.Node role id) = codes "{role=\"" ++ role_name role ++ codes "\",id=\"" ++ decimal id ++ codes "\"}"
 labels_text (labels.Bucket bound) = codes "{le=\"" ++ bound_text bound ++ codes "\"}"
 

@@ -1,14 +1,14 @@
 //! The lines of each metric.
 
 ghost use Rattle.std.specs.Prelude.{◌≡◌, ◌++◌, ◌+◌, ◌≤◌, OnOk, IfOk, flat_map, length, take};
-ghost use Rattle.metrics.specs.Families.{metric_head, whole_sample_text, outcome_text, outcomes_text, command_text, commands_text, all_commands_text, node_value, nodes_text, all_nodes_text, bucket_text, buckets_text, bound_of, bounds_after, total_from, histogram_text, samples_text, family_text, metrics_text};
+ghost use Rattle.metrics.specs.Families.{metric_head, whole_sample_text, outcome_text, outcomes_text, command_text, commands_text, all_commands_text, refusals_text, all_refusals_text, node_value, nodes_text, all_nodes_text, bucket_text, buckets_text, bound_of, bounds_after, total_from, histogram_text, samples_text, family_text, metrics_text};
 ghost use Rattle.figures.specs.declared.node.TheConstants.{MOST_NODES};
 
 use crate::metric::{ALL_METRICS, Metric};
 use crate::sample::{Labels, Number, Role, Sample, Suffix, write_sample};
 use figures::{
-    ALL_KINDS, ALL_OUTCOMES, BOUNDS, Commands, Figures, Histogram, Kind, MOST_NODES, NodeFigures,
-    Outcome, Replicas, plus,
+    ALL_KINDS, ALL_OUTCOMES, ALL_REFUSALS, BOUNDS, Commands, Figures, Histogram, Kind, MOST_NODES,
+    NodeFigures, Outcome, Refusal, Refusals, Replicas, plus,
 };
 use std::alloc::{AllocError, Global};
 
@@ -102,6 +102,32 @@ fn write_all_commands(commands: &Commands, out: &mut Vec<u8>) -> Result<(), Allo
     ensures { OnOk result (out.new.items ≡ out.old.items ++ all_commands_text commands.now) }
 {
     write_commands(ALL_KINDS.as_slice(), commands, out)
+}
+
+fn write_refusals(
+    refusals: &[Refusal],
+    counts: &Refusals,
+    out: &mut Vec<u8>,
+) -> Result<(), AllocError>
+    ensures { OnOk result (out.new.items ≡ out.old.items ++ refusals_text counts.now refusals.now) }
+{
+    for refusal in refusals {
+        write_whole(
+            Metric::LinesRefused,
+            Labels::Why(*refusal),
+            counts.of(*refusal),
+            out,
+        )?;
+    }
+    Ok(())
+}
+
+/// The lines of all reasons for which lines are refused.
+#[tactic(auto, unfolding(crate::specs::Families::all_refusals_text))]
+fn write_all_refusals(counts: &Refusals, out: &mut Vec<u8>) -> Result<(), AllocError>
+    ensures { OnOk result (out.new.items ≡ out.old.items ++ all_refusals_text counts.now) }
+{
+    write_refusals(ALL_REFUSALS.as_slice(), counts, out)
 }
 
 /// The value of a node's line.
@@ -256,6 +282,7 @@ fn write_samples(metric: Metric, figures: &Figures, out: &mut Vec<u8>) -> Result
     match metric {
         Metric::Plain(plain) => write_whole(metric, Labels::None, plain.value(figures), out),
         Metric::Commands => write_all_commands(&figures.commands, out),
+        Metric::LinesRefused => write_all_refusals(&figures.refusals, out),
         Metric::NodeUp | Metric::NodeStops => write_all_nodes(metric, &figures.replicas, out),
         Metric::ReplySeconds => write_histogram(metric, &figures.reply_times, out),
         Metric::BatchSeconds => write_histogram(metric, &figures.batch_times, out),

@@ -7,13 +7,14 @@ use crate::metric_type::MetricType;
 use crate::plain::Plain;
 
 /// How many metrics there are.
-pub const METRICS: usize = 30;
+pub const METRICS: usize = 35;
 
 /// A metric: one value, or one for each of its labels.
 #[derive(Clone, Copy, Debug, PartialEq, Eq)]
 pub enum Metric {
     Plain(Plain),
     Commands,
+    LinesRefused,
     NodeUp,
     NodeStops,
     ReplySeconds,
@@ -27,13 +28,17 @@ pub enum Metric {
 /// All metrics, in the order in which they are shown.
 pub const ALL_METRICS: [Metric; METRICS] = [
     Metric::Plain(Plain::UptimeSeconds),
+    Metric::Plain(Plain::StartSeconds),
     Metric::Plain(Plain::ConnectionsOpen),
+    Metric::Plain(Plain::ConnectionsLimit),
     Metric::Plain(Plain::ConnectionsAccepted),
     Metric::Plain(Plain::ConnectionsRefused),
+    Metric::Plain(Plain::ConnectionsIdle),
     Metric::Plain(Plain::AcceptFailures),
     Metric::Plain(Plain::BytesRead),
     Metric::Plain(Plain::BytesWritten),
     Metric::Commands,
+    Metric::LinesRefused,
     Metric::Plain(Plain::KeysAsked),
     Metric::Plain(Plain::KeysFound),
     Metric::Plain(Plain::Batches),
@@ -48,6 +53,7 @@ pub const ALL_METRICS: [Metric; METRICS] = [
     Metric::NodeStops,
     Metric::Plain(Plain::Items),
     Metric::Plain(Plain::ItemBytes),
+    Metric::Plain(Plain::ItemBytesLimit),
     Metric::Plain(Plain::ResidentMemory),
     Metric::Plain(Plain::Refusals),
     Metric::ReplySeconds,
@@ -66,6 +72,7 @@ impl Metric {
         match self {
             Metric::Plain(plain) => plain.name(),
             Metric::Commands => "eve_commands_total",
+            Metric::LinesRefused => "eve_lines_refused_total",
             Metric::NodeUp => "eve_node_up",
             Metric::NodeStops => "eve_node_stops_total",
             Metric::ReplySeconds => "eve_reply_seconds",
@@ -84,6 +91,8 @@ impl Metric {
         match self {
             Metric::Plain(plain) => plain.help(),
             Metric::Commands => "Commands that were answered, by command and outcome.",
+            Metric::LinesRefused =>
+                "Lines that were answered by an error or closed the connection, by why.",
             Metric::NodeUp => "Whether the executor or verifier is up.",
             Metric::NodeStops => "Times that the executor or verifier was found down.",
             Metric::ReplySeconds =>
@@ -103,6 +112,7 @@ impl Metric {
         match self {
             Metric::Plain(plain) => plain.metric_type(),
             Metric::Commands => MetricType::Counter,
+            Metric::LinesRefused => MetricType::Counter,
             Metric::NodeUp => MetricType::Gauge,
             Metric::NodeStops => MetricType::Counter,
             Metric::ReplySeconds => MetricType::Histogram,

@@ -10,9 +10,12 @@ use figures::Figures;
 #[derive(Clone, Copy, Debug, PartialEq, Eq)]
 pub enum Plain {
     UptimeSeconds,
+    StartSeconds,
     ConnectionsOpen,
+    ConnectionsLimit,
     ConnectionsAccepted,
     ConnectionsRefused,
+    ConnectionsIdle,
     AcceptFailures,
     BytesRead,
     BytesWritten,
@@ -28,6 +31,7 @@ pub enum Plain {
     Suspicions,
     Items,
     ItemBytes,
+    ItemBytesLimit,
     ResidentMemory,
     Refusals,
 }
@@ -39,9 +43,12 @@ impl Plain {
     {
         match self {
             Plain::UptimeSeconds => "eve_uptime_seconds",
+            Plain::StartSeconds => "process_start_time_seconds",
             Plain::ConnectionsOpen => "eve_connections_open",
+            Plain::ConnectionsLimit => "eve_connections_limit",
             Plain::ConnectionsAccepted => "eve_connections_accepted_total",
             Plain::ConnectionsRefused => "eve_connections_refused_total",
+            Plain::ConnectionsIdle => "eve_idle_connections_closed_total",
             Plain::AcceptFailures => "eve_accept_failures_total",
             Plain::BytesRead => "eve_bytes_read_total",
             Plain::BytesWritten => "eve_bytes_written_total",
@@ -57,6 +64,7 @@ impl Plain {
             Plain::Suspicions => "eve_suspicions_total",
             Plain::Items => "eve_items",
             Plain::ItemBytes => "eve_item_bytes",
+            Plain::ItemBytesLimit => "eve_item_bytes_limit",
             Plain::ResidentMemory => "eve_resident_memory_bytes",
             Plain::Refusals => "eve_refusals_total",
         }
@@ -68,10 +76,15 @@ impl Plain {
     {
         match self {
             Plain::UptimeSeconds => "Seconds since the start.",
+            Plain::StartSeconds =>
+                "The moment of the start in seconds since 1970, 0 if it is not known.",
             Plain::ConnectionsOpen => "Connections that are open.",
+            Plain::ConnectionsLimit => "The most connections at once.",
             Plain::ConnectionsAccepted => "Connections that were accepted.",
             Plain::ConnectionsRefused =>
                 "Connections that were closed at once, at the limit on connections.",
+            Plain::ConnectionsIdle =>
+                "Connections that were closed since nothing happened on them.",
             Plain::AcceptFailures =>
                 "Times that no connection could be accepted, as at the limit on descriptors.",
             Plain::BytesRead => "Bytes read from clients.",
@@ -88,6 +101,8 @@ impl Plain {
             Plain::Suspicions => "Times that the leader was suspected.",
             Plain::Items => "Items in one state.",
             Plain::ItemBytes => "Bytes of the keys and values of all items in one state.",
+            Plain::ItemBytesLimit =>
+                "The most bytes of keys and values that may be stored, 0 if there is no limit.",
             Plain::ResidentMemory => "Resident memory of the process, 0 if it is not known.",
             Plain::Refusals =>
                 "Times that the service was refused memory and left something undone.",
@@ -100,9 +115,12 @@ impl Plain {
     {
         match self {
             Plain::UptimeSeconds => MetricType::Gauge,
+            Plain::StartSeconds => MetricType::Gauge,
             Plain::ConnectionsOpen => MetricType::Gauge,
+            Plain::ConnectionsLimit => MetricType::Gauge,
             Plain::ConnectionsAccepted => MetricType::Counter,
             Plain::ConnectionsRefused => MetricType::Counter,
+            Plain::ConnectionsIdle => MetricType::Counter,
             Plain::AcceptFailures => MetricType::Counter,
             Plain::BytesRead => MetricType::Counter,
             Plain::BytesWritten => MetricType::Counter,
@@ -118,6 +136,7 @@ impl Plain {
             Plain::Suspicions => MetricType::Counter,
             Plain::Items => MetricType::Gauge,
             Plain::ItemBytes => MetricType::Gauge,
+            Plain::ItemBytesLimit => MetricType::Gauge,
             Plain::ResidentMemory => MetricType::Gauge,
             Plain::Refusals => MetricType::Counter,
         }
@@ -129,9 +148,12 @@ impl Plain {
     {
         match self {
             Plain::UptimeSeconds => figures.uptime_seconds,
+            Plain::StartSeconds => figures.process.started,
             Plain::ConnectionsOpen => figures.connections.open,
+            Plain::ConnectionsLimit => figures.limits.connections,
             Plain::ConnectionsAccepted => figures.connections.accepted,
             Plain::ConnectionsRefused => figures.connections.refused,
+            Plain::ConnectionsIdle => figures.connections.idle,
             Plain::AcceptFailures => figures.connections.failed,
             Plain::BytesRead => figures.connections.bytes_read,
             Plain::BytesWritten => figures.connections.bytes_written,
@@ -147,6 +169,7 @@ impl Plain {
             Plain::Suspicions => figures.replicas.suspicions,
             Plain::Items => figures.memory.items,
             Plain::ItemBytes => figures.memory.item_bytes,
+            Plain::ItemBytesLimit => figures.limits.item_bytes,
             Plain::ResidentMemory => figures.memory.resident_bytes,
             Plain::Refusals => figures.memory.refusals,
         }

@@ -5,7 +5,7 @@ ghost use Rattle.metrics.specs.Sample.{number_text, labels_text, suffix_text, sa
 
 use crate::metric::Metric;
 use crate::number::{write_decimal, write_seconds};
-use figures::{Kind, Outcome};
+use figures::{Kind, Outcome, Refusal};
 use std::alloc::AllocError;
 
 /// What a node does.
@@ -20,6 +20,8 @@ pub enum Role {
 pub enum Labels {
     None,
     Command(Kind, Outcome),
+    /// Why a line was refused.
+    Why(Refusal),
     Node(Role, u64),
     /// The upper bound of a bucket in microseconds, if it has one.
     Bucket(Option<u64>),
@@ -95,6 +97,14 @@ fn write_command(kind: Kind, outcome: Outcome, out: &mut Vec<u8>) -> Result<(), 
     out.extend_from_slice(b"\"}".as_slice())
 }
 
+fn write_why(refusal: Refusal, out: &mut Vec<u8>) -> Result<(), AllocError>
+    ensures { OnOk result (out.new.items ≡ out.old.items ++ labels_text (Labels.Why refusal)) }
+{
+    out.extend_from_slice(b"{why=\"".as_slice())?;
+    out.extend_from_slice(refusal.name().as_bytes())?;
+    out.extend_from_slice(b"\"}".as_slice())
+}
+
 fn write_node(role: Role, id: u64, out: &mut Vec<u8>) -> Result<(), AllocError>
     ensures { OnOk result (out.new.items ≡ out.old.items ++ labels_text (Labels.Node role id)) }
 {
@@ -128,6 +138,7 @@ fn write_labels(labels: Labels, out: &mut Vec<u8>) -> Result<(), AllocError>
     match labels {
         Labels::None => Ok(()),
         Labels::Command(kind, outcome) => write_command(kind, outcome, out),
+        Labels::Why(refusal) => write_why(refusal, out),
         Labels::Node(role, id) => write_node(role, id, out),
         Labels::Bucket(bound) => write_bucket(bound, out),
     }

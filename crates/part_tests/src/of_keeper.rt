@@ -27,6 +27,10 @@ impl ToText for OneByte {
     fn to_text(&self, alloc: Global) -> Result<Text, AllocError> {
         text(alloc, &[self.byte])
     }
+
+    fn share(&self) -> Result<OneByte, AllocError> {
+        Ok(OneByte { byte: self.byte })
+    }
 }
 
 /// Whether the record is found, and has these bytes.

@@ -38,6 +38,7 @@ impl Model for Proxy {
 
 impl Proxy {
     ghost use Rattle.std.specs.Prelude.{◌≡◌, ◌≤◌, ◌⊎◌, ◌^◌, ◌-◌, ◌+◌, None, Some, IfOk, OnErr, OnOk, Err, IfErr, is_none};
+    ghost use Rattle.std.specs.Option.{option_map};
     ghost use Rattle.client.specs.Talk.{next_request};
     ghost use Rattle.proxies.specs.Proxy.{asks, answers, asked_quiet, request_of};
 
@@ -51,6 +52,58 @@ impl Proxy {
             last: 0,
             asked: None,
         }
+    }
+
+    /// One that asked so many requests, and has this one outstanding: for a process that goes on from a record.
+    pub fn of(client: u16, last: u64, asked: Option<Asked>) -> Proxy
+        requires { 1 ≤ client }
+        ensures { result ≡ record { client = client; last = last; asked = asked } }
+    {
+        Proxy {
+            client,
+            last,
+            asked,
+        }
+    }
+
+    /// Its number as a client.
+    pub fn client(&self) -> u16
+        ensures client { result ≡ self.now.client }
+        ensures from_one { 1 ≤ result }
+    {
+        self.client
+    }
+
+    /// The number of its last request. 0: it has asked nothing.
+    pub fn last(&self) -> u64
+        ensures { result ≡ self.now.last }
+    {
+        self.last
+    }
+
+    /// What is outstanding.
+    pub fn asked(&self) -> Option<&Asked>
+        ensures { option_map (λ asked. asked.now) result ≡ self.now.asked }
+    {
+        self.asked.as_ref()
+    }
+
+    /// One that has asked the same, for the record of a process.
+    pub fn copy(&self) -> Result<Proxy, AllocError>
+        ensures { IfOk result (λ proxy. proxy ≡ self.now) }
+    {
+        let asked = match &self.asked {
+            None => None,
+            Some(asked) => Some(Asked {
+                request: asked.request.clone()?,
+                quiet: asked.quiet,
+            }),
+        };
+        Ok(Proxy {
+            client: self.client,
+            last: self.last,
+            asked,
+        })
     }
 
     /// Asks the command as its next request, which is to be sent to all executors. `quiet`: the reply is

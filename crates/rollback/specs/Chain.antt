@@ -102,6 +102,10 @@ chain_text_in version c = state_text_in version c.have ++ (num w8 (length c.memb
 abbrev pub chain_text : ChainView → List ℕ
 chain_text c = chain_text_in Second c
 
+-- the same of a chain without members
+abbrev pub alone_text : StateView → List ℕ
+alone_text s = chain_text (record { have = s; members = [] })
+
 -- each member is over just the state before it, and not only by number and token
 abbrev pub AreOverIn : Version → StateView → List TentativeView → Type 0
 AreOverIn version s [] = Unit {0}

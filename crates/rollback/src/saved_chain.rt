@@ -1,12 +1,12 @@
 //! What is saved of a chain.
 
-ghost use Rattle.std.specs.Prelude.{◌≡◌, ◌≤◌, ◌++◌, flat_map, map, length, IfOk, OnOk};
+ghost use Rattle.std.specs.Prelude.{◌≡◌, ◌≤◌, ◌++◌, flat_map, map, length, IfOk, IfSome, OnOk};
 ghost use Rattle.std.specs.Int.{w8};
 ghost use Rattle.wire.specs.Number.{num};
 ghost use Rattle.wire.specs.Record.{Puts, Reads};
 ghost use Rattle.states.specs.StateRecord.{state_text};
 ghost use Rattle.executor.specs.MemberRecord.{member_text};
-ghost use Rattle.rollback.specs.Chain.{IsRecorded, chain_text};
+ghost use Rattle.rollback.specs.Chain.{IsRecorded, chain_text, alone_text};
 ghost use Rattle.rollback.specs.declared.chain.TheConstants.{MOST_MEMBERS};
 
 use crate::chain::{Chain, MOST_MEMBERS};
@@ -112,6 +112,27 @@ impl Chain {
 }
 
 impl SavedChain {
+    /// What is saved of a chain of this committed state alone.
+    pub fn of_state(alloc: Global, committed: State) -> SavedChain
+        ensures { result ≡ alone_text committed }
+    {
+        SavedChain {
+            committed,
+            members: Vec::new(alloc),
+        }
+    }
+
+    /// The committed state, if no member is over it.
+    pub fn alone(&self) -> Option<&State>
+        ensures { IfSome result (λ committed. self.now ≡ alone_text committed.now) }
+    {
+        if self.members.is_empty() {
+            Some(&self.committed)
+        } else {
+            None
+        }
+    }
+
     /// The chain that its text stands for, as `Chain::take` reads it. The committed state is shared, so nothing of it is
     /// read or computed; the members are read from their texts.
     ///

@@ -41,14 +41,15 @@ pub record StoreRests (v : View) : Type 0 where
   pub sound : IsTrue v.is_open → v.is_broken ≡ false
   pub shape : v.shape ≡ v.committed_shape
 
--- the store is open, and what is committed is what the changes make
+-- the store was open and is open, and what is committed is what the changes make
 pub record IsSaved (old : View) (changes : List RowChange) (new : View) : Type 0 where
+  pub was_open : IsTrue old.is_open
   pub open_now : IsTrue new.is_open
   pub committed : new.committed ≡ after changes old.committed
 
--- while the store is open, what is committed is what was
+-- if the store is open, it was open, and what is committed is what was
 abbrev pub IsSame : View → View → Type 0
-IsSame old new = IsTrue new.is_open → new.committed ≡ old.committed
+IsSame old new = IsTrue new.is_open → IsTrue old.is_open × (new.committed ≡ old.committed)
 
 -- a row that a table of the store does not take
 abbrev pub StoreRefuses : View → RowChange → Type 0

@@ -1,8 +1,9 @@
 -- What stands between the event loop and the service: what it hands in, and what it hands out.
-use Rattle.std.specs.Prelude.{◌≡◌, ◌⊎◌, ℕ, List, [], ◌∷◌, ◌++◌, true, false, map, Some, Result, Ok, Err, refl}
+use Rattle.std.specs.Prelude.{◌≡◌, ◌⊎◌, ℕ, Bool, List, [], ◌∷◌, ◌++◌, true, false, map, Some, Result, Ok, Err, refl}
 use Rattle.std.specs.List.{AllZip}
 use Rattle.std.specs.Coded.{Coded, code_by, coded×, coded_list}
 use Rattle.base.specs.declared.fault.Fault.{Fault}
+use Rattle.grammar.specs.Reads.{with_mark}
 use Rattle.connections.specs.declared.said.Said as of_service
 use Rattle.connections.specs.Connections.{HasSameLogs}
 use Rattle.connections.specs.History.{moment_as}
@@ -112,7 +113,9 @@ pub record HandsBytes (key number : ℕ) (piece : List ℕ) (v now : AnsweringVi
   pub between : AnsweringView
   pub same_said : between.said ≡ v.said
   pub result : Result of_service.Said Fault
-  pub hears : Hears key number piece v.service.connections between.service.connections result
+  -- with a limit, whether it was reached comes with the bytes
+  pub full : Bool
+  pub hears : Hears key number (with_mark v.service.connections.dialect full piece) v.service.connections between.service.connections result
   pub requests : HasSameRequests v.service between.service
   pub told : IsToldAfter key number v.service between.service result
   pub says : SaysWhat between key number result now

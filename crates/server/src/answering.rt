@@ -129,6 +129,13 @@ impl Answering {
         self.service.figures(self.alloc)
     }
 
+    /// Takes over what only the event loop and the system know, for `stats`.
+    pub fn see(&mut self, seen: &Figures)
+        ensures { self.new ≡ self.old }
+    {
+        self.service.see(seen);
+    }
+
     /// A piece of a connection comes.
     fn hear_bytes(&mut self, key: usize, number: u64, bytes: Vec<u8>)
         ensures { HandsBytes key number bytes.items self.old self.new }

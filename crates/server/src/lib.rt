@@ -11,6 +11,6 @@ mod life;
 mod watcher;
 
 pub use fault::ServeFault;
-pub use life::{MOST_CONNECTIONS, Options, serve, serve_beside};
+pub use life::{Listener, MOST_CONNECTIONS, Options, serve, serve_beside};
 pub use service::{Incidents, Service};
 pub use watcher::Watcher;

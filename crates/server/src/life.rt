@@ -5,12 +5,13 @@ ghost use Rattle.std.specs.Prelude.{◌<◌};
 use crate::answering::Answering;
 use crate::fault::ServeFault;
 use crate::watcher::Watcher;
-use event_loop::{Admission, Refused, Watch, read_out};
-use mio::net::TcpListener as Listener;
+use event_loop::{Admission, Listener as LoopListener, Refused, Watch, read_out};
+use mio::net::{TcpListener as MioTcpListener, UnixListener as MioUnixListener};
 use service::{Config, Dialect, Fault, Service};
 use std::alloc::Global;
 use std::io::Read;
 use std::net::{Net, TcpListener, TcpStream};
+use std::os::unix::net::UnixListener;
 use std::rt::Clock;
 use std::sync::Wait;
 use std::thread::Threads;
@@ -27,6 +28,15 @@ const TOO_MANY: &[u8] = b"SERVER_ERROR too many sessions\r\n";
 // The event loop tells of written bytes once so many were said. A connection that has as many asks nothing until then.
 const _: () = prove!(event_loop::MOST_UNWRITTEN == service::MOST_UNWRITTEN);
 
+/// Where clients come.
+#[derive(Drop)]
+pub enum Listener {
+    /// At an address of the network.
+    Tcp(TcpListener),
+    /// At a Unix socket.
+    Unix(UnixListener),
+}
+
 /// How a server is to serve.
 #[derive(Clone, Copy)]
 pub struct Options {
@@ -34,17 +44,31 @@ pub struct Options {
     pub connections: usize,
     /// What any other one is given before it is closed.
     pub refusal: &'static [u8],
+    /// A connection on which nothing happens for so many seconds is closed. 0: none is.
+    pub idle_seconds: u32,
     /// There are `2u + 1` executors and `2u + 1` verifiers.
     pub u: u8,
     /// In which grammar the bytes of connections are read.
     pub dialect: Dialect,
+    /// While the items have more bytes than these, with their keys, storage commands of memcached's dialect are
+    /// refused. 0: there is no limit.
+    pub max_bytes: u64,
     ghost few: { u < 4 },
+}
+
+/// The grammar of a server with these options.
+fn dialect_of(options: &Options) -> Dialect {
+    match options.dialect {
+        Dialect::Memcached if options.max_bytes != 0 => Dialect::Limited,
+        other => other,
+    }
 }
 
 /// The service over its replicas, for an event loop of at most so many sockets at once.
 fn open(alloc: Global, options: Options, most: usize) -> Result<Answering, ServeFault> {
     let config = Config::new(options.u, PROXIES)?;
-    let service = Service::open(alloc, &config, options.dialect)?;
+    let mut service = Service::open(alloc, &config, dialect_of(&options))?;
+    service.set_limit(options.max_bytes);
     match Answering::new(alloc, service, most) {
         Ok(answering) => Ok(answering),
         Err(service) => {
@@ -62,17 +86,31 @@ fn not_started(refused: Refused) -> ServeFault {
     }
 }
 
+/// The listener, such that none of its calls waits, or none if the system does not take that.
+fn waiting_for_none(listener: Listener) -> Option<LoopListener> {
+    match listener {
+        Listener::Tcp(listener) => {
+            listener.set_nonblocking(true).ok()?;
+            Some(LoopListener::Tcp(MioTcpListener::from_std(listener)))
+        }
+        Listener::Unix(listener) => {
+            listener.set_nonblocking(true).ok()?;
+            Some(LoopListener::Unix(MioUnixListener::from_std(listener)))
+        }
+    }
+}
+
 /// The listeners, such that none of their calls waits.
-fn waiting_for_none(
+fn all_waiting_for_none(
     alloc: Global,
-    listeners: Vec<TcpListener>,
-) -> Result<Vec<Listener>, ServeFault> {
+    listeners: Vec<Listener>,
+) -> Result<Vec<LoopListener>, ServeFault> {
     let mut all = Vec::with_capacity(alloc, listeners.len())?;
     for listener in listeners {
-        if listener.set_nonblocking(true).is_err() {
+        let Some(listener) = waiting_for_none(listener) else {
             return Err(ServeFault::Start);
-        }
-        all.push(Listener::from_std(listener))?;
+        };
+        all.push(listener)?;
     }
     Ok(all)
 }
@@ -84,16 +122,17 @@ fn serve_all<
 >(
     rt: &R,
     alloc: Global,
-    listeners: Vec<TcpListener>,
+    listeners: Vec<Listener>,
     options: Options,
     beside: F,
 ) -> Result<Service, ServeFault>
     requires { F.IsAlwaysCallable beside }
 {
-    let listeners = waiting_for_none(alloc, listeners)?;
+    let listeners = all_waiting_for_none(alloc, listeners)?;
     let admission = Admission {
         most: options.connections,
         refusal: options.refusal,
+        idle_seconds: options.idle_seconds,
     };
     let answering = open(alloc, options, admission.most_sockets())?;
     let (answering, served) = event_loop::serve(rt, alloc, listeners, admission, answering, beside);
@@ -123,12 +162,14 @@ pub fn serve<
     requires { u < 4 }
 {
     let mut listeners = Vec::with_capacity(alloc, 1)?;
-    listeners.push(listener)?;
+    listeners.push(Listener::Tcp(listener))?;
     let options = Options {
         connections: MOST_CONNECTIONS,
         refusal: TOO_MANY,
+        idle_seconds: 0,
         u,
         dialect: Dialect::Profile,
+        max_bytes: 0,
     };
     serve_all(rt, alloc, listeners, options, |_| read_out(until))
 }
@@ -141,7 +182,7 @@ pub fn serve_beside<
 >(
     rt: &R,
     alloc: Global,
-    listeners: Vec<TcpListener>,
+    listeners: Vec<Listener>,
     options: Options,
     beside: F,
 ) -> Result<Service, ServeFault>

@@ -17,6 +17,7 @@ fn connections(counts: Counts) -> Connections {
         open: counts.open,
         accepted: counts.accepted,
         refused: counts.refused,
+        idle: counts.idle,
         failed: counts.failed,
         bytes_read: counts.bytes_read,
         bytes_written: counts.bytes_written,
@@ -40,6 +41,12 @@ impl<'a> Watcher<'a> {
         figures.connections = connections(counts);
         figures.reply_times = counts.reply_times;
         figures
+    }
+
+    /// What clients are shown by `stats` of what the server does not know of itself: the process, its time, and
+    /// connections. The caller waits as in `figures`.
+    pub fn see<R: Wait>(&self, rt: &R, seen: &Figures) {
+        self.watch.service(rt).see(seen);
     }
 
     /// Whether the server has ended by itself, since the system refused to wait on its sockets. Its thread sets this, so

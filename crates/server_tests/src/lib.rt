@@ -2,6 +2,8 @@
 #![tactic(auto)]
 
 #[cfg(test)]
+mod of_limits;
+#[cfg(test)]
 mod of_rows;
 #[cfg(test)]
 mod of_server;

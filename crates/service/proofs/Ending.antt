@@ -1,16 +1,18 @@
 -- A process of a service that ends, and others that begin with what was kept.
-use Rattle.std.proofs.Common.{◌≡◌, ℕ, List, [], ◌∷◌, Option, Some, refl, sym, ap, ◌∙◌, subst}
+use Rattle.std.proofs.Common.{◌≡◌, ℕ, List, [], ◌∷◌, ◌++◌, Option, None, Some, refl, sym, ap, ◌∙◌, subst}
 use Rattle.std.proofs.lemmas.List.{append-nil}
 use Rattle.connections.specs.Connection.{ConnectionView}
 use Rattle.connections.specs.Connections.{ConnectionsView, IsConnections}
 use Rattle.connections.specs.Places.{place_in}
 use Rattle.ensemble.specs.Ensemble.{EnsembleView, IsEnsemble}
-use Rattle.ensemble.specs.Process.{ProcessView, process_of, reopened_ensemble, ensemble_after, IsEnsembleAfter}
+use Rattle.ensemble.specs.Kept.{ProcessView, process_of}
+use Rattle.ensemble.specs.Process.{reopened_ensemble, ensemble_after, IsEnsembleAfter}
 use Rattle.service.specs.declared.assignment.Assignment.{Assignment}
 use Rattle.service.specs.declared.assignment.Outstanding.{Outstanding}
 use Rattle.service.specs.declared.pause.Pause.{Pause}
 use Rattle.service.specs.Service.{ServiceView, IsAssigned, IsService, HasEnsemble}
-use Rattle.service.specs.Process.{IsWhole, KeptService, kept_of, HasAll, NobodyWaits, reopened_service, service_after, IsServiceAfter, AreInTurn, services_after}
+use Rattle.service.specs.Process.{IsWhole, IsServiceAlone, KeptService, kept_of, found_as, found_by, HasAll, NobodyWaits, reopened_service, service_after, HoldsAfter, IsServiceAfter, IsProcess, AreInTurn, AreReopened, next_found, services_after, services_with}
+use Rattle.service.proofs.Joining.{joined_whole}
 
 -- a law of `ensemble`
 abbrev pub EnsembleFollows : Type 0
@@ -28,6 +30,9 @@ no_connection_left v h = record {
   fresh = h.fresh;
   asked = h.asked;
   below = h.below;
+  least = h.least;
+  none_before = h.none_before;
+  since = h.since;
   once = h.once;
 }
 
@@ -97,6 +102,7 @@ begins_after follows found waiting pauses none before h all is =
         dialect = before.connections.dialect;
         table = [];
         next = before.connections.next;
+        first = before.connections.first;
         heard = sym (append-nil before.connections.heard) i;
         given = sym (append-nil before.connections.given) i;
         passed = sym (append-nil before.connections.passed) i;
@@ -113,7 +119,44 @@ begins_after follows found waiting pauses none before h all is =
     } in
     subst (λ (k : KeptService). IsWhole (service_after before (reopened_service k waiting pauses))) is (subst (λ (x : ServiceView). IsWhole x) same whole)
 
+-- what holds of all that was asked and given, also before, if another thing does
+pub holds_after : (found : Option KeptService) (P Q : ServiceView → Type 0) (v : ServiceView) → ((x : ServiceView) → P x → Q x) → HoldsAfter found P v → HoldsAfter found Q v
+holds_after None P Q v may h = may v h
+holds_after (Some found) P Q v may h = λ before was all is. may (service_after before v) (h before was all is)
+
+-- a service of which all that was asked and given before is known holds what it always holds
+whole_ensemble : (v : ServiceView) → IsWhole v → IsEnsemble v.replicas.ensemble
+whole_ensemble v h = subst (λ (e : EnsembleView). IsEnsemble e) h.ensemble.these h.ensemble.world
+
+after_found : (v : ServiceView) (found : Option ProcessView) → IsServiceAlone v → IsEnsembleAfter found v.replicas.ensemble → IsServiceAfter (found_as v.connections.dialect v.connections.first found) v
+after_found v None own world = record {
+  connections = own.connections;
+  history = own.history;
+  moments = own.moments;
+  service = own.service;
+  ensemble = record { ensemble = v.replicas.ensemble; these = refl; world = world; same_asked = own.same_asked; same_answered = own.same_answered; same_order = own.same_order };
+  remembers = own.remembers;
+}
+after_found v (Some found) own world = λ before was all is.
+    let dialect : v.connections.dialect ≡ before.connections.dialect = sym (ap (λ (k : KeptService). k.dialect) is) in
+    let from : v.connections.first ≡ before.connections.next = sym (ap (λ (k : KeptService). k.next) is) in
+    joined_whole before v was own dialect from (world before.replicas.ensemble (whole_ensemble before was) all (ap (λ (k : KeptService). k.replicas) is))
+
+pub own_after : (v : ServiceView) → IsServiceAlone v → IsEnsembleAfter v.replicas.ensemble.found v.replicas.ensemble → IsProcess v
+own_after v own world = after_found v v.replicas.ensemble.found own world
+
 -- what always holds of a service holds of processes one after the other
 pub all_whole : (v : ServiceView) (later : List ServiceView) → IsWhole v → HasAll v → AreInTurn (Some (kept_of v)) later → IsWhole (services_after v later)
 all_whole v [] h all turns = h
 all_whole v (next ∷ later) h all turns = all_whole (service_after v next) later (turns.0 v h all refl) turns.1 turns.2
+
+-- each was opened again with what was kept of the one before it, and so is this one
+behind_all : (x : ServiceView) (later : List ServiceView) (v : ServiceView) → IsWhole x → HasAll x → AreReopened (Some (kept_of x)) later → IsProcess v → found_by v ≡ next_found (Some (kept_of x)) later → IsWhole (services_after x (later ++ v ∷ []))
+behind_all x [] v h all are is found = subst (λ (k : Option KeptService). IsServiceAfter k v) found is x h all refl
+behind_all x (y ∷ later) v h all are is found =
+    let next : IsWhole (service_after x y) = subst (λ (k : Option KeptService). IsServiceAfter k y) are.1 are.0 x h all refl in
+    behind_all (service_after x y) later v next are.2 are.3 is found
+
+pub last_whole : (earlier : List ServiceView) (v : ServiceView) → AreReopened None earlier → IsProcess v → found_by v ≡ next_found None earlier → IsWhole (services_with earlier v)
+last_whole [] v are is found = subst (λ (k : Option KeptService). IsServiceAfter k v) found is
+last_whole (x ∷ later) v are is found = behind_all x later v (subst (λ (k : Option KeptService). IsServiceAfter k x) are.1 are.0) are.2 are.3 is found

@@ -21,7 +21,7 @@ use Rattle.service.specs.declared.assignment.Outstanding.{Outstanding}
 use Rattle.service.specs.declared.note.Waiting.{Waiting}
 use Rattle.service.specs.declared.asking.Asking.{Asking}
 use Rattle.service.specs.declared.asking.Asking.TheVariants.{Nothing, Asked, Failed}
-use Rattle.service.specs.Service.{ServiceView, ReplicasView, none_shown, asked_keys, before_ask, IsAnsweredEarlier, command_number_of, IsAssigned, IsService, Waits, asked_as, assigned_as, assigned, AreLogged, AnswersTo, Gives, GivesNothing, GivesOne, given_entry, passed_entry}
+use Rattle.service.specs.Service.{ServiceView, ReplicasView, IsSameProcess, none_shown, asked_keys, before_ask, IsAnsweredEarlier, command_number_of, IsAssigned, IsService, Waits, asked_as, assigned_as, assigned, AreLogged, AnswersTo, Gives, GivesNothing, GivesOne, given_entry, passed_entry}
 use Rattle.service.proofs.OrderLemmas.{Order, asked_push, none_asked, more_asks_nothing, before_same, before_last, asked_below, asked_count}
 use Rattle.service.specs.Steps.{NoneWaits, KeepsWaits, AddsWait, EndsWait, KeepsTaken, IsAskedOf, AsksFor, Settles}
 
@@ -325,3 +325,17 @@ pub gives_all : (v next : ConnectionsView) (before said : List Said) → before 
 gives_all v next before said none gives =
     let all : gives.0 ≡ said = sym (gives.1 ∙ ap (λ (xs : List Said). xs ++ gives.0) none) in
     (gives.2 ∙ ap (λ (xs : List Said). v.given ++ map given_entry xs) all, gives.3 ∙ ap (λ (xs : List Said). v.passed ++ map passed_entry xs) all)
+
+-- ---- the same process
+
+pub same_process : (v : ServiceView) → IsSameProcess v v
+same_process v = record { dialect = refl; first = refl; found = refl }
+
+pub process_on : (v mid next : ServiceView) → IsSameProcess v mid → IsSameProcess mid next → IsSameProcess v next
+process_on v mid next a b = record { dialect = b.dialect ∙ a.dialect; first = b.first ∙ a.first; found = b.found ∙ a.found }
+
+-- a command is asked
+pub asks_same : (at : Place) (proxy : ℕ) (v next : ConnectionsView) (e f : EnsembleView) (asking : Asking) → AsksFor at proxy v e next f asking → (next.dialect ≡ v.dialect) × (next.first ≡ v.first) × (f.found ≡ e.found)
+asks_same at proxy v next e f Nothing asks = (asks.0.dialect, asks.0.since, ap (λ (x : EnsembleView). x.found) asks.0.same)
+asks_same at proxy v next e f (Asked a) asks = (asks.bytes.dialect, asks.bytes.since, asks.found)
+asks_same at proxy v next e f (Failed given) asks = (asks.0.dialect, asks.0.since, ap (λ (x : EnsembleView). x.found) asks.0.same)

@@ -6,4 +6,6 @@ pub mod MomentLemmas
 pub mod OwedLemmas
 pub mod ToldLemmas
 pub mod TickLemmas
-mod Ending
+mod Lists
+mod Joining
+pub mod Ending

@@ -33,7 +33,7 @@ use Rattle.service.specs.Service.{ServiceView, IsService, HasMoments, WasMoment,
 use Rattle.service.specs.Steps.{AsksFor, Settles}
 use Rattle.service.proofs.OrderLemmas.{Order}
 
-abbrev Replies : Type 0
+abbrev pub Replies : Type 0
 Replies = List ((ℕ × ℕ) × replies.Reply)
 
 abbrev pub history_of : ConnectionsView → HistoryView
@@ -77,7 +77,7 @@ handed_more order now passed more same were moment c =
 -- ---- one moment
 
 -- it stays one as more is asked and answered
-moment_stays : (d : Dialect) (order more : Order) (assignments added : List Assignment) (answered now : Replies) (passed late : List Passed) → ((x : (ℕ × ℕ) × replies.Reply) → Contains answered x → Contains now x)
+pub moment_stays : (d : Dialect) (order more : Order) (assignments added : List Assignment) (answered now : Replies) (passed late : List Passed) → ((x : (ℕ × ℕ) × replies.Reply) → Contains answered x → Contains now x)
     → ((moment : ℕ) → Contains (moments_in more) moment → IsPassedSince passed late moment) → WasMoment d order assignments answered passed late → WasMoment d (order ++ more) (assignments ++ added) now passed late
 moment_stays d order more assignments added answered now passed late kept since was = record {
   order_then = was.order_then;
@@ -98,7 +98,7 @@ moment_stays d order more assignments added answered now passed late kept since 
 }
 
 -- and as more passes
-moment_late : (d : Dialect) (order : Order) (assignments : List Assignment) (answered : Replies) (passed late more : List Passed) → WasMoment d order assignments answered passed late → WasMoment d order assignments answered passed (late ++ more)
+pub moment_late : (d : Dialect) (order : Order) (assignments : List Assignment) (answered : Replies) (passed late more : List Passed) → WasMoment d order assignments answered passed late → WasMoment d order assignments answered passed (late ++ more)
 moment_late d order assignments answered passed late more was = record {
   order_then = was.order_then;
   later_order = was.later_order;
@@ -200,7 +200,7 @@ first_moments v none_passed none_ordered [] late is = record {
   split_asked = refl;
   ordered = refl;
   heard = λ a i. let lt = i.1 in absurd (omega (arith, lt));
-  given = λ c. answered_implies v.connections.dialect (WasReplied [] c) (WasAnsweredBy [] v.answered [] c) [] [] (λ turn reply w. let lt = w.1 in absurd (omega (arith, lt))) ((none_keep v.connections.dialect).answered c);
+  given = λ c. answered_implies v.connections.dialect (WasReplied [] c) (WasAnsweredBy [] v.answered [] c) [] [] (λ turn reply w. let lt = w.1 in absurd (omega (arith, lt))) ((none_keep v.connections.dialect 0).answered c);
   moments = λ moment c. absurd (let lt = c.1 in omega (arith, lt));
   later = λ moment c. absurd (nothing moment (subst (λ (o : Order). Contains (moments_in o) moment) none_ordered c));
 }

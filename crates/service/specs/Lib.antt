@@ -5,3 +5,4 @@ pub mod Steps
 pub mod Told
 pub mod Ticks
 pub mod Process
+pub mod Record

@@ -1,9 +1,10 @@
 -- What always holds of a service, also of one whose process began with what another one left.
 use Rattle.std.specs.Prelude.{◌≡◌, ◌++◌, ℕ, List, [], ◌∷◌, Option, None, Some}
 use Rattle.grammar.specs.declared.reader.Dialect.{Dialect}
-use Rattle.connections.specs.Connections.{ConnectionsView, no_connections, IsConnections}
+use Rattle.connections.specs.Connections.{ConnectionsView, no_connections_from, IsConnections}
 use Rattle.connections.specs.History.{HistoryView, IsHistory}
-use Rattle.ensemble.specs.Process.{ProcessView, process_of, NoneIsLost, reopened_ensemble, ensemble_after}
+use Rattle.ensemble.specs.Kept.{ProcessView, process_of, NoneIsLost}
+use Rattle.ensemble.specs.Process.{reopened_ensemble, ensemble_after}
 use Rattle.service.specs.declared.assignment.Assignment.{Assignment}
 use Rattle.service.specs.declared.assignment.Outstanding.{Outstanding}
 use Rattle.service.specs.declared.pause.Pause.{Pause}
@@ -23,6 +24,18 @@ pub record IsWhole (v : ServiceView) : Type 0 where
   pub ensemble : HasEnsemble v
   pub remembers : Remembers v.line v.waiting v.connections.table
 
+-- What always holds of a service of itself alone: all but what holds of its replicas.
+pub record IsServiceAlone (v : ServiceView) : Type 0 where
+  pub connections : IsConnections v.connections
+  pub history : IsHistory (passed_history v.connections)
+  pub moments : HasMoments v
+  pub service : IsService v
+  pub remembers : Remembers v.line v.waiting v.connections.table
+  -- requests and replies are those of its replicas
+  pub same_asked : v.replicas.ensemble.asked ≡ v.asked
+  pub same_answered : v.replicas.ensemble.answered ≡ v.answered
+  pub same_order : v.replicas.ensemble.order ≡ v.order
+
 -- ---- what is kept
 
 -- What is kept of a service: what is kept of its replicas and proxies, the grammar in which bytes are read, and the least number that the next connection may have.
@@ -34,6 +47,14 @@ pub record KeptService : Type 0 where
 -- what is kept if the process ends now
 abbrev pub kept_of : ServiceView → KeptService
 kept_of v = record { replicas = process_of v.replicas.ensemble.nodes; dialect = v.connections.dialect; next = v.connections.next }
+
+-- what this process began with, if it began with what was kept of another one
+abbrev pub found_as : Dialect → ℕ → Option ProcessView → Option KeptService
+found_as dialect first None = None
+found_as dialect first (Some p) = Some (record { replicas = p; dialect = dialect; next = first })
+
+abbrev pub found_by : ServiceView → Option KeptService
+found_by v = found_as v.connections.dialect v.connections.first v.replicas.ensemble.found
 
 -- no replica is lost for good
 abbrev pub HasAll : ServiceView → Type 0
@@ -48,7 +69,7 @@ NobodyWaits waiting = (a : Assignment) → Waits waiting a → ⊥
 -- the service of a process that begins with this: nothing was asked of it, and it has these places for what proxies wait for
 abbrev pub reopened_service : KeptService → List (Option Outstanding) → List Pause → ServiceView
 reopened_service kept waiting pauses = record {
-  connections = record (no_connections kept.dialect) { next = kept.next };
+  connections = no_connections_from kept.dialect kept.next;
   asked = [];
   answered = [];
   order = [];
@@ -65,6 +86,7 @@ connections_after before c = record {
   dialect = c.dialect;
   table = c.table;
   next = c.next;
+  first = before.first;
   heard = before.heard ++ c.heard;
   given = before.given ++ c.given;
   passed = before.passed ++ c.passed;
@@ -88,17 +110,40 @@ service_after before v = record {
   replicas = replicas_after before.replicas v.replicas;
 }
 
--- What always holds of a service whose process began with this: whatever service it was kept of, that one and this one are one service.
+-- This holds of a service with all that was asked and given before, if its process began with this: whatever service it was kept of, it holds of that one and this one as one service.
+abbrev pub HoldsAfter : Option KeptService → (ServiceView → Type 0) → ServiceView → Type 0
+HoldsAfter None Holds v = Holds v
+HoldsAfter (Some found) Holds v = (before : ServiceView) → IsWhole before → HasAll before → kept_of before ≡ found → Holds (service_after before v)
+
+-- What always holds of a service whose process began with this.
 abbrev pub IsServiceAfter : Option KeptService → ServiceView → Type 0
-IsServiceAfter None v = IsWhole v
-IsServiceAfter (Some found) v = (before : ServiceView) → IsWhole before → HasAll before → kept_of before ≡ found → IsWhole (service_after before v)
+IsServiceAfter found v = HoldsAfter found IsWhole v
+
+-- what always holds of a service, whatever its process began with
+abbrev pub IsProcess : ServiceView → Type 0
+IsProcess v = IsServiceAfter (found_by v) v
 
 -- processes one after the other, the first of which began with this: each later one began with what was kept of the one before it
 abbrev pub AreInTurn : Option KeptService → List ServiceView → Type 0
 AreInTurn found [] = Unit {0}
 AreInTurn found (v ∷ later) = IsServiceAfter found v × HasAll v × AreInTurn (Some (kept_of v)) later
 
+-- processes one after the other, the first of which began with this: each later one was opened again with what was kept of the one before it
+abbrev pub AreReopened : Option KeptService → List ServiceView → Type 0
+AreReopened found [] = Unit {0}
+AreReopened found (v ∷ later) = IsProcess v × (found_by v ≡ found) × HasAll v × AreReopened (Some (kept_of v)) later
+
+-- what the one after all of these was opened again with
+abbrev pub next_found : Option KeptService → List ServiceView → Option KeptService
+next_found found [] = found
+next_found found (v ∷ later) = next_found (Some (kept_of v)) later
+
 -- all that was asked and given in this one, and then in the later ones
 abbrev pub services_after : ServiceView → List ServiceView → ServiceView
 services_after v [] = v
 services_after v (next ∷ later) = services_after (service_after v next) later
+
+-- all that was asked and given in the earlier ones, and then in this one
+abbrev pub services_with : List ServiceView → ServiceView → ServiceView
+services_with [] v = v
+services_with (first ∷ later) v = services_after first (later ++ v ∷ [])

@@ -1,5 +1,5 @@
 -- A service, as contracts see it, and what always holds of it.
-use Rattle.std.specs.Prelude.{◌≡◌, ◌⊎◌, ℕ, zero, suc, ◌-◌, ◌^◌, ◌≤◌, ◌<◌, Bool, List, [], ◌∷◌, ◌++◌, map, Option, Some, Result, Ok, Err, Contains, slice_get, refl}
+use Rattle.std.specs.Prelude.{◌≡◌, ◌⊎◌, ℕ, zero, suc, ◌-◌, ◌^◌, ◌≤◌, ◌<◌, Bool, List, [], ◌∷◌, ◌++◌, map, Option, None, Some, Result, Ok, Err, Contains, slice_get, refl}
 use Rattle.std.specs.Coded.{Coded, code_by, coded×, coded_ℕ, coded_bool, coded_list, coded_option}
 use Rattle.proto.specs.declared.command.Command.{Command}
 use Rattle.proto.specs.declared.reply.Reply as replies
@@ -32,7 +32,7 @@ pub record ReplicasView : Type 0 where
 
 -- nothing is seen of them. What always holds does not speak of them
 abbrev pub none_shown : ReplicasView
-none_shown = record { ensemble = record { nodes = record { u = 0; proxies = []; executors = []; verifiers = []; mail = [] }; asked = []; answered = []; order = []; refused = 0 }; refused = 0; pauses = [] }
+none_shown = record { ensemble = record { nodes = record { u = 0; proxies = []; executors = []; verifiers = []; mail = [] }; asked = []; answered = []; order = []; refused = 0; found = None }; refused = 0; pauses = [] }
 
 pub record ServiceView : Type 0 where
   pub connections : ConnectionsView
@@ -197,6 +197,12 @@ GivesOne v said now said_now = (given : Said) × (said_now ≡ said ++ given ∷
 abbrev pub AreLogged : List Answer → List ((ℕ × ℕ) × replies.Reply) → List ((ℕ × ℕ) × Noted) → Type 0
 AreLogged answers log order = (a : Answer) → Contains answers a → Contains log (answer_entry a) × Contains order (order_entry a)
 
+-- it is of the same process
+pub record IsSameProcess (v now : ServiceView) : Type 0 where
+  pub dialect : now.connections.dialect ≡ v.connections.dialect
+  pub first : now.connections.first ≡ v.connections.first
+  pub found : now.replicas.ensemble.found ≡ v.replicas.ensemble.found
+
 -- if nothing more was refused the replicas can do nothing more at once
 abbrev pub RestsUnlessRefused : ReplicasView → ReplicasView → Type 0
 RestsUnlessRefused old new = new.refused ≡ old.refused → old.refused < 2 ^ 64 - 1 → IsAtRest new.ensemble.nodes
@@ -204,6 +210,7 @@ RestsUnlessRefused old new = new.refused ≡ old.refused → old.refused < 2 ^ 6
 -- a connection took the reply to its command, if it was here
 pub record AnswersTo (a : Assignment) (reply : replies.Reply) (v now : ConnectionsView) (said said_now : List Said) : Type 0 where
   pub dialect : now.dialect ≡ v.dialect
+  pub since : now.first ≡ v.first
   pub heard : now.heard ≡ v.heard
   pub taken : now.taken ≡ v.taken
   pub replied : (now.replied ≡ v.replied) ⊎ (now.replied ≡ v.replied ++ (command_number_of a, reply) ∷ [])

@@ -74,6 +74,7 @@ EndsWait old proxy number new (Some o) = KeepsWaits old new × Waits old o.assig
 
 pub record HasSameBytes (v now : ConnectionsView) : Type 0 where
   pub dialect : now.dialect ≡ v.dialect
+  pub since : now.first ≡ v.first
   pub heard : now.heard ≡ v.heard
   pub given : now.given ≡ v.given
   pub passed : now.passed ≡ v.passed
@@ -96,6 +97,7 @@ pub record IsAskedOf (at : Place) (proxy : ℕ) (v now : ConnectionsView) (e f :
   pub counted : e.refused ≤ f.refused
   pub size : size_of f.nodes ≡ size_of e.nodes
   pub answered : f.answered ≡ e.answered
+  pub found : f.found ≡ e.found
   pub ordered : f.order ≡ e.order ++ ((proxy, a.number), noted.Asked) ∷ []
   pub bytes : HasSameBytes v now
   pub ready : Ready
@@ -110,6 +112,7 @@ TakesNone at v now = (now.taken ≡ v.taken) ⊎ (is_here at.number now.table at
 -- nothing was asked
 pub record AsksNothing (v now : ConnectionsView) (e f : EnsembleView) : Type 0 where
   pub dialect : now.dialect ≡ v.dialect
+  pub since : now.first ≡ v.first
   pub taken : KeepsTaken v now
   pub same : f ≡ e
   pub heard : now.heard ≡ v.heard
@@ -123,6 +126,7 @@ AsksFor at proxy v e now f (Failed said) = AsksNothing v now e f × (now.given �
 -- the connection leaves
 pub record LeavesFor (v now : ConnectionsView) : Type 0 where
   pub dialect : now.dialect ≡ v.dialect
+  pub since : now.first ≡ v.first
   pub taken : now.taken ≡ v.taken
   pub heard : now.heard ≡ v.heard
   pub replied : now.replied ≡ v.replied

@@ -85,3 +85,4 @@ pub record HasSameAsked (v now : ServiceView) : Type 0 where
   pub order : now.order ≡ v.order
   pub assignments : now.assignments ≡ v.assignments
   pub line : now.line ≡ v.line
+  pub found : now.replicas.ensemble.found ≡ v.replicas.ensemble.found

@@ -4,11 +4,13 @@ ghost use Rattle.std.specs.Prelude.{◌≡◌, ◌<◌, true, false, None, OnErr
 ghost use Rattle.std.specs.VecDeque.{deque_len, deque_capacity};
 ghost use Rattle.connections.specs.Places.{place_in, is_here, is_untaken_in, left_at, written_at, HasSameOthers};
 ghost use Rattle.service.specs.Owed.{line_with, StillRemembers};
+ghost use Rattle.grammar.specs.Reads.{with_mark};
 ghost use Rattle.service.specs.Service.{Hears};
 ghost use Rattle.connections.specs.Told.{IsToldAt};
 
 use crate::note::Waiting;
 use connections::{Connections, Place, Said};
+use grammar::Conditions;
 use proto::Fault;
 use std::alloc::Global;
 use std::collections::VecDeque;
@@ -42,21 +44,23 @@ fn has_room_for(connections: &mut Connections, line: &mut VecDeque<Waiting>, at:
     has_room
 }
 
-/// Reads a piece of what comes of a connection. If it asks a command it joins the line.
+/// Reads a piece of what comes of a connection, under these conditions. If it asks a command it joins the line.
 pub fn hear_at(
     alloc: Global,
     connections: &mut Connections,
     line: &mut VecDeque<Waiting>,
     at: Place,
     piece: Vec<u8>,
+    conditions: &mut Conditions,
     micros: u64,
 ) -> Result<Said, Fault>
-    ensures hears { Hears at.key at.number piece.items connections.old connections.new result }
+    ensures hears { Hears at.key at.number (with_mark connections.old.dialect conditions.old.is_full piece.items) connections.old connections.new result }
     ensures leaves { OnErr result (is_here at.number connections.new.table at.key ≡ false) }
     ensures closes { IfOk result (λ said. said.closes ≡ true → place_in connections.new.table at.key ≡ None) }
     ensures told { IfOk result (λ said. IsToldAt at connections.old.table connections.new.table said) }
     ensures same_others { HasSameOthers at.key connections.old.table connections.new.table }
     ensures dialect { connections.new.dialect ≡ connections.old.dialect }
+    ensures since { connections.new.first ≡ connections.old.first }
     ensures taken { connections.new.taken ≡ connections.old.taken }
     ensures replied { connections.new.replied ≡ connections.old.replied }
     ensures remembers { StillRemembers line.old.items line.new.items connections.old.table connections.new.table }
@@ -64,7 +68,7 @@ pub fn hear_at(
     if !has_room_for(connections, line, at) {
         return Err(Fault::NoMemory);
     }
-    let said = connections.hear(alloc, at, piece)?;
+    let said = connections.hear(alloc, at, piece, conditions)?;
     line_up(connections, line, at, micros);
     Ok(said)
 }

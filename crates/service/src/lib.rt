@@ -6,6 +6,8 @@
 //!     let at_once = service.hear(alloc, key, number, bytes)?;         // what it is given before its command is answered
 //!     let said = service.work(rt, clock, alloc, seconds);             // what connections are given: the replies
 //!     service.tick(alloc);                                            // each 100 ms while `is_waiting`
+//!     let record = service.record(alloc)?;                            // what is kept, after any of these calls
+//!     let mut service = Service::reopen(alloc, record, dialect)?;     // another process goes on from it
 //!
 //! It stands on `connections` (what each connection asks and is given) and `ensemble` (the replicas, and the
 //! proxies that ask them), and on `serving` for the patience of a proxy. The layer above uses `Service`, which the
@@ -23,8 +25,10 @@ mod note;
 mod pause;
 mod pool;
 mod process_laws;
+mod reopening;
 mod replicas;
 mod service;
+mod service_record;
 mod ticking;
 mod working;
 
@@ -33,8 +37,11 @@ pub use connections::{Dialect, MOST_PLACES, MOST_UNWRITTEN, Said};
 pub use ensemble::{Config, Replica};
 pub use figures::Figures;
 pub use incidents::Incidents;
+pub use item_bytes::{ItemBytes, Limit};
 pub use process_laws::{
-    a_reopened_service_follows, a_service_is_whole, services_follow_each_other,
+    a_reopened_service_follows, a_service_follows_others, a_service_is_a_process,
+    services_follow_each_other,
 };
 pub use proto::Fault;
 pub use service::Service;
+pub use service_record::ServiceRecord;

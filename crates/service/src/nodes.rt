@@ -5,12 +5,15 @@ ghost use Rattle.service.specs.Ticks.{pause_after, is_opened, NodeTicks};
 
 use crate::pause::Pause;
 use ensemble::Replica;
+use serving::{Patience, Seen};
 use std::alloc::{AllocError, Global};
 
-/// The pause of each node: executors first, then verifiers.
+/// The pause of each node: executors first, then verifiers. And the patience with which they are asked what nobody waits for.
 pub struct Nodes {
     members: u8,
     pauses: Vec<Pause>,
+    /// Of the requests for which nobody waits: they were outstanding when the process before this one ended.
+    pub gone: Patience,
 }
 
 impl Drop for Nodes {
@@ -18,6 +21,7 @@ impl Drop for Nodes {
         let Nodes {
             members: _,
             pauses: _,
+            gone: _,
         } = self;
     }
 }
@@ -35,6 +39,14 @@ fn tick_one(pause: &mut Pause, is_up: bool) -> bool
     }
 }
 
+/// Of requests that were sent before the process began.
+fn patience_of_gone() -> Patience {
+    let begun = Seen { rests: 0, steps: 0 };
+    let mut gone = Patience::new(begun);
+    gone.ask_again(begun);
+    gone
+}
+
 impl Nodes {
     /// `2u + 1` executors and as many verifiers, none of which has stopped yet.
     pub fn new(alloc: Global, u: u8) -> Result<Nodes, AllocError>
@@ -45,7 +57,11 @@ impl Nodes {
         for _ in 0..2 * members {
             pauses.push(Pause::new())?;
         }
-        Ok(Nodes { members, pauses })
+        Ok(Nodes {
+            members,
+            pauses,
+            gone: patience_of_gone(),
+        })
     }
 
     /// How many executors there are, and as many verifiers.

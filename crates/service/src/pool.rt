@@ -197,6 +197,16 @@ impl Pool {
         Some((at + 1) as u16)
     }
 
+    /// The number of the proxy at this place, if it is there and waits for nothing.
+    pub fn free_at(&self, at: usize) -> Option<u16>
+        ensures { IfSome result (λ proxy. IsFreeIn self.now proxy) }
+    {
+        match self.waiting.get(at) {
+            Some(None) => Some((at + 1) as u16),
+            _ => None,
+        }
+    }
+
     /// Whether a proxy waits for a reply.
     pub fn is_waiting(&self) -> bool
         ensures no { result ≡ false → NoneWaits self.now }

@@ -60,17 +60,19 @@ impl Model for Service {
 }
 
 impl Service {
-    ghost use Rattle.std.specs.Prelude.{◌≡◌, ◌≢◌, ◌<◌, ◌≤◌, ◌+◌, ◌-◌, ◌^◌, ◌++◌, ◌∷◌, ◌⊎◌, ℕ, [], min, true, false, None, Some, Err, is_some, IfOk, IfErr, OnOk, OnErr};
+    ghost use Rattle.std.specs.Prelude.{◌≡◌, ◌≢◌, ◌<◌, ◌≤◌, ◌+◌, ◌-◌, ◌^◌, ◌++◌, ◌∷◌, ◌⊎◌, ℕ, Bool, [], min, true, false, None, Some, Err, is_some, IfOk, IfErr, OnOk, OnErr};
+    ghost use Rattle.grammar.specs.Reads.{with_mark};
     ghost use Rattle.connections.specs.Connection.{new_connection};
     ghost use Rattle.connections.specs.Places.{place_in, is_here, left_at, written_at, HasSameOthers, IsGrown};
-    ghost use Rattle.connections.specs.Connections.{HasSameLogs, no_connections, IsConnections};
-    ghost use Rattle.connections.specs.History.{IsHistory};
+    ghost use Rattle.connections.specs.Connections.{HasSameLogs, no_connections};
     ghost use Rattle.connections.specs.declared.table.TheConstants.{MOST_PLACES};
     ghost use Rattle.connections.specs.Told.{IsToldAt};
-    ghost use Rattle.service.specs.Service.{IsService, HasMoments, HasEnsemble, HasSameRequests, Hears};
+    ghost use Rattle.service.specs.Service.{HasSameRequests, IsSameProcess, Hears};
+    ghost use Rattle.service.specs.Process.{IsServiceAlone, IsProcess};
+    ghost use Rattle.ensemble.specs.Process.{IsEnsembleAfter};
     ghost use Rattle.ensemble.specs.First.{AreAllUp};
     ghost use Rattle.service.specs.Steps.{NoneWaits};
-    ghost use Rattle.service.specs.Owed.{Remembers, AllWait, IsFreeIn};
+    ghost use Rattle.service.specs.Owed.{AllWait, IsFreeIn};
 
     /// A service where no connection came, over `2u + 1` executors, as many verifiers, and as many proxies as
     /// the config has clients. What connections send is read in this grammar.
@@ -82,6 +84,7 @@ impl Service {
         ensures answered { IfOk result (λ s. s.answered ≡ []) }
         ensures order { IfOk result (λ s. s.order ≡ []) }
         ensures up { IfOk result (λ s. AreAllUp config.now.u config.now.clients s.replicas.ensemble.nodes) }
+        ensures found { IfOk result (λ s. s.replicas.ensemble.found ≡ None) }
     {
         let pool = Pool::new(alloc, config.clients())?;
         let nodes = Nodes::new(alloc, config.u())?;
@@ -116,6 +119,7 @@ impl Service {
         ensures only { IfErr result (λ fault. (fault ≡ Fault.Unfit) ⊎ (fault ≡ Fault.Full) ⊎ (fault ≡ Fault.NoMemory)) }
         ensures logs { HasSameLogs self.old.connections self.new.connections }
         ensures requests { HasSameRequests self.old self.new }
+        ensures process { IsSameProcess self.old self.new }
     {
         self.connections.come(alloc, Place { key, number })
     }
@@ -133,20 +137,24 @@ impl Service {
         number: u64,
         piece: Vec<u8>,
     ) -> Result<Said, Fault>
-        ensures hears { Hears key number piece.items self.old.connections self.new.connections result }
+        ensures hears { (full : Bool) × Hears key number (with_mark self.old.connections.dialect full piece.items) self.old.connections self.new.connections result }
         ensures leaves { OnErr result (is_here number self.new.connections.table key ≡ false) }
         ensures closes { IfOk result (λ said. said.closes ≡ true → place_in self.new.connections.table key ≡ None) }
         ensures told { IfOk result (λ said. IsToldAt (record { key = key; number = number }) self.old.connections.table self.new.connections.table said) }
         ensures same_others { HasSameOthers key self.old.connections.table self.new.connections.table }
         ensures requests { HasSameRequests self.old self.new }
+        ensures process { IsSameProcess self.old self.new }
     {
+        self.counting.decide(alloc, &self.ensemble);
+        let micros = self.counting.micros();
         let heard = hear_at(
             alloc,
             &mut self.connections,
             &mut self.line,
             Place { key, number },
             piece,
-            self.counting.micros(),
+            &mut self.counting.conditions,
+            micros,
         );
         self.connections.always();
         heard
@@ -162,6 +170,7 @@ impl Service {
         ensures left { result ≡ false → self.new.connections.table ≡ left_at (record { key = key; number = number }) self.old.connections.table }
         ensures logs { HasSameLogs self.old.connections self.new.connections }
         ensures requests { HasSameRequests self.old self.new }
+        ensures process { IsSameProcess self.old self.new }
     {
         let at = Place { key, number };
         write_at(
@@ -180,6 +189,7 @@ impl Service {
         ensures left { self.new.connections.table ≡ left_at (record { key = key; number = number }) self.old.connections.table }
         ensures logs { HasSameLogs self.old.connections self.new.connections }
         ensures requests { HasSameRequests self.old self.new }
+        ensures process { IsSameProcess self.old self.new }
     {
         self.connections.leave(Place { key, number });
     }
@@ -200,6 +210,9 @@ impl Service {
             return true;
         }
         if self.pool.is_waiting() {
+            return true;
+        }
+        if self.has_asked_for_nobody() {
             return true;
         }
         self.is_any_down()
@@ -229,26 +242,42 @@ impl Service {
         self.counting.set_micros(micros);
     }
 
-    /// What was counted, and where the replicas are. How many bytes the items have is looked up for 8 of the 256
-    /// pages in each call. Left 0 is what only the event loop and the system know.
+    /// What was counted, and where the replicas are; `stats` shows these from now on. How many bytes the items have is
+    /// looked up for 8 of the 256 pages in each call, and after `reopen` for all pages once. Left 0 is what only the event
+    /// loop and the system know.
     pub fn figures(&mut self, alloc: Global) -> Figures
         ensures same { self.new ≡ self.old }
     {
         self.counting.look(alloc, &self.ensemble);
-        let mut figures = self.counting.figures;
+        let mut figures = self.counting.conditions.figures;
         self.show_replicas(&mut figures);
         figures.memory.refusals = self.refused();
+        self.counting.conditions.figures = figures;
         figures
     }
 
-    /// What always holds of it. It does nothing.
+    /// The items are to have at most so many bytes, with their keys. While they have more, storage commands are refused
+    /// in the dialect with a limit. 0: as many as there is memory for.
+    pub fn set_limit(&mut self, bytes: u64)
+        ensures { self.new ≡ self.old }
+    {
+        self.counting.set_limit(bytes);
+    }
+
+    /// Takes over the parts of these figures that only the event loop and the system know, for `stats`: the process,
+    /// its time, its connections and how many there may be.
+    pub fn see(&mut self, seen: &Figures)
+        ensures { self.new ≡ self.old }
+    {
+        self.counting.see(seen);
+    }
+
+    /// What always holds of it: of itself alone, of its replicas, and of all that was asked and given, also before its process
+    /// began if it was reopened. It does nothing.
     pub fn shows(&self)
-        ensures connections { IsConnections self.now.connections }
-        ensures history { IsHistory (record { heard = self.now.connections.heard; given = self.now.connections.given; passed = self.now.connections.passed }) }
-        ensures moments { HasMoments self.now }
-        ensures service { IsService self.now }
-        ensures ensemble { HasEnsemble self.now }
-        ensures remembers { Remembers self.now.line self.now.waiting self.now.connections.table }
+        ensures own { IsServiceAlone self.now }
+        ensures ensemble { IsEnsembleAfter self.now.replicas.ensemble.found self.now.replicas.ensemble }
+        ensures process { IsProcess self.now }
     {
         self.connections.always();
         self.ensemble.shows();

@@ -22,6 +22,7 @@ fn ask_again(alloc: Global, pool: &mut Pool, ensemble: &mut Ensemble, at: usize,
     ensures asked { ensemble.new.asked ≡ ensemble.old.asked }
     ensures answered { ensemble.new.answered ≡ ensemble.old.answered }
     ensures order { ensemble.new.order ≡ ensemble.old.order }
+    ensures found { ensemble.new.found ≡ ensemble.old.found }
     ensures size { size_of ensemble.new.nodes ≡ size_of ensemble.old.nodes }
 {
     if let Some(proxy) = pool.ask_again(at, seen) {
@@ -46,6 +47,7 @@ fn tick_at(
     ensures asked { ensemble.new.asked ≡ ensemble.old.asked }
     ensures answered { ensemble.new.answered ≡ ensemble.old.answered }
     ensures order { ensemble.new.order ≡ ensemble.old.order }
+    ensures found { ensemble.new.found ≡ ensemble.old.found }
     ensures size { size_of ensemble.new.nodes ≡ size_of ensemble.old.nodes }
 {
     match pool.tick(at, u, seen) {
@@ -78,6 +80,18 @@ impl Service {
         false
     }
 
+    /// Whether a proxy has something outstanding for which nobody waits.
+    pub(crate) fn has_asked_for_nobody(&self) -> bool {
+        for at in 0..self.pool.count() {
+            if let Some(proxy) = self.pool.free_at(at) {
+                if !self.ensemble.is_free(proxy) {
+                    return true;
+                }
+            }
+        }
+        false
+    }
+
     /// Opens the node at this place again if it is down and its pause has gone by.
     fn tick_node(&mut self, alloc: Global, at: usize, replica: Replica)
         ensures connections { self.new.connections ≡ self.old.connections }
@@ -88,10 +102,10 @@ impl Service {
         ensures counted { self.old.replicas.refused ≤ self.new.replicas.refused }
     {
         let is_up = self.ensemble.is_up(replica);
-        note_node(&mut self.counting.figures, replica, is_up);
+        note_node(&mut self.counting.conditions.figures, replica, is_up);
         if self.nodes.tick(at, is_up) {
             let is_back = self.ensemble.restart(alloc, replica);
-            note_node(&mut self.counting.figures, replica, is_back);
+            note_node(&mut self.counting.conditions.figures, replica, is_back);
         }
     }
 
@@ -158,6 +172,60 @@ impl Service {
         is_suspected
     }
 
+    /// The proxy at this place asks again, if it has something outstanding and nobody waits for it: it had asked when the
+    /// process before this one ended.
+    fn ask_for_nobody(&mut self, alloc: Global, at: usize)
+        ensures connections { self.new.connections ≡ self.old.connections }
+        ensures size { size_of self.new.replicas.ensemble.nodes ≡ size_of self.old.replicas.ensemble.nodes }
+        ensures asks { HasSameAsked self.old self.new }
+        ensures waiting { self.new.waiting ≡ self.old.waiting }
+        ensures paused { self.new.replicas.pauses ≡ self.old.replicas.pauses }
+        ensures counted { self.old.replicas.refused ≤ self.new.replicas.refused }
+    {
+        if let Some(proxy) = self.pool.free_at(at) {
+            if !self.ensemble.is_free(proxy) {
+                self.ensemble.again(alloc, proxy);
+            }
+        }
+    }
+
+    /// So does each proxy.
+    fn ask_for_gone(&mut self, alloc: Global)
+        ensures connections { self.new.connections ≡ self.old.connections }
+        ensures size { size_of self.new.replicas.ensemble.nodes ≡ size_of self.old.replicas.ensemble.nodes }
+        ensures asks { HasSameAsked self.old self.new }
+        ensures waiting { self.new.waiting ≡ self.old.waiting }
+        ensures paused { self.new.replicas.pauses ≡ self.old.replicas.pauses }
+        ensures counted { self.old.replicas.refused ≤ self.new.replicas.refused }
+    {
+        for at in 0..self.pool.count() {
+            self.ask_for_nobody(alloc, at);
+        }
+    }
+
+    /// What is due of the requests for which nobody waits: whether the leader is suspected. Replicas that were opened
+    /// again with their records answer nothing until a leader is.
+    fn tick_gone(&mut self, alloc: Global) -> bool
+        ensures connections { self.new.connections ≡ self.old.connections }
+        ensures size { size_of self.new.replicas.ensemble.nodes ≡ size_of self.old.replicas.ensemble.nodes }
+        ensures asks { HasSameAsked self.old self.new }
+        ensures waiting { self.new.waiting ≡ self.old.waiting }
+        ensures paused { self.new.replicas.pauses ≡ self.old.replicas.pauses }
+        ensures counted { self.old.replicas.refused ≤ self.new.replicas.refused }
+    {
+        if !self.has_asked_for_nobody() {
+            return false;
+        }
+        let seen = self.ensemble.seen();
+        let urge = self.nodes.gone.tick(self.u, seen);
+        if urge == Urge::Wait {
+            return false;
+        }
+        self.nodes.gone.ask_again(seen);
+        self.ask_for_gone(alloc);
+        urge == Urge::Suspect
+    }
+
     /// A tick, ten of which come in a second while something waits (`is_waiting`), also while requests come: a
     /// proxy that waits for long asks again, and then suspects the leader; a node that stopped is opened
     /// again. No new command is asked. `work` is to come after it.
@@ -169,7 +237,8 @@ impl Service {
         ensures paused { HavePaused self.old.replicas.pauses self.new.replicas.pauses }
         ensures counted { self.old.replicas.refused ≤ self.new.replicas.refused }
     {
-        if self.tick_proxies(alloc) {
+        let is_suspected = self.tick_proxies(alloc);
+        if self.tick_gone(alloc) || is_suspected {
             self.suspect(alloc);
         }
         self.tick_nodes(alloc);

@@ -57,16 +57,32 @@ fn has_room_for_one(said: &mut Vec<Said>, line: &mut VecDeque<Waiting>) -> bool
     said.reserve(1).is_ok() && line.reserve(1).is_ok()
 }
 
-/// The number of a proxy that waits for nothing, if there is one. That one has nothing outstanding. If it had, then
-/// nothing could be asked of it, and that would be counted.
+/// The number of the first proxy that waits for nothing and has nothing outstanding. One that had asked when the process
+/// before this one ended has something outstanding, and nobody waits for it.
+fn askable_proxy(pool: &Pool, ensemble: &Ensemble) -> Option<u16>
+    ensures pool { IfSome result (λ proxy. IsFreeIn pool.now proxy) }
+    ensures free { IfSome result (λ proxy. IsFree ensemble.now.nodes.proxies proxy) }
+{
+    for at in 0..pool.count() {
+        if let Some(proxy) = pool.free_at(at) {
+            if ensemble.is_free(proxy) {
+                return Some(proxy);
+            }
+        }
+    }
+    None
+}
+
+/// The number of a proxy that waits for nothing and has nothing outstanding, if there is one. If all that wait for nothing
+/// have something outstanding nothing can be asked, and that is counted.
 fn free_proxy(pool: &Pool, ensemble: &Ensemble, refused: &mut u64) -> Option<u16>
     ensures pool { IfSome result (λ proxy. IsFreeIn pool.now proxy) }
     ensures free { IfSome result (λ proxy. IsFree ensemble.now.nodes.proxies proxy) }
     ensures none { IfNone result (UnlessRefused refused.old refused.new (AllWait pool.now)) }
     ensures counted { refused.old ≤ refused.new }
 {
-    let proxy = pool.free()?;
-    if ensemble.is_free(proxy) {
+    let _ = pool.free()?;
+    if let Some(proxy) = askable_proxy(pool, ensemble) {
         return Some(proxy);
     }
     refuse(refused);
@@ -155,7 +171,7 @@ impl Service {
     ghost use Rattle.connections.specs.History.{moment_as};
     ghost use Rattle.ensemble.specs.Nodes.{size_of};
     ghost use Rattle.ensemble.specs.Ensemble.{answer_entry, order_entry};
-    ghost use Rattle.service.specs.Service.{Gives, AreLogged, RestsUnlessRefused, IsPassedNow, given_entry, passed_entry};
+    ghost use Rattle.service.specs.Service.{Gives, AreLogged, RestsUnlessRefused, IsPassedNow, IsSameProcess, given_entry, passed_entry};
     ghost use Rattle.service.specs.Told.{AreTold, LeaversAreTold, TellsMore, UnlessRefused, AsksAll, HasMoreAnswers, AsksWhatWaits};
 
     /// The first of the line asks its command, if a proxy is free: whether there were both.
@@ -166,6 +182,7 @@ impl Service {
         ensures goes_on { result ≡ true → length self.new.line < length self.old.line }
         ensures answered { self.new.answered ≡ self.old.answered }
         ensures heard { self.new.connections.heard ≡ self.old.connections.heard }
+        ensures process { IsSameProcess self.old self.new }
         ensures counted { self.old.replicas.refused ≤ self.new.replicas.refused }
         ensures size { size_of self.new.replicas.ensemble.nodes ≡ size_of self.old.replicas.ensemble.nodes }
     {
@@ -209,6 +226,7 @@ impl Service {
         ensures asks { UnlessRefused self.old.replicas.refused self.new.replicas.refused (AsksAll self.new) }
         ensures answered { self.new.answered ≡ self.old.answered }
         ensures heard { self.new.connections.heard ≡ self.old.connections.heard }
+        ensures process { IsSameProcess self.old self.new }
         ensures counted { self.old.replicas.refused ≤ self.new.replicas.refused }
         ensures size { size_of self.new.replicas.ensemble.nodes ≡ size_of self.old.replicas.ensemble.nodes }
     {
@@ -222,6 +240,7 @@ impl Service {
         ensures given { Gives self.old.connections said.old.items self.new.connections said.new.items }
         ensures tells { TellsMore self.old said.old.items self.new said.new.items }
         ensures heard { self.new.connections.heard ≡ self.old.connections.heard }
+        ensures process { IsSameProcess self.old self.new }
         ensures answered { self.new.answered ≡ self.old.answered }
         ensures order { self.new.order ≡ self.old.order }
         ensures counted { self.old.replicas.refused ≤ self.new.replicas.refused }
@@ -258,6 +277,7 @@ impl Service {
         ensures none { answers.items ≡ [] → (self.new.line ≡ self.old.line) × (self.new.waiting ≡ self.old.waiting) }
         ensures answered { self.new.answered ≡ self.old.answered }
         ensures heard { self.new.connections.heard ≡ self.old.connections.heard }
+        ensures process { IsSameProcess self.old self.new }
         ensures counted { self.old.replicas.refused ≤ self.new.replicas.refused }
         ensures ensemble { self.new.replicas.ensemble ≡ self.old.replicas.ensemble }
     {
@@ -277,6 +297,7 @@ impl Service {
         requires { IsPassedNow self.old.connections.passed moment }
         ensures logged { AreLogged result.items self.new.answered self.new.order }
         ensures answered { self.new.answered ≡ self.old.answered ++ map answer_entry result.items }
+        ensures process { IsSameProcess self.old self.new }
         ensures connections { self.new.connections ≡ self.old.connections }
         ensures same { (self.new.line ≡ self.old.line) × (self.new.waiting ≡ self.old.waiting) }
         ensures counted { self.old.replicas.refused ≤ self.new.replicas.refused }
@@ -310,6 +331,7 @@ impl Service {
         ensures stops { result ≡ false → UnlessRefused self.old.replicas.refused self.new.replicas.refused (AsksAll self.new) }
         ensures goes_on { HasMoreAnswers 0 self.old self.new × (result ≡ true → HasMoreAnswers 1 self.old self.new) }
         ensures heard { self.new.connections.heard ≡ self.old.connections.heard }
+        ensures process { IsSameProcess self.old self.new }
         ensures counted { self.old.replicas.refused ≤ self.new.replicas.refused }
         ensures size { size_of self.new.replicas.ensemble.nodes ≡ size_of self.old.replicas.ensemble.nodes }
         ensures rest { RestsUnlessRefused self.old.replicas self.new.replicas }
@@ -339,6 +361,7 @@ impl Service {
         ensures tells { TellsMore self.old said.old.items self.new said.new.items }
         ensures asks { UnlessRefused self.old.replicas.refused self.new.replicas.refused (AsksWhatWaits self.old self.new) }
         ensures heard { self.new.connections.heard ≡ self.old.connections.heard }
+        ensures process { IsSameProcess self.old self.new }
         ensures counted { self.old.replicas.refused ≤ self.new.replicas.refused }
         ensures size { size_of self.new.replicas.ensemble.nodes ≡ size_of self.old.replicas.ensemble.nodes }
         ensures rest { RestsUnlessRefused self.old.replicas self.new.replicas }
@@ -354,6 +377,7 @@ impl Service {
     fn note(&mut self, alloc: Global, moment: u32)
         ensures passed { self.new.connections.passed ≡ self.old.connections.passed ++ moment_as moment ∷ [] }
         ensures heard { self.new.connections.heard ≡ self.old.connections.heard }
+        ensures process { IsSameProcess self.old self.new }
         ensures given { self.new.connections.given ≡ self.old.connections.given }
         ensures table { self.new.connections.table ≡ self.old.connections.table }
         ensures answered { self.new.answered ≡ self.old.answered }
@@ -384,6 +408,7 @@ impl Service {
         ensures leavers { UnlessRefused self.old.replicas.refused self.new.replicas.refused (LeaversAreTold self.old.connections.table self.new.connections.table result.items) }
         ensures asks { UnlessRefused self.old.replicas.refused self.new.replicas.refused (AsksWhatWaits self.old self.new) }
         ensures heard { self.new.connections.heard ≡ self.old.connections.heard }
+        ensures process { IsSameProcess self.old self.new }
         ensures counted { self.old.replicas.refused ≤ self.new.replicas.refused }
         ensures size { size_of self.new.replicas.ensemble.nodes ≡ size_of self.old.replicas.ensemble.nodes }
         ensures rest { RestsUnlessRefused self.old.replicas self.new.replicas }

@@ -12,7 +12,7 @@ use Rattle.grammar.specs.declared.reader.Dialect.{Dialect}
 use Rattle.grammar.specs.declared.turn.Turn.{Turn}
 use Rattle.grammar.specs.Asks.{SpellsIn, commands_in, IsAskedIn}
 use Rattle.grammar.specs.Orders.{IsExecutedFrom}
-use Rattle.grammar.proofs.ReadLemmas.{some_spelled, one_spelled}
+use Rattle.grammar.proofs.ReadLemmas.{some_spelled, one_asked}
 use Rattle.grammar.proofs.AskLemmas.{shown_imply}
 use Rattle.item_steps.specs.Steps.{steps, reply}
 use Rattle.sessions.specs.Fresh.{next_number}
@@ -229,10 +229,10 @@ module _ (d : Dialect) (heard given : List (ℕ × List ℕ)) (moments_of : List
       its_command p one own =
           let w = its_next p one own in
           let own_asks : IsAskedIn d (bytes_of_connection c heard) w.0.a.turn one.runner.1.command = subst (λ (n : ℕ). IsAskedIn d (bytes_of_connection n heard) w.0.a.turn one.runner.1.command) w.1 w.0.asks in
-          let same = one_spelled d (bytes_of_connection c heard) own_asks.turns turns own_asks.spells spells in
+          let same = one_asked d (bytes_of_connection c heard) own_asks.turns turns own_asks.spells spells in
           let is = w.2 in
           let place : b ≡ w.0.a.turn - 1 = omega (arith, is) in
-          ap (slice_get (commands_in turns)) place ∙ subst (λ (ts : List Turn). slice_get (commands_in ts) (w.0.a.turn - 1) ≡ Some one.runner.1.command) same own_asks.is
+          ap (slice_get (commands_in turns)) place ∙ subst (λ (cs : List Command). slice_get cs (w.0.a.turn - 1) ≡ Some one.runner.1.command) same own_asks.is
 
       one_in_turn : (x : Answered) → Contains e.replies x → its_owner x.client x.number ≡ c → OneInTurn its_owner its_turn_of c (commands_in turns) s e first b
       one_in_turn x there own =

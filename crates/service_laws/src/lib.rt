@@ -13,5 +13,5 @@ mod replicas;
 
 pub use law::serves;
 pub use orders::service_is_linearizable;
-pub use processes::processes_are_linearizable;
+pub use processes::{processes_are_linearizable, service_goes_on};
 pub use replicas::replicas_agree_and_keep;

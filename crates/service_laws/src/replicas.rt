@@ -1,6 +1,7 @@
 //! The law of what replicas choose and keep.
 
 ghost use Rattle.service.specs.Service.{HasEnsemble};
+ghost use Rattle.service.specs.Process.{found_by, HoldsAfter};
 ghost use Rattle.service_laws.specs.Replicas.{InEach, WholeIsKept, LastStateIsKept};
 ghost use Rattle.worlds.specs.Laws.{OneIsChosen, ChosenIsBacked, ChosenStands};
 
@@ -21,14 +22,15 @@ use worlds::{
 /// If digests tell the states of the executors apart, and at most `u` of the service's executors are lost for good, the
 /// record of another one has the state that the one run ends with.
 ///
-/// It holds of each service at any moment, whatever happened. The call does nothing.
+/// It holds of each service at any moment, whatever happened. Of one that was reopened it holds with all that was asked and
+/// answered before. The call does nothing.
 pub fn replicas_agree_and_keep(service: &Service)
-    ensures world { HasEnsemble service.now }
-    ensures agree { InEach service.now OneIsChosen }
-    ensures backed { InEach service.now ChosenIsBacked }
-    ensures kept { InEach service.now ChosenStands }
-    ensures kept_whole { WholeIsKept service.now }
-    ensures executors_keep { LastStateIsKept service.now }
+    ensures world { HoldsAfter (found_by service.now) HasEnsemble service.now }
+    ensures agree { HoldsAfter (found_by service.now) (λ v. InEach v OneIsChosen) service.now }
+    ensures backed { HoldsAfter (found_by service.now) (λ v. InEach v ChosenIsBacked) service.now }
+    ensures kept { HoldsAfter (found_by service.now) (λ v. InEach v ChosenStands) service.now }
+    ensures kept_whole { HoldsAfter (found_by service.now) WholeIsKept service.now }
+    ensures executors_keep { HoldsAfter (found_by service.now) LastStateIsKept service.now }
 {
     service.shows();
     one_is_chosen_in_worlds();

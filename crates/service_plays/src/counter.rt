@@ -2,7 +2,7 @@
 //! is linearizable just if no number is given twice to those that add, each reply is at least what was given before its
 //! command was heard (more, if it adds), and none is above the count of the commands that were heard.
 
-use std::alloc::Global;
+use std::alloc::{AllocError, Global};
 
 /// A command on the counter that was heard whole.
 #[derive(Clone, Copy)]
@@ -31,6 +31,15 @@ impl Counter {
             most: 0,
             given: Vec::new(alloc),
         }
+    }
+
+    /// What was heard and given so far, once more.
+    pub fn copied(&self, alloc: Global) -> Result<Counter, AllocError> {
+        Ok(Counter {
+            added: self.added,
+            most: self.most,
+            given: Vec::from_slice(alloc, &self.given)?,
+        })
     }
 
     /// There is memory to note some more commands. It tries thrice, since a growth may be refused on purpose.

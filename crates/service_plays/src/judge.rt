@@ -5,6 +5,7 @@ use crate::counter::{Counted, Counter};
 use crate::model::Model;
 use crate::wanted::{Wanted, first_number};
 use std::alloc::{AllocError, Global};
+use std::mem;
 
 /// What a client may ask.
 #[derive(Clone, Copy)]
@@ -43,6 +44,8 @@ pub enum Pending {
 #[derive(Drop)]
 pub struct Judge {
     pub counter: Counter,
+    /// The counter when a record was made.
+    kept_counter: Counter,
     /// One server's items, of each client's connection.
     models: Vec<Model>,
     pub moment: u32,
@@ -83,6 +86,7 @@ impl Judge {
         let models = models(alloc, clients)?;
         Ok(Judge {
             counter: Counter::new(alloc),
+            kept_counter: Counter::new(alloc),
             models,
             moment: 1000,
             commands: 0,
@@ -98,6 +102,27 @@ impl Judge {
     /// The number of the client's last connection.
     pub fn number(&self, client: usize) -> u64 {
         self.models.get(client).map_or(0, |model| model.number)
+    }
+
+    /// A record is made: what was given up to now stays true if the process ends. `false`: there is no memory to note
+    /// that, and the record is not to be used.
+    pub fn keep(&mut self, alloc: Global) -> bool {
+        let Ok(counter) = self.counter.copied(alloc) else {
+            return false;
+        };
+        self.kept_counter = counter;
+        for model in self.models.iter_mut() {
+            model.keep();
+        }
+        true
+    }
+
+    /// The process ended, and another one goes on from the record. The record is not to be used again.
+    pub fn go_back(&mut self) {
+        mem::swap(&mut self.counter, &mut self.kept_counter);
+        for model in self.models.iter_mut() {
+            model.go_back();
+        }
     }
 
     /// Something is wrong.

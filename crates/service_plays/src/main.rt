@@ -3,16 +3,21 @@
 //! A `get` of a key of another connection has to show what the key has at some moment between question and answer. All
 //! connections add one to one counter, or read it.
 //!
-//! A line `U SEED CALLS` of standard input is a play. With a fourth word, `memcached`, connections are read in memcached's
+//! A line `U SEED CALLS` of standard input is a play. With one more word, `memcached`, connections are read in memcached's
 //! dialect, which asks the same of these lines. It is so many calls of a service with `2U + 1` executors, made at
 //! random from the seed. Connections come, ask in pieces of any length, are slow to write, and leave; ticks come, and
 //! the replicas work. Time passes when nothing is outstanding. In the end each connection that is here has to be
 //! answered. For each play it prints what came of it. The status is 1 if a reply is wrong, and 2 if a line cannot be
 //! played.
+//!
+//! With the word `ends` a record is made at times, and the process ends at others: all connections are gone, and another
+//! process goes on from the last record. Replies up to that record have to stay true. What was asked or given after it
+//! never was.
 #![tactic(auto)]
 
 mod command;
 mod counter;
+mod ending;
 mod judge;
 mod model;
 mod peer;
@@ -39,15 +44,20 @@ fn follow<R: Threads + Wait + Sync + Clock>(
         u,
         seed,
         calls,
+        has_ends,
     } = plan;
     let Some(shown) = play(threads, rt.alloc(), plan) else {
         println!(rt; "cannot play u {u}, seed {seed}")?;
         return Ok(2);
     };
-    println!(rt;
+    print!(rt;
         "u {u}, seed {seed}, {calls} calls: {} commands, {} replies, {} stops",
         shown.commands, shown.replies, shown.stops
     )?;
+    if has_ends {
+        print!(rt; ", {} ends", shown.ends)?;
+    }
+    println!(rt; "")?;
     if let Some(call) = shown.wrong {
         println!(rt; "u {u}, seed {seed}: wrong at call {call}")?;
         return Ok(1);

@@ -29,6 +29,9 @@ pub struct Slot {
     texts: Vec<Vec<u8>>,
     /// The first of them that a command may show that is asked now.
     pub floor: usize,
+    /// The floor when a record was made, and how many texts there were.
+    kept_floor: usize,
+    kept_texts: usize,
 }
 
 /// What a command answers.
@@ -63,7 +66,23 @@ impl Slot {
             known: None,
             texts: Vec::new(alloc),
             floor: 0,
+            kept_floor: 0,
+            kept_texts: 0,
         }
+    }
+
+    /// A record is made: what was answered up to now stays so if the process ends.
+    fn keep(&mut self) {
+        self.kept_floor = self.floor;
+        self.kept_texts = self.texts.len();
+    }
+
+    /// The process ended, and what came after the record never was. Which of the commands were carried out that had no
+    /// answer then is not known.
+    fn go_back(&mut self) {
+        self.item = None;
+        self.floor = self.kept_floor;
+        self.texts.truncate(self.kept_texts);
     }
 
     /// The next store puts these data, with the due time of an exptime.
@@ -352,6 +371,8 @@ impl Slot {
 pub struct Model {
     pub number: u64,
     slots: Vec<Slot>,
+    /// The number of the connection when a record was made.
+    kept_number: u64,
 }
 
 impl Model {
@@ -360,6 +381,27 @@ impl Model {
         Model {
             number: 0,
             slots: Vec::new(alloc),
+            kept_number: 0,
+        }
+    }
+
+    /// A record is made.
+    pub fn keep(&mut self) {
+        self.kept_number = self.number;
+        for slot in self.slots.iter_mut() {
+            slot.keep();
+        }
+    }
+
+    /// The process ended, and another one goes on from the record. Its keys still have what they had. If the connection
+    /// came after the record it never came.
+    pub fn go_back(&mut self) {
+        if self.number != self.kept_number {
+            self.number = 0;
+            self.slots.clear();
+        }
+        for slot in self.slots.iter_mut() {
+            slot.go_back();
         }
     }
 

@@ -197,6 +197,32 @@ impl Peer {
         Ok(())
     }
 
+    /// Puts a `get` of each key of the connections of so many clients, and one of the counter. It is to be heard at once.
+    ///
+    /// NoMemory: an allocation failed, and the connection is to be closed.
+    pub fn put_check(
+        &mut self,
+        alloc: Global,
+        judge: &mut Judge,
+        clients: usize,
+        piece: &mut Vec<u8>,
+    ) -> Result<(), AllocError> {
+        put_ask(alloc, judge, self.client, Ask::ReadCount, piece)?;
+        self.send(alloc, judge, Ask::ReadCount)?;
+        for at in 0..clients.saturating_mul(KEYS) {
+            let owner = at / KEYS;
+            if judge.number(owner) > 0 {
+                let ask = Ask::Other {
+                    owner,
+                    key: at % KEYS,
+                };
+                put_ask(alloc, judge, self.client, ask, piece)?;
+                self.send(alloc, judge, ask)?;
+            }
+        }
+        Ok(())
+    }
+
     /// It is given the reply of its first command: what is behind it.
     fn take_reply<'b>(&mut self, judge: &mut Judge, bytes: &'b [u8]) -> Option<&'b [u8]> {
         let pending = self.pending.pop_front()?;

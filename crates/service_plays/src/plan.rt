@@ -10,6 +10,8 @@ pub struct Plan {
     pub u: u8,
     pub seed: u32,
     pub calls: u64,
+    /// Whether the process ends at times, and another one goes on from the last record.
+    pub has_ends: bool,
 }
 
 /// The play that a line asks for. `None`: it asks for none.
@@ -18,15 +20,19 @@ pub fn plan_of(line: &str) -> Option<Plan> {
     let u = words.next()?.parse::<u8>().ok()?;
     let seed = words.next()?.parse::<u32>().ok()?;
     let calls = words.next()?.parse::<u64>().ok()?;
-    let dialect = match words.next() {
-        None => Dialect::Profile,
-        Some("memcached") => Dialect::Memcached,
-        Some(_) => return None,
-    };
-    Some(Plan {
-        dialect,
+    let mut plan = Plan {
+        dialect: Dialect::Profile,
         u,
         seed,
         calls,
-    })
+        has_ends: false,
+    };
+    for word in words {
+        match word {
+            "memcached" => plan.dialect = Dialect::Memcached,
+            "ends" => plan.has_ends = true,
+            _ => return None,
+        }
+    }
+    Some(plan)
 }

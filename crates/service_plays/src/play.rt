@@ -4,16 +4,19 @@ use crate::judge::Judge;
 use crate::peer::Peer;
 use crate::plan::Plan;
 use random::Words;
-use service::{Config, Said, Service};
+use service::{Config, Said, Service, ServiceRecord};
 use std::alloc::Global;
 use std::rt::Clock;
 use std::sync::Wait;
 use std::thread::Threads;
 
-/// How many connections there are at once, and how many proxies.
-const PEERS: usize = 8;
+/// How many clients there are, and how many proxies. One more client looks what the keys of all have after an end.
+pub const PEERS: usize = 8;
 
 const PROXIES: u16 = 5;
+
+/// A process ends after so many calls, in the mean. Within them it is opened, and answers again, in about every second.
+const CALLS_TO_END: u32 = 80;
 
 /// The most ticks until all is answered.
 const MOST_TICKS: usize = 20_000;
@@ -27,31 +30,38 @@ pub struct Shown {
     pub replies: u64,
     /// How often a replica stopped.
     pub stops: u64,
+    /// How often the process ended.
+    pub ends: u64,
     /// The call after which something was wrong.
     pub wrong: Option<u64>,
 }
 
 /// A service and its clients.
-struct Stage {
-    service: Service,
-    peers: Vec<Peer>,
-    judge: Judge,
-    words: Words,
+pub struct Stage {
+    pub service: Service,
+    pub peers: Vec<Peer>,
+    pub judge: Judge,
+    pub words: Words,
+    pub plan: Plan,
     /// The number of the last connection that came.
-    last: u64,
+    pub last: u64,
+    /// The last record, if the process may end.
+    pub record: Option<ServiceRecord>,
+    /// How often it ended.
+    pub ends: u64,
 }
 
 /// The clients, none of whom has a connection.
 fn peers(alloc: Global) -> Option<Vec<Peer>> {
-    let mut peers = Vec::with_capacity(alloc, PEERS).ok()?;
-    for client in 0..PEERS {
+    let mut peers = Vec::with_capacity(alloc, PEERS + 1).ok()?;
+    for client in 0..PEERS + 1 {
         peers.push(Peer::new(alloc, client)).ok()?;
     }
     Some(peers)
 }
 
 /// What a connection is given goes to its client.
-fn take(peers: &mut Vec<Peer>, judge: &mut Judge, said: &Said) {
+pub fn take(peers: &mut Vec<Peer>, judge: &mut Judge, said: &Said) {
     match peers.get_mut(said.key) {
         Some(peer) if peer.number == said.number => {
             peer.take(judge, said.bytes.as_slice());
@@ -144,17 +154,23 @@ impl Stage {
             peers,
             judge,
             words: Words::new(plan.seed),
+            plan,
             last: 0,
+            record: None,
+            ends: 0,
         })
     }
 
-    /// The replicas work, and the clients are given what is answered.
+    /// The replicas work, and the clients are given what is answered. At times a record is made then.
     fn work<R: Threads + Wait + Sync + Clock>(&mut self, threads: &R, alloc: Global) {
         for said in self
             .service
             .work(threads, threads, alloc, self.judge.moment)
         {
             take(&mut self.peers, &mut self.judge, &said);
+        }
+        if self.plan.has_ends && self.words.one_in(4) {
+            self.keep(alloc);
         }
     }
 
@@ -202,6 +218,7 @@ impl Stage {
             judge,
             words,
             last,
+            ..
         } = self;
         let is_asked_for = peers.iter().any(|peer| peer.asks_for(key));
         let Some(peer) = peers.get_mut(key) else {
@@ -225,8 +242,13 @@ impl Stage {
         }
     }
 
-    /// One call at random.
+    /// One call at random, or an end of the process.
     fn call<R: Threads + Wait + Sync + Clock>(&mut self, threads: &R, alloc: Global) {
+        if self.plan.has_ends && self.words.one_in(CALLS_TO_END) {
+            self.begin_anew(alloc);
+            self.check(alloc);
+            return;
+        }
         match self.words.below(16) {
             0 => self.service.tick(alloc),
             1 | 2 | 3 | 4 => self.work(threads, alloc),
@@ -242,9 +264,13 @@ impl Stage {
             peers,
             judge,
             words,
+            plan: _,
             last: _,
+            record,
+            ends: _,
         } = self;
         service.end();
+        drop(record);
         drop(peers);
         drop(judge);
         drop(words);
@@ -257,7 +283,7 @@ impl Stage {
 
     /// All that clients were given is written.
     fn write_all(&mut self) {
-        for key in 0..PEERS {
+        for key in 0..PEERS + 1 {
             if let Some(peer) = self.peers.get_mut(key) {
                 let count = peer.unwritten;
                 write(&mut self.service, peer, key, count);
@@ -287,6 +313,23 @@ impl Stage {
             let is_here = self.peers.get(key).is_some_and(|peer| peer.number > 0);
             self.judge.pass(alloc, key, is_here);
         }
+        // A record from before knows nothing of what is gone since then.
+        self.record = None;
+    }
+
+    /// The process ends once more, and all is answered. It ends again while a request is outstanding, and comes to rest in a
+    /// process that no connection asks anything.
+    fn end_twice<R: Threads + Wait + Sync + Clock>(&mut self, threads: &R, alloc: Global) {
+        self.keep(alloc);
+        self.begin_anew(alloc);
+        self.check(alloc);
+        self.settle(threads, alloc);
+        self.begin_anew(alloc);
+        self.check(alloc);
+        self.work(threads, alloc);
+        self.keep(alloc);
+        self.begin_anew(alloc);
+        self.settle(threads, alloc);
     }
 }
 
@@ -318,6 +361,9 @@ fn drive<R: Threads + Wait + Sync + Clock>(
     }
     if wrong.is_none() {
         stage.settle(threads, alloc);
+        if plan.has_ends {
+            stage.end_twice(threads, alloc);
+        }
         if !stage.judge.is_right {
             wrong = Some(plan.calls);
         }
@@ -326,6 +372,7 @@ fn drive<R: Threads + Wait + Sync + Clock>(
         commands: stage.judge.commands,
         replies: stage.judge.replies,
         stops: stops(alloc, &mut stage.service),
+        ends: stage.ends,
         wrong,
     }
 }

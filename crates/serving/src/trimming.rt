@@ -3,13 +3,13 @@
 ghost use Rattle.std.specs.Prelude.{◌≡◌, ◌↔◌, ◌≤◌, ◌+◌, IsSome, IfSome};
 ghost use Rattle.serving.specs.declared.trimming.TheConstants.{MOST_DECREES, LEFT_DECREES};
 
-/// A verifier's log is trimmed when it has so many decrees. They take some 700 KB in memory and in the
-/// record.
-pub const MOST_DECREES: u64 = 8192;
+/// A verifier's log is trimmed when it has so many decrees. They take some 6 KB in memory and in the record, which each
+/// save of a folder writes.
+pub const MOST_DECREES: u64 = 64;
 
-/// So many decrees stay. A node that missed fewer is sent each of them. Any other node is sent what stands,
-/// and an executor then fetches the state.
-pub const LEFT_DECREES: u64 = 4096;
+/// So many decrees stay. A node that missed fewer is sent each of them. Any other node is sent what stands, and an
+/// executor then fetches the state, whose pages it shares with the others of its process.
+pub const LEFT_DECREES: u64 = 32;
 
 /// The place up to which a verifier forgets decrees, that knows `known` of them and has forgotten those up to
 /// the place `start`: there is one if it has `MOST_DECREES` or more, and `LEFT_DECREES` stay behind it.

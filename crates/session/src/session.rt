@@ -1,17 +1,17 @@
 //! A session, and what comes of each call.
 
 ghost use Rattle.std.specs.Prelude.{◌≡◌, ◌+◌, ◌^◌, ◌⊎◌, Some, None, IfOk, IfErr, IfSome, IfNone, OnOk, Err, is_some};
-ghost use Rattle.dialect.specs.Text.{shown_text};
 ghost use Rattle.grammar.specs.Turns.{is_left_out};
+ghost use Rattle.grammar.specs.Reads.{dialect_of, with_mark};
 ghost use Rattle.session.specs.Session.{SessionStep, IsFedSession, session_answered, session_goes as taken, session_goes_on as went_on, new_session, IsTakenOfSession};
 
 use crate::turns::Turns;
-use grammar::{Dialect, Reader, Show, Turn, leaves_out, write_shown};
+use grammar::{Conditions, Dialect, Reader, Show, Turn, leaves_out, write_shown};
 use proto::{Command, Fault, Reply};
 use std::alloc::Global;
 
 /// The command that waits for its reply.
-#[derive(Clone, Copy)]
+#[derive(Drop)]
 pub struct Awaited {
     /// The how manyth command of the session it is, from 1.
     pub number: u64,
@@ -117,34 +117,37 @@ impl Session {
         self.go(bytes)
     }
 
-    /// Reads a piece of the client's bytes: the bytes that the client is given at once. If a command is outstanding
-    /// what comes behind it waits, so nothing is given.
+    /// Reads a piece of the client's bytes, under these conditions: the bytes that the client is given at once. If a
+    /// command is outstanding what comes behind it waits, so nothing is given.
     ///
     /// NoMemory: an allocation failed; Stopped: no number is left for a command. After an error a part may have been
     /// read: the session is to be let go.
-    pub fn feed(&mut self, alloc: Global, piece: &[u8]) -> Result<Vec<u8>, Fault>
-        ensures ok { IfOk result (λ bytes. IsFedSession self.old piece.now (record { session = self.new; bytes = bytes.items })) }
-        ensures stopped { result ≡ Err Fault.Stopped → (g : SessionStep) × IsFedSession self.old piece.now g × (g.session.last ≡ 2 ^ 64) }
+    pub fn feed(
+        &mut self,
+        alloc: Global,
+        piece: &[u8],
+        conditions: &mut Conditions,
+    ) -> Result<Vec<u8>, Fault>
+        ensures ok { IfOk result (λ bytes. IsFedSession self.old (with_mark (dialect_of self.old.reader) conditions.old.is_full piece.now) (record { session = self.new; bytes = bytes.items })) }
+        ensures stopped { result ≡ Err Fault.Stopped → (g : SessionStep) × IsFedSession self.old (with_mark (dialect_of self.old.reader) conditions.old.is_full piece.now) g × (g.session.last ≡ 2 ^ 64) }
         ensures only { IfErr result (λ fault. (fault ≡ Fault.NoMemory) ⊎ (fault ≡ Fault.Stopped)) }
     {
         let mut bytes = Vec::new(alloc);
         if self.closed {
             return Ok(bytes);
         }
-        let turns = self.reader.feed(alloc, piece)?;
+        let turns = self.reader.feed(alloc, piece, conditions)?;
         self.waiting.add(turns)?;
         self.go_on(&mut bytes)?;
         Ok(bytes)
     }
 
-    /// The outstanding command is answered by this reply.
-    fn give(&mut self, alloc: Global, reply: &Reply, show: Show) -> Result<Vec<u8>, Fault>
-        ensures ok { IfOk result (λ bytes. record { session = self.new; bytes = bytes.items } ≡ went_on (record self.old { outstanding = None }) (shown_text reply.now show)) }
-        ensures stopped { result ≡ Err Fault.Stopped → (went_on (record self.old { outstanding = None }) (shown_text reply.now show)).session.last ≡ 2 ^ 64 }
+    /// The outstanding command is answered by these bytes.
+    fn give(&mut self, mut bytes: Vec<u8>) -> Result<Vec<u8>, Fault>
+        ensures ok { IfOk result (λ given. record { session = self.new; bytes = given.items } ≡ went_on (record self.old { outstanding = None }) bytes.items) }
+        ensures stopped { result ≡ Err Fault.Stopped → (went_on (record self.old { outstanding = None }) bytes.items).session.last ≡ 2 ^ 64 }
         ensures only { IfErr result (λ fault. (fault ≡ Fault.NoMemory) ⊎ (fault ≡ Fault.Stopped)) }
     {
-        let mut bytes = Vec::new(alloc);
-        write_shown(reply, show, &mut bytes)?;
         self.outstanding = None;
         self.go_on(&mut bytes)?;
         Ok(bytes)
@@ -162,11 +165,14 @@ impl Session {
         if self.command.is_some() {
             return Ok(Vec::new(alloc));
         }
-        let show = match &self.outstanding {
-            Some(asked) if asked.number == number => asked.show,
-            _ => return Ok(Vec::new(alloc)),
-        };
-        self.give(alloc, reply, show)
+        let mut bytes = Vec::new(alloc);
+        match &self.outstanding {
+            Some(asked) if asked.number == number => {
+                write_shown(reply, &asked.show, &mut bytes)?;
+            }
+            _ => return Ok(bytes),
+        }
+        self.give(bytes)
     }
 
     /// Takes the outstanding command, once. `None`, and nothing changes: it was taken, or none is outstanding.
@@ -174,12 +180,12 @@ impl Session {
         ensures none { IfNone result ((self.new ≡ self.old) × ((self.old.command ≡ None) ⊎ (self.old.outstanding ≡ None))) }
         ensures some { IfSome result (λ ready. IsTakenOfSession self.old ready self.new) }
     {
-        let asked = self.outstanding?;
+        let asked = self.outstanding.as_ref()?;
         let command = self.command.take()?;
         Some(Ready {
             turn: asked.number,
             command,
-            quiet: leaves_out(asked.show),
+            quiet: leaves_out(&asked.show),
         })
     }
 

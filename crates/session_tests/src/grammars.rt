@@ -1,5 +1,6 @@
 //! Lines that the profile and memcached's dialect read differently.
 
+use crate::told::plain;
 use grammar::Dialect;
 use proto::{Fault, Reply, Values};
 use session::Session;
@@ -30,7 +31,8 @@ fn talk(
     reply: &Reply,
 ) -> Result<(Vec<u8>, u64), Fault> {
     let mut session = Session::new(alloc, dialect);
-    let mut given = session.feed(alloc, bytes)?;
+    let mut conditions = plain();
+    let mut given = session.feed(alloc, bytes, &mut conditions)?;
     let mut asked = 0;
     for _ in 0..MOST_COMMANDS {
         let Some(ready) = session.take() else {
@@ -82,6 +84,9 @@ fn are_given(
 /// What a client of the profile is given for each line that it refuses.
 const BAD: &[u8] = b"CLIENT_ERROR bad command line format\r\n";
 
+/// What a client of the profile is given for three names that it does not know.
+const THREE_UNKNOWN: &[u8] = b"ERROR\r\nERROR\r\nERROR\r\n";
+
 #[test]
 fn a_delete_with_a_time_is_one_of_the_dialect(rt: HostRuntime) -> Result<(), Fail> {
     let line = b"delete k 0\r\n".as_slice();
@@ -104,6 +109,15 @@ fn the_value_of_a_line_with_a_late_exptime_is_no_command(rt: HostRuntime) -> Res
     let two = b"CLIENT_ERROR bad command line format\r\nVERSION eve-1\r\n".as_slice();
     let memcached = (b"STORED\r\n".as_slice(), 1);
     assert!(rt; are_given(rt.alloc(), lines, &Reply::Stored, memcached, (two, 0)));
+    Ok(())
+}
+
+#[test]
+fn a_quiet_meta_miss_gives_nothing(rt: HostRuntime) -> Result<(), Fail> {
+    let none = nothing(rt.alloc());
+    let lines = b"mg a v q k\r\nmg b k Ox\r\nmn\r\n".as_slice();
+    let memcached = (b"EN kb Ox\r\nMN\r\n".as_slice(), 2);
+    assert!(rt; are_given(rt.alloc(), lines, &none, memcached, (THREE_UNKNOWN, 0)));
     Ok(())
 }
 

@@ -3,3 +3,9 @@
 
 #[cfg(test)]
 mod grammars;
+#[cfg(test)]
+mod limits;
+#[cfg(test)]
+mod stats;
+#[cfg(test)]
+mod told;

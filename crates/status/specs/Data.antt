@@ -1,13 +1,15 @@
 -- The figures as JSON.
 use Rattle.std.specs.Prelude.{ℕ, List, codes, map}
-use Rattle.serde_json.specs.Data.{Data, number, unsigned, boolean, array, object, member, no_members}
+use Rattle.serde_json.specs.Data.{Data, number, unsigned, boolean, array, object, member, no_members, string}
 use Rattle.serde_json.specs.View.{items_of}
 use Rattle.figures.specs.declared.figures.Figures.{Figures}
 use Rattle.figures.specs.declared.figures.Connections.{Connections}
 use Rattle.figures.specs.declared.figures.Keys.{Keys}
 use Rattle.figures.specs.declared.figures.Batches.{Batches}
 use Rattle.figures.specs.declared.figures.BatchParts.{BatchParts}
+use Rattle.figures.specs.declared.figures.Limits.{Limits}
 use Rattle.figures.specs.declared.figures.Memory.{Memory}
+use Rattle.figures.specs.declared.figures.TheConstants.{VERSION}
 use Rattle.figures.specs.declared.figures.Replicas.{Replicas}
 use Rattle.figures.specs.declared.commands.Commands.{Commands}
 use Rattle.figures.specs.declared.histogram.Histogram.{Histogram}
@@ -15,7 +17,11 @@ use Rattle.figures.specs.declared.node.NodeFigures.{NodeFigures}
 use Rattle.figures.specs.declared.kind.Kind.{Kind}
 use Rattle.figures.specs.declared.kind.TheConstants.{ALL_KINDS}
 use Rattle.figures.specs.declared.outcome.TheConstants.{ALL_OUTCOMES}
+use Rattle.figures.specs.declared.refusal.Refusals.{Refusals}
+use Rattle.figures.specs.declared.refusal.TheConstants.{ALL_REFUSALS}
 use Rattle.figures.specs.Commands.{kind_count}
+use Rattle.figures.specs.Refusal.{refusal_count}
+use Rattle.status.specs.declared.history.Sample.{Sample}
 
 -- a count
 abbrev pub whole : ℕ → Data
@@ -30,8 +36,19 @@ connections_data x = object (member (codes "accepted") (whole x.accepted)
     (member (codes "bytes_read") (whole x.bytes_read)
     (member (codes "bytes_written") (whole x.bytes_written)
     (member (codes "failed") (whole x.failed)
+    (member (codes "idle") (whole x.idle)
     (member (codes "open") (whole x.open)
-    (member (codes "refused") (whole x.refused) no_members))))))
+    (member (codes "refused") (whole x.refused) no_members)))))))
+
+unfoldable pub limits_data : Limits → Data
+limits_data x = object (member (codes "connections") (whole x.connections)
+    (member (codes "idle_seconds") (whole x.idle_seconds)
+    (member (codes "item_bytes") (whole x.item_bytes) no_members)))
+
+-- the version and the limits
+unfoldable pub server_data : Limits → Data
+server_data limits = object (member (codes "limits") (limits_data limits)
+    (member (codes "version") (string VERSION.now) no_members))
 
 unfoldable pub keys_data : Keys → Data
 keys_data x = object (member (codes "asked") (whole x.asked)
@@ -48,6 +65,10 @@ memory_data x = object (member (codes "item_bytes") (whole x.item_bytes)
     (member (codes "items") (whole x.items)
     (member (codes "refusals") (whole x.refusals)
     (member (codes "resident_bytes") (whole x.resident_bytes) no_members))))
+
+-- how many lines were refused, in the order of ALL_REFUSALS
+unfoldable pub refusals_data : Refusals → Data
+refusals_data refusals = wholes_data (map (refusal_count refusals) ALL_REFUSALS)
 
 -- how often a command of the kind had each outcome
 unfoldable pub outcomes_data : Commands → Kind → Data
@@ -86,15 +107,31 @@ batch_parts_data p = object (member (codes "agree") (histogram_data p.agree)
     (member (codes "execute") (histogram_data p.execute)
     (member (codes "wait") (histogram_data p.wait) no_members))))
 
+unfoldable pub times_data : Figures → Data
+times_data f = object (member (codes "batch") (histogram_data f.batch_times)
+    (member (codes "parts") (batch_parts_data f.batch_parts)
+    (member (codes "reply") (histogram_data f.reply_times) no_members)))
+
 -- all figures
 unfoldable pub figures_data : Figures → Data
-figures_data f = object (member (codes "batch_parts") (batch_parts_data f.batch_parts)
-    (member (codes "batch_times") (histogram_data f.batch_times)
-    (member (codes "batches") (batches_data f.batches)
+figures_data f = object (member (codes "batches") (batches_data f.batches)
     (member (codes "commands") (all_commands_data f.commands)
     (member (codes "connections") (connections_data f.connections)
     (member (codes "keys") (keys_data f.keys)
     (member (codes "memory") (memory_data f.memory)
+    (member (codes "refusals") (refusals_data f.refusals)
     (member (codes "replicas") (replicas_data f.replicas)
-    (member (codes "reply_times") (histogram_data f.reply_times)
+    (member (codes "server") (server_data f.limits)
+    (member (codes "times") (times_data f)
     (member (codes "uptime_seconds") (whole f.uptime_seconds) no_members))))))))))
+
+-- what the page draws of one moment
+unfoldable pub sample_data : Sample → Data
+sample_data s = object (member (codes "keys") (keys_data s.keys)
+    (member (codes "replies") (wholes_data s.replies)
+    (member (codes "requests") (whole s.requests)
+    (member (codes "uptime_seconds") (whole s.uptime_seconds) no_members))))
+
+-- the samples, the oldest first
+abbrev pub history_data : List Sample → Data
+history_data samples = array (items_of (map sample_data samples))

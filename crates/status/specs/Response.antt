@@ -2,11 +2,12 @@
 use Rattle.std.specs.Prelude.{ℕ, List, [], ◌++◌, length, codes, decimal, if◌then◌else◌}
 use Rattle.status.specs.declared.wanted.Asked.{Asked}
 use Rattle.status.specs.declared.wanted.Wanted.{Wanted}
-use Rattle.status.specs.declared.wanted.Wanted.TheVariants.{Page, Data, Metrics, Health, TooFew, NotFound, BadMethod, BadRequest, TooLong}
+use Rattle.status.specs.declared.wanted.Wanted.TheVariants.{Page, Data, History, Metrics, Health, TooFew, NotFound, BadMethod, BadRequest, TooLong}
 
 unfoldable pub status_text : Wanted → List ℕ
 status_text Page = codes "HTTP/1.1 200 OK"
 status_text Data = codes "HTTP/1.1 200 OK"
+status_text History = codes "HTTP/1.1 200 OK"
 status_text Metrics = codes "HTTP/1.1 200 OK"
 status_text Health = codes "HTTP/1.1 200 OK"
 status_text TooFew = codes "HTTP/1.1 503 Service Unavailable"
@@ -18,6 +19,7 @@ status_text TooLong = codes "HTTP/1.1 431 Request Header Fields Too Large"
 unfoldable pub type_text : Wanted → List ℕ
 type_text Page = codes "text/html; charset=utf-8"
 type_text Data = codes "application/json"
+type_text History = codes "application/json"
 type_text Metrics = codes "text/plain; version=0.0.4; charset=utf-8"
 type_text _ = codes "text/plain; charset=utf-8"
 
@@ -29,7 +31,7 @@ extra_text _ = []
 abbrev pub note_text : Wanted → List ℕ
 note_text Health = codes "ok\n"
 note_text TooFew = codes "Too few replicas are up.\n"
-note_text NotFound = codes "There are /, /metrics, /data.json and /healthz.\n"
+note_text NotFound = codes "There are /, /metrics, /data.json, /history.json and /healthz.\n"
 note_text BadMethod = codes "Only GET and HEAD are answered.\n"
 note_text BadRequest = codes "This is no request of HTTP/1.\n"
 note_text TooLong = codes "The head of the request is too long.\n"

@@ -4,7 +4,7 @@ use Rattle.httparse.specs.Grammar.{RequestHead, ReadsRequest, NeverHasRequest, p
 use Rattle.httparse.specs.Spans.{RequestExceeds}
 use Rattle.status.specs.declared.wanted.Asked.{Asked}
 use Rattle.status.specs.declared.wanted.Wanted.{Wanted}
-use Rattle.status.specs.declared.wanted.Wanted.TheVariants.{Page, Data, Metrics, Health, NotFound, BadMethod, BadRequest, TooLong}
+use Rattle.status.specs.declared.wanted.Wanted.TheVariants.{Page, Data, History, Metrics, Health, NotFound, BadMethod, BadRequest, TooLong}
 use Rattle.status.specs.declared.wanted.TheConstants.{MOST_HEAD_BYTES, MOST_FIELDS}
 
 abbrev pub front_of : Option ℕ → List ℕ → List ℕ
@@ -19,6 +19,7 @@ abbrev pub of_path : List ℕ → Wanted
 of_path path =
     if bytes_eq path (codes "/metrics") then Metrics
     else if bytes_eq path (codes "/data.json") then Data
+    else if bytes_eq path (codes "/history.json") then History
     else if bytes_eq path (codes "/healthz") then Health
     else if bytes_eq path (codes "/") then Page
     else NotFound

@@ -7,11 +7,12 @@ ghost use Rattle.status.specs.Response.{asked_text};
 ghost use Rattle.std.specs.List.{count_by};
 ghost use Rattle.status.specs.declared.wanted.TheConstants.{MOST_HEAD_BYTES};
 
-use crate::data::data_of;
+use crate::data::{data_of, history_of};
+use crate::history::Seen;
 use crate::page::page_bytes;
 use crate::response::response_of;
 use crate::wanted::{Asked, Wanted, wanted_by};
-use figures::{Figures, NodeFigures, Replicas};
+use figures::{NodeFigures, Replicas};
 use metrics::metrics_of;
 use std::alloc::{AllocError, Global};
 
@@ -31,11 +32,11 @@ fn is_served(replicas: &Replicas) -> bool
 }
 
 /// What is shown of what is asked for: if too few replicas are up there is no health.
-fn resolved(asked: Asked, figures: &Figures) -> Asked
-    ensures { result ≡ resolved figures.now asked }
+fn resolved(asked: Asked, replicas: &Replicas) -> Asked
+    ensures { result ≡ resolved replicas.now asked }
 {
     match asked.wanted {
-        Wanted::Health if !is_served(&figures.replicas) => Asked {
+        Wanted::Health if !is_served(replicas) => Asked {
             wanted: Wanted::TooFew,
             is_head: asked.is_head,
         },
@@ -43,14 +44,19 @@ fn resolved(asked: Asked, figures: &Figures) -> Asked
     }
 }
 
-/// The response with what is wanted of these figures.
-fn shown(alloc: Global, asked: Asked, figures: &Figures) -> Result<Vec<u8>, AllocError>
-    ensures { IfOk result (λ response. response.items ≡ asked_text asked (body_text figures.now asked.wanted)) }
+/// The response with what is wanted of what is shown.
+fn shown(alloc: Global, asked: Asked, seen: &Seen) -> Result<Vec<u8>, AllocError>
+    ensures { IfOk result (λ response. response.items ≡ asked_text asked (body_text seen.now asked.wanted)) }
 {
     match asked.wanted {
         Wanted::Page => response_of(alloc, asked, page_bytes()),
-        Wanted::Data => response_of(alloc, asked, data_of(alloc, figures)?.as_bytes()),
-        Wanted::Metrics => response_of(alloc, asked, metrics_of(alloc, figures)?.as_slice()),
+        Wanted::Data => response_of(alloc, asked, data_of(alloc, &seen.figures)?.as_bytes()),
+        Wanted::History => response_of(
+            alloc,
+            asked,
+            history_of(alloc, seen.history.samples())?.as_bytes(),
+        ),
+        Wanted::Metrics => response_of(alloc, asked, metrics_of(alloc, &seen.figures)?.as_slice()),
         Wanted::Health
         | Wanted::TooFew
         | Wanted::NotFound
@@ -60,22 +66,19 @@ fn shown(alloc: Global, asked: Asked, figures: &Figures) -> Result<Vec<u8>, Allo
     }
 }
 
-/// The response to the bytes that came so far of a request, with these figures: `GET /` is the page, `/metrics`
-/// and `/data.json` show the figures, and `/healthz` says whether more than half of the replicas of each kind are up.
+/// The response to the bytes that came so far of a request: `GET /` is the page, `/metrics` and `/data.json` show
+/// the figures, `/history.json` the samples of the last ten minutes, and `/healthz` says whether more than half of
+/// the replicas of each kind are up.
 /// HEAD is answered by the head of what GET is answered. None: more bytes are needed; fewer than 8,192 have come.
 ///
 /// It fails if an allocation fails.
-pub fn answer(
-    alloc: Global,
-    request: &[u8],
-    figures: &Figures,
-) -> Result<Option<Vec<u8>>, AllocError>
+pub fn answer(alloc: Global, request: &[u8], seen: &Seen) -> Result<Option<Vec<u8>>, AllocError>
     ensures short { IfOk result (λ answer. IfNone answer (length request.now < MOST_HEAD_BYTES)) }
     ensures unfinished { IfOk result (λ answer. IfNone answer (MayBecomeRequest request.now)) }
-    ensures response { IfOk result (λ answer. IfSome answer (λ response. IsAnswer request.now figures.now response.items)) }
+    ensures response { IfOk result (λ answer. IfSome answer (λ response. IsAnswer request.now seen.now response.items)) }
 {
     match wanted_by(request) {
         None => Ok(None),
-        Some(asked) => Ok(Some(shown(alloc, resolved(asked, figures), figures)?)),
+        Some(asked) => Ok(Some(shown(alloc, resolved(asked, &seen.figures.replicas), seen)?)),
     }
 }

@@ -5,9 +5,10 @@ ghost use Rattle.serde_json.specs.Written.{compact_text};
 ghost use Rattle.serde_json.specs.View.{view};
 ghost use Rattle.status.specs.Data as spec;
 
+use crate::history::Sample;
 use figures::{
-    ALL_KINDS, BatchParts, Batches, Commands, Connections, Figures, Histogram, Keys, Kind, Memory,
-    NodeFigures, Outcome, Replicas,
+    ALL_KINDS, BatchParts, Batches, Commands, Connections, Figures, Histogram, Keys, Kind, Limits,
+    Memory, NodeFigures, Outcome, Refusal, Refusals, Replicas, VERSION,
 };
 use serde_json::{Value, json};
 use std::alloc::{AllocError, Global};
@@ -16,7 +17,22 @@ use std::alloc::{AllocError, Global};
 fn connections_json(alloc: Global, connections: &Connections) -> Result<Value, AllocError>
     ensures { IfOk result (λ v. view v ≡ spec.connections_data connections.now) }
 {
-    json!(in alloc; {"open": connections.open, "accepted": connections.accepted, "refused": connections.refused, "failed": connections.failed, "bytes_read": connections.bytes_read, "bytes_written": connections.bytes_written})
+    json!(in alloc; {"open": connections.open, "accepted": connections.accepted, "refused": connections.refused, "idle": connections.idle, "failed": connections.failed, "bytes_read": connections.bytes_read, "bytes_written": connections.bytes_written})
+}
+
+#[tactic(auto, unfolding(crate::specs::Data::limits_data))]
+fn limits_json(alloc: Global, limits: &Limits) -> Result<Value, AllocError>
+    ensures { IfOk result (λ v. view v ≡ spec.limits_data limits.now) }
+{
+    json!(in alloc; {"connections": limits.connections, "idle_seconds": limits.idle_seconds, "item_bytes": limits.item_bytes})
+}
+
+/// The version and the limits.
+#[tactic(auto, unfolding(crate::specs::Data::server_data))]
+fn server_json(alloc: Global, limits: &Limits) -> Result<Value, AllocError>
+    ensures { IfOk result (λ v. view v ≡ spec.server_data limits.now) }
+{
+    json!(in alloc; {"version": VERSION, "limits": limits_json(alloc, limits)?})
 }
 
 #[tactic(auto, unfolding(crate::specs::Data::keys_data))]
@@ -38,6 +54,14 @@ fn memory_json(alloc: Global, memory: &Memory) -> Result<Value, AllocError>
     ensures { IfOk result (λ v. view v ≡ spec.memory_data memory.now) }
 {
     json!(in alloc; {"items": memory.items, "item_bytes": memory.item_bytes, "resident_bytes": memory.resident_bytes, "refusals": memory.refusals})
+}
+
+/// How many lines were refused, by why.
+#[tactic(auto, unfolding(crate::specs::Data::refusals_data))]
+fn refusals_json(alloc: Global, refusals: &Refusals) -> Result<Value, AllocError>
+    ensures { IfOk result (λ v. view v ≡ spec.refusals_data refusals.now) }
+{
+    json!(in alloc; [refusals.of(Refusal::Unknown), refusals.of(Refusal::Format), refusals.of(Refusal::Number), refusals.of(Refusal::Chunk), refusals.of(Refusal::Long), refusals.of(Refusal::Large), refusals.of(Refusal::Binary), refusals.of(Refusal::Http), refusals.of(Refusal::Forbidden), refusals.of(Refusal::Full)])
 }
 
 /// How often a command of the kind had each outcome.
@@ -122,22 +146,34 @@ fn batch_parts_json(alloc: Global, parts: &BatchParts) -> Result<Value, AllocErr
     })
 }
 
+/// All times.
+#[tactic(auto, unfolding(crate::specs::Data::times_data))]
+fn times_json(alloc: Global, figures: &Figures) -> Result<Value, AllocError>
+    ensures { IfOk result (λ v. view v ≡ spec.times_data figures.now) }
+{
+    json!(in alloc; {
+        "reply": histogram_json(alloc, &figures.reply_times)?,
+        "batch": histogram_json(alloc, &figures.batch_times)?,
+        "parts": batch_parts_json(alloc, &figures.batch_parts)?
+    })
+}
+
 /// All figures.
 #[tactic(auto, unfolding(crate::specs::Data::figures_data))]
 fn figures_json(alloc: Global, figures: &Figures) -> Result<Value, AllocError>
     ensures { IfOk result (λ v. view v ≡ spec.figures_data figures.now) }
 {
     json!(in alloc; {
+        "server": server_json(alloc, &figures.limits)?,
         "uptime_seconds": figures.uptime_seconds,
         "connections": connections_json(alloc, &figures.connections)?,
         "commands": all_commands_json(alloc, &figures.commands)?,
+        "refusals": refusals_json(alloc, &figures.refusals)?,
         "keys": keys_json(alloc, &figures.keys)?,
         "batches": batches_json(alloc, &figures.batches)?,
         "replicas": replicas_json(alloc, &figures.replicas)?,
         "memory": memory_json(alloc, &figures.memory)?,
-        "reply_times": histogram_json(alloc, &figures.reply_times)?,
-        "batch_times": histogram_json(alloc, &figures.batch_times)?,
-        "batch_parts": batch_parts_json(alloc, &figures.batch_parts)?
+        "times": times_json(alloc, figures)?
     })
 }
 
@@ -148,4 +184,30 @@ pub fn data_of(alloc: Global, figures: &Figures) -> Result<String, AllocError>
     ensures { IfOk result (λ text. string_bytes text ≡ compact_text (spec.figures_data figures.now)) }
 {
     figures_json(alloc, figures)?.to_string(alloc)
+}
+
+#[tactic(auto, unfolding(crate::specs::Data::sample_data))]
+fn sample_json(alloc: Global, sample: &Sample) -> Result<Value, AllocError>
+    ensures { IfOk result (λ v. view v ≡ spec.sample_data sample.now) }
+{
+    json!(in alloc; {"uptime_seconds": sample.uptime_seconds, "requests": sample.requests, "keys": keys_json(alloc, &sample.keys)?, "replies": wholes_json(alloc, sample.replies.as_slice())?})
+}
+
+fn samples_json(alloc: Global, samples: &[Sample]) -> Result<Value, AllocError>
+    ensures { IfOk result (λ v. view v ≡ spec.history_data samples.now) }
+{
+    let mut values = Vec::new(alloc);
+    for sample in samples {
+        values.push(sample_json(alloc, sample)?)?;
+    }
+    Ok(Value::Array(values))
+}
+
+/// The text of these samples as JSON: some 150 bytes each.
+///
+/// It fails if an allocation fails.
+pub fn history_of(alloc: Global, samples: &[Sample]) -> Result<String, AllocError>
+    ensures { IfOk result (λ text. string_bytes text ≡ compact_text (spec.history_data samples.now)) }
+{
+    samples_json(alloc, samples)?.to_string(alloc)
 }

@@ -2,7 +2,8 @@
 
 ghost use Rattle.std.specs.Prelude.{◌≡◌};
 
-/// All of the page, its style and its script. It asks for `/data.json` each second, and for nothing else.
+/// All of the page, its style and its script. It asks for `/history.json` once and for `/data.json` each second, and for
+/// nothing else.
 pub const PAGE: &str = r##"<!doctype html>
 <html lang="en">
 <head>
@@ -21,10 +22,12 @@ h2 { font-size: 15px; margin: 0 0 10px; }
 .good { color: var(--good); }
 .bad { color: var(--bad); }
 .soft { color: var(--soft); }
-.grid { display: grid; gap: 12px; grid-template-columns: repeat(auto-fit, minmax(145px, 1fr)); margin-bottom: 12px; }
+.grid { display: grid; gap: 12px; grid-template-columns: repeat(4, minmax(0, 1fr)); margin-bottom: 12px; }
 .wide { display: grid; gap: 12px; grid-template-columns: repeat(auto-fit, minmax(min(380px, 100%), 1fr)); align-items: start; margin-bottom: 12px; }
 .card { background: var(--card); border: 1px solid var(--line); border-radius: 8px; padding: 12px 14px; min-width: 0; }
-.value { font-size: 25px; font-weight: 600; font-variant-numeric: tabular-nums; }
+.value { font-size: 24px; font-weight: 600; font-variant-numeric: tabular-nums; white-space: nowrap; }
+.note { font-size: 12px; color: var(--soft); }
+@media (max-width: 700px) { .grid { grid-template-columns: repeat(2, minmax(0, 1fr)); } .value { font-size: 21px; } }
 .nodes { display: grid; gap: 8px; grid-template-columns: repeat(auto-fill, minmax(128px, 1fr)); margin: 0; padding: 0; list-style: none; }
 .nodes li { border: 1px solid var(--line); border-left: 5px solid var(--good); border-radius: 6px; padding: 6px 9px; }
 .nodes li.down { border-left-color: var(--bad); }
@@ -40,31 +43,35 @@ rect { fill: var(--bar); }
 </style>
 </head>
 <body>
-<header><h1>eve_cached</h1><span id="state">waiting for figures</span><span id="uptime" class="soft"></span></header>
+<header><h1>eve_cached <span id="version"></span></h1><span id="state">waiting for figures</span><span id="uptime" class="soft"></span></header>
 <div class="grid" id="tiles"></div>
 <div class="wide">
 <section class="card"><h2>Executors</h2><ul class="nodes" id="executors"></ul></section>
 <section class="card"><h2>Verifiers</h2><ul class="nodes" id="verifiers"></ul></section>
 </div>
 <div class="wide">
-<section class="card"><h2>Commands a second</h2><svg id="rate" viewBox="0 0 120 100" preserveAspectRatio="none" role="img" aria-label="Commands a second over the last two minutes"></svg><div class="axis"><span>2 minutes ago</span><span>now</span></div><div id="peak" class="soft"></div></section>
+<section class="card"><h2>Commands a second</h2><svg id="rate" viewBox="0 0 120 100" preserveAspectRatio="none" role="img" aria-label="Commands a second over the last ten minutes"></svg><div class="axis"><span>10 minutes ago</span><span>now</span></div><div id="peak" class="soft"></div></section>
 <section class="card"><h2>Time to reply, last 10 seconds</h2><svg id="times" viewBox="0 0 160 100" preserveAspectRatio="none" role="img" aria-label="Replies by their time"></svg><div class="axis"><span>up to 50 µs</span><span>over 2.5 s</span></div><div id="quantiles" class="soft"></div></section>
 </div>
 <div class="wide">
 <section class="card"><h2>Replication</h2><table id="replicas"></table></section>
 <section class="card"><h2>Connections and memory</h2><table id="others"></table></section>
+</div>
+<div class="wide">
 <section class="card"><h2>Commands</h2><table id="commands"></table></section>
+<section class="card"><h2>Refused lines</h2><table id="refusals"></table></section>
 </div>
 <script>
 "use strict";
 const bounds = [50, 100, 250, 500, 1e3, 2500, 5e3, 1e4, 25e3, 5e4, 1e5, 25e4, 5e5, 1e6, 25e5];
 const names = ["get", "gets", "gat", "gats", "set", "add", "replace", "append", "prepend", "cas", "delete", "touch", "incr", "decr"];
+const whys = ["Unknown command or wrong count of words", "Bad word", "Bad number", "Block with a bad end", "Line too long", "Block too large", "Binary protocol", "HTTP", "Not allowed", "No room: the limit of bytes"];
 const kept = [];
 const at = id => document.getElementById(id);
 const sum = list => list.reduce((a, b) => a + b, 0);
 const whole = n => Math.round(n).toLocaleString("en");
 const short = n => n < 1e4 ? whole(n) : n < 1e6 ? (n / 1e3).toFixed(1) + " k" : n < 1e9 ? (n / 1e6).toFixed(2) + " M" : (n / 1e9).toFixed(2) + " G";
-const size = n => n < 1024 ? n + " B" : n < 1 << 20 ? (n / 1024).toFixed(1) + " KiB" : n < 1 << 30 ? (n / (1 << 20)).toFixed(1) + " MiB" : (n / (1 << 30)).toFixed(2) + " GiB";
+const size = n => n < 1024 ? n + " B" : n < 1000 * 1024 ? (n / 1024).toFixed(1) + " KiB" : n < 1000 * (1 << 20) ? (n / (1 << 20)).toFixed(1) + " MiB" : (n / (1 << 30)).toFixed(2) + " GiB";
 const time = us => us === undefined ? "none" : us === Infinity ? "over 2.5 s" : us < 1e3 ? us + " µs" : us < 1e6 ? us / 1e3 + " ms" : us / 1e6 + " s";
 function span(s) {
   const d = Math.floor(s / 86400), h = Math.floor(s / 3600) % 24, m = Math.floor(s / 60) % 60;
@@ -86,9 +93,9 @@ function rows(id, list) {
   }));
 }
 function tiles(list) {
-  fill("tiles", list.map(([name, value, kind]) => {
+  fill("tiles", list.map(([name, value, note, kind]) => {
     const card = element("div", "", "card");
-    card.append(element("div", name, "soft"), element("div", value, "value " + (kind || "")));
+    card.append(element("div", name, "soft"), element("div", value, "value " + (kind || "")), element("div", note, "note"));
     return card;
   }));
 }
@@ -99,7 +106,6 @@ function nodes(id, list) {
     return item;
   }));
 }
-const answered = f => sum(f.commands.map(sum));
 function quantile(counts, part) {
   const all = sum(counts);
   let seen = 0;
@@ -114,8 +120,8 @@ function svg(name, attributes) {
   return made;
 }
 function charts(rates, counts) {
-  const most = Math.max(1, ...rates), top = Math.max(1, ...counts);
-  const points = rates.map((r, i) => (120 - rates.length + 1 + i) + "," + (98 - 94 * r / most)).join(" ");
+  const most = Math.max(1, ...rates.map(r => r.value)), top = Math.max(1, ...counts);
+  const points = rates.map(r => (120 - r.ago / 5) + "," + (98 - 94 * r.value / most)).join(" ");
   fill("rate", [svg("polyline", { points })]);
   at("peak").textContent = "peak " + short(most);
   fill("times", counts.map((n, i) => svg("rect", { x: i * 10 + 1, width: 8, y: 100 - 98 * n / top, height: 98 * n / top })));
@@ -124,26 +130,33 @@ function charts(rates, counts) {
 function keep(f) {
   const last = kept.length ? kept[kept.length - 1].uptime_seconds : -1;
   if (f.uptime_seconds < last) kept.length = 0;
-  if (f.uptime_seconds !== last) kept.push(f);
-  if (kept.length > 121) kept.shift();
+  if (f.uptime_seconds !== last) kept.push({ uptime_seconds: f.uptime_seconds, requests: f.batches.requests, keys: f.keys, replies: f.times.reply.counts });
+  while (kept[0].uptime_seconds < f.uptime_seconds - 600) kept.shift();
 }
-function rate(now, before) {
-  return Math.max(0, (answered(now) - answered(before)) / (now.uptime_seconds - before.uptime_seconds));
+function before(sample, seconds) {
+  return kept.findLast(s => s.uptime_seconds <= sample.uptime_seconds - seconds) || kept[0];
+}
+function rate(now) {
+  const then = before(now, 5);
+  return now === then ? 0 : Math.max(0, (now.requests - then.requests) / (now.uptime_seconds - then.uptime_seconds));
 }
 function show(f) {
   keep(f);
-  const before = kept[Math.max(0, kept.length - 11)];
+  const then = before(f, 10);
   const members = f.replicas.members, executors = f.replicas.executors.slice(0, members), verifiers = f.replicas.verifiers.slice(0, members);
   const down = executors.concat(verifiers).filter(node => !node.up).length;
-  const rates = kept.slice(1).map((now, i) => rate(now, kept[Math.max(0, i - 4)]));
-  const counts = f.reply_times.counts.map((n, i) => Math.max(0, n - before.reply_times.counts[i]));
-  const asked = f.keys.asked - before.keys.asked, found = f.keys.found - before.keys.found;
+  const rates = kept.slice(1).map(s => ({ ago: f.uptime_seconds - s.uptime_seconds, value: rate(s) }));
+  const counts = f.times.reply.counts.map((n, i) => Math.max(0, n - then.replies[i]));
+  const asked = f.keys.asked - then.keys.asked, found = f.keys.found - then.keys.found;
+  const refused = sum(f.refusals), limit = f.server.limits.item_bytes;
   at("state").textContent = down ? down + (down > 1 ? " nodes are down" : " node is down") : "all nodes are up";
   at("state").className = down ? "bad" : "good";
-  at("uptime").textContent = "for " + span(f.uptime_seconds);
-  tiles([["Commands / s", short(rates[rates.length - 1] || 0)], ["Keys found", asked ? (100 * found / asked).toFixed(1) + " %" : "none asked"],
-    ["99 % within", time(quantile(counts, .99))], ["Connections", whole(f.connections.open)],
-    ["Items", short(f.memory.items)], ["Memory", f.memory.resident_bytes ? size(f.memory.resident_bytes) : "unknown"]]);
+  at("version").textContent = f.server.version;
+  at("uptime").textContent = "u " + (members - 1) / 2 + ", started " + span(f.uptime_seconds) + " ago";
+  tiles([["Commands / s", short(rates.length ? rates[rates.length - 1].value : 0), "last 5 seconds"], ["Keys found", asked ? (100 * found / asked).toFixed(1) + " %" : "none asked", "last 10 seconds"],
+    ["99 % within", time(quantile(counts, .99)), "last 10 seconds"], ["Connections", whole(f.connections.open), f.server.limits.connections ? "of " + whole(f.server.limits.connections) : "", f.connections.open < f.server.limits.connections ? "" : "bad"],
+    ["Items", short(f.memory.items), "each in every executor"], ["Keys and values", size(f.memory.item_bytes), limit ? "of " + size(limit) : "no limit", limit && limit <= f.memory.item_bytes ? "bad" : ""],
+    ["Memory", f.memory.resident_bytes ? size(f.memory.resident_bytes) : "unknown", "of the process"], ["Refused lines", short(refused), "since the start"]]);
   charts(rates, counts);
   nodes("executors", executors);
   nodes("verifiers", verifiers);
@@ -151,18 +164,30 @@ function show(f) {
     ["Commits", whole(f.batches.committed)], ["Rollbacks", whole(f.batches.rolled_back)], ["Requests a batch", f.batches.cut ? (f.batches.requests / f.batches.cut).toFixed(1) : "none"]]);
   rows("commands", f.commands.map((list, i) => [names[i], whole(sum(list))]));
   rows("others", [["Accepted", whole(f.connections.accepted)], ["Refused", whole(f.connections.refused)], ["Could not be accepted", whole(f.connections.failed)],
-    ["Read", size(f.connections.bytes_read)], ["Written", size(f.connections.bytes_written)], ["Keys and values", size(f.memory.item_bytes)]]);
+    ["Closed since idle", f.server.limits.idle_seconds ? whole(f.connections.idle) : "never"], ["Read", size(f.connections.bytes_read)], ["Written", size(f.connections.bytes_written)], ["Memory refused", whole(f.memory.refusals)]]);
+  rows("refusals", f.refusals.map((n, i) => [whys[i], whole(n)]));
+}
+async function ask(path) {
+  return (await fetch(path, { cache: "no-store" })).json();
 }
 async function renew() {
   try {
-    show(await (await fetch("/data.json", { cache: "no-store" })).json());
+    show(await ask("/data.json"));
   } catch (e) {
     at("state").textContent = "no answer";
     at("state").className = "bad";
   }
   setTimeout(renew, 1000);
 }
-renew();
+async function start() {
+  try {
+    kept.push(...await ask("/history.json"));
+  } catch (e) {
+    kept.length = 0;
+  }
+  renew();
+}
+start();
 </script>
 </body>
 </html>

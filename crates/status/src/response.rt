@@ -14,7 +14,8 @@ impl Wanted {
         ensures { result.now ≡ status_text self }
     {
         match self {
-            Wanted::Page | Wanted::Data | Wanted::Metrics | Wanted::Health => b"HTTP/1.1 200 OK",
+            Wanted::Page | Wanted::Data | Wanted::History | Wanted::Metrics | Wanted::Health =>
+                b"HTTP/1.1 200 OK",
             Wanted::TooFew => b"HTTP/1.1 503 Service Unavailable",
             Wanted::NotFound => b"HTTP/1.1 404 Not Found",
             Wanted::BadMethod => b"HTTP/1.1 405 Method Not Allowed",
@@ -30,7 +31,7 @@ impl Wanted {
     {
         match self {
             Wanted::Page => b"text/html; charset=utf-8",
-            Wanted::Data => b"application/json",
+            Wanted::Data | Wanted::History => b"application/json",
             Wanted::Metrics => b"text/plain; version=0.0.4; charset=utf-8",
             _ => b"text/plain; charset=utf-8",
         }
@@ -57,7 +58,7 @@ impl Wanted {
         match self {
             Wanted::Health => b"ok\n",
             Wanted::TooFew => b"Too few replicas are up.\n",
-            Wanted::NotFound => b"There are /, /metrics, /data.json and /healthz.\n",
+            Wanted::NotFound => b"There are /, /metrics, /data.json, /history.json and /healthz.\n",
             Wanted::BadMethod => b"Only GET and HEAD are answered.\n",
             Wanted::BadRequest => b"This is no request of HTTP/1.\n",
             Wanted::TooLong => b"The head of the request is too long.\n",

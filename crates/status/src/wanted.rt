@@ -21,6 +21,8 @@ pub enum Wanted {
     Page,
     /// The figures as JSON.
     Data,
+    /// The samples of the last ten minutes as JSON.
+    History,
     /// The figures in Prometheus' text form.
     Metrics,
     /// Whether enough replicas are up.
@@ -82,6 +84,8 @@ fn at_target(target: &[u8]) -> Wanted
         Wanted::Metrics
     } else if path == b"/data.json".as_slice() {
         Wanted::Data
+    } else if path == b"/history.json".as_slice() {
+        Wanted::History
     } else if path == b"/healthz".as_slice() {
         Wanted::Health
     } else if path == b"/".as_slice() {

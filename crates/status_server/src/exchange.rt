@@ -1,7 +1,6 @@
 //! One request and its response.
 
-use figures::Figures;
-use status::answer;
+use status::{Seen, answer};
 use std::alloc::{AllocError, Global};
 use std::marker::Model;
 
@@ -48,12 +47,12 @@ impl Exchange {
     }
 
     /// More of the request comes, before the response is there. On error the connection is to be closed.
-    pub fn hear(&mut self, alloc: Global, piece: &[u8], figures: &Figures) -> Result<(), AllocError>
+    pub fn hear(&mut self, alloc: Global, piece: &[u8], seen: &Seen) -> Result<(), AllocError>
         requires { self.old.response ≡ [] }
-        ensures ok { OnOk result (ExchangeFollows self.old.request piece.now figures.now self.new) }
+        ensures ok { OnOk result (ExchangeFollows self.old.request piece.now seen.now self.new) }
     {
         self.request.extend_from_slice(piece)?;
-        if let Some(response) = answer(alloc, self.request.as_slice(), figures)? {
+        if let Some(response) = answer(alloc, self.request.as_slice(), seen)? {
             self.response = response;
         }
         Ok(())

@@ -3,8 +3,8 @@
 ghost use Rattle.std.specs.Prelude.{◌≡◌, []};
 
 use crate::exchange::Exchange;
-use figures::Figures;
 use mio::net::TcpStream;
+use status::Seen;
 use std::alloc::Global;
 use std::io::{ErrorKind, Read, Write};
 use std::net::Shutdown;
@@ -55,9 +55,9 @@ impl Peer {
     }
 
     /// Reads and writes as far as the socket goes, but a few steps at most.
-    pub fn turn(&mut self, alloc: Global, figures: &Figures, buffer: &mut [u8]) -> After {
+    pub fn turn(&mut self, alloc: Global, seen: &Seen, buffer: &mut [u8]) -> After {
         for _ in 0..MOST_STEPS {
-            let after = self.step(alloc, figures, buffer);
+            let after = self.step(alloc, seen, buffer);
             if after != After::Again {
                 return after;
             }
@@ -66,9 +66,9 @@ impl Peer {
     }
 
     /// One read or one write.
-    fn step(&mut self, alloc: Global, figures: &Figures, buffer: &mut [u8]) -> After {
+    fn step(&mut self, alloc: Global, seen: &Seen, buffer: &mut [u8]) -> After {
         if self.exchange.is_waiting() {
-            self.read(alloc, figures, buffer)
+            self.read(alloc, seen, buffer)
         } else if self.is_done {
             self.let_go(buffer)
         } else {
@@ -77,14 +77,14 @@ impl Peer {
     }
 
     /// Reads once, and hears what came.
-    fn read(&mut self, alloc: Global, figures: &Figures, buffer: &mut [u8]) -> After
+    fn read(&mut self, alloc: Global, seen: &Seen, buffer: &mut [u8]) -> After
         requires { self.old.exchange.response ≡ [] }
     {
         match self.stream.read(buffer) {
             Ok(0) => After::Close,
             Ok(count) => {
                 let (piece, _) = buffer.split_at(count);
-                match self.exchange.hear(alloc, piece, figures) {
+                match self.exchange.hear(alloc, piece, seen) {
                     Ok(()) => After::Again,
                     Err(_) => After::Close,
                 }

@@ -1,14 +1,14 @@
 //! The loop over the listener and its connections.
 
 use crate::peer::{After, Peer};
-use figures::Figures;
 use mio::net::{TcpListener, TcpStream};
 use mio::{Events, Interest, Poll, Token};
+use status::Seen;
 use std::alloc::Global;
 use std::io::ErrorKind;
 use std::net::Net;
 use std::rt::Clock;
-use std::sync::Wait;
+use std::sync::{MutexGuard, Wait};
 use std::time::{Duration, Instant};
 use std::{io, thread};
 
@@ -29,10 +29,10 @@ const MOST_PIECE_BYTES: usize = 4096;
 
 const LISTENER: Token = Token(usize::MAX);
 
-/// Whoever has the figures. It gives a copy, and must not wait for a client of the cache.
+/// Whoever has what is shown. It has a copy of the figures, and must not wait for a client of the cache.
 pub trait Watch {
-    /// A copy of the figures.
-    fn figures<R: Wait>(&self, rt: &R) -> Figures;
+    /// What is shown. Whoever renews it waits meanwhile.
+    fn seen<R: Wait>(&self, rt: &R) -> MutexGuard<'_, Seen>;
 }
 
 /// The status port: its listener and its connections, the oldest first.
@@ -88,8 +88,7 @@ impl StatusServer {
         self.accept(now);
         self.close_late(now);
         if !self.peers.is_empty() {
-            let figures = watch.figures(rt);
-            self.turn_all(&figures);
+            self.turn_all(&*watch.seen(rt));
         }
         thread::sleep(rt, Duration::from_millis(PAUSE));
         Ok(())
@@ -147,13 +146,13 @@ impl StatusServer {
     }
 
     /// Gives each connection a turn.
-    fn turn_all(&mut self, figures: &Figures) {
+    fn turn_all(&mut self, seen: &Seen) {
         let mut at = 0;
         for _ in 0..MOST_PEERS {
             if self.peers.len() <= at {
                 return;
             }
-            match self.turn_of(at, figures) {
+            match self.turn_of(at, seen) {
                 After::Rest => at += 1,
                 After::Again => {
                     self.has_more = true;
@@ -172,9 +171,9 @@ impl StatusServer {
     }
 
     /// The turn of one connection.
-    fn turn_of(&mut self, at: usize, figures: &Figures) -> After {
+    fn turn_of(&mut self, at: usize, seen: &Seen) -> After {
         match self.peers.get_mut(at) {
-            Some(peer) => peer.turn(self.alloc, figures, self.buffer.as_mut_slice()),
+            Some(peer) => peer.turn(self.alloc, seen, self.buffer.as_mut_slice()),
             None => After::Rest,
         }
     }

@@ -10,6 +10,8 @@ mod grammar;
 #[cfg(test)]
 mod of_answers;
 #[cfg(test)]
+mod of_history;
+#[cfg(test)]
 mod of_metrics;
 #[cfg(test)]
 mod of_server;

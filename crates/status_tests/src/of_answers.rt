@@ -1,16 +1,21 @@
 //! Rows of a request and the beginning of its response.
 
-use crate::samples::some_figures;
+use crate::samples::{seen_with, some_figures};
 use figures::{Figures, NodeFigures};
 use serde_json::Value;
 use status::answer;
 use std::alloc::Global;
 use std::test::Fail;
 
+/// The answer of a server that has these figures.
+fn answer_of(alloc: Global, request: &[u8], figures: Figures) -> Option<Vec<u8>> {
+    answer(alloc, request, &seen_with(alloc, figures)).ok()?
+}
+
 /// Whether the request is answered by a response that begins so and closes the connection.
 fn answers(alloc: Global, request: &[u8], first: &[u8]) -> bool {
-    match answer(alloc, request, &some_figures()) {
-        Ok(Some(response)) => {
+    match answer_of(alloc, request, some_figures()) {
+        Some(response) => {
             let closing = b"\r\nconnection: close\r\n\r\n".as_slice();
             response.starts_with(first) && response.windows(closing.len()).any(|w| w == closing)
         }
@@ -20,16 +25,19 @@ fn answers(alloc: Global, request: &[u8], first: &[u8]) -> bool {
 
 /// Whether more bytes are asked for.
 fn waits(alloc: Global, request: &[u8]) -> bool {
-    matches!(answer(alloc, request, &some_figures()), Ok(None))
+    matches!(
+        answer(alloc, request, &seen_with(alloc, some_figures())),
+        Ok(None)
+    )
 }
 
 /// Whether the first request is answered by the head of what the second is answered, and no more.
 fn is_head_of(alloc: Global, head: &[u8], whole: &[u8]) -> bool {
     match (
-        answer(alloc, head, &some_figures()),
-        answer(alloc, whole, &some_figures()),
+        answer_of(alloc, head, some_figures()),
+        answer_of(alloc, whole, some_figures()),
     ) {
-        (Ok(Some(head)), Ok(Some(whole))) => {
+        (Some(head), Some(whole)) => {
             whole.starts_with(head.as_slice())
                 && head.ends_with(b"\r\n\r\n")
                 && head.len() < whole.len()
@@ -48,8 +56,8 @@ fn health(alloc: Global, executors: usize, verifiers: usize, first: &[u8]) -> bo
     figures.replicas.members = 3;
     figures.replicas.executors[..executors.min(3)].fill(up);
     figures.replicas.verifiers[..verifiers.min(3)].fill(up);
-    match answer(alloc, b"GET /healthz HTTP/1.1\r\n\r\n", &figures) {
-        Ok(Some(response)) => response.starts_with(first),
+    match answer_of(alloc, b"GET /healthz HTTP/1.1\r\n\r\n", figures) {
+        Some(response) => response.starts_with(first),
         _ => false,
     }
 }
@@ -76,14 +84,24 @@ fn answers_long(alloc: Global, fields: usize, bytes: usize, first: &[u8]) -> boo
     }
 }
 
-/// The number at this path of the data.
-fn number_at(alloc: Global, path: &str) -> Option<u64> {
-    let response = answer(alloc, b"GET /data.json HTTP/1.1\r\n\r\n", &some_figures()).ok()??;
-    let start = response.iter().position(|b| *b == b'{')?;
+/// The number at this path of the data that the request is answered with.
+fn number_of(alloc: Global, request: &[u8], path: &str) -> Option<u64> {
+    let response = answer_of(alloc, request, some_figures())?;
+    let ends = b"\r\n\r\n".as_slice();
+    let end = response.windows(ends.len()).position(|w| w == ends)?;
+    let start = end.saturating_add(ends.len());
     let (_, body) = response.split_at(start.min(response.len()));
     let text = std::str::from_utf8(body).ok()?;
     let value = Value::from_str(alloc, text).ok()?;
     value.pointer(path).and_then(Value::as_u64)
+}
+
+fn number_at(alloc: Global, path: &str) -> Option<u64> {
+    number_of(alloc, b"GET /data.json HTTP/1.1\r\n\r\n", path)
+}
+
+fn sample_number_at(alloc: Global, path: &str) -> Option<u64> {
+    number_of(alloc, b"GET /history.json HTTP/1.1\r\n\r\n", path)
 }
 
 #[test]
@@ -179,10 +197,22 @@ fn numbers_of_the_data(rt: HostRuntime) -> Result<(), Fail> {
     let alloc = rt.alloc();
     assert!(rt; number_at(alloc, "/uptime_seconds") == Some(7));
     assert!(rt; number_at(alloc, "/connections/accepted") == Some(12));
+    assert!(rt; number_at(alloc, "/server/limits/connections") == Some(1024));
+    assert!(rt; number_at(alloc, "/refusals/2") == Some(1));
     assert!(rt; number_at(alloc, "/commands/4/2") == Some(2));
     assert!(rt; number_at(alloc, "/replicas/executors/0/stops") == Some(2));
-    assert!(rt; number_at(alloc, "/reply_times/counts/1") == Some(1));
-    assert!(rt; number_at(alloc, "/batch_times/sum") == Some(1234567));
-    assert!(rt; number_at(alloc, "/batch_parts/agree/sum") == Some(300));
+    assert!(rt; number_at(alloc, "/times/reply/counts/1") == Some(1));
+    assert!(rt; number_at(alloc, "/times/batch/sum") == Some(1234567));
+    assert!(rt; number_at(alloc, "/times/parts/agree/sum") == Some(300));
+    Ok(())
+}
+
+#[test]
+fn numbers_of_the_samples(rt: HostRuntime) -> Result<(), Fail> {
+    let alloc = rt.alloc();
+    assert!(rt; sample_number_at(alloc, "/0/uptime_seconds") == Some(7));
+    assert!(rt; sample_number_at(alloc, "/0/requests") == Some(0));
+    assert!(rt; sample_number_at(alloc, "/0/replies/1") == Some(1));
+    assert!(rt; sample_number_at(alloc, "/1/uptime_seconds").is_none());
     Ok(())
 }

@@ -39,13 +39,13 @@ fn have_line(alloc: Global, wanted: &[u8]) -> bool {
     }
 }
 
-/// 30 metrics with two lines each; 21 values, 32 of commands, 18 of each of six histograms. Each node that
-/// is there has a line of two metrics.
+/// 35 metrics with two lines each; 25 values, 32 of commands, ten of refused lines, 18 of each of six histograms. Each
+/// node that is there has a line of two metrics.
 #[test]
 fn each_line_is_of_the_form(rt: HostRuntime) -> Result<(), Fail> {
     let alloc = rt.alloc();
-    assert!(rt; are_form(alloc, &Figures::NONE, 60 + 21 + 32 + 108));
-    assert!(rt; are_form(alloc, &some_figures(), 60 + 21 + 32 + 108 + 12));
+    assert!(rt; are_form(alloc, &Figures::NONE, 70 + 25 + 32 + 10 + 108));
+    assert!(rt; are_form(alloc, &some_figures(), 70 + 25 + 32 + 10 + 108 + 12));
     Ok(())
 }
 
@@ -54,6 +54,10 @@ fn lines_of_values(rt: HostRuntime) -> Result<(), Fail> {
     let alloc = rt.alloc();
     assert!(rt; have_line(alloc, b"eve_uptime_seconds 7"));
     assert!(rt; have_line(alloc, b"# TYPE eve_uptime_seconds gauge"));
+    assert!(rt; have_line(alloc, b"process_start_time_seconds 1764403200"));
+    assert!(rt; have_line(alloc, b"eve_connections_limit 1024"));
+    assert!(rt; have_line(alloc, b"eve_idle_connections_closed_total 4"));
+    assert!(rt; have_line(alloc, b"eve_lines_refused_total{why=\"number\"} 1"));
     assert!(rt; have_line(alloc, b"# TYPE eve_connections_accepted_total counter"));
     assert!(rt; have_line(alloc, b"eve_connections_accepted_total 12"));
     assert!(rt;

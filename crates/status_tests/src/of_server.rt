@@ -1,25 +1,34 @@
 //! The status port over loopback, with its clients in the same thread.
 
-use crate::samples::some_figures;
-use figures::Figures;
+use crate::samples::{seen_with, some_figures};
 use mio::net::TcpListener;
+use status::Seen;
 use status_server::{MOST_PEERS, StatusServer, Watch};
 use std::alloc::Global;
 use std::io::{Read, Write};
 use std::net::{Ipv4Addr, Net, SocketAddr, SocketAddrV4, TcpStream};
 use std::rt::Clock;
-use std::sync::Wait;
+use std::sync::{Mutex, MutexGuard, Wait};
 use std::test::Fail;
 use std::thread;
 use std::time::Duration;
 
 /// It always has the same figures.
 #[derive(Drop)]
-struct Same;
+struct Same {
+    seen: Mutex<Seen>,
+}
 
 impl Watch for Same {
-    fn figures<R: Wait>(&self, _rt: &R) -> Figures {
-        some_figures()
+    fn seen<R: Wait>(&self, rt: &R) -> MutexGuard<'_, Seen> {
+        self.seen.lock(rt)
+    }
+}
+
+/// One that has some figures.
+fn with_some_figures(alloc: Global) -> Same {
+    Same {
+        seen: Mutex::new(seen_with(alloc, some_figures())),
     }
 }
 
@@ -33,10 +42,11 @@ fn started<R: Net>(rt: &R, alloc: Global) -> Option<(StatusServer, SocketAddr)> 
 }
 
 /// So many rounds: whether all went well.
-fn rounds<R: Wait + Clock>(rt: &R, server: &mut StatusServer, count: usize) -> bool {
+fn rounds<R: Wait + Clock + AllocGlobal>(rt: &R, server: &mut StatusServer, count: usize) -> bool {
+    let same = with_some_figures(rt.alloc());
     for _ in 0..count {
         if server
-            .round(rt, &Same, Some(Duration::from_millis(20)))
+            .round(rt, &same, Some(Duration::from_millis(20)))
             .is_err()
         {
             return false;
@@ -58,7 +68,7 @@ fn hears(stream: &TcpStream, expected: &[u8]) -> bool {
 }
 
 /// Whether a connection that says this is given a response of this status.
-fn is_given<R: Net<Stream = TcpStream> + Wait + Clock>(
+fn is_given<R: Net<Stream = TcpStream> + Wait + Clock + AllocGlobal>(
     rt: &R,
     server: &mut StatusServer,
     address: SocketAddr,
@@ -75,7 +85,7 @@ fn is_given<R: Net<Stream = TcpStream> + Wait + Clock>(
         && hears(&stream, status)
 }
 
-fn answers<R: Net<Stream = TcpStream> + Wait + Clock>(rt: &R, alloc: Global) -> bool {
+fn answers<R: Net<Stream = TcpStream> + Wait + Clock + AllocGlobal>(rt: &R, alloc: Global) -> bool {
     let Some((mut server, address)) = started(rt, alloc) else {
         return false;
     };
@@ -88,7 +98,10 @@ fn answers<R: Net<Stream = TcpStream> + Wait + Clock>(rt: &R, alloc: Global) -> 
 }
 
 /// Silent clients come, more than are let in, and one that asks.
-fn answers_in_a_crowd<R: Net<Stream = TcpStream> + Wait + Clock>(rt: &R, alloc: Global) -> bool {
+fn answers_in_a_crowd<R: Net<Stream = TcpStream> + Wait + Clock + AllocGlobal>(
+    rt: &R,
+    alloc: Global,
+) -> bool {
     let Some((mut server, address)) = started(rt, alloc) else {
         return false;
     };
@@ -109,7 +122,10 @@ fn answers_in_a_crowd<R: Net<Stream = TcpStream> + Wait + Clock>(rt: &R, alloc: 
 }
 
 /// A client that says half of a request is closed after five seconds.
-fn closes_the_slow<R: Net<Stream = TcpStream> + Wait + Clock>(rt: &R, alloc: Global) -> bool {
+fn closes_the_slow<R: Net<Stream = TcpStream> + Wait + Clock + AllocGlobal>(
+    rt: &R,
+    alloc: Global,
+) -> bool {
     let Some((mut server, address)) = started(rt, alloc) else {
         return false;
     };

@@ -1,13 +1,19 @@
 //! Figures that are not all zero.
 
-use figures::{Asked, Figures, Kind, NodeFigures};
+use figures::{Asked, Figures, Kind, NodeFigures, Refusal};
 use proto::Reply;
+use status::{History, Seen};
+use std::alloc::Global;
 
 /// Three executors of which one is down, some commands, some times.
 pub fn some_figures() -> Figures {
     let mut figures = Figures::NONE;
     figures.uptime_seconds = 7;
+    figures.process.started = 1_764_403_200;
+    figures.limits.connections = 1024;
     figures.connections.open = 3;
+    figures.connections.idle = 4;
+    figures.refusals.count(Refusal::Number);
     figures.connections.accepted = 12;
     figures.replicas.members = 3;
     figures.replicas.executors[0] = NodeFigures {
@@ -28,4 +34,12 @@ pub fn some_figures() -> Figures {
     figures.batch_parts.agree.observe(300);
     figures.batch_parts.commit.observe(4_000);
     figures
+}
+
+/// These figures, and a history that has nothing but a sample of them.
+pub fn seen_with(alloc: Global, figures: Figures) -> Seen {
+    let mut history = History::new(alloc);
+    // Without memory there is no sample.
+    let _ = history.keep(&figures);
+    Seen { figures, history }
 }

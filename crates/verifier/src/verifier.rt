@@ -292,6 +292,15 @@ impl<K: Keeper<Text>> Verifier<K> {
         &mut self.keeper
     }
 
+    /// The keeper, to look at.
+    pub fn kept(&self) -> &K
+        ensures saved { K.saved result.now ≡ self.now.saved }
+        ensures failed { K.failed result.now ≡ self.now.failures }
+        ensures told { K.told result.now ≡ self.now.told }
+    {
+        &self.keeper
+    }
+
     /// Ends it, and gives its keeper back.
     pub fn end(self) -> K
         ensures saved { K.saved result ≡ self.saved }

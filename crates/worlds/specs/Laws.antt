@@ -1,6 +1,7 @@
 -- What holds of every world that is reached.
 use Rattle.std.specs.Prelude.{◌≡◌, ℕ, ◌≤◌, ◌⊎◌, ◌↔◌, Bool, true, false, not, IsTrue, List, [], ◌∷◌, ◌++◌, Option, None, Some, slice_get}
 use Rattle.std.specs.List.{list_any}
+use Rattle.keeper.specs.Kept.{Kept}
 use Rattle.decrees.specs.declared.decree.Decree.{Decree}
 use Rattle.decrees.specs.Count.{count_below, member_count}
 use Rattle.decrees.specs.Standing.{decree_at}
@@ -41,7 +42,13 @@ OneIsChosen w = (place : ℕ) (a b : Decree) → ChosenInWorld w place a → Cho
 abbrev pub ChosenIsBacked : WorldView → Type 0
 ChosenIsBacked w = (place : ℕ) (d : Decree) → ChosenInWorld w place d → Backed w.u (ballots w.letters) place d
 
--- what the keeper of a verifier has
+-- what the keeper of a replica has, whether it is up, down or lost
+abbrev pub kept_at : {N : Type 0} → (N → Kept) → Slot N → Kept
+kept_at keeps (Up n) = keeps n
+kept_at keeps (Down kept) = kept
+kept_at keeps (Gone kept) = kept
+
+-- the record of a verifier
 abbrev pub verifier_record : Slot VerifierView → Option (List ℕ)
 verifier_record (Up v) = v.saved
 verifier_record (Down kept) = kept.saved

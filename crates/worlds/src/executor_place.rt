@@ -13,7 +13,7 @@ use exec_lines::{Body, ExecutorRecord, Input};
 use exec_node::{ExecNode, unfit_input_changes_nothing};
 use keeper::MemKeeper;
 use proto::Fault;
-use std::alloc::Global;
+use std::alloc::{AllocError, Global};
 use std::marker::Model;
 
 /// An executor over a keeper in memory.
@@ -29,6 +29,11 @@ impl KeptNode for ExecNode<MemKeeper<ExecutorRecord>> {
     #[tactic(auto, using(crate::proofs::StepLemmas::kept_is))]
     fn into_keeper(self) -> MemKeeper<ExecutorRecord> {
         self.end()
+    }
+
+    #[tactic(auto, using(crate::proofs::StepLemmas::kept_is))]
+    fn share_kept(&self) -> Result<MemKeeper<ExecutorRecord>, AllocError> {
+        self.kept().share()
     }
 }
 
@@ -109,6 +114,15 @@ impl ExecutorPlace {
     {
         ExecutorPlace {
             slot: Slot::Down(MemKeeper::new()),
+        }
+    }
+
+    /// One that is down, with this keeper.
+    pub fn down(keeper: MemKeeper<ExecutorRecord>) -> ExecutorPlace
+        ensures { result ≡ Down keeper }
+    {
+        ExecutorPlace {
+            slot: Slot::Down(keeper),
         }
     }
 

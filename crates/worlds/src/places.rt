@@ -1,12 +1,14 @@
 //! What becomes of a place, whatever replica it is for.
 
-ghost use Rattle.std.specs.Prelude.{◌≡◌};
+ghost use Rattle.std.specs.Prelude.{◌≡◌, IfOk, Some};
+ghost use Rattle.worlds.specs.Laws.{kept_at, is_gone as is_gone_from};
 ghost use Rattle.worlds.specs.Slots.{crashed_slot, lost_slot};
 ghost use Rattle.worlds.specs.Places.{IsUpAt};
 
 use crate::kept_node::{KeptNode, KeptSlot};
 use crate::slot::Slot;
 use keeper::{MemKeeper, ToText};
+use std::alloc::AllocError;
 use std::mem;
 
 /// Ends what is there.
@@ -70,4 +72,26 @@ pub fn lose<N: KeptNode>(place: &mut KeptSlot<N>)
 {
     let old = taken(place);
     put(place, lost(old));
+}
+
+/// A keeper that has what is kept of the replica, whether it is up, down or lost. The record is shared.
+pub fn kept<N: KeptNode>(slot: &KeptSlot<N>) -> Result<MemKeeper<N::Record>, AllocError>
+    ensures { IfOk result (λ keeper. keeper ≡ kept_at N.kept slot.now) }
+{
+    match slot {
+        Slot::Up(node) => node.share_kept(),
+        Slot::Down(keeper) => keeper.share(),
+        Slot::Gone(keeper) => keeper.share(),
+    }
+}
+
+/// Whether the replica is lost for good.
+pub fn is_gone<N: KeptNode>(slot: &KeptSlot<N>) -> bool
+    ensures { result ≡ is_gone_from (Some slot.now) }
+{
+    match slot {
+        Slot::Up(_) => false,
+        Slot::Down(_) => false,
+        Slot::Gone(_) => true,
+    }
 }

@@ -1,16 +1,22 @@
 //! What is seen of a place from outside.
 
-ghost use Rattle.std.specs.Prelude.{◌≡◌};
+ghost use Rattle.std.specs.Prelude.{◌≡◌, IfOk, Some};
 ghost use Rattle.std.specs.Option.{option_map};
 ghost use Rattle.exec_node.specs.Executor.{ExecutorView};
 ghost use Rattle.verifier.specs.Verifier.{VerifierView};
+ghost use Rattle.worlds.specs.Laws.{kept_at, is_gone as is_gone_from};
+ghost use Rattle.worlds.specs.Slots.{executor_kept, verifier_kept};
 ghost use Rattle.worlds.specs.Status.{status_of, executor_report, verifier_report, node_at, WaitsFor, is_client_open};
 
 use crate::client_place::ClientPlace;
 use crate::executor_place::{ExecutorPlace, KeptExecutor};
+use crate::places::{is_gone, kept};
 use crate::slot::Slot;
 use crate::verifier_place::{KeptVerifier, VerifierPlace};
-use exec_lines::{NextWork, Report};
+use base::Text;
+use exec_lines::{ExecutorRecord, NextWork, Report};
+use keeper::MemKeeper;
+use std::alloc::AllocError;
 
 /// Whether a replica is there, and how far it is.
 #[derive(Clone, Copy)]
@@ -51,6 +57,20 @@ impl ExecutorPlace {
         }
     }
 
+    /// A keeper that has what is kept of the executor, whether it is up, down or lost. The record is shared.
+    pub fn kept(&self) -> Result<MemKeeper<ExecutorRecord>, AllocError>
+        ensures { IfOk result (λ keeper. keeper ≡ kept_at executor_kept self.now) }
+    {
+        kept(&self.slot)
+    }
+
+    /// Whether the executor is lost for good.
+    pub fn is_lost(&self) -> bool
+        ensures { result ≡ is_gone_from (Some self.now) }
+    {
+        is_gone(&self.slot)
+    }
+
     /// What comes next of the work of an executor that is up and has work.
     pub fn next_work(&self) -> Option<NextWork>
         ensures { WaitsFor self.now result }
@@ -85,6 +105,20 @@ impl VerifierPlace {
             Slot::Down(_) => Status::Down,
             Slot::Gone(_) => Status::Lost,
         }
+    }
+
+    /// A keeper that has what is kept of the verifier, whether it is up, down or lost. The record is shared.
+    pub fn kept(&self) -> Result<MemKeeper<Text>, AllocError>
+        ensures { IfOk result (λ keeper. keeper ≡ kept_at verifier_kept self.now) }
+    {
+        kept(&self.slot)
+    }
+
+    /// Whether the verifier is lost for good.
+    pub fn is_lost(&self) -> bool
+        ensures { result ≡ is_gone_from (Some self.now) }
+    {
+        is_gone(&self.slot)
     }
 }
 

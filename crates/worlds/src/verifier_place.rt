@@ -12,7 +12,7 @@ use crate::slot::Slot;
 use base::Text;
 use decrees::{Ballot, Letter};
 use keeper::MemKeeper;
-use std::alloc::Global;
+use std::alloc::{AllocError, Global};
 use std::marker::Model;
 use verifier::{Input, Verifier};
 
@@ -29,6 +29,11 @@ impl KeptNode for Verifier<MemKeeper<Text>> {
     #[tactic(auto, using(crate::proofs::StepLemmas::kept_is))]
     fn into_keeper(self) -> MemKeeper<Text> {
         self.end()
+    }
+
+    #[tactic(auto, using(crate::proofs::StepLemmas::kept_is))]
+    fn share_kept(&self) -> Result<MemKeeper<Text>, AllocError> {
+        self.kept().share()
     }
 }
 
@@ -104,6 +109,15 @@ impl VerifierPlace {
     {
         VerifierPlace {
             slot: Slot::Down(MemKeeper::new()),
+        }
+    }
+
+    /// One that is down, with this keeper.
+    pub fn down(keeper: MemKeeper<Text>) -> VerifierPlace
+        ensures { result ≡ Down keeper }
+    {
+        VerifierPlace {
+            slot: Slot::Down(keeper),
         }
     }
 

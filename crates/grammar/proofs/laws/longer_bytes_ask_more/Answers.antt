@@ -1,5 +1,8 @@
-use Rattle.grammar.proofs.ReadLemmas.{longer_spelled}
+use Rattle.grammar.proofs.ReadLemmas.{more_spelled, more_asked}
 use Rattle.grammar.proofs.laws.longer_bytes_ask_more.Goals as goal
 
-pub returns : goal.returns
-returns c = longer_spelled
+pub returns-clause-turns : goal.returns-clause-turns
+returns-clause-turns c = more_spelled
+
+pub returns-clause-commands : goal.returns-clause-commands
+returns-clause-commands c = more_asked

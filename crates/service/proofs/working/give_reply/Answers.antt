@@ -10,6 +10,7 @@ returns-in-Some-clause-answers c =
     let number = sym c.in-Some.ensures.to.1 in
     record {
       dialect = c.in-Some.ensures.dialect;
+      since = c.in-Some.ensures.since;
       heard = c.in-Some.ensures.others.0;
       taken = c.in-Some.ensures.others.1;
       replied = inr (c.in-Some.ensures.replied ∙ ap (λ (n : ℕ). v.replied ++ (record { connection = n; turn = c.args.outstanding.now.assignment.turn }, c.args.reply) ∷ []) c.place-at.ensures.number);

@@ -9,13 +9,13 @@ use Rattle.connections.proofs.connections.Connections.come.Goals as goal
 pub invariant_of-self : goal.invariant_of-self
 invariant_of-self c =
     let s = c.self.inside in
-    let v : ConnectionsView = record { dialect = s.dialect; table = s.table.items; next = s.next; heard = s.history.heard; given = s.history.given; passed = s.history.passed; taken = s.taken.items; replied = s.replied.items } in
+    let v : ConnectionsView = record { dialect = s.dialect; table = s.table.items; next = s.next; first = s.first; heard = s.history.heard; given = s.history.given; passed = s.history.passed; taken = s.taken.items; replied = s.replied.items } in
     grown_keeps v c.grow_to.new.table.items c.self.invariant c.grow_to.ensures.grown
 
 pub invariant_of-self-2 : goal.invariant_of-self-2
 invariant_of-self-2 c =
     let s = c.self.inside in
-    let v : ConnectionsView = record { dialect = s.dialect; table = s.table.items; next = s.next; heard = s.history.heard; given = s.history.given; passed = s.history.passed; taken = s.taken.items; replied = s.replied.items } in
+    let v : ConnectionsView = record { dialect = s.dialect; table = s.table.items; next = s.next; first = s.first; heard = s.history.heard; given = s.history.given; passed = s.history.passed; taken = s.taken.items; replied = s.replied.items } in
     let at = c.args.at in
     let table = c.grow_to.new.table.items in
     let fits : at.key < length table = search rules in

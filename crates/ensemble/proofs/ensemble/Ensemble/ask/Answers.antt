@@ -1,13 +1,13 @@
-use Rattle.std.proofs.Common.{◌≡◌, ◌<◌, ◌^◌, ◌-◌, ℕ, List, sym, ap, subst}
+use Rattle.std.proofs.Common.{◌≡◌, ◌<◌, ◌^◌, ◌-◌, List, ap, subst}
 use Rattle.std.specs.Prelude.{Bool}
 use Rattle.sessions.specs.declared.request.Request.{Request}
-use Rattle.proxies.proofs.ProxyLemmas.{ask_is_fed}
-use Rattle.ensemble.specs.Ensemble.{EnsembleView, IsEnsemble, IsLogged}
+use Rattle.ensemble.specs.Ensemble.{EnsembleView, IsLogged, first_found}
 use Rattle.ensemble.specs.Calls.{AllCollected}
 use Rattle.ensemble.specs.Served.{IsUnderWay}
 use Rattle.ensemble.proofs.Served.{asked_under_way}
-use Rattle.ensemble.proofs.Going.{asks_goes, asks_logged}
-use Rattle.ensemble.specs.declared.noted.Noted.{Noted}
+use Rattle.ensemble.proofs.Ending.{goes_on_after}
+use Rattle.ensemble.proofs.Continuing.{proxy_asks}
+use Rattle.ensemble.proofs.Going.{asks_logged}
 use Rattle.ensemble.specs.Nodes.{size_of}
 use Rattle.ensemble.proofs.Sizes.{ask_size}
 use Rattle.ensemble.proofs.Collecting.{ask_waits}
@@ -15,15 +15,27 @@ use Rattle.ensemble.proofs.ensemble.Ensemble.ask.Goals as goal
 
 pub invariant_of-self-2 : goal.invariant_of-self-2
 invariant_of-self-2 c =
-    let old : EnsembleView = record { nodes = c.self.inside.nodes; asked = c.self.inside.asked.items; answered = c.self.inside.answered.items; order = c.self.inside.order.items; refused = 0 } in
-    subst (λ (logs : List (Request × Bool) × List ((ℕ × ℕ) × Noted)). IsEnsemble (record { nodes = c.send.new.self; asked = logs.0; answered = c.self.inside.answered.items; order = logs.1; refused = 0 })) (λ i. (sym c.and-self-inside.ensures i, sym c.and-self-inside-2.ensures i))
-    (asks_goes ask_is_fed c.args.alloc old c.self.invariant c.ask.new.self c.send.new.self c.args.proxy c.args.command c.args.quiet c.in_ok-request.request c.requires.text c.in_ok-request.ensures.ok c.in_ok-request.ensures.others c.send.ensures.posted)
+    let old : EnsembleView = record { nodes = c.self.inside.nodes; asked = c.self.inside.asked.items; answered = c.self.inside.answered.items; order = c.self.inside.order.items; refused = 0; found = first_found c.self.inside.found.items } in
+    let now : EnsembleView = record old { nodes = c.send.new.self; asked = c.and-self-inside.result.items; order = c.and-self-inside-2.result.items } in
+    goes_on_after old.found old now (proxy_asks old now (record {
+      alloc = c.args.alloc;
+      number = c.args.proxy;
+      command = c.args.command;
+      quiet = c.args.quiet;
+      request = c.in_ok-request.request;
+      text = c.requires.text;
+      asking = c.ask.new.self;
+      asked_by = c.in_ok-request.ensures.ok;
+      only = c.in_ok-request.ensures.others;
+      posted = c.send.ensures.posted;
+      after = λ i. record now { asked = c.and-self-inside.ensures i; order = c.and-self-inside-2.ensures i };
+    })) c.self.invariant
 
 pub returns-clause-ok : goal.returns-clause-ok
 returns-clause-ok c =
-    let old : EnsembleView = record { nodes = c.self.inside.nodes; asked = c.self.inside.asked.items; answered = c.self.inside.answered.items; order = c.self.inside.order.items; refused = 0 } in
-    subst (λ (log : List (Request × Bool)). IsLogged log c.args.proxy c.in_ok-request.request.number c.args.command c.args.quiet c.and-self-inside.result.items) (ap (λ (e : EnsembleView). e.asked) c.self.view_is)
-    (asks_logged old c.self.invariant c.ask.new.self.proxies c.args.proxy c.args.command c.args.quiet c.in_ok-request.request c.and-self-inside.result.items c.in_ok-request.ensures.ok c.and-self-inside.ensures)
+    let r = c.in_ok-request.request in
+    subst (λ (log : List (Request × Bool)). IsLogged log c.args.proxy r.number c.args.command c.args.quiet c.and-self-inside.result.items) (ap (λ (e : EnsembleView). e.asked) c.self.view_is)
+    (asks_logged c.self.inside.asked.items c.ask.new.self.proxies c.self.inside.nodes.proxies c.args.proxy c.args.command c.args.quiet r c.and-self-inside.result.items c.in_ok-request.ensures.ok c.in_ok-request.ensures.numbered c.and-self-inside.ensures)
 
 pub returns-clause-sent : goal.returns-clause-sent
 returns-clause-sent c =

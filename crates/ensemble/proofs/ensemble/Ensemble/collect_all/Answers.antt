@@ -6,6 +6,7 @@ use Rattle.ensemble.proofs.ensemble.Ensemble.collect_all.Goals as goal
 pub loop-id-init : goal.loop-id-init
 loop-id-init c = record {
   asked = refl;
+  found = refl;
   answered = refl;
   order = refl;
   counted = omega arith;
@@ -17,6 +18,7 @@ loop-id-init c = record {
 pub loop-id-preserved : goal.loop-id-preserved
 loop-id-preserved c = record {
   asked = c.collect.ensures.asked ∙ c.loop-id.invariant.asked;
+  found = c.collect.ensures.found ∙ c.loop-id.invariant.found;
   answered = c.collect.ensures.answered ∙ c.loop-id.invariant.answered;
   order = c.collect.ensures.order ∙ c.loop-id.invariant.order;
   counted = (let before = c.loop-id.invariant.counted in let after = c.collect.ensures.counted in omega (arith, before, after));

@@ -6,6 +6,7 @@ use Rattle.ensemble.proofs.ensemble.Ensemble.collect_all.Given as goal
 abbrev pub invariant-loop-id : goal.invariant-loop-id
 invariant-loop-id l = record {
   asked : l.self.asked ≡ l.fn.self.asked;
+  found : l.self.found ≡ l.fn.self.found;
   answered : l.self.answered ≡ l.fn.self.answered;
   order : l.self.order ≡ l.fn.self.order;
   counted : l.fn.self.refused ≤ l.self.refused;

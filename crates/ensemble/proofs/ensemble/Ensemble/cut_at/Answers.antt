@@ -1,4 +1,7 @@
-use Rattle.ensemble.specs.Ensemble.{EnsembleView}
+use Rattle.ensemble.specs.Ensemble.{EnsembleView, first_found}
+use Rattle.ensemble.specs.Process.{ensemble_after}
+use Rattle.ensemble.proofs.Ending.{goes_on_after}
+use Rattle.ensemble.proofs.Continuing.{still_now}
 use Rattle.ensemble.proofs.Going.{cut_goes}
 use Rattle.std.proofs.Common.{◌≡◌, sym, subst}
 use Rattle.ensemble.specs.Nodes.{size_of}
@@ -11,8 +14,9 @@ use Rattle.ensemble.proofs.ensemble.Ensemble.cut_at.Goals as goal
 
 pub invariant_of-self : goal.invariant_of-self
 invariant_of-self c =
-    let old : EnsembleView = record { nodes = c.self.inside.nodes; asked = c.self.inside.asked.items; answered = c.self.inside.answered.items; order = c.self.inside.order.items; refused = 0 } in
-    cut_goes old c.cut.new.self c.self.invariant c.args.id c.args.moment (subst (λ (e : EnsembleView). IsNow e.order c.args.moment) (sym c.self.view_is) c.requires) c.cut.ensures.moves
+    let old : EnsembleView = record { nodes = c.self.inside.nodes; asked = c.self.inside.asked.items; answered = c.self.inside.answered.items; order = c.self.inside.order.items; refused = 0; found = first_found c.self.inside.found.items } in
+    let now : IsNow old.order c.args.moment = subst (λ (e : EnsembleView). IsNow e.order c.args.moment) (sym c.self.view_is) c.requires in
+    goes_on_after old.found old (record old { nodes = c.cut.new.self }) (λ before h. cut_goes (ensemble_after before old) c.cut.new.self h c.args.id c.args.moment (still_now before.order old.order c.args.moment now) c.cut.ensures.moves) c.self.invariant
 
 pub returns-clause-size : goal.returns-clause-size
 returns-clause-size c = subst (λ (e : EnsembleView). size_of c.cut.new.self ≡ size_of e.nodes) c.self.view_is (host_size _ c.args.id c.self.inside.nodes c.cut.new.self c.cut.ensures.moves)

@@ -6,6 +6,7 @@ use Rattle.ensemble.proofs.ensemble.Ensemble.go_on_to_the_end.Goals as goal
 pub loop-init : goal.loop-init
 loop-init g c = record {
   asked = refl;
+  found = refl;
   answered = none_came _ _ _ _ _ _ refl refl refl;
   counted = omega arith;
   size = refl;
@@ -15,6 +16,7 @@ loop-init g c = record {
 pub loop-preserved : goal.loop-preserved
 loop-preserved g c = record {
   asked = c.go_on.ensures.asked ∙ c.loop.invariant.asked;
+  found = c.go_on.ensures.found ∙ c.loop.invariant.found;
   answered = more_came _ _ _ _ _ _ _ _ _ c.loop.invariant.answered c.go_on.ensures.answered;
   counted = (let before = c.loop.invariant.counted in let after = c.go_on.ensures.counted in omega (arith, before, after));
   size = c.go_on.ensures.size ∙ c.loop.invariant.size;
@@ -23,6 +25,9 @@ loop-preserved g c = record {
 
 pub returns-then-not-go_on-clause-asked : goal.returns-then-not-go_on-clause-asked
 returns-then-not-go_on-clause-asked g c = c.go_on.ensures.asked ∙ c.loop.invariant.asked
+
+pub returns-then-not-go_on-clause-found : goal.returns-then-not-go_on-clause-found
+returns-then-not-go_on-clause-found g c = c.go_on.ensures.found ∙ c.loop.invariant.found
 
 pub returns-then-not-go_on-clause-answered : goal.returns-then-not-go_on-clause-answered
 returns-then-not-go_on-clause-answered g c = more_came _ _ _ _ _ _ _ _ _ c.loop.invariant.answered c.go_on.ensures.answered

@@ -7,6 +7,7 @@ use Rattle.ensemble.proofs.ensemble.Ensemble.go_on_to_the_end.Given as goal
 abbrev pub invariant-loop : goal.invariant-loop
 invariant-loop g l = record {
   asked : l.self.asked ≡ l.fn.self.asked;
+  found : l.self.found ≡ l.fn.self.found;
   answered : Answers l.fn.self.answered l.fn.self.order l.fn.answers.items l.self.answered l.self.order l.answers.items;
   counted : l.fn.self.refused ≤ l.self.refused;
   size : size_of l.self.nodes ≡ size_of l.fn.self.nodes;

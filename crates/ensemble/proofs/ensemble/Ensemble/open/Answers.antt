@@ -7,7 +7,7 @@ use Rattle.ensemble.proofs.ensemble.Ensemble.open.Goals as goal
 
 pub invariant_of-result : goal.invariant_of-result
 invariant_of-result c =
-    rw (c.in_ok-nodes.ensures, c.new-2.ensures, c.new-3.ensures, c.new-4.ensures) (first_is_ensemble c.args.config.now)
+    rw (c.in_ok-nodes.ensures, c.new-2.ensures, c.new-3.ensures, c.new-4.ensures, c.new-5.ensures) (first_is_ensemble c.args.config.now)
 
 pub returns-clause-up : goal.returns-clause-up
 returns-clause-up c = subst (λ (n : NodesView). AreAllUp c.args.config.now.u c.args.config.now.clients n) (sym c.in_ok-nodes.ensures) (first_are_up c.args.config.now)

@@ -1,4 +1,6 @@
-use Rattle.ensemble.specs.Ensemble.{EnsembleView}
+use Rattle.ensemble.specs.Ensemble.{EnsembleView, first_found}
+use Rattle.ensemble.specs.Process.{ensemble_after}
+use Rattle.ensemble.proofs.Ending.{goes_on_after}
 use Rattle.ensemble.proofs.Going.{open_verifier_at_goes}
 use Rattle.std.proofs.Common.{◌≡◌, subst}
 use Rattle.ensemble.specs.Nodes.{size_of}
@@ -10,8 +12,8 @@ use Rattle.ensemble.proofs.ensemble.Ensemble.open_verifier.Goals as goal
 
 pub invariant_of-self : goal.invariant_of-self
 invariant_of-self c =
-    let old : EnsembleView = record { nodes = c.self.inside.nodes; asked = c.self.inside.asked.items; answered = c.self.inside.answered.items; order = c.self.inside.order.items; refused = 0 } in
-    open_verifier_at_goes old c.open_verifier.new.self c.self.invariant c.args.id c.open_verifier.ensures.moves
+    let old : EnsembleView = record { nodes = c.self.inside.nodes; asked = c.self.inside.asked.items; answered = c.self.inside.answered.items; order = c.self.inside.order.items; refused = 0; found = first_found c.self.inside.found.items } in
+    goes_on_after old.found old (record old { nodes = c.open_verifier.new.self }) (λ before h. open_verifier_at_goes (ensemble_after before old) c.open_verifier.new.self h c.args.id c.open_verifier.ensures.moves) c.self.invariant
 
 pub returns-clause-size : goal.returns-clause-size
 returns-clause-size c = subst (λ (e : EnsembleView). size_of c.open_verifier.new.self ≡ size_of e.nodes) c.self.view_is (open_verifier_size _ c.args.id c.self.inside.nodes c.open_verifier.new.self c.open_verifier.ensures.moves)

@@ -3,7 +3,9 @@ use Rattle.verifier.specs.declared.input.Input.TheVariants.{Suspect}
 use Rattle.ensemble.specs.Nodes.{VerifierMoves, VerifierGets, size_of}
 use Rattle.ensemble.specs.Calls.{AllCollected}
 use Rattle.ensemble.specs.Served.{VerifierPosts}
-use Rattle.ensemble.specs.Ensemble.{EnsembleView}
+use Rattle.ensemble.specs.Ensemble.{EnsembleView, first_found}
+use Rattle.ensemble.specs.Process.{ensemble_after}
+use Rattle.ensemble.proofs.Ending.{goes_on_after}
 use Rattle.ensemble.proofs.Going.{suspect_at_goes}
 use Rattle.ensemble.proofs.Sizes.{verifier_size}
 use Rattle.ensemble.proofs.Collecting.{verifier_waits}
@@ -11,8 +13,8 @@ use Rattle.ensemble.proofs.ensemble.Ensemble.suspect.Goals as goal
 
 pub invariant_of-self : goal.invariant_of-self
 invariant_of-self c =
-    let old : EnsembleView = record { nodes = c.self.inside.nodes; asked = c.self.inside.asked.items; answered = c.self.inside.answered.items; order = c.self.inside.order.items; refused = 0 } in
-    suspect_at_goes old c.suspect.new.self c.self.invariant c.args.verifier c.suspect.ensures.moves
+    let old : EnsembleView = record { nodes = c.self.inside.nodes; asked = c.self.inside.asked.items; answered = c.self.inside.answered.items; order = c.self.inside.order.items; refused = 0; found = first_found c.self.inside.found.items } in
+    goes_on_after old.found old (record old { nodes = c.suspect.new.self }) (λ before h. suspect_at_goes (ensemble_after before old) c.suspect.new.self h c.args.verifier c.suspect.ensures.moves) c.self.invariant
 
 pub returns-clause-told : goal.returns-clause-told
 returns-clause-told c = subst (λ (e : EnsembleView). VerifierMoves (VerifierGets Suspect) c.args.verifier e.nodes c.suspect.new.self) c.self.view_is c.suspect.ensures.moves

@@ -6,7 +6,7 @@ use Rattle.service.proofs.MomentLemmas.{same_moments, answered_moments, given_ha
 use Rattle.service.specs.declared.assignment.Outstanding.{Outstanding}
 use Rattle.service.specs.Owed.{Remembers}
 use Rattle.service.proofs.OwedLemmas.{gives_nothing, gives_back}
-use Rattle.service.proofs.KeepLemmas.{tended_keeps, ends_keeps, replied_keeps, gives_one, lined}
+use Rattle.service.proofs.KeepLemmas.{tended_keeps, ends_keeps, replied_keeps, gives_one, gives_none, lined}
 use Rattle.service.specs.Told.{TellsIn}
 use Rattle.service.proofs.ToldLemmas.{tells_more, tells_same}
 use Rattle.service.proofs.service.Service.answer.Goals as goal
@@ -43,3 +43,7 @@ returns-clause-tells c =
 
 pub returns-in_default-clause-tells : goal.returns-in_default-clause-tells
 returns-in_default-clause-tells c = tells_same _ _ _ _ c.args.said.now.items c.args.said.now.items (ap (λ (x : ServiceView). x.connections.table) c.self.view_is) refl
+
+pub returns-in_default-clause-given : goal.returns-in_default-clause-given
+returns-in_default-clause-given c =
+    subst (λ (x : ServiceView). Gives x.connections c.args.said.now.items c.self.inside.connections c.args.said.now.items) c.self.view_is (gives_none c.self.inside.connections c.args.said.now.items)

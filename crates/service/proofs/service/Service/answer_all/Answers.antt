@@ -5,7 +5,7 @@ use Rattle.proto.specs.declared.reply.Reply as replies
 use Rattle.ensemble.specs.declared.answer.Answer.{Answer}
 use Rattle.ensemble.specs.declared.noted.Noted.{Noted}
 use Rattle.ensemble.specs.Ensemble.{answer_entry, order_entry}
-use Rattle.service.proofs.KeepLemmas.{gives_none, gives_on}
+use Rattle.service.proofs.KeepLemmas.{gives_none, gives_on, same_process, process_on}
 use Rattle.service.proofs.ToldLemmas.{tells_on, tells_same}
 use Rattle.service.proofs.service.Service.answer_all.Goals as goal
 
@@ -21,6 +21,7 @@ loop-answer-init c = record {
   none = λ empty. (empty, refl, refl);
   answered = refl;
   heard = refl;
+  process = same_process _;
   counted = omega arith;
   ensemble = refl;
 }
@@ -34,6 +35,7 @@ loop-answer-preserved c = record {
   none = λ empty. absurd (not_empty c.loop-answer.answers.items c.pop.new.self.items c.in-Some.answer c.in-Some.ensures.items (c.loop-answer.invariant.none empty).0);
   answered = c.answer.ensures.answered ∙ c.loop-answer.invariant.answered;
   heard = c.answer.ensures.heard ∙ c.loop-answer.invariant.heard;
+  process = process_on _ _ _ c.loop-answer.invariant.process c.answer.ensures.process;
   counted = let a = c.loop-answer.invariant.counted in let b = c.answer.ensures.counted in omega (arith, a, b);
   ensemble = c.answer.ensures.ensemble ∙ c.loop-answer.invariant.ensemble;
 }

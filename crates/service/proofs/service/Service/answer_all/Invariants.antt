@@ -1,5 +1,5 @@
 use Rattle.std.proofs.Common.{◌≡◌, ◌≤◌, [], length}
-use Rattle.service.specs.Service.{Gives, AreLogged}
+use Rattle.service.specs.Service.{Gives, AreLogged, IsSameProcess}
 use Rattle.service.specs.Told.{TellsMore}
 use Rattle.service.proofs.service.Service.answer_all.Given as goal
 
@@ -11,6 +11,7 @@ invariant-loop-answer l = record {
   none : l.initial.answers.items ≡ [] → (l.answers.items ≡ []) × (l.self.line ≡ l.initial.self.line) × (l.self.waiting ≡ l.initial.self.waiting);
   answered : l.self.answered ≡ l.initial.self.answered;
   heard : l.self.connections.heard ≡ l.initial.self.connections.heard;
+  process : IsSameProcess l.initial.self l.self;
   counted : l.initial.self.replicas.refused ≤ l.self.replicas.refused;
   ensemble : l.self.replicas.ensemble ≡ l.initial.self.replicas.ensemble;
 }

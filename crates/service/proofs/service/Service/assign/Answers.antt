@@ -1,13 +1,13 @@
 use Rattle.std.proofs.Common.{rules, ◌≡◌, ◌<◌, ◌+◌, List, ◌∷◌, ◌++◌, Option, None, refl, ap, ◌∙◌, subst, length}
 use Rattle.std.specs.Prelude.{option_to_list}
 use Rattle.service.specs.declared.note.Waiting.{Waiting}
-use Rattle.service.specs.Service.{ServiceView, none_shown, assigned}
+use Rattle.service.specs.Service.{ServiceView, none_shown, assigned, Gives}
 use Rattle.service.specs.Owed.{Remembers}
 use Rattle.connections.specs.declared.said.Said.{Said}
 use Rattle.service.specs.Told.{TellsIn}
 use Rattle.service.proofs.ToldLemmas.{assign_tells, shorter, tells_same}
 use Rattle.service.proofs.MomentLemmas.{assigned_moments, given_handed, asked_moments, moment_now}
-use Rattle.service.proofs.KeepLemmas.{assign_keeps, assign_gives, lined}
+use Rattle.service.proofs.KeepLemmas.{assign_keeps, assign_gives, lined, asks_same}
 use Rattle.service.proofs.OwedLemmas.{assign_remembers}
 use Rattle.service.proofs.service.Service.assign.Goals as goal
 
@@ -45,6 +45,16 @@ returns-clause-tells c =
     (subst (λ (said : List Said). TellsIn s.connections.table (s.refused + s.ensemble.refused) said next.table (c.free_proxy.new.refused + f.refused) c.settle.new.said.items) kept
     (assign_tells w.at c.in-Some.proxy s.connections next s.ensemble f c.ask-asking.result s.pool c.settle.new.pool _ _ (s.refused + s.ensemble.refused) (c.free_proxy.new.refused + f.refused) c.reserve.new.self.items c.settle.new.said.items w.at.key c.ask-asking.ensures.asks c.ask-asking.ensures.told c.settle.ensures))
 
+pub returns-clause-process : goal.returns-clause-process
+returns-clause-process c =
+    let s = c.self.inside in
+    let same = asks_same c.in-Some-pop_front.waiting.at c.in-Some.proxy s.connections c.ask-asking.new.connections s.ensemble c.ask-asking.new.ensemble c.ask-asking.result c.ask-asking.ensures.asks in
+    record {
+      dialect = same.0 ∙ ap (λ (x : ServiceView). x.connections.dialect) c.self.view_is;
+      first = same.1 ∙ ap (λ (x : ServiceView). x.connections.first) c.self.view_is;
+      found = same.2 ∙ ap (λ (x : ServiceView). x.replicas.ensemble.found) c.self.view_is;
+    }
+
 pub returns-clause-goes_on : goal.returns-clause-goes_on
 returns-clause-goes_on c = λ yes.
     let s = c.self.inside in
@@ -64,3 +74,13 @@ pub returns-in_default-pop_front-clause-tells : goal.returns-in_default-pop_fron
 returns-in_default-pop_front-clause-tells c =
     let kept : c.reserve.new.self.items ≡ c.args.said.now.items = search rules in
     tells_same _ _ _ _ c.args.said.now.items c.reserve.new.self.items (ap (λ (x : ServiceView). x.connections.table) c.self.view_is) kept
+
+pub returns-clause-given : goal.returns-clause-given
+returns-clause-given c =
+    let s = c.self.inside in
+    let next = c.ask-asking.new.connections in
+    let f = c.ask-asking.new.ensemble in
+    let kept : c.reserve.new.self.items ≡ c.args.said.now.items = search rules in
+    subst (λ (x : ServiceView). Gives x.connections c.args.said.now.items next c.settle.new.said.items) c.self.view_is
+    (subst (λ (said : List Said). Gives s.connections said next c.settle.new.said.items) kept
+    (assign_gives _ _ s.connections next s.ensemble f c.ask-asking.result s.pool c.settle.new.pool _ (assigned c.settle.new.assignments.items) c.reserve.new.self.items c.settle.new.said.items c.in-Some-pop_front.waiting.at.key c.ask-asking.ensures.asks c.settle.ensures))

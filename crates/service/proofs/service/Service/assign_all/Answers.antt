@@ -1,6 +1,6 @@
 use Rattle.std.proofs.Common.{refl, ◌∙◌, arith}
 use Rattle.service.specs.Told.{AsksAll}
-use Rattle.service.proofs.KeepLemmas.{gives_none, gives_on}
+use Rattle.service.proofs.KeepLemmas.{gives_none, gives_on, same_process, process_on}
 use Rattle.service.proofs.ToldLemmas.{tells_on, tells_same, unless_on}
 use Rattle.service.proofs.service.Service.assign_all.Goals as goal
 
@@ -30,6 +30,7 @@ loop-alloc-init c = record {
   tells = tells_same c.args.self.now.connections.table c.args.self.now.connections.table c.args.self.now.replicas.refused c.args.self.now.replicas.refused c.args.said.now.items c.args.said.now.items refl refl;
   answered = refl;
   heard = refl;
+  process = same_process _;
   counted = omega arith;
   size = refl;
 }
@@ -40,6 +41,7 @@ loop-alloc-preserved c = record {
   tells = tells_on _ _ _ _ _ _ c.args.said.now.items c.loop-alloc.said.items c.assign.new.said.items c.loop-alloc.invariant.counted c.assign.ensures.counted c.loop-alloc.invariant.tells c.assign.ensures.tells;
   answered = c.assign.ensures.answered ∙ c.loop-alloc.invariant.answered;
   heard = c.assign.ensures.heard ∙ c.loop-alloc.invariant.heard;
+  process = process_on _ _ _ c.loop-alloc.invariant.process c.assign.ensures.process;
   counted = let a = c.loop-alloc.invariant.counted in let b = c.assign.ensures.counted in omega (arith, a, b);
   size = c.assign.ensures.size ∙ c.loop-alloc.invariant.size;
 }

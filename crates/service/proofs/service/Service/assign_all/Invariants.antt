@@ -1,6 +1,6 @@
 use Rattle.std.proofs.Common.{◌≡◌, ◌≤◌, length}
 use Rattle.ensemble.specs.Nodes.{size_of}
-use Rattle.service.specs.Service.{Gives}
+use Rattle.service.specs.Service.{Gives, IsSameProcess}
 use Rattle.service.specs.Told.{TellsMore}
 use Rattle.service.proofs.service.Service.assign_all.Given as goal
 
@@ -10,6 +10,7 @@ invariant-loop-alloc l = record {
   tells : TellsMore l.initial.self l.initial.said.items l.self l.said.items;
   answered : l.self.answered ≡ l.initial.self.answered;
   heard : l.self.connections.heard ≡ l.initial.self.connections.heard;
+  process : IsSameProcess l.initial.self l.self;
   counted : l.initial.self.replicas.refused ≤ l.self.replicas.refused;
   size : size_of l.self.replicas.ensemble.nodes ≡ size_of l.initial.self.replicas.ensemble.nodes;
 }

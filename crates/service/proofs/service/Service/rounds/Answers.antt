@@ -1,7 +1,7 @@
 use Rattle.std.proofs.Common.{refl, ◌∙◌, inl, arith}
 use Rattle.service.specs.Told.{AsksAll}
 use Rattle.service.proofs.MomentLemmas.{now_given}
-use Rattle.service.proofs.KeepLemmas.{gives_none, gives_on}
+use Rattle.service.proofs.KeepLemmas.{gives_none, gives_on, same_process, process_on}
 use Rattle.service.proofs.ToldLemmas.{tells_on, tells_same, unless_on, more_answers}
 use Rattle.service.proofs.service.Service.rounds.Goals as goal
 
@@ -28,6 +28,7 @@ loop-init g c = record {
   tells = tells_same c.args.self.now.connections.table c.args.self.now.connections.table c.args.self.now.replicas.refused c.args.self.now.replicas.refused c.args.said.now.items c.args.said.now.items refl refl;
   more = omega arith;
   heard = refl;
+  process = same_process _;
   counted = omega arith;
   size = refl;
   rest = λ below. absurd (omega (arith, below));
@@ -39,6 +40,7 @@ loop-preserved g c = record {
   tells = tells_on _ _ _ _ _ _ c.args.said.now.items c.loop.said.items c.round.new.said.items c.loop.invariant.counted c.round.ensures.counted c.loop.invariant.tells c.round.ensures.tells;
   more = more_answers c.loop.counter 1 c.args.self.now c.loop.self c.round.new.self c.loop.invariant.more (c.round.ensures.goes_on.1 c.if-not-round.false);
   heard = c.round.ensures.heard ∙ c.loop.invariant.heard;
+  process = process_on _ _ _ c.loop.invariant.process c.round.ensures.process;
   counted = let a = c.loop.invariant.counted in let b = c.round.ensures.counted in omega (arith, a, b);
   size = c.round.ensures.size ∙ c.loop.invariant.size;
   rest = λ from_one same few. let a = c.loop.invariant.counted in let b = c.round.ensures.counted in c.round.ensures.rest (omega (arith, a, b, same)) (omega (arith, a, b, same, few));

@@ -1,10 +1,27 @@
-use Rattle.std.proofs.Common.{subst}
-use Rattle.service.specs.Service.{ServiceView, none_shown, IsService, assigned}
+use Rattle.std.proofs.Common.{rules, ◌+◌, refl, subst}
+use Rattle.service.specs.Service.{ServiceView, none_shown, assigned}
+use Rattle.service.specs.Process.{IsServiceAlone, IsProcess}
 use Rattle.service.proofs.KeepLemmas.{seen}
+use Rattle.service.proofs.Ending.{own_after}
 use Rattle.service.proofs.service.Service.shows.Goals as goal
 
-pub returns-clause-service : goal.returns-clause-service
-returns-clause-service c =
+pub returns : goal.returns
+returns c =
     let s = c.self.inside in
-    let v : ServiceView = record { connections = s.connections; asked = s.ensemble.asked; answered = s.ensemble.answered; order = s.ensemble.order; assignments = assigned s.assignments.items; waiting = s.pool; line = s.line.items; replicas = none_shown } in
-    subst IsService c.self.view_is (seen v _ c.self.invariant.0)
+    let alone : ServiceView = record { connections = s.connections; asked = s.ensemble.asked; answered = s.ensemble.answered; order = s.ensemble.order; assignments = assigned s.assignments.items; waiting = s.pool; line = s.line.items; replicas = none_shown } in
+    let v : ServiceView = record alone { replicas = record { ensemble = s.ensemble; refused = s.refused + s.ensemble.refused; pauses = s.nodes.pauses.items } } in
+    let own : IsServiceAlone v = record {
+      connections = c.always.ensures.connections;
+      history = c.always.ensures.history;
+      moments = c.self.invariant.1;
+      service = seen alone v.replicas c.self.invariant.0;
+      remembers = c.self.invariant.3;
+      same_asked = refl;
+      same_answered = refl;
+      same_order = refl;
+    } in
+    record {
+      own = subst IsServiceAlone c.self.view_is own;
+      ensemble = search rules;
+      process = subst IsProcess c.self.view_is (own_after v own c.shows.ensures);
+    }

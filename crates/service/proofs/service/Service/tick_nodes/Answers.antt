@@ -10,7 +10,7 @@ loop-at-preserved c =
     record {
       connections = is.connections ∙ was.connections;
       size = is.size ∙ was.size;
-      asks = record { asked = is.asks.asked ∙ was.asks.asked; answered = is.asks.answered ∙ was.asks.answered; order = is.asks.order ∙ was.asks.order; assignments = is.asks.assignments ∙ was.asks.assignments; line = is.asks.line ∙ was.asks.line };
+      asks = record { asked = is.asks.asked ∙ was.asks.asked; answered = is.asks.answered ∙ was.asks.answered; order = is.asks.order ∙ was.asks.order; assignments = is.asks.assignments ∙ was.asks.assignments; line = is.asks.line ∙ was.asks.line; found = is.asks.found ∙ was.asks.found };
       waiting = is.waiting ∙ was.waiting;
       counted = let a = was.counted in let b = is.counted in omega (arith, a, b);
       paused = one_set Paused c.loop-at.at _ _ _ _ refl was.paused (node_sets c.loop-at.at _ _ _ _ is.paused.1);

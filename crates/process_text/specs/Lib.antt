@@ -1,0 +1,5 @@
+pub mod Rows
+pub mod RowLaws
+pub mod Text
+pub mod TextLaws
+pub mod StateOf

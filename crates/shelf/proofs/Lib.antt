@@ -1,0 +1,7 @@
+mod RowLemmas
+mod LogLemmas
+mod SortLemmas
+mod StandingLemmas
+mod FitLemmas
+mod OpenLemmas
+mod SaveLemmas

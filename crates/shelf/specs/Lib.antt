@@ -1,0 +1,4 @@
+pub mod Rows
+pub mod Standing
+pub mod InMemory
+pub mod Found

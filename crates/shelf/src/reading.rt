@@ -1,0 +1,107 @@
+//! The items that a file says.
+
+ghost use Rattle.std.specs.Prelude.{◌≡◌, ℕ, pos, Some, None, if◌then◌else◌, IfOk, OnOk};
+ghost use Rattle.sqlite_trees.specs.Tree.{has_rowid};
+ghost use Rattle.item_rows.specs.Changes.{with_change};
+ghost use Rattle.shelf.specs.Rows.{row_at, row_of_change};
+ghost use Rattle.shelf.specs.InMemory.{standing};
+ghost use Rattle.shelf.specs.Standing.{changed, items_of};
+ghost use Rattle.shelf.specs.Found.{rows_found};
+
+use crate::waiting::Waiting;
+use base::Entry;
+use item_rows::{PlacedItems, placed_of};
+use items::Item;
+use proto::{Fault, Key};
+use sqlite_value::row::Row;
+use std::alloc::{AllocError, Global};
+use std::collections::BTreeMap;
+use wire::Counted;
+
+/// The items of places. A place with none, or that is not here, has no items.
+pub type FoundItems = BTreeMap<u64, Counted<Entry<Key, Item>>>;
+
+/// The same items, shared.
+fn shared(
+    alloc: Global,
+    items: &[Entry<Key, Item>],
+) -> Result<Counted<Entry<Key, Item>>, AllocError>
+    ensures { IfOk result (λ shared. shared ≡ items.now) }
+{
+    let mut shared = Vec::new(alloc);
+    for item in items {
+        shared.push(item.clone()?)?;
+    }
+    Ok(Counted::new(shared))
+}
+
+/// Notes what is at a place.
+fn note(alloc: Global, found: &mut FoundItems, placed: &PlacedItems) -> Result<(), AllocError>
+    ensures { OnOk result ((p : ℕ) → rows_found found.new p ≡ with_change (rows_found found.old) (row_of_change placed.now) p) }
+{
+    let items = shared(alloc, placed.1.as_slice())?;
+    found.insert(placed.0, items)?;
+    Ok(())
+}
+
+/// Notes what became of places, in order.
+fn note_changes(
+    alloc: Global,
+    found: &mut FoundItems,
+    changes: &[PlacedItems],
+) -> Result<(), AllocError>
+    ensures { OnOk result ((p : ℕ) → rows_found found.new p ≡ changed (rows_found found.old) changes.now p) }
+{
+    for placed in changes {
+        note(alloc, found, placed)?;
+    }
+    Ok(())
+}
+
+/// Notes what a row has.
+fn note_row(alloc: Global, found: &mut FoundItems, row: &Row) -> Result<(), Fault>
+    ensures { OnOk result ((p : ℕ) → rows_found found.new p ≡ (if has_rowid (pos p) row.now then Some row.now else rows_found found.old p)) }
+{
+    let placed = placed_of(alloc, row)?;
+    note(alloc, found, &placed)?;
+    Ok(())
+}
+
+/// Notes what all rows have.
+fn note_rows(alloc: Global, found: &mut FoundItems, rows: &[Row]) -> Result<(), Fault>
+    requires { (p : ℕ) → rows_found found.old p ≡ None }
+    ensures { OnOk result ((p : ℕ) → rows_found found.new p ≡ row_at rows.now p) }
+{
+    for index in 0..rows.len() {
+        note_row(alloc, found, &rows[rows.len() - 1 - index])?;
+    }
+    Ok(())
+}
+
+/// Notes rows, and over them changes.
+fn note_all(
+    alloc: Global,
+    found: &mut FoundItems,
+    rows: &[Row],
+    waiting: &Waiting,
+) -> Result<(), Fault>
+    requires { (p : ℕ) → rows_found found.old p ≡ None }
+    ensures { OnOk result ((p : ℕ) → rows_found found.new p ≡ items_of (standing waiting.now) (row_at rows.now) p) }
+{
+    note_rows(alloc, found, rows)?;
+    note_changes(alloc, found, waiting.rest())?;
+    note_changes(alloc, found, &waiting.gathered)?;
+    Ok(())
+}
+
+/// The items that rows have with changes over them. A row that no save made is a BadRecord. The only other error is a
+/// failed allocation, NoMemory.
+pub fn read_items(alloc: Global, rows: &[Row], waiting: &Waiting) -> Result<FoundItems, Fault>
+    ensures { IfOk result (λ found. (p : ℕ) → rows_found found p ≡ items_of (standing waiting.now) (row_at rows.now) p) }
+{
+    let mut found = BTreeMap::new(alloc);
+    match note_all(alloc, &mut found, rows, waiting) {
+        Ok(()) => Ok(found),
+        Err(fault) => Err(fault),
+    }
+}
