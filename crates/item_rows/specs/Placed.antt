@@ -28,7 +28,7 @@ abbrev pub placed_row : PlacedItems → Option Row
 placed_row placed = row_of_items placed.0 placed.1
 
 -- a place that has a row, and so many items as can be counted
-pub record IsPlaced (placed : PlacedItems) : Type 0 where
+pub record FitsItsPlace (placed : PlacedItems) : Type 0 where
   pub place : placed.0 < 2 ^ 63
   pub count : length placed.1 < 2 ^ 32
 

@@ -6,7 +6,7 @@ ghost use Rattle.sqlite_value.specs.declared.value.Value.TheVariants as sql;
 ghost use Rattle.wire.specs.Field.{list_text};
 ghost use Rattle.wire.specs.Item.{entry_text};
 ghost use Rattle.item_rows.specs.Row.{full_row};
-ghost use Rattle.item_rows.specs.Placed.{more_column, placed_row, IsPlaced};
+ghost use Rattle.item_rows.specs.Placed.{more_column, placed_row, FitsItsPlace};
 
 use crate::row::{columns_in, row_with};
 use base::Entry;
@@ -23,7 +23,7 @@ pub type PlacedItems = (u64, Counted<Entry<Key, Item>>);
 
 /// Whether a place has a row, and its items can be counted there.
 pub fn fits_place(place: u64, items: &[Entry<Key, Item>]) -> bool
-    ensures { IsTrue result ↔ IsPlaced (place, items.now) }
+    ensures { IsTrue result ↔ FitsItsPlace (place, items.now) }
 {
     place < 1 << 63 && items.len() < 1 << 32
 }
@@ -76,7 +76,7 @@ pub fn placed_row(
     place: u64,
     items: &[Entry<Key, Item>],
 ) -> Result<Option<Row>, AllocError>
-    requires { IsPlaced (place, items.now) }
+    requires { FitsItsPlace (place, items.now) }
     ensures { IfOk result (λ row. row ≡ placed_row (place, items.now)) }
 {
     match items {

@@ -10,12 +10,12 @@ use Rattle.row_store.specs.declared.change.RowChange.TheVariants.{Put, Remove}
 use Rattle.row_store.specs.Saved.{ChangeFits, ChangesFit}
 use Rattle.item_rows.specs.Changes.{ItemChange}
 use Rattle.item_rows.specs.Placed.{PlacedItems}
-use Rattle.shelf.specs.declared.process.Process.{Process}
+use Rattle.shelf.specs.declared.process.SavedProcess.{SavedProcess}
 use Rattle.shelf.specs.declared.reply.ReplyChange.{ReplyChange}
 use Rattle.shelf.specs.Rows.{change_row, process_row, change_in, row_of_change, row_of_reply}
-use Rattle.shelf.specs.Standing.{Standing, removes, first_after, process_changes, planned}
+use Rattle.shelf.specs.WaitingView.{WaitingView, removals, first_after, process_changes, planned}
 use Rattle.shelf.proofs.RowLemmas.{IsNumbered}
-use Rattle.shelf.proofs.StandingLemmas.{map_twice, numbered, numbered_replies}
+use Rattle.shelf.proofs.WaitingLemmas.{map_twice, numbered, numbered_replies}
 
 one_fits : (t : ℕ) (c : ItemChange Row) → t < 5 → IsNumbered c → ChangeFits 5 (change_in t c)
 one_fits t (n, None) h k = h
@@ -25,11 +25,11 @@ all_fit : (t : ℕ) (cs : List (ItemChange Row)) → t < 5 → AllByRecursion Is
 all_fit t [] h all = tt
 all_fit t (c ∷ cs) h all = (one_fits t c h all.0, all_fit t cs h all.1)
 
-removes_fit : (first n : ℕ) → ChangesFit 5 (removes first n)
+removes_fit : (first n : ℕ) → ChangesFit 5 (removals first n)
 removes_fit first zero = All-nil (ChangeFits 5)
-removes_fit first (suc n) = All-append (ChangeFits 5) (removes first n) _ (removes_fit first n) (All-cons (ChangeFits 5) _ [] (omega arith) (All-nil (ChangeFits 5)))
+removes_fit first (suc n) = All-append (ChangeFits 5) (removals first n) _ (removes_fit first n) (All-cons (ChangeFits 5) _ [] (omega arith) (All-nil (ChangeFits 5)))
 
-process_fits : (process : Option Process) → ChangesFit 5 (process_changes process)
+process_fits : (process : Option SavedProcess) → ChangesFit 5 (process_changes process)
 process_fits None = All-nil (ChangeFits 5)
 process_fits (Some p) = All-cons (ChangeFits 5) _ [] (omega arith, refl) (All-nil (ChangeFits 5))
 
@@ -39,11 +39,11 @@ rows_fit placed = subst (ChangesFit 5) (sym (map_twice (change_in 0) row_of_chan
 replies_fit : (replies : List ReplyChange) → ChangesFit 5 (map (λ r. change_in 3 (row_of_reply r)) replies)
 replies_fit replies = subst (ChangesFit 5) (sym (map_twice (change_in 3) row_of_reply replies)) (All-from_recursion (ChangeFits 5) _ (all_fit 3 (map row_of_reply replies) (omega arith) (numbered_replies replies)))
 
-pub planned_fits : (s : Standing) (count : ℕ) (changes : List PlacedItems) (process : Option Process) (replies : List ReplyChange) → ChangesFit 5 (planned s count changes process replies)
+pub planned_fits : (s : WaitingView) (count : ℕ) (changes : List PlacedItems) (process : Option SavedProcess) (replies : List ReplyChange) → ChangesFit 5 (planned s count changes process replies)
 planned_fits s count changes process replies =
     let one = Put 1 (change_row s.next changes) in
     let rows = map (λ c. change_in 0 (row_of_change c)) (take count s.pending) in
-    let gone = removes s.first (first_after s count - s.first) in
+    let gone = removals s.first (first_after s count - s.first) in
     let told = process_changes process in
     let a : ChangesFit 5 (one ∷ rows) = All-cons (ChangeFits 5) one rows (omega arith, refl) (rows_fit (take count s.pending)) in
     let b : ChangesFit 5 ((one ∷ rows) ++ gone) = All-append (ChangeFits 5) (one ∷ rows) gone a (removes_fit s.first (first_after s count - s.first)) in

@@ -1,7 +1,7 @@
 mod RowLemmas
 mod LogLemmas
 mod SortLemmas
-mod StandingLemmas
+mod WaitingLemmas
 mod FitLemmas
 mod OpenLemmas
 mod SaveLemmas

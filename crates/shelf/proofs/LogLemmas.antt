@@ -12,7 +12,7 @@ use Rattle.row_store.specs.declared.change.RowChange.TheVariants.{Remove}
 use Rattle.row_store.specs.Saved.{after, after_one}
 use Rattle.item_rows.specs.Placed.{PlacedItems}
 use Rattle.shelf.specs.Rows.{change_row, change_rows}
-use Rattle.shelf.specs.Standing.{removes}
+use Rattle.shelf.specs.WaitingView.{removals}
 use Rattle.shelf.proofs.RowLemmas.{number_same, after-append, tree_other}
 
 int_less : (a b : ℕ) → a < b → int_cmp (pos a) (pos b) ≡ Less
@@ -44,24 +44,24 @@ drop_step (suc n) (x ∷ xs) h = drop_step n xs (omega (arith, h))
 
 -- the first rows go
 pub log_removed : (n first : ℕ) (log : List (List PlacedItems)) (db : Trees) → n ≤ length log → db 1 ≡ change_rows first log
-    → after (removes first n) db 1 ≡ change_rows (first + n) (drop n log)
+    → after (removals first n) db 1 ≡ change_rows (first + n) (drop n log)
 log_removed zero first log db h is = is ∙ ap (λ (m : ℕ). change_rows m log) (omega arith)
 log_removed (suc n) first log db h is =
     let step = drop_step n log (omega (arith, h)) in
     let more = log_removed n first log db (omega (arith, h)) is in
-    ap (λ (t : Trees). t 1) (after-append (removes first n) (Remove 1 (pos (first + n)) ∷ []) db)
+    ap (λ (t : Trees). t 1) (after-append (removals first n) (Remove 1 (pos (first + n)) ∷ []) db)
     ∙ (ap (λ (rows : List Row). without_rowid (pos (first + n)) rows) (more ∙ ap (λ (rest : List (List PlacedItems)). change_rows (first + n) rest) step.1)
     ∙ (first_goes (first + n) step.0 (drop (suc n) log) ∙ ap (λ (m : ℕ). change_rows m (drop (suc n) log)) (omega arith)))
 
-pub removes_others : (n first u : ℕ) (db : Trees) → (u == 1) ≡ false → after (removes first n) db u ≡ db u
+pub removes_others : (n first u : ℕ) (db : Trees) → (u == 1) ≡ false → after (removals first n) db u ≡ db u
 removes_others zero first u db h = refl
 removes_others (suc n) first u db h =
-    ap (λ (t : Trees). t u) (after-append (removes first n) (Remove 1 (pos (first + n)) ∷ []) db)
-    ∙ (tree_other (after (removes first n) db) 1 u _ h ∙ removes_others n first u db h)
+    ap (λ (t : Trees). t u) (after-append (removals first n) (Remove 1 (pos (first + n)) ∷ []) db)
+    ∙ (tree_other (after (removals first n) db) 1 u _ h ∙ removes_others n first u db h)
 
 -- one row more goes
-pub removes_next : (first number : ℕ) → first ≤ number → removes first (number + 1 - first) ≡ removes first (number - first) ++ Remove 1 (pos number) ∷ []
+pub removes_next : (first number : ℕ) → first ≤ number → removals first (number + 1 - first) ≡ removals first (number - first) ++ Remove 1 (pos number) ∷ []
 removes_next first number h =
     let count : number + 1 - first ≡ suc (number - first) = omega (arith, h) in
     let same : first + (number - first) ≡ number = omega (arith, h) in
-    ap (removes first) count ∙ ap (λ n. removes first (number - first) ++ Remove 1 (pos n) ∷ []) same
+    ap (removals first) count ∙ ap (λ n. removals first (number - first) ++ Remove 1 (pos n) ∷ []) same

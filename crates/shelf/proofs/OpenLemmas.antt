@@ -9,8 +9,8 @@ use Rattle.item_rows.specs.Row.{full_row}
 use Rattle.item_rows.specs.Changes.{Rows, with_change}
 use Rattle.item_rows.specs.Placed.{PlacedItems, placed_row, more_column}
 use Rattle.shelf.specs.Rows.{row_at, change_row, change_rows, row_of_change}
-use Rattle.shelf.specs.Standing.{all_of, changed, IsLog, Standing, IsStanding, TurnsOver}
-use Rattle.shelf.proofs.StandingLemmas.{all_of-append, changed-append, changed_alike, turned_over}
+use Rattle.shelf.specs.WaitingView.{all_of, changed_rows, IsLog, WaitingView, HasWaiting, TurnsOver}
+use Rattle.shelf.proofs.WaitingLemmas.{all_of-append, changed_rows-append, changed_alike, turned_over}
 use Rattle.shelf.proofs.RowLemmas.{has_number}
 
 length-change_rows : (first : ℕ) (log : List (List PlacedItems)) → length (change_rows first log) ≡ length log
@@ -39,9 +39,9 @@ pub no_log : (first : ℕ) → IsLog first [] []
 no_log first = record { log = []; has_log = refl; all_are = refl }
 
 -- all changes of a file are gathered, and none is in a row yet
-pub log_standing : (first next : ℕ) (rows : List Row) (all : List PlacedItems) → first + length rows ≡ next → IsLog first rows all → (db : Trees) → db 1 ≡ rows
-    → IsStanding db (record { pending = []; gathered = all; first = first; middle = first; next = next })
-log_standing first next rows all e h db is = record {
+pub log_waiting : (first next : ℕ) (rows : List Row) (all : List PlacedItems) → first + length rows ≡ next → IsLog first rows all → (db : Trees) → db 1 ≡ rows
+    → HasWaiting db (record { pending = []; gathered = all; first = first; middle = first; next = next })
+log_waiting first next rows all e h db is = record {
   earlier = [];
   later = h.log;
   has_log = is ∙ h.has_log;
@@ -53,11 +53,11 @@ log_standing first next rows all e h db is = record {
 }
 
 -- what is in memory after an open is as the file has it
-pub standing_read : (first next : ℕ) (rows : List Row) (all : List PlacedItems) (begun turned : Standing) → begun ≡ record { pending = []; gathered = all; first = first; middle = first; next = next }
-    → (turned ≡ begun) ⊎ TurnsOver begun turned → first + length rows ≡ next → IsLog first rows all → (db : Trees) → db 1 ≡ rows → IsStanding db turned
-standing_read first next rows all begun turned begins turn e h db is =
-    let at_first : IsStanding db begun = subst (IsStanding db) (sym begins) (log_standing first next rows all e h db is) in
-    elim turn [ inl same ↦ subst (IsStanding db) (sym same) at_first | inr over ↦ turned_over db begun turned over at_first ]
+pub waiting_read : (first next : ℕ) (rows : List Row) (all : List PlacedItems) (begun turned : WaitingView) → begun ≡ record { pending = []; gathered = all; first = first; middle = first; next = next }
+    → (turned ≡ begun) ⊎ TurnsOver begun turned → first + length rows ≡ next → IsLog first rows all → (db : Trees) → db 1 ≡ rows → HasWaiting db turned
+waiting_read first next rows all begun turned begins turn e h db is =
+    let at_first : HasWaiting db begun = subst (HasWaiting db) (sym begins) (log_waiting first next rows all e h db is) in
+    elim turn [ inl same ↦ subst (HasWaiting db) (sym same) at_first | inr over ↦ turned_over db begun turned over at_first ]
 
 -- rows that are read from the last one to the first
 pub rows_back : (rows : List Row) (i : ℕ) (row : Row) → i < length rows → get_or rows (length rows - 1 - i) row ≡ row → (p : ℕ)
@@ -71,12 +71,12 @@ rows_back rows i row less is p =
 
 -- one change more is noted
 pub changed_more : (rows old new : Rows Row) (xs : List PlacedItems) (i : ℕ) (x : PlacedItems) → i < length xs → get_or xs i x ≡ x
-    → ((p : ℕ) → old p ≡ changed rows (take i xs) p) → ((p : ℕ) → new p ≡ with_change old (row_of_change x) p) → (p : ℕ) → new p ≡ changed rows (take (i + 1) xs) p
+    → ((p : ℕ) → old p ≡ changed_rows rows (take i xs) p) → ((p : ℕ) → new p ≡ with_change old (row_of_change x) p) → (p : ℕ) → new p ≡ changed_rows rows (take (i + 1) xs) p
 changed_more rows old new xs i x less is was now p =
     now p
-    ∙ (changed_alike old (changed rows (take i xs)) was (x ∷ []) p
-    ∙ (sym (changed-append rows (take i xs) (x ∷ []) p)
-    ∙ ap (λ ys. changed rows ys p) ((λ k. take i xs ++ sym is k ∷ []) ∙ sym (take_more xs i x less))))
+    ∙ (changed_alike old (changed_rows rows (take i xs)) was (x ∷ []) p
+    ∙ (sym (changed_rows-append rows (take i xs) (x ∷ []) p)
+    ∙ ap (λ ys. changed_rows rows ys p) ((λ k. take i xs ++ sym is k ∷ []) ∙ sym (take_more xs i x less))))
 
 abbrev IsNoRow : Option Row → Type 0
 IsNoRow None = ⊤

@@ -8,7 +8,7 @@ use Rattle.sqlite_value.specs.Order.{Row}
 use Rattle.item_rows.specs.Changes.{or_first, last_change}
 use Rattle.item_rows.specs.Placed.{PlacedItems}
 use Rattle.shelf.specs.Rows.{row_of_change}
-use Rattle.shelf.specs.Standing.{IsResorted}
+use Rattle.shelf.specs.WaitingView.{IsResorted}
 
 abbrev before : PlacedItems → PlacedItems → Bool
 before x y = is_lt (nat_cmp x.0 y.0)

@@ -3,18 +3,18 @@ use Rattle.std.specs.Prelude.{◌≡◌, ℕ, drop}
 use Rattle.sqlite_value.specs.Order.{Row}
 use Rattle.sqlite_trees.specs.Tree.{Trees}
 use Rattle.item_rows.specs.Changes.{Rows}
-use Rattle.shelf.specs.declared.waiting.Waiting.{Waiting}
+use Rattle.shelf.specs.declared.waiting.WaitingChanges.{WaitingChanges}
 use Rattle.shelf.specs.Rows.{row_at}
-use Rattle.shelf.specs.Standing.{Standing, items_of}
+use Rattle.shelf.specs.WaitingView.{WaitingView, items_at}
 
-abbrev pub standing : Waiting → Standing
-standing w = record { pending = drop w.done w.pending.items; gathered = w.gathered.items; first = w.first; middle = w.middle; next = w.next }
+abbrev pub waiting_view : WaitingChanges → WaitingView
+waiting_view w = record { pending = drop w.done w.pending.items; gathered = w.gathered.items; first = w.first; middle = w.middle; next = w.next }
 
 -- the row of what is at each place, by a file and by what is in memory of it
-abbrev pub items_in : Trees → Waiting → Rows Row
-items_in db w = items_of (standing w) (row_at (db 0))
+abbrev pub items_in : Trees → WaitingChanges → Rows Row
+items_in db w = items_at (waiting_view w) (row_at (db 0))
 
 -- neither the file nor what is at a place has changed
-pub record IsUnchanged (old : Trees) (before : Waiting) (new : Trees) (now : Waiting) : Type 0 where
+pub record IsUnchanged (old : Trees) (before : WaitingChanges) (new : Trees) (now : WaitingChanges) : Type 0 where
   pub file : new ≡ old
   pub items : (p : ℕ) → items_in new now p ≡ items_in old before p

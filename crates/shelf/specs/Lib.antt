@@ -1,4 +1,4 @@
 pub mod Rows
-pub mod Standing
+pub mod WaitingView
 pub mod InMemory
 pub mod Found

@@ -9,7 +9,7 @@ use Rattle.wire.specs.Field.{list_text}
 use Rattle.item_rows.specs.Row.{number_column}
 use Rattle.item_rows.specs.Changes.{ItemChange}
 use Rattle.item_rows.specs.Placed.{PlacedItems, placed_row, placed_text}
-use Rattle.shelf.specs.declared.process.Process.{Process}
+use Rattle.shelf.specs.declared.process.SavedProcess.{SavedProcess}
 use Rattle.shelf.specs.declared.reply.ReplyChange.{ReplyChange}
 use Rattle.shelf.specs.declared.reply.ReplyChange.TheVariants.{Kept, Gone}
 use Rattle.shelf.specs.declared.reply.LongReply.{LongReply}
@@ -29,10 +29,10 @@ change_rows first [] = []
 change_rows first (changes ∷ log) = change_row first changes ∷ change_rows (suc first) log
 
 -- the one row of a process
-abbrev pub process_row : Process → Row
+abbrev pub process_row : SavedProcess → Row
 process_row p = Int (pos 1) ∷ Null ∷ number_column p.stamp.start ∷ number_column p.stamp.turn ∷ Blob p.site ∷ Int (pos p.folder) ∷ Int (pos p.folders) ∷ Blob p.text ∷ []
 
-abbrev pub process_rows : Option Process → List Row
+abbrev pub process_rows : Option SavedProcess → List Row
 process_rows None = []
 process_rows (Some p) = process_row p ∷ []
 

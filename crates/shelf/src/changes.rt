@@ -3,12 +3,12 @@
 ghost use Rattle.std.specs.Prelude.{◌≡◌, ◌<◌, ◌+◌, ◌^◌, All, length, IsTrue, IfOk};
 ghost use Rattle.sqlite_trees.specs.Tree.{Trees};
 ghost use Rattle.wire.specs.Field.{list_text};
-ghost use Rattle.item_rows.specs.Placed.{IsPlaced, placed_text};
-ghost use Rattle.shelf.specs.InMemory.{standing};
+ghost use Rattle.item_rows.specs.Placed.{FitsItsPlace, placed_text};
+ghost use Rattle.shelf.specs.InMemory.{waiting_view};
 ghost use Rattle.shelf.specs.Rows.{change_row};
-ghost use Rattle.shelf.specs.Standing.{IsLog, IsStanding};
+ghost use Rattle.shelf.specs.WaitingView.{IsLog, HasWaiting};
 
-use crate::waiting::Waiting;
+use crate::waiting::WaitingChanges;
 use item_rows::{PlacedItems, fits_place};
 use proto::Fault;
 use sqlite_value::row::Row;
@@ -18,7 +18,7 @@ use wire::{Counted, put_list, read};
 
 /// Whether each of them is a place that has a row, with items that can be counted.
 fn each_fits(changes: &[PlacedItems]) -> bool
-    ensures { IsTrue result → All IsPlaced changes.now }
+    ensures { IsTrue result → All FitsItsPlace changes.now }
 {
     for placed in changes {
         if !fits_place(placed.0, placed.1.as_slice()) {
@@ -30,7 +30,7 @@ fn each_fits(changes: &[PlacedItems]) -> bool
 
 /// Whether they can be a row: there are not too many, and each fits.
 pub fn fit(changes: &[PlacedItems]) -> bool
-    ensures each { IsTrue result → All IsPlaced changes.now }
+    ensures each { IsTrue result → All FitsItsPlace changes.now }
     ensures few { IsTrue result → length changes.now < 2 ^ 32 }
 {
     changes.len() < 1 << 32 && each_fits(changes)
@@ -38,7 +38,7 @@ pub fn fit(changes: &[PlacedItems]) -> bool
 
 /// The text of changes.
 fn text_of(alloc: Global, changes: &[PlacedItems]) -> Result<Vec<u8>, AllocError>
-    requires each { All IsPlaced changes.now }
+    requires each { All FitsItsPlace changes.now }
     requires few { length changes.now < 2 ^ 32 }
     ensures { IfOk result (λ text. text.items ≡ list_text placed_text changes.now) }
 {
@@ -50,7 +50,7 @@ fn text_of(alloc: Global, changes: &[PlacedItems]) -> Result<Vec<u8>, AllocError
 /// The row of a save with this number. The only error is a failed allocation.
 pub fn change_row(alloc: Global, number: u64, changes: &[PlacedItems]) -> Result<Row, AllocError>
     requires number { number < 2 ^ 63 }
-    requires each { All IsPlaced changes.now }
+    requires each { All FitsItsPlace changes.now }
     requires few { length changes.now < 2 ^ 32 }
     ensures { IfOk result (λ row. row ≡ change_row number changes.now) }
 {
@@ -114,13 +114,13 @@ fn changes_in(alloc: Global, first: u64, rows: &[Row]) -> Result<Vec<PlacedItems
 }
 
 /// What is in memory of a file with these rows of changes. The errors are those of `changes_in`.
-pub fn waiting_of(alloc: Global, rows: &[Row]) -> Result<Waiting, Fault>
-    ensures { IfOk result (λ waiting. (db : Trees) → db 1 ≡ rows.now → ∥ IsStanding db (standing waiting) ∥₁) }
+pub fn waiting_of(alloc: Global, rows: &[Row]) -> Result<WaitingChanges, Fault>
+    ensures { IfOk result (λ waiting. (db : Trees) → db 1 ≡ rows.now → ∥ HasWaiting db (waiting_view waiting) ∥₁) }
 {
     let first = first_number(rows)?;
     let next = number_at(first, rows.len())?;
     let changes = changes_in(alloc, first, rows)?;
-    let mut waiting = Waiting::of_file(alloc, first, next, changes);
+    let mut waiting = WaitingChanges::of_file(alloc, first, next, changes);
     waiting.turn_over(alloc, 0);
     Ok(waiting)
 }

@@ -18,8 +18,8 @@ mod reply;
 mod shelf;
 mod waiting;
 
-pub use planning::Turn;
-pub use process::Process;
+pub use planning::SavedTurn;
+pub use process::SavedProcess;
 pub use reading::FoundItems;
 pub use reply::{LongReply, ReplyChange};
 pub use shelf::{ReadFault, Shelf};

@@ -2,15 +2,15 @@
 
 ghost use Rattle.std.specs.Prelude.{◌≡◌, ◌<◌, ◌≤◌, ◌-◌, ◌^◌, ◌∷◌, ◌++◌, [], pos, All, map, take, length, IfOk, OnOk};
 ghost use Rattle.row_store.specs.Saved.{ChangesFit};
-ghost use Rattle.item_rows.specs.Placed.{IsPlaced};
+ghost use Rattle.item_rows.specs.Placed.{FitsItsPlace};
 ghost use Rattle.shelf.specs.Rows.{change_row, change_in, row_of_change, row_of_reply};
-ghost use Rattle.shelf.specs.InMemory.{standing};
-ghost use Rattle.shelf.specs.Standing.{removes, process_changes, planned};
+ghost use Rattle.shelf.specs.InMemory.{waiting_view};
+ghost use Rattle.shelf.specs.WaitingView.{removals, process_changes, planned};
 
 use crate::changes::{change_row, fit};
-use crate::process::{Process, process_row};
+use crate::process::{SavedProcess, process_row};
 use crate::reply::{ReplyChange, reply_row};
-use crate::waiting::Waiting;
+use crate::waiting::WaitingChanges;
 use item_rows::{PlacedItems, fits_place, placed_row};
 use row_store::RowChange;
 use sqlite_trees::error::StoreError;
@@ -91,7 +91,7 @@ fn at_least(end: u64, first: u64) -> u64
 
 /// Plans that the rows of changes from `first` up to `end` go.
 fn plan_removes(out: &mut Vec<RowChange>, first: u64, end: u64) -> Result<(), StoreError>
-    ensures { OnOk result (out.new.items ≡ out.old.items ++ removes first (end - first)) }
+    ensures { OnOk result (out.new.items ≡ out.old.items ++ removals first (end - first)) }
 {
     for number in first..at_least(end, first) {
         plan_remove(out, number)?;
@@ -103,7 +103,7 @@ fn plan_removes(out: &mut Vec<RowChange>, first: u64, end: u64) -> Result<(), St
 fn plan_process(
     alloc: Global,
     out: &mut Vec<RowChange>,
-    process: &Option<Process>,
+    process: &Option<SavedProcess>,
 ) -> Result<(), StoreError>
     ensures { OnOk result (out.new.items ≡ out.old.items ++ process_changes process.now) }
 {
@@ -148,9 +148,9 @@ fn plan_replies(
 
 /// What is saved beside items.
 #[derive(Drop)]
-pub struct Turn {
+pub struct SavedTurn {
     /// What is known of the process. `None` leaves what the file has of it.
-    pub process: Option<Process>,
+    pub process: Option<SavedProcess>,
     pub replies: Vec<ReplyChange>,
 }
 
@@ -158,14 +158,14 @@ pub struct Turn {
 fn plan_all(
     alloc: Global,
     out: &mut Vec<RowChange>,
-    waiting: &Waiting,
+    waiting: &WaitingChanges,
     count: usize,
-    turn: &Turn,
+    turn: &SavedTurn,
     changes: &[PlacedItems],
 ) -> Result<(), StoreError>
     requires none { out.old.items ≡ [] }
-    requires count { count ≤ length (standing waiting.now).pending }
-    ensures planned { OnOk result (out.new.items ≡ planned (standing waiting.now) count changes.now turn.now.process turn.now.replies.items) }
+    requires count { count ≤ length (waiting_view waiting.now).pending }
+    ensures planned { OnOk result (out.new.items ≡ planned (waiting_view waiting.now) count changes.now turn.now.process turn.now.replies.items) }
     ensures small { OnOk result (waiting.now.next < 2 ^ 63) }
 {
     plan_changes(alloc, out, waiting.next, changes)?;
@@ -179,13 +179,13 @@ fn plan_all(
 /// Full if there is no number for the save, or a place or the count of its items is out of range.
 pub fn plan(
     alloc: Global,
-    waiting: &Waiting,
+    waiting: &WaitingChanges,
     count: usize,
-    turn: &Turn,
+    turn: &SavedTurn,
     changes: &[PlacedItems],
 ) -> Result<Vec<RowChange>, StoreError>
-    requires count { count ≤ length (standing waiting.now).pending }
-    ensures planned { IfOk result (λ all. all.items ≡ planned (standing waiting.now) count changes.now turn.now.process turn.now.replies.items) }
+    requires count { count ≤ length (waiting_view waiting.now).pending }
+    ensures planned { IfOk result (λ all. all.items ≡ planned (waiting_view waiting.now) count changes.now turn.now.process turn.now.replies.items) }
     ensures fit { IfOk result (λ all. ChangesFit 5 all.items) }
     ensures small { OnOk result (waiting.now.next < 2 ^ 63) }
 {

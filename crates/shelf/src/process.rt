@@ -13,7 +13,7 @@ use sqlite_value::value::{Bytes, ValueRef};
 use std::alloc::{AllocError, Global};
 
 /// What a file says of the process that wrote it.
-pub struct Process {
+pub struct SavedProcess {
     /// When it was saved.
     pub stamp: SaveStamp,
     /// Which data it is: a copy of another site's data is refused.
@@ -26,9 +26,9 @@ pub struct Process {
     pub text: Bytes,
 }
 
-impl Drop for Process {
+impl Drop for SavedProcess {
     fn drop(self) {
-        let Process {
+        let SavedProcess {
             stamp: _,
             site: _,
             folder: _,
@@ -39,7 +39,7 @@ impl Drop for Process {
 }
 
 /// Its row. The only error is a failed allocation.
-pub fn process_row(alloc: Global, process: &Process) -> Result<Row, AllocError>
+pub fn process_row(alloc: Global, process: &SavedProcess) -> Result<Row, AllocError>
     ensures { IfOk result (λ row. row ≡ process_row process.now) }
 {
     let mut row = Row::new(alloc);
@@ -55,8 +55,8 @@ pub fn process_row(alloc: Global, process: &Process) -> Result<Row, AllocError>
 }
 
 /// What its columns have.
-fn columns_of(alloc: Global, row: &Row) -> Result<Process, Fault> {
-    Ok(Process {
+fn columns_of(alloc: Global, row: &Row) -> Result<SavedProcess, Fault> {
+    Ok(SavedProcess {
         stamp: SaveStamp {
             start: number_in(row, 2)?,
             turn: number_in(row, 3)?,
@@ -70,7 +70,7 @@ fn columns_of(alloc: Global, row: &Row) -> Result<Process, Fault> {
 
 /// What a row says, as `process_row` made it. Anything else is a BadRecord. The only other error is a failed allocation,
 /// NoMemory.
-fn process_of(alloc: Global, row: &Row) -> Result<Process, Fault>
+fn process_of(alloc: Global, row: &Row) -> Result<SavedProcess, Fault>
     ensures { IfOk result (λ process. row.now ≡ process_row process) }
 {
     let process = columns_of(alloc, row)?;
@@ -82,7 +82,7 @@ fn process_of(alloc: Global, row: &Row) -> Result<Process, Fault>
 }
 
 /// What the rows of the table say: there is one, or none. The errors are those of `process_of`.
-pub fn process_in(alloc: Global, rows: &[Row]) -> Result<Option<Process>, Fault>
+pub fn process_in(alloc: Global, rows: &[Row]) -> Result<Option<SavedProcess>, Fault>
     ensures { IfOk result (λ process. rows.now ≡ process_rows process) }
 {
     match rows {

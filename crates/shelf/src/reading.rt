@@ -4,11 +4,11 @@ ghost use Rattle.std.specs.Prelude.{◌≡◌, ℕ, pos, Some, None, if◌then�
 ghost use Rattle.sqlite_trees.specs.Tree.{has_rowid};
 ghost use Rattle.item_rows.specs.Changes.{with_change};
 ghost use Rattle.shelf.specs.Rows.{row_at, row_of_change};
-ghost use Rattle.shelf.specs.InMemory.{standing};
-ghost use Rattle.shelf.specs.Standing.{changed, items_of};
+ghost use Rattle.shelf.specs.InMemory.{waiting_view};
+ghost use Rattle.shelf.specs.WaitingView.{changed_rows, items_at};
 ghost use Rattle.shelf.specs.Found.{rows_found};
 
-use crate::waiting::Waiting;
+use crate::waiting::WaitingChanges;
 use base::Entry;
 use item_rows::{PlacedItems, placed_of};
 use items::Item;
@@ -50,7 +50,7 @@ fn note_changes(
     found: &mut FoundItems,
     changes: &[PlacedItems],
 ) -> Result<(), AllocError>
-    ensures { OnOk result ((p : ℕ) → rows_found found.new p ≡ changed (rows_found found.old) changes.now p) }
+    ensures { OnOk result ((p : ℕ) → rows_found found.new p ≡ changed_rows (rows_found found.old) changes.now p) }
 {
     for placed in changes {
         note(alloc, found, placed)?;
@@ -83,10 +83,10 @@ fn note_all(
     alloc: Global,
     found: &mut FoundItems,
     rows: &[Row],
-    waiting: &Waiting,
+    waiting: &WaitingChanges,
 ) -> Result<(), Fault>
     requires { (p : ℕ) → rows_found found.old p ≡ None }
-    ensures { OnOk result ((p : ℕ) → rows_found found.new p ≡ items_of (standing waiting.now) (row_at rows.now) p) }
+    ensures { OnOk result ((p : ℕ) → rows_found found.new p ≡ items_at (waiting_view waiting.now) (row_at rows.now) p) }
 {
     note_rows(alloc, found, rows)?;
     note_changes(alloc, found, waiting.rest())?;
@@ -96,8 +96,12 @@ fn note_all(
 
 /// The items that rows have with changes over them. A row that no save made is a BadRecord. The only other error is a
 /// failed allocation, NoMemory.
-pub fn read_items(alloc: Global, rows: &[Row], waiting: &Waiting) -> Result<FoundItems, Fault>
-    ensures { IfOk result (λ found. (p : ℕ) → rows_found found p ≡ items_of (standing waiting.now) (row_at rows.now) p) }
+pub fn read_items(
+    alloc: Global,
+    rows: &[Row],
+    waiting: &WaitingChanges,
+) -> Result<FoundItems, Fault>
+    ensures { IfOk result (λ found. (p : ℕ) → rows_found found p ≡ items_at (waiting_view waiting.now) (row_at rows.now) p) }
 {
     let mut found = BTreeMap::new(alloc);
     match note_all(alloc, &mut found, rows, waiting) {

@@ -3,17 +3,17 @@
 ghost use Rattle.std.specs.Prelude.{◌≡◌, ◌≤◌, ℕ, IsTrue, IfOk};
 ghost use Rattle.sqlite_trees.specs.View.{IsClean, IsQuiet};
 ghost use Rattle.row_store.specs.Saved.{IsSame};
-ghost use Rattle.shelf.specs.InMemory.{standing};
+ghost use Rattle.shelf.specs.InMemory.{waiting_view};
 ghost use Rattle.shelf.specs.Rows.{row_at};
 ghost use Rattle.shelf.specs.Found.{rows_found};
-ghost use Rattle.shelf.specs.Standing.{IsStanding, items_of};
+ghost use Rattle.shelf.specs.WaitingView.{HasWaiting, items_at};
 
 use crate::changes::waiting_of;
-use crate::planning::{Turn, plan};
-use crate::process::{Process, process_in};
+use crate::planning::{SavedTurn, plan};
+use crate::process::{SavedProcess, process_in};
 use crate::reading::{FoundItems, read_items};
 use crate::reply::{LongReply, replies_in};
-use crate::waiting::Waiting;
+use crate::waiting::WaitingChanges;
 use item_rows::PlacedItems;
 use proto::Fault;
 use row_store::RowStore;
@@ -26,11 +26,11 @@ use std::alloc::Global;
 /// What clauses call `items_in` is the row of what is at each place.
 pub struct Shelf<S: Store> {
     rows: RowStore<S>,
-    waiting: Waiting,
+    waiting: WaitingChanges,
     /// So many changes are gathered before their items are written to rows.
     least: usize,
     ghost tabled: { rows.tables ≡ 5 },
-    ghost stands: { IsClean (S.view rows.store) → IsTrue (S.view rows.store).is_open → ∥ IsStanding (S.view rows.store).committed (standing waiting) ∥₁ },
+    ghost stands: { IsClean (S.view rows.store) → IsTrue (S.view rows.store).is_open → ∥ HasWaiting (S.view rows.store).committed (waiting_view waiting) ∥₁ },
 }
 
 impl<S: Store + Drop> Drop for Shelf<S> {
@@ -68,8 +68,8 @@ fn read_fault(fault: Fault) -> ReadFault {
 }
 
 /// The items that rows have with changes over them.
-fn found_in(alloc: Global, rows: &[Row], waiting: &Waiting) -> Result<FoundItems, ReadFault>
-    ensures { IfOk result (λ found. (p : ℕ) → rows_found found p ≡ items_of (standing waiting.now) (row_at rows.now) p) }
+fn found_in(alloc: Global, rows: &[Row], waiting: &WaitingChanges) -> Result<FoundItems, ReadFault>
+    ensures { IfOk result (λ found. (p : ℕ) → rows_found found p ≡ items_at (waiting_view waiting.now) (row_at rows.now) p) }
 {
     match read_items(alloc, rows, waiting) {
         Ok(found) => Ok(found),
@@ -78,10 +78,10 @@ fn found_in(alloc: Global, rows: &[Row], waiting: &Waiting) -> Result<FoundItems
 }
 
 /// What is in memory of a file's changes.
-fn waiting_in<S: Store>(alloc: Global, rows: &mut RowStore<S>) -> Result<Waiting, ReadFault>
+fn waiting_in<S: Store>(alloc: Global, rows: &mut RowStore<S>) -> Result<WaitingChanges, ReadFault>
     requires { rows.old.tables ≡ 5 }
     ensures tables { rows.new.tables ≡ 5 }
-    ensures stands { IfOk result (λ waiting. IsClean (S.view rows.new.store) → IsTrue (S.view rows.new.store).is_open × ∥ IsStanding (S.view rows.new.store).committed (standing waiting) ∥₁) }
+    ensures stands { IfOk result (λ waiting. IsClean (S.view rows.new.store) → IsTrue (S.view rows.new.store).is_open × ∥ HasWaiting (S.view rows.new.store).committed (waiting_view waiting) ∥₁) }
     ensures same { IsClean (S.view rows.new.store) → IsSame (S.view rows.old.store) (S.view rows.new.store) }
     ensures quiet { IsQuiet S.view S.faults S.recovers S.is_shielded rows.old.store rows.new.store }
 {
@@ -99,7 +99,7 @@ impl<S: Store> Shelf<S> {
     ghost use Rattle.shelf.specs.Rows.{process_rows, reply_row};
     ghost use Rattle.shelf.specs.Found.{rows_found};
     ghost use Rattle.shelf.specs.InMemory.{items_in, IsUnchanged};
-    ghost use Rattle.shelf.specs.Standing.{changed, IsTurn};
+    ghost use Rattle.shelf.specs.WaitingView.{changed_rows, IsTurn};
 
     /// What the rows say, or the rows and why they cannot be read. So many changes are gathered before their items are
     /// written to rows.
@@ -155,7 +155,7 @@ impl<S: Store> Shelf<S> {
 
     /// What is known of the process, if a save told it. An error changes nothing; after one of the disk the store may be
     /// shut.
-    pub fn process(&mut self, alloc: Global) -> Result<Option<Process>, ReadFault>
+    pub fn process(&mut self, alloc: Global) -> Result<Option<SavedProcess>, ReadFault>
         ensures found { IfOk result (λ process. IsClean (S.view self.new.rows.store) → (S.view self.old.rows.store).committed 2 ≡ process_rows process) }
         ensures same { IsClean (S.view self.new.rows.store) → IsSame (S.view self.old.rows.store) (S.view self.new.rows.store) }
         ensures memory { self.new.waiting ≡ self.old.waiting }
@@ -204,11 +204,11 @@ impl<S: Store> Shelf<S> {
     pub fn save(
         &mut self,
         alloc: Global,
-        turn: &Turn,
+        turn: &SavedTurn,
         changes: &mut Vec<PlacedItems>,
     ) -> Result<(), StoreError>
         ensures saved { OnOk result (IsClean (S.view self.new.rows.store) → IsTrue (S.view self.new.rows.store).is_open × IsTurn (S.view self.old.rows.store).committed (items_in (S.view self.old.rows.store).committed self.old.waiting) changes.old.items turn.now.process turn.now.replies.items (S.view self.new.rows.store).committed) }
-        ensures items { OnOk result (IsClean (S.view self.new.rows.store) → (p : ℕ) → items_in (S.view self.new.rows.store).committed self.new.waiting p ≡ changed (items_in (S.view self.old.rows.store).committed self.old.waiting) changes.old.items p) }
+        ensures items { OnOk result (IsClean (S.view self.new.rows.store) → (p : ℕ) → items_in (S.view self.new.rows.store).committed self.new.waiting p ≡ changed_rows (items_in (S.view self.old.rows.store).committed self.old.waiting) changes.old.items p) }
         ensures taken { OnOk result (changes.new.items ≡ []) }
         ensures same { OnErr result (IsClean (S.view self.new.rows.store) → IsTrue (S.view self.new.rows.store).is_open → IsUnchanged (S.view self.old.rows.store).committed self.old.waiting (S.view self.new.rows.store).committed self.new.waiting) }
         ensures kept { OnErr result (changes.new.items ≡ changes.old.items) }

@@ -1,7 +1,7 @@
 use Rattle.std.proofs.Common.{◌≡◌, ◌+◌, take, sym, ap, ◌∙◌, subst}
 use mathlib.Core.Logic.{∥∥₁_map}
 use Rattle.shelf.specs.Rows.{change_row}
-use Rattle.shelf.specs.Standing.{IsLog}
+use Rattle.shelf.specs.WaitingView.{IsLog}
 use Rattle.shelf.proofs.OpenLemmas.{log_more}
 use Rattle.shelf.proofs.changes.changes_in.Goals as goal
 

@@ -1,5 +1,5 @@
 use Rattle.std.proofs.Common.{take}
-use Rattle.shelf.specs.Standing.{IsLog}
+use Rattle.shelf.specs.WaitingView.{IsLog}
 use Rattle.shelf.proofs.changes.changes_in.Given as goal
 
 abbrev pub invariant-loop-index : goal.invariant-loop-index

@@ -1,11 +1,11 @@
 use Rattle.std.proofs.Common.{sym}
 use mathlib.Core.Logic.{∥∥₁_map}
-use Rattle.shelf.specs.InMemory.{standing}
-use Rattle.shelf.proofs.OpenLemmas.{standing_read}
+use Rattle.shelf.specs.InMemory.{waiting_view}
+use Rattle.shelf.proofs.OpenLemmas.{waiting_read}
 use Rattle.shelf.proofs.changes.waiting_of.Goals as goal
 
 pub returns : goal.returns
 returns c = λ db is.
     ∥∥₁_map c.in_ok-changes.ensures (λ h.
-    standing_read c.in_ok-first.first c.in_ok-next.next c.args.rows.now c.in_ok-changes.changes.items (standing c.of_file-waiting.result) (standing c.turn_over.new.self)
+    waiting_read c.in_ok-first.first c.in_ok-next.next c.args.rows.now c.in_ok-changes.changes.items (waiting_view c.of_file-waiting.result) (waiting_view c.turn_over.new.self)
     c.of_file-waiting.ensures c.turn_over.ensures (sym c.in_ok-next.ensures) h db is)

@@ -1,7 +1,7 @@
 use Rattle.std.proofs.Common.{◌≡◌, ℕ, take}
-use Rattle.shelf.specs.Standing.{changed}
+use Rattle.shelf.specs.WaitingView.{changed_rows}
 use Rattle.shelf.specs.Found.{rows_found}
 use Rattle.shelf.proofs.reading.note_changes.Given as goal
 
 abbrev pub invariant-loop-placed : goal.invariant-loop-placed
-invariant-loop-placed l = (p : ℕ) → rows_found l.found p ≡ changed (rows_found l.fn.found) (take l.placed-index l.changes) p
+invariant-loop-placed l = (p : ℕ) → rows_found l.found p ≡ changed_rows (rows_found l.fn.found) (take l.placed-index l.changes) p

@@ -2,10 +2,10 @@ use Rattle.std.proofs.Common.{◌≡◌, List, [], ◌∷◌, length, refl, sym,
 use Rattle.std.specs.Prelude.{drop}
 use Rattle.std.proofs.lemmas.List.Sorted.{answers_always}
 use Rattle.item_rows.specs.Placed.{PlacedItems}
-use Rattle.shelf.specs.Standing.{Standing, IsResorted}
-use Rattle.shelf.specs.InMemory.{standing}
+use Rattle.shelf.specs.WaitingView.{WaitingView, IsResorted}
+use Rattle.shelf.specs.InMemory.{waiting_view}
 use Rattle.shelf.proofs.SortLemmas.{resorted}
-use Rattle.shelf.proofs.waiting.Waiting.turn_over.Goals as goal
+use Rattle.shelf.proofs.waiting.WaitingChanges.turn_over.Goals as goal
 
 empty : (xs : List PlacedItems) → length xs ≡ 0 → xs ≡ []
 empty [] e = refl
@@ -16,7 +16,7 @@ returns-then-least-len c =
     let sorted : IsResorted c.replace-pending.result.items c.sort_by_key.new.self.items =
     resorted c.replace-pending.result.items c.sort_by_key.new.self.items (c.sort_by_key.ensures.stable (λ (placed : PlacedItems). placed.0) (answers_always _ _ _ (λ f a r g h. search rules))) in
     inr (record {
-      none = empty (standing c.args.self.now).pending (sym c.left.ensures ∙ c.if-left-eq0.true);
+      none = empty (waiting_view c.args.self.now).pending (sym c.left.ensures ∙ c.if-left-eq0.true);
       all_written = c.if-self.true;
       sorted = subst (λ v. IsResorted v.items c.sort_by_key.new.self.items) c.replace-pending.ensures.value sorted;
       is = ap (λ (gathered : List PlacedItems). record { pending = c.sort_by_key.new.self.items; gathered = gathered; first = c.args.self.now.first; middle = c.args.self.now.next; next = c.args.self.now.next })
