@@ -100,6 +100,16 @@ def run(program, *words):
     return done.returncode, done.stdout.decode(), done.stderr.decode()
 
 
+def comes(is_so):
+    """Whether this is so within PATIENCE seconds."""
+    end = time.time() + PATIENCE
+    while not is_so():
+        if time.time() > end:
+            return False
+        time.sleep(0.1)
+    return True
+
+
 def stays(client, seconds):
     """Whether the connection is open for so long, on which nothing is sent and nothing comes."""
     client.settimeout(seconds)
