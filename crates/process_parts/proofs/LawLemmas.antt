@@ -1,5 +1,5 @@
 -- What is restored is what was stored.
-use Rattle.std.proofs.Common.{◌≡◌, ℕ, suc, ◌∙◌, List, [], ◌∷◌, map, Option, None, Some, refl, ap, sym, arith}
+use Rattle.std.proofs.Common.{◌≡◌, ℕ, suc, ◌∙◌, List, [], ◌∷◌, map, Option, None, Some, refl, ap, sym, subst, arith}
 use Rattle.std.specs.Prelude.{Contains}
 use Rattle.keeper.specs.Kept.{Kept}
 use Rattle.states.specs.declared.head.Head.{Head}
@@ -9,7 +9,11 @@ use Rattle.process_text.specs.declared.executor_row.PlainRecord.{PlainRecord}
 use Rattle.process_text.specs.declared.executor_row.StoredRecord.{StoredRecord}
 use Rattle.process_text.specs.declared.executor_row.StoredRecord.TheVariants.{Nothing, Plain, Whole}
 use Rattle.process_text.specs.declared.executor_row.ExecutorRow.{ExecutorRow}
-use Rattle.process_parts.specs.Parts.{plain_record, stored_record, executor_of_row, restored_process, IsStoredAs, IsExecutorRow, AreExecutorRows}
+use Rattle.process_text.specs.declared.process_text.ProcessText.{ProcessText}
+use Rattle.process_text.specs.Text.{IsProcessText}
+use Rattle.process_text.specs.StateOf.{IsStateOf}
+use Rattle.ensemble.specs.Kept.{ProcessView}
+use Rattle.process_parts.specs.Parts.{plain_record, stored_record, executor_of_row, restored_process, IsStoredAs, IsExecutorRow, AreExecutorRows, IsStoredOf}
 use Rattle.process_parts.specs.Laws.{RestoredIsStored, StoredIsRestored, StoredIsOneRecord}
 
 -- ---- what is restored is stored
@@ -29,6 +33,10 @@ restored_is_stored t s text state = record {
   state = state;
   rows = record { u = refl; proxies = refl; executors = executors_stored s t.head state.state state.head t.executors; verifiers = refl };
 }
+
+-- so is a record that is what is restored
+pub same_is_stored : (t : ProcessText) (s : StateView) (r : ProcessView) → IsProcessText t → r ≡ restored_process t s → IsStateOf t s → IsStoredOf t s r
+same_is_stored t s r text same state = subst (IsStoredOf t s) (sym same) (restored_is_stored t s text state)
 
 -- ---- what is stored is restored
 
@@ -51,13 +59,16 @@ same_executor s head row k has tells is =
     let fails_next : row.fails_next ≡ k.fails_next = sym is.fails_next in
     λ i. record { saved = saved i; failures = failures i; fails_next = fails_next i }
 
+in_later : {X : Type 0} (x y : X) (xs : List X) → Contains xs y → Contains (x ∷ xs) y
+in_later x y xs (k, lt, e) = (suc k, omega (arith, lt), e)
+
 same_executors : (s : StateView) (head : Head) (rows : List ExecutorRow) (ks : List Kept) → head_of_state s ≡ head → ((k : Kept) → Contains ks k → TellsOf s k.saved) → AreExecutorRows head rows ks → map (executor_of_row s) rows ≡ ks
 same_executors s head [] [] has tells are = refl
 same_executors s head [] (k ∷ ks) has tells are = absurd are
 same_executors s head (row ∷ rows) [] has tells are = absurd are
 same_executors s head (row ∷ rows) (k ∷ ks) has tells are =
     let first : executor_of_row s row ≡ k = same_executor s head row k has (tells k (0, omega arith, refl)) are.0 in
-    let others : map (executor_of_row s) rows ≡ ks = same_executors s head rows ks has (λ other there. tells other (suc there.0, omega (arith, there.1.0), there.1.1)) are.1 in
+    let others : map (executor_of_row s) rows ≡ ks = same_executors s head rows ks has (λ other there. tells other (in_later k other ks there)) are.1 in
     λ i. first i ∷ others i
 
 pub stored_is_restored : StoredIsRestored

@@ -1,5 +1,5 @@
 -- What is stored of a process tells its record, if a state's head tells the state.
-use Rattle.std.specs.Prelude.{◌≡◌, ℕ, List, Some, Contains}
+use Rattle.std.specs.Prelude.{◌≡◌, Some, Contains}
 use Rattle.keeper.specs.Kept.{Kept}
 use Rattle.states.specs.State.{StateView, IsState}
 use Rattle.states.specs.StateRecord.{head_of_state}

@@ -1,6 +1,6 @@
 //! The state that is stored, of which most executors are, and whether one is.
 
-ghost use Rattle.std.specs.Prelude.{◌≡◌, ◌↔◌, IfOk, IfSome, IsTrue};
+ghost use Rattle.std.specs.Prelude.{◌≡◌, ◌↔◌, IfSome, IsTrue};
 ghost use Rattle.rollback.specs.Chain.{alone_text};
 ghost use Rattle.states.specs.State.{IsState};
 ghost use Rattle.states.specs.StateRecord.{head_of_state};

@@ -74,6 +74,7 @@ fn stored_with(
 {
     state.is_state();
     let _sessions = state.sessions();
+    let _u = process.u();
     let _proxies = process.proxies();
     let text = text_beside(alloc, process, &state)?;
     Ok(StoredProcess { text, state })
