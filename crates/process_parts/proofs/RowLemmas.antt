@@ -1,6 +1,7 @@
 -- The rows of a text are those of a process.
 use Rattle.std.proofs.Common.{◌≡◌, ℕ, zero, suc, ◌<◌, ◌+◌, ◌∙◌, List, [], ◌∷◌, ◌++◌, length, map, take, get_or, Some, refl, ap, sym, subst, arith, add-one}
 use Rattle.std.specs.Prelude.{slice_get}
+use Rattle.std.specs.List.{AllZip}
 use Rattle.std.specs.Option.{option_map}
 use Rattle.std.proofs.Math.Seq.{take-suc}
 use Rattle.std.proofs.lemmas.List.{length-map}
@@ -17,23 +18,23 @@ use Rattle.process_text.specs.declared.process_text.ProcessText.{ProcessText}
 use Rattle.process_text.specs.Text.{IsProcessText, AreNumberedRows}
 use Rattle.ensemble.specs.Kept.{ProcessView}
 use Rattle.ensemble.specs.Nodes.{AreNumbered}
-use Rattle.process_parts.specs.Parts.{proxy_of_row, verifier_of_row, IsExecutorRow, AreExecutorRows, HasRowsOf, IsStoredOf, HasMembers}
+use Rattle.process_parts.specs.Parts.{proxy_of_row, verifier_of_row, IsExecutorRow, HasRowsOf, IsStoredOf, HasMembers}
 
 -- one row more, of one executor more
-one_executor_more : (head : Head) (rows : List ExecutorRow) (ks : List Kept) (row : ExecutorRow) (k : Kept) → AreExecutorRows head rows ks → IsExecutorRow head row k → AreExecutorRows head (rows ++ row ∷ []) (ks ++ k ∷ [])
+one_executor_more : (head : Head) (rows : List ExecutorRow) (ks : List Kept) (row : ExecutorRow) (k : Kept) → AllZip (IsExecutorRow head) rows ks → IsExecutorRow head row k → AllZip (IsExecutorRow head) (rows ++ row ∷ []) (ks ++ k ∷ [])
 one_executor_more head [] [] row k are is = (is, tt)
 one_executor_more head [] (other ∷ ks) row k are is = absurd are
 one_executor_more head (first ∷ rows) [] row k are is = absurd are
 one_executor_more head (first ∷ rows) (other ∷ ks) row k are is = (are.0, one_executor_more head rows ks row k are.1 is)
 
 -- the same, where the executors are the first ones of a list
-pub next_executor : (head : Head) (rows more : List ExecutorRow) (row : ExecutorRow) (ks : List Kept) (n : ℕ) (k : Kept) → n < length ks → k ≡ get_or ks n k → more ≡ rows ++ row ∷ [] → AreExecutorRows head rows (take n ks) → IsExecutorRow head row k → AreExecutorRows head more (take (n + 1) ks)
+pub next_executor : (head : Head) (rows more : List ExecutorRow) (row : ExecutorRow) (ks : List Kept) (n : ℕ) (k : Kept) → n < length ks → k ≡ get_or ks n k → more ≡ rows ++ row ∷ [] → AllZip (IsExecutorRow head) rows (take n ks) → IsExecutorRow head row k → AllZip (IsExecutorRow head) more (take (n + 1) ks)
 next_executor head rows more row ks n k lt at is are it =
     let taken : take (n + 1) ks ≡ take n ks ++ k ∷ [] = ap (λ (m : ℕ). take m ks) (add-one n) ∙ (take-suc ks n k lt ∙ ap (λ (x : Kept). take n ks ++ x ∷ []) (sym at)) in
-    subst (λ (xs : List ExecutorRow). AreExecutorRows head xs (take (n + 1) ks)) (sym is)
-    (subst (λ (ys : List Kept). AreExecutorRows head (rows ++ row ∷ []) ys) (sym taken) (one_executor_more head rows (take n ks) row k are it))
+    subst (λ (xs : List ExecutorRow). AllZip (IsExecutorRow head) xs (take (n + 1) ks)) (sym is)
+    (subst (λ (ys : List Kept). AllZip (IsExecutorRow head) (rows ++ row ∷ []) ys) (sym taken) (one_executor_more head rows (take n ks) row k are it))
 
-as_many_executors : (head : Head) (rows : List ExecutorRow) (ks : List Kept) → AreExecutorRows head rows ks → length ks ≡ length rows
+as_many_executors : (head : Head) (rows : List ExecutorRow) (ks : List Kept) → AllZip (IsExecutorRow head) rows ks → length ks ≡ length rows
 as_many_executors head [] [] are = refl
 as_many_executors head [] (k ∷ ks) are = absurd are
 as_many_executors head (row ∷ rows) [] are = absurd are
