@@ -1,0 +1,4 @@
+pub mod Parts
+pub mod Durable
+pub mod Text
+pub mod Found
