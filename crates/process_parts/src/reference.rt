@@ -1,0 +1,96 @@
+//! The state that is stored, of which most executors are, and whether one is.
+
+ghost use Rattle.std.specs.Prelude.{◌≡◌, ◌↔◌, IfOk, IfSome, IsTrue};
+ghost use Rattle.rollback.specs.Chain.{alone_text};
+ghost use Rattle.states.specs.State.{IsState};
+ghost use Rattle.states.specs.StateRecord.{head_of_state};
+ghost use Rattle.process_parts.specs.Parts.{IsPlainOf};
+
+use exec_lines::{ExecutorRecord, Saved};
+use keeper::{Keeper, MemKeeper};
+use process_text::PlainRecord;
+use states::{Head, State};
+use std::alloc::{AllocError, Global};
+
+/// The state of an executor, if its record was made of one in this process and has no tentative states.
+fn lone_state(keeper: &MemKeeper<ExecutorRecord>) -> Option<&State> {
+    keeper.load()?.saved()?.chain.alone()
+}
+
+/// The one of the higher number.
+fn newer<'s>(first: Option<&'s State>, second: Option<&'s State>) -> Option<&'s State> {
+    match (first, second) {
+        (Some(one), Some(other)) => {
+            if one.number() < other.number() {
+                Some(other)
+            } else {
+                Some(one)
+            }
+        }
+        (None, found) => found,
+        (found, None) => found,
+    }
+}
+
+/// The newest of these states. Which one it is decides how much has to be written, and nothing else.
+fn newest_state(executors: &[MemKeeper<ExecutorRecord>]) -> Option<&State> {
+    let mut newest = None;
+    for keeper in executors {
+        newest = newer(newest, lone_state(keeper));
+    }
+    newest
+}
+
+/// The state to be stored, shared: the newest one that an executor has without tentative states, or the first state if
+/// there is none, as when all records are bytes that were read.
+pub(crate) fn reference_state(
+    alloc: Global,
+    executors: &[MemKeeper<ExecutorRecord>],
+) -> Result<State, AllocError> {
+    match newest_state(executors) {
+        Some(state) => state.share(),
+        None => State::first(alloc),
+    }
+}
+
+/// Whether both are one head.
+fn is_same_head(one: &Head, other: &Head) -> bool
+    ensures { IsTrue result ↔ (one.now ≡ other.now) }
+{
+    one.origin.form == other.origin.form
+        && one.origin.number == other.origin.number
+        && one.origin.previous == other.origin.previous
+        && one.origin.epoch == other.origin.epoch
+        && one.origin.batch == other.origin.batch
+        && one.origin.moment == other.origin.moment
+        && one.token == other.token
+}
+
+/// The state of the chain, if it has this head and no tentative state is over it.
+fn state_of_head<'s>(saved: &'s Saved, head: &Head) -> Option<&'s State>
+    ensures state { IfSome result (λ state. IsState state.now) }
+    ensures head { IfSome result (λ state. head_of_state state.now ≡ head.now) }
+    ensures alone { IfSome result (λ state. saved.now.chain ≡ alone_text state.now) }
+{
+    let state = saved.chain.alone()?;
+    state.is_state();
+    if is_same_head(&state.head(), head) {
+        Some(state)
+    } else {
+        None
+    }
+}
+
+/// All of a record but its state, if the record is of a state of this head, without tentative states.
+pub(crate) fn plain_in(kept: &ExecutorRecord, head: &Head) -> Option<PlainRecord>
+    ensures { IfSome result (λ plain. IsPlainOf head.now plain kept.now) }
+{
+    let saved = kept.saved()?;
+    let _state = state_of_head(saved, head)?;
+    Some(PlainRecord {
+        u: saved.u,
+        id: saved.id,
+        known: saved.known,
+        standing: saved.standing,
+    })
+}
