@@ -1,4 +1,3 @@
-pub mod Parts
 pub mod Durable
 pub mod Text
 pub mod Found

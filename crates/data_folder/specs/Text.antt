@@ -6,7 +6,7 @@ use Rattle.process_text.specs.declared.process_text.ProcessText.{ProcessText}
 use Rattle.process_text.specs.Text.{process_text}
 use Rattle.states.specs.State.{StateView}
 use Rattle.service.specs.Record.{RecordView}
-use Rattle.data_folder.specs.Parts.{IsStoredOf}
+use Rattle.process_parts.specs.Parts.{IsStoredOf}
 
 abbrev pub service_text : ProcessText → ℕ → List ℕ
 service_text process next = process_text process ++ num w64 next

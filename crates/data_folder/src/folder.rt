@@ -10,12 +10,12 @@ ghost use Rattle.process_text.specs.Text.{IsProcessText};
 
 use crate::changes::changes_since;
 use crate::fault::{DataFault, record_fault, store_fault};
-use crate::parts::{StoredProcess, record_of, stored_of};
 use crate::save::{Save, SaveFault};
 use crate::service_text::{take_text, text_of};
 use crate::stored_items::state_with;
 use folders::SaveStamp;
 use item_rows::PlacedItems;
+use process_parts::{StoredProcess, record_of, stored_of};
 use process_text::ProcessText;
 use proto::Fault;
 use service::ServiceRecord;
@@ -273,7 +273,7 @@ impl<S: Store + Drop> DataFolder<S> {
     }
 
     /// Saves this text and this state.
-    fn save_stored(
+    pub(crate) fn save_stored(
         &mut self,
         alloc: Global,
         stored: &StoredProcess,
