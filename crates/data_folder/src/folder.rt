@@ -1,7 +1,7 @@
 //! The record of a service in a folder.
 
-ghost use Rattle.std.specs.Prelude.{◌≡◌, ◌⊎◌, ℕ, List, Option, IsTrue, IfOk, OnOk, IsSomeAnd};
-ghost use Rattle.sqlite_trees.specs.View.{IsClean};
+ghost use Rattle.std.specs.Prelude.{◌≡◌, ◌⊎◌, ◌≤◌, ℕ, List, Option, None, IsTrue, IfOk, OnOk, IsSomeAnd};
+ghost use Rattle.sqlite_trees.specs.View.{IsClean, doubt};
 ghost use Rattle.row_store.specs.Saved.{IsSame};
 ghost use Rattle.data_folder.specs.Found.{HasSomeText, FindsRecord, MayFind, FindsOnly, FindsOldOr};
 ghost use Rattle.data_folder.specs.Durable.{IsFoundOf};
@@ -83,7 +83,9 @@ fn record_in<S: Store>(
     next: u64,
 ) -> Result<(State, ServiceRecord), DataFault>
     requires { IsProcessText text.now }
-    ensures { IfOk result (λ read. IsServiceText read.1 (service_text text.now next)) }
+    ensures is { IfOk result (λ read. IsServiceText read.1 (service_text text.now next)) }
+    ensures same { IsClean (S.view shelf.new.rows.store) → IsSame (S.view shelf.old.rows.store) (S.view shelf.new.rows.store) }
+    ensures clean { doubt (S.view shelf.old.rows.store).is_clean ≤ doubt (S.view shelf.new.rows.store).is_clean }
 {
     let items = shelf.items(alloc)?;
     let state = state_with(alloc, text, &items)?;
@@ -92,7 +94,9 @@ fn record_in<S: Store>(
 }
 
 /// What a file without a process has.
-fn nothing(alloc: Global) -> Result<FoundProcess, DataFault> {
+fn nothing(alloc: Global) -> Result<FoundProcess, DataFault>
+    ensures { IfOk result (λ found. found.record ≡ None) }
+{
     Ok(FoundProcess {
         state: State::first(alloc)?,
         stamp: SaveStamp { start: 1, turn: 0 },
@@ -106,7 +110,11 @@ fn found_of<S: Store>(
     shelf: &mut Shelf<S>,
     saved: &SavedProcess,
     u: u8,
-) -> Result<FoundProcess, DataFault> {
+) -> Result<FoundProcess, DataFault>
+    ensures is { IfOk result (λ found. IsSomeAnd found.record (λ record. IsServiceText record saved.now.text)) }
+    ensures same { IsClean (S.view shelf.new.rows.store) → IsSame (S.view shelf.old.rows.store) (S.view shelf.new.rows.store) }
+    ensures clean { doubt (S.view shelf.old.rows.store).is_clean ≤ doubt (S.view shelf.new.rows.store).is_clean }
+{
     let (text, next) = process_in(alloc, saved, u)?;
     let (state, record) = record_in(alloc, shelf, &text, next)?;
     Ok(FoundProcess {
@@ -125,7 +133,9 @@ fn found_in<S: Store>(
     shelf: &mut Shelf<S>,
     is_new: bool,
     u: u8,
-) -> Result<FoundProcess, DataFault> {
+) -> Result<FoundProcess, DataFault>
+    ensures { IfOk result (λ found. IsClean (S.view shelf.new.rows.store) → IsTrue (S.view shelf.new.rows.store).is_open → FindsRecord (S.view shelf.new.rows.store).committed found.record) }
+{
     match shelf.process(alloc)? {
         None => nothing(alloc),
         Some(_) if is_new => Err(DataFault::HasData),
@@ -187,8 +197,7 @@ impl<S: Store + Drop> DataFolder<S> {
         is_new: bool,
         u: u8,
     ) -> Result<(DataFolder<S>, Option<ServiceRecord>), DataFault>
-        ensures found { IfOk result (λ opened. IsClean (S.view opened.0.shelf.rows.store) → FindsRecord (S.view store).committed opened.1) }
-        ensures same { IfOk result (λ opened. IsClean (S.view opened.0.shelf.rows.store) → IsSame (S.view store) (S.view opened.0.shelf.rows.store)) }
+        ensures { IfOk result (λ opened. IsClean (S.view opened.0.shelf.rows.store) → IsTrue (S.view opened.0.shelf.rows.store).is_open → FindsRecord (S.view opened.0.shelf.rows.store).committed opened.1) }
     {
         match Shelf::open(alloc, store, GATHERED) {
             Ok(shelf) => DataFolder::of_shelf(alloc, shelf, is_new, u),
@@ -205,8 +214,7 @@ impl<S: Store + Drop> DataFolder<S> {
         is_new: bool,
         u: u8,
     ) -> Result<(DataFolder<S>, Option<ServiceRecord>), DataFault>
-        ensures found { IfOk result (λ opened. IsClean (S.view opened.0.shelf.rows.store) → FindsRecord (S.view shelf.rows.store).committed opened.1) }
-        ensures same { IfOk result (λ opened. IsClean (S.view opened.0.shelf.rows.store) → IsSame (S.view shelf.rows.store) (S.view opened.0.shelf.rows.store)) }
+        ensures { IfOk result (λ opened. IsClean (S.view opened.0.shelf.rows.store) → IsTrue (S.view opened.0.shelf.rows.store).is_open → FindsRecord (S.view opened.0.shelf.rows.store).committed opened.1) }
     {
         match found_in(alloc, &mut shelf, is_new, u) {
             Ok(found) => {
@@ -230,6 +238,19 @@ impl<S: Store + Drop> DataFolder<S> {
     /// Whether the disk failed. Nothing more is saved then: the file has to be opened again.
     pub fn is_shut(&self) -> bool {
         self.fault == Some(SaveFault::Disk)
+    }
+
+    /// The store, as the last save left it.
+    pub fn into_store(self) -> S
+        ensures { result ≡ self.shelf.rows.store }
+    {
+        let DataFolder {
+            shelf,
+            last: _,
+            stamp: _,
+            fault: _,
+        } = self;
+        shelf.into_store()
     }
 
     /// All that a save of this text and this state writes.

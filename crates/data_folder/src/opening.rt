@@ -56,7 +56,7 @@ impl DataFolder<FileStore<File>> {
         is_new: bool,
         u: u8,
     ) -> Result<(DataFolder<FileStore<File>>, Option<ServiceRecord>), DataFault>
-        ensures found { IfOk result (λ opened. IsClean (view opened.0.shelf.rows.store) → IsTrue (view opened.0.shelf.rows.store).is_open → FindsRecord (view opened.0.shelf.rows.store).committed opened.1) }
+        ensures { IfOk result (λ opened. IsClean (view opened.0.shelf.rows.store) → IsTrue (view opened.0.shelf.rows.store).is_open → FindsRecord (view opened.0.shelf.rows.store).committed opened.1) }
     {
         let path = format!(in rt.alloc(); "{folder}/{FILE}")?;
         if !is_new && !fs::exists(rt, path.as_str())? {
