@@ -24,7 +24,7 @@ fn key(alloc: Global, number: u64) -> Result<Key, Fail> {
 
 fn item(alloc: Global, value: u64) -> Result<Item, Fail> {
     Ok(Item {
-        block: Block::new(vec![in alloc; (value % 251) as u8; 32]?)?,
+        block: Block::new(vec![in alloc; (value % 251) as u8; 9]?)?,
         flags: (value % 1000) as u32,
         due: if value % 3 == 0 { Some(value) } else { None },
         unique: u64::MAX - value,
@@ -49,7 +49,7 @@ fn remove(alloc: Global, pages: &mut Pages, from: u64, to: u64) -> Result<(), Fa
 }
 
 fn put_twins(alloc: Global, pages: &mut Pages, which: u64) -> Result<(), Fail> {
-    let names = ["TWIN_A", "TWIN_B"];
+    let names = ["ihdmobboncdmkfelpaobmddmbobo", "obncfkapelbocnobpadmhiboboap"];
     for (at, name) in names.iter().enumerate() {
         let key = Key::new(Vec::from_slice(alloc, name.as_bytes())?);
         if which >> at & 1 == 1 {
@@ -235,47 +235,28 @@ fn run(rt: &HostRuntime, dir: &str, steps: &[(u64, u64, u64, Form)]) -> Result<(
 
 #[test]
 fn saves_and_opens(rt: HostRuntime) -> Result<(), Fail> {
-    run(
-        &rt,
-        "/tmp/hf/data",
-        &[
-            (0, 3, 1, Form::Current),
-            (0, 500, 2, Form::Current),
-            (100, 120, 0, Form::Current),
-            (100, 1200, 3, Form::Current),
-            (7, 8, 4, Form::Tree),
-            (9, 20, 0, Form::Tree),
-            (0, 0, 1, Form::Tree),
-            (0, 0, 3, Form::Tree),
-            (0, 0, 2, Form::Tree),
-            (0, 0, 0, Form::Tree),
-            (0, 0, 3, Form::Tree),
-            (5, 6, 9, Form::Tree),
-            (0, 0, 1, Form::Tree),
-            (20, 1150, 0, Form::Tree),
-            (0, 0, 3, Form::Current),
-            (1, 2, 3, Form::Current),
-            (0, 0, 2, Form::Current),
-            (0, 1200, 0, Form::Current),
-            (0, 4000, 5, Form::Tree),
-            (0, 4000, 0, Form::Current),
-            (0, 6000, 6, Form::Tree),
-            (100, 164, 7, Form::Tree),
-        ],
-    )
+    run(&rt, "/tmp/hf/data", &[
+        (0, 3, 1, Form::Current),
+        (0, 12, 2, Form::Current),
+        (4, 7, 0, Form::Tree),
+        (0, 0, 1, Form::Tree),
+        (0, 0, 3, Form::Tree),
+        (0, 0, 2, Form::Tree),
+        (0, 0, 0, Form::Tree),
+        (0, 0, 3, Form::Tree),
+        (5, 6, 9, Form::Tree),
+        (0, 0, 1, Form::Current),
+    ])
 }
 
 #[test]
-fn large(rt: HostRuntime) -> Result<(), Fail> {
-    run(
-        &rt,
-        "/tmp/hf/large",
-        &[
-            (0, 20000, 1, Form::Tree),
-            (1000, 1064, 2, Form::Tree),
-            (1064, 1128, 2, Form::Tree),
-            (1000, 1001, 3, Form::Tree),
-            (1000, 1064, 4, Form::Tree),
-        ],
-    )
+fn twins_of_sorted_pages(rt: HostRuntime) -> Result<(), Fail> {
+    run(&rt, "/tmp/hf/data2", &[
+        (0, 0, 3, Form::Current),
+        (0, 0, 2, Form::Current),
+        (0, 0, 3, Form::Tree),
+        (0, 0, 1, Form::Current),
+        (0, 0, 2, Form::Current),
+        (0, 0, 0, Form::Current),
+    ])
 }
