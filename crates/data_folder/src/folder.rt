@@ -57,7 +57,7 @@ impl<S: Store + Drop> Drop for DataFolder<S> {
 struct FoundProcess {
     state: State,
     stamp: SaveStamp,
-    record: Option<ServiceRecord>,
+    service: Option<ServiceRecord>,
 }
 
 /// The process of a row, and the number of the next connection.
@@ -95,12 +95,12 @@ fn record_in<S: Store>(
 
 /// What a file without a process has.
 fn nothing(alloc: Global) -> Result<FoundProcess, DataFault>
-    ensures { IfOk result (λ found. found.record ≡ None) }
+    ensures { IfOk result (λ found. found.service ≡ None) }
 {
     Ok(FoundProcess {
         state: State::first(alloc)?,
         stamp: SaveStamp { start: 1, turn: 0 },
-        record: None,
+        service: None,
     })
 }
 
@@ -111,19 +111,19 @@ fn found_of<S: Store>(
     saved: &SavedProcess,
     u: u8,
 ) -> Result<FoundProcess, DataFault>
-    ensures is { IfOk result (λ found. IsSomeAnd found.record (λ record. IsServiceText record saved.now.text)) }
+    ensures is { IfOk result (λ found. IsSomeAnd found.service (λ service. IsServiceText service saved.now.text)) }
     ensures same { IsClean (S.view shelf.new.rows.store) → IsSame (S.view shelf.old.rows.store) (S.view shelf.new.rows.store) }
     ensures clean { doubt (S.view shelf.old.rows.store).is_clean ≤ doubt (S.view shelf.new.rows.store).is_clean }
 {
     let (text, next) = process_in(alloc, saved, u)?;
-    let (state, record) = record_in(alloc, shelf, &text, next)?;
+    let (state, service) = record_in(alloc, shelf, &text, next)?;
     Ok(FoundProcess {
         state,
         stamp: SaveStamp {
             start: saved.stamp.start.saturating_add(1),
             turn: 0,
         },
-        record: Some(record),
+        service: Some(service),
     })
 }
 
@@ -134,7 +134,7 @@ fn found_in<S: Store>(
     is_new: bool,
     u: u8,
 ) -> Result<FoundProcess, DataFault>
-    ensures { IfOk result (λ found. IsClean (S.view shelf.new.rows.store) → IsTrue (S.view shelf.new.rows.store).is_open → FindsRecord (S.view shelf.new.rows.store).committed found.record) }
+    ensures { IfOk result (λ found. IsClean (S.view shelf.new.rows.store) → IsTrue (S.view shelf.new.rows.store).is_open → FindsRecord (S.view shelf.new.rows.store).committed found.service) }
 {
     match shelf.process(alloc)? {
         None => nothing(alloc),
@@ -221,7 +221,7 @@ impl<S: Store + Drop> DataFolder<S> {
                 let FoundProcess {
                     state,
                     stamp,
-                    record,
+                    service,
                 } = found;
                 let folder = DataFolder {
                     shelf,
@@ -229,7 +229,7 @@ impl<S: Store + Drop> DataFolder<S> {
                     stamp,
                     fault: None,
                 };
-                Ok((folder, record))
+                Ok((folder, service))
             }
             Err(fault) => Err(fault),
         }
@@ -313,16 +313,16 @@ impl<S: Store + Drop> DataFolder<S> {
     }
 
     /// Saves the record, unless the disk has failed before.
-    fn save_record(&mut self, alloc: Global, record: &ServiceRecord) -> Result<(), SaveFault>
-        ensures saved { OnOk result ((found : Option (List ℕ)) → MayFind (S.view self.new.shelf.rows.store) (S.recovers self.new.shelf.rows.store) found → IsFoundOf IsTextOf record.now found) }
+    fn save_record(&mut self, alloc: Global, kept: &ServiceRecord) -> Result<(), SaveFault>
+        ensures saved { OnOk result ((found : Option (List ℕ)) → MayFind (S.view self.new.shelf.rows.store) (S.recovers self.new.shelf.rows.store) found → IsFoundOf IsTextOf kept.now found) }
         ensures crash { (found : Option (List ℕ)) → MayFind (S.view self.new.shelf.rows.store) (S.recovers self.new.shelf.rows.store) found
-            → MayFind (S.view self.old.shelf.rows.store) (S.recovers self.old.shelf.rows.store) found ⊎ IsFoundOf IsTextOf record.now found }
+            → MayFind (S.view self.old.shelf.rows.store) (S.recovers self.old.shelf.rows.store) found ⊎ IsFoundOf IsTextOf kept.now found }
     {
         if self.is_shut() || self.shelf.is_shut() {
             return Err(SaveFault::Disk);
         }
-        match stored_of(alloc, record.replicas()) {
-            Ok(stored) => self.save_stored(alloc, &stored, record.next()),
+        match stored_of(alloc, kept.replicas()) {
+            Ok(stored) => self.save_stored(alloc, &stored, kept.next()),
             Err(fault) => Err(record_fault(fault)),
         }
     }
@@ -344,8 +344,8 @@ impl<S: Store + Drop> Save for DataFolder<S> {
     /// Saves the record: all of it, or nothing. If it answers true, a process that opens the folder later finds this
     /// record, also after a crash, until another one is saved. If it answers false the folder has the record that was
     /// saved before, unless the disk failed (`is_shut`): then it has that one or this one. `fault` says why.
-    fn save(&mut self, alloc: Global, record: &ServiceRecord) -> bool {
-        match self.save_record(alloc, record) {
+    fn save(&mut self, alloc: Global, kept: &ServiceRecord) -> bool {
+        match self.save_record(alloc, kept) {
             Ok(()) => {
                 self.fault = None;
                 true

@@ -30,9 +30,9 @@ pub trait Save {
     fn keeps(&self) -> bool
         ensures nothing { result ≡ false → (found : Option (List ℕ)) → may_find self.now found → ⊥ };
 
-    fn save(&mut self, alloc: Global, record: &ServiceRecord) -> bool
-        ensures saved { IsTrue result → (found : Option (List ℕ)) → may_find self.new found → IsFoundOf is_text record.now found }
-        ensures crash { (found : Option (List ℕ)) → may_find self.new found → may_find self.old found ⊎ IsFoundOf is_text record.now found };
+    fn save(&mut self, alloc: Global, kept: &ServiceRecord) -> bool
+        ensures saved { IsTrue result → (found : Option (List ℕ)) → may_find self.new found → IsFoundOf is_text kept.now found }
+        ensures crash { (found : Option (List ℕ)) → may_find self.new found → may_find self.old found ⊎ IsFoundOf is_text kept.now found };
 
     fn fault(&self) -> Option<SaveFault>;
 }
