@@ -1,6 +1,6 @@
 //! What became of places between two states.
 
-ghost use Rattle.std.specs.Prelude.{◌≤◌, ◌<◌, length};
+ghost use Rattle.std.specs.Prelude.{◌≤◌, ◌<◌, length, IfOk, IfSome};
 ghost use Rattle.pages.specs.Page.{page_count};
 
 use base::Entry;
@@ -46,14 +46,13 @@ fn same_at_front(old: &[Entry<Key, Item>], new: &[Entry<Key, Item>]) -> usize
     ensures old { result ≤ length old.now }
     ensures new { result ≤ length new.now }
 {
-    let mut same = 0;
-    for at in 0..old.len().min(new.len()) {
-        if !are_same(&old[at..=at], &new[at..=at]) {
+    let both = old.len().min(new.len());
+    for at in 0..both {
+        if !are_same(&old[at..at + 1], &new[at..at + 1]) {
             return at;
         }
-        same = at + 1;
     }
-    same
+    both
 }
 
 /// How many entries at the front are of this place.
@@ -100,33 +99,36 @@ fn placed(alloc: Global, at: u64, entries: &[Entry<Key, Item>]) -> Result<Placed
     Ok((at, Counted::new(items)))
 }
 
-/// Two pages, of which entries are left that were not compared.
-struct Compared<'a> {
-    old: &'a [Entry<Key, Item>],
-    new: &'a [Entry<Key, Item>],
+/// The next place at which not the same items are, with those that are there now. So many of the old and the new entries
+/// are up to it or there.
+#[derive(Drop)]
+struct NextChange {
+    placed: PlacedItems,
+    old: usize,
+    new: usize,
 }
 
-impl Drop for Compared<'_> {
-    fn drop(self) {
-        let Compared { old: _, new: _ } = self;
-    }
-}
-
-impl Compared<'_> {
-    /// The next place at which not the same items are, with those that are there now. `None`: there is none left.
-    fn next(&mut self, alloc: Global) -> Result<Option<PlacedItems>, AllocError> {
-        let same = same_at_front(self.old, self.new);
-        let (old, new) = (&self.old[same..], &self.new[same..]);
-        let Some(at) = first_place(old, new) else {
-            return Ok(None);
-        };
-        let start = before_place(&self.new[..same], at);
-        let end = same + placed_at_front(new, at);
-        let items = placed(alloc, at, &self.new[start..end])?;
-        self.old = &old[placed_at_front(old, at)..];
-        self.new = &self.new[end..];
-        Ok(Some(items))
-    }
+/// The next place at which not the same items are. `None`: there is none left.
+fn next_change(
+    alloc: Global,
+    old: &[Entry<Key, Item>],
+    new: &[Entry<Key, Item>],
+) -> Result<Option<NextChange>, AllocError>
+    ensures old { IfOk result (λ next. IfSome next (λ change. change.old ≤ length old.now)) }
+    ensures new { IfOk result (λ next. IfSome next (λ change. change.new ≤ length new.now)) }
+{
+    let same = same_at_front(old, new);
+    let (old_rest, new_rest) = (&old[same..], &new[same..]);
+    let Some(at) = first_place(old_rest, new_rest) else {
+        return Ok(None);
+    };
+    let start = before_place(&new[..same], at);
+    let end = same + placed_at_front(new_rest, at);
+    Ok(Some(NextChange {
+        placed: placed(alloc, at, &new[start..end])?,
+        old: same + placed_at_front(old_rest, at),
+        new: end,
+    }))
 }
 
 /// Notes the places of two pages, in the order of their places, at which not the same items are.
@@ -136,12 +138,14 @@ fn compare(
     new: &[Entry<Key, Item>],
     changes: &mut Vec<PlacedItems>,
 ) -> Result<(), AllocError> {
-    let mut compared = Compared { old, new };
+    let (mut old, mut new) = (old, new);
     for _ in 0..u64::MAX {
-        match compared.next(alloc)? {
-            Some(placed) => changes.push(placed)?,
-            None => return Ok(()),
-        }
+        let Some(change) = next_change(alloc, old, new)? else {
+            return Ok(());
+        };
+        old = &old[change.old..];
+        new = &new[change.new..];
+        changes.push(change.placed)?;
     }
     Ok(())
 }

@@ -49,7 +49,10 @@ fn remove(alloc: Global, pages: &mut Pages, from: u64, to: u64) -> Result<(), Fa
 }
 
 fn put_twins(alloc: Global, pages: &mut Pages, which: u64) -> Result<(), Fail> {
-    let names = ["ihdmobboncdmkfelpaobmddmbobo", "obncfkapelbocnobpadmhiboboap"];
+    let names = [
+        "ihdmobboncdmkfelpaobmddmbobo",
+        "obncfkapelbocnobpadmhiboboap",
+    ];
     for (at, name) in names.iter().enumerate() {
         let key = Key::new(Vec::from_slice(alloc, name.as_bytes())?);
         if which >> at & 1 == 1 {
@@ -203,12 +206,24 @@ fn say(rt: &HostRuntime, alloc: Global, a: &State, b: &State) -> Result<(), Fail
 fn run(rt: &HostRuntime, dir: &str, steps: &[(u64, u64, u64, Form)]) -> Result<(), Fail> {
     let alloc = rt.alloc();
     let _ = fs::remove_dir_all(rt, dir);
-    must(refused(rt, dir, false, 0) == Some(DataFault::NoData), "wrong 6")?;
-    must(refused(rt, dir, true, 0) == Some(DataFault::CannotOpen), "wrong 7")?;
+    must(
+        refused(rt, dir, false, 0) == Some(DataFault::NoData),
+        "wrong 6",
+    )?;
+    must(
+        refused(rt, dir, true, 0) == Some(DataFault::CannotOpen),
+        "wrong 7",
+    )?;
     fs::create_dir(rt, dir)?;
-    must(refused(rt, dir, false, 0) == Some(DataFault::NoData), "wrong 8")?;
+    must(
+        refused(rt, dir, false, 0) == Some(DataFault::NoData),
+        "wrong 8",
+    )?;
     let mut folder = folder_of(rt, dir, true)?;
-    must(refused(rt, dir, true, 0) == Some(DataFault::InUse), "wrong 9")?;
+    must(
+        refused(rt, dir, true, 0) == Some(DataFault::InUse),
+        "wrong 9",
+    )?;
     let mut last = State::first(alloc)?;
     step(rt, dir, &mut folder, &last)?;
     for (at, (from, to, value, form)) in steps.iter().enumerate() {
@@ -223,8 +238,14 @@ fn run(rt: &HostRuntime, dir: &str, steps: &[(u64, u64, u64, Form)]) -> Result<(
         if at % 3 == 2 {
             drop(folder);
             drop(is_there(rt, dir, &last)?);
-            must(refused(rt, dir, false, 1) == Some(DataFault::OtherU(0)), "wrong 10")?;
-            must(refused(rt, dir, true, 0) == Some(DataFault::HasData), "wrong 11")?;
+            must(
+                refused(rt, dir, false, 1) == Some(DataFault::OtherU(0)),
+                "wrong 10",
+            )?;
+            must(
+                refused(rt, dir, true, 0) == Some(DataFault::HasData),
+                "wrong 11",
+            )?;
             folder = is_there(rt, dir, &last)?;
         }
     }
@@ -235,28 +256,36 @@ fn run(rt: &HostRuntime, dir: &str, steps: &[(u64, u64, u64, Form)]) -> Result<(
 
 #[test]
 fn saves_and_opens(rt: HostRuntime) -> Result<(), Fail> {
-    run(&rt, "/tmp/hf/data", &[
-        (0, 3, 1, Form::Current),
-        (0, 12, 2, Form::Current),
-        (4, 7, 0, Form::Tree),
-        (0, 0, 1, Form::Tree),
-        (0, 0, 3, Form::Tree),
-        (0, 0, 2, Form::Tree),
-        (0, 0, 0, Form::Tree),
-        (0, 0, 3, Form::Tree),
-        (5, 6, 9, Form::Tree),
-        (0, 0, 1, Form::Current),
-    ])
+    run(
+        &rt,
+        "/tmp/hf/data",
+        &[
+            (0, 3, 1, Form::Current),
+            (0, 12, 2, Form::Current),
+            (4, 7, 0, Form::Tree),
+            (0, 0, 1, Form::Tree),
+            (0, 0, 3, Form::Tree),
+            (0, 0, 2, Form::Tree),
+            (0, 0, 0, Form::Tree),
+            (0, 0, 3, Form::Tree),
+            (5, 6, 9, Form::Tree),
+            (0, 0, 1, Form::Current),
+        ],
+    )
 }
 
 #[test]
 fn twins_of_sorted_pages(rt: HostRuntime) -> Result<(), Fail> {
-    run(&rt, "/tmp/hf/data2", &[
-        (0, 0, 3, Form::Current),
-        (0, 0, 2, Form::Current),
-        (0, 0, 3, Form::Tree),
-        (0, 0, 1, Form::Current),
-        (0, 0, 2, Form::Current),
-        (0, 0, 0, Form::Current),
-    ])
+    run(
+        &rt,
+        "/tmp/hf/data2",
+        &[
+            (0, 0, 3, Form::Current),
+            (0, 0, 2, Form::Current),
+            (0, 0, 3, Form::Tree),
+            (0, 0, 1, Form::Current),
+            (0, 0, 2, Form::Current),
+            (0, 0, 0, Form::Current),
+        ],
+    )
 }
