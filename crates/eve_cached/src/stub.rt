@@ -53,7 +53,7 @@ impl Save for DataFolder {
         false
     }
 
-    fn save(&mut self, _alloc: Global, _record: &ServiceRecord) -> bool {
+    fn save(&mut self, _alloc: Global, _kept: &ServiceRecord) -> bool {
         true
     }
 

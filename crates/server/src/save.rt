@@ -41,9 +41,9 @@ pub trait Save {
 
     /// Saves the record in place of the last one: whether it is saved. If not, what may be found is what might be
     /// found before, or this record. `fault` tells why.
-    fn save(&mut self, alloc: Global, record: &ServiceRecord) -> bool
-        ensures saved { IsTrue result → (found : Option (List ℕ)) → may_find self.new found → IsFoundOf is_text record.now found }
-        ensures crash { (found : Option (List ℕ)) → may_find self.new found → may_find self.old found ⊎ IsFoundOf is_text record.now found };
+    fn save(&mut self, alloc: Global, kept: &ServiceRecord) -> bool
+        ensures saved { IsTrue result → (found : Option (List ℕ)) → may_find self.new found → IsFoundOf is_text kept.now found }
+        ensures crash { (found : Option (List ℕ)) → may_find self.new found → may_find self.old found ⊎ IsFoundOf is_text kept.now found };
 
     /// Why the last save failed. None: it did not, or nothing was saved yet. Once it is `Disk` it stays so, and no save
     /// succeeds.
@@ -66,7 +66,7 @@ impl Save for NoFolder {
         false
     }
 
-    fn save(&mut self, _alloc: Global, _record: &ServiceRecord) -> bool {
+    fn save(&mut self, _alloc: Global, _kept: &ServiceRecord) -> bool {
         true
     }
 
