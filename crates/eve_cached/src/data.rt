@@ -2,7 +2,7 @@
 
 use crate::stub::{DataFault, DataFolder};
 use crate::{DISK_FAILED, IN_USE, NO_DATA, REFUSED};
-use daemon::{DataPlace, NO_TARGET, Stamped};
+use daemon::{NO_TARGET, Settings, Stamped};
 use log::error;
 use server::ServiceRecord;
 
@@ -16,15 +16,25 @@ fn status_of(fault: DataFault) -> u8 {
     }
 }
 
-/// The folder, and what was saved in it last. If it cannot be used the log tells why.
-pub fn open_folder(
-    rt: &HostRuntime,
-    place: &DataPlace,
-    u: u8,
-) -> Result<(DataFolder, Option<ServiceRecord>), u8> {
+/// Where what is answered is saved.
+#[derive(Drop)]
+pub enum Data {
+    Nowhere,
+    In {
+        folder: DataFolder,
+        /// What was saved there last.
+        found: Option<ServiceRecord>,
+    },
+}
+
+/// The folder of the settings, if they have one. If it cannot be used the log tells why.
+pub fn open_data(rt: &HostRuntime, settings: &Settings) -> Result<Data, u8> {
+    let Some(place) = &settings.data else {
+        return Ok(Data::Nowhere);
+    };
     let path = place.path.as_str();
-    match DataFolder::open(rt, path, place.is_new, u) {
-        Ok(opened) => Ok(opened),
+    match DataFolder::open(rt, path, place.is_new, settings.u) {
+        Ok((folder, found)) => Ok(Data::In { folder, found }),
         Err(fault) => {
             error!(Stamped(rt); target: NO_TARGET, "{path}: {fault}");
             Err(status_of(fault))

@@ -12,7 +12,7 @@ mod showing;
 mod stub;
 mod watching;
 
-use crate::data::open_folder;
+use crate::data::{Data, open_data};
 use crate::life::run;
 use clap::Error;
 use clap::error::ErrorKind;
@@ -59,20 +59,14 @@ fn given(rt: &HostRuntime) -> Result<Settings, ExitCode> {
     }
 }
 
-/// Runs a daemon with these settings. The status of the program if it ends by itself.
-fn serve(rt: &HostRuntime, settings: Settings) -> u8 {
-    let Some(place) = &settings.data else {
-        return run(rt, settings, NoFolder, None);
-    };
-    match open_folder(rt, place, settings.u) {
-        Ok((folder, found)) => run(rt, settings, folder, found),
-        Err(status) => status,
-    }
-}
-
 fn main(rt: HostRuntime) -> ExitCode {
-    match given(&rt) {
-        Ok(settings) => ExitCode::from(serve(&rt, settings)),
-        Err(status) => status,
+    let settings = match given(&rt) {
+        Ok(settings) => settings,
+        Err(status) => return status,
+    };
+    match open_data(&rt, &settings) {
+        Ok(Data::Nowhere) => ExitCode::from(run(&rt, settings, NoFolder, None)),
+        Ok(Data::In { folder, found }) => ExitCode::from(run(&rt, settings, folder, found)),
+        Err(status) => ExitCode::from(status),
     }
 }

@@ -9,6 +9,7 @@
 mod answering;
 mod durable;
 mod fault;
+mod leading;
 mod life;
 mod save;
 mod watcher;

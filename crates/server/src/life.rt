@@ -5,6 +5,7 @@ ghost use Rattle.std.specs.Prelude.{◌<◌};
 use crate::answering::Answering;
 use crate::durable::Durable;
 use crate::fault::ServeFault;
+use crate::leading::find_leader;
 use crate::save::{NoFolder, Save};
 use crate::watcher::Watcher;
 use event_loop::{Admission, Listener as LoopListener, Refused, Watch, read_out};
@@ -72,14 +73,16 @@ fn first_service(alloc: Global, options: &Options) -> Result<Service, ServeFault
     Ok(Service::open(alloc, &config, dialect_of(options))?)
 }
 
-/// The service that goes on from this record. Its replicas are opened.
-fn later_service(
+/// The service that goes on from this record. Its replicas are opened, and have a leader.
+fn later_service<R: Threads + Wait + Clock + Sync>(
+    rt: &R,
     alloc: Global,
     options: &Options,
     found: ServiceRecord,
 ) -> Result<Service, ServeFault> {
+    let number = found.next();
     let mut service = Service::reopen(alloc, found, dialect_of(options))?;
-    service.tick(alloc);
+    find_leader(rt, alloc, &mut service, number);
     Ok(service)
 }
 
@@ -96,24 +99,25 @@ fn answering_of(alloc: Global, service: Service, most: usize) -> Result<Answerin
 
 /// The service over its replicas, for an event loop of at most so many sockets at once. It goes on from what was found,
 /// if something was.
-fn open(
+fn open<R: Threads + Wait + Clock + Sync>(
+    rt: &R,
     alloc: Global,
     options: Options,
     found: Option<ServiceRecord>,
     most: usize,
 ) -> Result<Answering, ServeFault> {
     let mut service = match found {
-        Some(found) => later_service(alloc, &options, found)?,
+        Some(found) => later_service(rt, alloc, &options, found)?,
         None => first_service(alloc, &options)?,
     };
     service.set_limit(options.max_bytes);
     answering_of(alloc, service, most)
 }
 
-/// The number of the first connection.
+/// The number of the first connection that the event loop accepts. The one before it has found a leader.
 fn first_number(found: &Option<ServiceRecord>) -> u64 {
     match found {
-        Some(found) => found.next(),
+        Some(found) => found.next().saturating_add(1),
         None => 0,
     }
 }
@@ -199,7 +203,7 @@ fn serve_all<
 {
     let listeners = all_waiting_for_none(alloc, listeners)?;
     let admission = admission_of(&options, &found);
-    let answering = open(alloc, options, found, admission.most_sockets())?;
+    let answering = open(rt, alloc, options, found, admission.most_sockets())?;
     let durable = Durable::new(alloc, answering, saver);
     let (durable, served) = event_loop::serve(rt, alloc, listeners, admission, durable, beside);
     ended(durable, served)
