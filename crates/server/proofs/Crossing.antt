@@ -10,7 +10,7 @@ use Rattle.event_loop.proofs.message.Said.TheSendSync as said
 use Rattle.service.proofs.Crossing.{service_send}
 use Rattle.server.proofs.answering.Lost.TheSendSync as lost
 use Rattle.server.specs.contracts.answering.Answering as answering
-use Rattle.server.specs.contracts.durable.Durable as durable
+use Rattle.server.specs.contracts.durable.DurableService as durable
 
 ruleset parts = (
   service_send,

@@ -15,24 +15,24 @@ use std::thread::Threads;
 
 /// The service, where its record is saved, and what it has said and nobody has seen: a record of a later moment than that
 /// has to be saved first.
-pub struct Durable<S> {
+pub struct DurableService<S> {
     alloc: Global,
     answering: Answering,
     saver: S,
     held: Vec<Said>,
 }
 
-impl<S: Save> Durable<S> {
+impl<S: Save> DurableService<S> {
     ghost use Rattle.std.specs.Prelude.{◌≡◌, [], IsTrue};
     ghost use Rattle.server.specs.Durable.{IsSavedNow, MayBeSavedNow, Releases};
 
     /// Nothing is held.
-    pub fn new(alloc: Global, answering: Answering, saver: S) -> Durable<S>
+    pub fn new(alloc: Global, answering: Answering, saver: S) -> DurableService<S>
         ensures answering { result.answering ≡ answering }
         ensures saver { result.saver ≡ saver }
         ensures none { result.held.items ≡ [] }
     {
-        Durable {
+        DurableService {
             alloc,
             answering,
             saver,
@@ -45,7 +45,7 @@ impl<S: Save> Durable<S> {
         ensures service { result.0 ≡ self.answering.service }
         ensures saver { result.1 ≡ self.saver }
     {
-        let Durable {
+        let DurableService {
             alloc: _,
             answering,
             saver,
@@ -102,7 +102,7 @@ impl<S: Save> Durable<S> {
     }
 }
 
-impl<S: Save> Serve for Durable<S> {
+impl<S: Save> Serve for DurableService<S> {
     ghost use denote.Param.Send.{IsSync};
     ghost use Rattle.std.specs.Prelude.{◌≡◌, ◌≢◌, ◌⊎◌, ℕ, [], true, false};
     ghost use Rattle.service.specs.Steps.{NoneWaits};

@@ -3,7 +3,7 @@
 ghost use Rattle.std.specs.Prelude.{◌<◌};
 
 use crate::answering::Answering;
-use crate::durable::Durable;
+use crate::durable::DurableService;
 use crate::fault::ServeFault;
 use crate::leading::find_leader;
 use crate::save::{NoFolder, Save};
@@ -171,7 +171,7 @@ fn admission_of(options: &Options, found: &Option<ServiceRecord>) -> Admission {
 
 /// What has served ends: the service and where it was saved, or why it did not begin.
 fn ended<S: Save + Drop>(
-    durable: Durable<S>,
+    durable: DurableService<S>,
     served: Result<(), Refused>,
 ) -> Result<(Service, S), ServeFault> {
     let (service, saver) = durable.into_parts();
@@ -189,7 +189,7 @@ fn ended<S: Save + Drop>(
 fn serve_all<
     R: Net<Listener = TcpListener, Stream = TcpStream> + Threads + Wait + Clock + Sync,
     S: Save + Drop + Send,
-    F: FnOnce(&Watch<'_, Durable<S>>),
+    F: FnOnce(&Watch<'_, DurableService<S>>),
 >(
     rt: &R,
     alloc: Global,
@@ -204,7 +204,7 @@ fn serve_all<
     let listeners = all_waiting_for_none(alloc, listeners)?;
     let admission = admission_of(&options, &found);
     let answering = open(rt, alloc, options, found, admission.most_sockets())?;
-    let durable = Durable::new(alloc, answering, saver);
+    let durable = DurableService::new(alloc, answering, saver);
     let (durable, served) = event_loop::serve(rt, alloc, listeners, admission, durable, beside);
     ended(durable, served)
 }

@@ -1,6 +1,6 @@
 //! What others see of a server while it serves.
 
-use crate::durable::Durable;
+use crate::durable::DurableService;
 use crate::save::{Save, SaveFault};
 use event_loop::{Counts, Watch};
 use figures::{Connections, Figures};
@@ -9,7 +9,7 @@ use std::sync::Wait;
 /// What the thread that started a server sees of it.
 #[derive_where(Clone, Copy)]
 pub struct Watcher<'a, S> {
-    watch: Watch<'a, Durable<S>>,
+    watch: Watch<'a, DurableService<S>>,
 }
 
 /// The event loop's counts, as they are shown.
@@ -27,7 +27,7 @@ fn connections(counts: Counts) -> Connections {
 
 impl<'a, S: Save> Watcher<'a, S> {
     /// A view of this.
-    pub fn new(watch: Watch<'a, Durable<S>>) -> Watcher<'a, S> {
+    pub fn new(watch: Watch<'a, DurableService<S>>) -> Watcher<'a, S> {
         Watcher { watch }
     }
 
