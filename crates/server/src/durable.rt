@@ -69,9 +69,15 @@ impl<S: Save> DurableService<S> {
         self.answering.see(seen);
     }
 
-    /// Why the last save failed. None: it did not, or nothing was saved yet.
+    /// Why what is held has not left: the last save failed, or there was no memory for the record. None: nothing is held.
     pub fn fault(&self) -> Option<SaveFault> {
-        self.saver.fault()
+        if self.held.is_empty() {
+            return None;
+        }
+        match self.saver.fault() {
+            Some(fault) => Some(fault),
+            None => Some(SaveFault::NoMemory),
+        }
     }
 
     /// Saves a record of this moment: whether it is saved.

@@ -50,8 +50,8 @@ impl<'a, S: Save> Watcher<'a, S> {
         self.watch.service(rt).see(seen);
     }
 
-    /// Why the last save failed; what was answered since then nobody has seen. None: it did not, or nothing was saved yet.
-    /// The caller waits as in `figures`.
+    /// Why nothing is answered just now: the last save failed. None: it did not, or nothing was to be saved yet. The caller
+    /// waits as in `figures`.
     pub fn save_fault<R: Wait>(&self, rt: &R) -> Option<SaveFault> {
         self.watch.service(rt).fault()
     }
