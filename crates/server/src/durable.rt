@@ -71,12 +71,10 @@ impl<S: Save> DurableService<S> {
 
     /// Why what is held has not left: the last save failed, or there was no memory for the record. None: nothing is held.
     pub fn fault(&self) -> Option<SaveFault> {
-        if self.held.is_empty() {
-            return None;
-        }
-        match self.saver.fault() {
-            Some(fault) => Some(fault),
-            None => Some(SaveFault::NoMemory),
+        match (self.held.is_empty(), self.saver.fault()) {
+            (true, _) => None,
+            (false, Some(fault)) => Some(fault),
+            (false, None) => Some(SaveFault::NoMemory),
         }
     }
 
