@@ -16,7 +16,7 @@ use Rattle.process_text.specs.declared.process_text.ProcessText.{ProcessText}
 use Rattle.states.specs.State.{StateView}
 use Rattle.process_parts.specs.Parts.{IsStoredOf}
 use Rattle.service.specs.Record.{RecordView}
-use Rattle.data_folder.specs.Durable.{IsFoundOf}
+use Rattle.server.specs.Durable.{IsFoundOf}
 use Rattle.data_folder.specs.Text.{service_text, IsServiceText, IsTextOf}
 use Rattle.data_folder.specs.Found.{saved_text, HasText, HasSomeText, HasRecord, FindsRecord}
 

@@ -1,3 +1,2 @@
-pub mod Durable
 pub mod Text
 pub mod Found

@@ -1,7 +1,7 @@
 //! Why a folder cannot be opened, and why a record is not saved.
 
-use crate::save::SaveFault;
 use proto::Fault;
+use server::SaveFault;
 use shelf::ReadFault;
 use sqlite::ErrorCode;
 use sqlite_trees::error::StoreError;

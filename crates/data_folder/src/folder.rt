@@ -4,13 +4,12 @@ ghost use Rattle.std.specs.Prelude.{◌≡◌, ◌⊎◌, ◌≤◌, ℕ, List, 
 ghost use Rattle.sqlite_trees.specs.View.{IsClean, doubt};
 ghost use Rattle.row_store.specs.Saved.{IsSame};
 ghost use Rattle.data_folder.specs.Found.{HasSomeText, FindsRecord, MayFind, FindsOnly, FindsOldOr};
-ghost use Rattle.data_folder.specs.Durable.{IsFoundOf};
+ghost use Rattle.server.specs.Durable.{IsFoundOf};
 ghost use Rattle.data_folder.specs.Text.{IsServiceText, IsTextOf, service_text};
 ghost use Rattle.process_text.specs.Text.{IsProcessText};
 
 use crate::changes::changes_since;
 use crate::fault::{DataFault, record_fault, store_fault};
-use crate::save::{Save, SaveFault};
 use crate::service_text::{take_text, text_of};
 use crate::stored_items::state_with;
 use folders::SaveStamp;
@@ -18,6 +17,7 @@ use item_rows::PlacedItems;
 use process_parts::{StoredProcess, record_of, stored_of};
 use process_text::ProcessText;
 use proto::Fault;
+use server::{Save, SaveFault};
 use service::ServiceRecord;
 use shelf::{SavedProcess, SavedTurn, Shelf};
 use sqlite_trees::error::StoreError;

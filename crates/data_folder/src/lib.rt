@@ -15,7 +15,6 @@ mod changes;
 mod fault;
 mod folder;
 mod opening;
-mod save;
 mod service_text;
 mod stored_items;
 mod tables;
