@@ -7,28 +7,28 @@ use Rattle.shelf.specs.Rows.{process_rows}
 use Rattle.service.specs.Record.{RecordView}
 use Rattle.data_folder.specs.Text.{IsServiceText}
 
-abbrev pub saved_text : Option SavedProcess → Option (List ℕ)
-saved_text None = None
-saved_text (Some saved) = Some saved.text
+abbrev pub text_of_row : Option SavedProcess → Option (List ℕ)
+text_of_row None = None
+text_of_row (Some saved) = Some saved.text
 
 -- the row of the process has this text; or there is no such row
-pub record HasText (db : Trees) (found : Option (List ℕ)) : Type 0 where
+pub record HoldsText (db : Trees) (found : Option (List ℕ)) : Type 0 where
   pub saved : Option SavedProcess
   pub row : db 2 ≡ process_rows saved
-  pub is : saved_text saved ≡ found
+  pub is : text_of_row saved ≡ found
 
-abbrev pub HasSomeText : Trees → Type 0
-HasSomeText db = ∥ ((found : Option (List ℕ)) × HasText db found) ∥₁
+abbrev pub HoldsSomeText : Trees → Type 0
+HoldsSomeText db = ∥ ((found : Option (List ℕ)) × HoldsText db found) ∥₁
 
 -- the record of the text that a file has
 pub record HasRecord (db : Trees) (r : RecordView) : Type 0 where
   pub text : List ℕ
-  pub has : HasText db (Some text)
+  pub has : HoldsText db (Some text)
   pub is : IsServiceText r text
 
 -- the record of the text that a file has, if it has one
 abbrev pub FindsRecord : Trees → Option RecordView → Type 0
-FindsRecord db None = HasText db None
+FindsRecord db None = HoldsText db None
 FindsRecord db (Some r) = HasRecord db r
 
 -- A crash may leave this text in the file, or none, if the disk did as it is supposed to. `recovers` is what it may leave.
@@ -36,7 +36,7 @@ pub record MayFind (v : View) (recovers : Trees → Type 0) (found : Option (Lis
   pub clean : IsClean v
   pub db : Trees
   pub may : recovers db
-  pub has : HasText db found
+  pub has : HoldsText db found
 
 -- a crash leaves this text
 abbrev pub FindsOnly : View → (Trees → Type 0) → List ℕ → Type 0

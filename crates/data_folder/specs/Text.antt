@@ -18,5 +18,5 @@ pub record IsServiceText (r : RecordView) (t : List ℕ) : Type 0 where
   pub stored : IsStoredOf process state r.replicas
   pub is : t ≡ service_text process r.next
 
-abbrev pub IsTextOf : RecordView → List ℕ → Type 0
-IsTextOf r t = ∥ IsServiceText r t ∥₁
+abbrev pub TellsService : RecordView → List ℕ → Type 0
+TellsService r t = ∥ IsServiceText r t ∥₁

@@ -104,8 +104,8 @@ fn placed(alloc: Global, at: u64, entries: &[Entry<Key, Item>]) -> Result<Placed
 #[derive(Drop)]
 struct NextChange {
     placed: PlacedItems,
-    old: usize,
-    new: usize,
+    before: usize,
+    after: usize,
 }
 
 /// The next place at which not the same items are. `None`: there is none left.
@@ -114,8 +114,8 @@ fn next_change(
     old: &[Entry<Key, Item>],
     new: &[Entry<Key, Item>],
 ) -> Result<Option<NextChange>, AllocError>
-    ensures old { IfOk result (λ next. IfSome next (λ change. change.old ≤ length old.now)) }
-    ensures new { IfOk result (λ next. IfSome next (λ change. change.new ≤ length new.now)) }
+    ensures before { IfOk result (λ next. IfSome next (λ change. change.before ≤ length old.now)) }
+    ensures after { IfOk result (λ next. IfSome next (λ change. change.after ≤ length new.now)) }
 {
     let same = same_at_front(old, new);
     let (old_rest, new_rest) = (&old[same..], &new[same..]);
@@ -126,8 +126,8 @@ fn next_change(
     let end = same + placed_at_front(new_rest, at);
     Ok(Some(NextChange {
         placed: placed(alloc, at, &new[start..end])?,
-        old: same + placed_at_front(old_rest, at),
-        new: end,
+        before: same + placed_at_front(old_rest, at),
+        after: end,
     }))
 }
 
@@ -143,8 +143,8 @@ fn compare(
         let Some(change) = next_change(alloc, old, new)? else {
             return Ok(());
         };
-        old = &old[change.old..];
-        new = &new[change.new..];
+        old = &old[change.before..];
+        new = &new[change.after..];
         changes.push(change.placed)?;
     }
     Ok(())

@@ -3,9 +3,9 @@
 ghost use Rattle.std.specs.Prelude.{◌≡◌, ◌⊎◌, ◌≤◌, ℕ, List, Option, None, IsTrue, IfOk, OnOk, IsSomeAnd};
 ghost use Rattle.sqlite_trees.specs.View.{IsClean, doubt};
 ghost use Rattle.row_store.specs.Saved.{IsSame};
-ghost use Rattle.data_folder.specs.Found.{HasSomeText, FindsRecord, MayFind, FindsOnly, FindsOldOr};
+ghost use Rattle.data_folder.specs.Found.{HoldsSomeText, FindsRecord, MayFind, FindsOnly, FindsOldOr};
 ghost use Rattle.server.specs.Durable.{IsFoundOf};
-ghost use Rattle.data_folder.specs.Text.{IsServiceText, IsTextOf, service_text};
+ghost use Rattle.data_folder.specs.Text.{IsServiceText, TellsService, service_text};
 ghost use Rattle.process_text.specs.Text.{IsProcessText};
 
 use crate::changes::changes_since;
@@ -38,7 +38,7 @@ pub struct DataFolder<S: Store> {
     stamp: SaveStamp,
     /// Why the last save failed, if it did.
     fault: Option<SaveFault>,
-    ghost kept: { IsClean (S.view shelf.rows.store) → IsTrue (S.view shelf.rows.store).is_open → HasSomeText (S.view shelf.rows.store).committed },
+    ghost kept: { IsClean (S.view shelf.rows.store) → IsTrue (S.view shelf.rows.store).is_open → HoldsSomeText (S.view shelf.rows.store).committed },
 }
 
 impl<S: Store + Drop> Drop for DataFolder<S> {
@@ -294,7 +294,7 @@ impl<S: Store + Drop> DataFolder<S> {
     }
 
     /// Saves this text and this state.
-    pub(crate) fn save_stored(
+    fn save_stored(
         &mut self,
         alloc: Global,
         stored: &StoredProcess,
@@ -314,9 +314,9 @@ impl<S: Store + Drop> DataFolder<S> {
 
     /// Saves the record, unless the disk has failed before.
     fn save_record(&mut self, alloc: Global, kept: &ServiceRecord) -> Result<(), SaveFault>
-        ensures saved { OnOk result ((found : Option (List ℕ)) → MayFind (S.view self.new.shelf.rows.store) (S.recovers self.new.shelf.rows.store) found → IsFoundOf IsTextOf kept.now found) }
+        ensures saved { OnOk result ((found : Option (List ℕ)) → MayFind (S.view self.new.shelf.rows.store) (S.recovers self.new.shelf.rows.store) found → IsFoundOf TellsService kept.now found) }
         ensures crash { (found : Option (List ℕ)) → MayFind (S.view self.new.shelf.rows.store) (S.recovers self.new.shelf.rows.store) found
-            → MayFind (S.view self.old.shelf.rows.store) (S.recovers self.old.shelf.rows.store) found ⊎ IsFoundOf IsTextOf kept.now found }
+            → MayFind (S.view self.old.shelf.rows.store) (S.recovers self.old.shelf.rows.store) found ⊎ IsFoundOf TellsService kept.now found }
     {
         if self.is_shut() || self.shelf.is_shut() {
             return Err(SaveFault::Disk);
@@ -330,11 +330,11 @@ impl<S: Store + Drop> DataFolder<S> {
 
 impl<S: Store + Drop> Save for DataFolder<S> {
     ghost use Rattle.data_folder.specs.Found.{MayFind};
-    ghost use Rattle.data_folder.specs.Text.{IsTextOf};
+    ghost use Rattle.data_folder.specs.Text.{TellsService};
 
     ghost may_find = { λ folder found. MayFind (S.view folder.shelf.rows.store) (S.recovers folder.shelf.rows.store) found };
 
-    ghost is_text = { IsTextOf };
+    ghost is_text = { TellsService };
 
     /// It saves records.
     fn keeps(&self) -> bool {

@@ -18,8 +18,6 @@ mod opening;
 mod service_text;
 mod stored_items;
 mod tables;
-#[cfg(test)]
-mod tests;
 
 pub use fault::DataFault;
 pub use folder::DataFolder;

@@ -18,8 +18,9 @@ type Folder = DataFolder<TestStore>;
 /// Whether it is the record after so many turns, or after one more.
 fn is_old_or_new(alloc: Global, found: Option<ServiceRecord>, saved: u8) -> Result<bool, Fail> {
     match found {
-        Some(record) => Ok(is_after(alloc, &record, saved)?
-            || is_after(alloc, &record, saved.wrapping_add(1))?),
+        Some(record) => Ok(
+            is_after(alloc, &record, saved)? || is_after(alloc, &record, saved.wrapping_add(1))?,
+        ),
         None => Ok(saved == 0),
     }
 }

@@ -126,10 +126,7 @@ fn state_after(alloc: Global, turns: u8) -> Result<State, AllocError> {
     }
     let pages = snapshot_after(alloc, turns, layout_after(turns))?;
     let sessions = Sessions::new(alloc)?;
-    Ok(State::of_parts(
-        alloc,
-        parts(u64::from(turns), sessions, pages),
-    ))
+    Ok(State::of_parts(alloc, parts(u64::from(turns), sessions, pages)))
 }
 
 /// What is stored of an executor.
