@@ -1,7 +1,7 @@
 -- What a save leaves of the text of a service, and what is found of it.
-use Rattle.std.proofs.Common.{◌≡◌, ◌∙◌, ◌⊎◌, ℕ, List, [], ◌∷◌, Option, None, Some, refl, sym, ap, subst}
+use Rattle.std.proofs.Common.{◌≡◌, ◌∙◌, ℕ, List, [], ◌∷◌, Option, None, Some, refl, sym, ap, subst}
 use Rattle.std.specs.Prelude.{IsSomeAnd}
-use mathlib.Core.Logic.{IsProp, ∥∥₁_map, ∥∥₁_elim}
+use mathlib.Core.Logic.{∥∥₁_map, ∥∥₁_elim}
 use Rattle.sqlite_value.specs.declared.value.Value.{Value}
 use Rattle.sqlite_value.specs.declared.value.Value.TheVariants.{Null, Int, Real, Text, Blob}
 use Rattle.sqlite_value.specs.Order.{Row, column}
@@ -10,7 +10,7 @@ use Rattle.item_rows.specs.Changes.{Rows}
 use Rattle.item_rows.specs.Placed.{PlacedItems}
 use Rattle.shelf.specs.declared.process.SavedProcess.{SavedProcess}
 use Rattle.shelf.specs.declared.reply.ReplyChange.{ReplyChange}
-use Rattle.shelf.specs.Rows.{process_row, process_rows}
+use Rattle.shelf.specs.Rows.{process_rows}
 use Rattle.shelf.specs.WaitingView.{IsTurn, process_after}
 use Rattle.process_text.specs.declared.process_text.ProcessText.{ProcessText}
 use Rattle.states.specs.State.{StateView}
@@ -18,9 +18,9 @@ use Rattle.process_parts.specs.Parts.{IsStoredOf}
 use Rattle.service.specs.Record.{RecordView}
 use Rattle.server.specs.Durable.{IsFoundOf}
 use Rattle.data_folder.specs.Text.{service_text, IsServiceText, TellsService}
-use Rattle.data_folder.specs.Found.{text_of_row, HoldsText, HoldsSomeText, HasRecord, FindsRecord}
+use Rattle.data_folder.specs.Found.{text_of_row, HoldsText, HoldsSomeText, FindsRecord}
 
-blob_in : Value → List ℕ
+abbrev blob_in : Value → List ℕ
 blob_in Null = []
 blob_in (Int n) = []
 blob_in (Real x) = []
@@ -28,7 +28,7 @@ blob_in (Text t) = []
 blob_in (Blob b) = b
 
 -- the text in the rows of a process
-text_in_rows : List Row → Option (List ℕ)
+abbrev text_in_rows : List Row → Option (List ℕ)
 text_in_rows [] = None
 text_in_rows (row ∷ rows) = Some (blob_in (column row 7))
 

@@ -138,13 +138,13 @@ fn compare(
     new: &[Entry<Key, Item>],
     changes: &mut Vec<PlacedItems>,
 ) -> Result<(), AllocError> {
-    let (mut old, mut new) = (old, new);
+    let (mut old_rest, mut new_rest) = (old, new);
     for _ in 0..u64::MAX {
-        let Some(change) = next_change(alloc, old, new)? else {
+        let Some(change) = next_change(alloc, old_rest, new_rest)? else {
             return Ok(());
         };
-        old = &old[change.before..];
-        new = &new[change.after..];
+        old_rest = &old_rest[change.before..];
+        new_rest = &new_rest[change.after..];
         changes.push(change.placed)?;
     }
     Ok(())

@@ -11,7 +11,7 @@ pub invariant_of-self : goal.invariant_of-self
 invariant_of-self g c = record {
   kept = λ clean is_open.
       let clean_before : IsClean (g.S.Store.view c.args.self.now.shelf.rows.store) = omega (arith, c.save.ensures.clean, clean) in
-      subst (λ (db : Trees). HoldsSomeText db) (sym (c.save.ensures.same clean is_open).file) (c.args.self.now.kept clean_before (c.requires.open clean_before));
+      subst (λ (db : Trees). HoldsSomeText db) (sym (c.in_err-save.ensures.same clean is_open).file) (c.args.self.now.kept clean_before (c.requires.open clean_before));
 }
 
 pub returns-in_err-save-clause-crash : goal.returns-in_err-save-clause-crash
