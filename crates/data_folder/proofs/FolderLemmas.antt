@@ -15,6 +15,7 @@ use Rattle.shelf.specs.WaitingView.{IsTurn, process_after}
 use Rattle.process_text.specs.declared.process_text.ProcessText.{ProcessText}
 use Rattle.states.specs.State.{StateView}
 use Rattle.process_parts.specs.Parts.{IsStoredOf}
+use Rattle.ensemble.specs.Kept.{ProcessView}
 use Rattle.service.specs.Record.{RecordView}
 use Rattle.server.specs.Durable.{IsFoundOf}
 use Rattle.data_folder.specs.Text.{service_text, IsServiceText, TellsService}
@@ -71,3 +72,9 @@ record_of_text db saved (Some r) row is = record { text = saved.text; has = reco
 -- no record of a process, if there is no row of it
 pub nothing_found : (db : Trees) (r : Option RecordView) → r ≡ None → db 2 ≡ [] → FindsRecord db r
 nothing_found db r none row = subst (FindsRecord db) (sym none) (record { saved = None; row = row; is = refl })
+
+-- the same, of its parts
+pub record_found_of : (r : RecordView) (process : ProcessText) (state : StateView) (replicas : ProcessView) (next : ℕ) → replicas ≡ r.replicas → next ≡ r.next → IsStoredOf process state replicas
+    → (found : Option (List ℕ)) → ∥ (found ≡ Some (service_text process next)) ∥₁ → IsFoundOf TellsService r found
+record_found_of r process state replicas next are is stored found h =
+    record_found r process state (subst (λ (p : ProcessView). IsStoredOf process state p) are stored) found (subst (λ (n : ℕ). ∥ (found ≡ Some (service_text process n)) ∥₁) is h)

@@ -1,8 +1,7 @@
 //! A crash at each call of the disk.
 //!
-//! A machine that stops is a disk that fails from some call on. So each row of tests stops one of the two files, or both,
-//! at the call of each number, and opens them again: what is found is what the last save that answered true has made, or
-//! the next one.
+//! A machine that stops is a disk that fails from some call on. So the log, or both files, stop at the call of each number,
+//! and are opened again: what is found is what the last save that answered true has made, or the next one.
 
 use crate::files::{TestStore, made};
 use crate::turns::{TURNS, is_after, save_all};
@@ -58,18 +57,11 @@ fn stopped_at(rt: &impl Abort, alloc: Global, log_calls: u64, db_calls: u64) -> 
 #[test]
 fn a_crash_at_each_call_leaves_the_last_record_or_the_next(rt: HostRuntime) -> Result<(), Fail> {
     let alloc = rt.alloc();
-    let (mut log_is_done, mut db_is_done) = (false, false);
     for calls in 0..2000 {
-        if !log_is_done {
-            log_is_done = stopped_at(&rt, alloc, calls, u64::MAX)?;
-        }
-        if !db_is_done {
-            db_is_done = stopped_at(&rt, alloc, u64::MAX, calls)?;
-        }
-        if log_is_done && db_is_done {
+        stopped_at(&rt, alloc, calls, calls)?;
+        if stopped_at(&rt, alloc, calls, u64::MAX)? {
             return Ok(());
         }
-        stopped_at(&rt, alloc, calls, calls)?;
     }
     panic!(rt; "so many calls are not enough")
 }

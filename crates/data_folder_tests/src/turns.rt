@@ -20,7 +20,7 @@ use token::{Form, HashedSessions, Token};
 use wire::Counted;
 
 /// So many turns are saved.
-pub const TURNS: u8 = 6;
+pub const TURNS: u8 = 4;
 
 /// Two keys of one place: the first 55 bits of their paths are the same. They were searched.
 const TWINS: [&[u8]; 2] = [
@@ -55,7 +55,7 @@ fn change(alloc: Global, pages: &mut Pages, turn: u8) -> Result<(), AllocError> 
 /// Puts an item under one of the twins, or removes it.
 fn change_twins(alloc: Global, pages: &mut Pages, turn: u8) -> Result<(), AllocError> {
     let key = key_of(alloc, TWINS[(turn % 2) as usize])?;
-    if turn < 4 {
+    if turn < 2 {
         pages.put(key, item(alloc, turn)?)
     } else {
         pages.remove(&key)

@@ -19,11 +19,11 @@ returns-in-None g c =
 pub returns-in-Some-2 : goal.returns-in-Some-2
 returns-in-Some-2 g c =
     IfOk-weaker c.found_of.result
-    (λ found. IsSomeAnd found.service (λ service. IsServiceText service c.in-Some-2.saved.text))
+    (λ found. IsSomeAnd found.service (λ service. IsServiceText service c.in-Some.field-0.text))
     (λ found. IsClean (g.S.Store.view c.found_of.new.shelf.rows.store) → IsTrue (g.S.Store.view c.found_of.new.shelf.rows.store).is_open → FindsRecord (g.S.Store.view c.found_of.new.shelf.rows.store).committed found.service)
     (λ found is clean is_open.
     let clean_then : IsClean (g.S.Store.view c.process.new.self.rows.store) = omega (arith, c.found_of.ensures.clean, clean) in
     let later = c.found_of.ensures.same clean is_open in
     let earlier = c.process.ensures.same clean_then later.0 in
-    record_of_text (g.S.Store.view c.found_of.new.shelf.rows.store).committed c.in-Some-2.saved found.service (ap (λ (db : Trees). db 2) (later.1 ∙ earlier.1) ∙ (c.in_ok-process.ensures.found clean_then ∙ ap process_rows c.in-Some-2.is)) is)
+    record_of_text (g.S.Store.view c.found_of.new.shelf.rows.store).committed c.in-Some.field-0 found.service (ap (λ (db : Trees). db 2) (later.1 ∙ earlier.1) ∙ (c.in_ok-process.ensures.found clean_then ∙ ap process_rows c.in-Some.is)) is)
     c.found_of.ensures.is
