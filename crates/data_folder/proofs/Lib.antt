@@ -1,1 +1,2 @@
 mod FolderLemmas
+pub mod Crossing
