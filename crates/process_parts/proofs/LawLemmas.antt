@@ -1,6 +1,7 @@
 -- What is restored is what was stored.
-use Rattle.std.proofs.Common.{◌≡◌, ℕ, suc, ◌∙◌, List, [], ◌∷◌, map, Option, None, Some, refl, ap, sym, arith}
+use Rattle.std.proofs.Common.{◌≡◌, inr, ℕ, suc, ◌∙◌, List, [], ◌∷◌, map, Option, None, Some, refl, ap, sym, subst, arith}
 use Rattle.std.specs.Prelude.{Contains}
+use Rattle.std.specs.List.{AllZip}
 use Rattle.keeper.specs.Kept.{Kept}
 use Rattle.states.specs.declared.head.Head.{Head}
 use Rattle.states.specs.State.{StateView, IsState}
@@ -9,8 +10,12 @@ use Rattle.process_text.specs.declared.executor_row.PlainRecord.{PlainRecord}
 use Rattle.process_text.specs.declared.executor_row.StoredRecord.{StoredRecord}
 use Rattle.process_text.specs.declared.executor_row.StoredRecord.TheVariants.{Nothing, Plain, Whole}
 use Rattle.process_text.specs.declared.executor_row.ExecutorRow.{ExecutorRow}
-use Rattle.process_parts.specs.Parts.{plain_record, stored_record, executor_of_row, restored_process, IsStoredAs, IsExecutorRow, AreExecutorRows}
-use Rattle.process_parts.specs.Laws.{RestoredIsStored, StoredIsRestored, StoredIsOneRecord}
+use Rattle.process_text.specs.declared.process_text.ProcessText.{ProcessText}
+use Rattle.process_text.specs.Text.{IsProcessText}
+use Rattle.process_text.specs.StateOf.{IsStateOf}
+use Rattle.ensemble.specs.Kept.{ProcessView}
+use Rattle.process_parts.specs.Parts.{plain_record, stored_record, executor_of_row, restored_process, IsStoredAs, IsExecutorRow, IsExecutorState, IsStoredOf}
+use Rattle.process_parts.specs.Laws.{HeadsTellStates, RestoredIsStored, StoredIsRestored, StoredIsOneRecord}
 
 -- ---- what is restored is stored
 
@@ -19,7 +24,7 @@ record_stored s head is has Nothing = refl
 record_stored s head is has (Plain plain) = record { state = s; is_state = is; has_head = has; text = refl }
 record_stored s head is has (Whole bytes) = refl
 
-executors_stored : (s : StateView) (head : Head) → IsState s → head_of_state s ≡ head → (rows : List ExecutorRow) → AreExecutorRows head rows (map (executor_of_row s) rows)
+executors_stored : (s : StateView) (head : Head) → IsState s → head_of_state s ≡ head → (rows : List ExecutorRow) → AllZip (IsExecutorRow head) rows (map (executor_of_row s) rows)
 executors_stored s head is has [] = tt
 executors_stored s head is has (row ∷ rows) = (record { stored = record_stored s head is has row.stored; failures = refl; fails_next = refl }, executors_stored s head is has rows)
 
@@ -29,6 +34,10 @@ restored_is_stored t s text state = record {
   state = state;
   rows = record { u = refl; proxies = refl; executors = executors_stored s t.head state.state state.head t.executors; verifiers = refl };
 }
+
+-- so is a record that is what is restored
+pub same_is_stored : (t : ProcessText) (s : StateView) (r : ProcessView) → IsProcessText t → r ≡ restored_process t s → IsStateOf t s → IsStoredOf t s r
+same_is_stored t s r text same state = subst (IsStoredOf t s) (sym same) (restored_is_stored t s text state)
 
 -- ---- what is stored is restored
 
@@ -51,23 +60,30 @@ same_executor s head row k has tells is =
     let fails_next : row.fails_next ≡ k.fails_next = sym is.fails_next in
     λ i. record { saved = saved i; failures = failures i; fails_next = fails_next i }
 
-same_executors : (s : StateView) (head : Head) (rows : List ExecutorRow) (ks : List Kept) → head_of_state s ≡ head → ((k : Kept) → Contains ks k → TellsOf s k.saved) → AreExecutorRows head rows ks → map (executor_of_row s) rows ≡ ks
+in_later : {X : Type 0} (x y : X) (xs : List X) → Contains xs y → Contains (x ∷ xs) y
+in_later x y xs (k, lt, e) = (suc k, omega (arith, lt), e)
+
+same_executors : (s : StateView) (head : Head) (rows : List ExecutorRow) (ks : List Kept) → head_of_state s ≡ head → ((k : Kept) → Contains ks k → TellsOf s k.saved) → AllZip (IsExecutorRow head) rows ks → map (executor_of_row s) rows ≡ ks
 same_executors s head [] [] has tells are = refl
 same_executors s head [] (k ∷ ks) has tells are = absurd are
 same_executors s head (row ∷ rows) [] has tells are = absurd are
 same_executors s head (row ∷ rows) (k ∷ ks) has tells are =
     let first : executor_of_row s row ≡ k = same_executor s head row k has (tells k (0, omega arith, refl)) are.0 in
-    let others : map (executor_of_row s) rows ≡ ks = same_executors s head rows ks has (λ other there. tells other (suc there.0, omega (arith, there.1.0), there.1.1)) are.1 in
+    let others : map (executor_of_row s) rows ≡ ks = same_executors s head rows ks has (λ other there. tells other (in_later k other ks there)) are.1 in
     λ i. first i ∷ others i
 
+-- the states of the executors are told apart, and this is one of them
+tells_of : (s : StateView) (ks : List Kept) → IsState s → IsExecutorState ks s → HeadsTellStates ks → (k : Kept) → Contains ks k → TellsOf s k.saved
+tells_of s ks is among tell k there plain other text state head = tell other s state is (inr (record { kept = k; there = there; alone = record { plain = plain; text = text } })) among head
+
 pub stored_is_restored : StoredIsRestored
-stored_is_restored t s r is tells =
+stored_is_restored t s r is among tell =
     let executors : map (executor_of_row s) t.executors ≡ r.executors =
-    same_executors s t.head t.executors r.executors is.state.head (λ kept there plain other text state head. tells kept plain other there text state head) is.rows.executors in
+    same_executors s t.head t.executors r.executors is.state.head (tells_of s r.executors is.state.state among tell) is.rows.executors in
     let u : t.u ≡ r.u = sym is.rows.u in
     let proxies = sym is.rows.proxies in
     let verifiers = sym is.rows.verifiers in
     λ i. record { u = u i; proxies = proxies i; executors = executors i; verifiers = verifiers i }
 
 pub stored_is_one : StoredIsOneRecord
-stored_is_one t s a b of_a tells_a of_b tells_b = sym (stored_is_restored t s a of_a tells_a) ∙ stored_is_restored t s b of_b tells_b
+stored_is_one t s a b stored_a among_a tell_a stored_b among_b tell_b = sym (stored_is_restored t s a stored_a among_a tell_a) ∙ stored_is_restored t s b stored_b among_b tell_b

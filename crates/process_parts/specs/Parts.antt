@@ -1,5 +1,6 @@
 -- What is stored of a process, and the record that it stands for.
-use Rattle.std.specs.Prelude.{◌≡◌, ℕ, ◌<◌, ◌+◌, ◌*◌, ◌^◌, List, [], ◌∷◌, length, map, Option, None, Some}
+use Rattle.std.specs.Prelude.{◌≡◌, ◌⊎◌, ℕ, ◌<◌, ◌+◌, ◌*◌, ◌^◌, List, length, map, Option, None, Some, Contains}
+use Rattle.std.specs.List.{AllZip}
 use Rattle.std.specs.Option.{option_map}
 use Rattle.keeper.specs.Kept.{Kept}
 use Rattle.client.specs.declared.asked.Asked.{Asked}
@@ -7,7 +8,7 @@ use Rattle.proxies.specs.Proxy.{ProxyView}
 use Rattle.rollback.specs.Chain.{alone_text}
 use Rattle.exec_lines.specs.Record.{saved_text}
 use Rattle.states.specs.declared.head.Head.{Head}
-use Rattle.states.specs.State.{StateView, IsState}
+use Rattle.states.specs.State.{StateView, IsState, initial_state}
 use Rattle.states.specs.StateRecord.{head_of_state}
 use Rattle.process_text.specs.declared.executor_row.PlainRecord.{PlainRecord}
 use Rattle.process_text.specs.declared.executor_row.StoredRecord.{StoredRecord}
@@ -58,13 +59,13 @@ pub record IsPlainOf (head : Head) (plain : PlainRecord) (bytes : List ℕ) : Ty
   pub has_head : head_of_state state ≡ head
   pub text : bytes ≡ plain_record plain state
 
--- so is a record stored beside a state with this head
+-- what is stored of a record, beside a state with this head
 abbrev pub IsStoredRecord : Head → StoredRecord → List ℕ → Type 0
 IsStoredRecord head Nothing bytes = ⊥
 IsStoredRecord head (Plain plain) bytes = IsPlainOf head plain bytes
 IsStoredRecord head (Whole whole) bytes = bytes ≡ whole
 
--- and so the record of an executor, if it has one
+-- the same of an executor's record, if it has one
 abbrev pub IsStoredAs : Head → StoredRecord → Option (List ℕ) → Type 0
 IsStoredAs head stored None = stored ≡ Nothing
 IsStoredAs head stored (Some bytes) = IsStoredRecord head stored bytes
@@ -74,18 +75,11 @@ pub record IsExecutorRow (head : Head) (row : ExecutorRow) (kept : Kept) : Type 
   pub failures : kept.failures ≡ row.failures
   pub fails_next : kept.fails_next ≡ row.fails_next
 
--- a row for each executor, in their order
-abbrev pub AreExecutorRows : Head → List ExecutorRow → List Kept → Type 0
-AreExecutorRows head [] [] = Unit {0}
-AreExecutorRows head [] (k ∷ ks) = ⊥
-AreExecutorRows head (row ∷ rows) [] = ⊥
-AreExecutorRows head (row ∷ rows) (k ∷ ks) = IsExecutorRow head row k × AreExecutorRows head rows ks
-
 -- The rows of the text are those of the record.
 pub record HasRowsOf (t : ProcessText) (r : ProcessView) : Type 0 where
   pub u : r.u ≡ t.u
   pub proxies : r.proxies ≡ map proxy_of_row t.proxies
-  pub executors : AreExecutorRows t.head t.executors r.executors
+  pub executors : AllZip (IsExecutorRow t.head) t.executors r.executors
   pub verifiers : r.verifiers ≡ map verifier_of_row t.verifiers
 
 -- The record is stored as this text and this state. An executor that is stored by some fields alone has the record of a state
@@ -94,6 +88,22 @@ pub record IsStoredOf (t : ProcessText) (s : StateView) (r : ProcessView) : Type
   pub text : IsProcessText t
   pub state : IsStateOf t s
   pub rows : HasRowsOf t r
+
+-- ---- which state is stored
+
+-- The record of the executor is of this state, without tentative states.
+pub record IsAlone (kept : Kept) (s : StateView) : Type 0 where
+  pub plain : PlainRecord
+  pub text : kept.saved ≡ Some (plain_record plain s)
+
+pub record IsAloneIn (executors : List Kept) (s : StateView) : Type 0 where
+  pub kept : Kept
+  pub there : Contains executors kept
+  pub alone : IsAlone kept s
+
+-- the state is the first one, or an executor's
+abbrev pub IsExecutorState : List Kept → StateView → Type 0
+IsExecutorState executors s = (s ≡ initial_state) ⊎ IsAloneIn executors s
 
 -- The record is of 2u + 1 executors and as many verifiers, and of proxies that have numbers.
 pub record HasMembers (r : ProcessView) : Type 0 where

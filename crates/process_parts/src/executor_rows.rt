@@ -1,7 +1,8 @@
 //! The rows of executors, and back.
 
 ghost use Rattle.std.specs.Prelude.{◌≡◌, map, IfOk};
-ghost use Rattle.process_parts.specs.Parts.{plain_record, stored_record, executor_of_row, IsStoredRecord, IsStoredAs, IsExecutorRow, AreExecutorRows};
+ghost use Rattle.std.specs.List.{AllZip};
+ghost use Rattle.process_parts.specs.Parts.{plain_record, stored_record, executor_of_row, IsStoredRecord, IsStoredAs, IsExecutorRow};
 
 use crate::reference::plain_in;
 use exec_lines::{ExecutorRecord, Saved};
@@ -61,7 +62,7 @@ pub(crate) fn rows_of_executors(
     keepers: &[MemKeeper<ExecutorRecord>],
     head: &Head,
 ) -> Result<Vec<ExecutorRow>, AllocError>
-    ensures { IfOk result (λ rows. AreExecutorRows head.now rows.items keepers.now) }
+    ensures { IfOk result (λ rows. AllZip (IsExecutorRow head.now) rows.items keepers.now) }
 {
     let mut rows = Vec::with_capacity(alloc, keepers.len())?;
     for keeper in keepers {

@@ -7,13 +7,13 @@ pub fn what_is_restored_is_stored()
     ensures { RestoredIsStored }
 {}
 
-/// The record that is made of what was stored is the one that was stored, if the head of the state tells it from each
-/// other state of which an executor has the record.
+/// The record that is made of what was stored is the one that was stored, if the heads of the executors' states tell the
+/// states apart. They do so if digests are distinct. `stored_of` says that the state is one of them, or the first one.
 pub fn what_is_stored_is_restored()
     ensures { StoredIsRestored }
 {}
 
-/// Two records that are stored as one text and one state are one record, if the head of the state tells it.
+/// Two records that are stored as one text and one state are one record, on the same terms.
 pub fn stored_records_are_one()
     ensures { StoredIsOneRecord }
 {}

@@ -4,7 +4,7 @@ ghost use Rattle.std.specs.Prelude.{◌≡◌, ◌↔◌, IfOk, IfSome, IsTrue};
 ghost use Rattle.rollback.specs.Chain.{alone_text};
 ghost use Rattle.states.specs.State.{IsState};
 ghost use Rattle.states.specs.StateRecord.{head_of_state};
-ghost use Rattle.process_parts.specs.Parts.{IsPlainOf};
+ghost use Rattle.process_parts.specs.Parts.{IsPlainOf, IsAlone, IsExecutorState};
 
 use exec_lines::{ExecutorRecord, Saved};
 use keeper::{Keeper, MemKeeper};
@@ -13,30 +13,26 @@ use states::{Head, State};
 use std::alloc::{AllocError, Global};
 
 /// The state of an executor, if its record was made of one in this process and has no tentative states.
-fn lone_state(keeper: &MemKeeper<ExecutorRecord>) -> Option<&State> {
-    keeper.load()?.saved()?.chain.alone()
+fn lone_state(keeper: &MemKeeper<ExecutorRecord>) -> Option<&State>
+    ensures { IfSome result (λ state. IsAlone keeper.now state.now) }
+{
+    let kept = keeper.load()?;
+    let saved = kept.saved()?;
+    let state = saved.chain.alone()?;
+    Some(state)
 }
 
-/// The one of the higher number.
-fn newer<'s>(first: Option<&'s State>, second: Option<&'s State>) -> Option<&'s State> {
-    match (first, second) {
-        (Some(one), Some(other)) => {
-            if one.number() < other.number() {
-                Some(other)
-            } else {
-                Some(one)
+/// The place of the executor with the newest of these states, or 0. It decides how much is written, and nothing else.
+fn newest_place(executors: &[MemKeeper<ExecutorRecord>]) -> usize {
+    let mut newest = 0usize;
+    let mut number = 0u64;
+    for place in 0..executors.len() {
+        if let Some(state) = lone_state(&executors[place]) {
+            if number < state.number() {
+                newest = place;
+                number = state.number();
             }
         }
-        (None, found) => found,
-        (found, None) => found,
-    }
-}
-
-/// The newest of these states. Which one it is decides how much has to be written, and nothing else.
-fn newest_state(executors: &[MemKeeper<ExecutorRecord>]) -> Option<&State> {
-    let mut newest = None;
-    for keeper in executors {
-        newest = newer(newest, lone_state(keeper));
     }
     newest
 }
@@ -46,11 +42,16 @@ fn newest_state(executors: &[MemKeeper<ExecutorRecord>]) -> Option<&State> {
 pub(crate) fn reference_state(
     alloc: Global,
     executors: &[MemKeeper<ExecutorRecord>],
-) -> Result<State, AllocError> {
-    match newest_state(executors) {
-        Some(state) => state.share(),
-        None => State::first(alloc),
+) -> Result<State, AllocError>
+    ensures { IfOk result (λ state. IsExecutorState executors.now state) }
+{
+    let place = newest_place(executors);
+    if place < executors.len() {
+        if let Some(state) = lone_state(&executors[place]) {
+            return state.share();
+        }
     }
+    State::first(alloc)
 }
 
 /// Whether both are one head.

@@ -2,7 +2,7 @@
 
 ghost use Rattle.std.specs.Prelude.{◌≡◌, ◌↔◌, ◌⊎◌, Err, IfOk, IfErr, IsTrue};
 ghost use Rattle.states.specs.StateRecord.{head_of_state};
-ghost use Rattle.process_parts.specs.Parts.{HasMembers, HasRowsOf, IsStoredOf};
+ghost use Rattle.process_parts.specs.Parts.{HasMembers, HasRowsOf, IsStoredOf, IsExecutorState};
 
 use crate::executor_rows::rows_of_executors;
 use crate::proxy_rows::rows_of_proxies;
@@ -70,10 +70,12 @@ fn stored_with(
     state: State,
 ) -> Result<StoredProcess, AllocError>
     requires { HasMembers process.now }
-    ensures { IfOk result (λ stored. IsStoredOf stored.text stored.state process.now) }
+    ensures state { IfOk result (λ stored. stored.state ≡ state) }
+    ensures stored { IfOk result (λ stored. IsStoredOf stored.text stored.state process.now) }
 {
     state.is_state();
     let _sessions = state.sessions();
+    let _u = process.u();
     let _proxies = process.proxies();
     let text = text_beside(alloc, process, &state)?;
     Ok(StoredProcess { text, state })
@@ -87,6 +89,7 @@ fn stored_with(
 /// NoMemory: an allocation failed. There is no other error.
 pub fn stored_of(alloc: Global, process: &ProcessRecord) -> Result<StoredProcess, Fault>
     ensures stored { IfOk result (λ stored. IsStoredOf stored.text stored.state process.now) }
+    ensures state { IfOk result (λ stored. IsExecutorState process.now.executors stored.state) }
     ensures bad { result ≡ Err Fault.BadRecord → HasMembers process.now → ⊥ }
     ensures only { IfErr result (λ fault. (fault ≡ Fault.NoMemory) ⊎ (fault ≡ Fault.BadRecord)) }
 {
