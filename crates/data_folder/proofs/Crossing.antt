@@ -84,10 +84,10 @@ state_send : IsSend state.the_row
 state_send = search (parts, sendable) depth 60 fits 20000
 
 rows_send : (T : RattleType) (g : store.Ghosts T.Denot) → IsSend T → IsSend (rows.the_field T g).row
-rows_send T g s = recorded_send (rows.the_field T g).row _ _ (rows.the_type T g).to_one (struct_send (shape (rows.the_type T g)) (s, ((search (parts, sendable)), tt)))
+rows_send T g s = struct_send (shape (rows.the_type T g)) (s, ((search (parts, sendable)), tt))
 
 shelf_send : (T : RattleType) (g : store.Ghosts T.Denot) → IsSend T → IsSend (shelf.the_field T g).row
-shelf_send T g s = recorded_send (shelf.the_field T g).row _ _ (shelf.the_type T g).to_one (struct_send (shape (shelf.the_type T g)) (rows_send T g s, ((search (waiting.the_field_send, waiting.the_send, parts, sendable) depth 60 fits 20000), ((search (parts, sendable)), tt))))
+shelf_send T g s = struct_send (shape (shelf.the_type T g)) (rows_send T g s, ((search (waiting.the_field_send, waiting.the_send, parts, sendable) depth 60 fits 20000), ((search (parts, sendable)), tt)))
 
 -- If its store may.
 pub folder_send : (T : RattleType) (g : store.Ghosts T.Denot) → IsSend T → IsSend (folder.the_row T g)
