@@ -87,7 +87,7 @@ rows_send : (T : RattleType) (g : store.Ghosts T.Denot) → IsSend T → IsSend 
 rows_send T g s = struct_send (shape (rows.the_type T g)) (s, ((search (parts, sendable)), tt))
 
 shelf_send : (T : RattleType) (g : store.Ghosts T.Denot) → IsSend T → IsSend (shelf.the_field T g).row
-shelf_send T g s = struct_send (shape (shelf.the_type T g)) (rows_send T g s, ((search (waiting.the_field_send, waiting.the_send, parts, sendable) depth 60 fits 20000), ((search (parts, sendable)), tt)))
+shelf_send T g s = struct_send (shape (shelf.the_type T g)) (rows_send T g s, ((search (waiting.the_field_send, parts, sendable) depth 60 fits 20000), ((search (parts, sendable)), tt)))
 
 -- If its store may.
 pub folder_send : (T : RattleType) (g : store.Ghosts T.Denot) → IsSend T → IsSend (folder.the_row T g)

@@ -1,7 +1,5 @@
 //! The tables of a file.
 
-ghost use Rattle.std.specs.Prelude.{};
-
 use crate::fault::DataFault;
 use sqlite::{Alter, Connection, File, FileStore, Row};
 use sqlite_trees::store::Store;

@@ -1,4 +1,4 @@
-use Rattle.std.proofs.Common.{◌≡◌, refl, sym, subst}
+use Rattle.std.proofs.Common.{refl, sym, subst}
 use Rattle.service.specs.Record.{RecordView}
 use Rattle.data_folder.specs.Text.{IsServiceText, service_text}
 use Rattle.data_folder.proofs.folder.record_in.Goals as goal
