@@ -1,10 +1,11 @@
 //! The folder in which all that is answered is saved first.
 
-use crate::stub::{DataFault, DataFolder};
 use crate::{DISK_FAILED, IN_USE, NO_DATA, REFUSED};
 use daemon::{NO_TARGET, Settings, Stamped};
+use data_folder::{DataFault, DataFolder};
 use log::error;
 use server::ServiceRecord;
+use sqlite::{File, FileStore};
 
 /// The status of a program whose folder cannot be used.
 fn status_of(fault: DataFault) -> u8 {
@@ -21,7 +22,7 @@ fn status_of(fault: DataFault) -> u8 {
 pub enum Data {
     Nowhere,
     In {
-        folder: DataFolder,
+        folder: DataFolder<FileStore<File>>,
         /// What was saved there last.
         found: Option<ServiceRecord>,
     },

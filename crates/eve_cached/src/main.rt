@@ -9,7 +9,6 @@
 mod data;
 mod life;
 mod showing;
-mod stub;
 mod watching;
 
 use crate::data::{Data, open_data};

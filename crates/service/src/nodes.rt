@@ -12,8 +12,6 @@ use std::alloc::{AllocError, Global};
 pub struct Nodes {
     members: u8,
     pauses: Vec<Pause>,
-    /// Whether no verifier leads, since the process began with a record and none was told to.
-    pub lacks_leader: bool,
     /// Of the requests for which nobody waits: they were outstanding when the process before this one ended.
     pub gone: Patience,
 }
@@ -23,7 +21,6 @@ impl Drop for Nodes {
         let Nodes {
             members: _,
             pauses: _,
-            lacks_leader: _,
             gone: _,
         } = self;
     }
@@ -63,7 +60,6 @@ impl Nodes {
         Ok(Nodes {
             members,
             pauses,
-            lacks_leader: false,
             gone: patience_of_gone(),
         })
     }

@@ -48,8 +48,7 @@ impl Service {
 
     /// The service of a process that begins with this record. No connection is here, and the numbers of connections go on
     /// where those of the record ended. What connections send is read in this grammar. All replicas are down: the first
-    /// `tick` opens them, and tells a verifier to lead. What proxies had outstanding is asked again until it is answered,
-    /// and nobody is given the reply.
+    /// `tick` opens them. What proxies had outstanding is asked again until it is answered, and nobody is given the reply.
     ///
     /// If there is a limit of bytes (`set_limit`), storage commands are refused until an executor is up and all pages of
     /// items were looked at, which is once, before the first piece is read then.
@@ -62,8 +61,7 @@ impl Service {
     {
         let u = kept.replicas().u();
         let pool = pool_of(alloc, kept.replicas())?;
-        let mut nodes = Nodes::new(alloc, u)?;
-        nodes.lacks_leader = true;
+        let nodes = Nodes::new(alloc, u)?;
         let connections = Connections::from(alloc, dialect, kept.next());
         let ensemble = Ensemble::reopen(alloc, kept.into_replicas())?;
         Ok(Service {

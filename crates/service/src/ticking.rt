@@ -124,7 +124,7 @@ impl Service {
         }
     }
 
-    /// Tells the next verifier that the leader is suspected. They take turns, from the second one on.
+    /// TellsMore the next verifier that the leader is suspected. They take turns, from the second one on.
     fn suspect(&mut self, alloc: Global)
         ensures connections { self.new.connections ≡ self.old.connections }
         ensures size { size_of self.new.replicas.ensemble.nodes ≡ size_of self.old.replicas.ensemble.nodes }
@@ -137,22 +137,6 @@ impl Service {
         let members = u64::from(2 * self.u + 1);
         self.ensemble
             .suspect(alloc, (self.suspicions % members) as u8);
-    }
-
-    /// If the process began with a record, and no verifier was told to lead since, one is told now. Replicas that were
-    /// opened with their records answer nothing until one leads.
-    fn begin_to_lead(&mut self, alloc: Global)
-        ensures connections { self.new.connections ≡ self.old.connections }
-        ensures size { size_of self.new.replicas.ensemble.nodes ≡ size_of self.old.replicas.ensemble.nodes }
-        ensures asks { HasSameAsked self.old self.new }
-        ensures waiting { self.new.waiting ≡ self.old.waiting }
-        ensures paused { self.new.replicas.pauses ≡ self.old.replicas.pauses }
-        ensures counted { self.old.replicas.refused ≤ self.new.replicas.refused }
-    {
-        if self.nodes.lacks_leader {
-            self.nodes.lacks_leader = false;
-            self.suspect(alloc);
-        }
     }
 
     /// What is due of the proxy at this place: whether the leader is suspected.
@@ -258,6 +242,5 @@ impl Service {
             self.suspect(alloc);
         }
         self.tick_nodes(alloc);
-        self.begin_to_lead(alloc);
     }
 }
