@@ -14,6 +14,7 @@
 mod changes;
 mod fault;
 mod folder;
+mod host;
 mod opening;
 mod service_text;
 mod stored_items;
@@ -21,3 +22,4 @@ mod tables;
 
 pub use fault::DataFault;
 pub use folder::DataFolder;
+pub use host::HostFolder;
