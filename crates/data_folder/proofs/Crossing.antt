@@ -110,4 +110,4 @@ file_send = search (crosses, sendable) depth 60 fits 20000
 
 -- A folder of the host may.
 pub host_send : IsSend host.the_row
-host_send = recorded_send _ _ _ host.the_type.to_one (struct_send (shape host.the_type) (search (folder_field, file_store.the_field_send, file_store.the_send, modelled.the_send, file_send, start_send, crosses, sendable) depth 60 fits 20000), tt))
+host_send = recorded_send _ _ _ host.the_type.to_one (struct_send (shape host.the_type) ((search (folder_field, file_store.the_field_send, file_store.the_send, modelled.the_send, file_send, start_send, crosses, sendable) depth 60 fits 20000), tt))
