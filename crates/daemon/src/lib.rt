@@ -7,6 +7,7 @@
 
 mod laws;
 mod lines;
+mod minutely;
 mod report;
 mod settings;
 mod stamped;
@@ -14,9 +15,13 @@ mod system;
 mod told;
 
 pub use laws::lines_add_up;
-pub use lines::{NO_TARGET, tell, tell_few_files, tell_listening, tell_start, tell_status};
+pub use lines::{
+    NO_TARGET, tell, tell_begun, tell_few_files, tell_listening, tell_start, tell_status,
+    tell_unsaved,
+};
+pub use minutely::Minutely;
 pub use report::{Due, Report, Totals};
-pub use settings::{Listen, MOST_CONNECTIONS, Settings, read_settings};
+pub use settings::{DataPlace, Listen, MOST_CONNECTIONS, Settings, read_settings};
 pub use stamped::{Stamped, seconds};
 pub use system::{open_files, process_id, resident_pages};
 pub use told::Told;

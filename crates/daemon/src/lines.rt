@@ -4,6 +4,7 @@ use crate::report::Due;
 use crate::settings::{Listen, Settings};
 use figures::{Figures, NodeFigures, Refusal, Refusals, Replicas, VERSION};
 use log::{Log, info, warn};
+use std::fmt::Display;
 use std::net::SocketAddr;
 
 /// All lines are of one program, so they name no module.
@@ -21,6 +22,24 @@ pub fn tell_start<R: Log>(rt: &R, settings: &Settings) {
         let seconds = settings.idle;
         info!(rt; target: NO_TARGET, "a connection on which nothing happens for {seconds} seconds is closed");
     }
+    if let Some(data) = &settings.data {
+        let path = data.path.as_str();
+        info!(rt; target: NO_TARGET, "what is answered is saved in {path} first");
+    }
+}
+
+/// Tells how many items were saved before it began, or that nothing was.
+pub fn tell_begun<R: Log>(rt: &R, items: Option<u64>) {
+    match items {
+        Some(items) =>
+            info!(rt; target: NO_TARGET, "it goes on from what was saved: {items} items"),
+        None => info!(rt; target: NO_TARGET, "nothing was saved before"),
+    }
+}
+
+/// Tells why nothing is answered: it cannot be saved.
+pub fn tell_unsaved<R: Log, D: Display>(rt: &R, why: &D) {
+    warn!(rt; target: NO_TARGET, "nothing is answered, since it cannot be saved: {why}");
 }
 
 /// Tells that fewer files may be open than so many connections take.

@@ -16,7 +16,7 @@ pub const MOST_CONNECTIONS: u16 = 10000;
 const MOST_IDLE: u32 = 2147483647;
 
 const AFTER: &str =
-    "It serves memcached's text protocol until a signal ends it. All items are in its memory.";
+    "It serves memcached's text protocol until a signal ends it. Without --data all items are gone then.";
 
 /// What the address of a Unix socket begins with.
 const UNIX: &str = "unix:";
@@ -28,6 +28,15 @@ pub enum Listen {
     Tcp(SocketAddr),
     /// At a Unix socket, whose file has this path.
     Unix(String),
+}
+
+/// Where a daemon saves what it answers, before it does.
+#[derive(Drop)]
+pub struct DataPlace {
+    /// The folder.
+    pub path: String,
+    /// Nothing is in it yet. Else something is.
+    pub is_new: bool,
 }
 
 /// What a daemon is to do.
@@ -47,6 +56,8 @@ pub struct Settings {
     pub max_bytes: u64,
     /// In which grammar clients' bytes are read.
     pub dialect: Dialect,
+    /// Where it saves what it answers. None: nowhere.
+    pub data: Option<DataPlace>,
     ghost few: { u < 4 },
 }
 
@@ -107,6 +118,23 @@ fn dialect_option<'a>(alloc: Global) -> Arg<'a> {
         .help("memcached: as memcached reads; profile: only what docs/protocol.md lists")
 }
 
+/// The option for the folder in which all is saved.
+fn data_option<'a>(alloc: Global) -> Arg<'a> {
+    Arg::new(alloc, "data").long("data").value_name("DIR").help(
+        "Saves what it answers in this folder before it answers, and goes on from it",
+    )
+}
+
+/// The option for a folder in which nothing is saved yet.
+fn new_option<'a>(alloc: Global) -> Arg<'a> {
+    Arg::new(alloc, "new")
+        .long("new")
+        .action(ArgAction::SetTrue)
+        .help(
+            "Begins with an empty folder; to be given at the first start with --data, and not later",
+        )
+}
+
 /// The option for the figures.
 fn status_option<'a>(alloc: Global) -> Arg<'a> {
     Arg::new(alloc, "status")
@@ -127,6 +155,8 @@ fn command<'a>(alloc: Global) -> Result<Command<'a>, Error> {
         .arg(idle_option(alloc))?
         .arg(max_bytes_option(alloc))?
         .arg(dialect_option(alloc))?
+        .arg(data_option(alloc))?
+        .arg(new_option(alloc))?
         .arg(status_option(alloc))?;
     Ok(command)
 }
@@ -210,6 +240,30 @@ fn limit_of(
     }
 }
 
+/// Where all is saved, as the matches say.
+fn data_of(
+    alloc: Global,
+    command: &mut Command<'_>,
+    matches: &ArgMatches<'_>,
+) -> Result<Option<DataPlace>, Error> {
+    let is_new = matches.get_flag("new");
+    match matches.get_str("data") {
+        Some("") => Err(command.error(
+            ErrorKind::ValueValidation,
+            "a folder is of the form /var/lib/eve_cached",
+        )?),
+        Some(path) => Ok(Some(DataPlace {
+            path: String::from_str(alloc, path)?,
+            is_new,
+        })),
+        None if is_new => Err(command.error(
+            ErrorKind::MissingRequiredArgument,
+            "--new needs --data DIR",
+        )?),
+        None => Ok(None),
+    }
+}
+
 /// Where clients are served.
 fn places(alloc: Global, command: &mut Command<'_>, texts: &[&str]) -> Result<Vec<Listen>, Error> {
     let mut all = Vec::with_capacity(alloc, texts.len())?;
@@ -232,6 +286,7 @@ fn given(
     };
     let dialect = dialect(command, matches.get_str("dialect").unwrap_or("memcached"))?;
     let max_bytes = limit_of(command, matches, dialect)?;
+    let data = data_of(alloc, command, matches)?;
     match (
         matches.get_one::<u8>("u"),
         matches.get_one::<u16>("connections"),
@@ -245,6 +300,7 @@ fn given(
             idle,
             max_bytes,
             dialect,
+            data,
         }),
         _ => Err(command.error(ErrorKind::InvalidValue, "a value is not valid")?),
     }

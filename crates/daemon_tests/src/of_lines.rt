@@ -1,8 +1,8 @@
 //! The text of lines.
 
 use daemon::{
-    Due, Listen, Settings, open_files, resident_pages, tell, tell_few_files, tell_listening,
-    tell_start, tell_status,
+    Due, Listen, Minutely, Settings, open_files, resident_pages, tell, tell_begun, tell_few_files,
+    tell_listening, tell_start, tell_status, tell_unsaved,
 };
 use figures::{Figures, Refusal};
 use grammar::Dialect;
@@ -127,8 +127,12 @@ fn the_start_is_told(rt: HostRuntime) -> Result<(), Fail> {
         idle: 60,
         max_bytes: 1024,
         dialect: Dialect::Memcached,
+        data: None,
     };
     tell_start(&memory, &settings);
+    tell_begun(&memory, None);
+    tell_begun(&memory, Some(7));
+    tell_unsaved(&memory, &"the disk is full");
     tell_few_files(&memory, 100, 137);
     tell_status(&memory, address);
     assert!(rt;
@@ -138,6 +142,9 @@ fn the_start_is_told(rt: HostRuntime) -> Result<(), Fail> {
                 "[INFO ] eve_cached 2.0.0 with u 2: at most 77 connections",
                 "[INFO ] nothing more is stored while the items have more than 1024 bytes",
                 "[INFO ] a connection on which nothing happens for 60 seconds is closed",
+                "[INFO ] nothing was saved before",
+                "[INFO ] it goes on from what was saved: 7 items",
+                "[WARN ] nothing is answered, since it cannot be saved: the disk is full",
                 "[WARN ] at most 100 files may be open, and 137 may be needed: raise LimitNOFILE, or ulimit -n",
                 "[INFO ] figures on http://127.0.0.1:11280/"
             ]
@@ -169,5 +176,23 @@ fn open_files_are_those_that_the_process_may_have(rt: HostRuntime) -> Result<(),
         None
     );
     assert_eq!(rt; open_files(""), None);
+    Ok(())
+}
+
+#[test]
+fn a_line_of_unsaved_answers_comes_once_a_minute(rt: HostRuntime) -> Result<(), Fail> {
+    let mut unsaved = Minutely::NONE;
+    let rows = [
+        (1_000, true),
+        (1_001, false),
+        (1_059, false),
+        (1_060, true),
+        (1_119, false),
+        (900, true),
+        (959, false),
+    ];
+    for (second, is_due) in rows {
+        assert_eq!(rt; unsaved.is_due(second), is_due, "{second}");
+    }
     Ok(())
 }

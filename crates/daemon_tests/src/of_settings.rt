@@ -52,6 +52,7 @@ fn defaults(alloc: Global) -> bool {
                 && settings.idle == 0
                 && settings.max_bytes == 0
                 && settings.dialect == Dialect::Memcached
+                && settings.data.is_none()
                 && settings.status.is_none()
         }
         _ => false,
@@ -73,6 +74,24 @@ fn all_given(alloc: Global) -> bool {
         }
         _ => false,
     }
+}
+
+/// Whether the words name this folder, which is new or not.
+fn saves_in(alloc: Global, words: &str, path: &str, is_new: bool) -> bool {
+    match read(alloc, words) {
+        Some(Ok(settings)) => {
+            matches!(&settings.data, Some(data) if data.path.as_str() == path && data.is_new == is_new)
+        }
+        _ => false,
+    }
+}
+
+#[test]
+fn a_folder_is_new_or_not(rt: HostRuntime) -> Result<(), Fail> {
+    let alloc = rt.alloc();
+    assert!(rt; saves_in(alloc, "--data /var/lib/e", "/var/lib/e", false));
+    assert!(rt; saves_in(alloc, "--new --data here --max-bytes 1M", "here", true));
+    Ok(())
 }
 
 /// The kind of error that the words give, and the program's status by it.
@@ -150,6 +169,10 @@ fn other_words_are_refused(rt: HostRuntime) -> Result<(), Fail> {
             "--max-bytes 1K --dialect profile",
             ErrorKind::ArgumentConflict,
         ),
+        ("--new", ErrorKind::MissingRequiredArgument),
+        ("--data=", ErrorKind::ValueValidation),
+        ("--data", ErrorKind::InvalidValue),
+        ("--data a --data b", ErrorKind::ArgumentConflict),
         ("--max-bytes 1k", ErrorKind::ValueValidation),
         ("--max-bytes 17179869184G", ErrorKind::ValueValidation),
         ("--listen 127.0.0.1", ErrorKind::ValueValidation),

@@ -187,7 +187,7 @@ host_send = first_of (search (place_send, body_send, letter.the_send, parts, sen
 nodes_send : IsSend nodes.the_row
 nodes_send = search (host_send, body_send, letter.the_send, verifier.the_send, proxy.the_send, deque.the_send, parts, sendable) depth 60 fits 20000
 
-process_send : IsSend process.the_row
+pub process_send : IsSend process.the_row
 process_send = search (kept_send, proxy.the_send, parts, sendable) depth 60 fits 20000
 
 pub ensemble_send : IsSend ensemble.the_row

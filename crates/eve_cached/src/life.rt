@@ -4,10 +4,14 @@ ghost use Rattle.std.specs.Prelude.{◌<◌};
 
 use crate::showing::{Shown, show};
 use crate::watching::{Known, warn_of_files, watch};
-use crate::{CANNOT, REFUSED};
-use daemon::{Listen, NO_TARGET, Settings, Stamped, tell_listening, tell_start, tell_status};
+use crate::{CANNOT, DISK_FAILED, REFUSED};
+use daemon::{
+    Listen, NO_TARGET, Settings, Stamped, tell_begun, tell_listening, tell_start, tell_status,
+};
 use log::{error, warn};
-use server::{Listener, Options, ServeFault, Service, Watcher, serve_beside};
+use server::{
+    Listener, Options, Save, SaveFault, ServeFault, Service, ServiceRecord, Watcher, serve_beside,
+};
 use service_laws::{replicas_agree_and_keep, service_is_linearizable};
 use std::alloc::Global;
 use std::net::{Net, SocketAddr, TcpListener, TcpStream};
@@ -116,7 +120,8 @@ fn open_ports<R: Net<Listener = TcpListener, Stream = TcpStream> + Clock + Files
     Ok(Ports { clients, status })
 }
 
-/// Shows the figures, if it has a listener for that, and tells what happens, until the server ends by itself.
+/// Shows the figures, if it has a listener for that, and tells what happens, until the server ends by itself or
+/// nothing can be saved any more.
 fn attend<
     R: Net<Listener = TcpListener, Stream = TcpStream>
         + Threads
@@ -126,8 +131,13 @@ fn attend<
         + Eprint
         + AllocGlobal
         + Sync,
->(rt: &R, watcher: &Watcher<'_>, status: Option<TcpListener>, known: Known) {
-    let now = Shown::new(rt.alloc(), known.figures(rt, watcher));
+    S: Save,
+>(rt: &R, watcher: &Watcher<'_, S>, status: Option<TcpListener>, known: Known) {
+    let first = known.figures(rt, watcher);
+    if known.has_found() {
+        tell_begun(&Stamped(rt), Some(first.memory.items));
+    }
+    let now = Shown::new(rt.alloc(), first);
     let shown = &now;
     thread::scope(thread::scope_env(), rt, |scope| {
         if let Some(listener) = status {
@@ -153,7 +163,59 @@ fn end(service: Service) {
     service.end();
 }
 
-/// Runs a daemon. The status of the program if it ends by itself.
+/// The program's status after it has served, which the log tells.
+fn ended<R: Clock + Eprint, S: Save + Drop>(rt: &R, service: Service, saver: S) -> u8 {
+    end(service);
+    if saver.fault() == Some(SaveFault::Disk) {
+        error!(Stamped(rt); target: NO_TARGET, "the disk failed: what was not saved was not answered");
+        DISK_FAILED
+    } else {
+        error!(Stamped(rt); target: NO_TARGET, "the system no longer lets it wait on its sockets");
+        CANNOT
+    }
+}
+
+/// The program's status if it did not begin to serve, which the log tells.
+fn refused<R: Clock + Eprint>(rt: &R, fault: ServeFault) -> u8 {
+    match fault {
+        ServeFault::Own(fault) => {
+            error!(Stamped(rt); target: NO_TARGET, "cannot start: {fault}");
+            REFUSED
+        }
+        ServeFault::Start => {
+            error!(Stamped(rt); target: NO_TARGET, "cannot start");
+            CANNOT
+        }
+    }
+}
+
+/// How the settings have it serve.
+fn options_of(settings: &Settings) -> Options {
+    Options {
+        connections: usize::from(settings.connections),
+        refusal: TOO_MANY,
+        idle_seconds: settings.idle,
+        u: settings.u,
+        dialect: settings.dialect,
+        max_bytes: settings.max_bytes,
+    }
+}
+
+/// Tells what runs, as it begins, and whether it begins with nothing although it saves.
+fn tell_first<R: Clock + Files + Eprint + AllocGlobal>(
+    rt: &R,
+    settings: &Settings,
+    is_found: bool,
+) {
+    tell_start(&Stamped(rt), settings);
+    if settings.data.is_some() && !is_found {
+        tell_begun(&Stamped(rt), None);
+    }
+    warn_of_files(rt, settings);
+}
+
+/// Runs a daemon that saves what it answers, and goes on from what was found. The status of the program if it ends by
+/// itself.
 pub fn run<
     R: Net<Listener = TcpListener, Stream = TcpStream>
         + Threads
@@ -163,38 +225,28 @@ pub fn run<
         + Eprint
         + AllocGlobal
         + Sync,
->(rt: &R, settings: Settings) -> u8 {
-    let known = Known::begin(rt, &settings);
-    tell_start(&Stamped(rt), &settings);
-    warn_of_files(rt, &settings);
-    let options = Options {
-        connections: usize::from(settings.connections),
-        refusal: TOO_MANY,
-        idle_seconds: settings.idle,
-        u: settings.u,
-        dialect: settings.dialect,
-        max_bytes: settings.max_bytes,
-    };
+    S: Save + Drop + Send,
+>(rt: &R, settings: Settings, saver: S, found: Option<ServiceRecord>) -> u8 {
+    let known = Known::begin(rt, &settings, found.is_some());
+    tell_first(rt, &settings, found.is_some());
+    let options = options_of(&settings);
     let Ports { clients, status } = match open_ports(rt, rt.alloc(), &settings) {
         Ok(ports) => ports,
         Err(status) => return status,
     };
-    let served = serve_beside(rt, rt.alloc(), clients, options, move |watcher| {
-        attend(rt, watcher, status, known);
-    });
+    let served = serve_beside(
+        rt,
+        rt.alloc(),
+        clients,
+        options,
+        saver,
+        found,
+        move |watcher| {
+            attend(rt, watcher, status, known);
+        },
+    );
     match served {
-        Ok(service) => {
-            end(service);
-            error!(Stamped(rt); target: NO_TARGET, "the system no longer lets it wait on its sockets");
-            CANNOT
-        }
-        Err(ServeFault::Own(fault)) => {
-            error!(Stamped(rt); target: NO_TARGET, "cannot start: {fault}");
-            REFUSED
-        }
-        Err(ServeFault::Start) => {
-            error!(Stamped(rt); target: NO_TARGET, "cannot start");
-            CANNOT
-        }
+        Ok((service, saver)) => ended(rt, service, saver),
+        Err(fault) => refused(rt, fault),
     }
 }

@@ -1,18 +1,22 @@
-//! A memcached server on replicas, as a daemon: `eve_cached --listen ADDR:PORT --u U --connections N --dialect DIALECT --status ADDR:PORT`.
+//! A memcached server on replicas, as a daemon: `eve_cached --listen ADDR:PORT --u U --connections N --dialect DIALECT --status ADDR:PORT --data DIR`.
 //!
 //! It serves until a signal ends it, and tells on standard error what an operator wants to know. Status 0 for `--help`
 //! and `--version`, 1 if memory ran out before it served, 2 for other words, 3 if it cannot listen or cannot start, or
-//! if the system no longer lets it wait on its sockets.
+//! if the system no longer lets it wait on its sockets, 4 if the folder of `--data` cannot be used, 5 if its disk failed,
+//! 6 if another process uses it.
 #![tactic(auto)]
 
+mod data;
 mod life;
 mod showing;
 mod watching;
 
+use crate::data::{Data, open_data};
 use crate::life::run;
 use clap::Error;
 use clap::error::ErrorKind;
 use daemon::{Settings, read_settings};
+use server::NoFolder;
 use std::process::ExitCode;
 use words::{WordsFault, words_of};
 
@@ -21,6 +25,15 @@ pub const REFUSED: u8 = 1;
 
 /// It cannot listen or start.
 pub const CANNOT: u8 = 3;
+
+/// The folder of its data cannot be used.
+pub const NO_DATA: u8 = 4;
+
+/// The disk failed.
+pub const DISK_FAILED: u8 = 5;
+
+/// Another process uses the folder.
+pub const IN_USE: u8 = 6;
 
 /// Prints why the words are not taken, or the help that they ask for.
 fn explain(rt: &HostRuntime, error: &Error) -> ExitCode {
@@ -46,8 +59,13 @@ fn given(rt: &HostRuntime) -> Result<Settings, ExitCode> {
 }
 
 fn main(rt: HostRuntime) -> ExitCode {
-    match given(&rt) {
-        Ok(settings) => ExitCode::from(run(&rt, settings)),
-        Err(status) => status,
+    let settings = match given(&rt) {
+        Ok(settings) => settings,
+        Err(status) => return status,
+    };
+    match open_data(&rt, &settings) {
+        Ok(Data::Nowhere) => ExitCode::from(run(&rt, settings, NoFolder, None)),
+        Ok(Data::In { folder, found }) => ExitCode::from(run(&rt, settings, folder, found)),
+        Err(status) => ExitCode::from(status),
     }
 }

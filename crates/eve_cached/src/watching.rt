@@ -2,11 +2,11 @@
 
 use crate::showing::Shown;
 use daemon::{
-    Report, Settings, Stamped, Totals, open_files, process_id, resident_pages, seconds, tell,
-    tell_few_files,
+    Minutely, Report, Settings, Stamped, Totals, open_files, process_id, resident_pages, seconds,
+    tell, tell_few_files, tell_unsaved,
 };
 use figures::{Figures, Limits, Process};
-use server::Watcher;
+use server::{Save, SaveFault, Watcher};
 use std::rt::{Clock, Files};
 use std::sync::Wait;
 use std::time::{Duration, Instant};
@@ -57,11 +57,17 @@ pub struct Known {
     start: Option<Instant>,
     process: Process,
     limits: Limits,
+    /// Whether it goes on from what was saved.
+    is_found: bool,
 }
 
 impl Known {
     /// The process begins to serve with these settings.
-    pub fn begin<R: Clock + Files + AllocGlobal>(rt: &R, settings: &Settings) -> Known {
+    pub fn begin<R: Clock + Files + AllocGlobal>(
+        rt: &R,
+        settings: &Settings,
+        is_found: bool,
+    ) -> Known {
         Known {
             start: Instant::now(rt).ok(),
             process: Process {
@@ -73,7 +79,13 @@ impl Known {
                 idle_seconds: u64::from(settings.idle),
                 item_bytes: settings.max_bytes,
             },
+            is_found,
         }
+    }
+
+    /// Whether it goes on from what was saved.
+    pub fn has_found(&self) -> bool {
+        self.is_found
     }
 
     /// The seconds since the start, or 0 if the clock cannot be read.
@@ -85,10 +97,10 @@ impl Known {
     }
 
     /// What the server has counted, and what this process knows of itself.
-    pub fn figures<R: Wait + Clock + Files + AllocGlobal>(
+    pub fn figures<R: Wait + Clock + Files + AllocGlobal, S: Save>(
         &self,
         rt: &R,
-        watcher: &Watcher<'_>,
+        watcher: &Watcher<'_, S>,
     ) -> Figures {
         let mut figures = watcher.figures(rt);
         figures.uptime_seconds = self.uptime(rt);
@@ -99,19 +111,36 @@ impl Known {
     }
 }
 
-/// Looks once a second what the server has counted, shows it and tells what is due, until the server ends by itself.
-pub fn watch<R: Wait + Clock + Files + Eprint + AllocGlobal>(
+/// Tells if the last save failed. Whether no later one can succeed.
+fn tells_unsaved<R: Wait + Clock + Eprint, S: Save>(
     rt: &R,
-    watcher: &Watcher<'_>,
+    watcher: &Watcher<'_, S>,
+    unsaved: &mut Minutely,
+) -> bool {
+    let Some(fault) = watcher.save_fault(rt) else {
+        return false;
+    };
+    if unsaved.is_due(seconds(rt)) {
+        tell_unsaved(&Stamped(rt), &fault);
+    }
+    fault == SaveFault::Disk
+}
+
+/// Looks once a second what the server has counted, shows it and tells what is due, until the server ends by itself or
+/// nothing can be saved any more.
+pub fn watch<R: Wait + Clock + Files + Eprint + AllocGlobal, S: Save>(
+    rt: &R,
+    watcher: &Watcher<'_, S>,
     shown: &Shown,
     known: Known,
 ) {
     let first = known.figures(rt, watcher);
     watcher.see(rt, &first);
     let mut report = Report::new(Totals::of(&first));
+    let mut unsaved = Minutely::NONE;
     for _ in rt.forever() {
         thread::sleep(rt, Duration::from_secs(1));
-        if watcher.has_ended() {
+        if watcher.has_ended() || tells_unsaved(rt, watcher, &mut unsaved) {
             return;
         }
         let figures = known.figures(rt, watcher);

@@ -45,6 +45,9 @@ pub struct Admission {
     pub refusal: &'static [u8],
     /// One on which nothing happens for so many seconds is closed, if nothing is owed to it. 0: none is.
     pub idle_seconds: u32,
+    /// The number of the first one; each later one has the next number. 0, unless the service goes on from a
+    /// process before this one, whose connections had the numbers below.
+    pub first_number: u64,
 }
 
 impl Admission {
@@ -147,7 +150,7 @@ impl EventLoop {
             counts: Counts::NONE,
             shown: Counts::NONE,
             answered: Vec::new(alloc),
-            sockets: Sockets::new(alloc),
+            sockets: Sockets::new(alloc, admission.first_number),
             leavers: Leavers::new(alloc),
             idle: Idle::new(alloc, admission.idle_micros()),
             refused: RefusedConnections::new(alloc),

@@ -1,7 +1,7 @@
 //! The event loop: one thread that accepts, reads and writes for all connections, beside a service that answers.
 //!
 //!     impl Serve for Answers { .. }       // what answers the connections: `hear`, `work`, `tick`
-//!     let admission = Admission { most: 1024, refusal: b"SERVER_ERROR too many open connections\r\n" };
+//!     let admission = Admission { most: 1024, refusal: b"SERVER_ERROR too many open connections\r\n", idle_seconds: 0, first_number: 0 };
 //!     let (answers, served) = serve(rt, alloc, listeners, admission, answers, |watch| {
 //!         ..                              // on this thread, while clients are served; `watch.counts` has the counts
 //!     });                                 // returns when the closure does, with no thread left

@@ -53,16 +53,16 @@ impl<S: Read + Write> Model for Sockets<S> {
 }
 
 impl<S: Read + Write + Drop> Sockets<S> {
-    /// There is none.
-    pub fn new(alloc: Global) -> Sockets<S>
+    /// There is none. The first one is to have this number.
+    pub fn new(alloc: Global, first: u64) -> Sockets<S>
         ensures none { (key : ℕ) → get result.all key ≡ None }
         ensures turns { result.turns ≡ record { keys = []; has_lost = false } }
-        ensures next { result.next ≡ 0 }
+        ensures next { result.next ≡ first }
     {
         Sockets {
             all: Slab::new(alloc),
             turns: Turns::new(alloc),
-            next: 0,
+            next: first,
         }
     }
 

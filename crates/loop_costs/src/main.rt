@@ -39,6 +39,7 @@ fn main(rt: HostRuntime) -> io::Result<()> {
         most: most_of(words.as_slice()),
         refusal: b"SERVER_ERROR too many sessions\r\n",
         idle_seconds: 0,
+        first_number: 0,
     };
     let mut listeners = Vec::with_capacity(alloc, 1)?;
     listeners.push(Listener::Tcp(listener))?;

@@ -5,7 +5,7 @@ ghost use Rattle.server.specs.Answering.{message_of, IsLastMessage, IsSaidOf};
 
 use event_loop::{Heard, Said, Serve};
 use figures::Figures;
-use service::{Fault, Service};
+use service::{Fault, Service, ServiceRecord};
 use std::alloc::Global;
 use std::collections::VecDeque;
 use std::marker::Model;
@@ -87,7 +87,9 @@ impl Model for Answering {
 }
 
 impl Answering {
-    ghost use Rattle.std.specs.Prelude.{◌≡◌, ◌⊎◌, ◌++◌, ◌∷◌, [], map, IfOk, IfErr};
+    ghost use Rattle.std.specs.Prelude.{◌≡◌, ◌≢◌, ◌⊎◌, ◌++◌, ◌∷◌, [], map, true, false, IfOk, IfErr};
+    ghost use Rattle.service.specs.Process.{kept_of};
+    ghost use Rattle.service.specs.Record.{kept_in};
     ghost use Rattle.server.specs.Answering.{Says, SaysEach, Closings, HandsBytes, HandsLeft, HandsWritten};
 
     /// A service of which nothing was heard, for at most so many connections at once. If there is no memory for these
@@ -134,6 +136,21 @@ impl Answering {
         ensures { self.new ≡ self.old }
     {
         self.service.see(seen);
+    }
+
+    /// What is kept of the service if its process ends now.
+    pub fn record(&self) -> Result<ServiceRecord, Fault>
+        ensures kept { IfOk result (λ r. kept_in self.now.service.connections.dialect r ≡ kept_of self.now.service) }
+    {
+        self.service.record(self.alloc)
+    }
+
+    /// Whether something is said that `work` is to hand out.
+    pub fn has_said(&self) -> bool
+        ensures no { result ≡ false → self.now.said ≡ [] }
+        ensures yes { result ≡ true → self.now.said ≢ [] }
+    {
+        !self.said.is_empty()
     }
 
     /// A piece of a connection comes.

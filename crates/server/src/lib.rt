@@ -1,16 +1,21 @@
 //! A memcached server on replicas: the service behind the event loop.
 //!
-//! It stands on `service`, which answers, and on `event_loop`, which accepts, reads and writes. Nothing
-//! is decided here. The layer above uses `serve` or, for a server that is watched, `serve_beside`. What is handed in and
-//! out between the two is said by the clauses of `Answering`, which the event loop drives.
+//! It stands on `service`, which answers, and on `event_loop`, which accepts, reads and writes. The layer above uses
+//! `serve` or, for a server that is watched, `serve_beside`. What is handed in and out between the two is said by the
+//! clauses of `Answering`. The event loop drives `DurableService`, which hands out what the service says once a record of that
+//! moment is saved (`Save`); `NoFolder` saves nothing.
 #![tactic(auto)]
 
 mod answering;
+mod durable;
 mod fault;
+mod leading;
 mod life;
+mod save;
 mod watcher;
 
 pub use fault::ServeFault;
 pub use life::{Listener, MOST_CONNECTIONS, Options, serve, serve_beside};
-pub use service::{Incidents, Service};
+pub use save::{NoFolder, Save, SaveFault};
+pub use service::{Incidents, Service, ServiceRecord};
 pub use watcher::Watcher;

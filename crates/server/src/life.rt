@@ -3,11 +3,14 @@
 ghost use Rattle.std.specs.Prelude.{◌<◌};
 
 use crate::answering::Answering;
+use crate::durable::DurableService;
 use crate::fault::ServeFault;
+use crate::leading::find_leader;
+use crate::save::{NoFolder, Save};
 use crate::watcher::Watcher;
 use event_loop::{Admission, Listener as LoopListener, Refused, Watch, read_out};
 use mio::net::{TcpListener as MioTcpListener, UnixListener as MioUnixListener};
-use service::{Config, Dialect, Fault, Service};
+use service::{Config, Dialect, Fault, Service, ServiceRecord};
 use std::alloc::Global;
 use std::io::Read;
 use std::net::{Net, TcpListener, TcpStream};
@@ -64,17 +67,58 @@ fn dialect_of(options: &Options) -> Dialect {
     }
 }
 
-/// The service over its replicas, for an event loop of at most so many sockets at once.
-fn open(alloc: Global, options: Options, most: usize) -> Result<Answering, ServeFault> {
+/// A service of which nothing was asked before.
+fn first_service(alloc: Global, options: &Options) -> Result<Service, ServeFault> {
     let config = Config::new(options.u, PROXIES)?;
-    let mut service = Service::open(alloc, &config, dialect_of(&options))?;
-    service.set_limit(options.max_bytes);
+    Ok(Service::open(alloc, &config, dialect_of(options))?)
+}
+
+/// The service that goes on from this record. Its replicas are opened, and have a leader.
+fn later_service<R: Threads + Wait + Clock + Sync>(
+    rt: &R,
+    alloc: Global,
+    options: &Options,
+    found: ServiceRecord,
+) -> Result<Service, ServeFault> {
+    let number = found.next();
+    let mut service = Service::reopen(alloc, found, dialect_of(options))?;
+    find_leader(rt, alloc, &mut service, number);
+    Ok(service)
+}
+
+/// The service, for an event loop of at most so many sockets at once.
+fn answering_of(alloc: Global, service: Service, most: usize) -> Result<Answering, ServeFault> {
     match Answering::new(alloc, service, most) {
         Ok(answering) => Ok(answering),
         Err(service) => {
             service.end();
             Err(ServeFault::Own(Fault::NoMemory))
         }
+    }
+}
+
+/// The service over its replicas, for an event loop of at most so many sockets at once. It goes on from what was found,
+/// if something was.
+fn open<R: Threads + Wait + Clock + Sync>(
+    rt: &R,
+    alloc: Global,
+    options: Options,
+    found: Option<ServiceRecord>,
+    most: usize,
+) -> Result<Answering, ServeFault> {
+    let mut service = match found {
+        Some(found) => later_service(rt, alloc, &options, found)?,
+        None => first_service(alloc, &options)?,
+    };
+    service.set_limit(options.max_bytes);
+    answering_of(alloc, service, most)
+}
+
+/// The number of the first connection that the event loop accepts. The one before it has found a leader.
+fn first_number(found: &Option<ServiceRecord>) -> u64 {
+    match found {
+        Some(found) => found.next().saturating_add(1),
+        None => 0,
     }
 }
 
@@ -115,35 +159,54 @@ fn all_waiting_for_none(
     Ok(all)
 }
 
+/// Which connections are let in with these options, after what was found.
+fn admission_of(options: &Options, found: &Option<ServiceRecord>) -> Admission {
+    Admission {
+        most: options.connections,
+        refusal: options.refusal,
+        idle_seconds: options.idle_seconds,
+        first_number: first_number(found),
+    }
+}
+
+/// What has served ends: the service and where it was saved, or why it did not begin.
+fn ended<S: Save + Drop>(
+    durable: DurableService<S>,
+    served: Result<(), Refused>,
+) -> Result<(Service, S), ServeFault> {
+    let (service, saver) = durable.into_parts();
+    match served {
+        Ok(()) => Ok((service, saver)),
+        Err(refused) => {
+            service.end();
+            drop(saver);
+            Err(not_started(refused))
+        }
+    }
+}
+
 /// Serves until `beside` returns.
 fn serve_all<
     R: Net<Listener = TcpListener, Stream = TcpStream> + Threads + Wait + Clock + Sync,
-    F: FnOnce(&Watch<'_, Answering>),
+    S: Save + Drop + Send,
+    F: FnOnce(&Watch<'_, DurableService<S>>),
 >(
     rt: &R,
     alloc: Global,
     listeners: Vec<Listener>,
     options: Options,
+    saver: S,
+    found: Option<ServiceRecord>,
     beside: F,
-) -> Result<Service, ServeFault>
+) -> Result<(Service, S), ServeFault>
     requires { F.IsAlwaysCallable beside }
 {
     let listeners = all_waiting_for_none(alloc, listeners)?;
-    let admission = Admission {
-        most: options.connections,
-        refusal: options.refusal,
-        idle_seconds: options.idle_seconds,
-    };
-    let answering = open(alloc, options, admission.most_sockets())?;
-    let (answering, served) = event_loop::serve(rt, alloc, listeners, admission, answering, beside);
-    let service = answering.into_service();
-    match served {
-        Ok(()) => Ok(service),
-        Err(refused) => {
-            service.end();
-            Err(not_started(refused))
-        }
-    }
+    let admission = admission_of(&options, &found);
+    let answering = open(rt, alloc, options, found, admission.most_sockets())?;
+    let durable = DurableService::new(alloc, answering, saver);
+    let (durable, served) = event_loop::serve(rt, alloc, listeners, admission, durable, beside);
+    ended(durable, served)
 }
 
 /// Serves the profile of memcached's text protocol on the listener, kept on `2u + 1` executors and `2u + 1` verifiers in
@@ -171,24 +234,35 @@ pub fn serve<
         dialect: Dialect::Profile,
         max_bytes: 0,
     };
-    serve_all(rt, alloc, listeners, options, |_| read_out(until))
+    let (service, _) = serve_all(rt, alloc, listeners, options, NoFolder, None, |_| {
+        read_out(until);
+    })?;
+    Ok(service)
 }
 
 /// Serves as `serve` does, but on all listeners, as the options say, and until `beside` returns. It is called on this
 /// thread once clients are served, and sees what the server counts. As of `serve`, no clause says what it does.
+///
+/// If a record was `found`, it goes on from that: the service is that of a process that begins with it, of as many
+/// replicas as it has. What is said to a connection leaves once the saver has saved a record of that moment or of a later
+/// one. While a save fails nothing leaves and nothing more is carried out; it is tried again at each tick. The saver comes
+/// back with the service.
 pub fn serve_beside<
     R: Net<Listener = TcpListener, Stream = TcpStream> + Threads + Wait + Clock + Sync,
-    F: FnOnce(&Watcher<'_>),
+    S: Save + Drop + Send,
+    F: FnOnce(&Watcher<'_, S>),
 >(
     rt: &R,
     alloc: Global,
     listeners: Vec<Listener>,
     options: Options,
+    saver: S,
+    found: Option<ServiceRecord>,
     beside: F,
-) -> Result<Service, ServeFault>
+) -> Result<(Service, S), ServeFault>
     requires { F.IsAlwaysCallable beside }
 {
-    serve_all(rt, alloc, listeners, options, |watch| {
+    serve_all(rt, alloc, listeners, options, saver, found, |watch| {
         beside(&Watcher::new(*watch));
     })
 }

@@ -1,14 +1,15 @@
 //! What others see of a server while it serves.
 
-use crate::answering::Answering;
+use crate::durable::DurableService;
+use crate::save::{Save, SaveFault};
 use event_loop::{Counts, Watch};
 use figures::{Connections, Figures};
 use std::sync::Wait;
 
 /// What the thread that started a server sees of it.
-#[derive(Clone, Copy)]
-pub struct Watcher<'a> {
-    watch: Watch<'a, Answering>,
+#[derive_where(Clone, Copy)]
+pub struct Watcher<'a, S> {
+    watch: Watch<'a, DurableService<S>>,
 }
 
 /// The event loop's counts, as they are shown.
@@ -24,9 +25,9 @@ fn connections(counts: Counts) -> Connections {
     }
 }
 
-impl<'a> Watcher<'a> {
+impl<'a, S: Save> Watcher<'a, S> {
     /// A view of this.
-    pub fn new(watch: Watch<'a, Answering>) -> Watcher<'a> {
+    pub fn new(watch: Watch<'a, DurableService<S>>) -> Watcher<'a, S> {
         Watcher { watch }
     }
 
@@ -47,6 +48,12 @@ impl<'a> Watcher<'a> {
     /// connections. The caller waits as in `figures`.
     pub fn see<R: Wait>(&self, rt: &R, seen: &Figures) {
         self.watch.service(rt).see(seen);
+    }
+
+    /// Why nothing is answered just now: the last save failed. None: it did not, or nothing was to be saved yet. The caller
+    /// waits as in `figures`.
+    pub fn save_fault<R: Wait>(&self, rt: &R) -> Option<SaveFault> {
+        self.watch.service(rt).fault()
     }
 
     /// Whether the server has ended by itself, since the system refused to wait on its sockets. Its thread sets this, so

@@ -1,0 +1,2 @@
+mod FolderLemmas
+pub mod Crossing

@@ -1,0 +1,76 @@
+//! Where the record of a service is saved.
+
+use service::ServiceRecord;
+use std::alloc::Global;
+use thiserror::Error;
+
+/// Why a record is not saved.
+#[derive(Clone, Copy, Debug, PartialEq, Eq, Error)]
+pub enum SaveFault {
+    /// No room is left. What is saved is as it was, and the save may be tried again.
+    #[error("no room is left")]
+    Full,
+    /// What is saved is as it was, and the save may be tried again.
+    #[error("out of memory")]
+    NoMemory,
+    /// The record is none that can be stored. What is saved is as it was.
+    #[error("the record cannot be stored")]
+    Unstorable,
+    /// The disk failed in this save or in an earlier one: nothing more is saved. Another process finds the record of the
+    /// last save, or of the one that failed.
+    #[error("a read, a write or a sync failed")]
+    Disk,
+}
+
+/// Where the record of a service is saved, such that another process goes on from it when this one has ended.
+pub trait Save {
+    ghost use Rattle.std.specs.Prelude.{◌≡◌, ◌⊎◌, ℕ, List, Option, IsTrue, false};
+    ghost use Rattle.service.specs.Record.{RecordView};
+    ghost use Rattle.server.specs.Durable.{IsFoundOf};
+
+    /// A process that goes on from this one may find this, if this one ends now: a text, or none. It is what may be
+    /// found after a crash at any moment, also during the save before.
+    ghost may_find: { Self → Option (List ℕ) → Type 0 };
+
+    /// This text is one of this record.
+    ghost is_text: { RecordView → List ℕ → Type 0 };
+
+    /// Whether it saves anything. If not, no process goes on from this one.
+    fn keeps(&self) -> bool
+        ensures nothing { result ≡ false → (found : Option (List ℕ)) → may_find self.now found → ⊥ };
+
+    /// Saves the record in place of the last one: whether it is saved. If not, what may be found is what might be
+    /// found before, or this record. `fault` tells why.
+    fn save(&mut self, alloc: Global, kept: &ServiceRecord) -> bool
+        ensures saved { IsTrue result → (found : Option (List ℕ)) → may_find self.new found → IsFoundOf is_text kept.now found }
+        ensures crash { (found : Option (List ℕ)) → may_find self.new found → may_find self.old found ⊎ IsFoundOf is_text kept.now found };
+
+    /// Why the last save failed. None: it did not, or nothing was saved yet. Once it is `Disk` it stays so, and no save
+    /// succeeds.
+    fn fault(&self) -> Option<SaveFault>;
+}
+
+/// Saves nothing: no process goes on from this one.
+#[derive(Clone, Copy)]
+pub struct NoFolder;
+
+impl Save for NoFolder {
+    ghost use Rattle.std.specs.Prelude.{ℕ, List, Option};
+    ghost use Rattle.service.specs.Record.{RecordView};
+
+    ghost may_find = { λ _ _. ⊥ };
+
+    ghost is_text = { λ _ _. ⊥ };
+
+    fn keeps(&self) -> bool {
+        false
+    }
+
+    fn save(&mut self, _alloc: Global, _kept: &ServiceRecord) -> bool {
+        true
+    }
+
+    fn fault(&self) -> Option<SaveFault> {
+        None
+    }
+}
