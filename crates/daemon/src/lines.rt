@@ -24,7 +24,8 @@ pub fn tell_start<R: Log>(rt: &R, settings: &Settings) {
     }
     if let Some(data) = &settings.data {
         let path = data.path.as_str();
-        info!(rt; target: NO_TARGET, "what is answered is saved in {path} first");
+        let synced = if data.syncs { "" } else { ", without syncs" };
+        info!(rt; target: NO_TARGET, "what is answered is saved in {path} first{synced}");
     }
 }
 

@@ -37,6 +37,8 @@ pub struct DataPlace {
     pub path: String,
     /// Nothing is in it yet. Else something is.
     pub is_new: bool,
+    /// Each save is synced. Else what was answered stays if the process ends, and not if the machine does.
+    pub syncs: bool,
 }
 
 /// What a daemon is to do.
@@ -135,6 +137,13 @@ fn new_option<'a>(alloc: Global) -> Arg<'a> {
         )
 }
 
+/// The option for what is done after each save.
+fn sync_option<'a>(alloc: Global) -> Arg<'a> {
+    Arg::new(alloc, "sync").long("sync").value_name("MODE").help(
+        "turn, or if not given: each save is synced; none: what is saved outlives the process, not the machine",
+    )
+}
+
 /// The option for the figures.
 fn status_option<'a>(alloc: Global) -> Arg<'a> {
     Arg::new(alloc, "status")
@@ -157,6 +166,7 @@ fn command<'a>(alloc: Global) -> Result<Command<'a>, Error> {
         .arg(dialect_option(alloc))?
         .arg(data_option(alloc))?
         .arg(new_option(alloc))?
+        .arg(sync_option(alloc))?
         .arg(status_option(alloc))?;
     Ok(command)
 }
@@ -240,25 +250,51 @@ fn limit_of(
     }
 }
 
+/// Whether the mode that the text names syncs.
+fn syncs(command: &mut Command<'_>, text: &str) -> Result<bool, Error> {
+    match text {
+        "turn" => Ok(true),
+        "none" => Ok(false),
+        _ => Err(command.error(ErrorKind::InvalidValue, "--sync is turn or none")?),
+    }
+}
+
+/// The folder at this path, as the matches say.
+fn data_at(
+    alloc: Global,
+    command: &mut Command<'_>,
+    matches: &ArgMatches<'_>,
+    path: &str,
+) -> Result<DataPlace, Error> {
+    if path.is_empty() {
+        return Err(command.error(
+            ErrorKind::ValueValidation,
+            "a folder is of the form /var/lib/eve_cached",
+        )?);
+    }
+    let syncs = syncs(command, matches.get_str("sync").unwrap_or("turn"))?;
+    Ok(DataPlace {
+        path: String::from_str(alloc, path)?,
+        is_new: matches.get_flag("new"),
+        syncs,
+    })
+}
+
 /// Where all is saved, as the matches say.
 fn data_of(
     alloc: Global,
     command: &mut Command<'_>,
     matches: &ArgMatches<'_>,
 ) -> Result<Option<DataPlace>, Error> {
-    let is_new = matches.get_flag("new");
     match matches.get_str("data") {
-        Some("") => Err(command.error(
-            ErrorKind::ValueValidation,
-            "a folder is of the form /var/lib/eve_cached",
-        )?),
-        Some(path) => Ok(Some(DataPlace {
-            path: String::from_str(alloc, path)?,
-            is_new,
-        })),
-        None if is_new => Err(command.error(
+        Some(path) => Ok(Some(data_at(alloc, command, matches, path)?)),
+        None if matches.get_flag("new") => Err(command.error(
             ErrorKind::MissingRequiredArgument,
             "--new needs --data DIR",
+        )?),
+        None if matches.get_str("sync").is_some() => Err(command.error(
+            ErrorKind::MissingRequiredArgument,
+            "--sync needs --data DIR",
         )?),
         None => Ok(None),
     }

@@ -1,6 +1,6 @@
 //! The record of a service in a folder: its items as rows of a database file, and beside them all else of its process.
 //!
-//!     let (mut folder, found) = DataFolder::open(&rt, "/var/lib/eve", false, 1)?;   // the last record, if there is one
+//!     let (mut folder, found) = DataFolder::open(&rt, "/var/lib/eve", options)?;   // the last record, if there is one
 //!     folder.save(alloc, &record)?;                                               // from now on a crash leaves this one
 //!
 //! It is built on `shelf` (the rows of a file, saved together), `item_rows` (where the row of an item is), `process_text`
@@ -21,3 +21,4 @@ mod tables;
 
 pub use fault::DataFault;
 pub use folder::DataFolder;
+pub use opening::{FolderOptions, FolderStore};

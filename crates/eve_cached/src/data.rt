@@ -2,10 +2,9 @@
 
 use crate::{DISK_FAILED, IN_USE, NO_DATA, REFUSED};
 use daemon::{NO_TARGET, Settings, Stamped};
-use data_folder::{DataFault, DataFolder};
+use data_folder::{DataFault, DataFolder, FolderOptions, FolderStore};
 use log::error;
 use server::ServiceRecord;
-use sqlite::{File, FileStore};
 
 /// The status of a program whose folder cannot be used.
 fn status_of(fault: DataFault) -> u8 {
@@ -22,7 +21,7 @@ fn status_of(fault: DataFault) -> u8 {
 pub enum Data {
     Nowhere,
     In {
-        folder: DataFolder<FileStore<File>>,
+        folder: DataFolder<FolderStore>,
         /// What was saved there last.
         found: Option<ServiceRecord>,
     },
@@ -34,7 +33,12 @@ pub fn open_data(rt: &HostRuntime, settings: &Settings) -> Result<Data, u8> {
         return Ok(Data::Nowhere);
     };
     let path = place.path.as_str();
-    match DataFolder::open(rt, path, place.is_new, settings.u) {
+    let options = FolderOptions {
+        is_new: place.is_new,
+        u: settings.u,
+        syncs: place.syncs,
+    };
+    match DataFolder::open(rt, path, options) {
         Ok((folder, found)) => Ok(Data::In { folder, found }),
         Err(fault) => {
             error!(Stamped(rt); target: NO_TARGET, "{path}: {fault}");

@@ -131,7 +131,7 @@ fn attend<
         + Eprint
         + AllocGlobal
         + Sync,
-    S: Save,
+    S: Save + Send,
 >(rt: &R, watcher: &Watcher<'_, S>, status: Option<TcpListener>, known: Known) {
     let first = known.figures(rt, watcher);
     if known.has_found() {

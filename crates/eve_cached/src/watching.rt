@@ -97,7 +97,7 @@ impl Known {
     }
 
     /// What the server has counted, and what this process knows of itself.
-    pub fn figures<R: Wait + Clock + Files + AllocGlobal, S: Save>(
+    pub fn figures<R: Wait + Clock + Files + AllocGlobal, S: Save + Send>(
         &self,
         rt: &R,
         watcher: &Watcher<'_, S>,
@@ -112,7 +112,7 @@ impl Known {
 }
 
 /// Tells if the last save failed. Whether no later one can succeed.
-fn tells_unsaved<R: Wait + Clock + Eprint, S: Save>(
+fn tells_unsaved<R: Wait + Clock + Eprint, S: Save + Send>(
     rt: &R,
     watcher: &Watcher<'_, S>,
     unsaved: &mut Minutely,
@@ -128,7 +128,7 @@ fn tells_unsaved<R: Wait + Clock + Eprint, S: Save>(
 
 /// Looks once a second what the server has counted, shows it and tells what is due, until the server ends by itself or
 /// nothing can be saved any more.
-pub fn watch<R: Wait + Clock + Files + Eprint + AllocGlobal, S: Save>(
+pub fn watch<R: Wait + Clock + Files + Eprint + AllocGlobal, S: Save + Send>(
     rt: &R,
     watcher: &Watcher<'_, S>,
     shown: &Shown,

@@ -1,42 +1,62 @@
 //! A service that saves what it answered before anybody sees it.
 
-ghost use Rattle.std.specs.Prelude.{◌≡◌};
+ghost use Rattle.std.specs.Prelude.{◌≡◌, ◌⊎◌, ℕ, List, Option, IsTrue};
+ghost use Rattle.server.specs.Durable.{IsFoundOf};
 
 use crate::answering::Answering;
 use crate::save::{Save, SaveFault};
 use event_loop::{Heard, Said, Serve};
 use figures::Figures;
-use service::Service;
+use service::{Service, ServiceRecord};
 use std::alloc::Global;
 use std::mem;
 use std::rt::Clock;
 use std::sync::Wait;
+use std::thread;
 use std::thread::Threads;
+
+/// If no more messages than these wait for a save, it is made at once: to start a thread for it takes longer than the
+/// service may have work meanwhile.
+const MOST_AT_ONCE: usize = 2;
 
 /// The service, where its record is saved, and what it has said and nobody has seen: a record of a later moment than that
 /// has to be saved first.
+///
+/// What a batch says is held until the next call, in which its record is saved while the service works on the next batch.
 pub struct DurableService<S> {
     alloc: Global,
     answering: Answering,
     saver: S,
     held: Vec<Said>,
+    /// The last save failed: the service does not work before one succeeds.
+    is_failing: bool,
+}
+
+/// Saves the record.
+fn save_lent<S: Save>(saver: &mut S, alloc: Global, record: &mut ServiceRecord) -> bool
+    ensures saved { IsTrue result → (found : Option (List ℕ)) → S.may_find saver.new found → IsFoundOf S.is_text record.old found }
+    ensures crash { (found : Option (List ℕ)) → S.may_find saver.new found → S.may_find saver.old found ⊎ IsFoundOf S.is_text record.old found }
+{
+    saver.save(alloc, record)
 }
 
 impl<S: Save> DurableService<S> {
-    ghost use Rattle.std.specs.Prelude.{◌≡◌, [], IsTrue};
-    ghost use Rattle.server.specs.Durable.{IsSavedNow, MayBeSavedNow, Releases};
+    ghost use Rattle.std.specs.Prelude.{◌≡◌, [], true, false};
+    ghost use Rattle.server.specs.Durable.{IsSavedNow, MayBeSavedNow, ReleasesHeld};
 
     /// Nothing is held.
     pub fn new(alloc: Global, answering: Answering, saver: S) -> DurableService<S>
         ensures answering { result.answering ≡ answering }
         ensures saver { result.saver ≡ saver }
         ensures none { result.held.items ≡ [] }
+        ensures fine { result.is_failing ≡ false }
     {
         DurableService {
             alloc,
             answering,
             saver,
             held: Vec::new(alloc),
+            is_failing: false,
         }
     }
 
@@ -50,6 +70,7 @@ impl<S: Save> DurableService<S> {
             answering,
             saver,
             held,
+            is_failing: _,
         } = self;
         drop(held);
         (answering.into_service(), saver)
@@ -69,12 +90,12 @@ impl<S: Save> DurableService<S> {
         self.answering.see(seen);
     }
 
-    /// Why what is held has not left: the last save failed, or there was no memory for the record. None: nothing is held.
+    /// Why what is held has not left: the last save failed, or there was no memory for the record. None: it did not fail.
     pub fn fault(&self) -> Option<SaveFault> {
-        match (self.held.is_empty(), self.saver.fault()) {
-            (true, _) => None,
-            (false, Some(fault)) => Some(fault),
-            (false, None) => Some(SaveFault::NoMemory),
+        match (self.is_failing, self.saver.fault()) {
+            (false, _) => None,
+            (true, Some(fault)) => Some(fault),
+            (true, None) => Some(SaveFault::NoMemory),
         }
     }
 
@@ -97,16 +118,85 @@ impl<S: Save> DurableService<S> {
     /// Hands out what is held, if a record of this moment is saved.
     fn hand_out(&mut self) -> Vec<Said>
         ensures answering { self.new.answering ≡ self.old.answering }
-        ensures releases { Releases S.is_text (S.may_find self.old.saver) (S.may_find self.new.saver) self.old.answering.service self.old.held.items result.items self.new.held.items }
+        ensures releases { ReleasesHeld S.is_text (S.may_find self.old.saver) (S.may_find self.new.saver) self.old.answering.service self.old.held.items result.items self.new.held.items }
+        ensures failing { self.new.is_failing ≡ true → result.items ≡ [] }
     {
-        if !self.held.is_empty() && self.save() {
-            return mem::replace(&mut self.held, Vec::new(self.alloc));
+        self.is_failing = !self.held.is_empty() && !self.save();
+        if self.is_failing {
+            return Vec::new(self.alloc);
         }
-        Vec::new(self.alloc)
+        mem::replace(&mut self.held, Vec::new(self.alloc))
     }
 }
 
-impl<S: Save> Serve for DurableService<S> {
+impl<S: Save + Send> DurableService<S> {
+    ghost use denote.Param.Send.{IsSync};
+    ghost use Rattle.std.specs.Prelude.{◌≡◌, [], true};
+    ghost use Rattle.service.specs.Process.{kept_of};
+    ghost use Rattle.service.specs.Record.{kept_in};
+    ghost use Rattle.server.specs.Answering.{Runs};
+    ghost use Rattle.server.specs.Durable.{HandsOutSaved};
+
+    /// Saves the record, which is of this moment, while the service works. If it is saved what was held leaves, and what
+    /// the service says is held. Else both wait.
+    fn save_beside<R: Threads + Wait + Sync, C: Clock>(
+        &mut self,
+        mut record: ServiceRecord,
+        rt: &R,
+        clock: &C,
+        seconds: u32,
+    ) -> Vec<Said>
+        requires sync { IsSync R.row }
+        requires moment { kept_in self.old.answering.service.connections.dialect record ≡ kept_of self.old.answering.service }
+        ensures saved { HandsOutSaved S.is_text (S.may_find self.old.saver) (S.may_find self.new.saver) seconds self.old.answering self.old.held.items result.items self.new.answering self.new.held.items }
+        ensures failing { self.new.is_failing ≡ true → result.items ≡ [] }
+    {
+        let alloc = self.alloc;
+        let (saver, answering, kept) = (&mut self.saver, &mut self.answering, &mut record);
+        let (is_saved, _) = thread::join_mut(
+            rt,
+            &mut || -> bool
+                ensures saved { IsTrue result → (found : Option (List ℕ)) → S.may_find saver.exit.now found → IsFoundOf S.is_text kept.entry.now found }
+                ensures crash { (found : Option (List ℕ)) → S.may_find saver.exit.now found → S.may_find saver.entry.now found ⊎ IsFoundOf S.is_text kept.entry.now found }
+            { save_lent(saver, alloc, kept) },
+            &mut ||
+                requires { IsSync R.row }
+                ensures { Runs seconds answering.entry.now answering.exit.now }
+            { answering.run(rt, clock, seconds) },
+        );
+        self.is_failing = !is_saved;
+        if self.is_failing {
+            return Vec::new(self.alloc);
+        }
+        let said = self.answering.take_said();
+        mem::replace(&mut self.held, said)
+    }
+
+    /// Saves what is held while the service works; or saves it alone, if the last save failed.
+    fn go_on<R: Threads + Wait + Sync, C: Clock>(
+        &mut self,
+        rt: &R,
+        clock: &C,
+        seconds: u32,
+    ) -> Vec<Said>
+        requires { IsSync R.row }
+        ensures saved { HandsOutSaved S.is_text (S.may_find self.old.saver) (S.may_find self.new.saver) seconds self.old.answering self.old.held.items result.items self.new.answering self.new.held.items }
+        ensures failing { self.new.is_failing ≡ true → result.items ≡ [] }
+    {
+        if self.is_failing {
+            return self.hand_out();
+        }
+        match self.answering.record() {
+            Ok(record) => self.save_beside(record, rt, clock, seconds),
+            Err(_) => {
+                self.is_failing = true;
+                Vec::new(self.alloc)
+            }
+        }
+    }
+}
+
+impl<S: Save + Send> Serve for DurableService<S> {
     ghost use denote.Param.Send.{IsSync};
     ghost use Rattle.std.specs.Prelude.{◌≡◌, ◌≢◌, ◌⊎◌, ℕ, [], true, false};
     ghost use Rattle.service.specs.Steps.{NoneWaits};
@@ -125,6 +215,7 @@ impl<S: Save> Serve for DurableService<S> {
         ensures handed { HandsInAll heard.items self.old.answering self.new.answering }
         ensures saver { self.new.saver ≡ self.old.saver }
         ensures held { self.new.held ≡ self.old.held }
+        ensures failing { self.new.is_failing ≡ self.old.is_failing }
     {
         self.answering.hear(heard);
     }
@@ -136,10 +227,15 @@ impl<S: Save> Serve for DurableService<S> {
         seconds: u32,
     ) -> Vec<Said>
         requires { IsSync R.row }
-        ensures { HandsOutSaved S.is_text (S.may_find self.old.saver) (S.may_find self.new.saver) seconds self.old.answering self.old.held.items result.items self.new.answering self.new.held.items }
+        ensures saved { HandsOutSaved S.is_text (S.may_find self.old.saver) (S.may_find self.new.saver) seconds self.old.answering self.old.held.items result.items self.new.answering self.new.held.items }
+        ensures failing { self.new.is_failing ≡ true → result.items ≡ [] }
     {
-        if self.held.is_empty() {
-            self.held = self.answering.work(rt, clock, seconds);
+        if !self.held.is_empty() {
+            return self.go_on(rt, clock, seconds);
+        }
+        self.held = self.answering.work(rt, clock, seconds);
+        if MOST_AT_ONCE < self.held.len() && self.saver.keeps() {
+            return Vec::new(self.alloc);
         }
         self.hand_out()
     }
@@ -153,24 +249,30 @@ impl<S: Save> Serve for DurableService<S> {
         ensures lost { self.new.answering.lost ≡ self.old.answering.lost }
         ensures saver { self.new.saver ≡ self.old.saver }
         ensures held { self.new.held ≡ self.old.held }
+        ensures failing { self.new.is_failing ≡ self.old.is_failing }
     {
         self.answering.tick();
     }
 
     fn has_work(&self) -> bool
-        ensures no { result ≡ false → (self.now.held.items ≢ []) ⊎ ((self.now.answering.said ≡ []) × ((self.now.answering.service.line ≡ []) ⊎ AllWait self.now.answering.service.waiting)) }
-        ensures held { result ≡ true → self.now.held.items ≡ [] }
-        ensures yes { result ≡ true → (self.now.answering.said ≢ []) ⊎ ((proxy : ℕ) × IsFreeIn self.now.answering.service.waiting proxy) }
+        ensures no { result ≡ false → (self.now.is_failing ≡ true) ⊎ ((self.now.held.items ≡ []) × (self.now.answering.said ≡ []) × ((self.now.answering.service.line ≡ []) ⊎ AllWait self.now.answering.service.waiting)) }
+        ensures fine { result ≡ true → self.now.is_failing ≡ false }
+        ensures yes { result ≡ true → (self.now.held.items ≢ []) ⊎ ((self.now.answering.said ≢ []) ⊎ ((proxy : ℕ) × IsFreeIn self.now.answering.service.waiting proxy)) }
     {
-        self.held.is_empty() && (self.answering.has_said() || self.answering.has_work())
+        !self.is_failing
+            && (!self.held.is_empty() || self.answering.has_said() || self.answering.has_work())
     }
 
     fn is_waiting(&self) -> bool
+        ensures failing { result ≡ false → self.now.is_failing ≡ false }
         ensures held { result ≡ false → self.now.held.items ≡ [] }
         ensures said { result ≡ false → self.now.answering.said ≡ [] }
         ensures service { result ≡ false → (self.now.answering.service.line ≡ []) × NoneWaits self.now.answering.service.waiting }
         ensures lost { result ≡ false → self.now.answering.lost ≡ [] }
     {
-        !self.held.is_empty() || self.answering.has_said() || self.answering.is_waiting()
+        self.is_failing
+            || !self.held.is_empty()
+            || self.answering.has_said()
+            || self.answering.is_waiting()
     }
 }
