@@ -33,11 +33,11 @@ pub struct DurableService<S> {
 }
 
 /// Saves the record.
-fn save_lent<S: Save>(saver: &mut S, alloc: Global, record: &mut ServiceRecord) -> bool
-    ensures saved { IsTrue result → (found : Option (List ℕ)) → S.may_find saver.new found → IsFoundOf S.is_text record.old found }
-    ensures crash { (found : Option (List ℕ)) → S.may_find saver.new found → S.may_find saver.old found ⊎ IsFoundOf S.is_text record.old found }
+fn save_lent<S: Save>(saver: &mut S, alloc: Global, kept: &mut ServiceRecord) -> bool
+    ensures saved { IsTrue result → (found : Option (List ℕ)) → S.may_find saver.new found → IsFoundOf S.is_text kept.old found }
+    ensures crash { (found : Option (List ℕ)) → S.may_find saver.new found → S.may_find saver.old found ⊎ IsFoundOf S.is_text kept.old found }
 {
-    saver.save(alloc, record)
+    saver.save(alloc, kept)
 }
 
 impl<S: Save> DurableService<S> {
@@ -141,18 +141,18 @@ impl<S: Save + Send> DurableService<S> {
     /// the service says is held. Else both wait.
     fn save_beside<R: Threads + Wait + Sync, C: Clock>(
         &mut self,
-        mut record: ServiceRecord,
+        mut due: ServiceRecord,
         rt: &R,
         clock: &C,
         seconds: u32,
     ) -> Vec<Said>
         requires sync { IsSync R.row }
-        requires moment { kept_in self.old.answering.service.connections.dialect record ≡ kept_of self.old.answering.service }
+        requires moment { kept_in self.old.answering.service.connections.dialect due ≡ kept_of self.old.answering.service }
         ensures saved { HandsOutSaved S.is_text (S.may_find self.old.saver) (S.may_find self.new.saver) seconds self.old.answering self.old.held.items result.items self.new.answering self.new.held.items }
         ensures failing { self.new.is_failing ≡ true → result.items ≡ [] }
     {
         let alloc = self.alloc;
-        let (saver, answering, kept) = (&mut self.saver, &mut self.answering, &mut record);
+        let (saver, answering, kept) = (&mut self.saver, &mut self.answering, &mut due);
         let (is_saved, _) = thread::join_mut(
             rt,
             &mut || -> bool
