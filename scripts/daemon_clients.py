@@ -13,7 +13,11 @@ RESET = b"\1\0\0\0\0\0\0\0"  # for SO_LINGER: to close is to reset
 
 
 class Silent(Exception):
-    """A daemon that does not say where it listens."""
+    """A daemon that does not say where it listens, and the status with which it ended."""
+
+    def __init__(self, err, status):
+        super().__init__(f"it does not listen: {err!r}")
+        self.status = status
 
 
 class Daemon:
@@ -37,12 +41,12 @@ class Daemon:
         self.reader = threading.Thread(target=self.read, daemon=True)
         self.reader.start()
         until = time.time() + PATIENCE
-        while len(self.ports) < listeners and time.time() < until:
+        while len(self.ports) < listeners and time.time() < until and self.process.poll() is None:
             self.ports = [int(port) for port in re.findall(rb"listening on 127\.0\.0\.1:(\d+)\n", self.err)]
             time.sleep(0.02)
         if len(self.ports) < listeners:
             self.__exit__()
-            raise Silent(f"it does not listen: {self.err!r}")
+            raise Silent(self.err, self.process.returncode)
 
     def read(self):
         for line in self.process.stderr:
