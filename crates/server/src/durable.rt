@@ -120,6 +120,7 @@ impl<S: Save> DurableService<S> {
         ensures answering { self.new.answering ≡ self.old.answering }
         ensures releases { ReleasesHeld S.is_text (S.may_find self.old.saver) (S.may_find self.new.saver) self.old.answering.service self.old.held.items result.items self.new.held.items }
         ensures failing { self.new.is_failing ≡ true → result.items ≡ [] }
+        ensures leaves { self.new.is_failing ≡ false → result.items ≡ self.old.held.items }
     {
         self.is_failing = !self.held.is_empty() && !self.save();
         if self.is_failing {
@@ -131,7 +132,7 @@ impl<S: Save> DurableService<S> {
 
 impl<S: Save + Send> DurableService<S> {
     ghost use denote.Param.Send.{IsSync};
-    ghost use Rattle.std.specs.Prelude.{◌≡◌, [], true};
+    ghost use Rattle.std.specs.Prelude.{◌≡◌, [], true, false};
     ghost use Rattle.service.specs.Process.{kept_of};
     ghost use Rattle.service.specs.Record.{kept_in};
     ghost use Rattle.server.specs.Answering.{Runs};
@@ -150,6 +151,7 @@ impl<S: Save + Send> DurableService<S> {
         requires moment { kept_in self.old.answering.service.connections.dialect due ≡ kept_of self.old.answering.service }
         ensures saved { HandsOutSaved S.is_text (S.may_find self.old.saver) (S.may_find self.new.saver) seconds self.old.answering self.old.held.items result.items self.new.answering self.new.held.items }
         ensures failing { self.new.is_failing ≡ true → result.items ≡ [] }
+        ensures leaves { self.new.is_failing ≡ false → result.items ≡ self.old.held.items }
     {
         let alloc = self.alloc;
         let (saver, answering, kept) = (&mut self.saver, &mut self.answering, &mut due);
@@ -182,6 +184,7 @@ impl<S: Save + Send> DurableService<S> {
         requires { IsSync R.row }
         ensures saved { HandsOutSaved S.is_text (S.may_find self.old.saver) (S.may_find self.new.saver) seconds self.old.answering self.old.held.items result.items self.new.answering self.new.held.items }
         ensures failing { self.new.is_failing ≡ true → result.items ≡ [] }
+        ensures leaves { self.new.is_failing ≡ false → result.items ≡ self.old.held.items }
     {
         if self.is_failing {
             return self.hand_out();
@@ -229,6 +232,7 @@ impl<S: Save + Send> Serve for DurableService<S> {
         requires { IsSync R.row }
         ensures saved { HandsOutSaved S.is_text (S.may_find self.old.saver) (S.may_find self.new.saver) seconds self.old.answering self.old.held.items result.items self.new.answering self.new.held.items }
         ensures failing { self.new.is_failing ≡ true → result.items ≡ [] }
+        ensures leaves { self.new.is_failing ≡ false → (self.old.held.items ≡ []) ⊎ (result.items ≡ self.old.held.items) }
     {
         if !self.held.is_empty() {
             return self.go_on(rt, clock, seconds);
