@@ -43,6 +43,11 @@ pub fn tell_unsaved<R: Log, D: Display>(rt: &R, why: &D) {
     warn!(rt; target: NO_TARGET, "nothing is answered, since it cannot be saved: {why}");
 }
 
+/// Tells that what is answered is saved again, after so many seconds.
+pub fn tell_saved_again<R: Log>(rt: &R, seconds: u64) {
+    info!(rt; target: NO_TARGET, "it is saved and answered again, after {seconds} seconds");
+}
+
 /// Tells that fewer files may be open than so many connections take.
 pub fn tell_few_files<R: Log>(rt: &R, files: u64, needed: u64) {
     warn!(rt; target: NO_TARGET, "at most {files} files may be open, and {needed} may be needed: raise LimitNOFILE, or ulimit -n");

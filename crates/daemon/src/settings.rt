@@ -80,7 +80,7 @@ fn u_option<'a>(alloc: Global) -> Arg<'a> {
         .value_name("U")
         .value_parser(value_parser!(u8).range(0..=3))
         .default_value("1")
-        .help("2U + 1 replicas of each kind, of which U may stop")
+        .help("2U + 1 executors, which have the items, and 2U + 1 verifiers, which agree; U of each may stop; 0 to 3")
 }
 
 /// The option for the connections.
@@ -90,7 +90,7 @@ fn connections_option<'a>(alloc: Global) -> Arg<'a> {
         .value_name("N")
         .value_parser(value_parser!(u16).range(1..=i64::from(MOST_CONNECTIONS)))
         .default_value("1024")
-        .help("The most connections at once")
+        .help("The most connections at once; 1 to 10000")
 }
 
 /// The option for connections on which nothing happens.
@@ -171,14 +171,19 @@ fn command<'a>(alloc: Global) -> Result<Command<'a>, Error> {
     Ok(command)
 }
 
-/// The address that the text spells.
-fn address(command: &mut Command<'_>, text: &str) -> Result<SocketAddr, Error> {
+/// The address that the text of this option spells.
+fn address(
+    alloc: Global,
+    command: &mut Command<'_>,
+    option: &str,
+    text: &str,
+) -> Result<SocketAddr, Error> {
     match text.parse::<SocketAddr>() {
         Ok(address) => Ok(address),
-        Err(_) => Err(command.error(
-            ErrorKind::ValueValidation,
-            "an address is of the form 127.0.0.1:11211 or [::1]:11211",
-        )?),
+        Err(_) => {
+            let why = format!(in alloc; "'{text}' of --{option}: an address is of the form 127.0.0.1:11211 or [::1]:11211; names are not looked up")?;
+            Err(command.error(ErrorKind::ValueValidation, why.as_str())?)
+        }
     }
 }
 
@@ -190,7 +195,7 @@ fn place_of(alloc: Global, command: &mut Command<'_>, text: &str) -> Result<List
             "a Unix socket is of the form unix:/run/eve_cached/socket",
         )?),
         Some(path) => Ok(Listen::Unix(String::from_str(alloc, path)?)),
-        None => Ok(Listen::Tcp(address(command, text)?)),
+        None => Ok(Listen::Tcp(address(alloc, command, "listen", text)?)),
     }
 }
 
@@ -317,7 +322,7 @@ fn given(
 ) -> Result<Settings, Error> {
     let listen = places(alloc, command, matches.get_strs("listen").unwrap_or(&[]))?;
     let status = match matches.get_str("status") {
-        Some(text) => Some(address(command, text)?),
+        Some(text) => Some(address(alloc, command, "status", text)?),
         None => None,
     };
     let dialect = dialect(command, matches.get_str("dialect").unwrap_or("memcached"))?;

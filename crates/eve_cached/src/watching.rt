@@ -2,8 +2,8 @@
 
 use crate::showing::Shown;
 use daemon::{
-    Minutely, Report, Settings, Stamped, Totals, open_files, process_id, resident_pages, seconds,
-    tell, tell_few_files, tell_unsaved,
+    Report, SaveLine, SaveWatch, Settings, Stamped, Totals, open_files, process_id, resident_pages,
+    seconds, tell, tell_few_files, tell_saved_again, tell_unsaved,
 };
 use figures::{Figures, Limits, Process};
 use server::{Save, SaveFault, Watcher};
@@ -111,19 +111,19 @@ impl Known {
     }
 }
 
-/// Tells if the last save failed. Whether no later one can succeed.
-fn tells_unsaved<R: Wait + Clock + Eprint, S: Save + Send>(
+/// Tells if the last save failed, and if saves succeed again. Whether no later one can succeed.
+fn tells_of_saves<R: Wait + Clock + Eprint, S: Save + Send>(
     rt: &R,
     watcher: &Watcher<'_, S>,
-    unsaved: &mut Minutely,
+    saves: &mut SaveWatch,
 ) -> bool {
-    let Some(fault) = watcher.save_fault(rt) else {
-        return false;
-    };
-    if unsaved.is_due(seconds(rt)) {
-        tell_unsaved(&Stamped(rt), &fault);
+    let fault = watcher.save_fault(rt);
+    match (saves.look(fault.is_some(), seconds(rt)), fault) {
+        (SaveLine::Fails, Some(fault)) => tell_unsaved(&Stamped(rt), &fault),
+        (SaveLine::Again(seconds), _) => tell_saved_again(&Stamped(rt), seconds),
+        _ => {}
     }
-    fault == SaveFault::Disk
+    fault == Some(SaveFault::Disk)
 }
 
 /// Looks once a second what the server has counted, shows it and tells what is due, until the server ends by itself or
@@ -137,10 +137,10 @@ pub fn watch<R: Wait + Clock + Files + Eprint + AllocGlobal, S: Save + Send>(
     let first = known.figures(rt, watcher);
     watcher.see(rt, &first);
     let mut report = Report::new(Totals::of(&first));
-    let mut unsaved = Minutely::NONE;
+    let mut saves = SaveWatch::NONE;
     for _ in rt.forever() {
         thread::sleep(rt, Duration::from_secs(1));
-        if watcher.has_ended() || tells_unsaved(rt, watcher, &mut unsaved) {
+        if watcher.has_ended() || tells_of_saves(rt, watcher, &mut saves) {
             return;
         }
         let figures = known.figures(rt, watcher);
