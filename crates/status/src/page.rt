@@ -163,7 +163,7 @@ function show(f) {
     ["Items", short(f.memory.items), "each in every executor"], ["Keys and values", size(f.memory.item_bytes), limit ? "of " + size(limit) : "no limit", limit && limit <= f.memory.item_bytes ? "bad" : ""],
     ["Memory", f.memory.resident_bytes ? size(f.memory.resident_bytes) : "unknown", "of the process"], ["Refused lines", short(refused), "since the start"]]);
   tiles("saves", f.saves.made || f.saves.failed ? [["Saves", short(f.saves.made), "since the start"], ["Saves that failed", whole(f.saves.failed), failing ? "the last one too" : "since the start", failing ? "bad" : ""],
-    ["Waiting for a save", short(f.saves.waiting), "messages to connections"], ["On disk", size(f.saves.bytes), "all files of the data"]] : []);
+    ["Waiting for a save", short(f.saves.waiting), "messages to connections"], ["Data on disk", size(f.saves.bytes), "files in the folder"]] : []);
   charts(rates, counts);
   nodes("executors", executors);
   nodes("verifiers", verifiers);
