@@ -21,4 +21,4 @@ mod tables;
 
 pub use fault::DataFault;
 pub use folder::DataFolder;
-pub use opening::{FolderOptions, FolderStore};
+pub use opening::{FILES, FolderOptions, FolderStore};

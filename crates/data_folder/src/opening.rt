@@ -17,6 +17,9 @@ use unsynced::OptionalSync;
 /// The file's name in its folder.
 const FILE: &str = "eve.db";
 
+/// The files of a folder: the database and its log.
+pub const FILES: [&str; 2] = [FILE, "eve.db-wal"];
+
 /// The disk of a folder, whose syncs may be turned off.
 pub type FolderStore = FileStore<OptionalSync<File>>;
 

@@ -6,7 +6,7 @@ ghost use Rattle.server.specs.Durable.{IsFoundOf};
 use crate::answering::Answering;
 use crate::save::{Save, SaveFault};
 use event_loop::{Heard, Said, Serve};
-use figures::Figures;
+use figures::{Figures, Saves, one_more};
 use service::{Service, ServiceRecord};
 use std::alloc::Global;
 use std::mem;
@@ -30,6 +30,10 @@ pub struct DurableService<S> {
     held: Vec<Said>,
     /// The last save failed: the service does not work before one succeeds.
     is_failing: bool,
+    /// Saves that succeeded.
+    made: u64,
+    /// Saves that failed.
+    failed: u64,
 }
 
 /// Saves the record.
@@ -41,7 +45,7 @@ fn save_lent<S: Save>(saver: &mut S, alloc: Global, kept: &mut ServiceRecord) ->
 }
 
 impl<S: Save> DurableService<S> {
-    ghost use Rattle.std.specs.Prelude.{◌≡◌, [], true, false};
+    ghost use Rattle.std.specs.Prelude.{◌≡◌, [], true, false, not};
     ghost use Rattle.server.specs.Durable.{IsSavedNow, MayBeSavedNow, ReleasesHeld};
 
     /// Nothing is held.
@@ -57,6 +61,8 @@ impl<S: Save> DurableService<S> {
             saver,
             held: Vec::new(alloc),
             is_failing: false,
+            made: 0,
+            failed: 0,
         }
     }
 
@@ -71,6 +77,8 @@ impl<S: Save> DurableService<S> {
             saver,
             held,
             is_failing: _,
+            made: _,
+            failed: _,
         } = self;
         drop(held);
         (answering.into_service(), saver)
@@ -80,7 +88,15 @@ impl<S: Save> DurableService<S> {
     pub fn figures(&mut self) -> Figures
         ensures same { self.new ≡ self.old }
     {
-        self.answering.figures()
+        let mut figures = self.answering.figures();
+        figures.saves = Saves {
+            made: self.made,
+            failed: self.failed,
+            waiting: self.held.len() as u64,
+            failing: if self.is_failing { 1 } else { 0 },
+            bytes: 0,
+        };
+        figures
     }
 
     /// Takes over what only the event loop and the system know, for `stats`.
@@ -99,20 +115,39 @@ impl<S: Save> DurableService<S> {
         }
     }
 
+    /// A save succeeded, or failed.
+    fn note(&mut self, is_saved: bool)
+        ensures answering { self.new.answering ≡ self.old.answering }
+        ensures saver { self.new.saver ≡ self.old.saver }
+        ensures held { self.new.held ≡ self.old.held }
+        ensures failing { self.new.is_failing ≡ not is_saved }
+    {
+        if is_saved {
+            self.made = one_more(self.made);
+        } else {
+            self.failed = one_more(self.failed);
+        }
+        self.is_failing = !is_saved;
+    }
+
     /// Saves a record of this moment: whether it is saved.
     fn save(&mut self) -> bool
         ensures answering { self.new.answering ≡ self.old.answering }
         ensures held { self.new.held ≡ self.old.held }
+        ensures failing { self.new.is_failing ≡ not result }
         ensures saved { IsTrue result → IsSavedNow S.is_text (S.may_find self.new.saver) self.old.answering.service }
         ensures crash { MayBeSavedNow S.is_text (S.may_find self.old.saver) (S.may_find self.new.saver) self.old.answering.service }
     {
         if !self.saver.keeps() {
+            self.is_failing = false;
             return true;
         }
-        match self.answering.record() {
+        let is_saved = match self.answering.record() {
             Ok(record) => self.saver.save(self.alloc, &record),
             Err(_) => false,
-        }
+        };
+        self.note(is_saved);
+        is_saved
     }
 
     /// Hands out what is held, if a record of this moment is saved.
@@ -122,11 +157,15 @@ impl<S: Save> DurableService<S> {
         ensures failing { self.new.is_failing ≡ true → result.items ≡ [] }
         ensures leaves { self.new.is_failing ≡ false → result.items ≡ self.old.held.items }
     {
-        self.is_failing = !self.held.is_empty() && !self.save();
-        if self.is_failing {
+        if self.held.is_empty() {
+            self.is_failing = false;
             return Vec::new(self.alloc);
         }
-        mem::replace(&mut self.held, Vec::new(self.alloc))
+        if self.save() {
+            mem::replace(&mut self.held, Vec::new(self.alloc))
+        } else {
+            Vec::new(self.alloc)
+        }
     }
 }
 
@@ -166,8 +205,8 @@ impl<S: Save + Send> DurableService<S> {
                 ensures { Runs seconds answering.entry.now answering.exit.now }
             { answering.run(rt, clock, seconds) },
         );
-        self.is_failing = !is_saved;
-        if self.is_failing {
+        self.note(is_saved);
+        if !is_saved {
             return Vec::new(self.alloc);
         }
         let said = self.answering.take_said();
@@ -192,7 +231,7 @@ impl<S: Save + Send> DurableService<S> {
         match self.answering.record() {
             Ok(record) => self.save_beside(record, rt, clock, seconds),
             Err(_) => {
-                self.is_failing = true;
+                self.note(false);
                 Vec::new(self.alloc)
             }
         }
