@@ -102,7 +102,10 @@ impl<'a> Known<'a> {
                 idle_seconds: u64::from(settings.idle),
                 item_bytes: settings.max_bytes,
             },
-            folder: settings.data.as_ref().map(|place| place.path.as_str()),
+            folder: match &settings.data {
+                Some(place) => Some(place.path.as_str()),
+                None => None,
+            },
             is_found,
         }
     }
