@@ -1,6 +1,8 @@
 //! A service that saves what it answered before anybody sees it.
 
 ghost use Rattle.std.specs.Prelude.{◌≡◌, ◌⊎◌, ℕ, List, Option, IsTrue};
+ghost use denote.Param.Send.{IsSync};
+ghost use Rattle.server.specs.Answering.{Runs};
 ghost use Rattle.server.specs.Durable.{IsFoundOf};
 
 use crate::answering::Answering;
@@ -42,6 +44,35 @@ fn save_lent<S: Save>(saver: &mut S, alloc: Global, kept: &mut ServiceRecord) ->
     ensures crash { (found : Option (List ℕ)) → S.may_find saver.new found → S.may_find saver.old found ⊎ IsFoundOf S.is_text kept.old found }
 {
     saver.save(alloc, kept)
+}
+
+/// Saves the record, on another thread if there is one, while the service works.
+fn save_and_run<S: Save + Send, R: Threads + Wait + Sync, C: Clock>(
+    saver: &mut S,
+    answering: &mut Answering,
+    alloc: Global,
+    kept: &mut ServiceRecord,
+    rt: &R,
+    clock: &C,
+    seconds: u32,
+) -> bool
+    requires sync { IsSync R.row }
+    ensures ran { Runs seconds answering.old answering.new }
+    ensures saved { IsTrue result → (found : Option (List ℕ)) → S.may_find saver.new found → IsFoundOf S.is_text kept.old found }
+    ensures crash { (found : Option (List ℕ)) → S.may_find saver.new found → S.may_find saver.old found ⊎ IsFoundOf S.is_text kept.old found }
+{
+    let (is_saved, _) = thread::join_mut(
+        rt,
+        &mut || -> bool
+            ensures saved { IsTrue result → (found : Option (List ℕ)) → S.may_find saver.exit.now found → IsFoundOf S.is_text kept.entry.now found }
+            ensures crash { (found : Option (List ℕ)) → S.may_find saver.exit.now found → S.may_find saver.entry.now found ⊎ IsFoundOf S.is_text kept.entry.now found }
+        { save_lent(saver, alloc, kept) },
+        &mut ||
+            requires { IsSync R.row }
+            ensures { Runs seconds answering.entry.now answering.exit.now }
+        { answering.run(rt, clock, seconds) },
+    );
+    is_saved
 }
 
 impl<S: Save> DurableService<S> {
@@ -174,7 +205,6 @@ impl<S: Save + Send> DurableService<S> {
     ghost use Rattle.std.specs.Prelude.{◌≡◌, [], true, false};
     ghost use Rattle.service.specs.Process.{kept_of};
     ghost use Rattle.service.specs.Record.{kept_in};
-    ghost use Rattle.server.specs.Answering.{Runs};
     ghost use Rattle.server.specs.Durable.{HandsOutSaved};
 
     /// Saves the record, which is of this moment, while the service works. If it is saved what was held leaves, and what
@@ -192,18 +222,14 @@ impl<S: Save + Send> DurableService<S> {
         ensures failing { self.new.is_failing ≡ true → result.items ≡ [] }
         ensures leaves { self.new.is_failing ≡ false → result.items ≡ self.old.held.items }
     {
-        let alloc = self.alloc;
-        let (saver, answering, kept) = (&mut self.saver, &mut self.answering, &mut due);
-        let (is_saved, _) = thread::join_mut(
+        let is_saved = save_and_run(
+            &mut self.saver,
+            &mut self.answering,
+            self.alloc,
+            &mut due,
             rt,
-            &mut || -> bool
-                ensures saved { IsTrue result → (found : Option (List ℕ)) → S.may_find saver.exit.now found → IsFoundOf S.is_text kept.entry.now found }
-                ensures crash { (found : Option (List ℕ)) → S.may_find saver.exit.now found → S.may_find saver.entry.now found ⊎ IsFoundOf S.is_text kept.entry.now found }
-            { save_lent(saver, alloc, kept) },
-            &mut ||
-                requires { IsSync R.row }
-                ensures { Runs seconds answering.entry.now answering.exit.now }
-            { answering.run(rt, clock, seconds) },
+            clock,
+            seconds,
         );
         self.note(is_saved);
         if !is_saved {
