@@ -131,7 +131,7 @@ fn attend<
         + Eprint
         + AllocGlobal
         + Sync,
-    S: Save + Send,
+    S: Save,
 >(rt: &R, watcher: &Watcher<'_, S>, status: Option<TcpListener>, known: Known<'_>) {
     let first = known.figures(rt, watcher);
     if known.has_found() {

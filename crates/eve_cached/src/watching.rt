@@ -124,7 +124,7 @@ impl<'a> Known<'a> {
     }
 
     /// What the server has counted, and what this process knows of itself.
-    pub fn figures<R: Wait + Clock + Files + AllocGlobal, S: Save + Send>(
+    pub fn figures<R: Wait + Clock + Files + AllocGlobal, S: Save>(
         &self,
         rt: &R,
         watcher: &Watcher<'_, S>,
@@ -143,7 +143,7 @@ impl<'a> Known<'a> {
 }
 
 /// Tells if the last save failed, and if saves succeed again. Whether no later one can succeed.
-fn tells_of_saves<R: Wait + Clock + Eprint, S: Save + Send>(
+fn tells_of_saves<R: Wait + Clock + Eprint, S: Save>(
     rt: &R,
     watcher: &Watcher<'_, S>,
     saves: &mut SaveWatch,
@@ -159,7 +159,7 @@ fn tells_of_saves<R: Wait + Clock + Eprint, S: Save + Send>(
 
 /// Looks once a second what the server has counted, shows it and tells what is due, until the server ends by itself or
 /// nothing can be saved any more.
-pub fn watch<R: Wait + Clock + Files + Eprint + AllocGlobal, S: Save + Send>(
+pub fn watch<R: Wait + Clock + Files + Eprint + AllocGlobal, S: Save>(
     rt: &R,
     watcher: &Watcher<'_, S>,
     shown: &Shown,

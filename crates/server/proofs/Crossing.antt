@@ -1,9 +1,6 @@
 -- The service goes to the thread that works, with what it has said.
-use mathlib.Core.List.{[], ◌∷◌}
-use mir.Syntax.{Sym}
 use denote.RattleType.{RattleType}
 use denote.Struct.Declared.{shape}
-use denote.Struct.Tuple.{TupleAt, type_at}
 use denote.Param.Send.{IsSend, sendable, recorded_send, struct_send}
 use Rattle.std.proofs.Crossing.{crosses}
 use Rattle.std.proofs.alloc.Global.TheSendSync as global
@@ -33,9 +30,3 @@ answering_send = search (parts, sendable) depth 60 fits 20000
 -- With where its record is saved, if that may go there, and what is held.
 pub durable_send : (T : RattleType) → IsSend T → IsSend (durable.the_row T)
 durable_send T s = recorded_send _ _ _ (durable.the_type T).to_one (struct_send (shape (durable.the_type T)) (global.the_field_send, (answering_send, (s, ((search (parts, sendable)), ((search (parts, sendable)), ((search (parts, sendable)), ((search (parts, sendable)), tt))))))))
-
--- what a closure lends to another thread, if each thing may go there
-pub three_are_lent : (name : Sym) (A B C : RattleType) → IsSend A → IsSend B → IsSend C → IsSend (TupleAt name (A ∷ B ∷ C ∷ []))
-three_are_lent name A B C a b c =
-    let lent = type_at name (A ∷ B ∷ C ∷ []) in
-    recorded_send _ _ _ lent.to_one (struct_send (shape lent) (a, (b, (c, tt))))

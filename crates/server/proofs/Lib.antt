@@ -1,3 +1,2 @@
 mod Crossing
 mod HandLemmas
-mod DurableLemmas

@@ -25,7 +25,7 @@ fn connections(counts: Counts) -> Connections {
     }
 }
 
-impl<'a, S: Save + Send> Watcher<'a, S> {
+impl<'a, S: Save> Watcher<'a, S> {
     /// A view of this.
     pub fn new(watch: Watch<'a, DurableService<S>>) -> Watcher<'a, S> {
         Watcher { watch }
