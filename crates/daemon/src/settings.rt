@@ -80,7 +80,9 @@ fn u_option<'a>(alloc: Global) -> Arg<'a> {
         .value_name("U")
         .value_parser(value_parser!(u8).range(0..=3))
         .default_value("1")
-        .help("2U + 1 executors, which have the items, and 2U + 1 verifiers, which agree; U of each may stop; 0 to 3")
+        .help(
+            "2U + 1 executors, which have the items, and 2U + 1 verifiers, which agree; U of each may stop; 0 to 3",
+        )
 }
 
 /// The option for the connections.
@@ -181,7 +183,9 @@ fn address(
     match text.parse::<SocketAddr>() {
         Ok(address) => Ok(address),
         Err(_) => {
-            let why = format!(in alloc; "'{text}' of --{option}: an address is of the form 127.0.0.1:11211 or [::1]:11211; names are not looked up")?;
+            let why = format!(in alloc;
+                "'{text}' of --{option}: an address is of the form 127.0.0.1:11211 or [::1]:11211; names are not looked up"
+            )?;
             Err(command.error(ErrorKind::ValueValidation, why.as_str())?)
         }
     }

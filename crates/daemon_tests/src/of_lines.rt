@@ -1,8 +1,8 @@
 //! The text of lines.
 
 use daemon::{
-    Due, Listen, SaveLine, SaveWatch, Settings, open_files, resident_pages, tell, tell_begun, tell_few_files,
-    tell_listening, tell_saved_again, tell_start, tell_status, tell_unsaved,
+    Due, Listen, SaveLine, SaveWatch, Settings, open_files, resident_pages, tell, tell_begun,
+    tell_few_files, tell_listening, tell_saved_again, tell_start, tell_status, tell_unsaved,
 };
 use figures::{Figures, Refusal};
 use grammar::Dialect;

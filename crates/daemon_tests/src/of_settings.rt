@@ -90,7 +90,15 @@ fn saves_in(alloc: Global, words: &str, path: &str, is_new: bool, syncs: bool) -
 fn a_folder_is_new_or_not_and_synced_or_not(rt: HostRuntime) -> Result<(), Fail> {
     let alloc = rt.alloc();
     assert!(rt; saves_in(alloc, "--data /var/lib/e", "/var/lib/e", false, true));
-    assert!(rt; saves_in(alloc, "--new --data here --max-bytes 1M", "here", true, true));
+    assert!(rt;
+        saves_in(
+            alloc,
+            "--new --data here --max-bytes 1M",
+            "here",
+            true,
+            true
+        )
+    );
     assert!(rt; saves_in(alloc, "--data here --sync turn", "here", false, true));
     assert!(rt; saves_in(alloc, "--sync none --data here", "here", false, false));
     Ok(())

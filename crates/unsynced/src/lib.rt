@@ -35,11 +35,11 @@ impl<D: Disk> OptionalSync<D> {
 
 impl<D: Disk> Disk for OptionalSync<D> {
     ghost use Rattle.std.specs.Prelude.{◌≡◌, refl, false, cond};
-    ghost use Rattle.unsynced.specs.Leaves.{Leaves, seen_stays};
+    ghost use Rattle.unsynced.specs.MayLeave.{MayLeave, seen_stays};
 
     ghost seen = { λ f. D.Disk.seen f.inner };
 
-    ghost may_leave = { λ f c. Leaves f.syncs (D.Disk.may_leave f.inner) (D.Disk.seen f.inner) c };
+    ghost may_leave = { λ f c. MayLeave f.syncs (D.Disk.may_leave f.inner) (D.Disk.seen f.inner) c };
 
     ghost is_usable = { λ f. D.Disk.is_usable f.inner };
 
