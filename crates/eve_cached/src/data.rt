@@ -2,7 +2,7 @@
 
 use crate::{DISK_FAILED, IN_USE, NO_DATA, REFUSED};
 use daemon::{NO_TARGET, Settings, Stamped};
-use data_folder::{DataFault, DataFolder, FolderOptions, FolderStore};
+use data_folder::{DataFault, FolderOptions, HostFolder};
 use log::error;
 use server::ServiceRecord;
 
@@ -21,7 +21,7 @@ fn status_of(fault: DataFault) -> u8 {
 pub enum Data {
     Nowhere,
     In {
-        folder: DataFolder<FolderStore>,
+        folder: HostFolder,
         /// What was saved there last.
         found: Option<ServiceRecord>,
     },
@@ -38,7 +38,7 @@ pub fn open_data(rt: &HostRuntime, settings: &Settings) -> Result<Data, u8> {
         u: settings.u,
         syncs: place.syncs,
     };
-    match DataFolder::open(rt, path, options) {
+    match HostFolder::open(rt, path, options) {
         Ok((folder, found)) => Ok(Data::In { folder, found }),
         Err(fault) => {
             error!(Stamped(rt); target: NO_TARGET, "{path}: {fault}");

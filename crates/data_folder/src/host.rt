@@ -1,0 +1,63 @@
+//! A folder of the host's file system.
+
+ghost use Rattle.std.specs.Prelude.{IsTrue, IfOk};
+ghost use Rattle.sqlite_trees.specs.View.{IsClean};
+ghost use Rattle.sqlite_store.specs.FileStore.{view};
+ghost use Rattle.data_folder.specs.Found.{FindsRecord};
+
+use crate::fault::DataFault;
+use crate::folder::DataFolder;
+use crate::opening::{FolderOptions, FolderStore};
+use server::{Save, SaveFault};
+use service::ServiceRecord;
+use std::alloc::Global;
+
+/// The record of a service in a folder of the host's file system. It is a type without parameters, so that a program that
+/// is generic over where it saves need not be proved over all that a file is made of.
+pub struct HostFolder {
+    folder: DataFolder<FolderStore>,
+}
+
+impl Drop for HostFolder {
+    fn drop(self) {
+        let HostFolder { folder: _ } = self;
+    }
+}
+
+impl HostFolder {
+    /// Opens the folder, as `DataFolder::open` does.
+    pub fn open(
+        rt: &HostRuntime,
+        folder: &str,
+        options: FolderOptions,
+    ) -> Result<(HostFolder, Option<ServiceRecord>), DataFault>
+        ensures { IfOk result (λ opened. IsClean (view opened.0.folder.shelf.rows.store) → IsTrue (view opened.0.folder.shelf.rows.store).is_open → FindsRecord (view opened.0.folder.shelf.rows.store).committed opened.1) }
+    {
+        match DataFolder::open(rt, folder, options) {
+            Ok((folder, found)) => Ok((HostFolder { folder }, found)),
+            Err(fault) => Err(fault),
+        }
+    }
+}
+
+impl Save for HostFolder {
+    ghost use Rattle.sqlite_store.specs.FileStore.{view, recovers};
+    ghost use Rattle.data_folder.specs.Found.{MayFind};
+    ghost use Rattle.data_folder.specs.Text.{TellsService};
+
+    ghost may_find = { λ f found. MayFind (view f.folder.shelf.rows.store) (recovers f.folder.shelf.rows.store) found };
+
+    ghost is_text = { TellsService };
+
+    fn keeps(&self) -> bool {
+        self.folder.keeps()
+    }
+
+    fn save(&mut self, alloc: Global, kept: &ServiceRecord) -> bool {
+        self.folder.save(alloc, kept)
+    }
+
+    fn fault(&self) -> Option<SaveFault> {
+        self.folder.fault()
+    }
+}
