@@ -25,11 +25,18 @@ use Rattle.states.proofs.origin.Origin.TheSendSync as origin
 use Rattle.folders.proofs.stamp.SaveStamp.TheSendSync as stamp
 use Rattle.shelf.proofs.waiting.WaitingChanges.TheSendSync as waiting
 use Rattle.server.proofs.save.SaveFault.TheSendSync as fault
+use Rattle.sqlite_store.proofs.store.FileStore.TheSendSync as file_store
+use Rattle.sqlite_disk.proofs.modelled.Modelled.TheSendSync as modelled
+use Rattle.sqlite_disk.proofs.start.Unknown.TheSendSync as unknown
+use Rattle.sqlite_disk.specs.contracts.start.Unknown as start
+use Rattle.sqlite_std_file.specs.contracts.host.Host as file
+use Rattle.unsynced.proofs.OptionalSync.TheSendSync as optional
 use Rattle.sqlite_trees.specs.declared.store.Store as store
 use Rattle.states.specs.contracts.state.State as state
 use Rattle.row_store.specs.contracts.rows.RowStore as rows
 use Rattle.shelf.specs.contracts.shelf.Shelf as shelf
 use Rattle.data_folder.specs.contracts.folder.DataFolder as folder
+use Rattle.data_folder.specs.contracts.host.HostFolder as host
 
 ruleset parts = (
   page_send,
@@ -89,6 +96,19 @@ rows_send T g s = struct_send (shape (rows.the_type T g)) (s, ((search (parts, s
 shelf_send : (T : RattleType) (g : store.Ghosts T.Denot) → IsSend T → IsSend (shelf.the_field T g).row
 shelf_send T g s = struct_send (shape (shelf.the_type T g)) (rows_send T g s, ((search (waiting.the_field_send, parts, sendable) depth 60 fits 20000), ((search (parts, sendable)), tt)))
 
+folder_field : (T : RattleType) (g : store.Ghosts T.Denot) → IsSend T → IsSend (folder.the_field T g).row
+folder_field T g s = struct_send (shape (folder.the_type T g)) (shelf_send T g s, (state_send, ((search (parts, sendable)), ((search (parts, sendable)), tt))))
+
 -- If its store may.
 pub folder_send : (T : RattleType) (g : store.Ghosts T.Denot) → IsSend T → IsSend (folder.the_row T g)
-folder_send T g s = recorded_send _ _ _ (folder.the_type T g).to_one (struct_send (shape (folder.the_type T g)) (shelf_send T g s, (state_send, ((search (parts, sendable)), ((search (parts, sendable)), tt)))))
+folder_send T g s = recorded_send _ _ _ (folder.the_type T g).to_one (folder_field T g s)
+
+start_send : IsSend start.the_row
+start_send = search (unknown.the_send, unknown.the_field_send, crosses, sendable) depth 60 fits 20000
+
+file_send : IsSend file.the_row
+file_send = search (crosses, sendable) depth 60 fits 20000
+
+-- A folder of the host may.
+pub host_send : IsSend host.the_row
+host_send = recorded_send _ _ _ host.the_type.to_one (struct_send (shape host.the_type) (folder_field _ _ (search (file_store.the_send, optional.the_send, modelled.the_send, file_send, start_send, crosses, sendable) depth 60 fits 20000), tt))
