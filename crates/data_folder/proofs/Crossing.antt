@@ -104,11 +104,11 @@ pub folder_send : (T : RattleType) (g : store.Ghosts T.Denot) → IsSend T → I
 folder_send T g s = recorded_send _ _ _ (folder.the_type T g).to_one (folder_field T g s)
 
 start_send : IsSend start.the_row
-start_send = search (unknown.the_send, unknown.the_field_send, crosses, sendable) depth 60 fits 20000
+start_send = search (unknown.the_send, crosses, sendable) depth 60 fits 20000
 
 file_send : IsSend file.the_row
 file_send = search (crosses, sendable) depth 60 fits 20000
 
 -- A folder of the host may.
 pub host_send : IsSend host.the_row
-host_send = recorded_send _ _ _ host.the_type.to_one (struct_send (shape host.the_type) (folder_field _ _ (search (file_store.the_send, optional.the_send, modelled.the_send, file_send, start_send, crosses, sendable) depth 60 fits 20000), tt))
+host_send = recorded_send _ _ _ host.the_type.to_one (struct_send (shape host.the_type) ((search (folder_field, file_store.the_field_send, file_store.the_send, optional.the_send, modelled.the_send, file_send, start_send, crosses, sendable) depth 60 fits 20000), tt))

@@ -5,4 +5,4 @@ use Rattle.eve_cached.proofs.main.Goals as goal
 
 -- The thread that works takes the folder.
 pub run-requires-in-Ok-In-send-S : goal.run-requires-in-Ok-In-send-S
-run-requires-in-Ok-In-send-S g c κs within = param_send 1 _ (arg_send _ no _ host_send)
+run-requires-in-Ok-In-send-S g c κs = param_send 1 _ (arg_send _ no _ host_send)
