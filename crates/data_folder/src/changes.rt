@@ -1,58 +1,25 @@
 //! What became of places between two states.
 
-ghost use Rattle.std.specs.Prelude.{◌≤◌, ◌<◌, length, IfOk, IfSome};
+ghost use Rattle.std.specs.Prelude.{◌≤◌, ◌<◌, length};
 ghost use Rattle.pages.specs.Page.{page_count};
 
 use base::Entry;
 use item_rows::{PlacedItems, place_of};
-use item_tree::{ItemTree, are_same};
+use item_tree::are_same;
 use items::Item;
-use pages::{Layout, Snapshot};
+use pages::Snapshot;
 use proto::Key;
 use states::State;
 use std::alloc::{AllocError, Global};
 use token::PAGES;
 use wire::Counted;
 
-/// The entries of a page in the order of their paths, which is that of their places.
-fn in_path_order(
-    alloc: Global,
-    pages: &Snapshot,
-    number: usize,
-) -> Result<Vec<Entry<Key, Item>>, AllocError>
-    requires { number < page_count }
-{
-    let entries = pages.entries(alloc, number)?;
-    match pages.layout() {
-        Layout::Tree => Ok(entries),
-        Layout::Sorted => ItemTree::of_entries(alloc, &entries)?.entries(alloc),
-    }
-}
-
-/// Whether the page is known to be the same in both: its digest is.
-fn is_same_page(old: &Snapshot, new: &Snapshot, number: usize) -> bool
-    requires { number < page_count }
-{
-    old.layout() == new.layout() && old.digest(number) == new.digest(number)
-}
+/// So many of the first bits of a key's path are in its place, after the number of its page.
+const PLACE_BITS: u32 = 55;
 
 /// The place of an entry.
 fn place(entry: &Entry<Key, Item>) -> u64 {
     place_of(entry.key()).cast_unsigned()
-}
-
-/// With how many entries that are the same both begin.
-fn same_at_front(old: &[Entry<Key, Item>], new: &[Entry<Key, Item>]) -> usize
-    ensures old { result ≤ length old.now }
-    ensures new { result ≤ length new.now }
-{
-    let both = old.len().min(new.len());
-    for at in 0..both {
-        if !are_same(&old[at..at + 1], &new[at..at + 1]) {
-            return at;
-        }
-    }
-    both
 }
 
 /// How many entries at the front are of this place.
@@ -65,19 +32,6 @@ fn placed_at_front(entries: &[Entry<Key, Item>], at: u64) -> usize
         }
     }
     entries.len()
-}
-
-/// How many entries are not of this place, up to the last of another one.
-fn before_place(entries: &[Entry<Key, Item>], at: u64) -> usize
-    ensures { result ≤ length entries.now }
-{
-    for back in 0..entries.len() {
-        let index = entries.len() - 1 - back;
-        if place(&entries[index]) != at {
-            return index + 1;
-        }
-    }
-    0
 }
 
 /// The lower one of the places of the first entries: `None` if there is no entry.
@@ -99,39 +53,22 @@ fn placed(alloc: Global, at: u64, entries: &[Entry<Key, Item>]) -> Result<Placed
     Ok((at, Counted::new(items)))
 }
 
-/// The next place at which not the same items are, with those that are there now. So many of the old and the new entries
-/// are up to it or there.
-#[derive(Drop)]
-struct NextChange {
-    placed: PlacedItems,
-    before: usize,
-    after: usize,
-}
-
-/// The next place at which not the same items are. `None`: there is none left.
-fn next_change(
+/// Notes what is at a place now, if it is not what was there.
+fn note(
     alloc: Global,
+    at: u64,
     old: &[Entry<Key, Item>],
     new: &[Entry<Key, Item>],
-) -> Result<Option<NextChange>, AllocError>
-    ensures before { IfOk result (λ next. IfSome next (λ change. change.before ≤ length old.now)) }
-    ensures after { IfOk result (λ next. IfSome next (λ change. change.after ≤ length new.now)) }
-{
-    let same = same_at_front(old, new);
-    let (old_rest, new_rest) = (&old[same..], &new[same..]);
-    let Some(at) = first_place(old_rest, new_rest) else {
-        return Ok(None);
-    };
-    let start = before_place(&new[..same], at);
-    let end = same + placed_at_front(new_rest, at);
-    Ok(Some(NextChange {
-        placed: placed(alloc, at, &new[start..end])?,
-        before: same + placed_at_front(old_rest, at),
-        after: end,
-    }))
+    changes: &mut Vec<PlacedItems>,
+) -> Result<(), AllocError> {
+    if !are_same(old, new) {
+        changes.push(placed(alloc, at, new)?)?;
+    }
+    Ok(())
 }
 
-/// Notes the places of two pages, in the order of their places, at which not the same items are.
+/// Notes the places at which not the same items are in two lists of entries, each in the order of places. All entries of
+/// a place that has some in a list are in both lists.
 fn compare(
     alloc: Global,
     old: &[Entry<Key, Item>],
@@ -140,17 +77,19 @@ fn compare(
 ) -> Result<(), AllocError> {
     let (mut old_rest, mut new_rest) = (old, new);
     for _ in 0..u64::MAX {
-        let Some(change) = next_change(alloc, old_rest, new_rest)? else {
+        let Some(at) = first_place(old_rest, new_rest) else {
             return Ok(());
         };
-        old_rest = &old_rest[change.before..];
-        new_rest = &new_rest[change.after..];
-        changes.push(change.placed)?;
+        let before = placed_at_front(old_rest, at);
+        let after = placed_at_front(new_rest, at);
+        note(alloc, at, &old_rest[..before], &new_rest[..after], changes)?;
+        old_rest = &old_rest[before..];
+        new_rest = &new_rest[after..];
     }
     Ok(())
 }
 
-/// Notes what became of the places of a page.
+/// Notes what became of the places of a page. Of two trees it looks at what is above other digests.
 fn compare_page(
     alloc: Global,
     old: &Snapshot,
@@ -160,11 +99,7 @@ fn compare_page(
 ) -> Result<(), AllocError>
     requires { number < page_count }
 {
-    if is_same_page(old, new, number) {
-        return Ok(());
-    }
-    let before = in_path_order(alloc, old, number)?;
-    let now = in_path_order(alloc, new, number)?;
+    let (before, now) = old.differences(alloc, new, number, PLACE_BITS)?;
     compare(alloc, &before, &now, changes)
 }
 
@@ -182,8 +117,8 @@ fn compare_all(
 }
 
 /// What became of places from the old state to the new one: those at which not the same items are, once each, with the
-/// items that are there in the new one. Pages whose digests are the same are not looked at. The only error is a failed
-/// allocation.
+/// items that are there in the new one. What has the same digest in both is not looked at, so a write costs one path in
+/// the tree of its page. The only error is a failed allocation.
 pub fn changes_since(
     alloc: Global,
     old: &State,

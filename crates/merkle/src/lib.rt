@@ -7,6 +7,7 @@
 //! of equal maps, if digests tell the texts apart that were hashed.
 #![tactic(auto)]
 
+mod differing;
 mod dropping;
 mod due;
 mod finding;
