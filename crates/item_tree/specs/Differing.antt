@@ -9,9 +9,12 @@ use Rattle.merkle.specs.Differing.{AreDifferences}
 use Rattle.item_tree.specs.Told.{items_texts}
 use Rattle.item_tree.specs.Text.{path_entries}
 
--- digests tell the texts apart that are hashed for the digests of both
-abbrev pub AreItemsTold : Items → Items → Type 0
-AreItemsTold m n = (texts : List (List ℕ)) × Distinct (Contains texts) × TextsAreAmong (items_texts m) (Contains texts) × TextsAreAmong (items_texts n) (Contains texts)
+-- Digests tell the texts apart that are hashed for the digests of both.
+pub record AreItemsTold (m n : Items) : Type 0 where
+  pub texts : List (List ℕ)
+  pub distinct : Distinct (Contains texts)
+  pub old_among : TextsAreAmong (items_texts m) (Contains texts)
+  pub new_among : TextsAreAmong (items_texts n) (Contains texts)
 
 -- entries of both, in the order of paths: those whose paths begin with the same bits are shown together, or are the same in both if digests tell
 abbrev pub AreItemDifferences : ℕ → Items → Items → (before now : List (List ℕ × Item)) → Type 0

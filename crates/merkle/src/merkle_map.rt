@@ -90,7 +90,7 @@ impl<K: TreeKey + Drop, V: TreeValue<K> + Drop> MerkleMap<K, V> {
     ghost use Rattle.merkle.specs.Digest.{map_digest, map_pairs};
     ghost use Rattle.merkle.specs.Alive.{alive_map};
     ghost use Rattle.merkle.specs.Walk.{Sees};
-    ghost use Rattle.merkle.specs.Differing.{AreDifferences, AreTold};
+    ghost use Rattle.merkle.specs.Differing.{AreDifferences, AreMapsTold};
 
     /// A map of no keys.
     pub fn new() -> MerkleMap<K, V>
@@ -242,7 +242,7 @@ impl<K: TreeKey + Drop, V: TreeValue<K> + Drop> MerkleMap<K, V> {
         front: u32,
     ) -> Result<(Vec<Entry<K, V>>, Vec<Entry<K, V>>), AllocError>
         ensures found { IfOk result (λ found. AreDifferences K.bit front
-            (AreTold V.text K.bit K.BITS (map.from_entries {R = K.cmp} self.now) (map.from_entries {R = K.cmp} newer.now))
+            (AreMapsTold V.text K.bit K.BITS (map.from_entries {R = K.cmp} self.now) (map.from_entries {R = K.cmp} newer.now))
             self.now newer.now found.0.items found.1.items) }
         ensures order { self.now ≡ map_pairs K.bit K.BITS (map.from_entries {R = K.cmp} self.now) }
         ensures newer_order { newer.now ≡ map_pairs K.bit K.BITS (map.from_entries {R = K.cmp} newer.now) }

@@ -18,9 +18,12 @@ abbrev pub hashed_in : Layout → Items → List (List ℕ)
 hashed_in Sorted m = page_text (entries m) ∷ []
 hashed_in Tree m = items_texts m
 
--- digests tell the texts apart that are hashed for the digests of both
-abbrev pub ArePagesTold : Layout → Items → Layout → Items → Type 0
-ArePagesTold l m k n = (texts : List (List ℕ)) × Distinct (Contains texts) × TextsAreAmong (hashed_in l m) (Contains texts) × TextsAreAmong (hashed_in k n) (Contains texts)
+-- Digests tell the texts apart that are hashed for the digests of both, each in its layout.
+pub record ArePagesTold (l : Layout) (m : Items) (k : Layout) (n : Items) : Type 0 where
+  pub texts : List (List ℕ)
+  pub distinct : Distinct (Contains texts)
+  pub old_among : TextsAreAmong (hashed_in l m) (Contains texts)
+  pub new_among : TextsAreAmong (hashed_in k n) (Contains texts)
 
 -- entries of both, in the order of paths: those whose paths begin with the same bits are shown together, or are the same in both if digests tell
 abbrev pub ArePageDifferences : ℕ → Layout → Items → Layout → Items → (before now : List (List ℕ × Item)) → Type 0

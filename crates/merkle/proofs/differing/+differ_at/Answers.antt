@@ -3,7 +3,7 @@ use Rattle.std.proofs.lemmas.Result.{on_ok_weaker}
 use Rattle.merkle.specs.declared.fork.Fork.{Fork as ForkOf}
 use Rattle.merkle.specs.Shape.{pairs, IsTrie}
 use Rattle.merkle.specs.Tree.{shape, fork_shape}
-use Rattle.merkle.specs.Differing.{AreToldTrees}
+use Rattle.merkle.specs.Differing.{AreTreesTold}
 use Rattle.merkle.proofs.DifferLemmas.{same_digest, all_shown, both_shown, moved}
 use Rattle.merkle.proofs.differing.+differ_at.Goals as goal
 
@@ -33,5 +33,5 @@ returns-in_ok-walk_at-in_default g t c =
     let old = shape c.args.old.now in
     let new = shape c.args.new.now in
     on_ok_weaker c.walk_at-in_default.result (λ sees.
-    all_shown g.K.TreeKey.bit c.args.front (AreToldTrees g.V.TreeValue.text old new) (pairs old) (pairs new) c.args.before.now.items c.walk_at.new.visitor.items c.args.now.now.items c.walk_at-in_default.new.visitor.items
+    all_shown g.K.TreeKey.bit c.args.front (AreTreesTold g.V.TreeValue.text old new) (pairs old) (pairs new) c.args.before.now.items c.walk_at.new.visitor.items c.args.now.now.items c.walk_at-in_default.new.visitor.items
     (c.in_ok-walk_at-in_default.ensures c.args.before.now.items refl) (sees c.args.now.now.items refl)) c.walk_at-in_default.ensures
