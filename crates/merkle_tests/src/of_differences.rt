@@ -9,8 +9,11 @@ use proto::Key;
 use std::alloc::{AllocError, Global};
 use std::test::Fail;
 
-/// By so many first bits of paths entries come together: their first byte.
-const FRONT: u32 = 8;
+/// By so many first bits of paths entries come together.
+const FRONT: u32 = 4;
+
+/// So many items are in a map.
+const ITEMS: u32 = 60;
 
 /// The next number at random.
 fn drawn(seed: &mut u32) -> u32 {
@@ -18,10 +21,10 @@ fn drawn(seed: &mut u32) -> u32 {
     *seed >> 16
 }
 
-/// The items 0 to 299.
+/// The first items.
 fn filled(alloc: Global) -> Result<MerkleMap<Key, Item>, AllocError> {
     let mut map = MerkleMap::new();
-    for number in 0..300u32 {
+    for number in 0..ITEMS {
         put_numbered(alloc, &mut map, number)?;
     }
     Ok(map)
@@ -29,7 +32,7 @@ fn filled(alloc: Global) -> Result<MerkleMap<Key, Item>, AllocError> {
 
 /// Removes an item, or puts another one in its place.
 fn change(alloc: Global, map: &mut MerkleMap<Key, Item>, seed: &mut u32) -> Result<(), AllocError> {
-    let number = drawn(seed) % 300;
+    let number = drawn(seed) % ITEMS;
     let flags = drawn(seed);
     if flags % 3 == 0 {
         return remove_numbered(alloc, map, number);
@@ -55,18 +58,19 @@ fn changed(
     Ok(new)
 }
 
-fn first_byte(entry: &Entry<Key, Item>) -> u8 {
-    entry.key().hash()[0]
+/// The first bits of the path.
+fn front_of(entry: &Entry<Key, Item>) -> u8 {
+    entry.key().hash()[0] >> 4
 }
 
-/// Marks the first bytes of the entries' paths.
+/// Marks the first bits of the entries' paths.
 fn mark(shown: &mut [bool; 256], entries: &[Entry<Key, Item>]) {
     for entry in entries {
-        shown[first_byte(entry) as usize] = true;
+        shown[front_of(entry) as usize] = true;
     }
 }
 
-/// The entries of the map whose first byte is marked, or those whose is not.
+/// The entries of the map whose first bits are marked, or the others.
 fn marked(
     alloc: Global,
     map: &MerkleMap<Key, Item>,
@@ -77,15 +81,15 @@ fn marked(
     map.walk(&mut entries)?;
     let mut found = Vec::new(alloc);
     for entry in entries.as_slice() {
-        if shown[first_byte(entry) as usize] == is_shown {
+        if shown[front_of(entry) as usize] == is_shown {
             found.push(entry.clone()?)?;
         }
     }
     Ok(found)
 }
 
-/// Whether these are all entries of both maps with some first bytes, so many at most, and those with others are the
-/// same in both.
+/// Whether these are all entries of both maps with some first bits, so many at most, and those with others are the same
+/// in both.
 fn are_differences(
     alloc: Global,
     old: &MerkleMap<Key, Item>,
@@ -108,18 +112,19 @@ fn are_differences(
     )
 }
 
-/// Whether this is so of maps that are up to seven changes apart. A change brings up to eight entries with it.
+/// Whether this is so of maps that are up to seven changes apart. Some four entries begin alike.
 fn are_all_differences(alloc: Global) -> Result<bool, AllocError> {
     let mut old = filled(alloc)?;
     old.seal();
     let mut seed = 1;
-    for round in 0..64u32 {
+    for round in 0..16u32 {
         let changes = round % 8;
         let new = changed(alloc, &old, &mut seed, changes)?;
-        if !are_differences(alloc, &old, &new, 8 * changes as usize)? {
+        if !are_differences(alloc, &old, &new, 12 * changes as usize)? {
             return Ok(false);
         }
         old = new;
+        old.seal();
     }
     Ok(true)
 }
@@ -129,7 +134,12 @@ fn are_all_of_one(alloc: Global) -> Result<bool, AllocError> {
     let (empty, all) = (MerkleMap::new(), filled(alloc)?);
     let (before, now) = empty.differences(alloc, &all, FRONT)?;
     let (now_before, nothing) = all.differences(alloc, &empty, FRONT)?;
-    Ok(before.is_empty() && nothing.is_empty() && now.len() == 300 && now_before.len() == 300)
+    Ok(
+        before.is_empty()
+            && nothing.is_empty()
+            && now.len() == ITEMS as usize
+            && now_before.len() == ITEMS as usize,
+    )
 }
 
 #[test]
