@@ -11,7 +11,6 @@
 //! digests of pages: a page whose digest is the same is not looked at.
 #![tactic(auto)]
 
-mod changes;
 mod fault;
 mod folder;
 mod opening;
