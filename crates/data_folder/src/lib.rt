@@ -7,8 +7,8 @@
 //! (the text of a process) and `process_parts` (a record of a process as such a text and one state, and back). The layer
 //! above uses `DataFolder::open` once, and `DataFolder::save` before it gives replies out.
 //!
-//! A save writes the text of the process and the items that are not as they were in the last save. Those are found by the
-//! digests of pages: a page whose digest is the same is not looked at.
+//! A save writes the text of the process and the items that are not as they were in the last save. Those are found by
+//! digests (`item_rows::changes_since`): what has the same digest is not looked at.
 #![tactic(auto)]
 
 mod fault;
