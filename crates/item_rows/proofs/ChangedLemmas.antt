@@ -71,7 +71,7 @@ told_row p a b None is = ap (row_of_items p) is
 told_row p a b (Some row) is = is.0
 
 -- the rows follow
-pub all_follow : (old new : Laid) (cs : List PlacedItems) → ArePagesNoted page_count old new cs → AreSnapshotsTold old new → LeadTo cs old.items new.items
-all_follow old new cs x tells p h =
-    let count : page_count ≡ 256 = refl in
-    says (rows_of old.items) (map change_of cs) p ∙ told_row p (items_placed old.items p) (items_placed new.items p) (last_told p cs) (x.noted tells p (omega (arith, h, count)))
+pub all_follow : (count : ℕ) (old new : Laid) (cs : List PlacedItems) → page_count ≤ count → ArePagesNoted count old new cs → AreSnapshotsTold old new → LeadTo cs old.items new.items
+all_follow count old new cs enough x tells p h =
+    let pages : page_count ≡ 256 = refl in
+    says (rows_of old.items) (map change_of cs) p ∙ told_row p (items_placed old.items p) (items_placed new.items p) (last_told p cs) (x.noted tells p (omega (arith, h, pages, enough)))

@@ -13,7 +13,7 @@ use Rattle.item_rows.specs.Changed.{at_place, at_front, place_at_front, lower_pl
 abbrev pub Entries : Type 0
 Entries = List (List ℕ × Item)
 
-eq_true : (n m : ℕ) → (n == m) ≡ true → n ≡ m
+pub eq_true : (n m : ℕ) → (n == m) ≡ true → n ≡ m
 eq_true n m h = grind (arith, nat_tests)
 
 eq_same : (n : ℕ) → (n == n) ≡ true
@@ -115,11 +115,11 @@ both_empty [] (f ∷ new) h = absurd (cc h)
 both_empty (e ∷ old) [] h = absurd (cc h)
 both_empty (e ∷ old) (f ∷ new) h = absurd (cc h)
 
-unnoted : (p : ℕ) (a b : Entries) (x : Option (Option Row)) → a ≡ [] → b ≡ [] → IsNotedAt p a b x → x ≡ None
+pub unnoted : (p : ℕ) (a b : Entries) (x : Option (Option Row)) → a ≡ [] → b ≡ [] → IsNotedAt p a b x → x ≡ None
 unnoted p a b None h k is = refl
 unnoted p a b (Some row) h k is = absurd (is.1 h k)
 
-first_of_one : (x : Option (Option Row)) → x ≡ or_first x None
+pub first_of_one : (x : Option (Option Row)) → x ≡ or_first x None
 first_of_one (Some row) = refl
 first_of_one None = refl
 
@@ -186,6 +186,14 @@ ended old new o n noted g h =
     let nothing : AreNoted o n [] = subst (λ a. AreNoted a n []) (sym both.0) (subst (λ b. AreNoted [] b []) (sym both.1) (λ p. refl)) in
     subst (AreNoted old new) (append-nil noted) (g.follow [] nothing)
 
+-- the same, of what equals these
+pub goes_on_with : (old new o n : Entries) (p : ℕ) (before after : List PlacedItems) (a b o' n' : Entries) → GoesOn old new o n before → lower_place (place_at_front o) (place_at_front n) ≡ Some p
+    → a ≡ take (at_front p o) o → b ≡ take (at_front p n) n → IsNoteOf p a b before after → o' ≡ drop (at_front p o) o → n' ≡ drop (at_front p n) n → GoesOn old new o' n' after
+goes_on_with old new o n p before after a b o' n' g h is_a is_b note is_o is_n =
+    subst (λ (x : Entries). GoesOn old new x n' after) (sym is_o)
+    (subst (λ (x : Entries). GoesOn old new (drop (at_front p o) o) x after) (sym is_n)
+    (goes_on old new o n p before after g h (subst (λ (x : Entries). IsNoteOf p x (take (at_front p n) n) before after) is_a (subst (λ (x : Entries). IsNoteOf p a x before after) is_b note))))
+
 -- some entries are up to the next place or there
 pub progress : (o n : Entries) (p : ℕ) → lower_place (place_at_front o) (place_at_front n) ≡ Some p → 0 < at_front p o + at_front p n
 progress [] [] p h = absurd (cc h)
@@ -202,3 +210,14 @@ front_fits p [] = omega arith
 front_fits p (e ∷ es) =
     let below = front_fits p es in
     elim (place_of e.0 == p) as (λ b. (if b then suc (at_front p es) else 0) ≤ length (e ∷ es)) [ true ↦ omega (arith, below) | false ↦ omega arith ]
+
+length_drop : (n : ℕ) (es : Entries) → n ≤ length es → length (drop n es) + n ≡ length es
+length_drop zero es h = omega arith
+length_drop (suc n) [] h = absurd (omega arith)
+length_drop (suc n) (e ∷ es) h = (let below = length_drop n es (omega arith) in omega (arith, below))
+
+pub fewer : (o n : Entries) (p : ℕ) (o' n' : Entries) → lower_place (place_at_front o) (place_at_front n) ≡ Some p → o' ≡ drop (at_front p o) o → n' ≡ drop (at_front p n) n → length o' + length n' < length o + length n
+fewer o n p o' n' h is_o is_n =
+    let x = length_drop (at_front p o) o (front_fits p o) in
+    let y = length_drop (at_front p n) n (front_fits p n) in
+    omega (arith, progress o n p h, ap length is_o, ap length is_n, x, y)

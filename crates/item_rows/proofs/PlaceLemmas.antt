@@ -1,8 +1,8 @@
 -- What differs between two pages is noted place by place.
 use Rattle.std.proofs.Common.{◌≡◌, ◌≢◌, ◌⊎◌, inl, inr, ℕ, zero, suc, ◌+◌, ◌*◌, ◌/◌, ◌<◌, ◌≤◌, Bool, true, false, cond, not, List, [], ◌∷◌, Option, None, Some, refl, sym, ap, ◌∙◌, subst, arith}
-use Rattle.std.specs.Prelude.{◌==◌}
+use Rattle.std.specs.Prelude.{◌==◌, ◌^◌}
 use Rattle.std.specs.List.{list_all}
-use Rattle.std.specs.FinMap.{entries}
+use Rattle.std.specs.FinMap.{entries, get}
 use Rattle.std.proofs.lemmas.Bool.{and_parts}
 use Rattle.std.proofs.lemmas.Bool.Decides.{nat_tests}
 use Rattle.items.specs.declared.item.Item.{Item}
@@ -81,7 +81,7 @@ module _ (n : ℕ) where
   own_items : (m : Items) → IsOwn n (page_items m n)
   own_items m q apart = get-page_items m n q ∙ by (page_number q == n) refl
     where
-      by : (b : Bool) → (page_number q == n) ≡ b → cond b _ None ≡ None
+      by : (b : Bool) → (page_number q == n) ≡ b → cond b (get m q) None ≡ None
       by true e = absurd (apart (eq_true _ _ e))
       by false e = refl
 
@@ -93,7 +93,7 @@ module _ (n : ℕ) where
   places_rise m shown = rising_filter place_of shown (path_entries (page_items m n)) (place_rises (path_entries (page_items m n)) (of_page m) (path_rises (page_items m n)))
 
   -- a page has no places of another one
-  none_of_page : (p : ℕ) → p / 2 ^ 55 ≢ n → (es : Entries) → OfPage n es → at_place p es ≡ []
+  pub none_of_page : (p : ℕ) → p / 2 ^ 55 ≢ n → (es : Entries) → OfPage n es → at_place p es ≡ []
   none_of_page p apart [] all = refl
   none_of_page p apart (e ∷ es) all =
       elim (place_of e.0 == p) as (λ b. (place_of e.0 == p) ≡ b → cond b (e ∷ at_place p es) (at_place p es) ≡ []) [
@@ -128,7 +128,7 @@ module _ (p : ℕ) (shown : List ℕ → Bool) where
         | false ↦ λ is. below
       ] refl
 
-  none_left : (es : Entries) → at_place p es ≡ [] → at_place p (on_side shown es) ≡ []
+  pub none_left : (es : Entries) → at_place p es ≡ [] → at_place p (on_side shown es) ≡ []
   none_left [] h = refl
   none_left (e ∷ es) h =
       elim (place_of e.0 == p) as (λ c. (place_of e.0 == p) ≡ c → cond c (e ∷ at_place p es) (at_place p es) ≡ [] → at_place p (on_side shown (e ∷ es)) ≡ []) [
@@ -146,20 +146,18 @@ some_key p (e ∷ es) =
 
 module _ (old new : Entries) (shown : List ℕ → Bool) (by_front : GoesByFront path_bit 55 shown) (cs : List PlacedItems) (noted : AreNoted (on_side shown old) (on_side shown new) cs)
     (same : on_side (λ k. not (shown k)) old ≡ on_side (λ k. not (shown k)) new) (p : ℕ) where
-  Noted : Type 0
+  abbrev pub Noted : Type 0
   Noted = IsNotedAt p (at_place p old) (at_place p new) (last_told p cs)
 
   all_alike : (k : List ℕ) → place_of k ≡ p → (side : Bool) → shown k ≡ side → (j : List ℕ) → place_of j ≡ p → shown j ≡ side
   all_alike k is side e j h = by_front j k (same_place j k (h ∙ sym is)) ∙ e
 
   if_shown : (k : List ℕ) → place_of k ≡ p → shown k ≡ true → Noted
-  unfolding Noted
   if_shown k is e =
       subst (λ a. IsNotedAt p a (at_place p new) (last_told p cs)) (keep_all p shown (all_alike k is true e) old)
       (subst (λ b. IsNotedAt p (at_place p (on_side shown old)) b (last_told p cs)) (keep_all p shown (all_alike k is true e) new) (noted p))
 
   if_not : (k : List ℕ) → place_of k ≡ p → shown k ≡ false → Noted
-  unfolding Noted
   if_not k is e =
       let none = unnoted p (at_place p (on_side shown old)) (at_place p (on_side shown new)) (last_told p cs) (drop_all p shown (all_alike k is false e) old) (drop_all p shown (all_alike k is false e) new) (noted p) in
       let rest : (j : List ℕ) → place_of j ≡ p → not (shown j) ≡ true = λ j h. ap not (all_alike k is false e j h) in
@@ -170,7 +168,6 @@ module _ (old new : Entries) (shown : List ℕ → Bool) (by_front : GoesByFront
   with_key k is = elim (shown k) as (λ b. shown k ≡ b → Noted) [ true ↦ λ e. if_shown k is e | false ↦ λ e. if_not k is e ] refl
 
   without : at_place p old ≡ [] → at_place p new ≡ [] → Noted
-  unfolding Noted
   without a b =
       let none = unnoted p (at_place p (on_side shown old)) (at_place p (on_side shown new)) (last_told p cs) (none_left p shown old a) (none_left p shown new b) (noted p) in
       subst (IsNotedAt p (at_place p old) (at_place p new)) (sym none) (a ∙ sym b)

@@ -1,6 +1,6 @@
 //! What became of places between two snapshots.
 
-ghost use Rattle.std.specs.Prelude.{◌≡◌, ◌⊎◌, ◌<◌, ◌^◌, ◌++◌, ◌∷◌, [], ℕ, length, map, IfOk, OnOk};
+ghost use Rattle.std.specs.Prelude.{◌≡◌, ◌<◌, ◌≤◌, length, take, drop, IfOk, OnOk};
 ghost use Rattle.item_rows.specs.Row.{place_of as place_of_key};
 ghost use Rattle.item_rows.specs.Rising.{AreRising};
 ghost use Rattle.pages.specs.Page.{page_count};
@@ -28,7 +28,8 @@ fn place(entry: &Entry<Key, Item>) -> u64
 
 /// How many entries at the front are of this place.
 fn placed_at_front(entries: &[Entry<Key, Item>], at: u64) -> usize
-    ensures { result ≡ at_front at entries.now }
+    ensures front { result ≡ at_front at entries.now }
+    ensures fits { result ≤ length entries.now }
 {
     match entries {
         [] => 0,
@@ -40,6 +41,20 @@ fn placed_at_front(entries: &[Entry<Key, Item>], at: u64) -> usize
             }
         }
     }
+}
+
+/// The entries at the front that are of this place.
+fn front_of<'a>(entries: &'a [Entry<Key, Item>], at: u64) -> &'a [Entry<Key, Item>]
+    ensures { result.now ≡ take (at_front at entries.now) entries.now }
+{
+    &entries[..placed_at_front(entries, at)]
+}
+
+/// The entries behind them.
+fn after_front<'a>(entries: &'a [Entry<Key, Item>], at: u64) -> &'a [Entry<Key, Item>]
+    ensures { result.now ≡ drop (at_front at entries.now) entries.now }
+{
+    &entries[placed_at_front(entries, at)..]
 }
 
 /// The place of the first entry.
@@ -102,17 +117,11 @@ fn compare(
     let mut changes = Vec::new(alloc);
     let (mut old_rest, mut new_rest) = (old, new);
     while let Some(at) = next_place(old_rest, new_rest) {
-        let before = placed_at_front(old_rest, at);
-        let after = placed_at_front(new_rest, at);
-        note(
-            alloc,
-            at,
-            &old_rest[..before],
-            &new_rest[..after],
-            &mut changes,
-        )?;
-        old_rest = &old_rest[before..];
-        new_rest = &new_rest[after..];
+        let before = front_of(old_rest, at);
+        let after = front_of(new_rest, at);
+        note(alloc, at, before, after, &mut changes)?;
+        old_rest = after_front(old_rest, at);
+        new_rest = after_front(new_rest, at);
     }
     Ok(changes)
 }

@@ -3,7 +3,7 @@ use Rattle.std.proofs.Common.{◌≡◌, ℕ, Bool, not, List, sym, ap, ◌∙�
 use Rattle.std.specs.Prelude.{Contains}
 use Rattle.std.specs.FinMap.{from_entries}
 use Rattle.items.specs.declared.item.Item.{Item}
-use Rattle.items.specs.Map.{Items}
+use Rattle.items.specs.Map.{Items, by_bytes}
 use Rattle.merkle.specs.Laws.{TextsAreAmong}
 use Rattle.merkle.specs.KeyPath.{path_bit, path_bits}
 use Rattle.merkle.specs.ItemLeaf.{item_leaf}
@@ -25,7 +25,7 @@ told_maps m n old new p q tells =
     }
 
 pub of_trees : (front : ℕ) (es fs before now : List (List ℕ × Item)) (m n : Items) → from_entries es ≡ m → from_entries fs ≡ n → es ≡ path_entries (from_entries es) → fs ≡ path_entries (from_entries fs)
-    → AreDifferences path_bit front (AreMapsTold item_leaf path_bit path_bits (from_entries es) (from_entries fs)) es fs before now → AreItemDifferences front m n before now
+    → AreDifferences path_bit front (AreMapsTold item_leaf path_bit path_bits (from_entries {R = by_bytes} es) (from_entries {R = by_bytes} fs)) es fs before now → AreItemDifferences front m n before now
 of_trees front es fs before now m n p q olds news x =
     let old_is : es ≡ path_entries m = olds ∙ ap path_entries p in
     let new_is : fs ≡ path_entries n = news ∙ ap path_entries q in
