@@ -38,13 +38,13 @@ trees_differ front m n before now x =
       rest_is_same = λ tells. x.rest_is_same (record { texts = tells.texts; distinct = tells.distinct; old_among = tells.old_among; new_among = tells.new_among });
     }
 
-pub none_differ : (front : ℕ) (m n : Items) → digest_in Sorted m ≡ digest_in Sorted n → ArePageDifferences front Sorted m Sorted n [] []
-none_differ front m n e =
+pub none_differ : (front : ℕ) (m n : Items) (before now : List (List ℕ × Item)) → before ≡ [] → now ≡ [] → digest_in Sorted m ≡ digest_in Sorted n → ArePageDifferences front Sorted m Sorted n before now
+none_differ front m n before now p q e =
     record {
       shown = λ k. false;
       by_front = λ k l h. refl;
-      before_is = sym (no_key (path_entries m));
-      now_is = sym (no_key (path_entries n));
+      before_is = p ∙ sym (no_key (path_entries m));
+      now_is = q ∙ sym (no_key (path_entries n));
       rest_is_same = λ tells. ap (λ o. on_side (λ k. true) (path_entries o)) (same_sorted m n e tells);
     }
 

@@ -102,7 +102,7 @@ impl Kept {
     {
         match (self, newer) {
             (Kept::Tree(old), Kept::Tree(new)) => old.differences(alloc, new, front),
-            (Kept::Sorted(old), Kept::Sorted(new)) if old.digest() == new.digest() => {
+            (Kept::Sorted(old), Kept::Sorted(new)) if have_one_digest(old, new) => {
                 Ok((Vec::new(alloc), Vec::new(alloc)))
             }
             _ => Ok((self.in_path_order(alloc)?, newer.in_path_order(alloc)?)),
@@ -216,6 +216,13 @@ impl Kept {
             (Kept::Tree(tree), Layout::Tree) => Ok(Kept::Tree(tree.clone()?)),
         }
     }
+}
+
+/// Whether the digests of two pages are the same.
+fn have_one_digest(old: &SortedPage, new: &SortedPage) -> bool
+    ensures { result ≡ true → digest_in Sorted old.now ≡ digest_in Sorted new.now }
+{
+    old.digest() == new.digest()
 }
 
 /// The same entries, shared.
