@@ -8,7 +8,7 @@ use Rattle.item_rows.specs.Row.{place_of}
 use Rattle.item_rows.specs.Placed.{PlacedItems, row_of_items}
 use Rattle.item_rows.specs.Changes.{or_first}
 use Rattle.item_rows.specs.Rising.{AllFrom, AreRising}
-use Rattle.item_rows.specs.Changed.{at_place, at_front, place_at_front, lower_place, last_told, IsNotedAt, AreNoted, IsNoteOf}
+use Rattle.item_rows.specs.Changed.{at_place, at_front, place_at_front, lower_place, row_told, IsNotedAt, AreNoted, IsNoteOf}
 
 abbrev pub Entries : Type 0
 Entries = List (List ℕ × Item)
@@ -125,31 +125,31 @@ first_of_one None = refl
 
 module _ (p : ℕ) (old new : Entries) (fo : IsFront p old (at_front p old) (at_place p old)) (fn : IsFront p new (at_front p new) (at_place p new))
     (rest : List PlacedItems) (noted : AreNoted (drop (at_front p old) old) (drop (at_front p new) new) rest) where
-  ends : last_told p rest ≡ None
-  ends = unnoted p _ _ (last_told p rest) (none_from p (suc p) (drop (at_front p old) old) (omega arith) fo.above) (none_from p (suc p) (drop (at_front p new) new) (omega arith) fn.above) (noted p)
+  ends : row_told p rest ≡ None
+  ends = unnoted p _ _ (row_told p rest) (none_from p (suc p) (drop (at_front p old) old) (omega arith) fo.above) (none_from p (suc p) (drop (at_front p new) new) (omega arith) fn.above) (noted p)
 
-  elsewhere : (q : ℕ) → (q == p) ≡ false → IsNotedAt q (at_place q old) (at_place q new) (last_told q rest)
+  elsewhere : (q : ℕ) → (q == p) ≡ false → IsNotedAt q (at_place q old) (at_place q new) (row_told q rest)
   elsewhere q is =
-      subst (λ a. IsNotedAt q a (at_place q new) (last_told q rest)) (fo.same q is) (subst (λ b. IsNotedAt q (at_place q (drop (at_front p old) old)) b (last_told q rest)) (fn.same q is) (noted q))
+      subst (λ a. IsNotedAt q a (at_place q new) (row_told q rest)) (fo.same q is) (subst (λ b. IsNotedAt q (at_place q (drop (at_front p old) old)) b (row_told q rest)) (fn.same q is) (noted q))
 
   -- the place has the same
   stays : take (at_front p old) old ≡ take (at_front p new) new → AreNoted old new rest
   stays e q =
-      elim (q == p) as (λ b. (q == p) ≡ b → IsNotedAt q (at_place q old) (at_place q new) (last_told q rest)) [
-        | true ↦ λ is. subst (λ r. IsNotedAt r (at_place r old) (at_place r new) (last_told r rest)) (sym (eq_true q p is)) (subst (IsNotedAt p (at_place p old) (at_place p new)) (sym ends) (sym fo.taken ∙ e ∙ fn.taken))
+      elim (q == p) as (λ b. (q == p) ≡ b → IsNotedAt q (at_place q old) (at_place q new) (row_told q rest)) [
+        | true ↦ λ is. subst (λ r. IsNotedAt r (at_place r old) (at_place r new) (row_told r rest)) (sym (eq_true q p is)) (subst (IsNotedAt p (at_place p old) (at_place p new)) (sym ends) (sym fo.taken ∙ e ∙ fn.taken))
         | false ↦ λ is. elsewhere q is
       ] refl
 
   -- it is noted
   changes : 0 < at_front p old + at_front p new → (group : Entries) → take (at_front p new) new ≡ group → AreNoted old new ((p, group) ∷ rest)
   changes lt group e q =
-      elim (q == p) as (λ b. (q == p) ≡ b → IsNotedAt q (at_place q old) (at_place q new) (last_told q ((p, group) ∷ rest))) [
-        | true ↦ λ is. subst (λ r. IsNotedAt r (at_place r old) (at_place r new) (last_told r ((p, group) ∷ rest))) (sym (eq_true q p is)) here
+      elim (q == p) as (λ b. (q == p) ≡ b → IsNotedAt q (at_place q old) (at_place q new) (row_told q ((p, group) ∷ rest))) [
+        | true ↦ λ is. subst (λ r. IsNotedAt r (at_place r old) (at_place r new) (row_told r ((p, group) ∷ rest))) (sym (eq_true q p is)) here
         | false ↦ λ is. subst (IsNotedAt q (at_place q old) (at_place q new))
-            (first_of_one (last_told q rest) ∙ ap (λ b. or_first (last_told q rest) (if b then Some (row_of_items p group) else None)) (sym is)) (elsewhere q is)
+            (first_of_one (row_told q rest) ∙ ap (λ b. or_first (row_told q rest) (if b then Some (row_of_items p group) else None)) (sym is)) (elsewhere q is)
       ] refl
     where
-      here : IsNotedAt p (at_place p old) (at_place p new) (last_told p ((p, group) ∷ rest))
+      here : IsNotedAt p (at_place p old) (at_place p new) (row_told p ((p, group) ∷ rest))
       here = subst (IsNotedAt p (at_place p old) (at_place p new)) (sym (λ i. or_first (ends i) (if eq_same p i then Some (row_of_items p group) else None)))
           (ap (row_of_items p) (sym e ∙ fn.taken), λ a b. (let x = no_front p old a in let y = no_front p new b in omega (arith, lt, x, y)))
 

@@ -20,7 +20,7 @@ use Rattle.item_rows.specs.Row.{first_bits, place_of}
 use Rattle.item_rows.specs.Placed.{PlacedItems}
 use Rattle.item_rows.specs.Rising.{AllFrom, AreRising}
 use Rattle.merkle.specs.Differing.{GoesByFront}
-use Rattle.item_rows.specs.Changed.{at_place, last_told, IsNotedAt, AreNoted}
+use Rattle.item_rows.specs.Changed.{at_place, row_told, IsNotedAt, AreNoted}
 use Rattle.item_rows.proofs.OrderLemmas.{bits_behind, rises, same_bits, rising_filter}
 use Rattle.item_rows.proofs.NumberLemmas.{first_number, first_small}
 use Rattle.item_rows.proofs.NotedLemmas.{Entries, eq_true, unnoted}
@@ -147,19 +147,19 @@ some_key p (e ∷ es) =
 module _ (old new : Entries) (shown : List ℕ → Bool) (by_front : GoesByFront path_bit 55 shown) (cs : List PlacedItems) (noted : AreNoted (on_side shown old) (on_side shown new) cs)
     (same : on_side (λ k. not (shown k)) old ≡ on_side (λ k. not (shown k)) new) (p : ℕ) where
   abbrev pub Noted : Type 0
-  Noted = IsNotedAt p (at_place p old) (at_place p new) (last_told p cs)
+  Noted = IsNotedAt p (at_place p old) (at_place p new) (row_told p cs)
 
   all_alike : (k : List ℕ) → place_of k ≡ p → (side : Bool) → shown k ≡ side → (j : List ℕ) → place_of j ≡ p → shown j ≡ side
   all_alike k is side e j h = by_front j k (same_place j k (h ∙ sym is)) ∙ e
 
   if_shown : (k : List ℕ) → place_of k ≡ p → shown k ≡ true → Noted
   if_shown k is e =
-      subst (λ a. IsNotedAt p a (at_place p new) (last_told p cs)) (keep_all p shown (all_alike k is true e) old)
-      (subst (λ b. IsNotedAt p (at_place p (on_side shown old)) b (last_told p cs)) (keep_all p shown (all_alike k is true e) new) (noted p))
+      subst (λ a. IsNotedAt p a (at_place p new) (row_told p cs)) (keep_all p shown (all_alike k is true e) old)
+      (subst (λ b. IsNotedAt p (at_place p (on_side shown old)) b (row_told p cs)) (keep_all p shown (all_alike k is true e) new) (noted p))
 
   if_not : (k : List ℕ) → place_of k ≡ p → shown k ≡ false → Noted
   if_not k is e =
-      let none = unnoted p (at_place p (on_side shown old)) (at_place p (on_side shown new)) (last_told p cs) (drop_all p shown (all_alike k is false e) old) (drop_all p shown (all_alike k is false e) new) (noted p) in
+      let none = unnoted p (at_place p (on_side shown old)) (at_place p (on_side shown new)) (row_told p cs) (drop_all p shown (all_alike k is false e) old) (drop_all p shown (all_alike k is false e) new) (noted p) in
       let rest : (j : List ℕ) → place_of j ≡ p → not (shown j) ≡ true = λ j h. ap not (all_alike k is false e j h) in
       subst (IsNotedAt p (at_place p old) (at_place p new)) (sym none)
       (sym (keep_all p (λ k. not (shown k)) rest old) ∙ ap (at_place p) same ∙ keep_all p (λ k. not (shown k)) rest new)
@@ -169,7 +169,7 @@ module _ (old new : Entries) (shown : List ℕ → Bool) (by_front : GoesByFront
 
   without : at_place p old ≡ [] → at_place p new ≡ [] → Noted
   without a b =
-      let none = unnoted p (at_place p (on_side shown old)) (at_place p (on_side shown new)) (last_told p cs) (none_left p shown old a) (none_left p shown new b) (noted p) in
+      let none = unnoted p (at_place p (on_side shown old)) (at_place p (on_side shown new)) (row_told p cs) (none_left p shown old a) (none_left p shown new b) (noted p) in
       subst (IsNotedAt p (at_place p old) (at_place p new)) (sym none) (a ∙ sym b)
 
   -- what is noted of what is shown is noted of all

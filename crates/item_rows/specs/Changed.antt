@@ -33,8 +33,8 @@ lower_place (Some place) (Some other) = Some (if nat_lt other place then other e
 abbrev pub change_of : PlacedItems → ItemChange Row
 change_of placed = (placed.0, placed_row placed)
 
-abbrev pub last_told : ℕ → List PlacedItems → Option (Option Row)
-last_told p cs = last_change p (map change_of cs)
+abbrev pub row_told : ℕ → List PlacedItems → Option (Option Row)
+row_told p cs = last_change p (map change_of cs)
 
 -- what changes say of a place, at which these entries were and are: nothing, and then they are the same; or else the row of those that are, and then there are some
 abbrev pub IsNotedAt : ℕ → (old new : List (List ℕ × Item)) → Option (Option Row) → Type 0
@@ -43,7 +43,7 @@ IsNotedAt p old new (Some row) = (row ≡ row_of_items p new) × (old ≡ [] →
 
 -- the same of each place of two lists
 abbrev pub AreNoted : (old new : List (List ℕ × Item)) → List PlacedItems → Type 0
-AreNoted old new cs = (p : ℕ) → IsNotedAt p (at_place p old) (at_place p new) (last_told p cs)
+AreNoted old new cs = (p : ℕ) → IsNotedAt p (at_place p old) (at_place p new) (row_told p cs)
 
 -- a change of a place is added, if not the same entries are there
 abbrev pub IsNoteOf : ℕ → (old new : List (List ℕ × Item)) → (before after : List PlacedItems) → Type 0
@@ -63,8 +63,8 @@ AreSnapshotsTold old new = (n : ℕ) → n < page_count → ArePagesTold old.lay
 
 -- What became of the places of a page, if digests tell, and of no others.
 pub record IsPageNoted (n : ℕ) (old new : Laid) (cs : List PlacedItems) : Type 0 where
-  pub noted : ArePagesTold old.layout (page_items old.items n) new.layout (page_items new.items n) → (p : ℕ) → p / 2 ^ 55 ≡ n → IsNotedAt p (items_placed old.items p) (items_placed new.items p) (last_told p cs)
-  pub others : (p : ℕ) → p / 2 ^ 55 ≢ n → last_told p cs ≡ None
+  pub noted : ArePagesTold old.layout (page_items old.items n) new.layout (page_items new.items n) → (p : ℕ) → p / 2 ^ 55 ≡ n → IsNotedAt p (items_placed old.items p) (items_placed new.items p) (row_told p cs)
+  pub others : (p : ℕ) → p / 2 ^ 55 ≢ n → row_told p cs ≡ None
 
 -- the rows of the one, with these changes, are those of the other
 abbrev pub LeadTo : List PlacedItems → Items → Items → Type 0

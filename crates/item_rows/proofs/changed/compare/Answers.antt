@@ -1,5 +1,5 @@
 use Rattle.std.proofs.Common.{sym, ◌∙◌}
-use Rattle.item_rows.proofs.NotedLemmas.{goes_on_with, ended, fewer}
+use Rattle.item_rows.proofs.NotedLemmas.{goes_on_with, ended}
 use Rattle.item_rows.proofs.changed.compare.Goals as goal
 
 pub loop-at-preserved : goal.loop-at-preserved

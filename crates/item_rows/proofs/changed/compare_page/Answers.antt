@@ -12,5 +12,5 @@ returns c =
     let new = c.args.new.now in
     IfOk-weaker c.compare.result _ _ (λ changes noted.
     page_noted c.args.number old new c.as_slice.result.now c.as_slice-2.result.now changes.items
-    (subst (λ (es : Entries). ArePageDifferences 55 old.layout (page_items old.items c.args.number) new.layout (page_items new.items c.args.number) es c.as_slice-2.result.now) (sym c.as_slice.ensures)
-    (subst (λ (es : Entries). ArePageDifferences 55 old.layout (page_items old.items c.args.number) new.layout (page_items new.items c.args.number) c.in_ok-before.before.items es) (sym c.as_slice-2.ensures) c.in_ok-before.ensures)) noted) c.compare.ensures
+    (subst (λ (es : Entries). ArePageDifferences 55 old.layout (page_items old.items c.args.number) new.layout (page_items new.items c.args.number) es c.as_slice-2.result.now) (sym c.as_slice.ensures.value)
+    (subst (λ (es : Entries). ArePageDifferences 55 old.layout (page_items old.items c.args.number) new.layout (page_items new.items c.args.number) c.in_ok-before.before.items es) (sym c.as_slice-2.ensures.value) c.in_ok-before.ensures)) noted) c.compare.ensures
