@@ -193,31 +193,3 @@ goes_on_with old new o n p before after a b o' n' g h is_a is_b note is_o is_n =
     subst (λ (x : Entries). GoesOn old new x n' after) (sym is_o)
     (subst (λ (x : Entries). GoesOn old new (drop (at_front p o) o) x after) (sym is_n)
     (goes_on old new o n p before after g h (subst (λ (x : Entries). IsNoteOf p x (take (at_front p n) n) before after) is_a (subst (λ (x : Entries). IsNoteOf p a x before after) is_b note))))
-
--- some entries are up to the next place or there
-pub progress : (o n : Entries) (p : ℕ) → lower_place (place_at_front o) (place_at_front n) ≡ Some p → 0 < at_front p o + at_front p n
-progress [] [] p h = absurd (cc h)
-progress [] (f ∷ n) p h = (let is : place_of f.0 ≡ p = cc h in omega (arith, some_front p f n is))
-progress (e ∷ o) [] p h = (let is : place_of e.0 ≡ p = cc h in omega (arith, some_front p e o is))
-progress (e ∷ o) (f ∷ n) p h =
-    elim (nat_lt (place_of f.0) (place_of e.0)) as (λ b. Some (if b then place_of f.0 else place_of e.0) ≡ Some p → 0 < at_front p (e ∷ o) + at_front p (f ∷ n)) [
-      | true ↦ λ h. (let is : place_of f.0 ≡ p = cc h in omega (arith, some_front p f n is))
-      | false ↦ λ h. (let is : place_of e.0 ≡ p = cc h in omega (arith, some_front p e o is))
-    ] h
-
-pub front_fits : (p : ℕ) (es : Entries) → at_front p es ≤ length es
-front_fits p [] = omega arith
-front_fits p (e ∷ es) =
-    let below = front_fits p es in
-    elim (place_of e.0 == p) as (λ b. (if b then suc (at_front p es) else 0) ≤ length (e ∷ es)) [ true ↦ omega (arith, below) | false ↦ omega arith ]
-
-length_drop : (n : ℕ) (es : Entries) → n ≤ length es → length (drop n es) + n ≡ length es
-length_drop zero es h = omega arith
-length_drop (suc n) [] h = absurd (omega arith)
-length_drop (suc n) (e ∷ es) h = (let below = length_drop n es (omega arith) in omega (arith, below))
-
-pub fewer : (o n : Entries) (p : ℕ) (o' n' : Entries) → lower_place (place_at_front o) (place_at_front n) ≡ Some p → o' ≡ drop (at_front p o) o → n' ≡ drop (at_front p n) n → length o' + length n' < length o + length n
-fewer o n p o' n' h is_o is_n =
-    let x = length_drop (at_front p o) o (front_fits p o) in
-    let y = length_drop (at_front p n) n (front_fits p n) in
-    omega (arith, progress o n p h, ap length is_o, ap length is_n, x, y)
