@@ -1,16 +1,15 @@
 -- What is noted of each page makes the rows of all.
-use Rattle.std.proofs.Common.{◌≡◌, ◌≢◌, ℕ, ◌+◌, ◌/◌, ◌<◌, ◌≤◌, Bool, true, false, List, [], ◌++◌, Option, None, Some, refl, sym, ap, ◌∙◌, subst, arith}
+use Rattle.std.proofs.Common.{◌≡◌, ◌≢◌, ℕ, ◌+◌, ◌/◌, ◌<◌, ◌≤◌, true, false, List, [], ◌++◌, Option, None, Some, refl, sym, ap, ◌∙◌, subst, arith}
 use Rattle.std.specs.Prelude.{◌==◌, ◌^◌, map}
 use Rattle.std.proofs.lemmas.List.{map-append}
 use Rattle.std.proofs.lemmas.Bool.Decides.{nat_tests}
-use Rattle.items.specs.Map.{Items}
 use Rattle.sqlite_value.specs.Order.{Row}
 use Rattle.merkle.specs.Digest.{on_side}
 use Rattle.item_tree.specs.Text.{path_entries}
 use Rattle.pages.specs.Page.{Laid, page_items, page_count}
 use Rattle.item_rows.specs.Row.{place_of}
 use Rattle.item_rows.specs.Placed.{PlacedItems, row_of_items}
-use Rattle.item_rows.specs.Changes.{or_first, last_change, rows_after}
+use Rattle.item_rows.specs.Changes.{or_first, last_change}
 use Rattle.item_rows.specs.Rising.{AreRising}
 use Rattle.pages.specs.Differing.{ArePageDifferences}
 use Rattle.item_rows.specs.Changed.{at_place, items_placed, rows_of, change_of, row_told, IsNotedAt, AreNoted, AreSnapshotsTold, IsPageNoted, LeadTo}

@@ -1,4 +1,4 @@
-use Rattle.std.proofs.Common.{sym, ap, ◌∙◌, subst}
+use Rattle.std.proofs.Common.{sym, ap}
 use Rattle.std.proofs.lemmas.Result.{IfOk-weaker}
 use Rattle.pages.specs.Kept.{items_kept, layout_kept}
 use Rattle.pages.proofs.DifferLemmas.{moved_pages, trees_differ, none_differ, all_differ}
