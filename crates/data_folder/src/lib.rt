@@ -1,11 +1,12 @@
 //! The record of a service in a folder: its items as rows of a database file, and beside them all else of its process.
 //!
-//!     let (mut folder, found) = DataFolder::open(&rt, "/var/lib/eve", false, 1)?;   // the last record, if there is one
-//!     folder.save(alloc, &record)?;                                               // from now on a crash leaves this one
+//!     let (mut folder, found) = HostFolder::open(&rt, "/var/lib/eve", false, 1)?;   // the last record, if there is one
+//!     let saved = folder.save(alloc, &record);                                     // if it is true a crash leaves this one
 //!
 //! It is built on `shelf` (the rows of a file, saved together), `item_rows` (where the row of an item is), `process_text`
 //! (the text of a process) and `process_parts` (a record of a process as such a text and one state, and back). The layer
-//! above uses `DataFolder::open` once, and `DataFolder::save` before it gives replies out.
+//! above uses `HostFolder::open` once, and hands the folder to `server::serve_beside`, which saves before replies leave. No
+//! clause says which items the file has.
 //!
 //! A save writes the text of the process and the items that are not as they were in the last save. Those are found by the
 //! digests of pages: a page whose digest is the same is not looked at.

@@ -6,7 +6,7 @@
 //!
 //! It is built on `states`, `decrees` and `wire`. The layer above makes a `ProcessText` and writes it (`text`), or reads
 //! one back (`read`): it answers a value exactly if all of the bytes are the text of one. `front` is the start of the
-//! text of the state; with the items behind it `state` reads the state. No program uses it yet.
+//! text of the state; with the items behind it `state` reads the state.
 //!
 //! The last reply of each client is in the text, as the sessions have it. A reply can have 1 MiB, and is written at each
 //! save: a row of its own for each large reply is still to come.
