@@ -9,6 +9,7 @@ mod laws;
 mod lines;
 mod minutely;
 mod report;
+mod save_watch;
 mod settings;
 mod stamped;
 mod system;
@@ -16,11 +17,11 @@ mod told;
 
 pub use laws::lines_add_up;
 pub use lines::{
-    NO_TARGET, tell, tell_begun, tell_few_files, tell_listening, tell_start, tell_status,
-    tell_unsaved,
+    NO_TARGET, tell, tell_begun, tell_few_files, tell_listening, tell_saved_again, tell_start,
+    tell_status, tell_unsaved,
 };
-pub use minutely::Minutely;
 pub use report::{Due, Report, Totals};
+pub use save_watch::{SaveLine, SaveWatch};
 pub use settings::{DataPlace, Listen, MOST_CONNECTIONS, Settings, read_settings};
 pub use stamped::{Stamped, seconds};
 pub use system::{open_files, process_id, resident_pages};

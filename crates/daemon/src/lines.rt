@@ -24,7 +24,8 @@ pub fn tell_start<R: Log>(rt: &R, settings: &Settings) {
     }
     if let Some(data) = &settings.data {
         let path = data.path.as_str();
-        info!(rt; target: NO_TARGET, "what is answered is saved in {path} first");
+        let synced = if data.syncs { "" } else { ", without syncs" };
+        info!(rt; target: NO_TARGET, "what is answered is saved in {path} first{synced}");
     }
 }
 
@@ -40,6 +41,11 @@ pub fn tell_begun<R: Log>(rt: &R, items: Option<u64>) {
 /// Tells why nothing is answered: it cannot be saved.
 pub fn tell_unsaved<R: Log, D: Display>(rt: &R, why: &D) {
     warn!(rt; target: NO_TARGET, "nothing is answered, since it cannot be saved: {why}");
+}
+
+/// Tells that what is answered is saved again, after so many seconds.
+pub fn tell_saved_again<R: Log>(rt: &R, seconds: u64) {
+    info!(rt; target: NO_TARGET, "it is saved and answered again, after {seconds} seconds");
 }
 
 /// Tells that fewer files may be open than so many connections take.

@@ -37,6 +37,8 @@ pub struct DataPlace {
     pub path: String,
     /// Nothing is in it yet. Else something is.
     pub is_new: bool,
+    /// Each save is synced. Else what was answered stays if the process ends, and not if the machine does.
+    pub syncs: bool,
 }
 
 /// What a daemon is to do.
@@ -78,7 +80,9 @@ fn u_option<'a>(alloc: Global) -> Arg<'a> {
         .value_name("U")
         .value_parser(value_parser!(u8).range(0..=3))
         .default_value("1")
-        .help("2U + 1 replicas of each kind, of which U may stop")
+        .help(
+            "2U + 1 executors, which have the items, and 2U + 1 verifiers, which agree; U of each may stop; 0 to 3",
+        )
 }
 
 /// The option for the connections.
@@ -88,7 +92,7 @@ fn connections_option<'a>(alloc: Global) -> Arg<'a> {
         .value_name("N")
         .value_parser(value_parser!(u16).range(1..=i64::from(MOST_CONNECTIONS)))
         .default_value("1024")
-        .help("The most connections at once")
+        .help("The most connections at once; 1 to 10000")
 }
 
 /// The option for connections on which nothing happens.
@@ -135,6 +139,13 @@ fn new_option<'a>(alloc: Global) -> Arg<'a> {
         )
 }
 
+/// The option for what is done after each save.
+fn sync_option<'a>(alloc: Global) -> Arg<'a> {
+    Arg::new(alloc, "sync").long("sync").value_name("MODE").help(
+        "turn, or if not given: each save is synced; none: what is saved outlives the process, not the machine",
+    )
+}
+
 /// The option for the figures.
 fn status_option<'a>(alloc: Global) -> Arg<'a> {
     Arg::new(alloc, "status")
@@ -157,18 +168,26 @@ fn command<'a>(alloc: Global) -> Result<Command<'a>, Error> {
         .arg(dialect_option(alloc))?
         .arg(data_option(alloc))?
         .arg(new_option(alloc))?
+        .arg(sync_option(alloc))?
         .arg(status_option(alloc))?;
     Ok(command)
 }
 
-/// The address that the text spells.
-fn address(command: &mut Command<'_>, text: &str) -> Result<SocketAddr, Error> {
+/// The address that the text of this option spells.
+fn address(
+    alloc: Global,
+    command: &mut Command<'_>,
+    option: &str,
+    text: &str,
+) -> Result<SocketAddr, Error> {
     match text.parse::<SocketAddr>() {
         Ok(address) => Ok(address),
-        Err(_) => Err(command.error(
-            ErrorKind::ValueValidation,
-            "an address is of the form 127.0.0.1:11211 or [::1]:11211",
-        )?),
+        Err(_) => {
+            let why = format!(in alloc;
+                "'{text}' of --{option}: an address is of the form 127.0.0.1:11211 or [::1]:11211; names are not looked up"
+            )?;
+            Err(command.error(ErrorKind::ValueValidation, why.as_str())?)
+        }
     }
 }
 
@@ -180,7 +199,7 @@ fn place_of(alloc: Global, command: &mut Command<'_>, text: &str) -> Result<List
             "a Unix socket is of the form unix:/run/eve_cached/socket",
         )?),
         Some(path) => Ok(Listen::Unix(String::from_str(alloc, path)?)),
-        None => Ok(Listen::Tcp(address(command, text)?)),
+        None => Ok(Listen::Tcp(address(alloc, command, "listen", text)?)),
     }
 }
 
@@ -240,25 +259,51 @@ fn limit_of(
     }
 }
 
+/// Whether the mode that the text names syncs.
+fn syncs(command: &mut Command<'_>, text: &str) -> Result<bool, Error> {
+    match text {
+        "turn" => Ok(true),
+        "none" => Ok(false),
+        _ => Err(command.error(ErrorKind::InvalidValue, "--sync is turn or none")?),
+    }
+}
+
+/// The folder at this path, as the matches say.
+fn data_at(
+    alloc: Global,
+    command: &mut Command<'_>,
+    matches: &ArgMatches<'_>,
+    path: &str,
+) -> Result<DataPlace, Error> {
+    if path.is_empty() {
+        return Err(command.error(
+            ErrorKind::ValueValidation,
+            "a folder is of the form /var/lib/eve_cached",
+        )?);
+    }
+    let syncs = syncs(command, matches.get_str("sync").unwrap_or("turn"))?;
+    Ok(DataPlace {
+        path: String::from_str(alloc, path)?,
+        is_new: matches.get_flag("new"),
+        syncs,
+    })
+}
+
 /// Where all is saved, as the matches say.
 fn data_of(
     alloc: Global,
     command: &mut Command<'_>,
     matches: &ArgMatches<'_>,
 ) -> Result<Option<DataPlace>, Error> {
-    let is_new = matches.get_flag("new");
     match matches.get_str("data") {
-        Some("") => Err(command.error(
-            ErrorKind::ValueValidation,
-            "a folder is of the form /var/lib/eve_cached",
-        )?),
-        Some(path) => Ok(Some(DataPlace {
-            path: String::from_str(alloc, path)?,
-            is_new,
-        })),
-        None if is_new => Err(command.error(
+        Some(path) => Ok(Some(data_at(alloc, command, matches, path)?)),
+        None if matches.get_flag("new") => Err(command.error(
             ErrorKind::MissingRequiredArgument,
             "--new needs --data DIR",
+        )?),
+        None if matches.get_str("sync").is_some() => Err(command.error(
+            ErrorKind::MissingRequiredArgument,
+            "--sync needs --data DIR",
         )?),
         None => Ok(None),
     }
@@ -281,7 +326,7 @@ fn given(
 ) -> Result<Settings, Error> {
     let listen = places(alloc, command, matches.get_strs("listen").unwrap_or(&[]))?;
     let status = match matches.get_str("status") {
-        Some(text) => Some(address(command, text)?),
+        Some(text) => Some(address(alloc, command, "status", text)?),
         None => None,
     };
     let dialect = dialect(command, matches.get_str("dialect").unwrap_or("memcached"))?;

@@ -1,8 +1,8 @@
 //! The text of lines.
 
 use daemon::{
-    Due, Listen, Minutely, Settings, open_files, resident_pages, tell, tell_begun, tell_few_files,
-    tell_listening, tell_start, tell_status, tell_unsaved,
+    Due, Listen, SaveLine, SaveWatch, Settings, open_files, resident_pages, tell, tell_begun,
+    tell_few_files, tell_listening, tell_saved_again, tell_start, tell_status, tell_unsaved,
 };
 use figures::{Figures, Refusal};
 use grammar::Dialect;
@@ -133,6 +133,7 @@ fn the_start_is_told(rt: HostRuntime) -> Result<(), Fail> {
     tell_begun(&memory, None);
     tell_begun(&memory, Some(7));
     tell_unsaved(&memory, &"the disk is full");
+    tell_saved_again(&memory, 12);
     tell_few_files(&memory, 100, 137);
     tell_status(&memory, address);
     assert!(rt;
@@ -145,6 +146,7 @@ fn the_start_is_told(rt: HostRuntime) -> Result<(), Fail> {
                 "[INFO ] nothing was saved before",
                 "[INFO ] it goes on from what was saved: 7 items",
                 "[WARN ] nothing is answered, since it cannot be saved: the disk is full",
+                "[INFO ] it is saved and answered again, after 12 seconds",
                 "[WARN ] at most 100 files may be open, and 137 may be needed: raise LimitNOFILE, or ulimit -n",
                 "[INFO ] figures on http://127.0.0.1:11280/"
             ]
@@ -181,18 +183,23 @@ fn open_files_are_those_that_the_process_may_have(rt: HostRuntime) -> Result<(),
 
 #[test]
 fn a_line_of_unsaved_answers_comes_once_a_minute(rt: HostRuntime) -> Result<(), Fail> {
-    let mut unsaved = Minutely::NONE;
+    let mut saves = SaveWatch::NONE;
     let rows = [
-        (1_000, true),
-        (1_001, false),
-        (1_059, false),
-        (1_060, true),
-        (1_119, false),
-        (900, true),
-        (959, false),
+        (999, false, SaveLine::Nothing),
+        (1_000, true, SaveLine::Fails),
+        (1_001, true, SaveLine::Nothing),
+        (1_059, true, SaveLine::Nothing),
+        (1_060, true, SaveLine::Fails),
+        (1_119, true, SaveLine::Nothing),
+        (1_120, false, SaveLine::Again(120)),
+        (1_121, false, SaveLine::Nothing),
+        (1_122, true, SaveLine::Fails),
+        (900, true, SaveLine::Fails),
+        (959, true, SaveLine::Nothing),
+        (960, false, SaveLine::Again(0)),
     ];
-    for (second, is_due) in rows {
-        assert_eq!(rt; unsaved.is_due(second), is_due, "{second}");
+    for (second, is_failing, line) in rows {
+        assert_eq!(rt; saves.look(is_failing, second), line, "{second}");
     }
     Ok(())
 }

@@ -76,21 +76,31 @@ fn all_given(alloc: Global) -> bool {
     }
 }
 
-/// Whether the words name this folder, which is new or not.
-fn saves_in(alloc: Global, words: &str, path: &str, is_new: bool) -> bool {
+/// Whether the words name this folder, which is new or not, and is synced or not.
+fn saves_in(alloc: Global, words: &str, path: &str, is_new: bool, syncs: bool) -> bool {
     match read(alloc, words) {
         Some(Ok(settings)) => {
-            matches!(&settings.data, Some(data) if data.path.as_str() == path && data.is_new == is_new)
+            matches!(&settings.data, Some(data) if data.path.as_str() == path && data.is_new == is_new && data.syncs == syncs)
         }
         _ => false,
     }
 }
 
 #[test]
-fn a_folder_is_new_or_not(rt: HostRuntime) -> Result<(), Fail> {
+fn a_folder_is_new_or_not_and_synced_or_not(rt: HostRuntime) -> Result<(), Fail> {
     let alloc = rt.alloc();
-    assert!(rt; saves_in(alloc, "--data /var/lib/e", "/var/lib/e", false));
-    assert!(rt; saves_in(alloc, "--new --data here --max-bytes 1M", "here", true));
+    assert!(rt; saves_in(alloc, "--data /var/lib/e", "/var/lib/e", false, true));
+    assert!(rt;
+        saves_in(
+            alloc,
+            "--new --data here --max-bytes 1M",
+            "here",
+            true,
+            true
+        )
+    );
+    assert!(rt; saves_in(alloc, "--data here --sync turn", "here", false, true));
+    assert!(rt; saves_in(alloc, "--sync none --data here", "here", false, false));
     Ok(())
 }
 
@@ -170,6 +180,8 @@ fn other_words_are_refused(rt: HostRuntime) -> Result<(), Fail> {
             ErrorKind::ArgumentConflict,
         ),
         ("--new", ErrorKind::MissingRequiredArgument),
+        ("--sync none", ErrorKind::MissingRequiredArgument),
+        ("--data a --sync some", ErrorKind::InvalidValue),
         ("--data=", ErrorKind::ValueValidation),
         ("--data", ErrorKind::InvalidValue),
         ("--data a --data b", ErrorKind::ArgumentConflict),

@@ -30,6 +30,7 @@ use Rattle.sqlite_disk.proofs.modelled.Modelled.TheSendSync as modelled
 use Rattle.sqlite_disk.proofs.start.Unknown.TheSendSync as unknown
 use Rattle.sqlite_disk.specs.contracts.start.Unknown as start
 use Rattle.sqlite_std_file.specs.contracts.host.Host as file
+use Rattle.unsynced.proofs.OptionalSync.TheSendSync as optional
 use Rattle.sqlite_trees.specs.declared.store.Store as store
 use Rattle.states.specs.contracts.state.State as state
 use Rattle.row_store.specs.contracts.rows.RowStore as rows
@@ -110,4 +111,4 @@ file_send = search (crosses, sendable) depth 60 fits 20000
 
 -- A folder of the host may.
 pub host_send : IsSend host.the_row
-host_send = recorded_send _ _ _ host.the_type.to_one (struct_send (shape host.the_type) ((search (folder_field, file_store.the_field_send, file_store.the_send, modelled.the_send, file_send, start_send, crosses, sendable) depth 60 fits 20000), tt))
+host_send = recorded_send _ _ _ host.the_type.to_one (struct_send (shape host.the_type) ((search (folder_field, file_store.the_field_send, file_store.the_send, optional.the_send, modelled.the_send, file_send, start_send, crosses, sendable) depth 60 fits 20000), tt))

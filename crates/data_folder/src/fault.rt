@@ -4,6 +4,7 @@ use proto::Fault;
 use server::SaveFault;
 use shelf::ReadFault;
 use sqlite::ErrorCode;
+use sqlite_std_file::OpenError;
 use sqlite_trees::error::StoreError;
 use std::alloc::{AllocError, AllocFailed};
 use std::io;
@@ -101,6 +102,18 @@ impl From<sqlite::Error> for DataFault {
             sqlite::Error::SqliteFailure(ErrorCode::SystemIoFailure | ErrorCode::Closed) =>
                 DataFault::Disk,
             _ => DataFault::Damaged,
+        }
+    }
+}
+
+/// Of the files.
+impl From<OpenError> for DataFault {
+    fn from(error: OpenError) -> DataFault {
+        match error {
+            OpenError::OutOfMemory => DataFault::NoMemory,
+            OpenError::Busy => DataFault::InUse,
+            OpenError::HotJournal => DataFault::OtherTables,
+            OpenError::Io(_) => DataFault::CannotOpen,
         }
     }
 }

@@ -7,15 +7,15 @@ ghost use Rattle.data_folder.specs.Found.{FindsRecord};
 
 use crate::fault::DataFault;
 use crate::folder::DataFolder;
+use crate::opening::{FolderOptions, FolderStore};
 use server::{Save, SaveFault};
 use service::ServiceRecord;
-use sqlite::{File, FileStore};
 use std::alloc::Global;
 
 /// The record of a service in a folder of the host's file system. It is a type without parameters, so that a program that
 /// is generic over where it saves need not be proved over all that a file is made of.
 pub struct HostFolder {
-    folder: DataFolder<FileStore<File>>,
+    folder: DataFolder<FolderStore>,
 }
 
 impl Drop for HostFolder {
@@ -29,12 +29,11 @@ impl HostFolder {
     pub fn open(
         rt: &HostRuntime,
         folder: &str,
-        is_new: bool,
-        u: u8,
+        options: FolderOptions,
     ) -> Result<(HostFolder, Option<ServiceRecord>), DataFault>
         ensures { IfOk result (λ opened. IsClean (view opened.0.folder.shelf.rows.store) → IsTrue (view opened.0.folder.shelf.rows.store).is_open → FindsRecord (view opened.0.folder.shelf.rows.store).committed opened.1) }
     {
-        match DataFolder::open(rt, folder, is_new, u) {
+        match DataFolder::open(rt, folder, options) {
             Ok((folder, found)) => Ok((HostFolder { folder }, found)),
             Err(fault) => Err(fault),
         }

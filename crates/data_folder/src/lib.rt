@@ -1,6 +1,6 @@
 //! The record of a service in a folder: its items as rows of a database file, and beside them all else of its process.
 //!
-//!     let (mut folder, found) = HostFolder::open(&rt, "/var/lib/eve", false, 1)?;   // the last record, if there is one
+//!     let (mut folder, found) = HostFolder::open(&rt, "/var/lib/eve", options)?;   // the last record, if there is one
 //!     let saved = folder.save(alloc, &record);                                     // if it is true a crash leaves this one
 //!
 //! It is built on `shelf` (the rows of a file, saved together), `item_rows` (where the row of an item is), `process_text`
@@ -24,3 +24,4 @@ mod tables;
 pub use fault::DataFault;
 pub use folder::DataFolder;
 pub use host::HostFolder;
+pub use opening::{FILES, FolderOptions, FolderStore};

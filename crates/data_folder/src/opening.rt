@@ -9,16 +9,60 @@ use crate::fault::DataFault;
 use crate::folder::DataFolder;
 use crate::tables::{has_tables, set_version};
 use service::ServiceRecord;
-use sqlite::{Alter, Connection, File, FileStore};
+use sqlite::{Alter, Connection, File, FileStore, Files, Options, Unknown};
 use std::fs;
+use std::hash::{BuildHasher, RandomState};
+use unsynced::OptionalSync;
 
 /// The file's name in its folder.
 const FILE: &str = "eve.db";
 
+/// The files of a folder: the database and its log.
+pub const FILES: [&str; 2] = [FILE, "eve.db-wal"];
+
+/// The disk of a folder, whose syncs may be turned off.
+pub type FolderStore = FileStore<OptionalSync<File>>;
+
+/// How a folder is opened.
+#[derive(Clone, Copy, Debug)]
+pub struct FolderOptions {
+    /// No data is in it yet. Else some is.
+    pub is_new: bool,
+    /// The data is of a service of `2u + 1` nodes of each kind.
+    pub u: u8,
+    /// Each save is synced. Else what was saved stays if the process ends, and not if the machine does.
+    pub syncs: bool,
+}
+
+/// The database at this path, in which each page has a sum.
+fn database_at(
+    rt: &HostRuntime,
+    path: &str,
+    syncs: bool,
+) -> Result<Connection<FolderStore>, DataFault> {
+    let options = Options::new(RandomState::new(rt)?.hash_one(&0u8));
+    let Files { log, db } = sqlite_std_file::open(rt, path, Unknown)?;
+    let files = Files {
+        log: OptionalSync::new(log, syncs),
+        db: OptionalSync::new(db, syncs),
+    };
+    match Connection::open_files_with(rt.alloc(), files, options, true) {
+        Ok(connection) => Ok(connection),
+        Err((error, left)) => {
+            drop(left);
+            Err(error.into())
+        }
+    }
+}
+
 /// The store in a file that is there, or in a new one.
-fn store_at(rt: &HostRuntime, path: &str, is_new: bool) -> Result<FileStore<File>, DataFault> {
-    let mut connection = Connection::open_with_sums(rt, path)?;
-    let has_tables = has_tables(&mut connection, is_new)?;
+fn store_at(
+    rt: &HostRuntime,
+    path: &str,
+    options: FolderOptions,
+) -> Result<FolderStore, DataFault> {
+    let mut connection = database_at(rt, path, options.syncs)?;
+    let has_tables = has_tables(&mut connection, options.is_new)?;
     let store = connection.into_store();
     if has_tables {
         return Ok(store);
@@ -31,7 +75,7 @@ fn store_at(rt: &HostRuntime, path: &str, is_new: bool) -> Result<FileStore<File
 }
 
 /// The store, whose version is noted.
-fn versioned(store: FileStore<File>) -> Result<FileStore<File>, DataFault> {
+fn versioned(store: FolderStore) -> Result<FolderStore, DataFault> {
     let mut store = store;
     match set_version(&mut store) {
         Ok(()) => Ok(store),
@@ -39,11 +83,10 @@ fn versioned(store: FileStore<File>) -> Result<FileStore<File>, DataFault> {
     }
 }
 
-impl DataFolder<FileStore<File>> {
+impl DataFolder<FolderStore> {
     /// Opens the file `eve.db` in the folder, for this process alone: until the result is dropped every other open of it
-    /// is refused. It gives the record that was saved last, if there is one, of a service of `2u + 1` nodes of each kind.
-    /// A folder without data needs `is_new`, and one with data refuses it: so a disk that is not mounted is not taken for
-    /// an empty one. The folder has to be there.
+    /// is refused. It gives the record that was saved last, if there is one. A folder without data needs `is_new`, and one
+    /// with data refuses it: so a disk that is not mounted is not taken for an empty one. The folder has to be there.
     ///
     /// A file that was damaged is refused: its pages have sums, each row is as it was written or is refused, and the items
     /// are those of the state that was saved, since its token is made anew from them. That is not proved of an item that
@@ -53,17 +96,16 @@ impl DataFolder<FileStore<File>> {
     pub fn open(
         rt: &HostRuntime,
         folder: &str,
-        is_new: bool,
-        u: u8,
-    ) -> Result<(DataFolder<FileStore<File>>, Option<ServiceRecord>), DataFault>
+        options: FolderOptions,
+    ) -> Result<(DataFolder<FolderStore>, Option<ServiceRecord>), DataFault>
         ensures { IfOk result (λ opened. IsClean (view opened.0.shelf.rows.store) → IsTrue (view opened.0.shelf.rows.store).is_open → FindsRecord (view opened.0.shelf.rows.store).committed opened.1) }
     {
         let path = format!(in rt.alloc(); "{folder}/{FILE}")?;
-        if !is_new && !fs::exists(rt, path.as_str())? {
+        if !options.is_new && !fs::exists(rt, path.as_str())? {
             return Err(DataFault::NoData);
         }
-        let store = store_at(rt, path.as_str(), is_new)?;
+        let store = store_at(rt, path.as_str(), options)?;
         let store = versioned(store)?;
-        DataFolder::over(rt.alloc(), store, is_new, u)
+        DataFolder::over(rt.alloc(), store, options.is_new, options.u)
     }
 }

@@ -1,7 +1,8 @@
 //! The tables of a file.
 
 use crate::fault::DataFault;
-use sqlite::{Alter, Connection, File, FileStore, Row};
+use crate::opening::FolderStore;
+use sqlite::{Alter, Connection, Row};
 use sqlite_trees::store::Store;
 use sqlite_value::value::ValueRef;
 
@@ -55,7 +56,7 @@ fn are_tables(listed: &[Row]) -> bool {
 }
 
 /// Makes the tables, all or none of them.
-fn make_tables(connection: &mut Connection<FileStore<File>>) -> Result<(), sqlite::Error> {
+fn make_tables(connection: &mut Connection<FolderStore>) -> Result<(), sqlite::Error> {
     connection.execute_batch("BEGIN")?;
     for (_, sql) in TABLES {
         connection.execute_batch(sql)?;
@@ -65,7 +66,7 @@ fn make_tables(connection: &mut Connection<FileStore<File>>) -> Result<(), sqlit
 
 /// Makes the tables if there are none and new ones are wanted. Whether they are there then; if not, other ones are.
 pub fn has_tables(
-    connection: &mut Connection<FileStore<File>>,
+    connection: &mut Connection<FolderStore>,
     is_new: bool,
 ) -> Result<bool, DataFault> {
     let listed = connection.query_all(LIST, &[])?;

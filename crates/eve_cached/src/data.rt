@@ -2,7 +2,7 @@
 
 use crate::{DISK_FAILED, IN_USE, NO_DATA, REFUSED};
 use daemon::{NO_TARGET, Settings, Stamped};
-use data_folder::{DataFault, HostFolder};
+use data_folder::{DataFault, FolderOptions, HostFolder};
 use log::error;
 use server::ServiceRecord;
 
@@ -33,7 +33,12 @@ pub fn open_data(rt: &HostRuntime, settings: &Settings) -> Result<Data, u8> {
         return Ok(Data::Nowhere);
     };
     let path = place.path.as_str();
-    match HostFolder::open(rt, path, place.is_new, settings.u) {
+    let options = FolderOptions {
+        is_new: place.is_new,
+        u: settings.u,
+        syncs: place.syncs,
+    };
+    match HostFolder::open(rt, path, options) {
         Ok((folder, found)) => Ok(Data::In { folder, found }),
         Err(fault) => {
             error!(Stamped(rt); target: NO_TARGET, "{path}: {fault}");

@@ -132,7 +132,7 @@ fn attend<
         + AllocGlobal
         + Sync,
     S: Save,
->(rt: &R, watcher: &Watcher<'_, S>, status: Option<TcpListener>, known: Known) {
+>(rt: &R, watcher: &Watcher<'_, S>, status: Option<TcpListener>, known: Known<'_>) {
     let first = known.figures(rt, watcher);
     if known.has_found() {
         tell_begun(&Stamped(rt), Some(first.memory.items));

@@ -2,9 +2,10 @@
 
 use crate::showing::Shown;
 use daemon::{
-    Minutely, Report, Settings, Stamped, Totals, open_files, process_id, resident_pages, seconds,
-    tell, tell_few_files, tell_unsaved,
+    Report, SaveLine, SaveWatch, Settings, Stamped, Totals, open_files, process_id, resident_pages,
+    seconds, tell, tell_few_files, tell_saved_again, tell_unsaved,
 };
+use data_folder::FILES;
 use figures::{Figures, Limits, Process};
 use server::{Save, SaveFault, Watcher};
 use std::rt::{Clock, Files};
@@ -23,6 +24,26 @@ fn resident_bytes<R: Files + AllocGlobal>(rt: &R) -> u64 {
     resident_pages(text.as_str())
         .unwrap_or(0)
         .saturating_mul(PAGE_BYTES)
+}
+
+/// The bytes of a file in a folder, or 0 if the system does not tell.
+fn file_bytes<R: Files + AllocGlobal>(rt: &R, folder: &str, name: &str) -> u64 {
+    let Ok(path) = format!(in rt.alloc(); "{folder}/{name}") else {
+        return 0;
+    };
+    match fs::metadata(rt, path.as_str()) {
+        Ok(found) => found.len(),
+        Err(_) => 0,
+    }
+}
+
+/// The bytes of the files in a folder of data.
+fn data_bytes<R: Files + AllocGlobal>(rt: &R, folder: &str) -> u64 {
+    let mut sum: u64 = 0;
+    for name in FILES {
+        sum = sum.saturating_add(file_bytes(rt, folder, name));
+    }
+    sum
 }
 
 /// So many files are open beside those of connections, at most: some twenty of the process, and 32 connections of the
@@ -52,22 +73,24 @@ pub fn warn_of_files<R: Files + Clock + Eprint + AllocGlobal>(rt: &R, settings: 
 
 /// What this process knows of itself.
 #[derive(Clone, Copy)]
-pub struct Known {
+pub struct Known<'a> {
     /// When it began, by a clock that only goes on.
     start: Option<Instant>,
     process: Process,
     limits: Limits,
+    /// The folder of its data.
+    folder: Option<&'a str>,
     /// Whether it goes on from what was saved.
     is_found: bool,
 }
 
-impl Known {
+impl<'a> Known<'a> {
     /// The process begins to serve with these settings.
     pub fn begin<R: Clock + Files + AllocGlobal>(
         rt: &R,
-        settings: &Settings,
+        settings: &'a Settings,
         is_found: bool,
-    ) -> Known {
+    ) -> Known<'a> {
         Known {
             start: Instant::now(rt).ok(),
             process: Process {
@@ -78,6 +101,10 @@ impl Known {
                 connections: u64::from(settings.connections),
                 idle_seconds: u64::from(settings.idle),
                 item_bytes: settings.max_bytes,
+            },
+            folder: match &settings.data {
+                Some(place) => Some(place.path.as_str()),
+                None => None,
             },
             is_found,
         }
@@ -107,23 +134,27 @@ impl Known {
         figures.process = self.process;
         figures.limits = self.limits;
         figures.memory.resident_bytes = resident_bytes(rt);
+        figures.saves.bytes = match self.folder {
+            Some(folder) => data_bytes(rt, folder),
+            None => 0,
+        };
         figures
     }
 }
 
-/// Tells if the last save failed. Whether no later one can succeed.
-fn tells_unsaved<R: Wait + Clock + Eprint, S: Save>(
+/// Tells if the last save failed, and if saves succeed again. Whether no later one can succeed.
+fn tells_of_saves<R: Wait + Clock + Eprint, S: Save>(
     rt: &R,
     watcher: &Watcher<'_, S>,
-    unsaved: &mut Minutely,
+    saves: &mut SaveWatch,
 ) -> bool {
-    let Some(fault) = watcher.save_fault(rt) else {
-        return false;
-    };
-    if unsaved.is_due(seconds(rt)) {
-        tell_unsaved(&Stamped(rt), &fault);
+    let fault = watcher.save_fault(rt);
+    match (saves.look(fault.is_some(), seconds(rt)), fault) {
+        (SaveLine::Fails, Some(fault)) => tell_unsaved(&Stamped(rt), &fault),
+        (SaveLine::Again(seconds), _) => tell_saved_again(&Stamped(rt), seconds),
+        _ => {}
     }
-    fault == SaveFault::Disk
+    fault == Some(SaveFault::Disk)
 }
 
 /// Looks once a second what the server has counted, shows it and tells what is due, until the server ends by itself or
@@ -132,15 +163,15 @@ pub fn watch<R: Wait + Clock + Files + Eprint + AllocGlobal, S: Save>(
     rt: &R,
     watcher: &Watcher<'_, S>,
     shown: &Shown,
-    known: Known,
+    known: Known<'_>,
 ) {
     let first = known.figures(rt, watcher);
     watcher.see(rt, &first);
     let mut report = Report::new(Totals::of(&first));
-    let mut unsaved = Minutely::NONE;
+    let mut saves = SaveWatch::NONE;
     for _ in rt.forever() {
         thread::sleep(rt, Duration::from_secs(1));
-        if watcher.has_ended() || tells_unsaved(rt, watcher, &mut unsaved) {
+        if watcher.has_ended() || tells_of_saves(rt, watcher, &mut saves) {
             return;
         }
         let figures = known.figures(rt, watcher);

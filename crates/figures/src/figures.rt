@@ -104,6 +104,21 @@ pub struct Memory {
     pub refusals: u64,
 }
 
+/// What is saved before it is answered. All are 0 if nothing is (`--data`).
+#[derive(Clone, Copy, Debug, PartialEq, Eq, Default)]
+pub struct Saves {
+    /// Saves that succeeded.
+    pub made: u64,
+    /// Saves that failed.
+    pub failed: u64,
+    /// Messages to connections that wait for a save.
+    pub waiting: u64,
+    /// 1 if the last save failed, so that nothing is answered; else 0.
+    pub failing: u64,
+    /// Bytes of the files in the folder.
+    pub bytes: u64,
+}
+
 /// The process.
 #[derive(Clone, Copy, Debug, PartialEq, Eq, Default)]
 pub struct Process {
@@ -140,6 +155,7 @@ pub struct Figures {
     pub batches: Batches,
     pub replicas: Replicas,
     pub memory: Memory,
+    pub saves: Saves,
     /// From when bytes of a connection were read to when all that answers them was written.
     pub reply_times: Histogram,
     /// The rounds of the service that answered a command.
@@ -222,6 +238,17 @@ impl Memory {
     };
 }
 
+impl Saves {
+    /// Nothing is saved.
+    pub const NONE: Saves = Saves {
+        made: 0,
+        failed: 0,
+        waiting: 0,
+        failing: 0,
+        bytes: 0,
+    };
+}
+
 impl Figures {
     /// Nothing was counted.
     pub const NONE: Figures = Figures {
@@ -235,6 +262,7 @@ impl Figures {
         batches: Batches::NONE,
         replicas: Replicas::NONE,
         memory: Memory::NONE,
+        saves: Saves::NONE,
         reply_times: Histogram::NONE,
         batch_times: Histogram::NONE,
         batch_parts: BatchParts::NONE,

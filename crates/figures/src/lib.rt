@@ -18,7 +18,8 @@ pub use asked::{Asked, found_in};
 pub use commands::{Commands, Outcomes};
 pub use count::{one_more, plus};
 pub use figures::{
-    BatchParts, Batches, Connections, Figures, Keys, Limits, Memory, Process, Replicas, VERSION,
+    BatchParts, Batches, Connections, Figures, Keys, Limits, Memory, Process, Replicas, Saves,
+    VERSION,
 };
 pub use histogram::{BOUNDS, BUCKETS, Histogram};
 pub use kind::{ALL_KINDS, KINDS, Kind};

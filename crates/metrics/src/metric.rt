@@ -7,7 +7,7 @@ use crate::metric_type::MetricType;
 use crate::plain::Plain;
 
 /// How many metrics there are.
-pub const METRICS: usize = 35;
+pub const METRICS: usize = 40;
 
 /// A metric: one value, or one for each of its labels.
 #[derive(Clone, Copy, Debug, PartialEq, Eq)]
@@ -51,6 +51,11 @@ pub const ALL_METRICS: [Metric; METRICS] = [
     Metric::Plain(Plain::Suspicions),
     Metric::NodeUp,
     Metric::NodeStops,
+    Metric::Plain(Plain::Saves),
+    Metric::Plain(Plain::SaveFailures),
+    Metric::Plain(Plain::SaveWaiting),
+    Metric::Plain(Plain::SaveFailing),
+    Metric::Plain(Plain::DataBytes),
     Metric::Plain(Plain::Items),
     Metric::Plain(Plain::ItemBytes),
     Metric::Plain(Plain::ItemBytesLimit),

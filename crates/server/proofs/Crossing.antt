@@ -29,4 +29,4 @@ answering_send = search (parts, sendable) depth 60 fits 20000
 
 -- With where its record is saved, if that may go there, and what is held.
 pub durable_send : (T : RattleType) → IsSend T → IsSend (durable.the_row T)
-durable_send T s = recorded_send _ _ _ (durable.the_type T).to_one (struct_send (shape (durable.the_type T)) (global.the_field_send, (answering_send, (s, ((search (parts, sendable)), tt)))))
+durable_send T s = recorded_send _ _ _ (durable.the_type T).to_one (struct_send (shape (durable.the_type T)) (global.the_field_send, (answering_send, (s, ((search (parts, sendable)), ((search (parts, sendable)), ((search (parts, sendable)), ((search (parts, sendable)), tt))))))))

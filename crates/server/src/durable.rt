@@ -5,7 +5,7 @@ ghost use Rattle.std.specs.Prelude.{◌≡◌};
 use crate::answering::Answering;
 use crate::save::{Save, SaveFault};
 use event_loop::{Heard, Said, Serve};
-use figures::Figures;
+use figures::{Figures, Saves, one_more};
 use service::Service;
 use std::alloc::Global;
 use std::mem;
@@ -20,10 +20,16 @@ pub struct DurableService<S> {
     answering: Answering,
     saver: S,
     held: Vec<Said>,
+    /// The last save failed.
+    is_failing: bool,
+    /// Saves that succeeded.
+    made: u64,
+    /// Saves that failed.
+    failed: u64,
 }
 
 impl<S: Save> DurableService<S> {
-    ghost use Rattle.std.specs.Prelude.{◌≡◌, [], IsTrue};
+    ghost use Rattle.std.specs.Prelude.{◌≡◌, [], IsTrue, false, not};
     ghost use Rattle.server.specs.Durable.{IsSavedNow, MayBeSavedNow, Releases};
 
     /// Nothing is held.
@@ -31,12 +37,16 @@ impl<S: Save> DurableService<S> {
         ensures answering { result.answering ≡ answering }
         ensures saver { result.saver ≡ saver }
         ensures none { result.held.items ≡ [] }
+        ensures fine { result.is_failing ≡ false }
     {
         DurableService {
             alloc,
             answering,
             saver,
             held: Vec::new(alloc),
+            is_failing: false,
+            made: 0,
+            failed: 0,
         }
     }
 
@@ -50,6 +60,9 @@ impl<S: Save> DurableService<S> {
             answering,
             saver,
             held,
+            is_failing: _,
+            made: _,
+            failed: _,
         } = self;
         drop(held);
         (answering.into_service(), saver)
@@ -59,7 +72,15 @@ impl<S: Save> DurableService<S> {
     pub fn figures(&mut self) -> Figures
         ensures same { self.new ≡ self.old }
     {
-        self.answering.figures()
+        let mut figures = self.answering.figures();
+        figures.saves = Saves {
+            made: self.made,
+            failed: self.failed,
+            waiting: self.held.len() as u64,
+            failing: if self.is_failing { 1 } else { 0 },
+            bytes: 0,
+        };
+        figures
     }
 
     /// Takes over what only the event loop and the system know, for `stats`.
@@ -71,38 +92,63 @@ impl<S: Save> DurableService<S> {
 
     /// Why what is held has not left: the last save failed, or there was no memory for the record. None: nothing is held.
     pub fn fault(&self) -> Option<SaveFault> {
-        match (self.held.is_empty(), self.saver.fault()) {
-            (true, _) => None,
-            (false, Some(fault)) => Some(fault),
-            (false, None) => Some(SaveFault::NoMemory),
+        match (self.is_failing, self.saver.fault()) {
+            (false, _) => None,
+            (true, Some(fault)) => Some(fault),
+            (true, None) => Some(SaveFault::NoMemory),
         }
+    }
+
+    /// A save succeeded, or failed.
+    fn note(&mut self, is_saved: bool)
+        ensures answering { self.new.answering ≡ self.old.answering }
+        ensures saver { self.new.saver ≡ self.old.saver }
+        ensures held { self.new.held ≡ self.old.held }
+        ensures failing { self.new.is_failing ≡ not is_saved }
+    {
+        if is_saved {
+            self.made = one_more(self.made);
+        } else {
+            self.failed = one_more(self.failed);
+        }
+        self.is_failing = !is_saved;
     }
 
     /// Saves a record of this moment: whether it is saved.
     fn save(&mut self) -> bool
         ensures answering { self.new.answering ≡ self.old.answering }
         ensures held { self.new.held ≡ self.old.held }
+        ensures failing { self.new.is_failing ≡ not result }
         ensures saved { IsTrue result → IsSavedNow S.is_text (S.may_find self.new.saver) self.old.answering.service }
         ensures crash { MayBeSavedNow S.is_text (S.may_find self.old.saver) (S.may_find self.new.saver) self.old.answering.service }
     {
         if !self.saver.keeps() {
+            self.is_failing = false;
             return true;
         }
-        match self.answering.record() {
+        let is_saved = match self.answering.record() {
             Ok(record) => self.saver.save(self.alloc, &record),
             Err(_) => false,
-        }
+        };
+        self.note(is_saved);
+        is_saved
     }
 
     /// Hands out what is held, if a record of this moment is saved.
     fn hand_out(&mut self) -> Vec<Said>
         ensures answering { self.new.answering ≡ self.old.answering }
         ensures releases { Releases S.is_text (S.may_find self.old.saver) (S.may_find self.new.saver) self.old.answering.service self.old.held.items result.items self.new.held.items }
+        ensures leaves { self.new.is_failing ≡ false → self.new.held.items ≡ [] }
     {
-        if !self.held.is_empty() && self.save() {
-            return mem::replace(&mut self.held, Vec::new(self.alloc));
+        if self.held.is_empty() {
+            self.is_failing = false;
+            return Vec::new(self.alloc);
         }
-        Vec::new(self.alloc)
+        if self.save() {
+            mem::replace(&mut self.held, Vec::new(self.alloc))
+        } else {
+            Vec::new(self.alloc)
+        }
     }
 }
 
@@ -125,6 +171,7 @@ impl<S: Save> Serve for DurableService<S> {
         ensures handed { HandsInAll heard.items self.old.answering self.new.answering }
         ensures saver { self.new.saver ≡ self.old.saver }
         ensures held { self.new.held ≡ self.old.held }
+        ensures failing { self.new.is_failing ≡ self.old.is_failing }
     {
         self.answering.hear(heard);
     }
@@ -136,11 +183,13 @@ impl<S: Save> Serve for DurableService<S> {
         seconds: u32,
     ) -> Vec<Said>
         requires { IsSync R.row }
-        ensures { HandsOutSaved S.is_text (S.may_find self.old.saver) (S.may_find self.new.saver) seconds self.old.answering self.old.held.items result.items self.new.answering self.new.held.items }
+        ensures saved { HandsOutSaved S.is_text (S.may_find self.old.saver) (S.may_find self.new.saver) seconds self.old.answering self.old.held.items result.items self.new.answering self.new.held.items }
+        ensures leaves { self.new.is_failing ≡ false → self.new.held.items ≡ [] }
     {
-        if self.held.is_empty() {
-            self.held = self.answering.work(rt, clock, seconds);
+        if !self.held.is_empty() {
+            return self.hand_out();
         }
+        self.held = self.answering.work(rt, clock, seconds);
         self.hand_out()
     }
 
@@ -153,6 +202,7 @@ impl<S: Save> Serve for DurableService<S> {
         ensures lost { self.new.answering.lost ≡ self.old.answering.lost }
         ensures saver { self.new.saver ≡ self.old.saver }
         ensures held { self.new.held ≡ self.old.held }
+        ensures failing { self.new.is_failing ≡ self.old.is_failing }
     {
         self.answering.tick();
     }

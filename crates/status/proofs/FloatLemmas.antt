@@ -10,7 +10,7 @@ use Rattle.figures.specs.declared.kind.TheConstants.{ALL_KINDS}
 use Rattle.figures.specs.declared.node.NodeFigures.{NodeFigures}
 use Rattle.serde_json.specs.Written.{has_float, items_have_float}
 use Rattle.serde_json.specs.View.{items_of}
-use Rattle.status.specs.Data.{whole, outcomes_data, all_commands_data, connections_data, limits_data, server_data, times_data, refusals_data, keys_data, batches_data, memory_data, node_data, histogram_data, batch_parts_data, replicas_data, figures_data, sample_data, history_data}
+use Rattle.status.specs.Data.{whole, outcomes_data, all_commands_data, connections_data, limits_data, server_data, times_data, refusals_data, keys_data, batches_data, memory_data, saves_data, node_data, histogram_data, batch_parts_data, replicas_data, figures_data, sample_data, history_data}
 use Rattle.status.specs.declared.history.Sample.{Sample}
 
 no_float_in_wholes : (counts : List ℕ) → items_have_float (items_of (map whole counts)) ≡ false
@@ -54,7 +54,7 @@ no_float_in_times f =
     (rw (no_float_in_batch_parts f.batch_parts) refl))
 
 pub no_float : (f : Figures) → has_float (figures_data f) ≡ false
-unfolding figures_data connections_data limits_data server_data refusals_data keys_data batches_data memory_data all_commands_data
+unfolding figures_data connections_data limits_data server_data refusals_data keys_data batches_data memory_data saves_data all_commands_data
 no_float f =
     rw (no_float_in_commands f.commands ALL_KINDS)
     (rw (no_float_in_replicas f.replicas)

@@ -1,6 +1,7 @@
 -- The answer to a request.
 use Rattle.std.specs.Prelude.{◌≡◌, ℕ, List, Bool, ◌&&◌, ◌/◌, nat_lt, if◌then◌else◌}
 use Rattle.std.specs.List.{count_by}
+use Rattle.figures.specs.declared.figures.Figures.{Figures}
 use Rattle.figures.specs.declared.figures.Replicas.{Replicas}
 use Rattle.figures.specs.declared.node.NodeFigures.{NodeFigures}
 use Rattle.metrics.specs.Families.{metrics_text}
@@ -12,7 +13,7 @@ use Rattle.status.specs.declared.history.Seen.{Seen}
 use Rattle.status.specs.declared.page.TheConstants.{PAGE}
 use Rattle.status.specs.declared.wanted.Asked.{Asked}
 use Rattle.status.specs.declared.wanted.Wanted.{Wanted}
-use Rattle.status.specs.declared.wanted.Wanted.TheVariants.{Page, Data, History, Metrics, Health, TooFew}
+use Rattle.status.specs.declared.wanted.Wanted.TheVariants.{Page, Data, History, Metrics, Health, TooFew, Unsaved}
 
 -- the body with what is wanted of what is shown
 abbrev pub body_text : Seen → Wanted → List ℕ
@@ -30,16 +31,19 @@ is_most_up members nodes = nat_lt (members / 2) (count_by (λ node. node.is_up) 
 abbrev pub is_served : Replicas → Bool
 is_served r = is_most_up r.members r.executors && is_most_up r.members r.verifiers
 
--- if too few replicas are up there is no health
-abbrev pub resolved_as : Replicas → Asked → Wanted → Asked
-resolved_as r asked Health = if is_served r then asked else record asked { wanted = TooFew }
-resolved_as r asked wanted = asked
+-- there is no health if too few replicas are up, and none while the last save failed
+abbrev pub health_of : Figures → Wanted
+health_of f = if is_served f.replicas then (if nat_lt 0 f.saves.failing then Unsaved else Health) else TooFew
 
-abbrev pub resolved : Replicas → Asked → Asked
-resolved r asked = resolved_as r asked asked.wanted
+abbrev pub resolved_as : Figures → Asked → Wanted → Asked
+resolved_as f asked Health = record asked { wanted = health_of f }
+resolved_as f asked wanted = asked
+
+abbrev pub resolved : Figures → Asked → Asked
+resolved f asked = resolved_as f asked asked.wanted
 
 abbrev pub answer_text : Seen → Asked → List ℕ
-answer_text s asked = asked_text (resolved s.figures.replicas asked) (body_text s (resolved s.figures.replicas asked).wanted)
+answer_text s asked = asked_text (resolved s.figures asked) (body_text s (resolved s.figures asked).wanted)
 
 -- the response has what the request wants
 abbrev pub IsAnswer : List ℕ → Seen → List ℕ → Type 0

@@ -9,6 +9,7 @@ use Rattle.figures.specs.declared.figures.Batches.{Batches}
 use Rattle.figures.specs.declared.figures.BatchParts.{BatchParts}
 use Rattle.figures.specs.declared.figures.Limits.{Limits}
 use Rattle.figures.specs.declared.figures.Memory.{Memory}
+use Rattle.figures.specs.declared.figures.Saves.{Saves}
 use Rattle.figures.specs.declared.figures.TheConstants.{VERSION}
 use Rattle.figures.specs.declared.figures.Replicas.{Replicas}
 use Rattle.figures.specs.declared.commands.Commands.{Commands}
@@ -66,6 +67,13 @@ memory_data x = object (member (codes "item_bytes") (whole x.item_bytes)
     (member (codes "refusals") (whole x.refusals)
     (member (codes "resident_bytes") (whole x.resident_bytes) no_members))))
 
+unfoldable pub saves_data : Saves → Data
+saves_data x = object (member (codes "bytes") (whole x.bytes)
+    (member (codes "failed") (whole x.failed)
+    (member (codes "failing") (whole x.failing)
+    (member (codes "made") (whole x.made)
+    (member (codes "waiting") (whole x.waiting) no_members)))))
+
 -- how many lines were refused, in the order of ALL_REFUSALS
 unfoldable pub refusals_data : Refusals → Data
 refusals_data refusals = wholes_data (map (refusal_count refusals) ALL_REFUSALS)
@@ -121,9 +129,10 @@ figures_data f = object (member (codes "batches") (batches_data f.batches)
     (member (codes "memory") (memory_data f.memory)
     (member (codes "refusals") (refusals_data f.refusals)
     (member (codes "replicas") (replicas_data f.replicas)
+    (member (codes "saves") (saves_data f.saves)
     (member (codes "server") (server_data f.limits)
     (member (codes "times") (times_data f)
-    (member (codes "uptime_seconds") (whole f.uptime_seconds) no_members))))))))))
+    (member (codes "uptime_seconds") (whole f.uptime_seconds) no_members)))))))))))
 
 -- what the page draws of one moment
 unfoldable pub sample_data : Sample → Data

@@ -2,7 +2,7 @@
 use Rattle.std.specs.Prelude.{ℕ, List, [], ◌++◌, length, codes, decimal, if◌then◌else◌}
 use Rattle.status.specs.declared.wanted.Asked.{Asked}
 use Rattle.status.specs.declared.wanted.Wanted.{Wanted}
-use Rattle.status.specs.declared.wanted.Wanted.TheVariants.{Page, Data, History, Metrics, Health, TooFew, NotFound, BadMethod, BadRequest, TooLong}
+use Rattle.status.specs.declared.wanted.Wanted.TheVariants.{Page, Data, History, Metrics, Health, TooFew, Unsaved, NotFound, BadMethod, BadRequest, TooLong}
 
 unfoldable pub status_text : Wanted → List ℕ
 status_text Page = codes "HTTP/1.1 200 OK"
@@ -11,6 +11,7 @@ status_text History = codes "HTTP/1.1 200 OK"
 status_text Metrics = codes "HTTP/1.1 200 OK"
 status_text Health = codes "HTTP/1.1 200 OK"
 status_text TooFew = codes "HTTP/1.1 503 Service Unavailable"
+status_text Unsaved = codes "HTTP/1.1 503 Service Unavailable"
 status_text NotFound = codes "HTTP/1.1 404 Not Found"
 status_text BadMethod = codes "HTTP/1.1 405 Method Not Allowed"
 status_text BadRequest = codes "HTTP/1.1 400 Bad Request"
@@ -31,6 +32,7 @@ extra_text _ = []
 abbrev pub note_text : Wanted → List ℕ
 note_text Health = codes "ok\n"
 note_text TooFew = codes "Too few replicas are up.\n"
+note_text Unsaved = codes "The last save failed: nothing is answered.\n"
 note_text NotFound = codes "There are /, /metrics, /data.json, /history.json and /healthz.\n"
 note_text BadMethod = codes "Only GET and HEAD are answered.\n"
 note_text BadRequest = codes "This is no request of HTTP/1.\n"

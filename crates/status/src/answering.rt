@@ -2,7 +2,7 @@
 
 ghost use Rattle.std.specs.Prelude.{◌≡◌, ◌<◌, IfOk, IfNone, IfSome, length};
 ghost use Rattle.httparse.specs.Grammar.{MayBecomeRequest};
-ghost use Rattle.status.specs.Answer.{body_text, is_served, resolved, answer_text, IsAnswer};
+ghost use Rattle.status.specs.Answer.{body_text, is_served, health_of, resolved, answer_text, IsAnswer};
 ghost use Rattle.status.specs.Response.{asked_text};
 ghost use Rattle.std.specs.List.{count_by};
 ghost use Rattle.status.specs.declared.wanted.TheConstants.{MOST_HEAD_BYTES};
@@ -12,7 +12,7 @@ use crate::history::Seen;
 use crate::page::page_bytes;
 use crate::response::response_of;
 use crate::wanted::{Asked, Wanted, wanted_by};
-use figures::{NodeFigures, Replicas};
+use figures::{Figures, NodeFigures, Replicas};
 use metrics::metrics_of;
 use std::alloc::{AllocError, Global};
 
@@ -31,13 +31,26 @@ fn is_served(replicas: &Replicas) -> bool
     half < up(replicas.executors.as_slice()) && half < up(replicas.verifiers.as_slice())
 }
 
-/// What is shown of what is asked for: if too few replicas are up there is no health.
-fn resolved(asked: Asked, replicas: &Replicas) -> Asked
-    ensures { result ≡ resolved replicas.now asked }
+/// Health, or why there is none.
+fn health_of(figures: &Figures) -> Wanted
+    ensures { result ≡ health_of figures.now }
+{
+    if !is_served(&figures.replicas) {
+        Wanted::TooFew
+    } else if 0 < figures.saves.failing {
+        Wanted::Unsaved
+    } else {
+        Wanted::Health
+    }
+}
+
+/// What is shown of what is asked for: what health is, is seen in the figures.
+fn resolved(asked: Asked, figures: &Figures) -> Asked
+    ensures { result ≡ resolved figures.now asked }
 {
     match asked.wanted {
-        Wanted::Health if !is_served(replicas) => Asked {
-            wanted: Wanted::TooFew,
+        Wanted::Health => Asked {
+            wanted: health_of(figures),
             is_head: asked.is_head,
         },
         _ => asked,
@@ -59,6 +72,7 @@ fn shown(alloc: Global, asked: Asked, seen: &Seen) -> Result<Vec<u8>, AllocError
         Wanted::Metrics => response_of(alloc, asked, metrics_of(alloc, &seen.figures)?.as_slice()),
         Wanted::Health
         | Wanted::TooFew
+        | Wanted::Unsaved
         | Wanted::NotFound
         | Wanted::BadMethod
         | Wanted::BadRequest
@@ -68,7 +82,7 @@ fn shown(alloc: Global, asked: Asked, seen: &Seen) -> Result<Vec<u8>, AllocError
 
 /// The response to the bytes that came so far of a request: `GET /` is the page, `/metrics` and `/data.json` show
 /// the figures, `/history.json` the samples of the last ten minutes, and `/healthz` says whether more than half of
-/// the replicas of each kind are up.
+/// the replicas of each kind are up and the last save did not fail.
 /// HEAD is answered by the head of what GET is answered. None: more bytes are needed; fewer than 8,192 have come.
 ///
 /// It fails if an allocation fails.
@@ -79,6 +93,6 @@ pub fn answer(alloc: Global, request: &[u8], seen: &Seen) -> Result<Option<Vec<u
 {
     match wanted_by(request) {
         None => Ok(None),
-        Some(asked) => Ok(Some(shown(alloc, resolved(asked, &seen.figures.replicas), seen)?)),
+        Some(asked) => Ok(Some(shown(alloc, resolved(asked, &seen.figures), seen)?)),
     }
 }

@@ -8,7 +8,7 @@ ghost use Rattle.status.specs.Data as spec;
 use crate::history::Sample;
 use figures::{
     ALL_KINDS, BatchParts, Batches, Commands, Connections, Figures, Histogram, Keys, Kind, Limits,
-    Memory, NodeFigures, Outcome, Refusal, Refusals, Replicas, VERSION,
+    Memory, NodeFigures, Outcome, Refusal, Refusals, Replicas, Saves, VERSION,
 };
 use serde_json::{Value, json};
 use std::alloc::{AllocError, Global};
@@ -54,6 +54,13 @@ fn memory_json(alloc: Global, memory: &Memory) -> Result<Value, AllocError>
     ensures { IfOk result (λ v. view v ≡ spec.memory_data memory.now) }
 {
     json!(in alloc; {"items": memory.items, "item_bytes": memory.item_bytes, "resident_bytes": memory.resident_bytes, "refusals": memory.refusals})
+}
+
+#[tactic(auto, unfolding(crate::specs::Data::saves_data))]
+fn saves_json(alloc: Global, saves: &Saves) -> Result<Value, AllocError>
+    ensures { IfOk result (λ v. view v ≡ spec.saves_data saves.now) }
+{
+    json!(in alloc; {"made": saves.made, "failed": saves.failed, "waiting": saves.waiting, "failing": saves.failing, "bytes": saves.bytes})
 }
 
 /// How many lines were refused, by why.
@@ -173,6 +180,7 @@ fn figures_json(alloc: Global, figures: &Figures) -> Result<Value, AllocError>
         "batches": batches_json(alloc, &figures.batches)?,
         "replicas": replicas_json(alloc, &figures.replicas)?,
         "memory": memory_json(alloc, &figures.memory)?,
+        "saves": saves_json(alloc, &figures.saves)?,
         "times": times_json(alloc, figures)?
     })
 }

@@ -23,6 +23,7 @@ h2 { font-size: 15px; margin: 0 0 10px; }
 .bad { color: var(--bad); }
 .soft { color: var(--soft); }
 .grid { display: grid; gap: 12px; grid-template-columns: repeat(4, minmax(0, 1fr)); margin-bottom: 12px; }
+.grid:empty { display: none; }
 .wide { display: grid; gap: 12px; grid-template-columns: repeat(auto-fit, minmax(min(380px, 100%), 1fr)); align-items: start; margin-bottom: 12px; }
 .card { background: var(--card); border: 1px solid var(--line); border-radius: 8px; padding: 12px 14px; min-width: 0; }
 .value { font-size: 24px; font-weight: 600; font-variant-numeric: tabular-nums; white-space: nowrap; }
@@ -45,6 +46,7 @@ rect { fill: var(--bar); }
 <body>
 <header><h1>eve_cached <span id="version"></span></h1><span id="state">waiting for figures</span><span id="uptime" class="soft"></span></header>
 <div class="grid" id="tiles"></div>
+<div class="grid" id="saves"></div>
 <div class="wide">
 <section class="card"><h2>Executors</h2><ul class="nodes" id="executors"></ul></section>
 <section class="card"><h2>Verifiers</h2><ul class="nodes" id="verifiers"></ul></section>
@@ -92,8 +94,8 @@ function rows(id, list) {
     return row;
   }));
 }
-function tiles(list) {
-  fill("tiles", list.map(([name, value, note, kind]) => {
+function tiles(id, list) {
+  fill(id, list.map(([name, value, note, kind]) => {
     const card = element("div", "", "card");
     card.append(element("div", name, "soft"), element("div", value, "value " + (kind || "")), element("div", note, "note"));
     return card;
@@ -149,14 +151,19 @@ function show(f) {
   const counts = f.times.reply.counts.map((n, i) => Math.max(0, n - then.replies[i]));
   const asked = f.keys.asked - then.keys.asked, found = f.keys.found - then.keys.found;
   const refused = sum(f.refusals), limit = f.server.limits.item_bytes;
-  at("state").textContent = down ? down + (down > 1 ? " nodes are down" : " node is down") : "all nodes are up";
-  at("state").className = down ? "bad" : "good";
+  const failing = f.saves.failing > 0, troubles = [];
+  if (down) troubles.push(down + (down > 1 ? " nodes are down" : " node is down"));
+  if (failing) troubles.push("nothing is answered: the last save failed");
+  at("state").textContent = troubles.join("; ") || "all nodes are up";
+  at("state").className = troubles.length ? "bad" : "good";
   at("version").textContent = f.server.version;
   at("uptime").textContent = "u " + (members - 1) / 2 + ", started " + span(f.uptime_seconds) + " ago";
-  tiles([["Commands / s", short(rates.length ? rates[rates.length - 1].value : 0), "last 5 seconds"], ["Keys found", asked ? (100 * found / asked).toFixed(1) + " %" : "none asked", "last 10 seconds"],
+  tiles("tiles", [["Commands / s", short(rates.length ? rates[rates.length - 1].value : 0), "last 5 seconds"], ["Keys found", asked ? (100 * found / asked).toFixed(1) + " %" : "none asked", "last 10 seconds"],
     ["99 % within", time(quantile(counts, .99)), "last 10 seconds"], ["Connections", whole(f.connections.open), f.server.limits.connections ? "of " + whole(f.server.limits.connections) : "", f.connections.open < f.server.limits.connections ? "" : "bad"],
     ["Items", short(f.memory.items), "each in every executor"], ["Keys and values", size(f.memory.item_bytes), limit ? "of " + size(limit) : "no limit", limit && limit <= f.memory.item_bytes ? "bad" : ""],
     ["Memory", f.memory.resident_bytes ? size(f.memory.resident_bytes) : "unknown", "of the process"], ["Refused lines", short(refused), "since the start"]]);
+  tiles("saves", f.saves.made || f.saves.failed ? [["Saves", short(f.saves.made), "since the start"], ["Saves that failed", whole(f.saves.failed), failing ? "the last one too" : "since the start", failing ? "bad" : ""],
+    ["Waiting for a save", short(f.saves.waiting), "messages to connections"], ["Data on disk", size(f.saves.bytes), "files in the folder"]] : []);
   charts(rates, counts);
   nodes("executors", executors);
   nodes("verifiers", verifiers);

@@ -16,7 +16,7 @@ impl Wanted {
         match self {
             Wanted::Page | Wanted::Data | Wanted::History | Wanted::Metrics | Wanted::Health =>
                 b"HTTP/1.1 200 OK",
-            Wanted::TooFew => b"HTTP/1.1 503 Service Unavailable",
+            Wanted::TooFew | Wanted::Unsaved => b"HTTP/1.1 503 Service Unavailable",
             Wanted::NotFound => b"HTTP/1.1 404 Not Found",
             Wanted::BadMethod => b"HTTP/1.1 405 Method Not Allowed",
             Wanted::BadRequest => b"HTTP/1.1 400 Bad Request",
@@ -58,6 +58,7 @@ impl Wanted {
         match self {
             Wanted::Health => b"ok\n",
             Wanted::TooFew => b"Too few replicas are up.\n",
+            Wanted::Unsaved => b"The last save failed: nothing is answered.\n",
             Wanted::NotFound => b"There are /, /metrics, /data.json, /history.json and /healthz.\n",
             Wanted::BadMethod => b"Only GET and HEAD are answered.\n",
             Wanted::BadRequest => b"This is no request of HTTP/1.\n",

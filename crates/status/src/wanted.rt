@@ -25,10 +25,12 @@ pub enum Wanted {
     History,
     /// The figures in Prometheus' text form.
     Metrics,
-    /// Whether enough replicas are up.
+    /// Whether the server answers: enough replicas are up, and the last save did not fail.
     Health,
     /// 503: too few replicas are up.
     TooFew,
+    /// 503: the last save failed.
+    Unsaved,
     /// 404: there is nothing at this path.
     NotFound,
     /// 405: the method is neither GET nor HEAD.

@@ -46,8 +46,8 @@ fn is_head_of(alloc: Global, head: &[u8], whole: &[u8]) -> bool {
     }
 }
 
-/// How a server of three executors and three verifiers answers /healthz if so many of them are up.
-fn health(alloc: Global, executors: usize, verifiers: usize, first: &[u8]) -> bool {
+/// The figures of a server of three executors and three verifiers, so many of which are up.
+fn figures_of(executors: usize, verifiers: usize) -> Figures {
     let up = NodeFigures {
         is_up: true,
         stops: 0,
@@ -56,10 +56,27 @@ fn health(alloc: Global, executors: usize, verifiers: usize, first: &[u8]) -> bo
     figures.replicas.members = 3;
     figures.replicas.executors[..executors.min(3)].fill(up);
     figures.replicas.verifiers[..verifiers.min(3)].fill(up);
+    figures
+}
+
+/// Whether /healthz is answered by a response that begins and ends so.
+fn is_health(alloc: Global, figures: Figures, first: &[u8], last: &[u8]) -> bool {
     match answer_of(alloc, b"GET /healthz HTTP/1.1\r\n\r\n", figures) {
-        Some(response) => response.starts_with(first),
+        Some(response) => response.starts_with(first) && response.ends_with(last),
         _ => false,
     }
+}
+
+/// The same of a server of which so many replicas are up.
+fn health(alloc: Global, executors: usize, verifiers: usize, first: &[u8]) -> bool {
+    is_health(alloc, figures_of(executors, verifiers), first, b"\n")
+}
+
+/// The same of a server whose last save failed.
+fn health_unsaved(alloc: Global, executors: usize, first: &[u8], last: &[u8]) -> bool {
+    let mut figures = figures_of(executors, 3);
+    figures.saves.failing = 1;
+    is_health(alloc, figures, first, last)
 }
 
 /// A GET of this path with so many fields of so many bytes.
@@ -153,6 +170,15 @@ fn health_of_a_server(rt: HostRuntime) -> Result<(), Fail> {
     assert!(rt; health(alloc, 1, 3, unwell));
     assert!(rt; health(alloc, 3, 1, unwell));
     assert!(rt; health(alloc, 0, 0, unwell));
+    assert!(rt;
+        health_unsaved(
+            alloc,
+            3,
+            unwell,
+            b"\r\n\r\nThe last save failed: nothing is answered.\n"
+        )
+    );
+    assert!(rt; health_unsaved(alloc, 1, unwell, b"\r\n\r\nToo few replicas are up.\n"));
     Ok(())
 }
 
@@ -201,6 +227,11 @@ fn numbers_of_the_data(rt: HostRuntime) -> Result<(), Fail> {
     assert!(rt; number_at(alloc, "/refusals/2") == Some(1));
     assert!(rt; number_at(alloc, "/commands/4/2") == Some(2));
     assert!(rt; number_at(alloc, "/replicas/executors/0/stops") == Some(2));
+    assert!(rt; number_at(alloc, "/saves/made") == Some(100));
+    assert!(rt; number_at(alloc, "/saves/failed") == Some(3));
+    assert!(rt; number_at(alloc, "/saves/waiting") == Some(5));
+    assert!(rt; number_at(alloc, "/saves/failing") == Some(1));
+    assert!(rt; number_at(alloc, "/saves/bytes") == Some(73_728));
     assert!(rt; number_at(alloc, "/times/reply/counts/1") == Some(1));
     assert!(rt; number_at(alloc, "/times/batch/sum") == Some(1234567));
     assert!(rt; number_at(alloc, "/times/parts/agree/sum") == Some(300));

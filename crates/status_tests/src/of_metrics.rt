@@ -39,13 +39,13 @@ fn have_line(alloc: Global, wanted: &[u8]) -> bool {
     }
 }
 
-/// 35 metrics with two lines each; 25 values, 32 of commands, ten of refused lines, 18 of each of six histograms. Each
+/// 40 metrics with two lines each; 30 values, 32 of commands, ten of refused lines, 18 of each of six histograms. Each
 /// node that is there has a line of two metrics.
 #[test]
 fn each_line_is_of_the_form(rt: HostRuntime) -> Result<(), Fail> {
     let alloc = rt.alloc();
-    assert!(rt; are_form(alloc, &Figures::NONE, 70 + 25 + 32 + 10 + 108));
-    assert!(rt; are_form(alloc, &some_figures(), 70 + 25 + 32 + 10 + 108 + 12));
+    assert!(rt; are_form(alloc, &Figures::NONE, 80 + 30 + 32 + 10 + 108));
+    assert!(rt; are_form(alloc, &some_figures(), 80 + 30 + 32 + 10 + 108 + 12));
     Ok(())
 }
 
@@ -75,6 +75,22 @@ fn lines_of_values(rt: HostRuntime) -> Result<(), Fail> {
     assert!(rt; have_line(alloc, b"eve_node_up{role=\"executor\",id=\"0\"} 1"));
     assert!(rt; have_line(alloc, b"eve_node_up{role=\"executor\",id=\"2\"} 0"));
     assert!(rt; have_line(alloc, b"eve_node_stops_total{role=\"executor\",id=\"0\"} 2"));
+    Ok(())
+}
+
+#[test]
+fn lines_of_saves(rt: HostRuntime) -> Result<(), Fail> {
+    let alloc = rt.alloc();
+    assert!(rt; have_line(alloc, b"# TYPE eve_saves_total counter"));
+    assert!(rt; have_line(alloc, b"eve_saves_total 100"));
+    assert!(rt; have_line(alloc, b"# TYPE eve_save_failures_total counter"));
+    assert!(rt; have_line(alloc, b"eve_save_failures_total 3"));
+    assert!(rt; have_line(alloc, b"# TYPE eve_save_waiting_messages gauge"));
+    assert!(rt; have_line(alloc, b"eve_save_waiting_messages 5"));
+    assert!(rt; have_line(alloc, b"# TYPE eve_save_failing gauge"));
+    assert!(rt; have_line(alloc, b"eve_save_failing 1"));
+    assert!(rt; have_line(alloc, b"# TYPE eve_data_bytes gauge"));
+    assert!(rt; have_line(alloc, b"eve_data_bytes 73728"));
     Ok(())
 }
 

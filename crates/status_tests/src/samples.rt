@@ -1,16 +1,23 @@
 //! Figures that are not all zero.
 
-use figures::{Asked, Figures, Kind, NodeFigures, Refusal};
+use figures::{Asked, Figures, Kind, NodeFigures, Refusal, Saves};
 use proto::Reply;
 use status::{History, Seen};
 use std::alloc::Global;
 
-/// Three executors of which one is down, some commands, some times.
+/// Three executors of which two are down, some commands, some times, a save that failed.
 pub fn some_figures() -> Figures {
     let mut figures = Figures::NONE;
     figures.uptime_seconds = 7;
     figures.process.started = 1_764_403_200;
     figures.limits.connections = 1024;
+    figures.saves = Saves {
+        made: 100,
+        failed: 3,
+        waiting: 5,
+        failing: 1,
+        bytes: 73_728,
+    };
     figures.connections.open = 3;
     figures.connections.idle = 4;
     figures.refusals.count(Refusal::Number);

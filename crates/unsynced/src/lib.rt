@@ -1,41 +1,45 @@
-//! A disk whose syncs do nothing.
+//! A disk whose syncs may be turned off.
 //!
-//! It stands on `sqlite_disk`. A database over an `Unsynced` disk keeps what its contracts say under another kind of crash:
-//! the process ends, and the machine goes on. Such a crash leaves what was written, so nothing has to be synced. The
-//! layer above uses that `Unsynced` meets `Disk`: what is proved over every disk holds of it.
+//! It stands on `sqlite_disk`. A database over such a disk keeps what its contracts say also without syncs, under another
+//! kind of crash: the process ends, and the machine goes on. Such a crash leaves what was written, so nothing has to be
+//! synced. The layer above uses that `OptionalSync` meets `Disk`: what is proved over every disk holds of it.
 #![tactic(auto)]
 
-ghost use Rattle.std.specs.Prelude.{◌≡◌, refl};
+ghost use Rattle.std.specs.Prelude.{◌≡◌};
 
 use sqlite_disk::{Disk, Tally};
 use std::io;
 
-/// A disk as it is seen by processes that end while the machine goes on: what was written stays.
-pub struct Unsynced<D: Disk> {
+/// A disk that is synced; or one as it is seen by processes that end while the machine goes on, where what was written
+/// stays.
+pub struct OptionalSync<D: Disk> {
     inner: D,
+    syncs: bool,
 }
 
-impl<D: Disk + Drop> Drop for Unsynced<D> {
+impl<D: Disk + Drop> Drop for OptionalSync<D> {
     fn drop(self) {
-        let Unsynced { inner: _ } = self;
+        let OptionalSync { inner: _, syncs: _ } = self;
     }
 }
 
-impl<D: Disk> Unsynced<D> {
-    /// This disk, without its syncs.
-    pub fn new(inner: D) -> Unsynced<D>
-        ensures { result.inner ≡ inner }
+impl<D: Disk> OptionalSync<D> {
+    /// This disk, with its syncs or without.
+    pub fn new(inner: D, syncs: bool) -> OptionalSync<D>
+        ensures inner { result.inner ≡ inner }
+        ensures syncs { result.syncs ≡ syncs }
     {
-        Unsynced { inner }
+        OptionalSync { inner, syncs }
     }
 }
 
-impl<D: Disk> Disk for Unsynced<D> {
-    ghost use Rattle.std.specs.Prelude.{◌≡◌, refl, false};
+impl<D: Disk> Disk for OptionalSync<D> {
+    ghost use Rattle.std.specs.Prelude.{◌≡◌, refl, false, cond};
+    ghost use Rattle.unsynced.specs.MayLeave.{MayLeave, seen_stays};
 
     ghost seen = { λ f. D.Disk.seen f.inner };
 
-    ghost may_leave = { λ f c. c ≡ D.Disk.seen f.inner };
+    ghost may_leave = { λ f c. MayLeave f.syncs (D.Disk.may_leave f.inner) (D.Disk.seen f.inner) c };
 
     ghost is_usable = { λ f. D.Disk.is_usable f.inner };
 
@@ -51,12 +55,14 @@ impl<D: Disk> Disk for Unsynced<D> {
 
     ghost is_fair = { λ f. D.Disk.is_fair f.inner };
 
+    ghost is_mixing = { λ f. cond f.syncs (D.Disk.is_mixing f.inner) false };
+
     ghost fair_if_clean = { λ f. D.Disk.fair_if_clean f.inner };
 
-    ghost seen_may_stay = { λ f. refl };
+    ghost seen_may_stay = { λ f. seen_stays f.syncs (D.Disk.may_leave f.inner) (D.Disk.seen f.inner) (D.Disk.seen_may_stay f.inner) };
 
     fn mixes(&self) -> bool {
-        false
+        self.syncs && self.inner.mixes()
     }
 
     fn key(&self) -> u64 {
@@ -71,28 +77,38 @@ impl<D: Disk> Disk for Unsynced<D> {
         self.inner.may_be_used()
     }
 
+    #[tactic(auto, using(crate::proofs::LeavesLemmas::leaves_no_more))]
     fn len(&mut self) -> io::Result<usize> {
         self.inner.len()
     }
 
+    #[tactic(auto, using(crate::proofs::LeavesLemmas::leaves_no_more))]
     fn read_at(&mut self, at: usize, buf: &mut [u8]) -> io::Result<()> {
         self.inner.read_at(at, buf)
     }
 
+    #[tactic(auto, using(crate::proofs::LeavesLemmas::leaves_no_more))]
     fn read_checked(&mut self, key: u64, want: u64, at: usize, buf: &mut [u8]) -> io::Result<()> {
         self.inner.read_checked(key, want, at, buf)
     }
 
+    #[tactic(auto, using(crate::proofs::LeavesLemmas::leaves_after))]
     fn write_at(&mut self, at: usize, bytes: &[u8]) -> io::Result<()> {
         self.inner.write_at(at, bytes)
     }
 
+    #[tactic(auto, using(crate::proofs::LeavesLemmas::leaves_after))]
     fn set_len(&mut self, len: usize) -> io::Result<()> {
         self.inner.set_len(len)
     }
 
-    /// Does nothing: what was written stays when the process ends.
+    /// Without syncs it does nothing: what was written stays when the process ends.
+    #[tactic(auto, using(crate::proofs::LeavesLemmas::leaves_only))]
     fn sync(&mut self) -> io::Result<()> {
-        Ok(())
+        if self.syncs {
+            self.inner.sync()
+        } else {
+            Ok(())
+        }
     }
 }

@@ -2,7 +2,7 @@ use Rattle.std.proofs.Common.{◌≡◌, ◌+◌, inl, ℕ, Bool, true, false, L
 use Rattle.std.specs.Prelude.{not}
 use Rattle.std.specs.Vec.{vec_len}
 use Rattle.std.proofs.lemmas.Bool.{eqb-true}
-use Rattle.std.proofs.lemmas.List.{nil_from_length}
+use Rattle.std.proofs.lemmas.List.{append-nil, nil_from_length}
 use Rattle.connections.specs.declared.said.Said.{Said}
 use Rattle.connections.specs.Connections.{ConnectionsView}
 use Rattle.service.specs.Service.{ServiceView, Gives}
@@ -40,6 +40,12 @@ returns-clause-tells g c =
     subst (λ (x : ServiceView). TellsIn x.connections.table x.replicas.refused c.args.said.now.items now.connections.table now.replicas.refused c.answer_all.new.said.items) c.self.view_is
     (round_tells s.connections.table mid.connections.table c.execute-answers.new.self.connections.table now.connections.table _ _ _ _ c.args.said.now.items c.assign_all.new.said.items c.answer_all.new.said.items
     c.assign_all.ensures.counted c.execute-answers.ensures.counted c.answer_all.ensures.counted (ap (λ (x : ConnectionsView). x.table) c.execute-answers.ensures.connections) asked c.answer_all.ensures.tells)
+
+pub returns-then-not-has_room-clause-given : goal.returns-then-not-has_room-clause-given
+returns-then-not-has_room-clause-given g c =
+    ([], c.has_room.ensures.said ∙ sym (append-nil c.args.said.now.items),
+    ap (λ (x : ServiceView). x.connections.given) c.self.view_is ∙ sym (append-nil c.args.self.now.connections.given),
+    ap (λ (x : ServiceView). x.connections.passed) c.self.view_is ∙ sym (append-nil c.args.self.now.connections.passed))
 
 pub returns-then-not-has_room-clause-tells : goal.returns-then-not-has_room-clause-tells
 returns-then-not-has_room-clause-tells g c =
