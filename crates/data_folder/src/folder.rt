@@ -8,12 +8,11 @@ ghost use Rattle.server.specs.Durable.{IsFoundOf};
 ghost use Rattle.data_folder.specs.Text.{IsServiceText, TellsService, service_text};
 ghost use Rattle.process_text.specs.Text.{IsProcessText};
 
-use crate::changes::changes_since;
 use crate::fault::{DataFault, record_fault, store_fault};
 use crate::service_text::{take_text, text_of};
 use crate::stored_items::state_with;
 use folders::SaveStamp;
-use item_rows::PlacedItems;
+use item_rows::{PlacedItems, changes_since};
 use process_parts::{StoredProcess, record_of, stored_of};
 use process_text::ProcessText;
 use proto::Fault;
@@ -268,7 +267,7 @@ impl<S: Store + Drop> DataFolder<S> {
             turn: self.stamp.turn.saturating_add(1),
         };
         let turn = saved_turn(alloc, stamp, text, next)?;
-        let changes = changes_since(alloc, &self.last, state)?;
+        let changes = changes_since(alloc, self.last.pages(), state.pages())?;
         Ok(PreparedSave {
             turn,
             changes,

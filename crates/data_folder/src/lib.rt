@@ -8,11 +8,10 @@
 //! above uses `HostFolder::open` once, and hands the folder to `server::serve_beside`, which saves before replies leave. No
 //! clause says which items the file has.
 //!
-//! A save writes the text of the process and the items that are not as they were in the last save. Those are found by the
-//! digests of pages: a page whose digest is the same is not looked at.
+//! A save writes the text of the process and the items that are not as they were in the last save. Those are found by
+//! digests (`item_rows::changes_since`): what has the same digest is not looked at.
 #![tactic(auto)]
 
-mod changes;
 mod fault;
 mod folder;
 mod host;

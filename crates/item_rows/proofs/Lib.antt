@@ -1,1 +1,6 @@
 pub mod ChangeLemmas
+pub mod NotedLemmas
+pub mod OrderLemmas
+pub mod NumberLemmas
+pub mod PlaceLemmas
+pub mod ChangedLemmas

@@ -1,3 +1,4 @@
 pub mod TextLemmas
 pub mod Crossing
 pub mod ToldLemmas
+pub mod DifferLemmas

@@ -12,7 +12,7 @@ use Rattle.merkle.proofs.LawLemmas.{tells_maps}
 use Rattle.item_tree.specs.Told.{TellsItems}
 use Rattle.item_tree.specs.TextLaws.{only_equal}
 
-exact : IsExact item_leaf
+pub exact : IsExact item_leaf
 exact k l v w e =
     let first = key_prefix_free.apart k l (item_text v) (item_text w) e in
     (first.0, (item_prefix_free.apart v w [] [] (ap (λ t. t ++ []) first.1)).0)

@@ -36,6 +36,7 @@ impl ItemTree {
     ghost use Rattle.items.specs.Map.{alive};
     ghost use Rattle.item_tree.specs.Told.{items_digest};
     ghost use Rattle.item_tree.specs.Text.{path_entries};
+    ghost use Rattle.item_tree.specs.Differing.{AreItemDifferences};
 
     /// A store without items.
     pub fn new(alloc: Global) -> ItemTree
@@ -82,6 +83,20 @@ impl ItemTree {
         let mut entries = Vec::new(alloc);
         self.items.walk(&mut entries)?;
         Ok(entries)
+    }
+
+    /// The entries of this store and those of a newer one that may differ, shared, both in the order of their
+    /// paths. All whose paths begin with the same `front` bits come together or not at all. It visits no tree
+    /// below a digest that is the same. The only error is a failed allocation.
+    pub fn differences(
+        &self,
+        alloc: Global,
+        newer: &ItemTree,
+        front: u32,
+    ) -> Result<(Vec<Entry<Key, Item>>, Vec<Entry<Key, Item>>), AllocError>
+        ensures { IfOk result (λ found. AreItemDifferences front self.now newer.now found.0.items found.1.items) }
+    {
+        self.items.differences(alloc, &newer.items, front)
     }
 
     /// The digest of the items. This takes no memory. It hashes what was written since the last `seal`,

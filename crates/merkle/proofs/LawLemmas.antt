@@ -39,16 +39,16 @@ module _ (among : List ℕ → Type 0) where
   first_among : (x : List ℕ) (xs : List (List ℕ)) → TextsAreAmong (x ∷ xs) among → among x
   first_among x xs h = h.each x (0, omega arith, refl)
 
-  rest_among : (x : List ℕ) (xs : List (List ℕ)) → TextsAreAmong (x ∷ xs) among → TextsAreAmong xs among
+  pub rest_among : (x : List ℕ) (xs : List (List ℕ)) → TextsAreAmong (x ∷ xs) among → TextsAreAmong xs among
   rest_among x xs h = record { each = later }
     where
       later : (y : List ℕ) → Contains xs y → among y
       later y (k, lt, e) = h.each y (suc k, omega (arith, lt), e)
 
-  left_among : (xs ys : List (List ℕ)) → TextsAreAmong (xs ++ ys) among → TextsAreAmong xs among
+  pub left_among : (xs ys : List (List ℕ)) → TextsAreAmong (xs ++ ys) among → TextsAreAmong xs among
   left_among xs ys h = record { each = λ x c. h.each x (Contains-append_left xs ys x c) }
 
-  right_among : (xs ys : List (List ℕ)) → TextsAreAmong (xs ++ ys) among → TextsAreAmong ys among
+  pub right_among : (xs ys : List (List ℕ)) → TextsAreAmong (xs ++ ys) among → TextsAreAmong ys among
   right_among xs ys h = record { each = λ x c. h.each x (Contains-append_right xs ys x c) }
 
 module _ {K V : Type 0} (text : K → V → List ℕ) where
@@ -63,7 +63,7 @@ module _ {K V : Type 0} (text : K → V → List ℕ) where
     same_leaf k j v w e = (let both = exact k j v w (ap tail_of e) in λ i. one (both.0 i) (both.1 i))
 
     -- trees of one digest are one tree
-    told : (s t : Shape K V) → TextsAreAmong (texts_of text s) among → TextsAreAmong (texts_of text t) among → hash_of text s ≡ hash_of text t → s ≡ t
+    pub told : (s t : Shape K V) → TextsAreAmong (texts_of text s) among → TextsAreAmong (texts_of text t) among → hash_of text s ≡ hash_of text t → s ≡ t
     told none none p q d = refl
     told none (one k v) p q d = absurd (not_empty 5 _ (distinct _ _ (first_among among _ _ p) (first_among among _ _ q) d))
     told none (fork l r) p q d = absurd (not_empty 1 _ (distinct _ _ (first_among among _ _ p) (first_among among _ _ q) d))

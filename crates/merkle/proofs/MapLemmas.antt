@@ -7,7 +7,7 @@ use Rattle.std.specs.Cmp.{IsTotalOrder, tied_itself}
 use Rattle.std.specs.FinMap.{entries, find, is_sorted, IsAntisymmetric, entries_sorted, same_map, insert, get-entries, get-from_entries, get-insert, from_entries}
 use Rattle.std.specs.FinMap.Entries.{is_sorted-where_key, find-where_key, same_entries}
 use Rattle.merkle.specs.Shape.{Shape, none, one, fork, pairs, AllOn, IsTrie, is_none, joined, trimmed, hash_of, digest_of}
-use Rattle.merkle.specs.Digest.{on_side, fork_over, tree_of, map_tree, map_digest, map_pairs}
+use Rattle.merkle.specs.Digest.{on_side, fork_over, tree_of, texts_of, map_tree, map_digest, map_pairs, map_texts}
 use Rattle.merkle.specs.Put.{IsPut}
 use Rattle.merkle.proofs.FindLemmas.{equal_of, not_found, find_past, find_left, find_right}
 
@@ -38,7 +38,7 @@ module _ {K V : Type 0} (bit : K → ℕ → Bool) where
       λ i. joined (sym (same_none bits depth l p) i) (sym (same_none bits depth r q) i) (trimmed l) (trimmed r) (fork (trimmed l) (trimmed r))
 
 -- what is trimmed has the same keys
-pairs_trimmed : {K V : Type 0} (s : Shape K V) → pairs (trimmed s) ≡ pairs s
+pub pairs_trimmed : {K V : Type 0} (s : Shape K V) → pairs (trimmed s) ≡ pairs s
 pairs_trimmed none = refl
 pairs_trimmed (one k v) = refl
 pairs_trimmed (fork none r) = pairs_trimmed r
@@ -124,6 +124,12 @@ module _ {K V : Type 0} {R : K → K → Ordering} (o : IsTotalOrder R) (same : 
   same_map_digest text bit bits s st =
       let m = from_entries {R = R} (pairs s) in
       ap (hash_of text) (same_at bit bits bits 0 s (entries m) (omega arith) st (entries_sorted m) (λ q. sym (get-entries m q) ∙ get-from_entries o (pairs s) q))
+
+  pub same_map_texts : (text : K → V → List ℕ) (bit : K → ℕ → Bool) (bits : ℕ) (s : Shape K V) → IsTrie bit bits 0 s → texts_of text (trimmed s) ≡ map_texts text bit bits (from_entries {R = R} (pairs s))
+  unfolding map_tree
+  same_map_texts text bit bits s st =
+      let m = from_entries {R = R} (pairs s) in
+      ap (texts_of text) (same_at bit bits bits 0 s (entries m) (omega arith) st (entries_sorted m) (λ q. sym (get-entries m q) ∙ get-from_entries o (pairs s) q))
 
   pub same_map_pairs : (bit : K → ℕ → Bool) (bits : ℕ) (s : Shape K V) → IsTrie bit bits 0 s → pairs s ≡ map_pairs bit bits (from_entries {R = R} (pairs s))
   unfolding map_tree

@@ -45,7 +45,7 @@ fn joined_digest(left_empty: bool, right_empty: bool, left: &[u8; 32], right: &[
     }
 }
 
-fn is_empty<K, V>(tree: &Tree<K, V>) -> bool
+pub(crate) fn is_empty<K, V>(tree: &Tree<K, V>) -> bool
     ensures { result ≡ is_none (shape tree.now) }
 {
     match tree {
@@ -56,7 +56,7 @@ fn is_empty<K, V>(tree: &Tree<K, V>) -> bool
 }
 
 /// The digest of a tree, if it is cached in its root.
-fn cached_digest<K: TreeKey, V: TreeValue<K>>(tree: &Tree<K, V>) -> Option<[u8; 32]>
+pub(crate) fn cached_digest<K: TreeKey, V: TreeValue<K>>(tree: &Tree<K, V>) -> Option<[u8; 32]>
     requires { IsCached K.hash V.text V.due tree.now }
     ensures some { IfSome result (λ digest. digest ≡ digest_of V.text (shape tree.now)) }
     ensures none { IfNone result (is_fork (shape tree.now) ≡ true) }

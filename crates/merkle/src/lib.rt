@@ -3,10 +3,12 @@
 //!
 //! It is built on `base`, whose entries it shares, and on `sha2`; `proto`, `items` and `wire` have the keys
 //! and items that it can hold. The layer above uses `MerkleMap`: clones share all, an error leaves all
-//! unchanged, `drop_due` visits just what it drops, and `digests_tell_maps` says that equal digests are
-//! of equal maps, if digests tell the texts apart that were hashed.
+//! unchanged, `drop_due` visits just what it drops, `differences` visits just what is above digests that
+//! differ, and `digests_tell_maps` says that equal digests are of equal maps, if digests tell the texts
+//! apart that were hashed.
 #![tactic(auto)]
 
+mod differing;
 mod dropping;
 mod due;
 mod finding;

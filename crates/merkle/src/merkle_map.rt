@@ -1,6 +1,7 @@
 ghost use Rattle.std.specs.Prelude.{◌≡◌, ◌+◌, cond, true, IfOk, OnOk, MatchOption};
 ghost use Rattle.merkle.specs.Tree.{IsLeaf};
 
+use crate::differing::differ_at;
 use crate::dropping::drop_at;
 use crate::due::is_above;
 use crate::finding::{find_at, has_key};
@@ -89,6 +90,7 @@ impl<K: TreeKey + Drop, V: TreeValue<K> + Drop> MerkleMap<K, V> {
     ghost use Rattle.merkle.specs.Digest.{map_digest, map_pairs};
     ghost use Rattle.merkle.specs.Alive.{alive_map};
     ghost use Rattle.merkle.specs.Walk.{Sees};
+    ghost use Rattle.merkle.specs.Differing.{AreDifferences, AreMapsTold};
 
     /// A map of no keys.
     pub fn new() -> MerkleMap<K, V>
@@ -227,6 +229,28 @@ impl<K: TreeKey + Drop, V: TreeValue<K> + Drop> MerkleMap<K, V> {
         ensures order { self.now ≡ map_pairs K.bit K.BITS (map.from_entries {R = K.cmp} self.now) }
     {
         walk_at(&self.tree, visitor)
+    }
+
+    /// The entries of this map and those of a newer one that may differ, both in the order of paths. All whose
+    /// paths begin with the same `front` bits come together or not at all. What comes of neither map is the
+    /// same in both, if digests tell texts apart. It visits no tree below a digest that is the same. The only
+    /// error is a failed allocation.
+    pub fn differences(
+        &self,
+        alloc: Global,
+        newer: &MerkleMap<K, V>,
+        front: u32,
+    ) -> Result<(Vec<Entry<K, V>>, Vec<Entry<K, V>>), AllocError>
+        ensures found { IfOk result (λ found. AreDifferences K.bit front
+            (AreMapsTold V.text K.bit K.BITS (map.from_entries {R = K.cmp} self.now) (map.from_entries {R = K.cmp} newer.now))
+            self.now newer.now found.0.items found.1.items) }
+        ensures order { self.now ≡ map_pairs K.bit K.BITS (map.from_entries {R = K.cmp} self.now) }
+        ensures newer_order { newer.now ≡ map_pairs K.bit K.BITS (map.from_entries {R = K.cmp} newer.now) }
+    {
+        let mut before = Vec::new(alloc);
+        let mut now = Vec::new(alloc);
+        differ_at(&self.tree, &newer.tree, 0, front, &mut before, &mut now)?;
+        Ok((before, now))
     }
 }
 

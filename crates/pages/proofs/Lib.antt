@@ -14,3 +14,4 @@ pub mod OldLemmas
 pub mod GivenLemmas
 pub mod RecordLemmas
 pub mod Crossing
+pub mod DifferLemmas

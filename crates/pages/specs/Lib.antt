@@ -10,3 +10,4 @@ pub mod Step
 pub mod Others
 pub mod Old
 pub mod Held
+pub mod Differing

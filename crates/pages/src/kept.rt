@@ -8,7 +8,9 @@ ghost use Rattle.wire.specs.Item.{PageFits};
 ghost use Rattle.wire.specs.Record.{Puts};
 ghost use Rattle.pages.specs.Page.{beside_due};
 ghost use Rattle.pages.specs.Layout.{digest_in, text_in, entries_in};
+ghost use Rattle.item_tree.specs.Text.{path_entries};
 ghost use Rattle.pages.specs.Kept.{items_kept, layout_kept};
+ghost use Rattle.pages.specs.Differing.{ArePageDifferences};
 ghost use Rattle.pages.specs.declared.layout.Layout.TheVariants.{Sorted};
 
 use crate::layout::Layout;
@@ -75,6 +77,35 @@ impl Kept {
         match self {
             Kept::Sorted(page) => shared(alloc, page.entries()),
             Kept::Tree(tree) => tree.entries(alloc),
+        }
+    }
+
+    /// The entries, shared, in the order of their paths. The only error is a failed allocation.
+    fn in_path_order(&self, alloc: Global) -> Result<Vec<Entry<Key, Item>>, AllocError>
+        ensures { IfOk result (λ entries. entries.items ≡ path_entries (items_kept self.now)) }
+    {
+        match self {
+            Kept::Sorted(page) => ItemTree::from_plain(alloc, page.store())?.entries(alloc),
+            Kept::Tree(tree) => tree.entries(alloc),
+        }
+    }
+
+    /// The entries of this page and those of a newer one that may differ, both in the order of their paths. All whose
+    /// paths begin with the same `front` bits come together or not at all. The only error is a failed allocation.
+    pub(crate) fn differences(
+        &self,
+        alloc: Global,
+        newer: &Kept,
+        front: u32,
+    ) -> Result<(Vec<Entry<Key, Item>>, Vec<Entry<Key, Item>>), AllocError>
+        ensures { IfOk result (λ found. ArePageDifferences front (layout_kept self.now) (items_kept self.now) (layout_kept newer.now) (items_kept newer.now) found.0.items found.1.items) }
+    {
+        match (self, newer) {
+            (Kept::Tree(old), Kept::Tree(new)) => old.differences(alloc, new, front),
+            (Kept::Sorted(old), Kept::Sorted(new)) if have_one_digest(old, new) => {
+                Ok((Vec::new(alloc), Vec::new(alloc)))
+            }
+            _ => Ok((self.in_path_order(alloc)?, newer.in_path_order(alloc)?)),
         }
     }
 
@@ -185,6 +216,13 @@ impl Kept {
             (Kept::Tree(tree), Layout::Tree) => Ok(Kept::Tree(tree.clone()?)),
         }
     }
+}
+
+/// Whether the digests of two pages are the same.
+fn have_one_digest(old: &SortedPage, new: &SortedPage) -> bool
+    ensures { result ≡ true → digest_in Sorted old.now ≡ digest_in Sorted new.now }
+{
+    old.digest() == new.digest()
 }
 
 /// The same entries, shared.

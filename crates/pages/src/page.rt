@@ -12,6 +12,7 @@ ghost use Rattle.pages.specs.declared.layout.Layout.TheVariants.{Sorted};
 ghost use Rattle.pages.specs.declared.layout.Layout.TheVariants as laid;
 ghost use Rattle.pages.specs.declared.page.TheConstants.{MOST_ENTRIES};
 ghost use Rattle.pages.specs.Joined.{IsOwn, items_of};
+ghost use Rattle.pages.specs.Differing.{ArePageDifferences};
 
 use crate::kept::Kept;
 use crate::layout::Layout;
@@ -154,6 +155,19 @@ impl Page {
         ensures { IfOk result (λ entries. entries.items ≡ entries_in self.now.layout self.now.items) }
     {
         self.kept.entries(alloc)
+    }
+
+    /// The entries of this page and those of a newer one that may differ, both in the order of their paths. All whose
+    /// paths begin with the same `front` bits come together or not at all. The only error is a failed allocation.
+    pub(crate) fn differences(
+        &self,
+        alloc: Global,
+        newer: &Page,
+        front: u32,
+    ) -> Result<(Vec<Entry<Key, Item>>, Vec<Entry<Key, Item>>), AllocError>
+        ensures { IfOk result (λ found. ArePageDifferences front self.now.layout self.now.items newer.now.layout newer.now.items found.0.items found.1.items) }
+    {
+        self.kept.differences(alloc, &newer.kept, front)
     }
 
     /// Whether the other page has the same items, in whatever layout. The only error is a failed

@@ -8,6 +8,7 @@ ghost use Rattle.pages.specs.Form.{root_in};
 ghost use Rattle.pages.specs.Page.{page_items, page_entries, page_digest_in, page_count, of_each};
 ghost use Rattle.pages.specs.Layout.{text_in, entries_in};
 ghost use Rattle.pages.specs.Joined.{ArePages, AreSealed, IsSnapshot, joined_pages, items_of};
+ghost use Rattle.pages.specs.Differing.{ArePageDifferences};
 ghost use Rattle.pages.specs.Others.{AreSameBeside};
 ghost use Rattle.pages.specs.declared.layout.Layout.{Layout as LayoutOf};
 ghost use Rattle.pages.specs.declared.layout.Layout.TheVariants.{Sorted};
@@ -253,6 +254,25 @@ impl Snapshot {
         ensures { IfOk result (λ entries. entries.items ≡ entries_in self.now.layout (page_items self.now.items number)) }
     {
         self.page(number).entries(alloc)
+    }
+
+    /// The entries of a page and those of the page in a newer snapshot that may differ, shared, both in the order of
+    /// their paths. All whose paths begin with the same `front` bits come together or not at all, and what does not come
+    /// is the same in both, if digests tell texts apart. Of two trees it visits what is above other digests, and else
+    /// nothing, or all entries. The only error is a failed allocation.
+    pub fn differences(
+        &self,
+        alloc: Global,
+        newer: &Snapshot,
+        number: usize,
+        front: u32,
+    ) -> Result<(Vec<Entry<Key, Item>>, Vec<Entry<Key, Item>>), AllocError>
+        requires { number < page_count }
+        ensures { IfOk result (λ found. ArePageDifferences front self.now.layout (page_items self.now.items number) newer.now.layout (page_items newer.now.items number)
+            found.0.items found.1.items) }
+    {
+        self.page(number)
+            .differences(alloc, newer.page(number), front)
     }
 
     /// Whether a page has the same items in both. The only error is a failed allocation.
