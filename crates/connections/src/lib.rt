@@ -1,6 +1,6 @@
 //! Connections: a session for each, whose command is handed on.
 //!
-//! It stands on `session`, which reads the bytes, keeps one command outstanding and writes the replies in order, and on
+//! It is built on `session`, which reads the bytes, keeps one command outstanding and writes the replies in order, and on
 //! `grammar`: all of them are read in one grammar.
 //! The command is taken (`take`), is asked of a client proxy by the layer above, and the reply comes back
 //! (`answer`). The layer above uses `Connections`: the connections that are here, by the event loop's keys, and

@@ -8,9 +8,9 @@
 //!     let record = ensemble.record(alloc)?;                               // what is kept of it when its process ends
 //!     let ensemble = Ensemble::reopen(alloc, record)?;                    // another process goes on from there
 //!
-//! It stands on `hosts` and `worlds`, which hold the replicas, and on `proxies`, which ask. The layer above uses
+//! It is built on `hosts` and `worlds`, which hold the replicas, and on `proxies`, which ask. The layer above uses
 //! `Ensemble`: `ask` hands in a command, and `work` has the replicas work until nothing more can be done, and
-//! gives the replies. Whatever is called, what stands there is what events lead a world to (`shows`). `refused`
+//! gives the replies. Whatever is called, what is there then is what events lead a world to (`shows`). `refused`
 //! counts what was not done for want of memory or because a bound was reached: a call that did not raise it did
 //! all that it is for, and after such a `work` the replicas are at rest. There is no socket here, and no clock
 //! but for figures, and no thread but those that run the jobs of several executors at once.

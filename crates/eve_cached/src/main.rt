@@ -1,4 +1,10 @@
-//! A memcached server on replicas, as a daemon: `eve_cached --listen ADDR:PORT --u U --connections N --dialect DIALECT --status ADDR:PORT --data DIR`.
+//! A memcached server on replicas, as a daemon.
+//!
+//!     eve_cached --listen ADDR:PORT --listen unix:PATH --u U --connections N --idle SECONDS --dialect DIALECT
+//!         --max-bytes B --data DIR --new --status ADDR:PORT
+//!
+//! It is built on `server` (`serve_beside`), `data_folder` (the folder of `--data`), `daemon` (its words and its log),
+//! `status_server` (the status port) and `service_laws`, whose laws it calls at its end.
 //!
 //! It serves until a signal ends it, and tells on standard error what an operator wants to know. Status 0 for `--help`
 //! and `--version`, 1 if memory ran out before it served, 2 for other words, 3 if it cannot listen or cannot start, or

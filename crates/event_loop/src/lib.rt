@@ -6,12 +6,13 @@
 //!         ..                              // on this thread, while clients are served; `watch.counts` has the counts
 //!     });                                 // returns when the closure does, with no thread left
 //!
-//! All that was read in a round goes to the service as one message, and all that it says comes back as one. If
+//! All that was read in a pass of the loop goes to the service as one message, and all that it says comes back as one. If
 //! little happened and the service is idle, the event loop's own thread answers. A connection is read only when its last
 //! bytes are done with and all that was said to it is written, so one that never reads holds up nobody.
 //!
-//! It stands on `mio` (sockets that do not block), `link` (messages between the threads), `slab` and `http_server`
-//! (its `Log`, a history that takes no memory). The layer above implements `Serve` and calls `serve`.
+//! It is built on `mio` (sockets that do not block), `link` (messages between the threads), `figures` (what is counted),
+//! `slab` and `http_server` (its `Log`, a history that takes no memory). The layer above implements `Serve` and calls
+//! `serve`.
 //!
 //! `Socket` and `Sockets` are generic in their stream, so their contracts say which bytes move. What is told of a
 //! socket is what its reads gave, in order, under its number (`Socket::turn`, `IsSocket`). What is written is a

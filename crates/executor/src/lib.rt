@@ -1,7 +1,7 @@
 //! Executes batches first, and has them committed or undone later: a batch makes a tentative state
 //! whose replies nobody sees, with the token that stands for it.
 //!
-//! It stands on `states`, `workers` and `round`, `pages`, `mixer`, `wire`, `token` and `decrees`. The
+//! It is built on `states`, `workers` and `round`, `pages`, `mixer`, `wire`, `token` and `decrees`. The
 //! layer above uses `Work`. `begin` begins a batch over a base. Then `step` and `finish` make its steps one
 //! by one, in an order that the caller chooses, or `run_on_threads` makes them all. What either makes is a
 //! round of the base and the batch, with its token, for any number of workers and whatever the schedule of

@@ -1,9 +1,11 @@
 //! Which of several folders' records counts.
 //!
-//! It stands on std alone. Each folder has a copy of one record, with the stamp of the save that wrote it. At a start
-//! some folders cannot be read, and some have an old copy. The layer above uses `newest`: the folder to begin with, if more
-//! than half can be read. `a_saved_turn_is_found` says why that is right: if a turn was saved in more than half of the
-//! folders, its record or a later one is found.
+//! It is built on std alone. Each folder has a copy of one record, with the stamp of the save that wrote it. At a start
+//! some folders cannot be read, and some have an old copy. `newest` is the folder to begin with, if more than half can be
+//! read. `a_saved_turn_is_found` says why that is right: if a save is in more than half of the folders, its record or a
+//! later one is found.
+//!
+//! No program calls `newest` yet: `shelf` and `data_folder` use `SaveStamp` alone.
 #![tactic(auto)]
 
 mod laws;

@@ -6,8 +6,8 @@
 //!
 //! It is built on `crossbeam_channel` (its bounded channel under a rule) and `atomic_table` (lists of
 //! what ends know). The layers above use `Link::take`: whatever the other ends do, what was taken
-//! is a beginning of what was put, the item is the last of it, and each put of this end stands
-//! there once, in its order. That a call returns no contract says.
+//! is a beginning of what was put, the item is the last of it, and each put of this end is
+//! among the puts once, in its order. That a call returns no contract says.
 #![tactic(auto)]
 
 mod ends;

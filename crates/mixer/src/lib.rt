@@ -6,7 +6,7 @@
 //!
 //! It is built on `sessions` (requests) and `item_steps` (groups and their steps). The layer above uses
 //! `group_numbers`: the group of each request is the one that `numbers_of` says. `mix` gives the groups
-//! themselves, as `groups_of` says: each place of the batch is in one of them. Only tests call it.
+//! themselves, as `groups_of` says: each position of the batch is in one of them. Only tests call it.
 #![tactic(auto)]
 
 mod conflict;

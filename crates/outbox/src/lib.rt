@@ -1,8 +1,9 @@
-//! What was said in turns that are not saved yet.
+//! What was said before saves that have not succeeded yet.
 //!
-//! It stands on std alone. The layer above puts what each turn says into an `Outbox` and takes out what was said in saved
-//! turns, so nothing leaves the process that a crash could undo: `Outbox::release`. What was said leaves in the order in
-//! which it was said, also what closes a connection.
+//! It is built on std alone. What is said goes into an `Outbox` with the number of the save that has to succeed before it
+//! leaves, and is taken out once that one or a later one has: `Outbox::release`. So nothing leaves the process that a crash
+//! could undo. What was said leaves in the order in which it was said, also what closes a connection. No program uses it
+//! yet.
 #![tactic(auto)]
 
 ghost use Rattle.outbox.specs.Outbox.{TakesFirst};

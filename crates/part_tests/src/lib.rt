@@ -1,7 +1,7 @@
-//! Tests of the crates that one server stands on, and of those below `verifier`: worked examples, and
+//! Tests of the crates that one server is built on, and of those below `verifier`: worked examples, and
 //! each call that asks for memory made once with ample memory, which no contract can promise.
 //!
-//! They call what is public, and stand in a crate of their own: a crate that has tests is proved once
+//! They call what is public, and are in a crate of their own: a crate that has tests is proved once
 //! more with them.
 #![tactic(auto)]
 

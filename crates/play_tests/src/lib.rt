@@ -1,5 +1,5 @@
 //! Tests of `app` by its public call: statuses, streams that fail, large blocks, and a node that stops
-//! after each event. What a schedule shows stands in the rows of `play_rows`.
+//! after each event. What a schedule shows is in the rows of `play_rows`.
 #![tactic(auto)]
 
 #[cfg(test)]

@@ -9,7 +9,7 @@
 //! its whole record, so that takes as long as the items are many. Items are never compared: two states of one head are one
 //! state if digests are distinct, and then what is restored is what was stored (`what_is_stored_is_restored`).
 //!
-//! `data_folder` uses both. The three laws are for readers: no code calls them.
+//! `data_folder` uses both calls. No code calls the three laws.
 #![tactic(auto)]
 
 mod executor_rows;

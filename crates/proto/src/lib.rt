@@ -1,7 +1,7 @@
 //! The text protocol of memcached (protocol.txt): keys, commands, replies, and what a client's
 //! stream of bytes asks, turn by turn.
 //!
-//! It stands on `base` (keys of maps, lists with limits, and `Fault`, which it gives on), `memchr`
+//! It is built on `base` (keys of maps, lists with limits, and `Fault`, which it gives on), `memchr`
 //! (line ends) and `itoa` (decimals). The layer above uses `Reader::feed`: the turns given so far are
 //! those that the bytes fed so far spell, however they were cut.
 #![tactic(auto)]

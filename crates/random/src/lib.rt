@@ -1,4 +1,7 @@
-//! Numbers at random, the same for each run of a seed. Programs and tests play with them.
+//! Numbers at random, the same for each run of a seed.
+//!
+//! It is built on `rand_core` and `rand_pcg`. `world_plays` and `service_plays` use `Words::below` and `Words::one_in`, of
+//! which no clause says anything.
 #![tactic(auto)]
 
 use rand_core::SeedableRng;

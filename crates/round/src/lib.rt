@@ -1,7 +1,7 @@
 //! A round: the steps of one group of requests on the pages, by several callers at once.
 //!
 //! Each page lies under a lock, and each step draws a ticket inside the lock of its key's page. The
-//! tickets give one order of all steps, in which the callers' steps and the pages' histories stand as
+//! tickets give one order of all steps, in which the callers' steps and the pages' histories are as
 //! they were made. So what comes out is the result of that order, whatever the schedule.
 //!
 //! It is built on `pages` and `item_steps`, and on `atomic_table` for the word of the tickets. The layer

@@ -9,7 +9,7 @@
 //!     let record = service.record(alloc)?;                            // what is kept, after any of these calls
 //!     let mut service = Service::reopen(alloc, record, dialect)?;     // another process goes on from it
 //!
-//! It stands on `connections` (what each connection asks and is given) and `ensemble` (the replicas, and the
+//! It is built on `connections` (what each connection asks and is given) and `ensemble` (the replicas, and the
 //! proxies that ask them), and on `serving` for the patience of a proxy. The layer above uses `Service`, which the
 //! event loop drives: connections come, are heard and leave; `work` asks what waits, and gives what was answered.
 #![tactic(auto)]

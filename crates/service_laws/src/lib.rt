@@ -3,7 +3,8 @@
 //! It is built on `service`, whose invariant ties what connections were given to what client proxies were answered,
 //! on `ensemble`, whose invariant is a world that events lead to, and on `worlds` and `server_laws`, whose laws say what
 //! such a world decides and keeps, and that it has one run. The programs call `service_is_linearizable`, whose clause
-//! holds that of `serves`, and `replicas_agree_and_keep`.
+//! holds that of `serves`, and `replicas_agree_and_keep`. Of processes one after the other `service_goes_on` says that
+//! their connections have one linearizable history. No program calls it.
 #![tactic(auto)]
 
 mod law;

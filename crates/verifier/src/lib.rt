@@ -1,4 +1,4 @@
-//! A verifier: it decides with the others which decree is at each place of the log.
+//! A verifier: it decides with the others which decree is at each index of the log.
 //!
 //! It is built on `view_change`, `decrees` and `keeper`. The layer above uses `Verifier::handle`: an Ok
 //! is the written step, state, letters in order and saved record, and after an error the verifier

@@ -1,8 +1,8 @@
 //! All nodes in one world, stepped by events: whatever happens, and in whatever order.
 //!
-//! It is built on `worlds`, whose places it has, whose relation `WorldNext` each of its steps is, and whose laws
+//! It is built on `worlds`, whose slots it has, whose relation `WorldNext` each of its steps is, and whose laws
 //! hold of each world that is reached. The layer above uses `play`: the world that it
-//! gives is reached by just these events, so at a place at most one decree is chosen, a chosen one is
+//! gives is reached by just these events, so at a log index at most one decree is chosen, a chosen one is
 //! backed, and if at most `u` verifiers are lost for good, another one's record holds each. `history` plays
 //! the same events and gives what clients were given after each of them, which is linearizable.
 #![tactic(auto)]

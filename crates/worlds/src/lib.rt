@@ -1,9 +1,9 @@
-//! The places of a world, with what may become of each, and the laws of every world that is reached.
+//! The slots of a world, one for each replica, with what may become of each, and the laws of every world that is reached.
 //!
-//! It is built on `events`, on `client`, `exec_node` and `verifier`, whose steps a place makes and of whose step
+//! It is built on `events`, on `client`, `exec_node` and `verifier`, whose steps a slot makes and of whose step
 //! functions the worlds of `specs/World.antt` are made, on `keeper`, whose keepers in memory outlive their
 //! replicas, and on `agreement_laws`, whose laws hold of each world. The layer above uses the relation `WorldNext`,
-//! of which each of its steps is to be one; `settle`, `run`, `restart`, `crash`, `lose` and `fail_next` of a place,
+//! of which each of its steps is to be one; `settle`, `run`, `restart`, `crash`, `lose` and `fail_next` of a slot,
 //! each of which is exactly the part of that relation that it names; `letter_copy`, since a letter may come
 //! any number of times; and the laws: each is the contract of a function that does nothing.
 #![tactic(auto)]
