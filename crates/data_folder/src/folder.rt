@@ -24,6 +24,7 @@ use sqlite_trees::store::Store;
 use sqlite_value::value::Bytes;
 use states::State;
 use std::alloc::Global;
+use std::thread::Threads;
 
 /// So many changes of items are gathered in the file before they are written to the rows of items.
 const GATHERED: usize = 1024;
@@ -354,6 +355,19 @@ impl<S: Store + Drop> Save for DataFolder<S> {
                 false
             }
         }
+    }
+
+    /// Saves the record first, in this thread.
+    fn save_beside<R: Threads, F: FnMut()>(
+        &mut self,
+        _rt: &R,
+        alloc: Global,
+        kept: &mut ServiceRecord,
+        work: &mut F,
+    ) -> bool {
+        let is_saved = self.save(alloc, kept);
+        work();
+        is_saved
     }
 
     fn fault(&self) -> Option<SaveFault> {

@@ -130,7 +130,7 @@ ruleset shares = (
   standing.the_sync,
 )
 
-state_send : IsSend state.the_row
+pub state_send : IsSend state.the_row
 state_send = search (parts, sendable) depth 60 fits 20000
 
 tentative_send : IsSend tentative.the_row

@@ -213,7 +213,29 @@ impl Answering {
 }
 
 impl Answering {
-    ghost use Rattle.server.specs.Answering.{HandsIn};
+    ghost use denote.Param.Send.{IsSync};
+    ghost use Rattle.std.specs.Prelude.{◌≡◌, []};
+    ghost use Rattle.server.specs.Answering.{HandsIn, Runs};
+
+    /// Does what is due, as `work`, but hands nothing out: what is said waits, in order.
+    pub fn run<R: Threads + Wait + Sync, C: Clock>(&mut self, rt: &R, clock: &C, seconds: u32)
+        requires { IsSync R.row }
+        ensures { Runs seconds self.old self.new }
+    {
+        self.close_lost();
+        let given = self.service.work(rt, clock, self.alloc, seconds);
+        self.say_all(given);
+    }
+
+    /// Hands out all that was said since this was last done, in order.
+    pub fn take_said(&mut self) -> Vec<Said>
+        ensures all { result.items ≡ self.old.said }
+        ensures none { self.new.said ≡ [] }
+        ensures service { self.new.service ≡ self.old.service }
+        ensures lost { self.new.lost ≡ self.old.lost }
+    {
+        mem::replace(&mut self.said, Vec::new(self.alloc))
+    }
 
     /// One message of the event loop is handed in. A connection that the service does not take is closed when it says
     /// something.
@@ -262,10 +284,8 @@ impl Serve for Answering {
         requires { IsSync R.row }
         ensures { HandsOut seconds self.old result.items self.new }
     {
-        self.close_lost();
-        let given = self.service.work(rt, clock, self.alloc, seconds);
-        self.say_all(given);
-        mem::replace(&mut self.said, Vec::new(self.alloc))
+        self.run(rt, clock, seconds);
+        self.take_said()
     }
 
     fn tick(&mut self)

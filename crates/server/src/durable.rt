@@ -1,26 +1,35 @@
 //! A service that saves what it answered before anybody sees it.
 
-ghost use Rattle.std.specs.Prelude.{◌≡◌};
+ghost use Rattle.std.specs.Prelude.{◌≡◌, ◌⊎◌, ℕ, List, Option, IsTrue};
+ghost use denote.Param.Send.{IsSync};
+ghost use Rattle.server.specs.Answering.{Runs};
+ghost use Rattle.server.specs.Durable.{IsFoundOf};
 
 use crate::answering::Answering;
 use crate::save::{Save, SaveFault};
 use event_loop::{Heard, Said, Serve};
 use figures::{Figures, Saves, one_more};
-use service::Service;
+use service::{Service, ServiceRecord};
 use std::alloc::Global;
 use std::mem;
 use std::rt::Clock;
 use std::sync::Wait;
 use std::thread::Threads;
 
+/// If no more messages than these wait for a save, it is made at once: to start a thread for it takes longer than the
+/// service may have work meanwhile.
+const MOST_AT_ONCE: usize = 2;
+
 /// The service, where its record is saved, and what it has said and nobody has seen: a record of a later moment than that
 /// has to be saved first.
+///
+/// What a batch says is held until the next call, in which its record is saved while the service works on the next batch.
 pub struct DurableService<S> {
     alloc: Global,
     answering: Answering,
     saver: S,
     held: Vec<Said>,
-    /// The last save failed.
+    /// The last save failed: the service does not work before one succeeds.
     is_failing: bool,
     /// Saves that succeeded.
     made: u64,
@@ -28,9 +37,30 @@ pub struct DurableService<S> {
     failed: u64,
 }
 
+/// Saves the record while the service works.
+fn save_and_run<S: Save, R: Threads + Wait + Sync, C: Clock>(
+    saver: &mut S,
+    answering: &mut Answering,
+    alloc: Global,
+    kept: &mut ServiceRecord,
+    rt: &R,
+    clock: &C,
+    seconds: u32,
+) -> bool
+    requires sync { IsSync R.row }
+    ensures ran { Runs seconds answering.old answering.new }
+    ensures saved { IsTrue result → (found : Option (List ℕ)) → S.may_find saver.new found → IsFoundOf S.is_text kept.old found }
+    ensures crash { (found : Option (List ℕ)) → S.may_find saver.new found → S.may_find saver.old found ⊎ IsFoundOf S.is_text kept.old found }
+{
+    saver.save_beside(rt, alloc, kept, &mut ||
+        requires { IsSync R.row }
+        ensures { Runs seconds answering.entry.now answering.exit.now }
+    { answering.run(rt, clock, seconds) })
+}
+
 impl<S: Save> DurableService<S> {
-    ghost use Rattle.std.specs.Prelude.{◌≡◌, [], IsTrue, false, not};
-    ghost use Rattle.server.specs.Durable.{IsSavedNow, MayBeSavedNow, Releases};
+    ghost use Rattle.std.specs.Prelude.{◌≡◌, [], true, false, not};
+    ghost use Rattle.server.specs.Durable.{IsSavedNow, MayBeSavedNow, ReleasesHeld};
 
     /// Nothing is held.
     pub fn new(alloc: Global, answering: Answering, saver: S) -> DurableService<S>
@@ -90,7 +120,7 @@ impl<S: Save> DurableService<S> {
         self.answering.see(seen);
     }
 
-    /// Why what is held has not left: the last save failed, or there was no memory for the record. None: nothing is held.
+    /// Why what is held has not left: the last save failed, or there was no memory for the record. None: it did not fail.
     pub fn fault(&self) -> Option<SaveFault> {
         match (self.is_failing, self.saver.fault()) {
             (false, _) => None,
@@ -137,8 +167,9 @@ impl<S: Save> DurableService<S> {
     /// Hands out what is held, if a record of this moment is saved.
     fn hand_out(&mut self) -> Vec<Said>
         ensures answering { self.new.answering ≡ self.old.answering }
-        ensures releases { Releases S.is_text (S.may_find self.old.saver) (S.may_find self.new.saver) self.old.answering.service self.old.held.items result.items self.new.held.items }
-        ensures leaves { self.new.is_failing ≡ false → self.new.held.items ≡ [] }
+        ensures releases { ReleasesHeld S.is_text (S.may_find self.old.saver) (S.may_find self.new.saver) self.old.answering.service self.old.held.items result.items self.new.held.items }
+        ensures failing { self.new.is_failing ≡ true → result.items ≡ [] }
+        ensures leaves { self.new.is_failing ≡ false → result.items ≡ self.old.held.items }
     {
         if self.held.is_empty() {
             self.is_failing = false;
@@ -148,6 +179,70 @@ impl<S: Save> DurableService<S> {
             mem::replace(&mut self.held, Vec::new(self.alloc))
         } else {
             Vec::new(self.alloc)
+        }
+    }
+}
+
+impl<S: Save> DurableService<S> {
+    ghost use denote.Param.Send.{IsSync};
+    ghost use Rattle.std.specs.Prelude.{◌≡◌, [], true, false};
+    ghost use Rattle.service.specs.Process.{kept_of};
+    ghost use Rattle.service.specs.Record.{kept_in};
+    ghost use Rattle.server.specs.Durable.{HandsOutSaved};
+
+    /// Saves the record, which is of this moment, while the service works. If it is saved what was held leaves, and what
+    /// the service says is held. Else both wait.
+    fn save_beside<R: Threads + Wait + Sync, C: Clock>(
+        &mut self,
+        mut due: ServiceRecord,
+        rt: &R,
+        clock: &C,
+        seconds: u32,
+    ) -> Vec<Said>
+        requires sync { IsSync R.row }
+        requires moment { kept_in self.old.answering.service.connections.dialect due ≡ kept_of self.old.answering.service }
+        ensures saved { HandsOutSaved S.is_text (S.may_find self.old.saver) (S.may_find self.new.saver) seconds self.old.answering self.old.held.items result.items self.new.answering self.new.held.items }
+        ensures failing { self.new.is_failing ≡ true → result.items ≡ [] }
+        ensures leaves { self.new.is_failing ≡ false → result.items ≡ self.old.held.items }
+    {
+        let is_saved = save_and_run(
+            &mut self.saver,
+            &mut self.answering,
+            self.alloc,
+            &mut due,
+            rt,
+            clock,
+            seconds,
+        );
+        self.note(is_saved);
+        if !is_saved {
+            return Vec::new(self.alloc);
+        }
+        let said = self.answering.take_said();
+        mem::replace(&mut self.held, said)
+    }
+
+    /// Saves what is held while the service works; or saves it alone, if the last save failed.
+    fn go_on<R: Threads + Wait + Sync, C: Clock>(
+        &mut self,
+        rt: &R,
+        clock: &C,
+        seconds: u32,
+    ) -> Vec<Said>
+        requires { IsSync R.row }
+        ensures saved { HandsOutSaved S.is_text (S.may_find self.old.saver) (S.may_find self.new.saver) seconds self.old.answering self.old.held.items result.items self.new.answering self.new.held.items }
+        ensures failing { self.new.is_failing ≡ true → result.items ≡ [] }
+        ensures leaves { self.new.is_failing ≡ false → result.items ≡ self.old.held.items }
+    {
+        if self.is_failing {
+            return self.hand_out();
+        }
+        match self.answering.record() {
+            Ok(record) => self.save_beside(record, rt, clock, seconds),
+            Err(_) => {
+                self.note(false);
+                Vec::new(self.alloc)
+            }
         }
     }
 }
@@ -184,12 +279,16 @@ impl<S: Save> Serve for DurableService<S> {
     ) -> Vec<Said>
         requires { IsSync R.row }
         ensures saved { HandsOutSaved S.is_text (S.may_find self.old.saver) (S.may_find self.new.saver) seconds self.old.answering self.old.held.items result.items self.new.answering self.new.held.items }
-        ensures leaves { self.new.is_failing ≡ false → self.new.held.items ≡ [] }
+        ensures failing { self.new.is_failing ≡ true → result.items ≡ [] }
+        ensures leaves { self.new.is_failing ≡ false → (self.old.held.items ≡ []) ⊎ (result.items ≡ self.old.held.items) }
     {
         if !self.held.is_empty() {
-            return self.hand_out();
+            return self.go_on(rt, clock, seconds);
         }
         self.held = self.answering.work(rt, clock, seconds);
+        if MOST_AT_ONCE < self.held.len() && self.saver.keeps() {
+            return Vec::new(self.alloc);
+        }
         self.hand_out()
     }
 
@@ -208,19 +307,24 @@ impl<S: Save> Serve for DurableService<S> {
     }
 
     fn has_work(&self) -> bool
-        ensures no { result ≡ false → (self.now.held.items ≢ []) ⊎ ((self.now.answering.said ≡ []) × ((self.now.answering.service.line ≡ []) ⊎ AllWait self.now.answering.service.waiting)) }
-        ensures held { result ≡ true → self.now.held.items ≡ [] }
-        ensures yes { result ≡ true → (self.now.answering.said ≢ []) ⊎ ((proxy : ℕ) × IsFreeIn self.now.answering.service.waiting proxy) }
+        ensures no { result ≡ false → (self.now.is_failing ≡ true) ⊎ ((self.now.held.items ≡ []) × (self.now.answering.said ≡ []) × ((self.now.answering.service.line ≡ []) ⊎ AllWait self.now.answering.service.waiting)) }
+        ensures fine { result ≡ true → self.now.is_failing ≡ false }
+        ensures yes { result ≡ true → (self.now.held.items ≢ []) ⊎ ((self.now.answering.said ≢ []) ⊎ ((proxy : ℕ) × IsFreeIn self.now.answering.service.waiting proxy)) }
     {
-        self.held.is_empty() && (self.answering.has_said() || self.answering.has_work())
+        !self.is_failing
+            && (!self.held.is_empty() || self.answering.has_said() || self.answering.has_work())
     }
 
     fn is_waiting(&self) -> bool
+        ensures failing { result ≡ false → self.now.is_failing ≡ false }
         ensures held { result ≡ false → self.now.held.items ≡ [] }
         ensures said { result ≡ false → self.now.answering.said ≡ [] }
         ensures service { result ≡ false → (self.now.answering.service.line ≡ []) × NoneWaits self.now.answering.service.waiting }
         ensures lost { result ≡ false → self.now.answering.lost ≡ [] }
     {
-        !self.held.is_empty() || self.answering.has_said() || self.answering.is_waiting()
+        self.is_failing
+            || !self.held.is_empty()
+            || self.answering.has_said()
+            || self.answering.is_waiting()
     }
 }

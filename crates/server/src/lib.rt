@@ -3,7 +3,7 @@
 //! It stands on `service`, which answers, and on `event_loop`, which accepts, reads and writes. The layer above uses
 //! `serve` or, for a server that is watched, `serve_beside`. What is handed in and out between the two is said by the
 //! clauses of `Answering`. The event loop drives `DurableService`, which hands out what the service says once a record of that
-//! moment is saved (`Save`); `NoFolder` saves nothing.
+//! moment, or of a later one, is saved (`Save`), on another thread if the service has more to do; `NoFolder` saves nothing.
 #![tactic(auto)]
 
 mod answering;

@@ -245,8 +245,8 @@ pub fn serve<
 ///
 /// If a record was `found`, it goes on from that: the service is that of a process that begins with it, of as many
 /// replicas as it has. What is said to a connection leaves once the saver has saved a record of that moment or of a later
-/// one. While a save fails nothing leaves and nothing more is carried out; it is tried again at each tick. The saver comes
-/// back with the service.
+/// one. After a save that failed nothing leaves and nothing more is carried out before one succeeds; it is tried again at
+/// each tick. The saver comes back with the service.
 pub fn serve_beside<
     R: Net<Listener = TcpListener, Stream = TcpStream> + Threads + Wait + Clock + Sync,
     S: Save + Drop + Send,

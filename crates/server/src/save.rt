@@ -2,6 +2,7 @@
 
 use service::ServiceRecord;
 use std::alloc::Global;
+use std::thread::Threads;
 use thiserror::Error;
 
 /// Why a record is not saved.
@@ -45,6 +46,19 @@ pub trait Save {
         ensures saved { IsTrue result → (found : Option (List ℕ)) → may_find self.new found → IsFoundOf is_text kept.now found }
         ensures crash { (found : Option (List ℕ)) → may_find self.new found → may_find self.old found ⊎ IsFoundOf is_text kept.now found };
 
+    /// Saves the record as `save` does, and does this work once: on another thread meanwhile, if one can be made.
+    fn save_beside<R: Threads, F: FnMut()>(
+        &mut self,
+        rt: &R,
+        alloc: Global,
+        kept: &mut ServiceRecord,
+        work: &mut F,
+    ) -> bool
+        requires { F.pre work.old }
+        ensures worked { F.step work.old tt work.new }
+        ensures saved { IsTrue result → (found : Option (List ℕ)) → may_find self.new found → IsFoundOf is_text kept.old found }
+        ensures crash { (found : Option (List ℕ)) → may_find self.new found → may_find self.old found ⊎ IsFoundOf is_text kept.old found };
+
     /// Why the last save failed. None: it did not, or nothing was saved yet. Once it is `Disk` it stays so, and no save
     /// succeeds.
     fn fault(&self) -> Option<SaveFault>;
@@ -67,6 +81,17 @@ impl Save for NoFolder {
     }
 
     fn save(&mut self, _alloc: Global, _kept: &ServiceRecord) -> bool {
+        true
+    }
+
+    fn save_beside<R: Threads, F: FnMut()>(
+        &mut self,
+        _rt: &R,
+        _alloc: Global,
+        _kept: &mut ServiceRecord,
+        work: &mut F,
+    ) -> bool {
+        work();
         true
     }
 

@@ -1,0 +1,44 @@
+-- A save of the record of a moment beside the work after it.
+use Rattle.std.proofs.Common.{◌≡◌, ℕ, List, [], ◌++◌, Option, refl, ap, ◌∙◌, ◌⊎◌, inl, inr}
+use Rattle.std.proofs.lemmas.List.{append-nil}
+use Rattle.event_loop.specs.declared.message.Said.{Said}
+use Rattle.service.specs.Record.{RecordView, kept_in}
+use Rattle.service.specs.Process.{kept_of}
+use Rattle.server.specs.Answering.{AnsweringView, Runs}
+use Rattle.server.specs.Durable.{IsFoundOf, IsSavedNow, LeavesNothing, LeavesHeld, HandsOutSaved}
+
+module _ {is_text : RecordView → List ℕ → Type 0} {before may_find : Option (List ℕ) → Type 0} where
+  -- what is found is of the moment of the record
+  saved_now : (v : AnsweringView) (kept : RecordView) → kept_in v.service.connections.dialect kept ≡ kept_of v.service
+      → ((found : Option (List ℕ)) → may_find found → IsFoundOf is_text kept found) → IsSavedNow is_text may_find v.service
+  saved_now v kept moment saved found may = record { kept = kept; of_moment = moment; is_found = saved found may }
+
+  -- it failed: what was held is held, and what the service says is behind it
+  pub failed_beside : (moment : ℕ) (v ran : AnsweringView) (held out : List Said) (kept : RecordView) → kept_in v.service.connections.dialect kept ≡ kept_of v.service
+      → Runs moment v ran → out ≡ [] → ((found : Option (List ℕ)) → may_find found → before found ⊎ IsFoundOf is_text kept found)
+      → HandsOutSaved is_text before may_find moment v held out ran held
+  failed_beside moment v ran held out kept of_moment runs none crash = record {
+    ran = ran;
+    works = inl runs;
+    service = refl;
+    in_line = ap (λ (l : List Said). l ++ (held ++ ran.said)) none;
+    releases = inl (record {
+      nothing = none;
+      found = λ found may. elim (crash found may) [
+        | inl was ↦ inl was
+        | inr is ↦ inr (inl (record { kept = kept; of_moment = of_moment; is_found = is }))
+      ];
+    });
+  }
+
+  -- it succeeded: what was held leaves, and what the service says is held
+  pub saved_beside : (moment : ℕ) (v ran now : AnsweringView) (held : List Said) (kept : RecordView) → kept_in v.service.connections.dialect kept ≡ kept_of v.service
+      → Runs moment v ran → now.service ≡ ran.service → now.said ≡ [] → ((found : Option (List ℕ)) → may_find found → IsFoundOf is_text kept found)
+      → HandsOutSaved is_text before may_find moment v held held now ran.said
+  saved_beside moment v ran now held kept of_moment runs service none saved = record {
+    ran = ran;
+    works = inl runs;
+    service = service;
+    in_line = ap (λ (l : List Said). held ++ l) (ap (λ (l : List Said). ran.said ++ l) none ∙ append-nil ran.said);
+    releases = inr (inl (record { all = refl; saved = saved_now v kept of_moment saved }));
+  }
