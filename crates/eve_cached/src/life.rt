@@ -56,6 +56,14 @@ fn bound_socket<R: Net + Files>(rt: &R, path: &str) -> io::Result<UnixListener> 
     UnixListener::bind(rt, path)
 }
 
+/// Whether a file of this name is there that is no socket.
+fn is_other_file<R: Files>(rt: &R, path: &str) -> bool {
+    match fs::symlink_metadata(rt, path) {
+        Ok(found) => !found.file_type().is_socket(),
+        Err(_) => false,
+    }
+}
+
 /// A listener for clients at this place. The log tells where, or why there is none.
 fn listener<R: Net<Listener = TcpListener, Stream = TcpStream> + Clock + Files + Eprint>(
     rt: &R,
@@ -72,6 +80,10 @@ fn listener<R: Net<Listener = TcpListener, Stream = TcpStream> + Clock + Files +
             Ok(listener) => {
                 tell_listening(&Stamped(rt), listen);
                 Ok(Listener::Unix(listener))
+            }
+            Err(_) if is_other_file(rt, path.as_str()) => {
+                error!(Stamped(rt); target: NO_TARGET, "cannot listen on unix:{path}: a file is there that is no socket");
+                Err(CANNOT)
             }
             Err(fault) => {
                 error!(Stamped(rt); target: NO_TARGET, "cannot listen on unix:{path}: {fault}");
