@@ -87,7 +87,7 @@ impl Model for Answering {
 }
 
 impl Answering {
-    ghost use Rattle.std.specs.Prelude.{◌≡◌, ◌≢◌, ◌⊎◌, ◌++◌, ◌∷◌, [], map, true, false, IfOk, IfErr};
+    ghost use Rattle.std.specs.Prelude.{◌≡◌, ◌≢◌, ◌⊎◌, ◌++◌, ◌∷◌, [], map, length, true, false, IfOk, IfErr};
     ghost use Rattle.service.specs.Process.{kept_of};
     ghost use Rattle.service.specs.Record.{kept_in};
     ghost use Rattle.server.specs.Answering.{Says, SaysEach, Closings, HandsBytes, HandsLeft, HandsWritten};
@@ -151,6 +151,13 @@ impl Answering {
         ensures yes { result ≡ true → self.now.said ≢ [] }
     {
         !self.said.is_empty()
+    }
+
+    /// How much is said that is to be handed out.
+    pub fn said_count(&self) -> usize
+        ensures { result ≡ length self.now.said }
+    {
+        self.said.len()
     }
 
     /// A piece of a connection comes.

@@ -16,18 +16,22 @@ use std::rt::Clock;
 use std::sync::Wait;
 use std::thread::Threads;
 
-/// If no more messages than these wait for a save, it is made at once: to start a thread for it takes longer than the
-/// service may have work meanwhile.
+/// So few messages are saved at once. More wait for what the service has to do next, and are saved with that.
 const MOST_AT_ONCE: usize = 2;
+
+/// When more messages than these wait they are saved while the service works.
+const MOST_GATHERED: usize = 512;
 
 /// The service, where its record is saved, and what it has said and nobody has seen: a record of a later moment than that
 /// has to be saved first.
 ///
-/// What a batch says is held until the next call, in which its record is saved while the service works on the next batch.
+/// A save is for all that was said until nothing more is to be done. If that is much, it is held and saved while the
+/// service goes on.
 pub struct DurableService<S> {
     alloc: Global,
     answering: Answering,
     saver: S,
+    /// It was said before all that the service says now.
     held: Vec<Said>,
     /// The last save failed: the service does not work before one succeeds.
     is_failing: bool,
@@ -106,7 +110,7 @@ impl<S: Save> DurableService<S> {
         figures.saves = Saves {
             made: self.made,
             failed: self.failed,
-            waiting: self.held.len() as u64,
+            waiting: self.held.len().saturating_add(self.answering.said_count()) as u64,
             failing: if self.is_failing { 1 } else { 0 },
             bytes: 0,
         };
@@ -185,7 +189,7 @@ impl<S: Save> DurableService<S> {
 
 impl<S: Save> DurableService<S> {
     ghost use denote.Param.Send.{IsSync};
-    ghost use Rattle.std.specs.Prelude.{◌≡◌, [], true, false};
+    ghost use Rattle.std.specs.Prelude.{◌≡◌, ◌⊎◌, [], true, false};
     ghost use Rattle.service.specs.Process.{kept_of};
     ghost use Rattle.service.specs.Record.{kept_in};
     ghost use Rattle.server.specs.Durable.{HandsOutSaved};
@@ -220,6 +224,32 @@ impl<S: Save> DurableService<S> {
         }
         let said = self.answering.take_said();
         mem::replace(&mut self.held, said)
+    }
+
+    /// Lets the service work, unless nothing is to be done but to hand out what it said. Whether that waits for more.
+    fn gather<R: Threads + Wait + Sync, C: Clock>(
+        &mut self,
+        rt: &R,
+        clock: &C,
+        seconds: u32,
+    ) -> bool
+        requires { IsSync R.row }
+        ensures ran { Runs seconds self.old.answering self.new.answering ⊎ (self.new.answering ≡ self.old.answering) }
+        ensures saver { self.new.saver ≡ self.old.saver }
+        ensures held { self.new.held ≡ self.old.held }
+        ensures failing { self.new.is_failing ≡ self.old.is_failing }
+    {
+        if self.answering.has_said() && !self.answering.has_work() {
+            return false;
+        }
+        self.answering.run(rt, clock, seconds);
+        let count = self.answering.said_count();
+        MOST_AT_ONCE < count && count <= MOST_GATHERED && self.saver.keeps()
+    }
+
+    /// Whether what is held is to be saved while the service works.
+    fn is_full(&self) -> bool {
+        MOST_GATHERED < self.held.len() && self.answering.has_work() && self.saver.keeps()
     }
 
     /// Saves what is held while the service works; or saves it alone, if the last save failed.
@@ -285,8 +315,11 @@ impl<S: Save> Serve for DurableService<S> {
         if !self.held.is_empty() {
             return self.go_on(rt, clock, seconds);
         }
-        self.held = self.answering.work(rt, clock, seconds);
-        if MOST_AT_ONCE < self.held.len() && self.saver.keeps() {
+        if self.gather(rt, clock, seconds) {
+            return Vec::new(self.alloc);
+        }
+        self.held = self.answering.take_said();
+        if self.is_full() {
             return Vec::new(self.alloc);
         }
         self.hand_out()
