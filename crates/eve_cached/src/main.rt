@@ -1,7 +1,7 @@
 //! A memcached server on replicas, as a daemon.
 //!
 //!     eve_cached --listen ADDR:PORT --listen unix:PATH --u U --connections N --idle SECONDS --dialect DIALECT
-//!         --max-bytes B --data DIR --new --status ADDR:PORT
+//!         --max-bytes B --data DIR --new --sync MODE --status ADDR:PORT
 //!
 //! It is built on `server` (`serve_beside`), `data_folder` (the folder of `--data`), `daemon` (its words and its log),
 //! `status_server` (the status port) and `service_laws`, whose laws it calls at its end.

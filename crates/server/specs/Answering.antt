@@ -156,7 +156,7 @@ pub record ServiceWorks (moment : ℕ) (v : ServiceView) (given : List of_servic
   pub asks : UnlessRefused v.replicas.refused now.replicas.refused (AsksWhatWaits v now)
 
 -- Connections that were lost are told that they are closed. Then the service works at this moment, and each thing that it gives is said once, in order.
-pub record Runs (moment : ℕ) (v : AnsweringView) (now : AnsweringView) : Type 0 where
+pub record DoesWhatIsDue (moment : ℕ) (v : AnsweringView) (now : AnsweringView) : Type 0 where
   pub closed : AnsweringView
   pub closes : Closings v closed
   pub given : List of_service.Said
@@ -168,7 +168,7 @@ pub record Runs (moment : ℕ) (v : AnsweringView) (now : AnsweringView) : Type 
 -- The same, and all that was said since this was last done is handed out.
 pub record HandsOut (moment : ℕ) (v : AnsweringView) (out : List Said) (now : AnsweringView) : Type 0 where
   pub full : AnsweringView
-  pub runs : Runs moment v full
+  pub runs : DoesWhatIsDue moment v full
   pub out_is : out ≡ full.said
   pub service : now.service ≡ full.service
   pub none : now.said ≡ []

@@ -4,7 +4,7 @@ use Rattle.event_loop.specs.declared.message.Said.{Said}
 use Rattle.service.specs.Service.{ServiceView}
 use Rattle.service.specs.Record.{RecordView, kept_in}
 use Rattle.service.specs.Process.{kept_of}
-use Rattle.server.specs.Answering.{AnsweringView, Runs}
+use Rattle.server.specs.Answering.{AnsweringView, DoesWhatIsDue}
 
 -- ---- what another process finds
 
@@ -63,7 +63,7 @@ Releases is_text before may_find v held out now =
 -- held and said, in order.
 pub record HandsOutSaved (is_text : RecordView → List ℕ → Type 0) (before may_find : Option (List ℕ) → Type 0) (moment : ℕ) (v : AnsweringView) (held out : List Said) (now : AnsweringView) (rest : List Said) : Type 0 where
   pub ran : AnsweringView
-  pub works : Runs moment v ran ⊎ (ran ≡ v)
+  pub works : DoesWhatIsDue moment v ran ⊎ (ran ≡ v)
   pub service : now.service ≡ ran.service
   pub in_line : out ++ (rest ++ now.said) ≡ held ++ ran.said
   pub releases : Releases is_text before may_find v.service held out now.service

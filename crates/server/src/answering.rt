@@ -222,12 +222,12 @@ impl Answering {
 impl Answering {
     ghost use denote.Param.Send.{IsSync};
     ghost use Rattle.std.specs.Prelude.{◌≡◌, []};
-    ghost use Rattle.server.specs.Answering.{HandsIn, Runs};
+    ghost use Rattle.server.specs.Answering.{HandsIn, DoesWhatIsDue};
 
     /// Does what is due, as `work`, but hands nothing out: what is said waits, in order.
     pub fn run<R: Threads + Wait + Sync, C: Clock>(&mut self, rt: &R, clock: &C, seconds: u32)
         requires { IsSync R.row }
-        ensures { Runs seconds self.old self.new }
+        ensures { DoesWhatIsDue seconds self.old self.new }
     {
         self.close_lost();
         let given = self.service.work(rt, clock, self.alloc, seconds);

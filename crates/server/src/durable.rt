@@ -2,7 +2,7 @@
 
 ghost use Rattle.std.specs.Prelude.{◌≡◌, ◌⊎◌, ℕ, List, Option, IsTrue};
 ghost use denote.Param.Send.{IsSync};
-ghost use Rattle.server.specs.Answering.{Runs};
+ghost use Rattle.server.specs.Answering.{DoesWhatIsDue};
 ghost use Rattle.server.specs.Durable.{IsFoundOf};
 
 use crate::answering::Answering;
@@ -52,14 +52,19 @@ fn save_and_run<S: Save, R: Threads + Wait + Sync, C: Clock>(
     seconds: u32,
 ) -> bool
     requires sync { IsSync R.row }
-    ensures ran { Runs seconds answering.old answering.new }
+    ensures ran { DoesWhatIsDue seconds answering.old answering.new }
     ensures saved { IsTrue result → (found : Option (List ℕ)) → S.may_find saver.new found → IsFoundOf S.is_text kept.old found }
     ensures crash { (found : Option (List ℕ)) → S.may_find saver.new found → S.may_find saver.old found ⊎ IsFoundOf S.is_text kept.old found }
 {
-    saver.save_beside(rt, alloc, kept, &mut ||
-        requires { IsSync R.row }
-        ensures { Runs seconds answering.entry.now answering.exit.now }
-    { answering.run(rt, clock, seconds) })
+    saver.save_beside(
+        rt,
+        alloc,
+        kept,
+        &mut ||
+            requires { IsSync R.row }
+            ensures { DoesWhatIsDue seconds answering.entry.now answering.exit.now }
+        { answering.run(rt, clock, seconds) },
+    )
 }
 
 impl<S: Save> DurableService<S> {
@@ -234,7 +239,7 @@ impl<S: Save> DurableService<S> {
         seconds: u32,
     ) -> bool
         requires { IsSync R.row }
-        ensures ran { Runs seconds self.old.answering self.new.answering ⊎ (self.new.answering ≡ self.old.answering) }
+        ensures ran { DoesWhatIsDue seconds self.old.answering self.new.answering ⊎ (self.new.answering ≡ self.old.answering) }
         ensures saver { self.new.saver ≡ self.old.saver }
         ensures held { self.new.held ≡ self.old.held }
         ensures failing { self.new.is_failing ≡ self.old.is_failing }
@@ -263,6 +268,7 @@ impl<S: Save> DurableService<S> {
         ensures saved { HandsOutSaved S.is_text (S.may_find self.old.saver) (S.may_find self.new.saver) seconds self.old.answering self.old.held.items result.items self.new.answering self.new.held.items }
         ensures failing { self.new.is_failing ≡ true → result.items ≡ [] }
         ensures leaves { self.new.is_failing ≡ false → result.items ≡ self.old.held.items }
+        ensures rests { self.old.is_failing ≡ true → self.new.answering ≡ self.old.answering }
     {
         if self.is_failing {
             return self.hand_out();
@@ -311,8 +317,9 @@ impl<S: Save> Serve for DurableService<S> {
         ensures saved { HandsOutSaved S.is_text (S.may_find self.old.saver) (S.may_find self.new.saver) seconds self.old.answering self.old.held.items result.items self.new.answering self.new.held.items }
         ensures failing { self.new.is_failing ≡ true → result.items ≡ [] }
         ensures leaves { self.new.is_failing ≡ false → (self.old.held.items ≡ []) ⊎ (result.items ≡ self.old.held.items) }
+        ensures rests { self.old.is_failing ≡ true → self.new.answering ≡ self.old.answering }
     {
-        if !self.held.is_empty() {
+        if self.is_failing || !self.held.is_empty() {
             return self.go_on(rt, clock, seconds);
         }
         if self.gather(rt, clock, seconds) {

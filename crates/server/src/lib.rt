@@ -1,9 +1,10 @@
 //! A memcached server on replicas: the service behind the event loop.
 //!
-//! It stands on `service`, which answers, and on `event_loop`, which accepts, reads and writes. The layer above uses
+//! It is built on `service`, which answers, and on `event_loop`, which accepts, reads and writes. The layer above uses
 //! `serve` or, for a server that is watched, `serve_beside`. What is handed in and out between the two is said by the
 //! clauses of `Answering`. The event loop drives `DurableService`, which hands out what the service says once a record of that
-//! moment, or of a later one, is saved (`Save`), on another thread if the service has more to do; `NoFolder` saves nothing.
+//! moment, or of a later one, is saved (`Save`): one save for all that is said until nothing more is to be done, or, if
+//! that is much, on another thread while the service goes on. `NoFolder` saves nothing.
 #![tactic(auto)]
 
 mod answering;

@@ -46,7 +46,8 @@ pub trait Save {
         ensures saved { IsTrue result → (found : Option (List ℕ)) → may_find self.new found → IsFoundOf is_text kept.now found }
         ensures crash { (found : Option (List ℕ)) → may_find self.new found → may_find self.old found ⊎ IsFoundOf is_text kept.now found };
 
-    /// Saves the record as `save` does, and does this work once: on another thread meanwhile, if one can be made.
+    /// Saves the record as `save` does, on another thread while this thread does the work. If no thread can be made it saves
+    /// before the work or after it.
     fn save_beside<R: Threads, F: FnMut()>(
         &mut self,
         rt: &R,

@@ -31,8 +31,8 @@ impl<'a, S: Save> Watcher<'a, S> {
         Watcher { watch }
     }
 
-    /// What the server has counted. The caller waits for the end of a batch, if one is carried out; clients wait for the
-    /// copy alone. What the server does not know of itself, as its memory and the time since its start, is 0. It waits, so no
+    /// What the server has counted. The caller waits for the end of a batch or of a save, if one is under way; clients wait
+    /// for the copy alone. What the server does not know of itself, as its memory and the time since its start, is 0. It waits, so no
     /// clause says what it gives.
     pub fn figures<R: Wait>(&self, rt: &R) -> Figures {
         let counts = self.watch.counts(rt);
