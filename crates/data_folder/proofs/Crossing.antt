@@ -1,6 +1,9 @@
--- A folder goes to the thread of its service.
+-- A folder goes to the thread of its service, and is lent to the thread that saves.
+use mathlib.Core.List.{[], ◌∷◌}
+use mir.Syntax.{Sym}
 use denote.RattleType.{RattleType}
 use denote.Struct.Declared.{shape}
+use denote.Struct.Tuple.{TupleAt, type_at}
 use denote.Param.Send.{IsSend, sendable, recorded_send, struct_send}
 use Rattle.std.proofs.Crossing.{crosses}
 use Rattle.std.proofs.alloc.Global.TheSendSync as global
@@ -11,17 +14,9 @@ use Rattle.base.proofs.text.Text.TheSendSync as text
 use Rattle.base.proofs.entry.Entry.TheSendSync as entry
 use Rattle.proto.proofs.key.Key.TheSendSync as key
 use Rattle.proto.proofs.block.Block.TheSendSync as block
-use Rattle.proto.proofs.reply.Reply.TheSendSync as reply
 use Rattle.items.proofs.item.Item.TheSendSync as item
-use Rattle.sessions.proofs.sessions.Sessions.TheSendSync as sessions
-use Rattle.token.proofs.Token.TheSendSync as token
-use Rattle.token.proofs.digested.Digested.TheSendSync as digested
-use Rattle.token.proofs.form.Form.TheSendSync as form
-use Rattle.token.proofs.hashed_sessions.HashedSessions.TheSendSync as hashed
 use Rattle.wire.proofs.counted.Counted.TheSendSync as counted
-use Rattle.pages.proofs.layout.Layout.TheSendSync as layout
-use Rattle.pages.proofs.Crossing.{page_send, page_sync}
-use Rattle.states.proofs.origin.Origin.TheSendSync as origin
+use Rattle.ensemble.proofs.Crossing.{state_send}
 use Rattle.folders.proofs.stamp.SaveStamp.TheSendSync as stamp
 use Rattle.shelf.proofs.waiting.WaitingChanges.TheSendSync as waiting
 use Rattle.server.proofs.save.SaveFault.TheSendSync as fault
@@ -32,15 +27,12 @@ use Rattle.sqlite_disk.specs.contracts.start.Unknown as start
 use Rattle.sqlite_std_file.specs.contracts.host.Host as file
 use Rattle.unsynced.proofs.OptionalSync.TheSendSync as optional
 use Rattle.sqlite_trees.specs.declared.store.Store as store
-use Rattle.states.specs.contracts.state.State as state
 use Rattle.row_store.specs.contracts.rows.RowStore as rows
 use Rattle.shelf.specs.contracts.shelf.Shelf as shelf
 use Rattle.data_folder.specs.contracts.folder.DataFolder as folder
 use Rattle.data_folder.specs.contracts.host.HostFolder as host
 
 ruleset parts = (
-  page_send,
-  page_sync,
   text.the_send,
   entry.the_send,
   entry.the_sync,
@@ -52,22 +44,7 @@ ruleset parts = (
   item.the_field_sync,
   item.the_send,
   item.the_sync,
-  reply.the_field_send,
-  reply.the_send,
-  sessions.the_send,
-  token.the_field_send,
-  token.the_send,
-  digested.the_send,
-  form.the_field_send,
-  form.the_send,
-  hashed.the_send,
   counted.the_send,
-  layout.the_field_send,
-  layout.the_send,
-  layout.the_field_sync,
-  layout.the_sync,
-  origin.the_field_send,
-  origin.the_send,
   stamp.the_field_send,
   stamp.the_send,
   fault.the_field_send,
@@ -86,9 +63,6 @@ ruleset parts = (
   global.the_sync,
   crosses,
 )
-
-state_send : IsSend state.the_row
-state_send = search (parts, sendable) depth 60 fits 20000
 
 rows_send : (T : RattleType) (g : store.Ghosts T.Denot) → IsSend T → IsSend (rows.the_field T g).row
 rows_send T g s = struct_send (shape (rows.the_type T g)) (s, ((search (parts, sendable)), tt))
@@ -112,3 +86,9 @@ file_send = search (crosses, sendable) depth 60 fits 20000
 -- A folder of the host may.
 pub host_send : IsSend host.the_row
 host_send = recorded_send _ _ _ host.the_type.to_one (struct_send (shape host.the_type) ((search (folder_field, file_store.the_field_send, file_store.the_send, optional.the_send, modelled.the_send, file_send, start_send, crosses, sendable) depth 60 fits 20000), tt))
+
+-- what a closure lends to another thread, if each thing may go there
+pub three_are_lent : (name : Sym) (A B C : RattleType) → IsSend A → IsSend B → IsSend C → IsSend (TupleAt name (A ∷ B ∷ C ∷ []))
+three_are_lent name A B C a b c =
+    let lent = type_at name (A ∷ B ∷ C ∷ []) in
+    recorded_send _ _ _ lent.to_one (struct_send (shape lent) (a, (b, (c, tt))))
