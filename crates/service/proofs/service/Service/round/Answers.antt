@@ -42,10 +42,12 @@ returns-clause-tells g c =
     c.assign_all.ensures.counted c.execute-answers.ensures.counted c.answer_all.ensures.counted (ap (λ (x : ConnectionsView). x.table) c.execute-answers.ensures.connections) asked c.answer_all.ensures.tells)
 
 pub returns-then-not-has_room-clause-given : goal.returns-then-not-has_room-clause-given
-returns-then-not-has_room-clause-given g c =
-    ([], c.has_room.ensures.said ∙ sym (append-nil c.args.said.now.items),
-    ap (λ (x : ServiceView). x.connections.given) c.self.view_is ∙ sym (append-nil c.args.self.now.connections.given),
-    ap (λ (x : ServiceView). x.connections.passed) c.self.view_is ∙ sym (append-nil c.args.self.now.connections.passed))
+returns-then-not-has_room-clause-given g c = (
+  [],
+  c.has_room.ensures.said ∙ sym (append-nil c.args.said.now.items),
+  ap (λ (x : ServiceView). x.connections.given) c.self.view_is ∙ sym (append-nil c.args.self.now.connections.given),
+  ap (λ (x : ServiceView). x.connections.passed) c.self.view_is ∙ sym (append-nil c.args.self.now.connections.passed),
+)
 
 pub returns-then-not-has_room-clause-tells : goal.returns-then-not-has_room-clause-tells
 returns-then-not-has_room-clause-tells g c =
