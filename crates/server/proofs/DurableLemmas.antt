@@ -7,12 +7,13 @@ use Rattle.service.specs.Process.{kept_of}
 use Rattle.server.specs.Answering.{AnsweringView, DoesWhatIsDue}
 use Rattle.server.specs.Durable.{IsFoundOf, IsSavedNow, LeavesNothing, LeavesHeld, ReleasesHeld, HandsOutSaved}
 
-module _ {is_text : RecordView → List ℕ → Type 0} {before may_find : Option (List ℕ) → Type 0} where
+module _ {is_text : RecordView → List ℕ → Type 0} {may_find : Option (List ℕ) → Type 0} where
   -- what is found is of the moment of the record
   saved_now : (v : AnsweringView) (kept : RecordView) → kept_in v.service.connections.dialect kept ≡ kept_of v.service
       → ((found : Option (List ℕ)) → may_find found → IsFoundOf is_text kept found) → IsSavedNow is_text may_find v.service
   saved_now v kept moment saved found may = record { kept = kept; of_moment = moment; is_found = saved found may }
 
+module _ {is_text : RecordView → List ℕ → Type 0} {before may_find : Option (List ℕ) → Type 0} where
   -- it failed: what was held is held, and what the service says is behind it
   pub failed_beside : (moment : ℕ) (v ran : AnsweringView) (held out : List Said) (kept : RecordView) → kept_in v.service.connections.dialect kept ≡ kept_of v.service
       → DoesWhatIsDue moment v ran → out ≡ [] → ((found : Option (List ℕ)) → may_find found → before found ⊎ IsFoundOf is_text kept found)
@@ -48,25 +49,25 @@ module _ {is_text : RecordView → List ℕ → Type 0} {before may_find : Optio
       → HandsOutSaved is_text before may_find moment v held out now rest
   held_is_handed_out moment v now held out rest same releases = elim releases [
     | inl saved ↦ record {
-        ran = v;
-        works = inr refl;
-        service = ap (λ (a : AnsweringView). a.service) same;
-        in_line = ap (λ (l : List Said). l ++ (rest ++ now.said)) saved.all ∙ ap (λ (l : List Said). held ++ l) (ap (λ (l : List Said). l ++ now.said) saved.none ∙ ap (λ (a : AnsweringView). a.said) same);
-        releases = inr (inl (record { all = saved.all; saved = saved.saved }));
-      }
+      ran = v;
+      works = inr refl;
+      service = ap (λ (a : AnsweringView). a.service) same;
+      in_line = ap (λ (l : List Said). l ++ (rest ++ now.said)) saved.all ∙ ap (λ (l : List Said). held ++ l) (ap (λ (l : List Said). l ++ now.said) saved.none ∙ ap (λ (a : AnsweringView). a.said) same);
+      releases = inr (inl (record { all = saved.all; saved = saved.saved }));
+    }
     | inr kept ↦ record {
-        ran = v;
-        works = inr refl;
-        service = ap (λ (a : AnsweringView). a.service) same;
-        in_line = ap (λ (l : List Said). l ++ (rest ++ now.said)) kept.nothing ∙ (ap (λ (l : List Said). l ++ now.said) kept.all ∙ ap (λ (a : AnsweringView). held ++ a.said) same);
-        releases = inl (record {
-          nothing = kept.nothing;
-          found = λ found may. elim (kept.saved found may) [
-            | inl was ↦ inl was
-            | inr is ↦ inr (inl is)
-          ];
-        });
-      }
+      ran = v;
+      works = inr refl;
+      service = ap (λ (a : AnsweringView). a.service) same;
+      in_line = ap (λ (l : List Said). l ++ (rest ++ now.said)) kept.nothing ∙ (ap (λ (l : List Said). l ++ now.said) kept.all ∙ ap (λ (a : AnsweringView). held ++ a.said) same);
+      releases = inl (record {
+        nothing = kept.nothing;
+        found = λ found may. elim (kept.saved found may) [
+          | inl was ↦ inl was
+          | inr is ↦ inr (inl is)
+        ];
+      });
+    }
   ]
 
   -- it was made alone, of what was said since, and nothing was held before
@@ -77,25 +78,25 @@ module _ {is_text : RecordView → List ℕ → Type 0} {before may_find : Optio
       let told : held ++ now.said ≡ waiting ++ ran.said = ap (λ (l : List Said). held ++ l) said ∙ (append-nil held ∙ (all ∙ sym (ap (λ (l : List Said). l ++ ran.said) none))) in
       elim releases [
         | inl saved ↦ record {
-            ran = ran;
-            works = works;
-            service = service;
-            in_line = ap (λ (l : List Said). l ++ (rest ++ now.said)) saved.all ∙ (ap (λ (l : List Said). held ++ (l ++ now.said)) saved.none ∙ told);
-            releases = inr (inr saved.saved);
-          }
+          ran = ran;
+          works = works;
+          service = service;
+          in_line = ap (λ (l : List Said). l ++ (rest ++ now.said)) saved.all ∙ (ap (λ (l : List Said). held ++ (l ++ now.said)) saved.none ∙ told);
+          releases = inr (inr saved.saved);
+        }
         | inr kept ↦ record {
-            ran = ran;
-            works = works;
-            service = service;
-            in_line = ap (λ (l : List Said). l ++ (rest ++ now.said)) kept.nothing ∙ (ap (λ (l : List Said). l ++ now.said) kept.all ∙ told);
-            releases = inl (record {
-              nothing = kept.nothing;
-              found = λ found may. elim (kept.saved found may) [
-                | inl was ↦ inl was
-                | inr is ↦ inr (inr is)
-              ];
-            });
-          }
+          ran = ran;
+          works = works;
+          service = service;
+          in_line = ap (λ (l : List Said). l ++ (rest ++ now.said)) kept.nothing ∙ (ap (λ (l : List Said). l ++ now.said) kept.all ∙ told);
+          releases = inl (record {
+            nothing = kept.nothing;
+            found = λ found may. elim (kept.saved found may) [
+              | inl was ↦ inl was
+              | inr is ↦ inr (inr is)
+            ];
+          });
+        }
       ]
 
   -- nothing is saved, and nothing leaves
