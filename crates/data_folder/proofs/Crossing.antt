@@ -31,6 +31,7 @@ use Rattle.row_store.specs.contracts.rows.RowStore as rows
 use Rattle.shelf.specs.contracts.shelf.Shelf as shelf
 use Rattle.data_folder.specs.contracts.folder.DataFolder as folder
 use Rattle.data_folder.specs.contracts.host.HostFolder as host
+use Rattle.data_folder.specs.contracts.host.LentFolder as lent
 
 ruleset parts = (
   text.the_send,
@@ -83,9 +84,15 @@ start_send = search (unknown.the_send, crosses, sendable) depth 60 fits 20000
 file_send : IsSend file.the_row
 file_send = search (crosses, sendable) depth 60 fits 20000
 
+lent_field : IsSend lent.the_field.row
+lent_field = struct_send (shape lent.the_type) ((search (folder_field, file_store.the_field_send, file_store.the_send, optional.the_send, modelled.the_send, file_send, start_send, crosses, sendable) depth 60 fits 20000), tt)
+
+pub lent_send : IsSend lent.the_row
+lent_send = recorded_send _ _ _ lent.the_type.to_one lent_field
+
 -- A folder of the host may.
 pub host_send : IsSend host.the_row
-host_send = recorded_send _ _ _ host.the_type.to_one (struct_send (shape host.the_type) ((search (folder_field, file_store.the_field_send, file_store.the_send, optional.the_send, modelled.the_send, file_send, start_send, crosses, sendable) depth 60 fits 20000), tt))
+host_send = recorded_send _ _ _ host.the_type.to_one (struct_send (shape host.the_type) (lent_field, tt))
 
 -- what a closure lends to another thread, if each thing may go there
 pub three_are_lent : (name : Sym) (A B C : RattleType) → IsSend A → IsSend B → IsSend C → IsSend (TupleAt name (A ∷ B ∷ C ∷ []))

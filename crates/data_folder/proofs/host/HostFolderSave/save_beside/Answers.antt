@@ -1,12 +1,8 @@
 use denote.Exit.{no}
-use denote.Param.{param}
-use denote.Param.Send.{IsSend, param_send, arg_send, mut_send, shr_send}
-use Rattle.std.proofs.alloc.Global.TheSendSync as global
-use Rattle.service.proofs.Crossing.{record_send}
-use Rattle.data_folder.proofs.Crossing.{host_send, three_are_lent}
+use denote.Param.Send.{param_send, arg_send}
+use Rattle.data_folder.proofs.Crossing.{lent_send}
 use Rattle.data_folder.proofs.host.HostFolderSave.save_beside.Goals as goal
 
--- The other thread is lent the folder, the allocator and the record.
-pub join_mut-is_saved-requires-send-F : goal.join_mut-is_saved-requires-send-F
-join_mut-is_saved-requires-send-F g c κs within =
-    param_send 1 _ (arg_send _ no _ (three_are_lent _ _ _ _ (mut_send _ _ _ host_send) (shr_send _ _ _ global.the_sync) (mut_send _ _ _ record_send)))
+-- The thread that saves is lent the folder.
+pub save_apart-requires-send-S : goal.save_apart-requires-send-S
+save_apart-requires-send-S g c κs within = param_send 0 _ (arg_send _ no _ lent_send)
