@@ -239,8 +239,8 @@ pub fn run<
         + Sync,
     S: Save + Drop + Send,
 >(rt: &R, settings: Settings, saver: S, found: Option<ServiceRecord>) -> u8 {
-    let known = Known::begin(rt, &settings, found.is_some());
-    tell_first(rt, &settings, found.is_some());
+    let is_found = found.is_some();
+    tell_first(rt, &settings, is_found);
     let options = options_of(&settings);
     let Ports { clients, status } = match open_ports(rt, rt.alloc(), &settings) {
         Ok(ports) => ports,
@@ -254,7 +254,7 @@ pub fn run<
         saver,
         found,
         move |watcher| {
-            attend(rt, watcher, status, known);
+            attend(rt, watcher, status, Known::begin(rt, &settings, is_found));
         },
     );
     match served {
