@@ -15,6 +15,9 @@
 //! that commands update.
 #![tactic(auto)]
 
+mod group;
+mod grouped_pages;
+mod groups;
 mod kept;
 mod laws;
 mod layout;
