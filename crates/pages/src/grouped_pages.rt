@@ -45,12 +45,14 @@ impl Drop for GroupedPages {
 }
 
 impl Model for GroupedPages {
+    ghost use Rattle.std.specs.Prelude.{◌≡◌, length};
     ghost use Rattle.std.specs.Arc.{arc_value};
     ghost use Rattle.std.specs.Coded.{coded_list, coded_ℕ};
     ghost use Rattle.std.specs.FinMap as map;
     ghost use Rattle.items.specs.Map.{Items};
     ghost use Rattle.items.specs.contracts.item.Item as item;
     ghost use Rattle.pages.specs.Group.{AreKept};
+    ghost use Rattle.pages.specs.declared.group.TheConstants.{GROUPS};
     ghost use Rattle.pages.specs.Joined.{joined_pages, items_of};
 
     ghost Value = { Items };
@@ -59,7 +61,7 @@ impl Model for GroupedPages {
 
     ghost view = { λ a. joined_pages (items_of a.groups) };
 
-    ghost invariant = { λ a. AreKept a.layout a.groups (arc_value a.tree) a.written };
+    ghost invariant = { λ a. AreKept a.layout a.groups (arc_value a.tree) a.written × (length a.written ≡ GROUPS) };
 }
 
 impl GroupedPages {

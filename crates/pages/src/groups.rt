@@ -61,6 +61,7 @@ impl Groups {
     pub(crate) fn pages(&self, alloc: Global) -> Result<Vec<Page>, AllocError>
         ensures { IfOk result (λ pages. pages.items ≡ self.now) }
     {
+        let _ = &self.groups;
         let mut pages = Vec::with_capacity(alloc, PAGES)?;
         for number in 0..PAGES {
             pages.push(self.page(number).clone()?)?;
@@ -79,23 +80,25 @@ impl Groups {
     /// Puts the item into a page. Refused as `Page::put` is, and then nothing has changed.
     pub(crate) fn put(&mut self, number: usize, key: Key, item: Item) -> Result<(), AllocError>
         requires { number < page_count }
-        ensures others { IsEditAt number self.old self.new }
+        ensures others { OnOk result (IsEditAt number self.old self.new) }
         ensures ok { OnOk result ((page_at self.new number).items ≡ map.insert (page_at self.old number).items key item) }
         ensures err { OnErr result (self.new ≡ self.old) }
     {
         let group = &mut self.groups[number / GROUP_PAGES];
-        group.put(number % GROUP_PAGES, key, item)
+        group.put(number % GROUP_PAGES, key, item)?;
+        Ok(())
     }
 
     /// Removes the item of a key from a page. The only error is a failed allocation, and then nothing has changed.
     pub(crate) fn remove(&mut self, number: usize, key: &Key) -> Result<(), AllocError>
         requires { number < page_count }
-        ensures others { IsEditAt number self.old self.new }
+        ensures others { OnOk result (IsEditAt number self.old self.new) }
         ensures ok { OnOk result ((page_at self.new number).items ≡ map.remove (page_at self.old number).items key.now) }
         ensures err { OnErr result (self.new ≡ self.old) }
     {
         let group = &mut self.groups[number / GROUP_PAGES];
-        group.remove(number % GROUP_PAGES, key)
+        group.remove(number % GROUP_PAGES, key)?;
+        Ok(())
     }
 
     /// Brings each page of a group into this layout, makes its digest, and sets it. The only error is a failed
@@ -119,6 +122,29 @@ impl Groups {
         Ok(())
     }
 
+    /// Seals a group in this layout if it was written, and then it was not. The only error is a failed allocation.
+    fn seal_one(
+        &mut self,
+        group: usize,
+        layout: Layout,
+        written: &mut [bool; GROUPS],
+        digests: &mut [[u8; 32]; PAGES],
+    ) -> Result<(), AllocError>
+        requires within { group < GROUPS }
+        requires kept { AreKept layout self.old digests.old written.old }
+        ensures kept { OnOk result (AreKept layout self.new digests.new written.new) }
+        ensures done { OnOk result (slice_index_or written.new group false ≡ false) }
+        ensures others { OnOk result ((g : ℕ) → g ≢ group → slice_index_or written.new g false ≡ slice_index_or written.old g false) }
+        ensures items { OnOk result (items_of self.new ≡ items_of self.old) }
+    {
+        if !written[group] {
+            return Ok(());
+        }
+        self.seal(group, layout, digests)?;
+        written[group] = false;
+        Ok(())
+    }
+
     /// Seals each group that was written in this layout, in which the others are sealed: the result has the digests of
     /// all pages, of which these are those of the other groups. The only error is a failed allocation.
     pub(crate) fn seal_written(
@@ -134,10 +160,7 @@ impl Groups {
         let mut left = written;
         let mut all = digests;
         for group in 0..GROUPS {
-            if left[group] {
-                self.seal(group, layout, &mut all)?;
-                left[group] = false;
-            }
+            self.seal_one(group, layout, &mut left, &mut all)?;
         }
         Ok(all)
     }

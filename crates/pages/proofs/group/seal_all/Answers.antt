@@ -1,7 +1,7 @@
 use Rattle.std.proofs.Common.{◌≡◌, ◌<◌, List, length, get_or, set, ap, ◌∙◌, arith}
 use Rattle.base.proofs.ListLemmas.{next-same, next-changed}
 use Rattle.pages.specs.Page.{PageState, sealed_in}
-use Rattle.pages.proofs.own_pages.seal_all.Goals as goal
+use Rattle.pages.proofs.group.seal_all.Goals as goal
 
 pub loop-page-preserved : goal.loop-page-preserved
 loop-page-preserved c =

@@ -6,7 +6,7 @@ use Rattle.pages.specs.Page.{page_count}
 use Rattle.pages.specs.Joined.{joined_pages, items_of}
 use Rattle.pages.proofs.JoinedLemmas.{joined-alive, no_items}
 use Rattle.pages.proofs.StateLemmas.{items-at, length-states}
-use Rattle.pages.proofs.snapshot.has_due_among.Goals as goal
+use Rattle.pages.proofs.groups.Groups.has_due.Goals as goal
 
 same_each : (f : Items → Items) (xs : List Items) → ((p : ℕ) → p < length xs → f (get_or xs p no_items) ≡ get_or xs p no_items) → map f xs ≡ xs
 same_each f [] h = refl
@@ -14,9 +14,9 @@ same_each f (x ∷ xs) h = λ k. h 0 (omega arith) k ∷ same_each f xs (λ p l.
 
 pub loop-number-preserved : goal.loop-number-preserved
 loop-number-preserved c p l =
-    let pages = c.args.pages.now.items in
+    let pages = c.args.self.now in
     let n = c.loop-number.number in
-    let here = items-at pages n c.index.result.now (omega (arith, c.loop-number-test.true, length-states pages c.requires)) c.index.ensures in
+    let here = items-at pages n c.page.result.now (omega (arith, c.loop-number-test.true, length-states pages c.requires)) c.page.ensures in
     let still = subst (λ (m : Items). alive m c.args.moment ≡ m) here (c.has_due.ensures.none c.if-has_due.false) in
     elim (cases_Bool (nat_lt p n)) [
       | inl t ↦ c.loop-number.invariant p (ltb-true p n t)
@@ -28,7 +28,7 @@ loop-number-preserved c p l =
 
 pub returns : goal.returns
 returns c e =
-    let xs = items_of c.args.pages.now.items in
+    let xs = items_of c.args.self.now in
     let many = c.requires.0 in
     let joined = joined-alive xs c.args.moment c.requires in
     sym joined.1 ∙ ap joined_pages (same_each (λ m. alive m c.args.moment) xs (λ p l. c.loop-number.invariant p (omega (arith, l, many, c.loop-number-test.false))))
