@@ -342,7 +342,7 @@ pub record IsGrouped (pages rest : List PageState) (gs : List (List PageState)) 
 pub grouped-none : (pages : List PageState) → length pages ≡ page_count → IsGrouped pages pages [] GROUPS
 grouped-none pages many = record {
   before = sym (take_all (GROUP_PAGES * GROUPS) pages (omega (arith, many)));
-  after = sym (drop_of_length-le pages (omega (arith, many)));
+  after = sym (drop_of_length-le pages {i = GROUP_PAGES * GROUPS} (omega (arith, many)));
   long = tt;
   count = refl;
 }
@@ -351,15 +351,18 @@ pub grouped-long : (pages rest : List PageState) (gs : List (List PageState)) (l
 grouped-long pages rest gs left so_far many = ap length so_far.before ∙ length-take-le (GROUP_PAGES * left) pages (omega (arith, many, so_far.count))
 
 -- one group more
-pub grouped-next : (pages rest new last group : List PageState) (gs : List (List PageState)) (more less : ℕ) → IsGrouped pages rest gs more → length pages ≡ page_count
-    → less + 1 ≡ more → new ≡ take (GROUP_PAGES * less) rest → last ≡ drop (GROUP_PAGES * less) rest → group ≡ last → IsGrouped pages new (group ∷ gs) less
-grouped-next pages rest new last group gs more less so_far many one front back is = record {
-  before = front ∙ fewer pages rest (GROUP_PAGES * less) whole;
+pub grouped-next : (pages rest new last group : List PageState) (gs : List (List PageState)) (more less at : ℕ) → IsGrouped pages rest gs more → length pages ≡ page_count
+    → less + 1 ≡ more → at ≡ GROUP_PAGES * less → new ≡ take at rest → last ≡ drop at rest → group ≡ last → IsGrouped pages new (group ∷ gs) less
+grouped-next pages rest new last group gs more less at so_far many one is_at front cut is = record {
+  before = front ∙ ap (λ (k : ℕ). take k rest) is_at ∙ fewer pages rest (GROUP_PAGES * less) whole;
   after = ap (λ (ps : List PageState). ps ++ pages_in gs) is ∙ ap (λ (ps : List PageState). last ++ ps) (so_far.after ∙ ap (λ (k : ℕ). drop k pages) next) ∙ last-group pages (GROUP_PAGES * less) rest last whole back;
   long = (ap length is ∙ ap length back ∙ length-drop (GROUP_PAGES * less) rest ∙ omega (arith, grouped-long pages rest gs more so_far many, one), so_far.long);
   count = omega (arith, so_far.count, one);
 }
   where
+    back : last ≡ drop (GROUP_PAGES * less) rest
+    back = cut ∙ ap (λ (k : ℕ). drop k rest) is_at
+
     next : GROUP_PAGES * more ≡ GROUP_PAGES * less + GROUP_PAGES
     next = omega (arith, one)
 

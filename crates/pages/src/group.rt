@@ -97,6 +97,12 @@ impl GroupPages {
         seal_all(&mut self.pages, layout)
     }
 
+    fn weight(&self) -> usize {
+        self.pages
+            .iter()
+            .fold(0usize, |sum, page| sum.saturating_add(page.weight()))
+    }
+
     fn put_digests(&self, first: usize, digests: &mut [[u8; 32]; PAGES])
         requires { first + GROUP_PAGES ≤ page_count }
         ensures own { (i : ℕ) → i < GROUP_PAGES → slice_index_or digests.new (first + i) []
@@ -194,6 +200,11 @@ impl Group {
     {
         Arc::make_mut(&mut self.pages)?.seal(layout)?;
         Ok(())
+    }
+
+    /// What it costs to make the digests that are not kept, in entries.
+    pub(crate) fn weight(&self) -> usize {
+        self.pages.weight()
     }
 
     /// Sets the digests of the pages, the first of which has this number.

@@ -1,6 +1,6 @@
 //! The pages of a snapshot that are written.
 
-ghost use Rattle.std.specs.Prelude.{◌≡◌, [], length, IfOk, OnOk, OnErr};
+ghost use Rattle.std.specs.Prelude.{◌≡◌, true, [], length, IfOk, OnOk, OnErr};
 ghost use Rattle.std.specs.Option.{option_copied};
 ghost use Rattle.std.specs.FinMap as map;
 ghost use Rattle.std.specs.Arc.{arc_value};
@@ -64,6 +64,16 @@ impl Model for GroupedPages {
     ghost invariant = { λ a. AreKept a.layout a.groups (arc_value a.tree) a.written × (length a.written ≡ GROUPS) };
 }
 
+/// Whether it is one layout.
+fn are_same(a: Layout, b: Layout) -> bool
+    ensures { result ≡ true → a ≡ b }
+{
+    if a == b {
+        return true;
+    }
+    false
+}
+
 impl GroupedPages {
     /// Pages that are all sealed in this layout, with the tree over their digests.
     pub(crate) fn of_sealed(
@@ -91,6 +101,17 @@ impl GroupedPages {
         self.groups.count()
     }
 
+    /// What it costs to make the digests of the pages that were written, in entries.
+    pub(crate) fn weight(&self) -> usize {
+        let mut weight = 0usize;
+        for group in 0..GROUPS {
+            if self.written[group] {
+                weight = weight.saturating_add(self.groups.weight(group));
+            }
+        }
+        weight
+    }
+
     /// The same pages, by themselves. The only error is a failed allocation.
     pub(crate) fn own(&self) -> Result<OwnPages, AllocError>
         ensures { IfOk result (λ pages. pages ≡ self.now) }
@@ -104,7 +125,7 @@ impl GroupedPages {
     pub(crate) fn seal(self, layout: Layout) -> Result<Snapshot, AllocError>
         ensures { IfOk result (λ snapshot. snapshot ≡ record { items = self; layout = layout }) }
     {
-        if self.layout != layout {
+        if !are_same(self.layout, layout) {
             return self.own()?.seal(layout);
         }
         let GroupedPages {

@@ -165,6 +165,13 @@ impl Groups {
         Ok(all)
     }
 
+    /// What it costs to make the digests of a group's pages that are not kept, in entries.
+    pub(crate) fn weight(&self, group: usize) -> usize
+        requires { group < GROUPS }
+    {
+        self.groups[group].weight()
+    }
+
     /// How many items the pages have.
     pub(crate) fn count(&self) -> u64
         requires { ArePages (items_of self.now) }

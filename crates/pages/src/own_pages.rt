@@ -93,7 +93,7 @@ impl OwnPages {
         ensures { result ≡ joined_pages (items_of pages.items) }
     {
         pages[0].keep_tree(tree);
-        OwnPages { pages }
+        OwnPages::join(pages)
     }
 
     /// The pages, in the order of their numbers.

@@ -16,6 +16,10 @@ use std::alloc::{AllocError, Global};
 use std::marker::Model;
 use token::PAGES;
 
+/// Pages that were written and weigh less than this are not worth two threads that make their digests, as `workers`
+/// parts them: so they are not taken apart.
+const LEAST_WEIGHT: usize = 512;
+
 /// What a store of pages has.
 #[derive(Drop)]
 enum Held {
@@ -129,8 +133,8 @@ impl Pages {
         Ok(held.own()?.part())
     }
 
-    /// The pages, in the order of their numbers, if something may have been written. Else it comes back: its pages are
-    /// those of a snapshot, whose digests were made.
+    /// The pages, in the order of their numbers, if so much was written that threads are worth starting for the digests.
+    /// Else it comes back, and `seal` makes what digests are missing.
     pub fn written(self) -> Result<Vec<Page>, Pages>
         ensures ok { IfOk result (λ pages. items_of pages.items ≡ parts self) }
         ensures err { IfErr result (λ pages. pages ≡ self) }
@@ -143,11 +147,17 @@ impl Pages {
         }
     }
 
-    /// These pages, in the order of their numbers, or else they come back.
+    /// These pages, in the order of their numbers, if threads are worth starting for their digests. Else they come back,
+    /// also if an allocation fails.
     fn taken_apart(pages: GroupedPages) -> Result<Vec<Page>, Pages>
         ensures ok { IfOk result (λ parts_of. items_of parts_of.items ≡ parts pages) }
         ensures err { IfErr result (λ back. back ≡ pages) }
     {
+        if pages.weight() < LEAST_WEIGHT {
+            return Err(Pages {
+                held: Held::Grouped(pages),
+            });
+        }
         match pages.own() {
             Ok(own) => Ok(own.part()),
             Err(_) => Err(Pages {

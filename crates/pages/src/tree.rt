@@ -125,7 +125,8 @@ pub(crate) fn renewed(
     tree: Arc<Tree, Global>,
     digests: &[[u8; 32]; PAGES],
 ) -> Result<Arc<Tree, Global>, AllocError>
-    ensures { IfOk result (λ tree. arc_value tree ≡ digests.now) }
+    ensures tree { IfOk result (λ tree. arc_value tree ≡ digests.now) }
+    ensures count { IfOk result (λ _. length digests.now ≡ page_count) }
 {
     let mut tree = tree;
     Arc::make_mut(&mut tree)?.renew(digests);
