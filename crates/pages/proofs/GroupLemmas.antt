@@ -1,17 +1,17 @@
 -- Pages in groups: where a page is, an edit of one, and what is kept of groups that were not written.
 use Rattle.std.proofs.Common.{◌≡◌, ◌≢◌, ℕ, zero, suc, ◌+◌, ◌*◌, ◌<◌, ◌≤◌, ◌/◌, ◌%◌, Bool, true, false, List, [], ◌∷◌, ◌++◌, map, length, take, drop, get_or, set, Result, Ok, Err, OnOk, OnErr, refl, sym, ap, ◌∙◌, arith, subst, true≢false, ◌⊎◌, inl, inr, ⊎_elim, length-append}
 use Rattle.std.specs.Prelude.{All, ◌-◌, nat_lt}
-use Rattle.std.specs.List.{flat_map, AllByRecursion}
+use Rattle.std.specs.List.{AllByRecursion}
 use Rattle.std.proofs.Math.Seq.{drop-nil}
 use Rattle.std.proofs.lemmas.List.{get_or-set_same, get_or-set_other, get_or_append_left, get_or-append-add, get_or_default, set-append_left, set-append_right, set-get_or, get_or-map, length-set, length-map, length-drop, length-take-le, drop-take, take-append-drop, take_all}
 use Rattle.std.proofs.Math.ListN.{drop_of_length-le}
 use Rattle.std.proofs.lemmas.List.FromFn.{fill_by_all, get_or-map-range_with_len}
 use Rattle.std.proofs.lemmas.Bool.{cases_Bool, ltb-true, ltb-false}
 use Rattle.items.specs.Map.{Items}
-use Rattle.pages.specs.Page.{PageState, page_count, page_items, page_digest_in, of_each, sealed_in}
+use Rattle.pages.specs.Page.{PageState, page_count, page_digest_in, sealed_in}
 use Rattle.pages.specs.Layout.{digest_in}
-use Rattle.pages.specs.Joined.{ArePages, AreSealed, IsSnapshot, joined_pages, items_of}
-use Rattle.pages.specs.Group.{pages_in, page_at, place_in, no_page, AreGroups, IsEditAt, IsKeptPage, AreKept}
+use Rattle.pages.specs.Joined.{ArePages, IsSnapshot, joined_pages, items_of}
+use Rattle.pages.specs.Group.{pages_in, page_at, page_in_group, no_page, AreGroups, IsEditAt, IsKeptPage, AreUnwrittenKept}
 use Rattle.pages.specs.declared.layout.Layout.{Layout}
 use Rattle.pages.specs.declared.group.TheConstants.{GROUPS, GROUP_PAGES}
 use Rattle.pages.proofs.JoinedLemmas.{no_items}
@@ -25,25 +25,25 @@ abbrev pub AreLong : List (List PageState) → Type 0
 AreLong gs = AllByRecursion (λ group. length group ≡ GROUP_PAGES) gs
 
 -- page i of group g, as one of all pages
-pub page-in : (gs : List (List PageState)) (g i : ℕ) (d : PageState) → AreLong gs → i < GROUP_PAGES → get_or (pages_in gs) (place_in g i) d ≡ get_or (get_or gs g []) i d
+pub page-in : (gs : List (List PageState)) (g i : ℕ) (d : PageState) → AreLong gs → i < GROUP_PAGES → get_or (pages_in gs) (page_in_group g i) d ≡ get_or (get_or gs g []) i d
 page-in [] g i d long l = refl
 page-in (x ∷ gs) zero i d long l =
-    let same : place_in 0 i ≡ i = omega arith in
+    let same : page_in_group 0 i ≡ i = omega arith in
     ap (λ (k : ℕ). get_or (x ++ pages_in gs) k d) same ∙ get_or_append_left x (pages_in gs) d i (omega (arith, l, long.0))
 page-in (x ∷ gs) (suc g) i d long l =
-    let same : place_in (suc g) i ≡ length x + place_in g i = omega (arith, long.0) in
-    ap (λ (k : ℕ). get_or (x ++ pages_in gs) k d) same ∙ get_or-append-add x (pages_in gs) (place_in g i) d ∙ page-in gs g i d long.1 l
+    let same : page_in_group (suc g) i ≡ length x + page_in_group g i = omega (arith, long.0) in
+    ap (λ (k : ℕ). get_or (x ++ pages_in gs) k d) same ∙ get_or-append-add x (pages_in gs) (page_in_group g i) d ∙ page-in gs g i d long.1 l
 
 -- an edit of page i of group g
-pub set-in : (gs : List (List PageState)) (g i : ℕ) (page : PageState) → AreLong gs → i < GROUP_PAGES → pages_in (set gs g (set (get_or gs g []) i page)) ≡ set (pages_in gs) (place_in g i) page
+pub set-in : (gs : List (List PageState)) (g i : ℕ) (page : PageState) → AreLong gs → i < GROUP_PAGES → pages_in (set gs g (set (get_or gs g []) i page)) ≡ set (pages_in gs) (page_in_group g i) page
 set-in [] g i page long l = refl
 set-in (x ∷ gs) zero i page long l =
-    let same : i ≡ place_in 0 i = omega arith in
+    let same : i ≡ page_in_group 0 i = omega arith in
     sym (set-append_left x (pages_in gs) i page (omega (arith, l, long.0))) ∙ ap (λ (k : ℕ). set (x ++ pages_in gs) k page) same
 set-in (x ∷ gs) (suc g) i page long l =
-    let past : place_in (suc g) i - GROUP_PAGES ≡ place_in g i = omega arith in
+    let past : page_in_group (suc g) i - GROUP_PAGES ≡ page_in_group g i = omega arith in
     ap (λ (ps : List PageState). x ++ ps) (set-in gs g i page long.1 l)
-    ∙ sym (set-append_right x (pages_in gs) GROUP_PAGES (place_in (suc g) i) page long.0 (omega arith) ∙ ap (λ (k : ℕ). x ++ set (pages_in gs) k page) past)
+    ∙ sym (set-append_right x (pages_in gs) GROUP_PAGES (page_in_group (suc g) i) page long.0 (omega arith) ∙ ap (λ (k : ℕ). x ++ set (pages_in gs) k page) past)
 
 pub long-at : (gs : List (List PageState)) (g : ℕ) → AreLong gs → g < length gs → length (get_or gs g []) ≡ GROUP_PAGES
 long-at [] g long l = absurd (omega arith)
@@ -87,7 +87,7 @@ edit-of old new k page l is =
     (is ∙ ap (set old k) (sym here), here)
 
 -- the place of a page
-pub place-of : (n : ℕ) → n < page_count → (place_in (n / GROUP_PAGES) (n % GROUP_PAGES) ≡ n) × (n / GROUP_PAGES < GROUPS) × (n % GROUP_PAGES < GROUP_PAGES)
+pub place-of : (n : ℕ) → n < page_count → (page_in_group (n / GROUP_PAGES) (n % GROUP_PAGES) ≡ n) × (n / GROUP_PAGES < GROUPS) × (n % GROUP_PAGES < GROUP_PAGES)
 place-of n l = (omega arith, omega arith, omega arith)
 
 -- a group of which one page was set
@@ -106,21 +106,21 @@ page-of gs n d are l =
     sym (page-in gs (n / GROUP_PAGES) (n % GROUP_PAGES) d are.each at.2) ∙ ap (λ (k : ℕ). get_or (pages_in gs) k d) at.0
 
 -- after a write the group is marked
-pub kept-written : (layout : Layout) (pages new : List PageState) (digests : List (List ℕ)) (written : List Bool) (n : ℕ) → AreKept layout pages digests written → length written ≡ GROUPS
-    → n < page_count → IsEditAt n pages new → ArePages (items_of new) → AreKept layout new digests (set written (n / GROUP_PAGES) true)
+pub kept-written : (layout : Layout) (pages new : List PageState) (digests : List (List ℕ)) (written : List Bool) (n : ℕ) → AreUnwrittenKept layout pages digests written → length written ≡ GROUPS
+    → n < page_count → IsEditAt n pages new → ArePages (items_of new) → AreUnwrittenKept layout new digests (set written (n / GROUP_PAGES) true)
 kept-written layout pages new digests written n kept many l edit are = record { are = are; same = same }
   where
-    at : (place_in (n / GROUP_PAGES) (n % GROUP_PAGES) ≡ n) × (n / GROUP_PAGES < GROUPS) × (n % GROUP_PAGES < GROUP_PAGES)
+    at : (page_in_group (n / GROUP_PAGES) (n % GROUP_PAGES) ≡ n) × (n / GROUP_PAGES < GROUPS) × (n % GROUP_PAGES < GROUP_PAGES)
     at = place-of n l
 
-    same : (g i : ℕ) → g < GROUPS → i < GROUP_PAGES → get_or (set written (n / GROUP_PAGES) true) g false ≡ false → IsKeptPage layout (page_at new (place_in g i)) (get_or digests (place_in g i) [])
+    same : (g i : ℕ) → g < GROUPS → i < GROUP_PAGES → get_or (set written (n / GROUP_PAGES) true) g false ≡ false → IsKeptPage layout (page_at new (page_in_group g i)) (get_or digests (page_in_group g i) [])
     same g i few within not =
         let apart : g ≢ n / GROUP_PAGES = λ e. absurd (true≢false (sym (get_or-set_same written (n / GROUP_PAGES) true false (omega (arith, at.1, many))) ∙ ap (λ (k : ℕ). get_or (set written (n / GROUP_PAGES) true) k false) (sym e) ∙ not)) in
-        let other : place_in g i ≢ n = λ e. apart (omega (arith, e, within, at.0, at.2)) in
+        let other : page_in_group g i ≢ n = λ e. apart (omega (arith, e, within, at.0, at.2)) in
         let was = kept.same g i few within (sym (get_or-set_other written (n / GROUP_PAGES) g true false apart) ∙ not) in
-        let still : page_at new (place_in g i) ≡ page_at pages (place_in g i) =
-        ap (λ (ps : List PageState). get_or ps (place_in g i) no_page) edit ∙ get_or-set_other pages n (place_in g i) (page_at new n) no_page other in
-        subst (λ (page : PageState). IsKeptPage layout page (get_or digests (place_in g i) [])) (sym still) was
+        let still : page_at new (page_in_group g i) ≡ page_at pages (page_in_group g i) =
+        ap (λ (ps : List PageState). get_or ps (page_in_group g i) no_page) edit ∙ get_or-set_other pages n (page_in_group g i) (page_at new n) no_page other in
+        subst (λ (page : PageState). IsKeptPage layout page (get_or digests (page_in_group g i) [])) (sym still) was
 
 pub same_or_other : (m n : ℕ) → (m ≡ n) ⊎ (m ≢ n)
 same_or_other zero zero = inl refl
@@ -129,38 +129,38 @@ same_or_other (suc m) zero = inr (λ e. omega (arith, e))
 same_or_other (suc m) (suc n) = ⊎_elim (λ e. inl (ap suc e)) (λ other. inr (λ e. other (omega (arith, e)))) (same_or_other m n)
 
 -- after a group was sealed it is no longer marked
-pub kept-sealed : (layout : Layout) (pages new : List PageState) (digests all : List (List ℕ)) (written : List Bool) (group : ℕ) → AreKept layout pages digests written
-    → ((i : ℕ) → i < GROUP_PAGES → IsKeptPage layout (page_at new (place_in group i)) (get_or all (place_in group i) []))
-    → ((g i : ℕ) → g ≢ group → i < GROUP_PAGES → (page_at new (place_in g i) ≡ page_at pages (place_in g i)) × (get_or all (place_in g i) [] ≡ get_or digests (place_in g i) []))
-    → items_of new ≡ items_of pages → AreKept layout new all (set written group false)
+pub kept-sealed : (layout : Layout) (pages new : List PageState) (digests all : List (List ℕ)) (written : List Bool) (group : ℕ) → AreUnwrittenKept layout pages digests written
+    → ((i : ℕ) → i < GROUP_PAGES → IsKeptPage layout (page_at new (page_in_group group i)) (get_or all (page_in_group group i) []))
+    → ((g i : ℕ) → g ≢ group → i < GROUP_PAGES → (page_at new (page_in_group g i) ≡ page_at pages (page_in_group g i)) × (get_or all (page_in_group g i) [] ≡ get_or digests (page_in_group g i) []))
+    → items_of new ≡ items_of pages → AreUnwrittenKept layout new all (set written group false)
 kept-sealed layout pages new digests all written group kept sealed others items = record { are = subst ArePages (sym items) kept.are; same = same }
   where
-    same : (g i : ℕ) → g < GROUPS → i < GROUP_PAGES → get_or (set written group false) g false ≡ false → IsKeptPage layout (page_at new (place_in g i)) (get_or all (place_in g i) [])
+    same : (g i : ℕ) → g < GROUPS → i < GROUP_PAGES → get_or (set written group false) g false ≡ false → IsKeptPage layout (page_at new (page_in_group g i)) (get_or all (page_in_group g i) [])
     same g i few within not = by (same_or_other g group)
       where
-        by : (g ≡ group) ⊎ (g ≢ group) → IsKeptPage layout (page_at new (place_in g i)) (get_or all (place_in g i) [])
-        by (inl e) = subst (λ (k : ℕ). IsKeptPage layout (page_at new (place_in k i)) (get_or all (place_in k i) [])) (sym e) (sealed i within)
+        by : (g ≡ group) ⊎ (g ≢ group) → IsKeptPage layout (page_at new (page_in_group g i)) (get_or all (page_in_group g i) [])
+        by (inl e) = subst (λ (k : ℕ). IsKeptPage layout (page_at new (page_in_group k i)) (get_or all (page_in_group k i) [])) (sym e) (sealed i within)
         by (inr other) =
             let was = kept.same g i few within (sym (get_or-set_other written group g false false other) ∙ not) in
             let still = others g i other within in
             (ap (λ (page : PageState). page.layout) still.0 ∙ was.0, ap (λ (page : PageState). page.sealed) still.0 ∙ was.1, still.1 ∙ was.2 ∙ ap (λ (page : PageState). digest_in layout page.items) (sym still.0))
 
 -- no group is marked
-pub kept-all : (layout : Layout) (pages : List PageState) (digests : List (List ℕ)) (written : List Bool) → AreKept layout pages digests written
-    → ((g : ℕ) → g < GROUPS → get_or written g false ≡ false) → AreKept layout pages digests []
+pub kept-all : (layout : Layout) (pages : List PageState) (digests : List (List ℕ)) (written : List Bool) → AreUnwrittenKept layout pages digests written
+    → ((g : ℕ) → g < GROUPS → get_or written g false ≡ false) → AreUnwrittenKept layout pages digests []
 kept-all layout pages digests written kept none = record { are = kept.are; same = λ g i few within not. kept.same g i few within (none g few) }
 
-pub kept-none : (layout : Layout) (pages : List PageState) (digests : List (List ℕ)) (written : List Bool) → AreKept layout pages digests [] → AreKept layout pages digests written
+pub kept-none : (layout : Layout) (pages : List PageState) (digests : List (List ℕ)) (written : List Bool) → AreUnwrittenKept layout pages digests [] → AreUnwrittenKept layout pages digests written
 kept-none layout pages digests written kept = record { are = kept.are; same = λ g i few within not. kept.same g i few within refl }
 
 -- a page of those of which no group is marked
-kept-at : (layout : Layout) (pages : List PageState) (digests : List (List ℕ)) → AreKept layout pages digests [] → (k : ℕ) → k < page_count → IsKeptPage layout (page_at pages k) (get_or digests k [])
+kept-at : (layout : Layout) (pages : List PageState) (digests : List (List ℕ)) → AreUnwrittenKept layout pages digests [] → (k : ℕ) → k < page_count → IsKeptPage layout (page_at pages k) (get_or digests k [])
 kept-at layout pages digests kept k l =
     let at = place-of k l in
     subst (λ (n : ℕ). IsKeptPage layout (page_at pages n) (get_or digests n [])) at.0 (kept.same (k / GROUP_PAGES) (k % GROUP_PAGES) at.1 at.2 refl)
 
 -- pages of which no group is marked are those of a snapshot
-pub snapshot-from_kept : (layout : Layout) (pages : List PageState) (digests : List (List ℕ)) → AreKept layout pages digests [] → length digests ≡ page_count → IsSnapshot layout pages digests
+pub snapshot-from_kept : (layout : Layout) (pages : List PageState) (digests : List (List ℕ)) → AreUnwrittenKept layout pages digests [] → length digests ≡ page_count → IsSnapshot layout pages digests
 snapshot-from_kept layout pages digests kept many = record {
   sealed = record { are = kept.are; laid = laid; digests = told };
   told = fill_by_all (page_digest_in layout (joined_pages (items_of pages))) digests page_count [] many
@@ -180,21 +180,21 @@ snapshot-from_kept layout pages digests kept many = record {
     told k d l = ap (λ (page : PageState). page.sealed) (get_or_default pages k d no_page l) ∙ (kept-at layout pages digests kept k (omega (arith, l, count))).1
 
 -- and the other way round
-pub kept-from_snapshot : (layout : Layout) (pages : List PageState) (digests : List (List ℕ)) → IsSnapshot layout pages digests → AreKept layout pages digests []
+pub kept-from_snapshot : (layout : Layout) (pages : List PageState) (digests : List (List ℕ)) → IsSnapshot layout pages digests → AreUnwrittenKept layout pages digests []
 kept-from_snapshot layout pages digests snapshot = record { are = snapshot.sealed.are; same = same }
   where
     count : length pages ≡ page_count
     count = length-states pages snapshot.sealed.are
 
-    same : (g i : ℕ) → g < GROUPS → i < GROUP_PAGES → false ≡ false → IsKeptPage layout (page_at pages (place_in g i)) (get_or digests (place_in g i) [])
+    same : (g i : ℕ) → g < GROUPS → i < GROUP_PAGES → false ≡ false → IsKeptPage layout (page_at pages (page_in_group g i)) (get_or digests (page_in_group g i) [])
     same g i few within not =
-        let l : place_in g i < page_count = omega (arith, few, within) in
-        let k = place_in g i in
+        let l : page_in_group g i < page_count = omega (arith, few, within) in
+        let k = page_in_group g i in
         let read : page_at pages k ≡ get_or pages k (page_at pages k) = get_or_default pages k no_page (page_at pages k) (omega (arith, l, count)) in (
           snapshot.sealed.laid k no_page (omega (arith, l, count)),
           snapshot.sealed.digests k no_page (omega (arith, l, count)),
           ap (λ (ds : List (List ℕ)). get_or ds k []) snapshot.told ∙ get_or-map-range_with_len (page_digest_in layout (joined_pages (items_of pages))) 0 page_count k k [] l (omega arith)
-          ∙ ap (digest_in layout) (sym (part-at pages k (page_at pages k) snapshot.sealed.are l read)),
+              ∙ ap (digest_in layout) (sym (part-at pages k (page_at pages k) snapshot.sealed.are l read)),
         )
 
 -- The digests of the first pages of a group are set, and no others.
@@ -232,8 +232,8 @@ put-next pages first count before digests page d so_far long few within read is 
 
 -- A group was brought into a layout, and its digests are set: each of its pages is kept, and all others are as they were.
 pub record IsGroupSealed (layout : Layout) (group : ℕ) (old new : List PageState) (before after : List (List ℕ)) : Type 0 where
-  pub sealed : (i : ℕ) → i < GROUP_PAGES → IsKeptPage layout (page_at new (place_in group i)) (get_or after (place_in group i) [])
-  pub others : (g i : ℕ) → g ≢ group → i < GROUP_PAGES → (page_at new (place_in g i) ≡ page_at old (place_in g i)) × (get_or after (place_in g i) [] ≡ get_or before (place_in g i) [])
+  pub sealed : (i : ℕ) → i < GROUP_PAGES → IsKeptPage layout (page_at new (page_in_group group i)) (get_or after (page_in_group group i) [])
+  pub others : (g i : ℕ) → g ≢ group → i < GROUP_PAGES → (page_at new (page_in_group g i) ≡ page_at old (page_in_group g i)) × (get_or after (page_in_group g i) [] ≡ get_or before (page_in_group g i) [])
   pub items : items_of new ≡ items_of old
 
 pub group-sealed : (layout : Layout) (gs : List (List PageState)) (group first : ℕ) (x : List PageState) (before after : List (List ℕ)) → AreGroups gs → group < GROUPS
@@ -253,34 +253,34 @@ group-sealed layout gs group first x before after are few is at own apart = reco
     are_new : AreGroups (set gs group x)
     are_new = groups-set gs group x are (ap length is ∙ length-map (get_or gs group []) (sealed_in layout) ∙ long)
 
-    in_place : (i : ℕ) → i < GROUP_PAGES → page_at (pages_in (set gs group x)) (place_in group i) ≡ page_at x i
+    in_place : (i : ℕ) → i < GROUP_PAGES → page_at (pages_in (set gs group x)) (page_in_group group i) ≡ page_at x i
     in_place i l = page-in (set gs group x) group i no_page are_new.each l ∙ ap (λ (ps : List PageState). get_or ps i no_page) (get_or-set_same gs group x [] (omega (arith, few, are.count)))
 
     is_sealed : (i : ℕ) → i < GROUP_PAGES → page_at x i ≡ sealed_in layout (page_at (get_or gs group []) i)
     is_sealed i l = ap (λ (ps : List PageState). get_or ps i no_page) is ∙ get_or-map (sealed_in layout) (get_or gs group []) i no_page no_page (omega (arith, l, long))
 
-    sealed : (i : ℕ) → i < GROUP_PAGES → IsKeptPage layout (page_at (pages_in (set gs group x)) (place_in group i)) (get_or after (place_in group i) [])
+    sealed : (i : ℕ) → i < GROUP_PAGES → IsKeptPage layout (page_at (pages_in (set gs group x)) (page_in_group group i)) (get_or after (page_in_group group i) [])
     sealed i l =
-        let there : place_in group i ≡ first + i = omega (arith, at) in
+        let there : page_in_group group i ≡ first + i = omega (arith, at) in
         let whole = in_place i l ∙ is_sealed i l in (
           ap (λ (p : PageState). p.layout) whole,
           ap (λ (p : PageState). p.sealed) whole,
           ap (λ (k : ℕ). get_or after k []) there ∙ own i l ∙ ap (λ (kind : Layout). digest_in kind (page_at x i).items) (ap (λ (p : PageState). p.layout) (is_sealed i l))
-          ∙ ap (λ (p : PageState). digest_in layout p.items) (sym (in_place i l)),
+              ∙ ap (λ (p : PageState). digest_in layout p.items) (sym (in_place i l)),
         )
 
-    outside : (g i : ℕ) → g ≢ group → i < GROUP_PAGES → (place_in g i < first) ⊎ (first + GROUP_PAGES ≤ place_in g i)
+    outside : (g i : ℕ) → g ≢ group → i < GROUP_PAGES → (page_in_group g i < first) ⊎ (first + GROUP_PAGES ≤ page_in_group g i)
     outside g i other l = by (cases_Bool (nat_lt g group))
       where
-        by : (nat_lt g group ≡ true) ⊎ (nat_lt g group ≡ false) → (place_in g i < first) ⊎ (first + GROUP_PAGES ≤ place_in g i)
+        by : (nat_lt g group ≡ true) ⊎ (nat_lt g group ≡ false) → (page_in_group g i < first) ⊎ (first + GROUP_PAGES ≤ page_in_group g i)
         by (inl t) = inl (omega (arith, ltb-true g group t, l, at))
         by (inr u) = inr (omega (arith, ltb-false g group u, other, at))
 
     others : (g i : ℕ) → g ≢ group → i < GROUP_PAGES
-        → (page_at (pages_in (set gs group x)) (place_in g i) ≡ page_at (pages_in gs) (place_in g i)) × (get_or after (place_in g i) [] ≡ get_or before (place_in g i) [])
+        → (page_at (pages_in (set gs group x)) (page_in_group g i) ≡ page_at (pages_in gs) (page_in_group g i)) × (get_or after (page_in_group g i) [] ≡ get_or before (page_in_group g i) [])
     others g i other l = (
       page-in (set gs group x) g i no_page are_new.each l ∙ ap (λ (ps : List PageState). get_or ps i no_page) (get_or-set_other gs group g x [] other) ∙ sym (page-in gs g i no_page are.each l),
-      apart (place_in g i) (outside g i other l),
+      apart (page_in_group g i) (outside g i other l),
     )
 
 -- the last pages become one group more

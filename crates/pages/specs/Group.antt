@@ -2,8 +2,7 @@
 use Rattle.std.specs.Prelude.{◌≡◌, ℕ, ◌<◌, ◌+◌, ◌*◌, List, [], Bool, true, false, length, slice_index_or, slice_set}
 use Rattle.std.specs.List.{flat_map, AllByRecursion}
 use Rattle.std.specs.FinMap.{empty}
-use Rattle.items.specs.Map.{Items}
-use Rattle.pages.specs.Page.{PageState, page_count}
+use Rattle.pages.specs.Page.{PageState}
 use Rattle.pages.specs.Layout.{digest_in}
 use Rattle.pages.specs.Joined.{ArePages, items_of}
 use Rattle.pages.specs.declared.layout.Layout.{Layout}
@@ -27,8 +26,8 @@ abbrev pub page_at : List PageState → ℕ → PageState
 page_at pages k = slice_index_or pages k no_page
 
 -- page i of group g, from 0
-abbrev pub place_in : ℕ → ℕ → ℕ
-place_in g i = GROUP_PAGES * g + i
+abbrev pub page_in_group : ℕ → ℕ → ℕ
+page_in_group g i = GROUP_PAGES * g + i
 
 -- no page but page k differs
 abbrev pub IsEditAt : ℕ → List PageState → List PageState → Type 0
@@ -39,6 +38,6 @@ abbrev pub IsKeptPage : Layout → PageState → List ℕ → Type 0
 IsKeptPage layout page leaf = (page.layout ≡ layout) × (page.sealed ≡ true) × (leaf ≡ digest_in layout page.items)
 
 -- Pages beside digests. Of a group that is not marked as written each page is in this layout, and its digest is kept, and is the one beside it.
-pub record AreKept (layout : Layout) (pages : List PageState) (digests : List (List ℕ)) (written : List Bool) : Type 0 where
+pub record AreUnwrittenKept (layout : Layout) (pages : List PageState) (digests : List (List ℕ)) (written : List Bool) : Type 0 where
   pub are : ArePages (items_of pages)
-  pub same : (g i : ℕ) → g < GROUPS → i < GROUP_PAGES → slice_index_or written g false ≡ false → IsKeptPage layout (page_at pages (place_in g i)) (slice_index_or digests (place_in g i) [])
+  pub same : (g i : ℕ) → g < GROUPS → i < GROUP_PAGES → slice_index_or written g false ≡ false → IsKeptPage layout (page_at pages (page_in_group g i)) (slice_index_or digests (page_in_group g i) [])

@@ -4,7 +4,7 @@ ghost use Rattle.std.specs.Prelude.{◌≡◌, true, [], length, IfOk, OnOk, OnE
 ghost use Rattle.std.specs.Option.{option_copied};
 ghost use Rattle.std.specs.FinMap as map;
 ghost use Rattle.std.specs.Arc.{arc_value};
-ghost use Rattle.pages.specs.Group.{AreKept};
+ghost use Rattle.pages.specs.Group.{AreUnwrittenKept};
 ghost use Rattle.pages.specs.Joined.{joined_pages, items_of};
 
 use crate::group::{GROUP_PAGES, GROUPS};
@@ -51,7 +51,7 @@ impl Model for GroupedPages {
     ghost use Rattle.std.specs.FinMap as map;
     ghost use Rattle.items.specs.Map.{Items};
     ghost use Rattle.items.specs.contracts.item.Item as item;
-    ghost use Rattle.pages.specs.Group.{AreKept};
+    ghost use Rattle.pages.specs.Group.{AreUnwrittenKept};
     ghost use Rattle.pages.specs.declared.group.TheConstants.{GROUPS};
     ghost use Rattle.pages.specs.Joined.{joined_pages, items_of};
 
@@ -61,7 +61,7 @@ impl Model for GroupedPages {
 
     ghost view = { λ a. joined_pages (items_of a.groups) };
 
-    ghost invariant = { λ a. AreKept a.layout a.groups (arc_value a.tree) a.written × (length a.written ≡ GROUPS) };
+    ghost invariant = { λ a. AreUnwrittenKept a.layout a.groups (arc_value a.tree) a.written × (length a.written ≡ GROUPS) };
 }
 
 /// Whether it is one layout.
@@ -82,7 +82,7 @@ impl GroupedPages {
         layout: Layout,
         tree: Arc<Tree, Global>,
     ) -> GroupedPages
-        requires { AreKept layout groups (arc_value tree) [] }
+        requires { AreUnwrittenKept layout groups (arc_value tree) [] }
         ensures { result ≡ joined_pages (items_of groups) }
     {
         GroupedPages {

@@ -4,7 +4,7 @@ ghost use Rattle.std.specs.Prelude.{◌≡◌, ◌≢◌, ◌<◌, ℕ, length, 
 ghost use Rattle.std.specs.FinMap as map;
 ghost use Rattle.items.specs.Map.{alive};
 ghost use Rattle.pages.specs.Page.{page_count};
-ghost use Rattle.pages.specs.Group.{page_at, place_in, pages_in, AreGroups, IsEditAt, IsKeptPage, AreKept};
+ghost use Rattle.pages.specs.Group.{page_at, page_in_group, pages_in, AreGroups, IsEditAt, IsKeptPage, AreUnwrittenKept};
 ghost use Rattle.pages.specs.Joined.{ArePages, joined_pages, items_of};
 ghost use Rattle.pages.specs.Others.{AreSameBeside};
 ghost use Rattle.pages.specs.declared.group.TheConstants.{GROUPS, GROUP_PAGES};
@@ -111,9 +111,9 @@ impl Groups {
     ) -> Result<(), AllocError>
         requires { group < GROUPS }
         ensures sealed { OnOk result ((i : ℕ) → i < GROUP_PAGES
-            → IsKeptPage layout (page_at self.new (place_in group i)) (slice_index_or digests.new (place_in group i) [])) }
+            → IsKeptPage layout (page_at self.new (page_in_group group i)) (slice_index_or digests.new (page_in_group group i) [])) }
         ensures others { OnOk result ((g i : ℕ) → g ≢ group → i < GROUP_PAGES
-            → (page_at self.new (place_in g i) ≡ page_at self.old (place_in g i)) × (slice_index_or digests.new (place_in g i) [] ≡ slice_index_or digests.old (place_in g i) [])) }
+            → (page_at self.new (page_in_group g i) ≡ page_at self.old (page_in_group g i)) × (slice_index_or digests.new (page_in_group g i) [] ≡ slice_index_or digests.old (page_in_group g i) [])) }
         ensures items { OnOk result (items_of self.new ≡ items_of self.old) }
     {
         let written = &mut self.groups[group];
@@ -131,8 +131,8 @@ impl Groups {
         digests: &mut [[u8; 32]; PAGES],
     ) -> Result<(), AllocError>
         requires within { group < GROUPS }
-        requires kept { AreKept layout self.old digests.old written.old }
-        ensures kept { OnOk result (AreKept layout self.new digests.new written.new) }
+        requires kept { AreUnwrittenKept layout self.old digests.old written.old }
+        ensures kept { OnOk result (AreUnwrittenKept layout self.new digests.new written.new) }
         ensures done { OnOk result (slice_index_or written.new group false ≡ false) }
         ensures others { OnOk result ((g : ℕ) → g ≢ group → slice_index_or written.new g false ≡ slice_index_or written.old g false) }
         ensures items { OnOk result (items_of self.new ≡ items_of self.old) }
@@ -153,8 +153,8 @@ impl Groups {
         written: [bool; GROUPS],
         digests: [[u8; 32]; PAGES],
     ) -> Result<[[u8; 32]; PAGES], AllocError>
-        requires { AreKept layout self.old digests written }
-        ensures kept { IfOk result (λ all. AreKept layout self.new all []) }
+        requires { AreUnwrittenKept layout self.old digests written }
+        ensures kept { IfOk result (λ all. AreUnwrittenKept layout self.new all []) }
         ensures items { OnOk result (items_of self.new ≡ items_of self.old) }
     {
         let mut left = written;

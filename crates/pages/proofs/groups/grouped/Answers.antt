@@ -1,4 +1,4 @@
-use Rattle.std.proofs.Common.{◌≡◌, ◌-◌, ◌+◌, List, refl, sym, arith, subst}
+use Rattle.std.proofs.Common.{◌≡◌, ◌-◌, ◌+◌, List, sym, arith, subst}
 use Rattle.pages.specs.Page.{PageState}
 use Rattle.pages.proofs.GroupLemmas.{IsGrouped, grouped-none, grouped-next, grouped-long}
 use Rattle.pages.proofs.groups.grouped.Goals as goal

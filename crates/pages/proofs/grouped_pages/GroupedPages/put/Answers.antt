@@ -1,4 +1,4 @@
-use Rattle.std.proofs.Common.{◌≡◌, set, true, length, subst, OnOk, ◌∙◌}
+use Rattle.std.proofs.Common.{◌≡◌, true, subst, OnOk, ◌∙◌}
 use Rattle.std.specs.FinMap.{insert}
 use Rattle.std.proofs.lemmas.List.{length-set}
 use Rattle.items.specs.Map.{Items}

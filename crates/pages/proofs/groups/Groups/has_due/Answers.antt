@@ -1,8 +1,7 @@
-use Rattle.std.proofs.Common.{◌≡◌, ℕ, zero, suc, ◌<◌, ◌≤◌, List, [], ◌∷◌, length, map, get_or, inl, inr, refl, sym, ap, ◌∙◌, subst, arith}
+use Rattle.std.proofs.Common.{◌≡◌, ℕ, suc, ◌<◌, List, [], ◌∷◌, length, map, get_or, inl, inr, refl, sym, ap, ◌∙◌, subst, arith}
 use Rattle.std.specs.Prelude.{nat_lt}
 use Rattle.std.proofs.lemmas.Bool.{cases_Bool, ltb-true, ltb-false}
 use Rattle.items.specs.Map.{Items, alive}
-use Rattle.pages.specs.Page.{page_count}
 use Rattle.pages.specs.Joined.{joined_pages, items_of}
 use Rattle.pages.proofs.JoinedLemmas.{joined-alive, no_items}
 use Rattle.pages.proofs.StateLemmas.{items-at, length-states}

@@ -1,6 +1,6 @@
-use Rattle.std.proofs.Common.{◌≡◌, ◌<◌, ◌≤◌, List, [], ◌∷◌, ◌++◌, length, get_or, sym, ap, ◌∙◌, arith}
+use Rattle.std.proofs.Common.{◌≡◌, ◌≤◌, [], ◌∷◌, ◌++◌, length, sym, ap, ◌∙◌, arith}
 use Rattle.std.proofs.lemmas.List.{take_more, take_all}
-use Rattle.pages.specs.Page.{PageState, page_count}
+use Rattle.pages.specs.Page.{page_count}
 use Rattle.pages.proofs.GroupLemmas.{length-in}
 use Rattle.pages.proofs.groups.Groups.pages.Goals as goal
 

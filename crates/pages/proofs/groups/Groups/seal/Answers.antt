@@ -1,7 +1,7 @@
-use Rattle.std.proofs.Common.{◌≡◌, ◌<◌, ◌*◌, List, [], map, length, get_or, set, ap, ◌∙◌, arith, subst}
+use Rattle.std.proofs.Common.{◌<◌, ◌*◌, List, [], map, length, set, ap, ◌∙◌, arith}
 use Rattle.std.proofs.lemmas.List.{get_or_default}
 use Rattle.pages.specs.Page.{PageState, sealed_in}
-use Rattle.pages.specs.Group.{page_at, pages_in, place_in}
+use Rattle.pages.specs.Group.{page_at, pages_in, page_in_group}
 use Rattle.pages.specs.Joined.{items_of}
 use Rattle.pages.proofs.GroupLemmas.{IsGroupSealed, group-sealed}
 use Rattle.pages.proofs.groups.Groups.seal.Goals as goal
@@ -21,7 +21,7 @@ returns-clause-sealed c = (whole c).sealed
 pub returns-clause-others : goal.returns-clause-others
 returns-clause-others c g i other l =
     let w = (whole c).others g i other l in
-    (w.0 ∙ ap (λ (ps : List PageState). page_at ps (place_in g i)) c.self.view_is, w.1)
+    (w.0 ∙ ap (λ (ps : List PageState). page_at ps (page_in_group g i)) c.self.view_is, w.1)
 
 pub returns-clause-items : goal.returns-clause-items
 returns-clause-items c = (whole c).items ∙ ap items_of c.self.view_is

@@ -1,5 +1,3 @@
-use Rattle.std.proofs.Common.{◌≡◌, false, true, set, get_or, sym, ◌∙◌, arith}
-use Rattle.std.proofs.lemmas.List.{get_or-set_same, get_or-set_other}
 use Rattle.pages.proofs.GroupLemmas.{kept-sealed}
 use Rattle.pages.proofs.groups.Groups.seal_one.Goals as goal
 

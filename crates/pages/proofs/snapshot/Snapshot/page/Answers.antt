@@ -1,4 +1,4 @@
-use Rattle.std.proofs.Common.{◌≡◌, List, ◌∙◌, ap, get_or}
+use Rattle.std.proofs.Common.{List, ◌∙◌, ap, get_or}
 use Rattle.std.specs.Arc.{arc_value}
 use Rattle.pages.specs.Page.{PageState, Laid, page_items}
 use Rattle.pages.proofs.StateLemmas.{part-at, laid-at}
