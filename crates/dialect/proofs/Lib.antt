@@ -1,6 +1,5 @@
 mod RunLemmas
 mod MetaLemmas
-mod NewlineLemmas
 mod MeaningLemmas
 mod PieceLemmas
 mod StageLemmas

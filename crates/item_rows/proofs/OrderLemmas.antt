@@ -1,7 +1,8 @@
 -- The entries of a tree are in the order of the numbers that the first bits of their paths make.
-use Rattle.std.proofs.Common.{◌≡◌, ℕ, zero, suc, ◌+◌, ◌*◌, ◌<◌, ◌≤◌, Bool, true, false, cond, not, List, [], ◌∷◌, ◌++◌, refl, sym, ap, subst, arith, append-nil}
-use Rattle.merkle.specs.Shape.{Shape, none, one, fork, pairs, AllOn}
-use Rattle.merkle.specs.Digest.{on_side, fork_over, chain_of, tree_of}
+use Rattle.std.proofs.Common.{◌≡◌, ℕ, zero, suc, ◌+◌, ◌*◌, ◌<◌, ◌≤◌, Bool, true, false, cond, not, List, [], ◌∷◌, ◌++◌, refl, sym, ap, subst, arith}
+use Rattle.merkle.specs.Shape.{pairs, AllOn}
+use Rattle.merkle.specs.Digest.{on_side, tree_of}
+use Rattle.merkle.proofs.LawLemmas.{pairs_over, pairs_chain}
 use Rattle.item_rows.specs.Rising.{AllFrom, AreRising}
 
 -- the number that so many bits make behind another number, the highest first
@@ -107,29 +108,16 @@ all_failed test [] = tt
 all_failed test (e ∷ es) =
     elim (test e.0) as (λ b. test e.0 ≡ b → AllOn test false (cond (not b) (e ∷ on_side (λ k. not (test k)) es) (on_side (λ k. not (test k)) es))) [ true ↦ λ is. all_failed test es | false ↦ λ is. (is, all_failed test es) ] refl
 
-pairs_of_both : {K V : Type 0} (l r : Shape K V) → pairs (fork_over l r) ≡ pairs l ++ pairs r
-pairs_of_both none r = refl
-pairs_of_both (one k v) none = refl
-pairs_of_both (one k v) (one j w) = refl
-pairs_of_both (one k v) (fork m n) = refl
-pairs_of_both (fork l m) none = sym (append-nil (pairs (fork l m)))
-pairs_of_both (fork l m) (one j w) = refl
-pairs_of_both (fork l m) (fork n r) = refl
-
-pairs_of_chain : {K V : Type 0} (es : List (K × V)) → pairs (chain_of es) ≡ es
-pairs_of_chain [] = refl
-pairs_of_chain (e ∷ es) = ap (λ xs. e ∷ xs) (pairs_of_chain es)
-
 module _ {K V : Type 0} (bit : K → ℕ → Bool) where
   -- what holds of the keys holds of those in the tree
   all_tree : (test : K → Bool) (side : Bool) (left depth : ℕ) (es : List (K × V)) → AllOn test side es → AllOn test side (pairs (tree_of bit left depth es))
   all_tree test side left depth [] a = tt
   all_tree test side left depth (e ∷ []) a = a
-  all_tree test side zero depth (e ∷ f ∷ es) a = subst (AllOn test side) (sym (pairs_of_chain (e ∷ f ∷ es))) a
+  all_tree test side zero depth (e ∷ f ∷ es) a = subst (AllOn test side) (sym (pairs_chain (e ∷ f ∷ es))) a
   all_tree test side (suc left) depth (e ∷ f ∷ es) a =
       let low = on_side (λ k. not (bit k depth)) (e ∷ f ∷ es) in
       let high = on_side (λ k. bit k depth) (e ∷ f ∷ es) in
-      subst (AllOn test side) (sym (pairs_of_both (tree_of bit left (suc depth) low) (tree_of bit left (suc depth) high)))
+      subst (AllOn test side) (sym (pairs_over (tree_of bit left (suc depth) low) (tree_of bit left (suc depth) high)))
       (all_append test side (pairs (tree_of bit left (suc depth) low)) (pairs (tree_of bit left (suc depth) high))
       (all_tree test side left (suc depth) low (all_filter test side (λ k. not (bit k depth)) (e ∷ f ∷ es) a)) (all_tree test side left (suc depth) high (all_filter test side (λ k. bit k depth) (e ∷ f ∷ es) a)))
 
@@ -155,7 +143,7 @@ module _ {K V : Type 0} (bit : K → ℕ → Bool) where
       let r = pairs (tree_of bit left (suc depth) high) in
       let lows = all_tree test false left (suc depth) low (all_failed test (e ∷ f ∷ es)) in
       let highs = all_tree test true left (suc depth) high (all_passed test (e ∷ f ∷ es)) in
-      subst (AreRising (bits_behind bit (suc n) depth a)) (sym (pairs_of_both (tree_of bit left (suc depth) low) (tree_of bit left (suc depth) high)))
+      subst (AreRising (bits_behind bit (suc n) depth a)) (sym (pairs_over (tree_of bit left (suc depth) low) (tree_of bit left (suc depth) high)))
       (rising_sides (bits_behind bit (suc n) depth a) test (over bit n depth a) l r lows highs
       (agree_rising (bits_behind bit (suc n) depth a) (bits_behind bit n (suc depth) (2 * a + 0)) test false (on_one bit n depth a false) l lows (rises n left (suc depth) (2 * a + 0) low (omega arith)))
       (agree_rising (bits_behind bit (suc n) depth a) (bits_behind bit n (suc depth) (2 * a + 1)) test true (on_one bit n depth a true) r highs (rises n left (suc depth) (2 * a + 1) high (omega arith))))

@@ -80,7 +80,8 @@ module _ {K V : Type 0} (text : K → V → List ℕ) where
         let right = told r n (right_among among (texts_of text l) (texts_of text r) p') (right_among among (texts_of text m) (texts_of text n) q') both.1 in
         λ i. fork (left i) (right i)
 
-pairs_over : {K V : Type 0} (l r : Shape K V) → pairs (fork_over l r) ≡ pairs l ++ pairs r
+-- the entries of a fork are those of its sides
+pub pairs_over : {K V : Type 0} (l r : Shape K V) → pairs (fork_over l r) ≡ pairs l ++ pairs r
 pairs_over none r = refl
 pairs_over (one k v) none = refl
 pairs_over (one k v) (one j w) = refl
@@ -89,7 +90,7 @@ pairs_over (fork l m) none = sym (append-nil (pairs (fork l m)))
 pairs_over (fork l m) (one j w) = refl
 pairs_over (fork l m) (fork n r) = refl
 
-pairs_chain : {K V : Type 0} (es : List (K × V)) → pairs (chain_of es) ≡ es
+pub pairs_chain : {K V : Type 0} (es : List (K × V)) → pairs (chain_of es) ≡ es
 pairs_chain [] = refl
 pairs_chain (e ∷ es) = ap (λ xs. e ∷ xs) (pairs_chain es)
 

@@ -3,7 +3,6 @@ use denote.Param.Send.{IsSend, IsSync, sendable}
 use Rattle.std.proofs.Crossing.{crosses}
 use Rattle.std.proofs.alloc.Global.TheSendSync as global
 use Rattle.std.proofs.option.Option.TheSendSync as option
-use Rattle.std.proofs.boxed.Box.TheSendSync as box
 use Rattle.std.proofs.sync.Arc.TheSendSync as arc
 use Rattle.items.proofs.plain.PlainStore.TheSendSync as plain
 use Rattle.token.proofs.digested.Digested.TheSendSync as digested
@@ -24,8 +23,6 @@ ruleset parts = (
   option.the_sync,
   option.the_field_send,
   option.the_field_sync,
-  box.the_send,
-  box.the_sync,
   arc.the_send,
   arc.the_sync,
   global.the_send,

@@ -2,6 +2,7 @@ pub mod KeyLemmas
 pub mod JoinedLemmas
 pub mod PartLemmas
 pub mod StateLemmas
+mod GroupLemmas
 pub mod PageLemmas
 pub mod CountLemmas
 mod DueLemmas

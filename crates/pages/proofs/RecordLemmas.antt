@@ -1,5 +1,5 @@
 -- Texts of pages that stand in bytes.
-use Rattle.std.proofs.Common.{◌≡◌, ℕ, suc, ◌<◌, List, ◌∷◌, ◌++◌, length, get_or, refl, sym, ap, ◌∙◌, arith, subst, append_assoc}
+use Rattle.std.proofs.Common.{◌≡◌, ℕ, suc, ◌<◌, List, ◌∷◌, ◌++◌, length, get_or, refl, ap, ◌∙◌, arith, subst, append_assoc}
 use Rattle.std.specs.Prelude.{◌^◌, flat_map}
 use Rattle.std.specs.Int.{w32}
 use Rattle.std.specs.FinMap.{entries, entries_sorted, from_sorted, entries-from_sorted}

@@ -69,11 +69,12 @@ all-edited f [] (suc i) l = refl
 all-edited f (m ∷ all) zero l = absurd (omega arith)
 all-edited f (m ∷ all) (suc i) l = ap (λ (ms : List Items). f m ∷ ms) (all-edited f all i (omega arith))
 
-items-sealed : (layout : Layout) (pages : List PageState) → items_of (map (sealed_in layout) pages) ≡ items_of pages
+-- pages that were brought into a layout contain what they did
+pub items-sealed : (layout : Layout) (pages : List PageState) → items_of (map (sealed_in layout) pages) ≡ items_of pages
 items-sealed layout [] = refl
 items-sealed layout (page ∷ pages) = ap (λ (ms : List Items). page.items ∷ ms) (items-sealed layout pages)
 
--- pages that were brought into a layout contain what they did
+-- the same of pages that came of it
 pub still-items : (layout : Layout) (pages new : List PageState) → new ≡ map (sealed_in layout) pages → items_of new ≡ items_of pages
 still-items layout pages new is = ap items_of is ∙ items-sealed layout pages
 

@@ -3,8 +3,7 @@ use Rattle.std.specs.Prelude.{◌≡◌, ◌≢◌, ℕ, ◌+◌, List, [], ◌�
 use Rattle.std.specs.List.{flat_map}
 use Rattle.std.specs.FinMap.{entries, from_entries, get}
 use Rattle.items.specs.Map.{Items}
-use Rattle.pages.specs.Page.{PageState, page_number, page_count, page_items, of_each}
-use Rattle.pages.specs.Form.{root_in}
+use Rattle.pages.specs.Page.{PageState, page_number, page_count, page_items, page_digest_in, of_each}
 use Rattle.pages.specs.declared.layout.Layout.{Layout}
 
 -- only keys of page p stand in it
@@ -37,7 +36,7 @@ pub record AreSealed (layout : Layout) (pages : List PageState) : Type 0 where
   pub laid : All (λ page. page.layout ≡ layout) pages
   pub digests : All (λ page. page.sealed ≡ true) pages
 
--- Such pages beside the root over their digests.
-pub record IsSnapshot (layout : Layout) (pages : List PageState) (root : List ℕ) : Type 0 where
+-- Such pages beside their digests.
+pub record IsSnapshot (layout : Layout) (pages : List PageState) (digests : List (List ℕ)) : Type 0 where
   pub sealed : AreSealed layout pages
-  pub rooted : root ≡ root_in layout (joined_pages (items_of pages))
+  pub told : digests ≡ of_each (page_digest_in layout (joined_pages (items_of pages)))

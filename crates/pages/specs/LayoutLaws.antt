@@ -1,5 +1,5 @@
 -- No text of a page is a prefix of another.
-use Rattle.std.proofs.Common.{◌≡◌, ℕ, List, ◌∷◌, ◌++◌, refl, sym, ap, ◌∙◌}
+use Rattle.std.proofs.Common.{◌≡◌, ℕ, List, ◌++◌, refl, sym, ap, ◌∙◌}
 use Rattle.std.specs.FinMap.{entries, from_sorted, same_entries_map, entries-from_sorted, entries_sorted}
 use Rattle.items.specs.Map.{Items, by_bytes}
 use Rattle.wire.specs.Record.{IsPrefixFree}

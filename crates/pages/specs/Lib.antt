@@ -5,6 +5,7 @@ pub mod Record
 pub mod LayoutLaws
 pub mod Form
 pub mod Joined
+pub mod Group
 pub mod Tree
 pub mod Step
 pub mod Others

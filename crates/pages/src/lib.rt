@@ -2,9 +2,11 @@
 //!
 //! A page is kept in one of two layouts: sorted by its keys, where its digest is SHA-256 of the page's text,
 //! or as a Merkle tree over the paths of its keys, where a write costs one path. Pages share all with
-//! their clones: a write copies what it changes. A write forgets what it changed of the digest, and
+//! their clones: a write copies what it changes. A snapshot has its pages in groups, which it shares with the
+//! `Pages` that are opened of it: a write copies the handles of one group, and a seal in the same layout leaves the
+//! groups that were not written as they are. A write forgets what it changed of the digest, and
 //! `Pages::seal` makes that new, in the layout that it is given; of the tree over the digests of all pages it
-//! makes new just the nodes above those that changed, which the first page keeps.
+//! makes new just the nodes above those that changed.
 //!
 //! It is built on `base` (entries, texts), on `items` and `item_tree`, whose stores hold the items of one page,
 //! on `wire` and `token`, which say what a page's digest is, and on `item_steps` for a law alone. The
@@ -15,6 +17,9 @@
 //! that commands update.
 #![tactic(auto)]
 
+mod group;
+mod grouped_pages;
+mod groups;
 mod kept;
 mod laws;
 mod layout;

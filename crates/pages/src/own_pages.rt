@@ -1,17 +1,20 @@
-ghost use Rattle.std.specs.Prelude.{◌≡◌, ◌≤◌, ◌+◌, ◌-◌, ◌^◌, min, length, IfOk, OnOk, OnErr, map as map_list, replicate};
+ghost use Rattle.std.specs.Prelude.{◌≡◌, ◌≤◌, ◌+◌, ◌-◌, ◌^◌, min, length, IfOk, OnOk, OnErr, replicate};
 ghost use Rattle.std.specs.FinMap as map;
 ghost use Rattle.items.specs.Map.{alive};
-ghost use Rattle.pages.specs.Page.{page_count, beside_due, sealed_in};
+ghost use Rattle.pages.specs.Page.{page_count, beside_due};
 ghost use Rattle.pages.specs.Joined.{ArePages, joined_pages, parts, items_of};
 
+use crate::group::seal_all;
 use crate::layout::Layout;
 use crate::number::page_of;
 use crate::page::{Page, drop_from_all};
 use crate::snapshot::Snapshot;
+use crate::tree::Tree;
 use items::{Item, Store};
 use proto::Key;
 use std::alloc::{AllocError, Global};
 use std::marker::Model;
+use std::sync::Arc;
 use token::PAGES;
 
 /// `PAGES` pages that are written.
@@ -54,18 +57,8 @@ fn empty_pages(alloc: Global) -> Result<Vec<Page>, AllocError>
     Ok(pages)
 }
 
-/// Brings each page into this layout, and makes its digest. The only error is a failed allocation.
-fn seal_all(pages: &mut Vec<Page>, layout: Layout) -> Result<(), AllocError>
-    ensures { OnOk result (pages.new.items ≡ map_list (sealed_in layout) pages.old.items) }
-{
-    for page in pages.iter_mut() {
-        page.seal(layout)?;
-    }
-    Ok(())
-}
-
 /// How many items the pages have.
-pub(crate) fn count_of(pages: &Vec<Page>) -> u64
+fn count_of(pages: &Vec<Page>) -> u64
     requires { ArePages (items_of pages.now.items) }
     ensures { result ≡ length (map.entries (joined_pages (items_of pages.now.items))) }
 {
@@ -81,8 +74,7 @@ impl OwnPages {
     pub fn new(alloc: Global) -> Result<OwnPages, AllocError>
         ensures { IfOk result (λ pages. pages ≡ map.empty) }
     {
-        let mut pages = empty_pages(alloc)?;
-        pages[0].keep_tree(alloc, &[[0; 32]; PAGES])?;
+        let pages = empty_pages(alloc)?;
         Ok(OwnPages { pages })
     }
 
@@ -93,6 +85,15 @@ impl OwnPages {
         ensures { result ≡ joined_pages (items_of pages.items) }
     {
         OwnPages { pages }
+    }
+
+    /// The same, with a tree over digests, of which one over theirs is made.
+    pub(crate) fn with_tree(mut pages: Vec<Page>, tree: Arc<Tree, Global>) -> OwnPages
+        requires { ArePages (items_of pages.items) }
+        ensures { result ≡ joined_pages (items_of pages.items) }
+    {
+        pages[0].keep_tree(tree);
+        OwnPages::join(pages)
     }
 
     /// The pages, in the order of their numbers.

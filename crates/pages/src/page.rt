@@ -4,8 +4,6 @@ ghost use Rattle.std.specs.FinMap as map;
 ghost use Rattle.items.specs.Map.{alive};
 ghost use Rattle.wire.specs.Item.{PageFits};
 ghost use Rattle.wire.specs.Record.{Puts};
-ghost use Rattle.token.specs.declared.tree.TheConstants.{HEIGHT};
-ghost use Rattle.token.specs.Digest.{root_of};
 ghost use Rattle.pages.specs.Page.{page_number, item_count, beside_due, refreshed, sealed_in, HasRoom};
 ghost use Rattle.pages.specs.Layout.{digest_in, text_in, entries_in};
 ghost use Rattle.pages.specs.declared.layout.Layout.TheVariants.{Sorted};
@@ -25,7 +23,7 @@ use items::{Item, PlainStore, Store};
 use proto::Key;
 use std::alloc::{AllocError, Global};
 use std::marker::Model;
-use token::{HEIGHT, PAGES};
+use std::sync::Arc;
 use wire::{Entries, Sink};
 
 /// How many entries a page has at most: its text counts them by four bytes.
@@ -45,8 +43,8 @@ pub struct Page {
     sealed: bool,
     /// The tree over the digests of all pages of a store. Only page 0 keeps it, so that it goes
     /// along when the pages are parted and joined again. It spares time and no more: the tree of
-    /// any other pages would do as well. In a box, so that the other pages stay small.
-    tree: Option<Box<Tree>>,
+    /// any other pages would do as well. It is shared with a snapshot.
+    tree: Option<Arc<Tree, Global>>,
 }
 
 impl Drop for Page {
@@ -258,35 +256,18 @@ impl Page {
         Ok(())
     }
 
-    /// The root over these digests of all pages. If the page keeps a tree, just the nodes are made
-    /// new that are above a digest that differs from the one in the tree. This takes no memory.
-    pub(crate) fn root_over(&mut self, digests: &[[u8; 32]; PAGES]) -> [u8; 32]
-        ensures root { result ≡ root_of HEIGHT digests.now }
-        ensures same { self.new ≡ self.old }
-    {
-        match &mut self.tree {
-            Some(tree) => {
-                tree.renew(digests);
-                tree.root()
-            }
-            None => token::root(digests, HEIGHT),
-        }
-    }
-
-    pub(crate) fn keeps_tree(&self) -> bool {
-        self.tree.is_some()
-    }
-
-    /// Keeps the tree over these digests of all pages. The only error is a failed allocation.
-    pub(crate) fn keep_tree(
-        &mut self,
-        alloc: Global,
-        digests: &[[u8; 32]; PAGES],
-    ) -> Result<(), AllocError>
+    /// Takes out the tree over the digests of all pages, if the page keeps one.
+    pub(crate) fn remove_tree(&mut self) -> Option<Arc<Tree, Global>>
         ensures { self.new ≡ self.old }
     {
-        self.tree = Some(Box::new(alloc, Tree::new(alloc, digests)?)?);
-        Ok(())
+        self.tree.take()
+    }
+
+    /// Keeps a tree over the digests of all pages.
+    pub(crate) fn keep_tree(&mut self, tree: Arc<Tree, Global>)
+        ensures { self.new ≡ self.old }
+    {
+        self.tree = Some(tree);
     }
 
     /// Whether an item is due at the moment or before it. It looks at one entry at most.

@@ -1,10 +1,11 @@
-ghost use Rattle.std.specs.Prelude.{◌≡◌, ◌≤◌, ◌+◌, ◌-◌, ◌^◌, min, length, true, IfOk, IfErr, OnOk, OnErr};
+ghost use Rattle.std.specs.Prelude.{◌≡◌, ◌≤◌, ◌+◌, ◌-◌, ◌^◌, min, length, true, IfOk, IfErr, IfSome, OnOk, OnErr};
 ghost use Rattle.std.specs.FinMap as map;
 ghost use Rattle.items.specs.Map.{alive};
 ghost use Rattle.pages.specs.Page.{page_count, beside_due};
 ghost use Rattle.pages.specs.Joined.{ArePages, joined_pages, parts, items_of};
 ghost use Rattle.pages.specs.Held.{items_held};
 
+use crate::grouped_pages::GroupedPages;
 use crate::layout::Layout;
 use crate::own_pages::OwnPages;
 use crate::page::Page;
@@ -15,11 +16,17 @@ use std::alloc::{AllocError, Global};
 use std::marker::Model;
 use token::PAGES;
 
+/// Pages that were written and weigh less than this are not worth two threads that make their digests, as `workers`
+/// parts them: so they are not taken apart.
+const LEAST_WEIGHT: usize = 512;
+
 /// What a store of pages has.
 #[derive(Drop)]
 enum Held {
     /// The pages of a snapshot. Nothing was written.
     Shared(Snapshot),
+    /// The pages of a snapshot, of which some may have been written.
+    Grouped(GroupedPages),
     /// Pages of its own.
     Own(OwnPages),
 }
@@ -31,7 +38,19 @@ impl Held {
     {
         match self {
             Held::Shared(snapshot) => snapshot.own(),
+            Held::Grouped(pages) => pages.own(),
             Held::Own(pages) => Ok(pages),
+        }
+    }
+
+    /// The same pages, by themselves, if they are not. The only error is a failed allocation.
+    fn taken_out(&self) -> Result<Option<OwnPages>, AllocError>
+        ensures { IfOk result (λ taken. IfSome taken (λ pages. pages ≡ items_held self.now)) }
+    {
+        match self {
+            Held::Shared(snapshot) => Ok(Some(snapshot.own()?)),
+            Held::Grouped(pages) => Ok(Some(pages.own()?)),
+            Held::Own(_) => Ok(None),
         }
     }
 
@@ -45,7 +64,7 @@ impl Held {
     {
         match self {
             // `make_own` was called before.
-            Held::Shared(_) => Err(AllocError),
+            Held::Shared(_) | Held::Grouped(_) => Err(AllocError),
             Held::Own(pages) => pages.drop_due_counted(moment),
         }
     }
@@ -114,8 +133,8 @@ impl Pages {
         Ok(held.own()?.part())
     }
 
-    /// The pages, in the order of their numbers, if something may have been written. Else it comes back: its pages are
-    /// those of a snapshot, whose digests were made.
+    /// The pages, in the order of their numbers, if so much was written that threads are worth starting for the digests.
+    /// Else it comes back, and `seal` makes what digests are missing.
     pub fn written(self) -> Result<Vec<Page>, Pages>
         ensures ok { IfOk result (λ pages. items_of pages.items ≡ parts self) }
         ensures err { IfErr result (λ pages. pages ≡ self) }
@@ -123,7 +142,27 @@ impl Pages {
         let Pages { held } = self;
         match held {
             Held::Shared(snapshot) => Err(Pages::of_shared(snapshot)),
+            Held::Grouped(pages) => Pages::taken_apart(pages),
             Held::Own(pages) => Ok(pages.part()),
+        }
+    }
+
+    /// These pages, in the order of their numbers, if threads are worth starting for their digests. Else they come back,
+    /// also if an allocation fails.
+    fn taken_apart(pages: GroupedPages) -> Result<Vec<Page>, Pages>
+        ensures ok { IfOk result (λ parts_of. items_of parts_of.items ≡ parts pages) }
+        ensures err { IfErr result (λ back. back ≡ pages) }
+    {
+        if pages.weight() < LEAST_WEIGHT {
+            return Err(Pages {
+                held: Held::Grouped(pages),
+            });
+        }
+        match pages.own() {
+            Ok(own) => Ok(own.part()),
+            Err(_) => Err(Pages {
+                held: Held::Grouped(pages),
+            }),
         }
     }
 
@@ -133,6 +172,7 @@ impl Pages {
     {
         match &self.held {
             Held::Shared(snapshot) => snapshot.count(),
+            Held::Grouped(pages) => pages.len(),
             Held::Own(pages) => pages.len(),
         }
     }
@@ -147,6 +187,7 @@ impl Pages {
         let Pages { held } = self;
         match held {
             Held::Shared(snapshot) => snapshot.in_layout(layout),
+            Held::Grouped(pages) => pages.seal(layout),
             Held::Own(pages) => pages.seal(layout),
         }
     }
@@ -157,17 +198,28 @@ impl Pages {
     {
         match &self.held {
             Held::Shared(snapshot) => !snapshot.has_due(moment),
+            Held::Grouped(_) => false,
             Held::Own(_) => false,
         }
     }
 
-    /// Pages of its own in place of shared ones. The only error is a failed allocation.
+    /// Pages of its own in place of those of a snapshot. The only error is a failed allocation.
     fn make_own(&mut self) -> Result<(), AllocError>
         ensures { self.new ≡ self.old }
     {
-        if let Held::Shared(snapshot) = &self.held {
-            let pages = snapshot.own()?;
+        if let Some(pages) = self.held.taken_out()? {
             self.held = Held::Own(pages);
+        }
+        Ok(())
+    }
+
+    /// Pages that are written in place of shared ones. The only error is a failed allocation.
+    fn make_written(&mut self) -> Result<(), AllocError>
+        ensures { self.new ≡ self.old }
+    {
+        if let Held::Shared(snapshot) = &self.held {
+            let pages = snapshot.grouped()?;
+            self.held = Held::Grouped(pages);
         }
         Ok(())
     }
@@ -197,6 +249,7 @@ impl Store for Pages {
     fn get(&self, key: &Key) -> Option<&Item> {
         match &self.held {
             Held::Shared(snapshot) => snapshot.get(key),
+            Held::Grouped(pages) => pages.get(key),
             Held::Own(pages) => pages.get(key),
         }
     }
@@ -204,10 +257,11 @@ impl Store for Pages {
     /// Refused if an allocation fails, or in the same way if the key's page has 2^32 - 1 entries and
     /// none at the key.
     fn put(&mut self, key: Key, item: Item) -> Result<(), AllocError> {
-        self.make_own()?;
+        self.make_written()?;
         match &mut self.held {
+            Held::Grouped(pages) => pages.put(key, item),
             Held::Own(pages) => pages.put(key, item),
-            // `make_own` left none that are shared.
+            // `make_written` left none that are shared.
             Held::Shared(_) => Err(AllocError),
         }
     }
@@ -216,10 +270,11 @@ impl Store for Pages {
         if self.get(key).is_none() {
             return Ok(());
         }
-        self.make_own()?;
+        self.make_written()?;
         match &mut self.held {
+            Held::Grouped(pages) => pages.remove(key),
             Held::Own(pages) => pages.remove(key),
-            // `make_own` left none that are shared.
+            // `make_written` left none that are shared.
             Held::Shared(_) => Err(AllocError),
         }
     }

@@ -1,5 +1,6 @@
 ghost use Rattle.std.specs.Prelude.{◌≡◌, ◌<◌, ◌^◌, ◌↔◌, length, false, IfOk, OnOk, IsTrue};
 ghost use Rattle.std.specs.Option.{option_copied};
+ghost use Rattle.std.specs.Arc.{arc_value};
 ghost use Rattle.std.specs.FinMap as map;
 ghost use Rattle.wire.specs.Item.{PageFits};
 ghost use Rattle.wire.specs.Record.{Puts};
@@ -13,12 +14,15 @@ ghost use Rattle.pages.specs.Others.{AreSameBeside};
 ghost use Rattle.pages.specs.declared.layout.Layout.{Layout as LayoutOf};
 ghost use Rattle.pages.specs.declared.layout.Layout.TheVariants.{Sorted};
 
+use crate::grouped_pages::GroupedPages;
+use crate::groups::Groups;
 use crate::layout::Layout;
 use crate::number::page_of;
-use crate::own_pages::{OwnPages, count_of};
+use crate::own_pages::OwnPages;
 use crate::page::Page;
 use crate::page_set::PageSet;
 use crate::pages::Pages;
+use crate::tree::{Tree, renewed};
 use base::Entry;
 use items::{Item, Store};
 use proto::Key;
@@ -28,24 +32,27 @@ use std::sync::Arc;
 use token::PAGES;
 use wire::Sink;
 
-/// Pages that are kept as they are, all in one layout, and the root over their digests.
+/// Pages that are kept as they are, all in one layout, and the tree over their digests.
 pub struct Snapshot {
-    pages: Arc<Vec<Page>, Global>,
+    alloc: Global,
+    groups: Arc<Groups, Global>,
     layout: Layout,
-    root: [u8; 32],
+    tree: Arc<Tree, Global>,
 }
 
 impl Drop for Snapshot {
     fn drop(self) {
         let Snapshot {
-            pages: _,
+            alloc: _,
+            groups: _,
             layout: _,
-            root: _,
+            tree: _,
         } = self;
     }
 }
 
 impl Model for Snapshot {
+    ghost use Rattle.std.specs.Arc.{arc_value};
     ghost use Rattle.std.specs.Coded.{coded_list, coded_ℕ};
     ghost use Rattle.std.specs.FinMap as map;
     ghost use Rattle.items.specs.contracts.item.Item as item;
@@ -57,9 +64,9 @@ impl Model for Snapshot {
 
     ghost coded = { laid_code (map.code (coded_list coded_ℕ) item.the_row.coded) kind.the_row.coded };
 
-    ghost view = { λ a. record { items = joined_pages (items_of a.pages.value.items); layout = a.layout } };
+    ghost view = { λ a. record { items = joined_pages (items_of (arc_value a.groups)); layout = a.layout } };
 
-    ghost invariant = { λ a. IsSnapshot a.layout a.pages.value.items a.root };
+    ghost invariant = { λ a. IsSnapshot a.layout (arc_value a.groups) (arc_value a.tree) };
 }
 
 fn digests_of(pages: &Vec<Page>) -> [[u8; 32]; PAGES]
@@ -73,66 +80,39 @@ fn digests_of(pages: &Vec<Page>) -> [[u8; 32]; PAGES]
     digests
 }
 
-/// The root over the digests of the pages. The tree that they keep, if any, is made theirs.
-fn root_over(pages: &mut Vec<Page>) -> [u8; 32]
+/// The tree over these digests, made of the one that the pages keep, if any. The only error is a failed allocation.
+fn tree_over(
+    pages: &mut Vec<Page>,
+    digests: &[[u8; 32]; PAGES],
+) -> Result<Arc<Tree, Global>, AllocError>
     requires { ArePages (items_of pages.old.items) }
-    ensures root { (layout : LayoutOf) → AreSealed layout pages.old.items → result ≡ root_in layout (joined_pages (items_of pages.old.items)) }
+    ensures tree { IfOk result (λ tree. arc_value tree ≡ digests.now) }
     ensures same { pages.new.items ≡ pages.old.items }
 {
-    let digests = digests_of(pages);
-    pages[0].root_over(&digests)
-}
-
-/// Makes the tree over the digests of the pages, if they keep none.
-fn grow_tree(pages: &mut Vec<Page>) -> Result<(), AllocError>
-    requires { ArePages (items_of pages.old.items) }
-    ensures { pages.new.items ≡ pages.old.items }
-{
-    if !pages[0].keeps_tree() {
-        let digests = digests_of(pages);
-        let alloc = *pages.allocator();
-        pages[0].keep_tree(alloc, &digests)?;
+    let alloc = *pages.allocator();
+    match pages[0].remove_tree() {
+        Some(tree) => renewed(tree, digests),
+        None => Ok(Arc::new(alloc, Tree::new(alloc, digests)?)?),
     }
-    Ok(())
-}
-
-/// The pages in which something is due at the moment or before it.
-fn due_among(pages: &Vec<Page>, moment: u32) -> PageSet
-    requires { ArePages (items_of pages.now.items) }
-    ensures { AreSameBeside result (joined_pages (items_of pages.now.items)) (alive (joined_pages (items_of pages.now.items)) moment) }
-{
-    let mut due = PageSet::new();
-    for number in 0..PAGES {
-        if pages[number].has_due(moment) {
-            due.add(number);
-        }
-    }
-    due
-}
-
-/// Whether something is due in one of the pages at the moment or before it.
-fn has_due_among(pages: &Vec<Page>, moment: u32) -> bool
-    requires { ArePages (items_of pages.now.items) }
-    ensures { result ≡ false → alive (joined_pages (items_of pages.now.items)) moment ≡ joined_pages (items_of pages.now.items) }
-{
-    for number in 0..PAGES {
-        if pages[number].has_due(moment) {
-            return true;
-        }
-    }
-    false
 }
 
 impl Snapshot {
-    fn rooted(pages: Vec<Page>, layout: Layout, root: [u8; 32]) -> Result<Snapshot, AllocError>
-        requires { IsSnapshot layout pages.items root }
-        ensures { IfOk result (λ snapshot. snapshot ≡ record { items = joined_pages (items_of pages.items); layout = layout }) }
+    /// The pages of these groups, which are all in this layout, and whose digests are all kept, with the tree over them.
+    /// The only error is a failed allocation.
+    pub(crate) fn of_groups(
+        alloc: Global,
+        groups: Groups,
+        layout: Layout,
+        tree: Arc<Tree, Global>,
+    ) -> Result<Snapshot, AllocError>
+        requires { IsSnapshot layout groups (arc_value tree) }
+        ensures { IfOk result (λ snapshot. snapshot ≡ record { items = joined_pages (items_of groups); layout = layout }) }
     {
-        let alloc = *pages.allocator();
         Ok(Snapshot {
-            pages: Arc::new(alloc, pages)?,
+            alloc,
+            groups: Arc::new(alloc, groups)?,
             layout,
-            root,
+            tree,
         })
     }
 
@@ -142,8 +122,10 @@ impl Snapshot {
         requires { AreSealed layout pages.items }
         ensures { IfOk result (λ snapshot. snapshot ≡ record { items = joined_pages (items_of pages.items); layout = layout }) }
     {
-        let root = root_over(&mut pages);
-        Snapshot::rooted(pages, layout, root)
+        let alloc = *pages.allocator();
+        let digests = digests_of(&pages);
+        let tree = tree_over(&mut pages, &digests)?;
+        Snapshot::of_groups(alloc, Groups::of_pages(pages)?, layout, tree)
     }
 
     /// The same pages, shared: nothing is copied. The only error is a failed allocation.
@@ -151,9 +133,10 @@ impl Snapshot {
         ensures { IfOk result (λ snapshot. snapshot ≡ self.now) }
     {
         Ok(Snapshot {
-            pages: self.pages.clone()?,
+            alloc: self.alloc,
+            groups: self.groups.clone()?,
             layout: self.layout,
-            root: self.root,
+            tree: self.tree.clone()?,
         })
     }
 
@@ -165,14 +148,21 @@ impl Snapshot {
         Ok(Pages::of_shared(self.share()?))
     }
 
-    /// The same pages, to be written. No item is copied, but the digests are, 16 KB for the tree over them. The only
-    /// error is a failed allocation.
+    /// The same pages, to be written: a write copies one group of them. The only error is a failed allocation.
+    pub(crate) fn grouped(&self) -> Result<GroupedPages, AllocError>
+        ensures { IfOk result (λ pages. pages ≡ self.now.items) }
+    {
+        let groups = (*self.groups).clone()?;
+        let tree = self.tree.clone()?;
+        Ok(GroupedPages::of_sealed(self.alloc, groups, self.layout, tree))
+    }
+
+    /// The same pages, by themselves. No item is copied. The only error is a failed allocation.
     pub(crate) fn own(&self) -> Result<OwnPages, AllocError>
         ensures { IfOk result (λ pages. pages ≡ self.now.items) }
     {
-        let mut pages = (*self.pages).clone()?;
-        grow_tree(&mut pages)?;
-        Ok(OwnPages::join(pages))
+        let pages = self.groups.pages(self.alloc)?;
+        Ok(OwnPages::with_tree(pages, self.tree.clone()?))
     }
 
     /// The same pages in this layout. The only error is a failed allocation.
@@ -189,14 +179,14 @@ impl Snapshot {
     pub(crate) fn count(&self) -> u64
         ensures { result ≡ length (map.entries self.now.items) }
     {
-        count_of(&self.pages)
+        self.groups.count()
     }
 
     /// Whether something is due at the moment or before it. It looks at one entry of each page.
     pub(crate) fn has_due(&self, moment: u32) -> bool
         ensures { result ≡ false → alive self.now.items moment ≡ self.now.items }
     {
-        has_due_among(&self.pages, moment)
+        self.groups.has_due(moment)
     }
 
     /// The item of a key.
@@ -211,7 +201,7 @@ impl Snapshot {
         ensures items { result.now.items ≡ page_items self.now.items number }
         ensures layout { result.now.layout ≡ self.now.layout }
     {
-        &self.pages[number]
+        self.groups.page(number)
     }
 
     /// How the items are kept.
@@ -226,7 +216,7 @@ impl Snapshot {
     pub fn due_pages(&self, moment: u32) -> PageSet
         ensures { AreSameBeside result self.now.items (alive self.now.items moment) }
     {
-        due_among(&self.pages, moment)
+        self.groups.due(moment)
     }
 
     /// How many items a page has.
@@ -308,6 +298,6 @@ impl Snapshot {
     pub fn root(&self) -> [u8; 32]
         ensures { result ≡ root_in self.now.layout self.now.items }
     {
-        self.root
+        self.tree.root()
     }
 }

@@ -1,4 +1,5 @@
 ghost use Rattle.std.specs.Prelude.{◌≡◌, ℕ, ◌*◌, ◌<◌, length, false, slice_index_or, [], IfOk};
+ghost use Rattle.std.specs.Arc.{arc_value};
 ghost use Rattle.token.specs.declared.tree.TheConstants.{HEIGHT};
 ghost use Rattle.token.specs.Digest.{root_of};
 ghost use Rattle.pages.specs.Page.{page_count};
@@ -6,6 +7,7 @@ ghost use Rattle.pages.specs.Tree.{leaves, IsTree, IsAboveSame};
 
 use std::alloc::{AllocError, Global};
 use std::marker::Model;
+use std::sync::Arc;
 use token::{PAGES, inner_digest};
 
 /// The places of a tree over the digests of all pages. Place 0 is not used.
@@ -90,6 +92,15 @@ impl Tree {
         renew_above(&mut self.nodes, &mut changed);
     }
 
+    /// The digests that it is over.
+    pub(crate) fn leaves(&self) -> [[u8; 32]; PAGES]
+        ensures { result ≡ self.now }
+    {
+        let mut digests = [[0u8; 32]; PAGES];
+        digests.copy_from_slice(&self.nodes[PAGES..]);
+        digests
+    }
+
     /// The root.
     pub(crate) fn root(&self) -> [u8; 32]
         ensures { result ≡ root_of HEIGHT self.now }
@@ -106,4 +117,18 @@ impl Clone for Tree {
             nodes: Vec::from_slice(*self.nodes.allocator(), self.nodes.as_slice())?,
         })
     }
+}
+
+/// The tree over these digests, made of another one. Nodes that are the same in both are not hashed. The only error
+/// is a failed allocation.
+pub(crate) fn renewed(
+    tree: Arc<Tree, Global>,
+    digests: &[[u8; 32]; PAGES],
+) -> Result<Arc<Tree, Global>, AllocError>
+    ensures tree { IfOk result (λ tree. arc_value tree ≡ digests.now) }
+    ensures count { IfOk result (λ _. length digests.now ≡ page_count) }
+{
+    let mut tree = tree;
+    Arc::make_mut(&mut tree)?.renew(digests);
+    Ok(tree)
 }

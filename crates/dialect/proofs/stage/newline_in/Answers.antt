@@ -1,4 +1,4 @@
-use Rattle.dialect.proofs.NewlineLemmas.{finds_newline}
+use Rattle.proto.proofs.NewlineLemmas.{finds_newline}
 use Rattle.dialect.proofs.stage.newline_in.Goals as goal
 
 pub returns : goal.returns

@@ -1,14 +1,12 @@
 use Rattle.std.proofs.Common.{◌≡◌, ℕ, ◌++◌, List, length, map, take, drop, sym, ap, ◌∙◌, subst, arith}
 use Rattle.std.specs.FinMap.{entries}
 use Rattle.std.proofs.Math.Seq.{take-append_seam}
-use Rattle.std.proofs.lemmas.Result.{IfOk-from_err}
 use Rattle.items.specs.Map.{Items, alive}
 use Rattle.pages.specs.Page.{PageState, page_count, item_count, beside_due}
 use Rattle.pages.specs.Joined.{ArePages, joined_pages, parts, items_of}
 use Rattle.pages.proofs.JoinedLemmas.{joined-alive}
 use Rattle.pages.proofs.StateLemmas.{length-states}
 use Rattle.pages.proofs.CountLemmas.{count-joined}
-use Rattle.pages.proofs.DueLemmas.{dropped-beside}
 use Rattle.pages.proofs.PartLemmas.{parts-joined}
 use Rattle.pages.proofs.own_pages.OwnPages.drop_due_counted.Goals.{In_ok-looks}
 use Rattle.pages.proofs.own_pages.OwnPages.drop_due_counted.Goals as goal

@@ -1,5 +1,4 @@
-use Rattle.std.proofs.Common.{◌≡◌, List, ℕ, sym, ap, ◌∙◌}
-use Rattle.items.specs.declared.item.Item.{Item}
+use Rattle.std.proofs.Common.{◌≡◌, sym, ap, ◌∙◌}
 use Rattle.pages.specs.Page.{PageState, sealed_in}
 use Rattle.pages.specs.Layout.{entries_in}
 use Rattle.pages.proofs.OwnLemmas.{entries_tell}

@@ -1,4 +1,4 @@
-use Rattle.std.proofs.Common.{◌≡◌, sym, subst, ◌∙◌}
+use Rattle.std.proofs.Common.{sym, subst, ◌∙◌}
 use Rattle.std.specs.FinMap.{entries, get}
 use Rattle.items.specs.Map.{Items}
 use Rattle.wire.specs.Item.{PageFits}

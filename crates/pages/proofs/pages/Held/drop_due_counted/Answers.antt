@@ -1,4 +1,4 @@
-use Rattle.std.proofs.Common.{◌≡◌, ◌≤◌, ◌+◌, ◌-◌, ◌^◌, ℕ, min, length, IfOk, sym, ap, subst}
+use Rattle.std.proofs.Common.{◌≤◌, ◌+◌, ◌-◌, ◌^◌, min, length, IfOk, sym, ap, subst}
 use Rattle.std.specs.FinMap.{entries}
 use Rattle.items.specs.Map.{Items}
 use Rattle.pages.specs.Page.{page_count, beside_due}

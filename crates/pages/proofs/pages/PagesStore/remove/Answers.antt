@@ -1,4 +1,4 @@
-use Rattle.std.proofs.Common.{◌≡◌, Bool, not, false, sym, ◌∙◌, ap}
+use Rattle.std.proofs.Common.{not, sym, ◌∙◌, ap}
 use Rattle.std.specs.FinMap.{get}
 use Rattle.std.specs.Option.{is_some}
 use Rattle.pages.proofs.PageLemmas.{remove-absent, found-is, none-found}

@@ -1,4 +1,4 @@
-use Rattle.std.proofs.Common.{◌≡◌, Bool, cond, None, sym, ap, ◌∙◌}
+use Rattle.std.proofs.Common.{Bool, cond, None, sym, ap, ◌∙◌}
 use Rattle.std.specs.FinMap.{get}
 use Rattle.std.proofs.lemmas.Bool.{eq-eqb}
 use Rattle.items.specs.Map.{Items}
