@@ -165,7 +165,7 @@ function show(f) {
     ["Memory", f.memory.resident_bytes ? size(f.memory.resident_bytes) : "unknown", "of the process"], ["Refused lines", short(refused), "since the start"]]);
   tiles("saves", f.saves.made || f.saves.failed ? [["Saves", short(f.saves.made), "since the start"], ["Saves that failed", whole(f.saves.failed), failing ? "the last one too" : "since the start", failing ? "bad" : ""],
     ["Waiting for a save", short(f.saves.waiting), "messages to connections"], ["Data on disk", size(f.saves.bytes), "files in all folders"],
-    ["Folders", whole(f.saves.current_folders) + " of " + whole(f.saves.folders), "have the last save", behind > 0 ? "bad" : ""], ["A save takes", time(f.times.save.sum / Math.max(1, sum(f.times.save.counts))), "mean since the start"]] : []);
+    ["Folders", whole(f.saves.current_folders) + " of " + whole(f.saves.folders), "have the last save", behind > 0 ? "bad" : ""], ["A save takes", time(Math.round(f.times.save.sum / Math.max(1, sum(f.times.save.counts)))), "mean since the start"]] : []);
   charts(rates, counts);
   nodes("executors", executors);
   nodes("verifiers", verifiers);
