@@ -14,13 +14,19 @@
 
 mod fault;
 mod folder;
+mod found_copy;
 mod host;
 mod opening;
+mod save_copy;
 mod service_text;
 mod stored_items;
+mod stored_record;
 mod tables;
 
 pub use fault::DataFault;
 pub use folder::DataFolder;
+pub use found_copy::{FoundCopy, Wanted};
 pub use host::HostFolder;
-pub use opening::{FILES, FolderOptions, FolderStore};
+pub use opening::{FILE, FILES, FolderStore};
+pub use save_copy::{CopyPlace, SaveCopy};
+pub use stored_record::StoredRecord;
