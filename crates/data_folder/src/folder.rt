@@ -2,7 +2,7 @@
 
 ghost use Rattle.std.specs.Prelude.{◌≡◌, IsTrue, IfOk, OnOk, IsSomeAnd};
 ghost use Rattle.sqlite_trees.specs.View.{IsClean};
-ghost use Rattle.data_folder.specs.Found.{SavedText, HoldsSomeText, SavesText, MayFind, FindsOnly, FindsOldOr, FindsCopy};
+ghost use Rattle.data_folder.specs.Found.{SavedText, RowFits, HoldsSomeText, SavesText, MayFind, FindsOnly, FindsOldOr, FindsCopy};
 
 use crate::fault::{DataFault, record_fault, store_fault};
 use crate::found_copy::{FoundCopy, FoundProcess, Wanted, found_in};
@@ -173,6 +173,7 @@ impl<S: Store + Drop> DataFolder<S> {
     /// Writes it. If it cannot be written the file is as it was, unless the disk failed.
     fn write(&mut self, alloc: Global, prepared: PreparedSave) -> Result<(), StoreError>
         requires open { IsClean (S.view self.old.shelf.rows.store) → IsTrue (S.view self.old.shelf.rows.store).is_open }
+        requires fits { RowFits prepared.turn.process }
         ensures saved { (s : SavedText) → IsSomeAnd prepared.turn.process (SavesText s) → OnOk result (FindsOnly (MayFind (S.view self.new.shelf.rows.store) (S.recovers self.new.shelf.rows.store)) s) }
         ensures crash { (s : SavedText) → IsSomeAnd prepared.turn.process (SavesText s)
             → FindsOldOr (MayFind (S.view self.old.shelf.rows.store) (S.recovers self.old.shelf.rows.store)) (MayFind (S.view self.new.shelf.rows.store) (S.recovers self.new.shelf.rows.store)) s }

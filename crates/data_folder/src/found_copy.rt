@@ -40,6 +40,20 @@ impl Drop for FoundCopy {
     }
 }
 
+impl FoundCopy {
+    /// The record.
+    pub fn into_service(self) -> ServiceRecord
+        ensures { result ≡ self.service }
+    {
+        let FoundCopy {
+            stamp: _,
+            site: _,
+            service,
+        } = self;
+        service
+    }
+}
+
 /// What is asked of a file.
 #[derive(Clone, Copy, Debug)]
 pub struct Wanted {

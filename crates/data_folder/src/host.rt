@@ -1,8 +1,8 @@
 //! A folder of the host's file system.
 
 ghost use Rattle.std.specs.Prelude.{IfOk};
-ghost use Rattle.sqlite_store.specs.FileStore.{view, recovers};
-ghost use Rattle.data_folder.specs.Found.{MayFind, FindsCopy};
+ghost use Rattle.data_folder.specs.Found.{FindsCopy};
+ghost use Rattle.data_folder.specs.Host.{host_may_find};
 
 use crate::fault::DataFault;
 use crate::folder::DataFolder;
@@ -34,7 +34,7 @@ impl HostFolder {
         wanted: Wanted,
         syncs: bool,
     ) -> Result<(HostFolder, Option<FoundCopy>), DataFault>
-        ensures { IfOk result (λ opened. FindsCopy (MayFind (view opened.0.folder.shelf.rows.store) (recovers opened.0.folder.shelf.rows.store)) opened.1) }
+        ensures { IfOk result (λ opened. FindsCopy (host_may_find opened.0) opened.1) }
     {
         match DataFolder::open(rt, folder, wanted, syncs) {
             Ok((folder, found)) => Ok((HostFolder { folder }, found)),
@@ -44,7 +44,7 @@ impl HostFolder {
 }
 
 impl SaveCopy for HostFolder {
-    ghost may_find = { λ f found. MayFind (view f.folder.shelf.rows.store) (recovers f.folder.shelf.rows.store) found };
+    ghost may_find = { host_may_find };
 
     fn save_copy(
         &mut self,

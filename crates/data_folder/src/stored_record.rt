@@ -43,7 +43,9 @@ impl StoredRecord {
         ensures { IfOk result (λ stored. TellsService kept.now stored.text.items) }
     {
         match stored_of(alloc, kept.replicas()) {
-            Ok(stored) => stored_parts(alloc, &stored, kept.next()).map_err(|fault| record_fault(fault)),
+            Ok(stored) => stored_parts(alloc, &stored, kept.next()).map_err(|fault| record_fault(
+                fault,
+            )),
             Err(fault) => Err(record_fault(fault)),
         }
     }

@@ -1,5 +1,6 @@
 -- Copies of a record in several folders, and what a later start finds among them.
-use Rattle.std.specs.Prelude.{◌≡◌, ℕ, Bool, true, false, not, is_some, List, [], ◌∷◌, length, map, count_by, slice_index_or, All, Option, None, Some, ⊤}
+use Rattle.std.specs.Prelude.{◌≡◌, ◌<◌, ℕ, Bool, true, false, not, is_some, List, length, map, count_by, slice_index_or, Option, None, Some, ⊤}
+use Rattle.std.specs.List.{AllZip, AllByRecursion}
 use Rattle.folders.specs.declared.stamp.SaveStamp.{SaveStamp}
 use Rattle.folders.specs.Folders.{is_later_save, IsMajority, IsNewest}
 use Rattle.service.specs.Record.{RecordView}
@@ -7,12 +8,10 @@ use Rattle.data_folder.specs.Found.{SavedText, FindsOnly, FindsOldOr, FindsCopy}
 use Rattle.data_folder.specs.declared.found_copy.FoundCopy.{FoundCopy}
 use Rattle.data_folders.specs.declared.place.FolderPlace.{FolderPlace}
 
--- each of the first list and what is at its place in the second, which is as long
-abbrev pub AllPairs : {A B : Type 0} → (A → B → Type 0) → List A → List B → Type 0
-AllPairs P [] [] = ⊤
-AllPairs P [] (y ∷ ys) = ⊥
-AllPairs P (x ∷ xs) [] = ⊥
-AllPairs P (x ∷ xs) (y ∷ ys) = P x y × AllPairs P xs ys
+-- lists of one length, and a fact of what is at the same place in both
+pub record ArePaired {A B : Type 0} (P : A → B → Type 0) (xs : List A) (ys : List B) : Type 0 where
+  pub same : length ys ≡ length xs
+  pub each : (k : ℕ) (x : A) (y : B) → k < length xs → P (slice_index_or xs k x) (slice_index_or ys k y)
 
 -- ---- what a later start finds
 
@@ -51,12 +50,12 @@ module _ {F : Type 0} (may_find : F → Option SavedText → Type 0) where
   -- a start that reads what it may begins with this text
   pub record FindsAmong (first : SaveStamp) (places : List (FolderPlace F)) (text : List ℕ) : Type 0 where
     pub reads : List (Option SavedText)
-    pub may : AllPairs (MayRead first) places reads
+    pub may : AllZip (MayRead first) places reads
     pub begins : BeginsWith reads text
 
   -- what a later start may begin with: a text; or nothing, if no folder has a copy
   abbrev pub MayFindAmong : SaveStamp → List (FolderPlace F) → Option (List ℕ) → Type 0
-  MayFindAmong first places None = All (λ place. MayHaveNone place.copy) places
+  MayFindAmong first places None = AllByRecursion (λ place. MayHaveNone place.copy) places
   MayFindAmong first places (Some text) = FindsAmong first places text
 
   -- ---- what a save does
@@ -72,7 +71,7 @@ module _ {F : Type 0} (may_find : F → Option SavedText → Type 0) where
     pub crash : (before copy : F) → old.copy ≡ Some before → new.copy ≡ Some copy → FindsOldOr (may_find before) (may_find copy) s
 
   abbrev pub AllSave : SavedText → List (FolderPlace F) → List (FolderPlace F) → Type 0
-  AllSave s old new = AllPairs (PlaceSaves s) old new
+  AllSave s old new = AllZip (PlaceSaves s) old new
 
   -- ---- what a start has opened
 
@@ -88,11 +87,18 @@ abbrev pub found_stamp : Option FoundCopy → Option SaveStamp
 found_stamp None = None
 found_stamp (Some found) = Some found.stamp
 
+abbrev pub stamps_in : List (Option FoundCopy) → List (Option SaveStamp)
+stamps_in finds = map found_stamp finds
+
+-- more than half of the folders were read, and the copy at this place is the newest
+pub record IsNewestCopy (finds : List (Option FoundCopy)) (at : ℕ) : Type 0 where
+  pub majority : IsMajority (count_by is_some (stamps_in finds)) (length (stamps_in finds))
+  pub newest : IsNewest (stamps_in finds) at
+
 -- more than half of the folders were read, and this is the record of the newest
 pub record IsNewestRecord (finds : List (Option FoundCopy)) (r : RecordView) : Type 0 where
-  pub majority : IsMajority (count_by is_some finds) (length finds)
   pub at : ℕ
-  pub newest : IsNewest (map found_stamp finds) at
+  pub newest : IsNewestCopy finds at
   pub found : FoundCopy
   pub there : slice_index_or finds at None ≡ Some found
   pub is : found.service ≡ r

@@ -46,7 +46,7 @@ impl<F: SaveCopy + Drop> Drop for Copies<F> {
 }
 
 /// Whether the last save is in more than half of the folders.
-fn is_saved<F>(places: &[FolderPlace<F>]) -> bool
+pub fn is_saved<F>(places: &[FolderPlace<F>]) -> bool
     ensures { IsTrue result → IsMajority (count_by is_current places.now) (length places.now) }
 {
     let current = places.iter().filter(|place| place.is_current()).count();
@@ -54,7 +54,7 @@ fn is_saved<F>(places: &[FolderPlace<F>]) -> bool
 }
 
 /// Why a save failed that more than half of the folders do not have.
-fn fault_of<F>(places: &[FolderPlace<F>]) -> SaveFault {
+pub fn fault_of<F>(places: &[FolderPlace<F>]) -> SaveFault {
     let usable = places.iter().filter(|place| place.is_usable()).count();
     if usable <= places.len() - usable {
         return SaveFault::Disk;
@@ -126,7 +126,11 @@ impl<F: SaveCopy> Copies<F> {
 
     /// In how many folders it is saved.
     pub fn folders(&self) -> SaveFolders {
-        let current = self.places.iter().filter(|place| place.is_current()).count();
+        let current = self
+            .places
+            .iter()
+            .filter(|place| place.is_current())
+            .count();
         SaveFolders {
             all: self.places.len() as u64,
             current: current as u64,
@@ -149,7 +153,14 @@ impl<F: SaveCopy + Send> Copies<F> {
         let Some(stamp) = next_stamp(self.stamp) else {
             return Err(SaveFault::Unstorable);
         };
-        save_each(rt, alloc, self.places.as_mut_slice(), self.site, stamp, stored);
+        save_each(
+            rt,
+            alloc,
+            self.places.as_mut_slice(),
+            self.site,
+            stamp,
+            stored,
+        );
         self.stamp = stamp;
         a_saved_turn_is_found();
         if is_saved(&self.places) {

@@ -1,9 +1,7 @@
 //! What a start has opened.
 
-ghost use Rattle.std.specs.Prelude.{◌≡◌, ◌<◌, IsTrue, IfSome, IfOk, None, Option, OnOk, length, map, count_by, is_some};
-ghost use Rattle.folders.specs.Folders.{IsMajority, IsNewest};
-ghost use Rattle.data_folder.specs.Found.{FindsCopy};
-ghost use Rattle.data_folders.specs.Copies.{AllPairs, OpensAs, IsFoundIn, found_stamp};
+ghost use Rattle.std.specs.Prelude.{◌≡◌, IsTrue, IfSome, IfOk, None, All, map};
+ghost use Rattle.data_folders.specs.Copies.{ArePaired, OpensAs, IsFoundIn, found_stamp, stamps_in, IsNewestCopy};
 
 use crate::place::FolderPlace;
 use data_folder::{FoundCopy, SaveCopy};
@@ -15,7 +13,7 @@ use std::alloc::{AllocError, Global};
 pub struct Opened<F: SaveCopy> {
     pub places: Vec<FolderPlace<F>>,
     pub finds: Vec<Option<FoundCopy>>,
-    ghost pairs: { AllPairs (OpensAs F.may_find) places.items finds.items },
+    ghost pairs: { ArePaired (OpensAs F.may_find) places.items finds.items },
 }
 
 impl<F: SaveCopy + Drop> Drop for Opened<F> {
@@ -27,19 +25,26 @@ impl<F: SaveCopy + Drop> Drop for Opened<F> {
     }
 }
 
+/// When a copy was saved.
+fn stamp_in(found: &Option<FoundCopy>) -> Option<SaveStamp>
+    ensures { result ≡ found_stamp found.now }
+{
+    match found {
+        Some(found) => Some(found.stamp),
+        None => None,
+    }
+}
+
 /// When each copy was saved.
 fn stamps_of(
     alloc: Global,
     finds: &[Option<FoundCopy>],
 ) -> Result<Vec<Option<SaveStamp>>, AllocError>
-    ensures { IfOk result (λ stamps. stamps.items ≡ map found_stamp finds.now) }
+    ensures { IfOk result (λ stamps. stamps.items ≡ stamps_in finds.now) }
 {
     let mut stamps = Vec::with_capacity(alloc, finds.len())?;
     for found in finds {
-        stamps.push(match found {
-            Some(found) => Some(found.stamp),
-            None => None,
-        })?;
+        stamps.push(stamp_in(found))?;
     }
     Ok(stamps)
 }
@@ -53,35 +58,54 @@ impl<F: SaveCopy> Opened<F> {
         }
     }
 
-    /// One more folder: what was found in it, or why it is not open.
+    /// One more folder, and what was found in it. `None`: it is not open.
     pub fn push(&mut self, copy: Option<F>, found: Option<FoundCopy>) -> Result<(), AllocError>
         requires { IsFoundIn F.may_find copy found }
     {
         self.places.reserve(1)?;
         self.finds.reserve(1)?;
-        self.places.push(FolderPlace {
+        let place = FolderPlace {
             copy,
             fault: Some(SaveFault::Disk),
-        })?;
+        };
+        self.places.push(place)?;
         self.finds.push(found)?;
         Ok(())
     }
 
-    /// How many folders have a copy that can be read.
+    /// How many folders have a copy that was read.
     pub fn readable(&self) -> usize {
         self.finds.iter().filter(|found| found.is_some()).count()
     }
 
     /// Whether each folder is open, and none has a copy.
-    pub fn is_empty(&self) -> bool {
-        self.readable() == 0 && self.places.iter().all(|place| place.copy.is_some())
+    pub fn is_empty(&self) -> bool
+        ensures { IsTrue result → All (λ found. found ≡ None) self.now.finds.items }
+    {
+        self.finds.iter().all(|found| found.is_none())
+            && self.places.iter().all(|place| place.copy.is_some())
     }
 
-    /// Which folder has the newest copy, if more than half of all can be read.
+    /// Which folder has the newest copy, if copies were read in more than half of them.
     pub fn newest(&self, alloc: Global) -> Result<Option<usize>, AllocError>
-        ensures { IfOk result (IfSome' (λ at. IsMajority (count_by is_some self.now.finds.items) (length self.now.finds.items) × IsNewest (map found_stamp self.now.finds.items) at)) }
+        ensures { IfOk result (λ found. IfSome found (λ at. IsNewestCopy self.now.finds.items at)) }
     {
         let stamps = stamps_of(alloc, &self.finds)?;
         Ok(newest(&stamps))
+    }
+
+    /// Whether all copies that were read are of this site.
+    pub fn are_of_site(&self, site: u64) -> bool {
+        self.finds.iter().flatten().all(|found| found.site == site)
+    }
+
+    /// Uses this folder, which is empty, in place of one that is not open.
+    pub fn renew(&mut self, at: usize, copy: F)
+        requires { IsFoundIn F.may_find (Option.Some copy) Option.None }
+    {
+        match (self.places.get_mut(at), self.finds.get(at)) {
+            (Some(place), Some(None)) => place.copy = Some(copy),
+            _ => drop(copy),
+        }
     }
 }

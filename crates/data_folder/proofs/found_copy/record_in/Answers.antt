@@ -1,7 +1,7 @@
 use Rattle.std.proofs.Common.{refl, sym, subst}
 use Rattle.service.specs.Record.{RecordView}
 use Rattle.data_folder.specs.Text.{IsServiceText, service_text}
-use Rattle.data_folder.proofs.folder.record_in.Goals as goal
+use Rattle.data_folder.proofs.found_copy.record_in.Goals as goal
 
 pub returns-clause-is : goal.returns-clause-is
 returns-clause-is g c =
