@@ -48,9 +48,9 @@ pub fn tell_saved_again<R: Log>(rt: &R, seconds: u64) {
     info!(rt; target: NO_TARGET, "it is saved and answered again, after {seconds} seconds");
 }
 
-/// Tells that fewer files may be open than so many connections take.
-pub fn tell_few_files<R: Log>(rt: &R, files: u64, needed: u64) {
-    warn!(rt; target: NO_TARGET, "at most {files} files may be open, and {needed} may be needed: raise LimitNOFILE, or ulimit -n");
+/// Tells that fewer files may be open than so many connections take, so that fewer of these are served.
+pub fn tell_few_files<R: Log>(rt: &R, files: u64, needed: u64, served: u64) {
+    warn!(rt; target: NO_TARGET, "at most {files} files may be open, and {needed} may be needed: at most {served} connections are served; raise LimitNOFILE, or ulimit -n");
 }
 
 /// Tells where its figures are shown.

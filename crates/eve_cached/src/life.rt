@@ -3,12 +3,13 @@
 ghost use Rattle.std.specs.Prelude.{◌<◌};
 
 use crate::showing::{Shown, show};
-use crate::watching::{Known, warn_of_files, watch};
+use crate::watching::{Known, connections_of, watch};
 use crate::{CANNOT, DISK_FAILED, REFUSED};
 use daemon::{
     Listen, NO_TARGET, Settings, Stamped, tell_begun, tell_listening, tell_start, tell_status,
 };
 use log::{error, warn};
+use mio::net::TcpListener as MioTcpListener;
 use server::{
     Listener, Options, Save, SaveFault, ServeFault, Service, ServiceRecord, Watcher, serve_beside,
 };
@@ -32,13 +33,14 @@ struct Ports {
     status: Option<TcpListener>,
 }
 
-/// A listener at the address. If there is none, the log tells why.
+/// A listener at the address. If there is none, the log tells why. As many connections wait to be accepted as the system
+/// lets wait: of std's own listeners 128 do.
 fn bound<R: Net<Listener = TcpListener, Stream = TcpStream> + Clock + Eprint>(
     rt: &R,
     address: SocketAddr,
 ) -> Result<TcpListener, u8> {
-    match TcpListener::bind(rt, address) {
-        Ok(listener) => Ok(listener),
+    match MioTcpListener::bind(rt, address) {
+        Ok(listener) => Ok(TcpListener::from(listener)),
         Err(fault) => {
             error!(Stamped(rt); target: NO_TARGET, "cannot listen on {address}: {fault}");
             Err(CANNOT)
@@ -201,10 +203,10 @@ fn refused<R: Clock + Eprint>(rt: &R, fault: ServeFault) -> u8 {
     }
 }
 
-/// How the settings have it serve.
-fn options_of(settings: &Settings) -> Options {
+/// How the settings have it serve, with so many connections at once.
+fn options_of(settings: &Settings, connections: u16) -> Options {
     Options {
-        connections: usize::from(settings.connections),
+        connections: usize::from(connections),
         refusal: TOO_MANY,
         idle_seconds: settings.idle,
         u: settings.u,
@@ -213,17 +215,18 @@ fn options_of(settings: &Settings) -> Options {
     }
 }
 
-/// Tells what runs, as it begins, and whether it begins with nothing although it saves.
+/// Tells what runs, as it begins, and whether it begins with nothing although it saves. How many connections it can
+/// serve at once.
 fn tell_first<R: Clock + Files + Eprint + AllocGlobal>(
     rt: &R,
     settings: &Settings,
     is_found: bool,
-) {
+) -> u16 {
     tell_start(&Stamped(rt), settings);
     if settings.data.is_some() && !is_found {
         tell_begun(&Stamped(rt), None);
     }
-    warn_of_files(rt, settings);
+    connections_of(rt, settings)
 }
 
 /// Runs a daemon that saves what it answers, and goes on from what was found. The status of the program if it ends by
@@ -240,8 +243,8 @@ pub fn run<
     S: Save + Drop + Send,
 >(rt: &R, settings: Settings, saver: S, found: Option<ServiceRecord>) -> u8 {
     let is_found = found.is_some();
-    tell_first(rt, &settings, is_found);
-    let options = options_of(&settings);
+    let connections = tell_first(rt, &settings, is_found);
+    let options = options_of(&settings, connections);
     let Ports { clients, status } = match open_ports(rt, rt.alloc(), &settings) {
         Ok(ports) => ports,
         Err(status) => return status,
@@ -254,7 +257,12 @@ pub fn run<
         saver,
         found,
         move |watcher| {
-            attend(rt, watcher, status, Known::begin(rt, &settings, is_found));
+            attend(
+                rt,
+                watcher,
+                status,
+                Known::begin(rt, &settings, connections, is_found),
+            );
         },
     );
     match served {

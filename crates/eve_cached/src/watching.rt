@@ -58,16 +58,21 @@ fn own_id<R: Files + AllocGlobal>(rt: &R) -> u64 {
     process_id(text.as_str()).unwrap_or(0)
 }
 
-/// Tells if fewer files may be open than the connections may take.
-pub fn warn_of_files<R: Files + Clock + Eprint + AllocGlobal>(rt: &R, settings: &Settings) {
+/// How many connections can be served at once: as many as the settings say, or fewer if fewer files may be open than these
+/// may take. Then the log tells. The other files stay for the status port and the folder of the data.
+pub fn connections_of<R: Files + Clock + Eprint + AllocGlobal>(rt: &R, settings: &Settings) -> u16 {
+    let asked = settings.connections;
     let Ok(text) = fs::read_to_string(rt, "/proc/self/limits") else {
-        return;
+        return asked;
     };
-    let needed = u64::from(settings.connections).saturating_add(OTHER_FILES);
-    if let Some(files) = open_files(text.as_str()) {
-        if files < needed {
-            tell_few_files(&Stamped(rt), files, needed);
+    let needed = u64::from(asked).saturating_add(OTHER_FILES);
+    match open_files(text.as_str()) {
+        Some(files) if files < needed => {
+            let served = files.saturating_sub(OTHER_FILES).max(1);
+            tell_few_files(&Stamped(rt), files, needed, served);
+            u16::try_from(served).unwrap_or(asked)
         }
+        _ => asked,
     }
 }
 
@@ -85,10 +90,11 @@ pub struct Known<'a> {
 }
 
 impl<'a> Known<'a> {
-    /// The process begins to serve with these settings.
+    /// The process begins to serve with these settings, so many connections at once.
     pub fn begin<R: Clock + Files + AllocGlobal>(
         rt: &R,
         settings: &'a Settings,
+        connections: u16,
         is_found: bool,
     ) -> Known<'a> {
         Known {
@@ -98,7 +104,7 @@ impl<'a> Known<'a> {
                 started: seconds(rt),
             },
             limits: Limits {
-                connections: u64::from(settings.connections),
+                connections: u64::from(connections),
                 idle_seconds: u64::from(settings.idle),
                 item_bytes: settings.max_bytes,
             },
