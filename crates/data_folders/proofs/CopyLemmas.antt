@@ -253,7 +253,7 @@ module _ {F : Type 0} (may : F → Option SavedText → Type 0) (first : SaveSta
 
     not_current : (o n : FolderPlace F) → PlaceSaves may s o n → MayHaveNone may n.copy → is_current n ≡ false
     not_current o n saves h = false_if _ (λ is. let saved = saves.saved is in
-      impossible (saved.1.1 None (subst (λ (c : Option F). MayHaveNone may c) saved.1.0 h)) (λ e. absurd (cc e)))
+        impossible (saved.1.1 None (subst (λ (c : Option F). MayHaveNone may c) saved.1.0 h)) (λ e. absurd (cc e)))
 
     none_current : (os ns : List (FolderPlace F)) → AllSave may s os ns → AllByRecursion (λ p. MayHaveNone may p.copy) ns → count_by is_current ns ≡ 0
     none_current [] [] a h = refl
@@ -305,8 +305,8 @@ module _ {F : Type 0} (may : F → Option SavedText → Type 0) where
       → (s : SavedText) → may copy (Some s) → is_later_save s.stamp newest ≡ false
   found_bounded newest copy None finds no s h = absurd (impossible (finds (Some s) h) (λ e. absurd (cc e)))
   found_bounded newest copy (Some c) finds no s h = false_if _ (λ later. impossible (finds (Some s) h) (λ is.
-    let it : s ≡ record { stamp = c.stamp; text = is.text } = cc is.found_is in
-    apart _ (ap (λ x. is_later_save x.stamp newest) (sym it) ∙ later) no))
+      let it : s ≡ record { stamp = c.stamp; text = is.text } = cc is.found_is in
+      apart _ (ap (λ x. is_later_save x.stamp newest) (sym it) ∙ later) no))
 
   pub opened_bounded : (places : List (FolderPlace F)) (finds : List (Option FoundCopy)) (at : ℕ) → ArePaired (OpensAs may) places finds → (newest : IsNewest (stamps_in finds) at) → All (IsBounded may newest.stamp) places
   opened_bounded places finds at pairs newest k d within copy is s h =

@@ -68,11 +68,12 @@ fn begin_with<F: SaveCopy + Send + Drop, R: Threads + Sync>(
 }
 
 impl<F: SaveCopy + Send + Drop> Opened<F> {
-    /// The folders, none of which has a copy. The data that will be in them is this site's.
-    fn begin_empty(self, site: u64) -> Copies<F>
+    /// The folders, none of which has a copy.
+    fn begin_empty(self) -> Copies<F>
         requires { All (λ found. found ≡ None) self.finds.items }
     {
-        let Opened { places, finds } = self;
+        let site = self.site;
+        let (places, finds) = self.into_parts();
         drop(finds);
         Copies::new(places, site, SaveStamp { start: 1, turn: 0 })
     }
@@ -87,7 +88,7 @@ impl<F: SaveCopy + Send + Drop> Opened<F> {
         requires { IsNewestCopy self.finds.items at }
         ensures { IfOk result (λ begun. IsNewestRecord self.finds.items begun.1) }
     {
-        let Opened { places, mut finds } = self;
+        let (places, mut finds) = self.into_parts();
         let found = finds.swap_remove(at);
         drop(finds);
         match found {
@@ -108,17 +109,16 @@ impl<F: SaveCopy + Send + Drop> Opened<F> {
     }
 
     /// Begins with the newest copy, if copies were read in more than half of the folders; or with nothing, if all are open
-    /// and none has a copy. The data of folders without a copy will be this site's.
+    /// and none has a copy.
     pub fn begin<R: Threads + Sync>(
         self,
         rt: &R,
         alloc: Global,
-        site: u64,
     ) -> Result<(Copies<F>, Option<ServiceRecord>), FoldersFault>
         ensures { IfOk result (λ begun. IfSome begun.1 (IsNewestRecord self.finds.items)) }
     {
         if self.is_empty() {
-            return Ok((self.begin_empty(site), None));
+            return Ok((self.begin_empty(), None));
         }
         let at = match self.newest(alloc) {
             Ok(Some(at)) => at,

@@ -94,6 +94,16 @@ pub fn save_each<F: SaveCopy + Send, R: Threads + Sync>(
     );
 }
 
+/// The first folder that does not have the last save, from 0, and why.
+fn first_behind<F>(places: &[FolderPlace<F>]) -> Option<(usize, SaveFault)> {
+    for (at, place) in places.iter().enumerate() {
+        if let Some(fault) = place.fault {
+            return Some((at, fault));
+        }
+    }
+    None
+}
+
 /// The stamp of the next save.
 fn next_stamp(stamp: SaveStamp) -> Option<SaveStamp>
     ensures { IfSome result (λ next. is_later_save next stamp ≡ true) }
@@ -134,6 +144,7 @@ impl<F: SaveCopy> Copies<F> {
         SaveFolders {
             all: self.places.len() as u64,
             current: current as u64,
+            behind: first_behind(&self.places),
         }
     }
 }

@@ -12,7 +12,6 @@ use data_folder::HostFolder;
 use server::{Save, SaveFault, SaveFolders};
 use service::ServiceRecord;
 use std::alloc::Global;
-use std::hash::{BuildHasher, RandomState};
 use std::thread::Threads;
 
 /// The record of a service in folders of the host's file system, a copy in each. It is a type without parameters, so that
@@ -27,35 +26,19 @@ impl Drop for HostFolders {
     }
 }
 
-/// A number for the data of a new site. It is 0 if there is one folder, whose file has none.
-fn new_site(rt: &HostRuntime, folders: usize) -> Result<u64, FoldersFault> {
-    if folders == 1 {
-        return Ok(0);
-    }
-    match RandomState::new(rt) {
-        Ok(state) => Ok(state.hash_one(&0u8).max(1)),
-        Err(_) => Err(FoldersFault::NoMemory),
-    }
-}
-
 impl HostFolders {
     /// Begins with what was opened: the newest copy, if copies were read in more than half of the folders; or nothing, if
     /// all are open and none has a copy. If there are several folders that is saved in them first.
-    pub fn begin(
-        rt: &HostRuntime,
+    pub fn begin<R: Threads + Sync>(
+        rt: &R,
+        alloc: Global,
         opened: Opened<HostFolder>,
     ) -> Result<(HostFolders, Option<ServiceRecord>), FoldersFault>
         ensures { IfOk result (λ begun. IfSome begun.1 (IsNewestRecord opened.finds.items)) }
     {
-        match new_site(rt, opened.places.len()) {
-            Ok(site) => match opened.begin(rt, rt.alloc(), site) {
-                Ok((copies, found)) => Ok((HostFolders { copies }, found)),
-                Err(fault) => Err(fault),
-            },
-            Err(fault) => {
-                drop(opened);
-                Err(fault)
-            }
+        match opened.begin(rt, alloc) {
+            Ok((copies, found)) => Ok((HostFolders { copies }, found)),
+            Err(fault) => Err(fault),
         }
     }
 }

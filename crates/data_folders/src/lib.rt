@@ -2,7 +2,7 @@
 //!
 //!     let mut troubles = Vec::new(alloc);
 //!     let opened = open_folders(&rt, &paths, options, &mut troubles)?;      // each folder, and what was read in it
-//!     let (folders, found) = HostFolders::begin(&rt, opened)?;              // the newest record, if there is one
+//!     let (folders, found) = HostFolders::begin(&rt, alloc, opened)?;       // the newest record, if there is one
 //!
 //! It is built on `data_folder` (one copy in a folder, saved whole or not at all) and `folders` (which copy is the newest).
 //! The layer above hands the folders to `server::serve_beside`, which saves before replies leave. Of `2d + 1` folders `d`

@@ -13,6 +13,8 @@ use std::alloc::{AllocError, Global};
 pub struct Opened<F: SaveCopy> {
     pub places: Vec<FolderPlace<F>>,
     pub finds: Vec<Option<FoundCopy>>,
+    /// Which site's data folders without a copy will have.
+    pub site: u64,
     ghost pairs: { ArePaired (OpensAs F.may_find) places.items finds.items },
 }
 
@@ -21,6 +23,7 @@ impl<F: SaveCopy + Drop> Drop for Opened<F> {
         let Opened {
             places: _,
             finds: _,
+            site: _,
         } = self;
     }
 }
@@ -49,13 +52,27 @@ fn stamps_of(
     Ok(stamps)
 }
 
-impl<F: SaveCopy> Opened<F> {
-    /// None is opened yet.
-    pub fn new(alloc: Global) -> Opened<F> {
+impl<F: SaveCopy + Drop> Opened<F> {
+    /// None is opened yet. Folders without a copy will have this site's data.
+    pub fn new(alloc: Global, site: u64) -> Opened<F> {
         Opened {
             places: Vec::new(alloc),
             finds: Vec::new(alloc),
+            site,
         }
+    }
+
+    /// The folders, and what was found in each.
+    pub fn into_parts(self) -> (Vec<FolderPlace<F>>, Vec<Option<FoundCopy>>)
+        ensures places { result.0 ≡ self.places }
+        ensures finds { result.1 ≡ self.finds }
+    {
+        let Opened {
+            places,
+            finds,
+            site: _,
+        } = self;
+        (places, finds)
     }
 
     /// One more folder, and what was found in it. `None`: it is not open.

@@ -4,6 +4,7 @@ use crate::fault::FoldersFault;
 use crate::opened::Opened;
 use data_folder::{DataFault, FILES, HostFolder, Wanted};
 use std::fs;
+use std::hash::{BuildHasher, RandomState};
 
 /// How folders are opened.
 #[derive(Clone, Copy, Debug)]
@@ -176,6 +177,17 @@ fn open_each(
     Ok(())
 }
 
+/// A number for the data of a new site. It is 0 if there is one folder, whose file has none.
+fn new_site(rt: &HostRuntime, folders: usize) -> Result<u64, FoldersFault> {
+    if folders == 1 {
+        return Ok(0);
+    }
+    match RandomState::new(rt) {
+        Ok(state) => Ok(state.hash_one(&0u8).max(1)),
+        Err(_) => Err(FoldersFault::NoMemory),
+    }
+}
+
 /// Opens the folders, which have to be there, for this process alone. Each has a copy of one site's data. Folders that
 /// cannot be read are noted, and the others serve as long as they are more than half of all. Then a damaged file is set
 /// aside, and one is made where none is.
@@ -188,7 +200,7 @@ pub fn open_folders(
     options: FoldersOptions,
     troubles: &mut Vec<FolderTrouble>,
 ) -> Result<Opened<HostFolder>, FoldersFault> {
-    let mut opened = Opened::new(rt.alloc());
+    let mut opened = Opened::new(rt.alloc(), new_site(rt, folders.len())?);
     match open_each(rt, folders, options, &mut opened, troubles) {
         Ok(()) => {
             if folders.len() / 2 < opened.readable() {

@@ -3,7 +3,7 @@
 use crate::showing::Shown;
 use daemon::{
     Report, SaveLine, SaveWatch, Settings, Stamped, Totals, open_files, process_id, resident_pages,
-    seconds, tell, tell_few_files, tell_saved_again, tell_unsaved,
+    seconds, tell, tell_behind, tell_current, tell_few_files, tell_saved_again, tell_unsaved,
 };
 use data_folder::FILES;
 use figures::{Figures, Limits, Process};
@@ -38,10 +38,19 @@ fn file_bytes<R: Files + AllocGlobal>(rt: &R, folder: &str, name: &str) -> u64 {
 }
 
 /// The bytes of the files in a folder of data.
-fn data_bytes<R: Files + AllocGlobal>(rt: &R, folder: &str) -> u64 {
+fn folder_bytes<R: Files + AllocGlobal>(rt: &R, folder: &str) -> u64 {
     let mut sum: u64 = 0;
     for name in FILES {
         sum = sum.saturating_add(file_bytes(rt, folder, name));
+    }
+    sum
+}
+
+/// The bytes of the files in all folders of data.
+fn data_bytes<R: Files + AllocGlobal>(rt: &R, folders: &[String]) -> u64 {
+    let mut sum: u64 = 0;
+    for folder in folders {
+        sum = sum.saturating_add(folder_bytes(rt, folder.as_str()));
     }
     sum
 }
@@ -59,7 +68,7 @@ fn own_id<R: Files + AllocGlobal>(rt: &R) -> u64 {
 }
 
 /// How many connections can be served at once: as many as the settings say, or fewer if fewer files may be open than these
-/// may take. Then the log tells. The other files stay for the status port and the folder of the data.
+/// may take. Then the log tells. The other files stay for the status port and the folders of the data.
 pub fn connections_of<R: Files + Clock + Eprint + AllocGlobal>(rt: &R, settings: &Settings) -> u16 {
     let asked = settings.connections;
     let Ok(text) = fs::read_to_string(rt, "/proc/self/limits") else {
@@ -83,8 +92,8 @@ pub struct Known<'a> {
     start: Option<Instant>,
     process: Process,
     limits: Limits,
-    /// The folder of its data.
-    folder: Option<&'a str>,
+    /// The folders of its data. None if it has none.
+    folders: &'a [String],
     /// Whether it goes on from what was saved.
     is_found: bool,
 }
@@ -108,9 +117,9 @@ impl<'a> Known<'a> {
                 idle_seconds: u64::from(settings.idle),
                 item_bytes: settings.max_bytes,
             },
-            folder: match &settings.data {
-                Some(place) => Some(place.path.as_str()),
-                None => None,
+            folders: match &settings.data {
+                Some(place) => place.paths.as_slice(),
+                None => &[],
             },
             is_found,
         }
@@ -140,10 +149,7 @@ impl<'a> Known<'a> {
         figures.process = self.process;
         figures.limits = self.limits;
         figures.memory.resident_bytes = resident_bytes(rt);
-        figures.saves.bytes = match self.folder {
-            Some(folder) => data_bytes(rt, folder),
-            None => 0,
-        };
+        figures.saves.bytes = data_bytes(rt, self.folders);
         figures
     }
 }
@@ -163,6 +169,29 @@ fn tells_of_saves<R: Wait + Clock + Eprint, S: Save>(
     fault == Some(SaveFault::Disk)
 }
 
+/// Tells if another folder lacks the last save than was told before, which is changed, and if each has it again.
+fn tells_of_folders<R: Wait + Clock + Eprint, S: Save>(
+    rt: &R,
+    watcher: &Watcher<'_, S>,
+    folders: &[String],
+    told: &mut Option<usize>,
+) {
+    let behind = watcher.save_folders(rt).behind;
+    let at = behind.map(|(at, _)| at);
+    if at == *told {
+        return;
+    }
+    *told = at;
+    match behind {
+        Some((at, fault)) => {
+            if let Some(path) = folders.get(at) {
+                tell_behind(&Stamped(rt), path.as_str(), &fault);
+            }
+        }
+        None => tell_current(&Stamped(rt)),
+    }
+}
+
 /// Looks once a second what the server has counted, shows it and tells what is due, until the server ends by itself or
 /// nothing can be saved any more.
 pub fn watch<R: Wait + Clock + Files + Eprint + AllocGlobal, S: Save>(
@@ -175,12 +204,16 @@ pub fn watch<R: Wait + Clock + Files + Eprint + AllocGlobal, S: Save>(
     watcher.see(rt, &first);
     let mut report = Report::new(Totals::of(&first));
     let mut saves = SaveWatch::NONE;
+    let mut told = None;
     for _ in rt.forever() {
         thread::sleep(rt, Duration::from_secs(1));
         if watcher.has_ended() || tells_of_saves(rt, watcher, &mut saves) {
             return;
         }
         let figures = known.figures(rt, watcher);
+        if 1 < known.folders.len() && 0 < figures.saves.made {
+            tells_of_folders(rt, watcher, known.folders, &mut told);
+        }
         watcher.see(rt, &figures);
         shown.renew(rt, figures);
         let due = report.due(Totals::of(&figures), seconds(rt));

@@ -6,7 +6,7 @@ ghost use Rattle.server.specs.Answering.{DoesWhatIsDue};
 ghost use Rattle.server.specs.Durable.{IsFoundOf};
 
 use crate::answering::Answering;
-use crate::save::{Save, SaveFault};
+use crate::save::{Save, SaveFault, SaveFolders};
 use event_loop::{Heard, Said, Serve};
 use figures::{Figures, Histogram, Saves, one_more};
 use service::{Service, ServiceRecord};
@@ -127,7 +127,7 @@ impl<S: Save> DurableService<S> {
         ensures same { self.new ≡ self.old }
     {
         let mut figures = self.answering.figures();
-        let folders = self.saver.folders();
+        let folders = self.folders();
         figures.saves = Saves {
             made: self.made,
             failed: self.failed,
@@ -155,6 +155,11 @@ impl<S: Save> DurableService<S> {
             (true, Some(fault)) => Some(fault),
             (true, None) => Some(SaveFault::NoMemory),
         }
+    }
+
+    /// In how many folders it is saved.
+    pub fn folders(&self) -> SaveFolders {
+        self.saver.folders()
     }
 
     /// A save succeeded, or failed, after so many microseconds.

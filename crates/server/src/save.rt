@@ -30,6 +30,8 @@ pub struct SaveFolders {
     pub all: u64,
     /// Those whose copy is of the last save.
     pub current: u64,
+    /// The first of the others, from 0, and why it is not.
+    pub behind: Option<(usize, SaveFault)>,
 }
 
 /// Where the record of a service is saved, such that another process goes on from it when this one has ended.
@@ -115,6 +117,10 @@ impl Save for NoFolder {
     }
 
     fn folders(&self) -> SaveFolders {
-        SaveFolders { all: 0, current: 0 }
+        SaveFolders {
+            all: 0,
+            current: 0,
+            behind: None,
+        }
     }
 }
