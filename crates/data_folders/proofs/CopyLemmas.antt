@@ -1,18 +1,21 @@
 -- What saves in several folders leave for a later start.
-use Rattle.std.proofs.Common.{◌≡◌, ◌∙◌, ◌⊎◌, inl, inr, ℕ, zero, suc, ◌+◌, ◌<◌, Bool, true, false, not, cond, refl, sym, ap, subst, arith, List, [], ◌∷◌, length, map, Option, Some, None}
-use Rattle.std.specs.Prelude.{is_some, count_by, slice_index_or, All, ⊤}
+use Rattle.std.proofs.Common.{◌≡◌, ◌∙◌, ◌⊎◌, inl, inr, ℕ, zero, suc, ◌+◌, ◌<◌, Bool, true, false, cond, refl, sym, ap, subst, arith, List, [], ◌∷◌, ◌++◌, length, map, Option, Some, None}
+use Rattle.std.specs.Prelude.{is_some, count_by, slice_index_or, slice_set, All}
 use Rattle.std.specs.List.{AllZip, AllByRecursion}
-use Rattle.std.proofs.lemmas.List.{get_or-map, length-map}
+use Rattle.std.proofs.lemmas.List.{length-map}
 use Rattle.std.proofs.lemmas.List.Sums.{sum_by-cons}
 use Rattle.std.proofs.lemmas.List.Elements.{All-from_recursion, recursion_from_All}
 use Rattle.std.proofs.lemmas.Bool.Decides.{nat_tests}
 use mathlib.Core.Logic.{∥∥₁_map, ∥∥₁_elim}
 use Rattle.folders.specs.declared.stamp.SaveStamp.{SaveStamp}
 use Rattle.folders.specs.Folders.{Folder, is_later_save, IsMajority, IsNewest, IsNoLater, HasTurn, found_in, is_saved_in}
-use Rattle.data_folder.specs.Found.{SavedText, FindsCopy, IsFound}
+use Rattle.data_folder.specs.Found.{SavedText, FindsCopy}
 use Rattle.data_folder.specs.declared.found_copy.FoundCopy.{FoundCopy}
+use Rattle.service.specs.Record.{RecordView}
+use Rattle.server.specs.Durable.{IsFoundOf}
+use Rattle.data_folder.specs.Text.{TellsService}
 use Rattle.data_folders.specs.declared.place.FolderPlace.{FolderPlace}
-use Rattle.data_folders.specs.Copies.{ArePaired, stamp_of, BeginsWith, is_current, MayHave, MayRead, MayHaveNone, FindsAmong, MayFindAmong, IsBounded, PlaceSaves, AllSave, IsFoundIn, OpensAs, found_stamp, stamps_in, IsNewestCopy}
+use Rattle.data_folders.specs.Copies.{stamp_of, is_current, MayHave, MayRead, MayHaveNone, FindsAmong, MayFindAmong, IsBounded, PlaceSaves, AllSave, IsFoundIn, OpensAs, found_stamp, stamps_in, IsNewestCopy}
 
 -- ---- stamps
 
@@ -39,10 +42,6 @@ false_if false h = refl
 impossible : {A : Type 0} → ∥ A ∥₁ → (A → ⊥) → ⊥
 impossible h f = ∥∥₁_elim h (λ x y. absurd x) f
 
-one_if : Bool → ℕ
-unfolding one_if
-one_if b = cond b 1 0
-
 -- ---- a start that reads what a save has left
 
 -- if a turn was saved in more than half of the folders, and more than half are read, the newest is no earlier
@@ -54,18 +53,18 @@ SavedIsFound = (folders : List Folder) (turn : SaveStamp) (at : ℕ)
     → (newest : IsNewest (map found_in folders) at)
     → is_later_save turn newest.stamp ≡ false
 
-module _ {F : Type 0} where
-  abbrev stamp_or : SaveStamp → Option SavedText → SaveStamp
-  stamp_or turn None = turn
-  stamp_or turn (Some s) = s.stamp
+abbrev stamp_or : SaveStamp → Option SavedText → SaveStamp
+stamp_or turn None = turn
+stamp_or turn (Some s) = s.stamp
 
+module _ {F : Type 0} where
   -- the folders, with what is read of each
   abbrev folders_of : SaveStamp → List (FolderPlace F) → List (Option SavedText) → List Folder
   folders_of turn [] reads = []
   folders_of turn (p ∷ ps) [] = []
   folders_of turn (p ∷ ps) (r ∷ rs) = record { stamp = stamp_or turn r; is_readable = is_some r; is_saved = is_current p } ∷ folders_of turn ps rs
 
-  module _ {R : FolderPlace F → Option SavedText → Type 0} (turn : SaveStamp) where
+  module _ (R : FolderPlace F → Option SavedText → Type 0) (turn : SaveStamp) where
     stamps_are : (ps : List (FolderPlace F)) (rs : List (Option SavedText)) → AllZip R ps rs → map found_in (folders_of turn ps rs) ≡ map stamp_of rs
     stamps_are [] [] z = refl
     stamps_are [] (r ∷ rs) z = absurd z
@@ -108,10 +107,10 @@ module _ {F : Type 0} where
   not_earlier : SavedIsFound → (turn : SaveStamp) (ps : List (FolderPlace F)) (rs : List (Option SavedText)) (at : ℕ) → AllZip (HasLast turn) ps rs
       → IsMajority (count_by is_current ps) (length ps) → IsMajority (count_by is_some rs) (length rs) → (newest : IsNewest (map stamp_of rs) at) → is_later_save turn newest.stamp ≡ false
   not_earlier law turn ps rs at z saved read newest =
-      let e : map found_in (folders_of turn ps rs) ≡ map stamp_of rs = stamps_are turn ps rs z in
-      let n : length (folders_of turn ps rs) ≡ length ps = as_many turn ps rs z in
-      let m : length rs ≡ length ps = as_many_reads turn ps rs z in
-      let k : count_by is_saved_in (folders_of turn ps rs) ≡ count_by is_current ps = saved_are turn ps rs z in
+      let e : map found_in (folders_of turn ps rs) ≡ map stamp_of rs = stamps_are (HasLast turn) turn ps rs z in
+      let n : length (folders_of turn ps rs) ≡ length ps = as_many (HasLast turn) turn ps rs z in
+      let m : length rs ≡ length ps = as_many_reads (HasLast turn) turn ps rs z in
+      let k : count_by is_saved_in (folders_of turn ps rs) ≡ count_by is_current ps = saved_are (HasLast turn) turn ps rs z in
       let reads : count_by is_some (map found_in (folders_of turn ps rs)) ≡ count_by is_some rs = ap (count_by is_some) e ∙ read_count rs in
       law (folders_of turn ps rs) turn at (omega (arith, saved, n, k)) (All-from_recursion (HasTurn turn) _ (have_turn turn ps rs z)) (omega (arith, read, n, m, reads))
       (record {
@@ -146,7 +145,7 @@ module _ {F : Type 0} (may : F → Option SavedText → Type 0) (first : SaveSta
   read_saved : (o n : FolderPlace F) → PlaceSaves may s o n → is_current n ≡ true → (r : SavedText) → MayRead may first n (Some r) → ∥ (r ≡ s) ∥₁
   read_saved o n saves is r h =
       let saved = saves.saved is in
-      ∥∥₁_map (saved.1.1 (Some r) (subst (λ (c : Option F). MayHave may first c r) saved.1.0 h)) (λ e. let it : r ≡ s = cc e in it)
+      ∥∥₁_map (saved.only (Some r) (subst (λ (c : Option F). MayHave may first c r) saved.there h)) (λ e. let it : r ≡ s = cc e in it)
 
   has_last : (o n : FolderPlace F) (r : Option SavedText) → PlaceSaves may s o n → MayRead may first n r → HasLast s.stamp n r
   has_last o n None saves h is = itself s.stamp
@@ -220,20 +219,20 @@ module _ {F : Type 0} (may : F → Option SavedText → Type 0) (first : SaveSta
 
     -- what is no later than a save from before was there before
     read_old : (x : SaveStamp) → is_later_save x last ≡ false → (o n : FolderPlace F) (r : Option SavedText) → PlaceSaves may s o n → MayRead may first n r → IsNoLater x (stamp_of r) → MayRead may first o r
-    read_old x old o n None saves h no = tt
-    read_old x old o n (Some r) saves h no = elim (read_before o n saves r h) [
+    read_old x old o n None saves h nl = tt
+    read_old x old o n (Some r) saves h nl = elim (read_before o n saves r h) [
       | inl was ↦ was
-      | inr is ↦ absurd (impossible is (λ e. apart _ (above s.stamp last x later old) (ap (λ y. is_later_save y.stamp x) (sym e) ∙ no)))
+      | inr is ↦ absurd (impossible is (λ e. apart _ (above s.stamp last x later old) (ap (λ y. is_later_save y.stamp x) (sym e) ∙ nl)))
     ]
 
     reads_old : (x : SaveStamp) → is_later_save x last ≡ false → (os ns : List (FolderPlace F)) (rs : List (Option SavedText)) → AllSave may s os ns → AllZip (MayRead may first) ns rs
         → AllByRecursion (IsNoLater x) (map stamp_of rs) → AllZip (MayRead may first) os rs
-    reads_old x old [] [] [] a z no = tt
-    reads_old x old [] [] (r ∷ rs) a z no = absurd z
-    reads_old x old [] (n ∷ ns) rs a z no = absurd a
-    reads_old x old (o ∷ os) [] rs a z no = absurd a
-    reads_old x old (o ∷ os) (n ∷ ns) [] a z no = absurd z
-    reads_old x old (o ∷ os) (n ∷ ns) (r ∷ rs) a z no = (read_old x old o n r a.0 z.0 no.0, reads_old x old os ns rs a.1 z.1 no.1)
+    reads_old x old [] [] [] a z nl = tt
+    reads_old x old [] [] (r ∷ rs) a z nl = absurd z
+    reads_old x old [] (n ∷ ns) rs a z nl = absurd a
+    reads_old x old (o ∷ os) [] rs a z nl = absurd a
+    reads_old x old (o ∷ os) (n ∷ ns) [] a z nl = absurd z
+    reads_old x old (o ∷ os) (n ∷ ns) (r ∷ rs) a z nl = (read_old x old o n r a.0 z.0 nl.0, reads_old x old os ns rs a.1 z.1 nl.1)
 
     -- a start finds what it might find before, or the save
     old_text : (os ns : List (FolderPlace F)) → AllSave may s os ns → AllByRecursion (IsBounded may last) os → (text : List ℕ) → FindsAmong may first ns text → FindsAmong may first os text ⊎ ∥ (text ≡ s.text) ∥₁
@@ -253,7 +252,7 @@ module _ {F : Type 0} (may : F → Option SavedText → Type 0) (first : SaveSta
 
     not_current : (o n : FolderPlace F) → PlaceSaves may s o n → MayHaveNone may n.copy → is_current n ≡ false
     not_current o n saves h = false_if _ (λ is. let saved = saves.saved is in
-        impossible (saved.1.1 None (subst (λ (c : Option F). MayHaveNone may c) saved.1.0 h)) (λ e. absurd (cc e)))
+        impossible (saved.only None (subst (λ (c : Option F). MayHaveNone may c) saved.there h)) (λ e. absurd (cc e)))
 
     none_current : (os ns : List (FolderPlace F)) → AllSave may s os ns → AllByRecursion (λ p. MayHaveNone may p.copy) ns → count_by is_current ns ≡ 0
     none_current [] [] a h = refl
@@ -283,7 +282,7 @@ module _ {F : Type 0} (may : F → Option SavedText → Type 0) (first : SaveSta
 
     pub saved_found : SavedIsFound → (os ns : List (FolderPlace F)) → AllSave may s os ns → All (IsBounded may last) os → IsMajority (count_by is_current ns) (length ns)
         → (found : Option (List ℕ)) → MayFindAmong may first ns found → ∥ (found ≡ Some s.text) ∥₁
-    saved_found law os ns a b majority None finds = absurd (let none : count_by is_current ns ≡ 0 = none_current os ns a finds in let no : ⊥ = omega (arith, majority, none) in no)
+    saved_found law os ns a b majority None finds = absurd (let none : count_by is_current ns ≡ 0 = none_current os ns a finds in let wrong : ⊥ = omega (arith, majority, none) in wrong)
     saved_found law os ns a b majority (Some text) finds = ∥∥₁_map (saved_text law os ns a (recursion_from_All (IsBounded may last) os b) majority text finds) (λ e. ap Some e)
 
     pub old_found : (os ns : List (FolderPlace F)) → AllSave may s os ns → All (IsBounded may last) os
@@ -294,6 +293,9 @@ module _ {F : Type 0} (may : F → Option SavedText → Type 0) (first : SaveSta
       | inr is ↦ inr (∥∥₁_map is (λ e. ap Some e))
     ]
 
+    pub still_begun : is_later_save first s.stamp ≡ false
+    still_begun = below s.stamp last first later begun
+
     pub bounded_now : (os ns : List (FolderPlace F)) → AllSave may s os ns → All (IsBounded may last) os → All (IsBounded may s.stamp) ns
     bounded_now os ns a b = All-from_recursion (IsBounded may s.stamp) ns (all_bounded last later os ns a (recursion_from_All (IsBounded may last) os b))
 
@@ -303,28 +305,119 @@ module _ {F : Type 0} (may : F → Option SavedText → Type 0) where
   -- no copy that was opened is later than the newest
   found_bounded : (newest : SaveStamp) (copy : F) (found : Option FoundCopy) → FindsCopy (may copy) found → IsNoLater newest (found_stamp found)
       → (s : SavedText) → may copy (Some s) → is_later_save s.stamp newest ≡ false
-  found_bounded newest copy None finds no s h = absurd (impossible (finds (Some s) h) (λ e. absurd (cc e)))
-  found_bounded newest copy (Some c) finds no s h = false_if _ (λ later. impossible (finds (Some s) h) (λ is.
+  found_bounded newest copy None finds nl s h = absurd (impossible (finds (Some s) h) (λ e. absurd (cc e)))
+  found_bounded newest copy (Some c) finds nl s h = false_if _ (λ later. impossible (finds (Some s) h) (λ is.
       let it : s ≡ record { stamp = c.stamp; text = is.text } = cc is.found_is in
-      apart _ (ap (λ x. is_later_save x.stamp newest) (sym it) ∙ later) no))
+      apart _ (ap (λ x. is_later_save x.stamp newest) (sym it) ∙ later) nl))
 
-  pub opened_bounded : (places : List (FolderPlace F)) (finds : List (Option FoundCopy)) (at : ℕ) → ArePaired (OpensAs may) places finds → (newest : IsNewest (stamps_in finds) at) → All (IsBounded may newest.stamp) places
-  opened_bounded places finds at pairs newest k d within copy is s h =
-      let same = pairs.same in
-      let inside : k < length finds = omega (arith, within, same) in
-      let pair : IsFoundIn may (slice_index_or places k d).copy (slice_index_or finds k None) = pairs.each k d None within in
-      let here : slice_index_or (map found_stamp finds) k None ≡ found_stamp (slice_index_or finds k None) = get_or-map found_stamp finds k None None inside in
-      let no : IsNoLater newest.stamp (found_stamp (slice_index_or finds k None)) = subst (IsNoLater newest.stamp) here (newest.no_later k None (inside_map inside)) in
-      found_bounded newest.stamp copy (slice_index_or finds k None) (subst (λ (c : Option F). IsFoundIn may c (slice_index_or finds k None)) is pair) no s h
-    where
-      inside_map : k < length finds → k < length (map found_stamp finds)
-      inside_map inside = simp length-map (inside)
+  place_bounded : (newest : SaveStamp) (p : FolderPlace F) (found : Option FoundCopy) → OpensAs may p found → IsNoLater newest (found_stamp found) → IsBounded may newest p
+  place_bounded newest p found pair nl copy is s h = found_bounded newest copy found (subst (λ (c : Option F). IsFoundIn may c found) is pair) nl s h
+
+  places_bounded : (newest : SaveStamp) (places : List (FolderPlace F)) (finds : List (Option FoundCopy)) → AllZip (OpensAs may) places finds
+      → AllByRecursion (IsNoLater newest) (stamps_in finds) → AllByRecursion (IsBounded may newest) places
+  places_bounded newest [] [] z nl = tt
+  places_bounded newest [] (f ∷ finds) z nl = absurd z
+  places_bounded newest (p ∷ places) [] z nl = absurd z
+  places_bounded newest (p ∷ places) (f ∷ finds) z nl = (place_bounded newest p f z.0 nl.0, places_bounded newest places finds z.1 nl.1)
+
+  none_bounded : (first : SaveStamp) (places : List (FolderPlace F)) (finds : List (Option FoundCopy)) → AllZip (OpensAs may) places finds
+      → AllByRecursion (λ found. found ≡ None) finds → AllByRecursion (IsBounded may first) places
+  none_bounded first [] [] z none = tt
+  none_bounded first [] (f ∷ finds) z none = absurd z
+  none_bounded first (p ∷ places) [] z none = absurd z
+  none_bounded first (p ∷ places) (f ∷ finds) z none =
+      (place_bounded first p f z.0 (subst (λ (found : Option FoundCopy). IsNoLater first (found_stamp found)) (sym none.0) tt), none_bounded first places finds z.1 none.1)
+
+  -- the first is the stamp of the copy that was taken
+  stamp_is : (finds : List (Option FoundCopy)) (at : ℕ) (found : FoundCopy) (stamp : SaveStamp) → slice_index_or finds at None ≡ Some found → slice_index_or (stamps_in finds) at None ≡ Some stamp → found.stamp ≡ stamp
+  stamp_is [] zero found stamp e p = absurd (cc e)
+  stamp_is [] (suc at) found stamp e p = absurd (cc e)
+  stamp_is (f ∷ finds) zero found stamp e p = (let both : Some found.stamp ≡ Some stamp = ap found_stamp (sym e) ∙ p in cc both)
+  stamp_is (f ∷ finds) (suc at) found stamp e p = stamp_is finds at found stamp e p
+
+  -- no copy that was opened is later than the newest
+  pub opened_bounded : (places : List (FolderPlace F)) (finds : List (Option FoundCopy)) (at : ℕ) (found : FoundCopy) → ∥ AllZip (OpensAs may) places finds ∥₁
+      → IsNewestCopy finds at → slice_index_or finds at None ≡ Some found → All (IsBounded may found.stamp) places
+  opened_bounded places finds at found pairs newest is k d within copy here s h =
+      let same : newest.newest.stamp ≡ found.stamp = sym (stamp_is finds at found newest.newest.stamp is newest.newest.is) in
+      false_if _ (λ later. impossible pairs (λ z.
+      let all : All (IsBounded may newest.newest.stamp) places =
+      All-from_recursion (IsBounded may newest.newest.stamp) places (places_bounded newest.newest.stamp places finds z (recursion_from_All (IsNoLater newest.newest.stamp) (stamps_in finds) newest.newest.no_later)) in
+      apart _ (ap (λ x. is_later_save s.stamp x) same ∙ later) (all k d within copy here s h)))
 
   -- if nothing was found no copy has a save
-  pub empty_bounded : (places : List (FolderPlace F)) (finds : List (Option FoundCopy)) (first : SaveStamp) → ArePaired (OpensAs may) places finds → All (λ found. found ≡ None) finds → All (IsBounded may first) places
-  empty_bounded places finds first pairs none k d within copy is s h =
-      let same = pairs.same in
-      let inside : k < length finds = omega (arith, within, same) in
-      let pair : IsFoundIn may (slice_index_or places k d).copy (slice_index_or finds k None) = pairs.each k d None within in
-      let nothing : FindsCopy (may copy) None = subst (λ (found : Option FoundCopy). FindsCopy (may copy) found) (none k None inside) (subst (λ (c : Option F). IsFoundIn may c (slice_index_or finds k None)) is pair) in
-      absurd (impossible (nothing (Some s) h) (λ e. absurd (cc e)))
+  pub empty_bounded : (places : List (FolderPlace F)) (finds : List (Option FoundCopy)) (first : SaveStamp) → ∥ AllZip (OpensAs may) places finds ∥₁ → All (λ found. found ≡ None) finds → All (IsBounded may first) places
+  empty_bounded places finds first pairs none k d within copy here s h =
+      false_if _ (λ later. impossible pairs (λ z.
+      let all : All (IsBounded may first) places = All-from_recursion (IsBounded may first) places (none_bounded first places finds z (recursion_from_All (λ found. found ≡ None) finds none)) in
+      apart _ later (all k d within copy here s h)))
+
+  -- what has no later save than one has no later save than a later one
+  pub later_bounded : (last first : SaveStamp) → is_later_save first last ≡ true → (places : List (FolderPlace F)) → All (IsBounded may last) places → All (IsBounded may first) places
+  later_bounded last first later places all k d within copy here s h = below first last s.stamp later (all k d within copy here s h)
+
+  -- the same after a save with this stamp
+  pub claimed_bounded : (last : SaveStamp) (s : SavedText) → is_later_save s.stamp last ≡ true → (os ns : List (FolderPlace F)) → AllSave may s os ns → All (IsBounded may last) os → All (IsBounded may s.stamp) ns
+  claimed_bounded last s later os ns a b = All-from_recursion (IsBounded may s.stamp) ns (all_bounded may last s last later os ns a (recursion_from_All (IsBounded may last) os b))
+
+  -- ---- folders that are opened
+
+  zip_push : (places : List (FolderPlace F)) (finds : List (Option FoundCopy)) (p : FolderPlace F) (f : Option FoundCopy) → AllZip (OpensAs may) places finds → OpensAs may p f
+      → AllZip (OpensAs may) (places ++ p ∷ []) (finds ++ f ∷ [])
+  zip_push [] [] p f z h = (h, tt)
+  zip_push [] (x ∷ finds) p f z h = absurd z
+  zip_push (x ∷ places) [] p f z h = absurd z
+  zip_push (x ∷ places) (y ∷ finds) p f z h = (z.0, zip_push places finds p f z.1 h)
+
+  pub pairs_push : (places : List (FolderPlace F)) (finds : List (Option FoundCopy)) (p : FolderPlace F) (f : Option FoundCopy) → ∥ AllZip (OpensAs may) places finds ∥₁ → OpensAs may p f
+      → ∥ AllZip (OpensAs may) (places ++ p ∷ []) (finds ++ f ∷ []) ∥₁
+  pairs_push places finds p f pairs h = ∥∥₁_map pairs (λ z. zip_push places finds p f z h)
+
+  zip_set : (places : List (FolderPlace F)) (finds : List (Option FoundCopy)) (at : ℕ) (p : FolderPlace F) → AllZip (OpensAs may) places finds → OpensAs may p (slice_index_or finds at None)
+      → AllZip (OpensAs may) (slice_set places at p) finds
+  zip_set [] [] at p z h = tt
+  zip_set [] (x ∷ finds) at p z h = absurd z
+  zip_set (x ∷ places) [] at p z h = absurd z
+  zip_set (x ∷ places) (y ∷ finds) zero p z h = (h, z.1)
+  zip_set (x ∷ places) (y ∷ finds) (suc at) p z h = (z.0, zip_set places finds at p z.1 h)
+
+  pub pairs_set : (places : List (FolderPlace F)) (finds : List (Option FoundCopy)) (at : ℕ) (p : FolderPlace F) → ∥ AllZip (OpensAs may) places finds ∥₁ → OpensAs may p (slice_index_or finds at None)
+      → ∥ AllZip (OpensAs may) (slice_set places at p) finds ∥₁
+  pairs_set places finds at p pairs h = ∥∥₁_map pairs (λ z. zip_set places finds at p z h)
+
+-- ---- threads
+
+-- what each thread does is done in all
+pub all_save : {F : Type 0} (may : F → Option SavedText → Type 0) (s : SavedText) (olds news : List (FolderPlace F)) → length news ≡ length olds
+    → ((i : ℕ) (d : FolderPlace F) → i < length olds → PlaceSaves may s (slice_index_or olds i d) (slice_index_or news i d)) → AllSave may s olds news
+all_save may s [] [] same each = tt
+all_save may s [] (n ∷ news) same each = absurd (let wrong : ⊥ = omega (arith, same) in wrong)
+all_save may s (o ∷ olds) [] same each = absurd (let wrong : ⊥ = omega (arith, same) in wrong)
+all_save may s (o ∷ olds) (n ∷ news) same each = (each 0 o (omega arith), all_save may s olds news (omega (arith, same)) (λ i d l. each (suc i) d (omega (arith, l))))
+
+-- ---- records
+
+-- the text that is found is one of the record
+pub text_found : (r : RecordView) (text : List ℕ) → TellsService r text → (found : Option (List ℕ)) → ∥ (found ≡ Some text) ∥₁ → IsFoundOf TellsService r found
+text_found r text tells None h = absurd (impossible h (λ e. absurd (cc e)))
+text_found r text tells (Some t) h = ∥∥₁_elim h (λ x y. squash₁ x y) (λ e. let same : text ≡ t = cc e in subst (TellsService r) same tells)
+
+-- ---- what is found at a place
+
+-- which value stands for what is not there makes no difference
+there_is : {A : Type 0} (xs : List A) (at : ℕ) (d e : A) → at < length xs → slice_index_or xs at d ≡ slice_index_or xs at e
+there_is [] at d e l = absurd (let wrong : ⊥ = omega arith in wrong)
+there_is (x ∷ xs) zero d e l = refl
+there_is (x ∷ xs) (suc at) d e l = there_is xs at d e (omega (arith, l))
+
+pub found_at : (finds taken : List (Option FoundCopy)) (at : ℕ) (found : FoundCopy) → taken ≡ finds → IsNewestCopy finds at → slice_index_or taken at (Some found) ≡ Some found → slice_index_or finds at None ≡ Some found
+found_at finds taken at found same newest there =
+    let within : at < length (stamps_in finds) = newest.newest.within in
+    there_is finds at None (Some found) (simp length-map at within) ∙ (λ i. slice_index_or (sym same i) at (Some found)) ∙ there
+
+pub none_there : (finds : List (Option FoundCopy)) (at : ℕ) (found : Option FoundCopy) → at < length finds → found ≡ slice_index_or finds at found → is_some found ≡ false → slice_index_or finds at None ≡ None
+none_there finds at found within there none = there_is finds at None found within ∙ sym there ∙ is_none found none
+  where
+    is_none : (found : Option FoundCopy) → is_some found ≡ false → found ≡ None
+    is_none None e = refl
+    is_none (Some c) e = absurd (apart true refl e)

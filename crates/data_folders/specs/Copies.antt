@@ -1,5 +1,5 @@
 -- Copies of a record in several folders, and what a later start finds among them.
-use Rattle.std.specs.Prelude.{◌≡◌, ◌<◌, ℕ, Bool, true, false, not, is_some, List, length, map, count_by, slice_index_or, Option, None, Some, ⊤}
+use Rattle.std.specs.Prelude.{◌≡◌, ℕ, Bool, true, false, not, is_some, List, length, map, count_by, slice_index_or, Option, None, Some, ⊤}
 use Rattle.std.specs.List.{AllZip, AllByRecursion}
 use Rattle.folders.specs.declared.stamp.SaveStamp.{SaveStamp}
 use Rattle.folders.specs.Folders.{is_later_save, IsMajority, IsNewest}
@@ -7,11 +7,6 @@ use Rattle.service.specs.Record.{RecordView}
 use Rattle.data_folder.specs.Found.{SavedText, FindsOnly, FindsOldOr, FindsCopy}
 use Rattle.data_folder.specs.declared.found_copy.FoundCopy.{FoundCopy}
 use Rattle.data_folders.specs.declared.place.FolderPlace.{FolderPlace}
-
--- lists of one length, and a fact of what is at the same place in both
-pub record ArePaired {A B : Type 0} (P : A → B → Type 0) (xs : List A) (ys : List B) : Type 0 where
-  pub same : length ys ≡ length xs
-  pub each : (k : ℕ) (x : A) (y : B) → k < length xs → P (slice_index_or xs k x) (slice_index_or ys k y)
 
 -- ---- what a later start finds
 
@@ -64,10 +59,16 @@ module _ {F : Type 0} (may_find : F → Option SavedText → Type 0) where
   abbrev pub IsBounded : SaveStamp → FolderPlace F → Type 0
   IsBounded last place = (copy : F) → place.copy ≡ Some copy → (s : SavedText) → may_find copy (Some s) → is_later_save s.stamp last ≡ false
 
+  -- it has a copy, and only this save may be found in it
+  pub record IsSavedIn (s : SavedText) (place : FolderPlace F) : Type 0 where
+    pub copy : F
+    pub there : place.copy ≡ Some copy
+    pub only : FindsOnly (may_find copy) s
+
   -- one folder, before a save of this and after it
   pub record PlaceSaves (s : SavedText) (old new : FolderPlace F) : Type 0 where
     pub same : is_some new.copy ≡ is_some old.copy
-    pub saved : is_current new ≡ true → (copy : F) × (new.copy ≡ Some copy) × FindsOnly (may_find copy) s
+    pub saved : is_current new ≡ true → IsSavedIn s new
     pub crash : (before copy : F) → old.copy ≡ Some before → new.copy ≡ Some copy → FindsOldOr (may_find before) (may_find copy) s
 
   abbrev pub AllSave : SavedText → List (FolderPlace F) → List (FolderPlace F) → Type 0

@@ -25,18 +25,22 @@ fn first_after(stamp: SaveStamp) -> Result<SaveStamp, FoldersFault>
 }
 
 /// Saves what was found in each folder that is open, with the first stamp of this start. So more than half of the folders
-/// have the number of this start before a reply leaves, and no later start takes it again.
+/// have the number of this start before a reply leaves, and no later start takes it again. If there is one folder that is
+/// so by itself, and nothing is saved.
 fn claim<F: SaveCopy + Send, R: Threads + Sync>(
     rt: &R,
     alloc: Global,
-    places: &mut [FolderPlace<F>],
+    places: &mut Vec<FolderPlace<F>>,
     first: SaveStamp,
     found: &FoundCopy,
 ) -> Result<(), FoldersFault>
-    requires bounded { All (IsBounded F.may_find found.now.stamp) places.old }
+    requires bounded { All (IsBounded F.may_find found.now.stamp) places.old.items }
     requires later { is_later_save first found.now.stamp ≡ true }
-    ensures { OnOk result (All (IsBounded F.may_find first) places.new) }
+    ensures { OnOk result (All (IsBounded F.may_find first) places.new.items) }
 {
+    if places.len() == 1 {
+        return Ok(());
+    }
     let stored = match StoredRecord::of(alloc, &found.service) {
         Ok(stored) => stored,
         Err(fault) => return Err(FoldersFault::NotSaved(fault)),
@@ -60,9 +64,7 @@ fn begin_with<F: SaveCopy + Send + Drop, R: Threads + Sync>(
     ensures { IfOk result (λ begun. begun.1 ≡ found.service) }
 {
     let first = first_after(found.stamp)?;
-    if places.len() > 1 {
-        claim(rt, alloc, places.as_mut_slice(), first, &found)?;
-    }
+    claim(rt, alloc, &mut places, first, &found)?;
     let site = found.site;
     Ok((Copies::new(places, site, first), found.into_service()))
 }

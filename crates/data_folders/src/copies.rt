@@ -67,7 +67,7 @@ pub fn fault_of<F>(places: &[FolderPlace<F>]) -> SaveFault {
 }
 
 /// Saves it in each folder that is open, each in a thread of its own if threads can be made.
-pub fn save_each<F: SaveCopy + Send, R: Threads + Sync>(
+fn save_all<F: SaveCopy + Send, R: Threads + Sync>(
     rt: &R,
     alloc: Global,
     places: &mut [FolderPlace<F>],
@@ -77,7 +77,7 @@ pub fn save_each<F: SaveCopy + Send, R: Threads + Sync>(
 )
     ensures { AllSave F.may_find (record { stamp = stamp; text = stored.now.text.items }) places.old places.new }
 {
-    let folders = places.len() as u32;
+    let folders = u32::try_from(places.len()).unwrap_or(u32::MAX);
     let threads = places.len().max(1);
     thread::for_each_mut(
         rt,
@@ -86,12 +86,26 @@ pub fn save_each<F: SaveCopy + Send, R: Threads + Sync>(
         &|at, place| {
             let place_of = CopyPlace {
                 site,
-                folder: at as u32,
+                folder: u32::try_from(at).unwrap_or(u32::MAX),
                 folders,
             };
             place.save(alloc, place_of, stamp, stored)
         },
     );
+}
+
+/// Saves it in each folder that is open.
+pub fn save_each<F: SaveCopy + Send, R: Threads + Sync>(
+    rt: &R,
+    alloc: Global,
+    places: &mut Vec<FolderPlace<F>>,
+    site: u64,
+    stamp: SaveStamp,
+    stored: &StoredRecord,
+)
+    ensures { AllSave F.may_find (record { stamp = stamp; text = stored.now.text.items }) places.old.items places.new.items }
+{
+    save_all(rt, alloc, places.as_mut_slice(), site, stamp, stored);
 }
 
 /// The first folder that does not have the last save, from 0, and why.
@@ -164,14 +178,7 @@ impl<F: SaveCopy + Send> Copies<F> {
         let Some(stamp) = next_stamp(self.stamp) else {
             return Err(SaveFault::Unstorable);
         };
-        save_each(
-            rt,
-            alloc,
-            self.places.as_mut_slice(),
-            self.site,
-            stamp,
-            stored,
-        );
+        save_each(rt, alloc, &mut self.places, self.site, stamp, stored);
         self.stamp = stamp;
         a_saved_turn_is_found();
         if is_saved(&self.places) {
@@ -181,18 +188,39 @@ impl<F: SaveCopy + Send> Copies<F> {
         }
     }
 
+    /// Saves the record in each folder that is open, or says why more than half of all do not have it then.
+    fn save_record<R: Threads + Sync>(
+        &mut self,
+        rt: &R,
+        alloc: Global,
+        kept: &ServiceRecord,
+    ) -> Result<(), SaveFault>
+        ensures saved { OnOk result ((found : Option (List ℕ)) → MayFindAmong F.may_find self.new.first self.new.places.items found → IsFoundOf TellsService kept.now found) }
+        ensures crash { (found : Option (List ℕ)) → MayFindAmong F.may_find self.new.first self.new.places.items found
+            → MayFindAmong F.may_find self.old.first self.old.places.items found ⊎ IsFoundOf TellsService kept.now found }
+    {
+        match StoredRecord::of(alloc, kept) {
+            Ok(stored) => self.save_stored(rt, alloc, &stored),
+            Err(fault) => Err(fault),
+        }
+    }
+
     /// Saves the record in each folder that is open: whether more than half of all have it then.
     pub fn save<R: Threads + Sync>(&mut self, rt: &R, alloc: Global, kept: &ServiceRecord) -> bool
         ensures saved { IsTrue result → (found : Option (List ℕ)) → MayFindAmong F.may_find self.new.first self.new.places.items found → IsFoundOf TellsService kept.now found }
         ensures crash { (found : Option (List ℕ)) → MayFindAmong F.may_find self.new.first self.new.places.items found
             → MayFindAmong F.may_find self.old.first self.old.places.items found ⊎ IsFoundOf TellsService kept.now found }
     {
-        let saved = match StoredRecord::of(alloc, kept) {
-            Ok(stored) => self.save_stored(rt, alloc, &stored),
-            Err(fault) => Err(fault),
-        };
-        self.fault = saved.err();
-        self.fault.is_none()
+        match self.save_record(rt, alloc, kept) {
+            Ok(()) => {
+                self.fault = None;
+                true
+            }
+            Err(fault) => {
+                self.fault = Some(fault);
+                false
+            }
+        }
     }
 }
 

@@ -1,7 +1,8 @@
 //! What a start has opened.
 
-ghost use Rattle.std.specs.Prelude.{◌≡◌, IsTrue, IfSome, IfOk, None, All, map};
-ghost use Rattle.data_folders.specs.Copies.{ArePaired, OpensAs, IsFoundIn, found_stamp, stamps_in, IsNewestCopy};
+ghost use Rattle.std.specs.Prelude.{◌≡◌, IsTrue, IfSome, IfOk, Some, None, All};
+ghost use Rattle.std.specs.List.{AllZip};
+ghost use Rattle.data_folders.specs.Copies.{OpensAs, IsFoundIn, found_stamp, stamps_in, IsNewestCopy};
 
 use crate::place::FolderPlace;
 use data_folder::{FoundCopy, SaveCopy};
@@ -15,7 +16,7 @@ pub struct Opened<F: SaveCopy> {
     pub finds: Vec<Option<FoundCopy>>,
     /// Which site's data folders without a copy will have.
     pub site: u64,
-    ghost pairs: { ArePaired (OpensAs F.may_find) places.items finds.items },
+    ghost pairs: { ∥ AllZip (OpensAs F.may_find) places.items finds.items ∥₁ },
 }
 
 impl<F: SaveCopy + Drop> Drop for Opened<F> {
@@ -85,8 +86,8 @@ impl<F: SaveCopy + Drop> Opened<F> {
             copy,
             fault: Some(SaveFault::Disk),
         };
-        self.places.push(place)?;
-        self.finds.push(found)?;
+        self.places.push_reserved(place);
+        self.finds.push_reserved(found);
         Ok(())
     }
 
@@ -118,11 +119,12 @@ impl<F: SaveCopy + Drop> Opened<F> {
 
     /// Uses this folder, which is empty, in place of one that is not open.
     pub fn renew(&mut self, at: usize, copy: F)
-        requires { IsFoundIn F.may_find (Option.Some copy) Option.None }
+        requires { IsFoundIn F.may_find (Some copy) None }
     {
-        match (self.places.get_mut(at), self.finds.get(at)) {
-            (Some(place), Some(None)) => place.copy = Some(copy),
-            _ => drop(copy),
+        if at < self.places.len() && at < self.finds.len() && self.finds[at].is_none() {
+            self.places[at].copy = Some(copy);
+        } else {
+            drop(copy);
         }
     }
 }

@@ -29,6 +29,11 @@ pub struct FolderTrouble {
 /// So many damaged files of one folder are set aside at most.
 const MOST_SET_ASIDE: u32 = 99;
 
+/// How many folders there are, of which a caller names a few.
+fn count_of(folders: &[String]) -> u32 {
+    u32::try_from(folders.len()).unwrap_or(u32::MAX)
+}
+
 /// Whether the others may serve while one folder has this fault.
 fn may_be_lost(fault: DataFault) -> bool {
     match fault {
@@ -114,15 +119,17 @@ fn renew_one(
 ) -> Result<(), DataFault> {
     set_aside(rt, folder)?;
     match HostFolder::open(rt, folder, wanted, syncs) {
-        Ok((copy, None)) => {
-            opened.renew(at, copy);
-            Ok(())
-        }
-        Ok((copy, Some(found))) => {
-            drop(copy);
-            drop(found);
-            Err(DataFault::HasData)
-        }
+        Ok((copy, found)) => match found {
+            None => {
+                opened.renew(at, copy);
+                Ok(())
+            }
+            Some(found) => {
+                drop(copy);
+                drop(found);
+                Err(DataFault::HasData)
+            }
+        },
         Err(fault) => Err(fault),
     }
 }
@@ -138,7 +145,7 @@ fn renew_each(
     let wanted = Wanted {
         is_new: true,
         u: options.u,
-        folders: folders.len() as u32,
+        folders: count_of(folders),
     };
     for trouble in troubles {
         let Some(folder) = folders.get(trouble.folder) else {
@@ -169,7 +176,7 @@ fn open_each(
     let wanted = Wanted {
         is_new: options.is_new,
         u: options.u,
-        folders: folders.len() as u32,
+        folders: count_of(folders),
     };
     for folder in folders {
         open_one(rt, folder.as_str(), wanted, options.syncs, opened, troubles)?;

@@ -81,6 +81,7 @@ fn save_and_run<S: Save, R: Threads + Wait + Sync, C: Clock>(
 }
 
 impl<S: Save> DurableService<S> {
+    ghost use denote.Param.Send.{IsSync};
     ghost use Rattle.std.specs.Prelude.{◌≡◌, [], true, false, not};
     ghost use Rattle.server.specs.Durable.{IsSavedNow, MayBeSavedNow, ReleasesHeld};
 
@@ -180,6 +181,7 @@ impl<S: Save> DurableService<S> {
 
     /// Saves a record of this moment: whether it is saved.
     fn save<R: Threads + Sync, C: Clock>(&mut self, rt: &R, clock: &C) -> bool
+        requires { IsSync R.row }
         ensures answering { self.new.answering ≡ self.old.answering }
         ensures held { self.new.held ≡ self.old.held }
         ensures failing { self.new.is_failing ≡ not result }
@@ -201,6 +203,7 @@ impl<S: Save> DurableService<S> {
 
     /// Hands out what is held, if a record of this moment is saved.
     fn hand_out<R: Threads + Sync, C: Clock>(&mut self, rt: &R, clock: &C) -> Vec<Said>
+        requires { IsSync R.row }
         ensures answering { self.new.answering ≡ self.old.answering }
         ensures releases { ReleasesHeld S.is_text (S.may_find self.old.saver) (S.may_find self.new.saver) self.old.answering.service self.old.held.items result.items self.new.held.items }
         ensures failing { self.new.is_failing ≡ true → result.items ≡ [] }

@@ -55,6 +55,7 @@ pub trait Save {
     /// Saves the record in place of the last one: whether it is saved. If not, what may be found is what might be
     /// found before, or this record. `fault` tells why. It may save in several threads.
     fn save<R: Threads + Sync>(&mut self, rt: &R, alloc: Global, kept: &ServiceRecord) -> bool
+        requires { IsSync R.row }
         ensures saved { IsTrue result → (found : Option (List ℕ)) → may_find self.new found → IsFoundOf is_text kept.now found }
         ensures crash { (found : Option (List ℕ)) → may_find self.new found → may_find self.old found ⊎ IsFoundOf is_text kept.now found };
 
