@@ -1,5 +1,5 @@
 -- Copies of a record in several folders, and what a later start finds among them.
-use Rattle.std.specs.Prelude.{◌≡◌, ℕ, Bool, true, false, not, is_some, List, length, map, count_by, slice_index_or, Option, None, Some, ⊤}
+use Rattle.std.specs.Prelude.{◌≡◌, ◌⊎◌, ℕ, Bool, true, false, not, is_some, List, length, map, count_by, slice_index_or, Option, None, Some, ⊤}
 use Rattle.std.specs.List.{AllZip, AllByRecursion}
 use Rattle.folders.specs.declared.stamp.SaveStamp.{SaveStamp}
 use Rattle.folders.specs.Folders.{is_later_save, IsMajority, IsNewest}
@@ -25,6 +25,10 @@ pub record BeginsWith (reads : List (Option SavedText)) (text : List ℕ) : Type
 -- the last save succeeded in it
 abbrev pub is_current : {F : Type 0} → FolderPlace F → Bool
 is_current place = not (is_some place.fault)
+
+-- the last save is in more than half of the folders, or there is one folder
+abbrev pub IsClaimed : {F : Type 0} → List (FolderPlace F) → Type 0
+IsClaimed places = (length places ≡ 1) ⊎ IsMajority (count_by is_current places) (length places)
 
 module _ {F : Type 0} (may_find : F → Option SavedText → Type 0) where
   -- what its copy may have; and of a folder that was not opened a save that is not after the first of this start

@@ -2,7 +2,7 @@
 
 ghost use Rattle.std.specs.Prelude.{◌≡◌, None, IfOk, IfSome, OnOk, All, true};
 ghost use Rattle.folders.specs.Folders.{is_later_save};
-ghost use Rattle.data_folders.specs.Copies.{IsBounded, IsNewestCopy, IsNewestRecord};
+ghost use Rattle.data_folders.specs.Copies.{IsBounded, IsClaimed, IsNewestCopy, IsNewestRecord};
 
 use crate::copies::{Copies, fault_of, is_saved, save_each};
 use crate::fault::FoldersFault;
@@ -36,7 +36,8 @@ fn claim<F: SaveCopy + Send, R: Threads + Sync>(
 ) -> Result<(), FoldersFault>
     requires bounded { All (IsBounded F.may_find found.now.stamp) places.old.items }
     requires later { is_later_save first found.now.stamp ≡ true }
-    ensures { OnOk result (All (IsBounded F.may_find first) places.new.items) }
+    ensures bounded { OnOk result (All (IsBounded F.may_find first) places.new.items) }
+    ensures claimed { OnOk result (IsClaimed places.new.items) }
 {
     if places.len() == 1 {
         return Ok(());
@@ -61,7 +62,8 @@ fn begin_with<F: SaveCopy + Send + Drop, R: Threads + Sync>(
     found: FoundCopy,
 ) -> Result<(Copies<F>, ServiceRecord), FoldersFault>
     requires { All (IsBounded F.may_find found.stamp) places.items }
-    ensures { IfOk result (λ begun. begun.1 ≡ found.service) }
+    ensures found { IfOk result (λ begun. begun.1 ≡ found.service) }
+    ensures claimed { IfOk result (λ begun. IsClaimed begun.0.places.items) }
 {
     let first = first_after(found.stamp)?;
     claim(rt, alloc, &mut places, first, &found)?;
@@ -88,7 +90,8 @@ impl<F: SaveCopy + Send + Drop> Opened<F> {
         at: usize,
     ) -> Result<(Copies<F>, ServiceRecord), FoldersFault>
         requires { IsNewestCopy self.finds.items at }
-        ensures { IfOk result (λ begun. IsNewestRecord self.finds.items begun.1) }
+        ensures newest { IfOk result (λ begun. IsNewestRecord self.finds.items begun.1) }
+        ensures claimed { IfOk result (λ begun. IsClaimed begun.0.places.items) }
     {
         let (places, mut finds) = self.into_parts();
         let found = finds.swap_remove(at);
@@ -117,7 +120,8 @@ impl<F: SaveCopy + Send + Drop> Opened<F> {
         rt: &R,
         alloc: Global,
     ) -> Result<(Copies<F>, Option<ServiceRecord>), FoldersFault>
-        ensures { IfOk result (λ begun. IfSome begun.1 (IsNewestRecord self.finds.items)) }
+        ensures newest { IfOk result (λ begun. IfSome begun.1 (IsNewestRecord self.finds.items)) }
+        ensures claimed { IfOk result (λ begun. IfSome begun.1 (λ _. IsClaimed begun.0.places.items)) }
     {
         if self.is_empty() {
             return Ok((self.begin_empty(), None));

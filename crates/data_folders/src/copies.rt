@@ -133,6 +133,7 @@ impl<F: SaveCopy> Copies<F> {
     /// The folders of a start that begins with this stamp. None of them has a later save.
     pub fn new(places: Vec<FolderPlace<F>>, site: u64, first: SaveStamp) -> Copies<F>
         requires { All (IsBounded F.may_find first) places.items }
+        ensures { result.places ≡ places }
     {
         Copies {
             places,

@@ -3,7 +3,7 @@
 ghost use Rattle.std.specs.Prelude.{IfOk, IfSome};
 ghost use Rattle.data_folder.specs.Text.{TellsService};
 ghost use Rattle.data_folder.specs.Host.{host_may_find};
-ghost use Rattle.data_folders.specs.Copies.{MayFindAmong, IsNewestRecord};
+ghost use Rattle.data_folders.specs.Copies.{MayFindAmong, IsClaimed, IsNewestRecord};
 
 use crate::copies::{Copies, save_apart};
 use crate::fault::FoldersFault;
@@ -34,7 +34,8 @@ impl HostFolders {
         alloc: Global,
         opened: Opened<HostFolder>,
     ) -> Result<(HostFolders, Option<ServiceRecord>), FoldersFault>
-        ensures { IfOk result (λ begun. IfSome begun.1 (IsNewestRecord opened.finds.items)) }
+        ensures newest { IfOk result (λ begun. IfSome begun.1 (IsNewestRecord opened.finds.items)) }
+        ensures claimed { IfOk result (λ begun. IfSome begun.1 (λ _. IsClaimed begun.0.copies.places.items)) }
     {
         match opened.begin(rt, alloc) {
             Ok((copies, found)) => Ok((HostFolders { copies }, found)),

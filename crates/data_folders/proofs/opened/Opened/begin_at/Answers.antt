@@ -14,12 +14,12 @@ begin_with-requires-after_bounds g c κs within =
     subst (λ (places : Vec (FolderPlace g.row.F.Denot) Global). All (IsBounded g.F.SaveCopy.may_find c.in-Some.found.stamp) places.items) (sym c.into_parts-places.ensures.places)
     (opened_bounded g.F.SaveCopy.may_find c.args.self.places.items c.args.self.finds.items c.args.at c.in-Some.found c.args.self.pairs c.requires here)
 
-pub returns-in-Some : goal.returns-in-Some
-returns-in-Some g c =
+pub returns-in-Some-clause-newest : goal.returns-in-Some-clause-newest
+returns-in-Some-clause-newest g c =
     let here : slice_index_or c.args.self.finds.items c.args.at None ≡ Some c.in-Some.found =
     found_at c.args.self.finds.items c.into_parts-places.result.1.items c.args.at c.in-Some.found (ap (λ (v : Vec (Option FoundCopy) Global). v.items) c.into_parts-places.ensures.finds) c.requires (sym c.in-Some.ensures.value) in
     IfOk-weaker c.begin_with.result
     (λ begun. begun.1 ≡ c.in-Some.found.service)
     (λ begun. IsNewestRecord c.args.self.finds.items begun.1)
     (λ begun same. record { at = c.args.at; newest = c.requires; found = c.in-Some.found; there = here; is = sym same })
-    c.begin_with.ensures
+    c.begin_with.ensures.found
