@@ -1,5 +1,5 @@
 -- What a save leaves of the text of a service, and what is found of it.
-use Rattle.std.proofs.Common.{◌≡◌, ◌∙◌, ℕ, ◌<◌, ◌^◌, List, [], ◌∷◌, Option, None, Some, IsTrue, refl, sym, ap, subst}
+use Rattle.std.proofs.Common.{◌≡◌, ◌∙◌, ℕ, ◌<◌, ◌^◌, List, [], ◌∷◌, Option, None, Some, Bool, true, false, IsTrue, refl, sym, ap, subst}
 use Rattle.std.specs.Prelude.{IsSomeAnd}
 use Rattle.std.specs.Int.{w64, cast_unsigned}
 use Rattle.std.proofs.lemmas.Int.{of_z-to_z}
@@ -17,8 +17,13 @@ use Rattle.shelf.specs.declared.reply.ReplyChange.{ReplyChange}
 use Rattle.shelf.specs.Rows.{process_rows}
 use Rattle.shelf.specs.WaitingView.{IsTurn, process_after}
 use Rattle.data_folder.specs.declared.found_copy.FoundCopy.{FoundCopy}
-use Rattle.data_folder.specs.Text.{IsServiceText}
-use Rattle.data_folder.specs.Found.{SavedText, StampFits, RowFits, SavesText, text_of_row, HoldsText, HoldsSomeText, HasCopy, MayFind, FindsCopy}
+use Rattle.process_text.specs.declared.process_text.ProcessText.{ProcessText}
+use Rattle.states.specs.State.{StateView}
+use Rattle.process_parts.specs.Parts.{IsStoredOf}
+use Rattle.ensemble.specs.Kept.{ProcessView}
+use Rattle.service.specs.Record.{RecordView}
+use Rattle.data_folder.specs.Text.{IsServiceText, TellsService, service_text}
+use Rattle.data_folder.specs.Found.{SavedText, StampFits, RowFits, SavesText, IsCopyOf, text_of_row, HoldsText, HoldsSomeText, HasCopy, MayFind, FindsCopy}
 
 abbrev blob_in : Value → List ℕ
 blob_in Null = []
@@ -83,13 +88,12 @@ some_text_found db None has = ∣ (None, has) ∣₁
 some_text_found db (Some copy) has = ∣ (Some (record { stamp = copy.stamp; text = has.text }), has.has) ∣₁
 
 -- the copy of a process of this text
-pub copy_of_text : (db : Trees) (saved : SavedProcess) (copy : Option FoundCopy) → StampFits saved.stamp → db 2 ≡ process_rows (Some saved)
-    → IsSomeAnd copy (λ found. (found.stamp ≡ saved.stamp) × IsServiceText found.service saved.text) → HasCopy db copy
-copy_of_text db saved None fits row is = absurd is
-copy_of_text db saved (Some copy) fits row is = record {
+pub copy_of_text : (db : Trees) (saved : SavedProcess) (copy : Option FoundCopy) → db 2 ≡ process_rows (Some saved) → IsSomeAnd copy (λ found. IsCopyOf saved found) → HasCopy db copy
+copy_of_text db saved None row is = absurd is
+copy_of_text db saved (Some copy) row is = record {
   text = saved.text;
-  has = record { saved = Some saved; fits = fits; row = row; is = λ i. Some (record { stamp = sym is.0 i; text = saved.text }) };
-  is = is.1;
+  has = record { saved = Some saved; fits = is.fits; row = row; is = λ i. Some (record { stamp = sym is.stamp i; text = saved.text }) };
+  is = is.is;
 }
 
 -- no copy, if there is no row of a process
@@ -110,3 +114,14 @@ finds_copy v recovers (Some copy) is_open settled has found may =
       is = here.is;
       found_is = one_text v.committed found (Some (record { stamp = copy.stamp; text = here.text })) (subst (λ (db : Trees). HoldsText db found) (settled may.db opened may.may) may.has) here.has;
     } ∣₁
+
+-- what is not shut is open
+pub open_if : (shut is_open : Bool) → (is_open ≡ false → IsTrue shut) → shut ≡ false → IsTrue is_open
+open_if shut true h e = refl
+open_if shut false h e = absurd (let both : true ≡ false = sym (h refl) ∙ e in cc both)
+
+-- the text of the parts of a record is one of it
+pub tells_of : (r : RecordView) (process : ProcessText) (state : StateView) (replicas : ProcessView) (next : ℕ) (text : List ℕ) → replicas ≡ r.replicas → next ≡ r.next
+    → IsStoredOf process state replicas → text ≡ service_text process next → TellsService r text
+tells_of r process state replicas next text are is stored same =
+    ∣ record { process = process; state = state; stored = subst (λ (p : ProcessView). IsStoredOf process state p) are stored; is = subst (λ (n : ℕ). text ≡ service_text process n) is same } ∣₁

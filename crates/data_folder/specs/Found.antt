@@ -47,6 +47,12 @@ abbrev pub HasCopy : Trees → Option FoundCopy → Type 0
 HasCopy db None = HoldsText db None
 HasCopy db (Some c) = HasRecord db c.stamp c.service
 
+-- it was read of this row
+pub record IsCopyOf (saved : SavedProcess) (c : FoundCopy) : Type 0 where
+  pub fits : StampFits saved.stamp
+  pub stamp : c.stamp ≡ saved.stamp
+  pub is : IsServiceText c.service saved.text
+
 -- the row that a save writes is of this save
 abbrev pub SavesText : SavedText → SavedProcess → Type 0
 SavesText s saved = StampFits s.stamp × ((saved.stamp ≡ s.stamp) × (saved.text ≡ s.text))

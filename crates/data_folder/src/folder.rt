@@ -2,7 +2,7 @@
 
 ghost use Rattle.std.specs.Prelude.{◌≡◌, IsTrue, IfOk, OnOk, IsSomeAnd};
 ghost use Rattle.sqlite_trees.specs.View.{IsClean};
-ghost use Rattle.data_folder.specs.Found.{SavedText, RowFits, HoldsSomeText, SavesText, MayFind, FindsOnly, FindsOldOr, FindsCopy};
+ghost use Rattle.data_folder.specs.Found.{SavedText, RowFits, HasCopy, HoldsSomeText, SavesText, MayFind, FindsOnly, FindsOldOr, FindsCopy};
 
 use crate::fault::{DataFault, record_fault, store_fault};
 use crate::found_copy::{FoundCopy, FoundProcess, Wanted, found_in};
@@ -120,18 +120,29 @@ impl<S: Store + Drop> DataFolder<S> {
         ensures { IfOk result (λ opened. FindsCopy (MayFind (S.view opened.0.shelf.rows.store) (S.recovers opened.0.shelf.rows.store)) opened.1) }
     {
         match found_in(alloc, &mut shelf, wanted) {
-            Ok(_) if shelf.is_shut() => Err(DataFault::Disk),
-            Ok(found) => {
-                let FoundProcess { state, copy } = found;
-                let folder = DataFolder {
-                    shelf,
-                    last: state,
-                    has_failed: false,
-                };
-                Ok((folder, copy))
-            }
+            Ok(found) => DataFolder::with_found(shelf, found),
             Err(fault) => Err(fault),
         }
+    }
+
+    /// The folder of which this was read, unless a read failed.
+    fn with_found(
+        shelf: Shelf<S>,
+        found: FoundProcess,
+    ) -> Result<(DataFolder<S>, Option<FoundCopy>), DataFault>
+        requires { IsClean (S.view shelf.rows.store) → IsTrue (S.view shelf.rows.store).is_open → HasCopy (S.view shelf.rows.store).committed found.copy }
+        ensures { IfOk result (λ opened. FindsCopy (MayFind (S.view opened.0.shelf.rows.store) (S.recovers opened.0.shelf.rows.store)) opened.1) }
+    {
+        if shelf.is_shut() {
+            return Err(DataFault::Disk);
+        }
+        let FoundProcess { state, copy } = found;
+        let folder = DataFolder {
+            shelf,
+            last: state,
+            has_failed: false,
+        };
+        Ok((folder, copy))
     }
 
     /// Whether the disk failed. Nothing more is saved then: the file has to be opened again.

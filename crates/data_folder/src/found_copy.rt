@@ -3,7 +3,7 @@
 ghost use Rattle.std.specs.Prelude.{◌≡◌, ◌≤◌, None, IsTrue, IfOk, IsSomeAnd};
 ghost use Rattle.sqlite_trees.specs.View.{IsClean, doubt};
 ghost use Rattle.row_store.specs.Saved.{IsSame};
-ghost use Rattle.data_folder.specs.Found.{HasCopy};
+ghost use Rattle.data_folder.specs.Found.{StampFits, HasCopy, IsCopyOf};
 ghost use Rattle.data_folder.specs.Text.{IsServiceText, service_text};
 ghost use Rattle.process_text.specs.Text.{IsProcessText};
 
@@ -128,6 +128,14 @@ fn nothing(alloc: Global) -> Result<FoundProcess, DataFault>
     })
 }
 
+/// The same stamp, whose numbers have 64 bits.
+fn known(stamp: SaveStamp) -> SaveStamp
+    ensures is { result ≡ stamp }
+    ensures fits { StampFits stamp }
+{
+    stamp
+}
+
 /// What a file has of the process that wrote it.
 fn found_of<S: Store>(
     alloc: Global,
@@ -135,7 +143,7 @@ fn found_of<S: Store>(
     saved: &SavedProcess,
     wanted: Wanted,
 ) -> Result<FoundProcess, DataFault>
-    ensures is { IfOk result (λ found. IsSomeAnd found.copy (λ copy. (copy.stamp ≡ saved.now.stamp) × IsServiceText copy.service saved.now.text)) }
+    ensures is { IfOk result (λ found. IsSomeAnd found.copy (λ copy. IsCopyOf saved.now copy)) }
     ensures same { IsClean (S.view shelf.new.rows.store) → IsSame (S.view shelf.old.rows.store) (S.view shelf.new.rows.store) }
     ensures clean { doubt (S.view shelf.old.rows.store).is_clean ≤ doubt (S.view shelf.new.rows.store).is_clean }
 {
@@ -145,7 +153,7 @@ fn found_of<S: Store>(
     Ok(FoundProcess {
         state,
         copy: Some(FoundCopy {
-            stamp: saved.stamp,
+            stamp: known(saved.stamp),
             site,
             service,
         }),

@@ -1,11 +1,11 @@
 //! What is saved of a record.
 
-ghost use Rattle.std.specs.Prelude.{◌≡◌, IfOk};
-ghost use Rattle.data_folder.specs.Text.{TellsService, service_text};
+ghost use Rattle.std.specs.Prelude.{IfOk};
+ghost use Rattle.data_folder.specs.Text.{TellsService};
 
 use crate::fault::record_fault;
 use crate::service_text::text_of;
-use process_parts::{StoredProcess, stored_of};
+use process_parts::stored_of;
 use proto::Fault;
 use server::SaveFault;
 use service::ServiceRecord;
@@ -24,14 +24,15 @@ impl Drop for StoredRecord {
     }
 }
 
-/// The text of the parts of a record, and their state.
-fn stored_parts(alloc: Global, stored: &StoredProcess, next: u64) -> Result<StoredRecord, Fault>
-    ensures { IfOk result (λ made. made.text.items ≡ service_text stored.now.text next) }
+/// What is saved of this record, or why it cannot be.
+fn stored_with(alloc: Global, kept: &ServiceRecord) -> Result<StoredRecord, Fault>
+    ensures { IfOk result (λ made. TellsService kept.now made.text.items) }
 {
+    let stored = stored_of(alloc, kept.replicas())?;
     if !stored.text.is_process() {
         return Err(Fault::BadRecord);
     }
-    let text = text_of(alloc, &stored.text, next)?;
+    let text = text_of(alloc, &stored.text, kept.next())?;
     let state = stored.state.share()?;
     Ok(StoredRecord { text, state })
 }
@@ -42,10 +43,8 @@ impl StoredRecord {
     pub fn of(alloc: Global, kept: &ServiceRecord) -> Result<StoredRecord, SaveFault>
         ensures { IfOk result (λ stored. TellsService kept.now stored.text.items) }
     {
-        match stored_of(alloc, kept.replicas()) {
-            Ok(stored) => stored_parts(alloc, &stored, kept.next()).map_err(|fault| record_fault(
-                fault,
-            )),
+        match stored_with(alloc, kept) {
+            Ok(stored) => Ok(stored),
             Err(fault) => Err(record_fault(fault)),
         }
     }
