@@ -51,7 +51,8 @@ unfolding times_data
 no_float_in_times f =
     rw (no_float_in_histogram f.reply_times)
     (rw (no_float_in_histogram f.batch_times)
-    (rw (no_float_in_batch_parts f.batch_parts) refl))
+    (rw (no_float_in_batch_parts f.batch_parts)
+    (rw (no_float_in_histogram f.saves.times) refl)))
 
 pub no_float : (f : Figures) → has_float (figures_data f) ≡ false
 unfolding figures_data connections_data limits_data server_data refusals_data keys_data batches_data memory_data saves_data all_commands_data
