@@ -16,7 +16,7 @@ stamp_of (Some s) = Some s.stamp
 
 -- A start that reads these, one of each folder, begins with this text: more than half of the folders are read, and it is
 -- that of the newest.
-pub record BeginsWith (reads : List (Option SavedText)) (text : List ℕ) : Type 0 where
+pub record BeginsWithNewest (reads : List (Option SavedText)) (text : List ℕ) : Type 0 where
   pub majority : IsMajority (count_by is_some reads) (length reads)
   pub at : ℕ
   pub newest : IsNewest (map stamp_of reads) at
@@ -50,7 +50,7 @@ module _ {F : Type 0} (may_find : F → Option SavedText → Type 0) where
   pub record FindsAmong (first : SaveStamp) (places : List (FolderPlace F)) (text : List ℕ) : Type 0 where
     pub reads : List (Option SavedText)
     pub may : AllZip (MayRead first) places reads
-    pub begins : BeginsWith reads text
+    pub begins : BeginsWithNewest reads text
 
   -- what a later start may begin with: a text; or nothing, if no folder has a copy
   abbrev pub MayFindAmong : SaveStamp → List (FolderPlace F) → Option (List ℕ) → Type 0
@@ -64,7 +64,7 @@ module _ {F : Type 0} (may_find : F → Option SavedText → Type 0) where
   IsBounded last place = (copy : F) → place.copy ≡ Some copy → (s : SavedText) → may_find copy (Some s) → is_later_save s.stamp last ≡ false
 
   -- it has a copy, and only this save may be found in it
-  pub record IsSavedIn (s : SavedText) (place : FolderPlace F) : Type 0 where
+  pub record HoldsSave (s : SavedText) (place : FolderPlace F) : Type 0 where
     pub copy : F
     pub there : place.copy ≡ Some copy
     pub only : FindsOnly (may_find copy) s
@@ -72,7 +72,7 @@ module _ {F : Type 0} (may_find : F → Option SavedText → Type 0) where
   -- one folder, before a save of this and after it
   pub record PlaceSaves (s : SavedText) (old new : FolderPlace F) : Type 0 where
     pub same : is_some new.copy ≡ is_some old.copy
-    pub saved : is_current new ≡ true → IsSavedIn s new
+    pub saved : is_current new ≡ true → HoldsSave s new
     pub crash : (before copy : F) → old.copy ≡ Some before → new.copy ≡ Some copy → FindsOldOr (may_find before) (may_find copy) s
 
   abbrev pub AllSave : SavedText → List (FolderPlace F) → List (FolderPlace F) → Type 0
