@@ -28,6 +28,7 @@ use Rattle.service.specs.declared.assignment.Assignment.{Assignment}
 use Rattle.service.specs.Service.{ServiceView, IsService, HasEnsemble, HasMoments, asked_keys, assigned_as}
 use Rattle.linear_laws.proofs.Rounds.{RoundMade, steps_made, runner_in}
 use Rattle.linear_laws.proofs.Runs.{IsMadeOf}
+use Rattle.linear_laws.proofs.InTime.{did_step}
 use Rattle.service_laws.specs.Orders.{RanInTurn}
 use Rattle.service_laws.specs.InTime.{IsTimely, IsStepInTime, IsBatchInTime, IsInTime}
 use Rattle.service_laws.proofs.AskedLemmas.{place_of}
@@ -62,26 +63,6 @@ in_map f (x ∷ xs) y c = elim (first_or_other (f x) y (map f xs) c) [
   | inl same ↦ (x, in_head x xs, same)
   | inr later ↦ let there = in_map f xs y later in (there.0, in_tail x there.0 xs there.1, there.2)
 ]
-
--- a step that is among the lines is one of its client's
-did_step : (lines : List Line) (d : Made) → Contains lines (Do d) → Contains (steps_made d.client lines) d.step
-did_step [] d i = absurd (in_none (Do d) i)
-did_step (Tick m ∷ lines) d i = elim (first_or_other (Tick m) (Do d) lines i) [
-  | inl same ↦ absurd (cc same)
-  | inr later ↦ did_step lines d later
-]
-did_step (Do x ∷ lines) d i = elim (first_or_other (Do x) (Do d) lines i) [
-  | inl same ↦
-      let here : x ≡ d = cc same in
-      let own : (x.client == d.client) ≡ true = eq-eqb x.client d.client (ap (λ (y : Made). y.client) here) in
-      subst (λ (b : Bool). Contains (map (λ (y : Made). y.step) (if b then x ∷ made_for d.client lines else made_for d.client lines)) d.step) (sym own)
-      (subst (λ (y : Made). Contains (x.step ∷ steps_made d.client lines) y.step) here (in_head x.step (steps_made d.client lines)))
-  | inr later ↦ by (x.client == d.client) (did_step lines d later)
-]
-  where
-    by : (b : Bool) → Contains (steps_made d.client lines) d.step → Contains (map (λ (y : Made). y.step) (if b then x ∷ made_for d.client lines else made_for d.client lines)) d.step
-    by true later = in_tail x.step d.step (steps_made d.client lines) later
-    by false later = later
 
 module _ (v : ServiceView) (talks : IsConnections v.connections) (ok : IsService v) (over : HasEnsemble v) (moments : HasMoments v) where
   -- ---- one batch
