@@ -76,11 +76,11 @@ pub record HeldByRecord (u : ℕ) (verifiers : List VerifierSlot) (lost : ℕ �
   pub has_record : record_of verifiers verifier ≡ Some saved
   pub holds : Holds saved place d
 
--- where at most u verifiers are lost, another keeps each chosen decree, or what stands after it
+-- if at most u verifiers are lost, another keeps each chosen decree, or what stands after it
 abbrev pub AllKept : Type 0
 AllKept = (u : ℕ) (events : List Event) (lost : ℕ → Bool) (place : ℕ) (d : Decree) → count_below lost (member_count u) ≤ u → Chosen u (letters_of u events) place d → KeptByRecord u (reached u events).verifiers (chosen u (letters_of u events)) lost place d
 
--- and the decree itself, where none is told to forget
+-- and the decree itself, if none is told to forget
 abbrev pub AllHeld : Type 0
 AllHeld = (u : ℕ) (events : List Event) (lost : ℕ → Bool) (place : ℕ) (d : Decree) → IsTrue (machine_trims_none events) → count_below lost (member_count u) ≤ u → Chosen u (letters_of u events) place d → HeldByRecord u (reached u events).verifiers lost place d
 

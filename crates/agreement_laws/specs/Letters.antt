@@ -50,7 +50,7 @@ pub record HasTokens (u : ℕ) (ls : Letters) (s : Standing) (n : ℕ) (t : toke
   pub next : n ≡ s.n + 1
   pub sent : Quorum u (λ e. Sent ls (Executor e) (Token s.epoch n s.token t))
 
--- what a decree needs, where these are the decrees before it
+-- what a decree needs, if these are the decrees before it
 abbrev pub RestsOn : ℕ → Letters → List Decree → Decree → Type 0
 RestsOn u ls before (Commit n t) = HasTokens u ls (standing before) n t
 RestsOn u ls before Rollback = Unit {0}

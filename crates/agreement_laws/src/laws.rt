@@ -14,7 +14,7 @@ pub fn something_is_chosen()
     ensures { SomethingIsChosen }
 {}
 
-/// Each chosen decree is backed: decrees are chosen at all places before it, and where it is a
+/// Each chosen decree is backed: decrees are chosen at all places before it, and if it is a
 /// Commit, more than `u` executors have sent its token for the next number, in the epoch and over
 /// the token that those decrees stand for.
 pub fn chosen_is_backed()
@@ -65,7 +65,7 @@ pub fn list_only_grows()
     ensures { ListGrows }
 {}
 
-/// A record of the machine has just what a crash leaves. Its bytes are read as that, where it has
+/// A record of the machine has just what a crash leaves. Its bytes are read as that, if it has
 /// fewer than 2^32 decrees, and the place after them has a number.
 pub fn records_are_read_back()
     ensures { RecordsAreReadBack }

@@ -1,4 +1,4 @@
--- Which events a schedule makes. Where it says `settle` or `random`, that depends on what came of those before it: so they happen in a world, one by one.
+-- Which events a schedule makes. If it says `settle` or `random`, that depends on what came of those before it: so they happen in a world, one by one.
 use Rattle.std.specs.Prelude.{◌≡◌, ◌⊎◌, ℕ, zero, suc, ◌≤◌, List, [], ◌∷◌, length, Option, None, Some}
 use Rattle.rand_core.specs.Pcg32Seed.{pcg32_seed}
 use Rattle.rand_pcg.specs.Lcg.{Lcg}
@@ -29,12 +29,12 @@ pub record HappensAt (s : Stage) (event : Event) (t : Stage) : Type 0 where
 
 -- ---- letters are delivered, and work is done
 
--- a letter that is left is delivered; where none is left, work goes on
+-- a letter that is left is delivered; if none is left, work goes on
 abbrev pub NextIs : WorldView → Option ℕ → Option Event → Type 0
 NextIs w (Some letter) next = next ≡ Some (Deliver letter)
 NextIs w None next = IsNextWork w.executors next
 
--- What comes next: the lowest letter that no event delivered; where there is none, what comes next of the work of the lowest executor that is up and has work.
+-- What comes next: the lowest letter that no event delivered; if there is none, what comes next of the work of the lowest executor that is up and has work.
 abbrev pub IsNextToSettle : Stage → Option Event → Type 0
 IsNextToSettle s next = (letter : Option ℕ) × IsNextLetter s.past.delivered letter × NextIs s.world letter next
 

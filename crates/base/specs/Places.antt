@@ -1,4 +1,4 @@
--- Where a key stands among sorted entries, or would stand, and what an edit there does.
+-- Where a key is among sorted entries, or would be, and what an edit there does.
 use Rattle.std.specs.Prelude.{◌≡◌, ℕ, ◌<◌, ◌≤◌, List, length, slice_index_or, slice_set, insert, remove, Some, None, not}
 use Rattle.std.specs.declared.cmp.Ordering.{Ordering}
 use Rattle.std.specs.Ordering.{eq_by_cmp}

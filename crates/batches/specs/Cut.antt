@@ -34,7 +34,7 @@ pub record IsBatchOf (epoch n moment : ℕ) (requests : List Request) (batch : B
   pub requests_are : batch.requests ≡ requests
   pub some : 1 ≤ length requests
 
--- it is the batch of these requests, and there is none where there are no requests
+-- it is the batch of these requests, and there is none if there are no requests
 abbrev pub IsCut : ℕ → ℕ → ℕ → List Request → Option Batch → Type 0
 IsCut epoch n moment requests None = requests ≡ []
 IsCut epoch n moment requests (Some batch) = IsBatchOf epoch n moment requests batch

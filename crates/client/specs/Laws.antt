@@ -47,7 +47,7 @@ abbrev pub GivenInOrder : Type 0
 GivenInOrder = (u c : ℕ) (inputs : List Input) (t : Talk) (given : List ℕ) → Talks u c inputs t given
     → (taken : List Turn) × TextsBy (WasHandedIn inputs) 1 taken given × Front (bytes_fed inputs) taken
 
--- Where it did not hang up, these turns, the one that is outstanding and those that wait are all that the bytes spell.
+-- If it did not hang up, these turns, the one that is outstanding and those that wait are all that the bytes spell.
 abbrev pub NoTurnIsLost : Type 0
 NoTurnIsLost = (u c : ℕ) (inputs : List Input) (t : Talk) (given : List ℕ) → Talks u c inputs t given → has_hung_up inputs ≡ false
     → (taken : List Turn) × (rest : List ℕ) × TextsBy (WasHandedIn inputs) 1 taken given × Spells (bytes_fed inputs) (taken ++ (pending t.outstanding ++ t.waiting)) rest
@@ -58,7 +58,7 @@ OutstandingIsLast = (u c : ℕ) (inputs : List Input) (t : Talk) (given : List �
     → (a.request.client ≡ client_number c) × (a.request.number ≡ t.last)
     × ((turns : List Turn) × (rest : List ℕ) × Spells (bytes_fed inputs) turns rest × (slice_get (asked turns) (t.last - 1) ≡ Some a.request.command))
 
--- Where it is closed, nothing is outstanding and nothing waits.
+-- If it is closed, nothing is outstanding and nothing waits.
 abbrev pub ClosedIsIdle : Type 0
 ClosedIsIdle = (u c : ℕ) (inputs : List Input) (t : Talk) (given : List ℕ) → Talks u c inputs t given → t.closed ≡ true → IsIdle t
 

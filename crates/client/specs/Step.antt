@@ -26,7 +26,7 @@ abbrev pub IsFedWhere : Bool → ℕ → ℕ → Talk → List ℕ → Given →
 IsFedWhere true u c t piece g = g ≡ unmoved t
 IsFedWhere false u c t piece g = (turns : List Turn) × (now : Reading) × IsRead t.reader piece turns now × (g ≡ fed u c t turns now)
 
--- A piece of the client's bytes comes. Where it is closed, nothing is read.
+-- A piece of the client's bytes comes. If it is closed, nothing is read.
 abbrev pub IsFed : ℕ → ℕ → Talk → List ℕ → Given → Type 0
 IsFed u c t piece g = IsFedWhere t.closed u c t piece g
 
@@ -40,7 +40,7 @@ answered_to u c t number reply None = unmoved t
 answered_to u c t number reply (Some asked) =
     if asked.request.number == number then go_on u c (record t { outstanding = None }) (given_text reply asked.quiet) else unmoved t
 
--- A reply to the request of this number comes. Where that one is outstanding the text of the reply is given, and it goes on.
+-- A reply to the request of this number comes. If that one is outstanding the text of the reply is given, and it goes on.
 abbrev pub on_reply : ℕ → ℕ → Talk → ℕ → replies.Reply → Given
 on_reply u c t number reply = answered_to u c t number reply t.outstanding
 

@@ -60,7 +60,7 @@ go u c t bytes (Ask command quiet ∷ turns) = record {
   bytes = bytes;
 }
 
--- it goes on where it is not closed and nothing is outstanding
+-- it goes on if it is not closed and nothing is outstanding
 abbrev pub go_where : ℕ → ℕ → Talk → List ℕ → Option Asked → Bool → Given
 go_where u c t bytes None false = go u c t bytes t.waiting
 go_where u c t bytes None true = only_given t bytes

@@ -140,7 +140,7 @@ fn the_start_is_told(rt: HostRuntime) -> Result<(), Fail> {
         are(
             &memory.into_lines(),
             &[
-                "[INFO ] eve_cached 2.0.0 with u 2: at most 77 connections",
+                "[INFO ] eve_cached 2.1.0 with u 2: at most 77 connections",
                 "[INFO ] nothing more is stored while the items have more than 1024 bytes",
                 "[INFO ] a connection on which nothing happens for 60 seconds is closed",
                 "[INFO ] nothing was saved before",

@@ -6,7 +6,7 @@ abbrev pub count_below : (ℕ → Bool) → ℕ → ℕ
 count_below test zero = 0
 count_below test (suc n) = count_below test n + (if test n then 1 else 0)
 
--- there are as many verifiers, and as many executors, where at most u of them may fail
+-- there are as many verifiers, and as many executors, if at most u of them may fail
 abbrev pub member_count : ℕ → ℕ
 member_count u = 2 * u + 1
 

@@ -9,7 +9,7 @@ use Rattle.decrees.specs.declared.start.Start.{Start}
 abbrev pub first_start : Start
 first_start = record { place = 0; standing = first_standing }
 
--- what these decrees stand for, where that stood before them
+-- what these decrees stand for, if that stood before them
 abbrev pub stands_from : Standing → List Decree → Standing
 stands_from s decrees = fold standing_after s decrees
 

@@ -32,7 +32,7 @@ votes_with votes key token = if is_some (vote_of votes key) then votes else vote
 abbrev pub is_open : Standing → VoteKey → Bool
 is_open s key = nat_le s.epoch key.epoch && nat_lt s.n key.n
 
--- the votes that are left where this stands
+-- the votes that are left if this stands
 abbrev pub open_votes : Standing → List Vote → List Vote
 open_votes s votes = filter (λ vote. is_open s vote.0) votes
 

@@ -27,7 +27,7 @@ pub enum Notice {
     MetaNoop,
     /// A flag of `mg` or `ms` is none, or none that can be had here.
     UnknownFlag,
-    /// A letter stands in front of two flags of `mg` or `ms`.
+    /// A letter is in front of two flags of `mg` or `ms`.
     DuplicateFlag,
     /// A flag of `md` or `ma` is bad.
     BadFlag,

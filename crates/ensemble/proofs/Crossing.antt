@@ -29,6 +29,7 @@ use Rattle.decrees.proofs.node.Node.TheSendSync as node
 use Rattle.decrees.proofs.node.Letter.TheSendSync as letter
 use Rattle.transfer.proofs.need.Need.TheSendSync as need
 use Rattle.worlds.proofs.slot.Slot.TheSendSync as slot
+use Rattle.pages.specs.contracts.pages.Pages as pages
 use Rattle.states.specs.contracts.state.State as state
 use Rattle.executor.specs.contracts.tentative.Tentative as tentative
 use Rattle.executor.specs.contracts.tentative.Committed as committed
@@ -133,14 +134,20 @@ ruleset shares = (
 pub state_send : IsSend state.the_row
 state_send = search (parts, sendable) depth 60 fits 20000
 
+state_sync : IsSync state.the_row
+state_sync = search (shares, parts, sendable) depth 60 fits 20000
+
+pages_send : IsSend pages.the_row
+pages_send = search (parts, sendable) depth 60 fits 20000
+
 tentative_send : IsSend tentative.the_row
-tentative_send = search (parts, sendable) depth 60 fits 20000
+tentative_send = search (state_send, state_sync, parts, sendable) depth 60 fits 20000
 
 committed_send : IsSend committed.the_row
 committed_send = search (parts, sendable) depth 60 fits 20000
 
 work_send : IsSend work.the_row
-work_send = search (parts, sendable) depth 60 fits 20000
+work_send = search (state_send, state_sync, pages_send, parts, sendable) depth 60 fits 20000
 
 chain_send : IsSend chain.the_row
 chain_send = search (committed_send, tentative_send, parts, sendable) depth 60 fits 20000
@@ -155,16 +162,13 @@ pub body_send : IsSend body.the_row
 body_send = search (parcel_send, parts, sendable) depth 60 fits 20000
 
 saved_member_send : IsSend saved_member.the_row
-saved_member_send = search (parts, sendable) depth 60 fits 20000
+saved_member_send = search (state_send, state_sync, parts, sendable) depth 60 fits 20000
 
 saved_chain_send : IsSend saved_chain.the_row
 saved_chain_send = search (state_send, saved_member_send, parts, sendable) depth 60 fits 20000
 
-state_sync : IsSync state.the_row
-state_sync = search (shares, parts, sendable) depth 60 fits 20000
-
 saved_member_sync : IsSync saved_member.the_row
-saved_member_sync = search (shares, parts, sendable) depth 60 fits 20000
+saved_member_sync = search (state_send, state_sync, shares, parts, sendable) depth 60 fits 20000
 
 saved_chain_sync : IsSync saved_chain.the_row
 saved_chain_sync = search (state_sync, saved_member_sync, shares, parts, sendable) depth 60 fits 20000

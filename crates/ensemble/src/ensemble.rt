@@ -70,7 +70,7 @@ impl Ensemble {
     ghost use Rattle.ensemble.specs.Ensemble.{IsLogged, answer_log};
     ghost use Rattle.ensemble.specs.Process.{IsEnsembleAfter};
 
-    /// What stands there is what events lead a world to: that world is like it, what its clients were fed is
+    /// What is there is what events lead a world to: that world is like it, what its clients were fed is
     /// just what was asked, and each answer was sent in it. So it is of an ensemble that was opened. One that was reopened
     /// is so with what was asked and answered before, in whatever ensemble its record was kept of. The call does nothing.
     pub fn shows(&self)

@@ -4,7 +4,7 @@ use Rattle.std.specs.Io.KnownBytes.{Consumes, Keeps}
 use Rattle.event_loop.specs.declared.input.Piece.{Piece}
 use Rattle.event_loop.specs.declared.input.Piece.TheVariants.{Bytes, Nothing, Interrupted, End}
 
--- the bytes that are given were the next ones, and are not given again. Where none are given none are lost,
+-- the bytes that are given were the next ones, and are not given again. If none are given none are lost,
 -- but at the end
 abbrev pub IsPieceRead : Option (List ℕ) → Option (List ℕ) → Piece → Type 0
 IsPieceRead old new (Bytes bytes has_more) = Consumes old new bytes.items × (bytes.items ≢ [])

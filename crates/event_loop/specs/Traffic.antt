@@ -39,7 +39,7 @@ IsBlocked (Ok n) = ⊥
 IsBlocked (Err e) = error_kind e ≡ WouldBlock
 
 pub record Traffic : Type 0 where
-  -- what reads are still to give, and what the other side was given, where this is known
+  -- what reads are still to give, and what the other side was given, if this is known
   pub remaining : Option (List ℕ)
   pub contents : Option (List ℕ)
   -- what each read gave, and the bytes in it

@@ -6,7 +6,7 @@ use Rattle.executor.specs.declared.work.Ended.{Ended}
 use Rattle.executor.specs.declared.work.Ended.TheVariants.{On, Done}
 use Rattle.executor.specs.Work.{WorkView, all_begun, started, tentative_of, is_group_done, least_of}
 
--- in the first group in which a request runs; where none runs the batch is done
+-- in the first group in which a request runs; if none runs the batch is done
 abbrev pub begun_at : StateView → Batch → Bool → Option ℕ → Ended
 begun_at base batch ordered None = Done (tentative_of (record { base = base; batch = batch; ordered = ordered; progress = started base batch ordered 0 }))
 begun_at base batch ordered (Some group) = On (record { base = base; batch = batch; ordered = ordered; progress = started base batch ordered group })
@@ -20,6 +20,6 @@ abbrev pub moved_on : WorkView → Option ℕ → Ended
 moved_on w None = Done (tentative_of w)
 moved_on w (Some group) = On (record w { progress = record { items = w.progress.items; running = w.progress.running; group = group } })
 
--- how work goes on where its group may be done; where a step is left it stays
+-- how work goes on if its group may be done; if a step is left it stays
 abbrev pub finish_of : WorkView → Ended
 finish_of w = if is_group_done w.progress then moved_on w (least_of (Some w.progress.group) None w.progress.running) else On w

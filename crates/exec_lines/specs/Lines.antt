@@ -79,7 +79,7 @@ cut_where s moment true e =
     (few_taken MOST_REQUESTS (filter (is_next (chain_tip s.chain).sessions) s.gather))
 cut_where s moment false e = None
 
--- the next batch over the tip, where there is a number and a request for it
+-- the next batch over the tip, if there is a number and a request for it
 abbrev pub cut_batch : ExecutorState → ℕ → Option Batch
 cut_batch s moment = cut_where s moment (has_number s) refl
 
@@ -139,7 +139,7 @@ may_adopt s t = adopts s.work t
 abbrev pub on_adopt : ℕ → ℕ → ExecutorState → TentativeView → ExecutorOutcome
 on_adopt u id s t = if may_adopt s t then completed u id s [] t else unchanged s
 
--- What it asks of the others, where it is behind.
+-- What it asks of the others, if it is behind.
 abbrev pub needs : ℕ → ℕ → ExecutorState → List (Letter Body)
 needs u id s = if is_behind s then to_other_executors u id (body.Need (need_of s.chain.have)) else []
 
@@ -183,7 +183,7 @@ is_told s place st = nat_lt s.known place && could_stand place st
 abbrev pub goes_on : ExecutorState → Standing → Bool
 goes_on s st = st.epoch == s.standing.epoch
 
--- it is committed up to the state that stands; what is over that stays where the epoch goes on, members and work alike
+-- it is committed up to the state that stands; what is over that stays if the epoch goes on, members and work alike
 abbrev pub stood_over : ExecutorState → ℕ → Standing → ChainView → ExecutorState
 stood_over s place st c = record s { known = place; standing = st; chain = if goes_on s st then c else undone c; work = if goes_on s st then s.work else None }
 

@@ -43,7 +43,7 @@ impl State {
         Ok(Outcome::said(letters))
     }
 
-    /// Another executor has this state: where an older one, it is sent what differs.
+    /// Another executor has this state: if it is an older one, it is sent what differs.
     pub fn on_need(
         &self,
         alloc: Global,

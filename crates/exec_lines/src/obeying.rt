@@ -173,7 +173,7 @@ impl State {
     }
 
     /// The letters of an executor that goes on from its record: the tokens of its tentative states, the
-    /// question which decrees it lacks, and where it is behind what it needs. `Stopped`: it knows as
+    /// question which decrees it lacks, and, if it is behind, what it needs. `Stopped`: it knows as
     /// many decrees as can be counted. `NoMemory` is the only other error.
     pub fn resumed(&self, alloc: Global, u: u8, id: u8) -> Result<Vec<Letter<Body>>, Fault>
         requires { u < 4 }

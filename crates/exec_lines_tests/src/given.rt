@@ -87,7 +87,7 @@ pub enum Given {
     Says(Node, Ballot),
     /// A reply.
     Replies(Node),
-    /// The last letter of the other executor, where two are played with.
+    /// The last letter of the other executor, if two are played with.
     Heard(Node),
 }
 

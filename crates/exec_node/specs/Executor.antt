@@ -25,7 +25,7 @@ pub record ExecutorView : Type 0 where
   -- the record that its keeper has, and how many saves have failed
   pub saved : Option (List ℕ)
   pub failures : ℕ
-  -- whether the keeper was told that the next save fails
+  -- whether the keeper's next save is set to fail
   pub told : Bool
 
 abbrev pub executor_outcome : ExecutorView → Input → ExecutorOutcome
@@ -82,7 +82,7 @@ executor_view_code state =
     (λ p. record { id = p.0.0.0.0.0.0; u = p.0.0.0.0.0.1; state = p.0.0.0.0.1; up = p.0.0.0.1; saved = p.0.0.1; failures = p.0.1; told = p.1 })
     (λ _. refl)
 
--- A job was run: the executor after it, and all letters. It is the outcome of some steps and ends of groups, and where it is to be saved it was.
+-- A job was run: the executor after it, and all letters. It is the outcome of some steps and ends of groups, and if it is to be saved it was.
 abbrev pub RanJob : ExecutorView → Option JobView → ExecutorView → List (Letter Body) → Type 0
 RanJob e job now letters =
     (o : ExecutorOutcome) × RunsJob e.u e.id e.state job o × (now ≡ record e { state = o.state; saved = executor_record_after e o }) × (letters ≡ o.letters)

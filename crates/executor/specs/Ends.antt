@@ -7,14 +7,14 @@ use Rattle.states.specs.State.{StateView}
 use Rattle.executor.specs.Round.{Round}
 use Rattle.executor.specs.Work.{WorkView, all_begun, started, is_group_done, IsNextGroup, IsLast, tentative_of}
 
--- What a batch begins with: work in its first group; where no request runs, it is done at once.
+-- What a batch begins with: work in its first group; if no request runs, it is done at once.
 abbrev pub Begins : StateView → Batch → Bool → Ended → Type 0
 Begins base batch ordered (On w) =
     (w ≡ record { base = base; batch = batch; ordered = ordered; progress = started base batch ordered w.progress.group }) × IsNextGroup (all_begun base batch ordered) None w.progress.group
 Begins base batch ordered (Done t) =
     (all_begun base batch ordered ≡ []) × (t ≡ tentative_of (record { base = base; batch = batch; ordered = ordered; progress = started base batch ordered 0 }))
 
--- the next group in which a request runs, where the group is done; else the work stays
+-- the next group in which a request runs, if the group is done; else the work stays
 abbrev pub MovesOn : Bool → WorkView → WorkView → Type 0
 MovesOn false w now = now ≡ w
 MovesOn true w now =

@@ -41,7 +41,7 @@ is_untouched w = list_all (λ r. length r.answers == 0) w.running
 abbrev pub IsUntouched : Progress → Type 0
 IsUntouched w = All (λ r. r.group ≡ w.group → r.answers ≡ []) w.running
 
--- where work goes on, it does so in a group of which no step was made
+-- if work goes on, it does so in a group of which no step was made
 abbrev pub StartsAfresh : Ended → Type 0
 StartsAfresh (On w) = IsUntouched w.progress
 StartsAfresh (Done t) = Unit {0}

@@ -16,7 +16,7 @@ use Rattle.states.specs.Version.{IsStateIn}
 use Rattle.executor.specs.Round.{runners}
 use Rattle.executor.specs.Work.{TentativeView, CommittedView}
 
--- the reply to a request, where it is what is kept of the client
+-- the reply to a request, if it is what is kept of the client
 abbrev pub reply_kept : Runner → Option LastReply → Option Answered
 reply_kept r None = None
 reply_kept r (Some kept) = if kept.number == r.1.number then Some (record { place = r.0; client = r.1.client; number = r.1.number; reply = kept.reply }) else None

@@ -15,7 +15,7 @@ pub record IsReadyAt (w : Progress) (index : ℕ) : Type 0 where
   pub in_group : request.group ≡ w.group
   pub more : is_complete request ≡ false
 
--- where there is a request, it is in another group or has no step left
+-- if there is a request, it is in another group or has no step left
 abbrev pub IsNotLeft : ℕ → Option BatchRequest → Type 0
 IsNotLeft group there = IfSome there (λ r. r.group ≡ group → is_complete r ≡ true)
 

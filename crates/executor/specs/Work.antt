@@ -24,7 +24,7 @@ pub record Progress : Type 0 where
   pub running : List BatchRequest
   pub group : ℕ
 
--- a request that has not yet made a step, where the mixer gave these numbers
+-- a request that has not yet made a step, if the mixer gave these numbers
 abbrev pub begun_in : Bool → List ℕ → Runner → BatchRequest
 begun_in ordered numbers r = record { place = r.0; group = group_in ordered numbers r.0; steps = steps r.1.command; answers = [] }
 
@@ -126,7 +126,7 @@ pub data Worked (base : StateView) (batch : Batch) (ordered : Bool) : Progress �
 abbrev pub replied : Runner → BatchRequest → Answered
 replied runner r = record { place = runner.0; client = runner.1.client; number = runner.1.number; reply = reply runner.1.command r.answers }
 
--- where it is the request at the place, if there is one
+-- the same of the request at the place, if there is one
 abbrev pub replied_to : BatchRequest → Option Request → List Answered
 replied_to r None = []
 replied_to r (Some request) = replied (r.place, request) r ∷ []
@@ -160,7 +160,7 @@ pub record TentativeView : Type 0 where
   pub after : StateView
   pub replies : List Answered
 
--- what the work makes where nothing is left to do
+-- what the work makes if nothing is left to do
 abbrev pub tentative_of : WorkView → TentativeView
 tentative_of w = record { before = w.base; batch = w.batch; after = state_made w.base w.batch w.progress; replies = replies_of w.base w.batch w.progress.running }
 

@@ -55,7 +55,7 @@ impl Base {
     }
 
     /// Takes the first 64 requests that are the next of their clients out of those that wait, as the
-    /// batch after this state: see `Gather::cut`. `Full` comes exactly where the number of that batch
+    /// batch after this state: see `Gather::cut`. `Full` comes exactly if the number of that batch
     /// is above the greatest.
     pub fn cut(
         &self,

@@ -89,7 +89,7 @@ impl BatchRequest {
         self.place == place && self.group == group && !self.is_complete()
     }
 
-    /// Makes the next step on the pages, and notes its answer. Where an allocation fails nothing changes.
+    /// Makes the next step on the pages, and notes its answer. If an allocation fails nothing changes.
     pub fn step(&mut self, alloc: Global, pages: &mut Pages, at: Stamp) -> Result<(), AllocError>
         requires { is_complete self.old ≡ false }
         ensures ok { OnOk result (StepDone self.old pages.old at self.new pages.new) }

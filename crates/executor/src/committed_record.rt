@@ -24,7 +24,7 @@ impl Committed {
         self.base.state.put(sink)
     }
 
-    /// Appends the record of the state, without the replies. Where an allocation fails nothing is
+    /// Appends the record of the state, without the replies. If an allocation fails nothing is
     /// appended.
     pub fn write(&self, out: &mut Vec<u8>) -> Result<(), AllocError>
         ensures ok { OnOk result (out.new.items ≡ out.old.items ++ state_text self.now.state) }

@@ -47,7 +47,7 @@ impl Tentative {
     }
 
     /// Appends its record as a member of a chain: its batch, and the state that it led to over the
-    /// base. Where an allocation fails nothing is appended.
+    /// base. If an allocation fails nothing is appended.
     pub fn write(&self, out: &mut Vec<u8>) -> Result<(), AllocError>
         ensures ok { OnOk result (out.new.items ≡ out.old.items ++ member_text self.now) }
         ensures err { OnErr result (out.new.items ≡ out.old.items) }
@@ -62,7 +62,7 @@ impl Tentative {
     }
 
     /// The tentative state over the base whose record in this version is a prefix of the bytes, and the
-    /// bytes after it. Its pages are shared with the base where they are the same.
+    /// bytes after it. Its pages are shared with the base if they are the same.
     ///
     /// `BadRecord`: no tentative state over this base has such a record. So its batch is of the number
     /// after the base's, it is over the base's token, its batch digest, moment and token are the

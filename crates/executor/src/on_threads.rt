@@ -16,11 +16,11 @@ use workers::Workers;
 /// the workers in turn, and run at once. What it makes can be committed or undone.
 ///
 /// A group of one request starts no thread, and no group starts more than it has requests. When the
-/// last group is done the workers make the digests of the pages that were written, where these are
-/// worth a thread, and beside them that of the sessions, where these are of 1,024 clients or more.
+/// last group is done the workers make the digests of the pages that were written, if these are
+/// worth a thread, and beside them that of the sessions, if these are of 1,024 clients or more.
 /// The gate is told of each step, if there is more than one worker on steps.
 ///
-/// The batch has the number after the base's. It errs only where an allocation fails.
+/// The batch has the number after the base's. It errs only if an allocation fails.
 pub fn execute<R: Threads + Wait + Sync, G: Gate + Sync>(
     rt: &R,
     alloc: Global,

@@ -17,7 +17,7 @@ use token::{Digested, Form, HashedSessions};
 use workers::{Workers, digest_all, run};
 
 /// Runs the group on the pages, by at most `workers` threads at once. Place 0 is at `base`.
-/// It errs only where an allocation fails.
+/// It errs only if an allocation fails.
 pub fn run_group<R: Threads + Wait + Sync, G: Gate + Sync>(
     rt: &R,
     alloc: Global,
@@ -58,7 +58,7 @@ fn digest_parts<R: Threads + Sync>(
     (Pages::join(parts), digested)
 }
 
-/// The same pages, and the digest of the sessions in a state of this form. Where pages may have been written, threads make
+/// The same pages, and the digest of the sessions in a state of this form. If pages may have been written, threads make
 /// the digests; else there is one to make.
 pub fn digest<R: Threads + Sync>(
     rt: &R,

@@ -3,7 +3,7 @@
 
 ghost use Rattle.executor.specs.MemberRecord.{OneMember, WholeMember, BaseIsTold};
 
-/// Tentative states over one state have the same record only where their batches and the states
+/// Tentative states over one state have the same record only if their batches and the states
 /// that these led to are the same; and no record of one begins another's.
 pub fn members_are_told_apart()
     ensures one { OneMember }

@@ -159,10 +159,10 @@ impl Work {
     }
 
     /// Begins a batch over its base: items that are due are dropped, and requests that do not run
-    /// and groups without requests are taken out. Where no request runs the batch is done at once.
+    /// and groups without requests are taken out. If no request runs the batch is done at once.
     /// An ordered batch runs each request by itself, in batch order.
     ///
-    /// The batch has the number after the base's. It errs only where an allocation fails.
+    /// The batch has the number after the base's. It errs only if an allocation fails.
     pub fn begin(
         alloc: Global,
         base: &Base,
@@ -231,8 +231,8 @@ impl Work {
         next_place(&self.running, self.group)
     }
 
-    /// Goes on to the next group where no step of this one is left, and ends after the last one.
-    /// Where a step is left the work stays as it was. It errs only where an allocation fails.
+    /// Goes on to the next group if no step of this one is left, and ends after the last one.
+    /// If a step is left the work stays as it was. It errs only if an allocation fails.
     pub fn finish(self, alloc: Global) -> Result<Ended, AllocError>
         ensures goes { IfOk result (λ ended. Goes self ended) }
         ensures round { IfOk result (λ ended. DoneIsRound self.base self.batch self.ordered ended) }
@@ -341,7 +341,7 @@ impl Work {
     }
 
     /// Makes the next step of the request at the place, if it is in the group that runs and has one
-    /// left; else nothing changes, and the answer is false. Where an allocation fails nothing changes.
+    /// left; else nothing changes, and the answer is false. If an allocation fails nothing changes.
     pub fn step(&mut self, alloc: Global, place: u32) -> Result<bool, AllocError>
         ensures made { IfOk result (λ done. done ≡ true
             → WorkStep (first_place self.old.base self.old.batch) self.old.progress place self.new.progress) }
@@ -359,7 +359,7 @@ impl Work {
         Ok(true)
     }
 
-    /// Makes the next step of the request at the index. Where an allocation fails nothing changes.
+    /// Makes the next step of the request at the index. If an allocation fails nothing changes.
     fn step_at(&mut self, alloc: Global, i: usize) -> Result<(), AllocError>
         requires ready { IsReadyAt self.old.progress i }
         ensures made { OnOk result (WorkStepAt (first_place self.old.base self.old.batch) self.old.progress i self.new.progress) }
@@ -510,7 +510,7 @@ impl Work {
 
     /// Makes all steps that are left on at most so many threads at once, group by group, and ends: see
     /// `execute`. No step of the group that runs was made before (`is_untouched`). The gate is told of
-    /// each step that one of several workers makes. It errs only where an allocation fails.
+    /// each step that one of several workers makes. It errs only if an allocation fails.
     pub fn run_on_threads<R: Threads + Wait + Sync, G: Gate + Sync>(
         self,
         rt: &R,

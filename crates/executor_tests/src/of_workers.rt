@@ -58,7 +58,7 @@ fn replay_one(
     Ok(())
 }
 
-/// Adds the answers to each request, the request at place `p` being the one at position `p`, where the
+/// Adds the answers to each request, the request at place `p` being the one at position `p`, if the
 /// steps are made one after the other in the order of these places.
 pub fn replay(
     alloc: Global,

@@ -18,7 +18,7 @@ use crate::refusal::Refusals;
 use proto::Reply;
 
 /// The version of the daemon. `CHANGELOG.md` says what its numbers mean.
-pub const VERSION: &str = "2.0.0";
+pub const VERSION: &str = "2.1.0";
 
 /// Connections of clients.
 #[derive(Clone, Copy, Debug, PartialEq, Eq, Default)]
@@ -105,7 +105,7 @@ pub struct Memory {
 }
 
 /// What is saved before it is answered. All are 0 if nothing is (`--data`).
-#[derive(Clone, Copy, Debug, PartialEq, Eq, Default)]
+#[derive(Clone, Copy, Debug, PartialEq, Eq)]
 pub struct Saves {
     /// Saves that succeeded.
     pub made: u64,
@@ -115,8 +115,14 @@ pub struct Saves {
     pub waiting: u64,
     /// 1 if the last save failed, so that nothing is answered; else 0.
     pub failing: u64,
-    /// Bytes of the files in the folder.
+    /// Bytes of the files in all folders.
     pub bytes: u64,
+    /// Folders in which it is saved, each with a copy.
+    pub folders: u64,
+    /// Of these, those whose copy is of the last save.
+    pub current_folders: u64,
+    /// What each save took, also one that failed.
+    pub times: Histogram,
 }
 
 /// The process.
@@ -246,6 +252,9 @@ impl Saves {
         waiting: 0,
         failing: 0,
         bytes: 0,
+        folders: 0,
+        current_folders: 0,
+        times: Histogram::NONE,
     };
 }
 

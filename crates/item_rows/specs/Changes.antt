@@ -4,7 +4,7 @@ use Rattle.std.specs.Prelude.{◌≡◌, ℕ, ◌==◌, if◌then◌else◌, Lis
 abbrev pub Rows : Type 0 → Type 0
 Rows X = ℕ → Option X
 
--- what stands at a place since, if something does
+-- what is at a place since, if something does
 abbrev pub ItemChange : Type 0 → Type 0
 ItemChange X = ℕ × Option X
 

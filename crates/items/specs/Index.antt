@@ -15,12 +15,12 @@ by_due = then_cmp (on (λ x. x.0) nat_cmp) (on (λ x. x.1) by_bytes)
 abbrev pub is_due_at : ℕ → Item → Bool
 is_due_at time item = option_map_or (λ due. due == time) item.due false
 
--- the item, where it is due at just this time
+-- the item, if it is due at just this time
 abbrev pub if_due : ℕ → Option Item → Option Item
 if_due time None = None
 if_due time (Some item) = if is_due_at time item then Some item else None
 
--- The index of these entries: at a time and a key it has the item that stands there and is due then, and nothing else.
+-- The index of these entries: at a time and a key it has the item that is there and is due then, and nothing else.
 pub record IsIndex (index : List ((ℕ × List ℕ) × Item)) (entries : List (List ℕ × Item)) : Type 0 where
   pub rises : IsTrue (is_sorted by_due index)
   pub exact : (time : ℕ) (key : List ℕ) → find by_due (time, key) index ≡ if_due time (find by_bytes key entries)
@@ -38,7 +38,7 @@ IsDueUpTo moment index n = (k : ℕ) (due : (ℕ × List ℕ) × Item) → k < n
 abbrev pub IsLaterFrom : ℕ → List ((ℕ × List ℕ) × Item) → ℕ → Type 0
 IsLaterFrom moment index n = (due : (ℕ × List ℕ) × Item) → n < length index → nat_lt moment (slice_index_or index n due).0.0 ≡ true
 
--- an index without what stands at the time and the key, if there is a time
+-- an index without what is at the time and the key, if there is a time
 abbrev pub without_due : Option ℕ → List ℕ → List ((ℕ × List ℕ) × Item) → List ((ℕ × List ℕ) × Item)
 without_due None key index = index
 without_due (Some time) key index = where_key by_due (λ x. not (eq_by_cmp by_due (time, key) x)) index
@@ -48,7 +48,7 @@ abbrev pub with_due : Option ℕ → List ℕ → Item → List ((ℕ × List �
 with_due None key item index = index
 with_due (Some time) key item index = put by_due (time, key) item index
 
--- when what stands at a key is due
+-- when what is at a key is due
 abbrev pub due_in : Option Item → Option ℕ
 due_in None = None
 due_in (Some item) = item.due

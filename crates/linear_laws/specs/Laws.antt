@@ -34,12 +34,12 @@ last_of s (e ∷ run) = last_of e.new run
 abbrev pub RunIsOneList : Type 0
 RunIsOneList = (run : List Executed) → IsRunFrom initial_state run → (lines : List Line) × Leads new_server lines (seen (last_of initial_state run))
 
--- where a run goes on, what its first rounds were made of goes on
+-- if a run goes on, what its first rounds were made of goes on
 abbrev pub ListGoesOn : Type 0
 ListGoesOn = (run more : List Executed) (lines : List Line) → IsRunFrom initial_state (run ++ more) → Leads new_server lines (seen (last_of initial_state run))
     → (later : List Line) × Leads new_server (lines ++ later) (seen (last_of initial_state (run ++ more)))
 
--- A request that events did not ask yet is in no round of the run of their world: where a later run has it, it is behind all of these rounds.
+-- A request that events did not ask yet is in no round of the run of their world: if a later run has it, it is behind all of these rounds.
 abbrev pub AskedLaterIsLater : Type 0
 AskedLaterIsLater = (worlds : List WorldView) (events : List Event) (w : WorldView) (run later : List Executed) (place : ℕ) (e : Executed) (q : Request)
     → IsRun (IsMet worlds) events w run → Extends run later → slice_get later place ≡ Some e → Contains e.batch.requests q → (IsAskedRequest events q → ⊥) → length run ≤ place
@@ -55,7 +55,7 @@ history_of worlds = map given_in worlds
 abbrev pub PlaysAreLinearizable : Type 0
 PlaysAreLinearizable = (events : List Event) (worlds : List WorldView) → IsOneServer events worlds → IsLinearizable events (history_of worlds)
 
--- where digests tell the states that were met apart, the worlds that events lead through are linearizable
+-- if digests tell the states that were met apart, the worlds that events lead through are linearizable
 abbrev pub ReachedAreLinearizable : Type 0
 ReachedAreLinearizable = (c : ConfigView) (events : List Event) (worlds : List WorldView) → ReachedWorlds c events worlds → DigestsAreDistinct worlds → IsLinearizable events (history_of worlds)
 

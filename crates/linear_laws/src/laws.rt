@@ -4,7 +4,7 @@ ghost use Rattle.linear_laws.specs.Laws.{RoundIsOneList, RunIsOneList, ListGoesO
 
 use server_laws::worlds_are_of_one_server;
 
-/// A round is one list of item steps, and so is a run, whose list goes on where the run does.
+/// A round is one list of item steps, and so is a run, whose list goes on if the run does.
 pub fn rounds_are_one_list()
     ensures round { RoundIsOneList }
     ensures run { RunIsOneList }

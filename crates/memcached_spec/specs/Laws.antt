@@ -20,7 +20,7 @@ abbrev pub StaleReadIsNone : Type 0
 StaleReadIsNone = (set get : Vec ℕ Global) → set.items ≡ codes "set x 0 0 1\r\n1\r\n" → get.items ≡ codes "get x\r\n"
     → IsLinearizable (Feed 1 set ∷ Feed 2 get ∷ []) (([] ∷ [] ∷ []) ∷ (codes "STORED\r\n" ∷ [] ∷ []) ∷ (codes "STORED\r\n" ∷ codes "END\r\n" ∷ []) ∷ []) → ⊥
 
--- where it is shown the value, it is linearizable
+-- if it is shown the value, it is linearizable
 abbrev pub FreshReadIsInOrder : Type 0
 FreshReadIsInOrder = (set get : Vec ℕ Global) → set.items ≡ codes "set x 0 0 1\r\n1\r\n" → get.items ≡ codes "get x\r\n"
     → IsLinearizable (Feed 1 set ∷ Feed 2 get ∷ []) (([] ∷ [] ∷ []) ∷ (codes "STORED\r\n" ∷ [] ∷ []) ∷ (codes "STORED\r\n" ∷ codes "VALUE x 0 1\r\n1\r\nEND\r\n" ∷ []) ∷ [])

@@ -55,7 +55,7 @@ abbrev pub IsLinearizable : List Event → List AllGiven → Type 0
 IsLinearizable events [] = ⊥
 IsLinearizable events (first ∷ later) = (lines : List Line) × IsOrder [] first lines × OrdersGrow [] lines events later
 
--- In one order of the whole play each moment of it is a cut: what stands before the cut was asked by then, and answers all that was given by then.
+-- In one order of the whole play each moment of it is a cut: what is before the cut was asked by then, and answers all that was given by then.
 abbrev pub HasOneOrder : List Event → List AllGiven → List Line → Type 0
 HasOneOrder events history lines = (early late : List Event) (g : AllGiven) → events ≡ early ++ late → slice_get history (length early) ≡ Some g
     → (before : List Line) × (after : List Line) × (lines ≡ before ++ after) × IsOrder early g before

@@ -120,6 +120,7 @@ samples_text f metric.BatchWaitSeconds = histogram_text metric.BatchWaitSeconds 
 samples_text f metric.BatchExecuteSeconds = histogram_text metric.BatchExecuteSeconds f.batch_parts.execute
 samples_text f metric.BatchAgreeSeconds = histogram_text metric.BatchAgreeSeconds f.batch_parts.agree
 samples_text f metric.BatchCommitSeconds = histogram_text metric.BatchCommitSeconds f.batch_parts.commit
+samples_text f metric.SaveSeconds = histogram_text metric.SaveSeconds f.saves.times
 
 abbrev pub family_text : Figures → Metric → List ℕ
 family_text f m = metric_head m ++ samples_text f m

@@ -18,6 +18,7 @@ metric_name metric.BatchWaitSeconds = codes "eve_batch_wait_seconds"
 metric_name metric.BatchExecuteSeconds = codes "eve_batch_execute_seconds"
 metric_name metric.BatchAgreeSeconds = codes "eve_batch_agree_seconds"
 metric_name metric.BatchCommitSeconds = codes "eve_batch_commit_seconds"
+metric_name metric.SaveSeconds = codes "eve_save_seconds"
 
 abbrev pub metric_help : Metric → List ℕ
 metric_help (metric.Plain p) = plain_help p
@@ -31,6 +32,7 @@ metric_help metric.BatchWaitSeconds = codes "Time that a command waited for a pr
 metric_help metric.BatchExecuteSeconds = codes "Time in a round while executors ran batches."
 metric_help metric.BatchAgreeSeconds = codes "Time in a round from there to the first decree."
 metric_help metric.BatchCommitSeconds = codes "Time in a round from there until all letters had come."
+metric_help metric.SaveSeconds = codes "Time of a save to disk, also of one that failed."
 
 abbrev pub metric_type_of : Metric → MetricType
 metric_type_of (metric.Plain p) = plain_type p
@@ -44,3 +46,4 @@ metric_type_of metric.BatchWaitSeconds = Histogram
 metric_type_of metric.BatchExecuteSeconds = Histogram
 metric_type_of metric.BatchAgreeSeconds = Histogram
 metric_type_of metric.BatchCommitSeconds = Histogram
+metric_type_of metric.SaveSeconds = Histogram

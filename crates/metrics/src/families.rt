@@ -290,6 +290,7 @@ fn write_samples(metric: Metric, figures: &Figures, out: &mut Vec<u8>) -> Result
         Metric::BatchExecuteSeconds => write_histogram(metric, &figures.batch_parts.execute, out),
         Metric::BatchAgreeSeconds => write_histogram(metric, &figures.batch_parts.agree, out),
         Metric::BatchCommitSeconds => write_histogram(metric, &figures.batch_parts.commit, out),
+        Metric::SaveSeconds => write_histogram(metric, &figures.saves.times, out),
     }
 }
 

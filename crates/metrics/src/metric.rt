@@ -7,7 +7,7 @@ use crate::metric_type::MetricType;
 use crate::plain::Plain;
 
 /// How many metrics there are.
-pub const METRICS: usize = 40;
+pub const METRICS: usize = 43;
 
 /// A metric: one value, or one for each of its labels.
 #[derive(Clone, Copy, Debug, PartialEq, Eq)]
@@ -23,6 +23,7 @@ pub enum Metric {
     BatchExecuteSeconds,
     BatchAgreeSeconds,
     BatchCommitSeconds,
+    SaveSeconds,
 }
 
 /// All metrics, in the order in which they are shown.
@@ -56,6 +57,8 @@ pub const ALL_METRICS: [Metric; METRICS] = [
     Metric::Plain(Plain::SaveWaiting),
     Metric::Plain(Plain::SaveFailing),
     Metric::Plain(Plain::DataBytes),
+    Metric::Plain(Plain::Folders),
+    Metric::Plain(Plain::CurrentFolders),
     Metric::Plain(Plain::Items),
     Metric::Plain(Plain::ItemBytes),
     Metric::Plain(Plain::ItemBytesLimit),
@@ -67,6 +70,7 @@ pub const ALL_METRICS: [Metric; METRICS] = [
     Metric::BatchExecuteSeconds,
     Metric::BatchAgreeSeconds,
     Metric::BatchCommitSeconds,
+    Metric::SaveSeconds,
 ];
 
 impl Metric {
@@ -86,6 +90,7 @@ impl Metric {
             Metric::BatchExecuteSeconds => "eve_batch_execute_seconds",
             Metric::BatchAgreeSeconds => "eve_batch_agree_seconds",
             Metric::BatchCommitSeconds => "eve_batch_commit_seconds",
+            Metric::SaveSeconds => "eve_save_seconds",
         }
     }
 
@@ -107,6 +112,7 @@ impl Metric {
             Metric::BatchExecuteSeconds => "Time in a round while executors ran batches.",
             Metric::BatchAgreeSeconds => "Time in a round from there to the first decree.",
             Metric::BatchCommitSeconds => "Time in a round from there until all letters had come.",
+            Metric::SaveSeconds => "Time of a save to disk, also of one that failed.",
         }
     }
 
@@ -126,6 +132,7 @@ impl Metric {
             Metric::BatchExecuteSeconds => MetricType::Histogram,
             Metric::BatchAgreeSeconds => MetricType::Histogram,
             Metric::BatchCommitSeconds => MetricType::Histogram,
+            Metric::SaveSeconds => MetricType::Histogram,
         }
     }
 }

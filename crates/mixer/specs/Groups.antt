@@ -30,7 +30,7 @@ shares_key keys others = list_any (λ k. list_any (λ other. bytes_eq other k) o
 abbrev pub conflicts : Command → Command → Bool
 conflicts a b = not (is_read a && is_read b) && shares_key (keys_seen a) (keys_seen b)
 
--- 0 where none of the earlier commands conflicts, and else 1 more than the greatest group of those
+-- 0 if none of the earlier commands conflicts, and else 1 more than the greatest group of those
 abbrev pub number_after : List (Command × ℕ) → Command → ℕ
 number_after earlier c = fold (λ most e. if conflicts e.0 c then max most (e.1 + 1) else most) 0 earlier
 

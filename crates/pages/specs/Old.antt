@@ -11,7 +11,7 @@ use Rattle.pages.specs.Page.{number_among, entries_among, page_number, page_coun
 abbrev pub old_entries : Items → ℕ → List (List ℕ × Item)
 old_entries m p = entries_among OLD_PAGES m p
 
--- which of the four pages of its old page a key stands in, from 0
+-- which of the four pages of its old page a key is in, from 0
 abbrev pub part_of_old : List ℕ → ℕ
 part_of_old key = number_among page_count key / OLD_PAGES
 

@@ -85,7 +85,7 @@ laid_code items layout = code_by (Items × Layout) (coded× items layout) (λ a.
 abbrev pub page_digest_in : Layout → Items → ℕ → List ℕ
 page_digest_in layout m p = digest_in layout (page_items m p)
 
--- Each page has a text, and where a digest is kept it is that of the items now, and a text beside it is theirs.
+-- Each page has a text, and if a digest is kept it is that of the items now, and a text beside it is theirs.
 pub record IsPage (items : Items) (digested : Option DigestedView) : Type 0 where
   pub fits : PageFits (entries items)
   pub from_scratch : IfSome digested (IsDigested (page_text (entries items)))

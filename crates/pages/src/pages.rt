@@ -125,7 +125,7 @@ impl Pages {
         }
     }
 
-    /// The pages, in the order of their numbers. The only error is a failed allocation, where they were shared.
+    /// The pages, in the order of their numbers. The only error is a failed allocation, if they were shared.
     pub fn part(self) -> Result<Vec<Page>, AllocError>
         ensures { IfOk result (λ pages. items_of pages.items ≡ parts self) }
     {

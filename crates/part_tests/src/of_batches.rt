@@ -35,7 +35,7 @@ fn ask_all(alloc: Global, gather: &mut Gather, clients: &[u16]) -> Result<(), Al
     Ok(())
 }
 
-/// The next batch. Where a growth is refused it is cut once more: nothing has changed by then.
+/// The next batch. If a growth is refused it is cut once more: nothing has changed by then.
 fn cut_again(
     alloc: Global,
     gather: &mut Gather,
@@ -106,7 +106,7 @@ fn done(
     Ok(steps.len())
 }
 
-/// The same of new sessions, where nothing waits.
+/// The same of new sessions, if nothing waits.
 fn done_anew(alloc: Global, steps: &[Step]) -> Result<usize, Fault> {
     let mut sessions = Sessions::new(alloc)?;
     done(alloc, &mut Gather::new(alloc), &mut sessions, steps)

@@ -29,7 +29,7 @@ fn add_votes(votes: &mut Votes, tokens: &[u8]) -> Result<(), AllocError> {
     Ok(())
 }
 
-/// The verdict where the executors from 0 on have these tokens for the first number, and at most `u`,
+/// The verdict if the executors from 0 on have these tokens for the first number, and at most `u`,
 /// up to 3, may fail.
 fn verdict(alloc: Global, u: u8, tokens: &[u8]) -> Result<Verdict, AllocError> {
     let mut votes = Votes::new(alloc);
@@ -53,7 +53,7 @@ const VERDICTS: [(u8, &[u8], Verdict); 9] = [
 ];
 
 /// The verdicts after votes of another epoch, of another number, and of one that is no executor of a set of
-/// one; and then, where the old ones are dropped, after one that counts.
+/// one; and then, if the old ones are dropped, after one that counts.
 fn of_others(votes: &mut Votes) -> Result<[Verdict; 2], AllocError> {
     add(votes, 2, 1, 0, 7)?;
     add(votes, 1, 2, 0, 7)?;

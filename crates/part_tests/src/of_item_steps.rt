@@ -7,7 +7,7 @@ use proto::{Command, Reader, Turn, write_reply};
 use std::alloc::{AllocError, Global};
 use std::test::Fail;
 
-/// What the step gives. Where a growth is refused it is made once more: nothing has changed by then.
+/// What the step gives. If a growth is refused it is made once more: nothing has changed by then.
 fn apply_again<S: Store>(
     alloc: Global,
     store: &mut S,
@@ -50,7 +50,7 @@ fn run<S: Store>(
     write_reply(&reply_of(alloc, command, answers.as_slice())?, out)
 }
 
-/// Drops what is due; once more where a growth is refused.
+/// Drops what is due; once more if a growth is refused.
 fn drop_due_again<S: Store>(store: &mut S, moment: u32) -> Result<(), AllocError> {
     match store.drop_due(moment) {
         Ok(()) => Ok(()),
@@ -122,7 +122,7 @@ fn give_on_both(alloc: Global, lines: &[Asked], expected: &[u8]) -> Result<bool,
     )
 }
 
-/// Each command, once where it does something and once where it does not. The unique of what line `n`
+/// Each command, once so that it does something and once so that it does not. The unique of what line `n`
 /// stores is `64 * n`.
 const EACH: &[Asked<'static>] = &[
     (1000, b"set a 1 0 1\r\n5\r\n"),

@@ -93,7 +93,7 @@ fn looks(alloc: Global, pages: &mut Pages) -> Result<[u64; 4], AllocError> {
     Ok([first, second, third, pages.drop_due_counted(2011)?])
 }
 
-/// Whether drops look at each page. Each item is on a page of its own, of which a drop counts all items where
+/// Whether drops look at each page. Each item is on a page of its own, of which a drop counts all items if
 /// something is due. Of each other page it counts one look.
 fn looks_at_each_page(alloc: Global, mut pages: Pages) -> Result<bool, AllocError> {
     let looks = looks(alloc, &mut pages)?;
@@ -171,7 +171,7 @@ fn counted(store: &PlainStore) -> Result<(usize, usize, u64), AllocError> {
     Ok((store.as_slice().len(), rest.as_slice().len(), looks))
 }
 
-/// The same, asked again where the first asking is refused.
+/// The same, asked again if the first asking is refused.
 fn counted_again(store: &PlainStore) -> Result<(usize, usize, u64), AllocError> {
     match counted(store) {
         Ok(counts) => Ok(counts),
@@ -179,7 +179,7 @@ fn counted_again(store: &PlainStore) -> Result<(usize, usize, u64), AllocError> 
     }
 }
 
-/// Sets, and again where that was refused. False where a refusal changed something.
+/// Sets, and again if that was refused. False if a refusal changed something.
 fn sets(alloc: Global, store: &mut PlainStore, byte: u8, exptime: i32) -> Result<bool, AllocError> {
     let before = counted_again(store)?;
     if set(alloc, store, byte, exptime).is_ok() {

@@ -75,7 +75,7 @@ fn is_row(kept: &Snapshot, count: usize) -> bool {
         && kept.root() == *root
 }
 
-/// The same pages in this layout, where so many items of page 97 are more, from this place on.
+/// The same pages in this layout, if so many items of page 97 are more, from this place on.
 fn with_rows(
     alloc: Global,
     kept: &Snapshot,
@@ -95,7 +95,7 @@ fn put_at_once(alloc: Global, count: usize) -> Result<Snapshot, AllocError> {
     pages.seal(Layout::Tree)
 }
 
-/// Whether the rows hold where so many items are put at once, and where pages that are sealed before each
+/// Whether the rows hold if so many items are put at once, and if pages that are sealed before each
 /// item grow by it.
 fn holds(alloc: Global, grown: &mut Snapshot, count: usize) -> Result<bool, AllocError> {
     let at_once = put_at_once(alloc, count)?;
@@ -191,7 +191,7 @@ fn go_there_and_back(alloc: Global, sorted: &Snapshot) -> Result<bool, AllocErro
     )
 }
 
-/// Whether page 97 alone differs where it has one item more, in this layout.
+/// Whether page 97 alone differs if it has one item more, in this layout.
 fn tells_one_item(alloc: Global, kept: &Snapshot, layout: Layout) -> Result<bool, AllocError> {
     let more = with_rows(alloc, kept, layout, 0, 1)?;
     Ok(

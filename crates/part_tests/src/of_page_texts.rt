@@ -87,7 +87,7 @@ fn is_told_apart(alloc: Global, bytes: &mut [u8], at: usize) -> Result<bool, Fau
     Ok(true)
 }
 
-/// Whether the text is none where it is cut at each of its bytes, and is told apart where each is changed.
+/// Whether the text is none if it is cut at each of its bytes, and is told apart if each is changed.
 fn are_told_apart(alloc: Global, bytes: &mut [u8]) -> Result<bool, Fault> {
     for at in 0..bytes.len() {
         let front = taken(alloc, bytes.get(..at).unwrap_or(&[]))?;

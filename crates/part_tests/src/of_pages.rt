@@ -183,7 +183,7 @@ fn with_five(alloc: Global, kept: &Snapshot, due: Option<u64>) -> Result<Snapsho
     pages.seal(Layout::Sorted)
 }
 
-/// The text of a page. Where it is kept its pieces are shared, so that the tail stays empty.
+/// The text of a page. If it is kept its pieces are shared, so that the tail stays empty.
 fn text_of(alloc: Global, kept: &Snapshot, number: usize) -> Result<Text, AllocError>
     requires { number < page_count }
 {

@@ -11,7 +11,7 @@ use std::alloc::Global;
 use std::marker::Model;
 use wire::{Record, Sink, share_text, take_bytes};
 
-/// A text of any length. Where it is written into another text its pieces are shared.
+/// A text of any length. If it is written into another text its pieces are shared.
 pub struct LongText {
     text: Text,
 }

@@ -19,7 +19,7 @@ use Rattle.proto.specs.declared.stage.Stage.{Stage}
 abbrev pub HasNoNewline : List ℕ → Type 0
 HasNoNewline bytes = list_any is_newline bytes ≡ false
 
--- a correct storage line stands, and part of its block
+-- a correct storage line is there, and part of its block
 pub record InBlock (h : Header) (line block : List ℕ) (dropped : ℕ) : Type 0 where
   pub text : List ℕ
   pub line_is : line ≡ text ++ 10 ∷ []
@@ -38,7 +38,7 @@ pub record InLine (line block : List ℕ) (dropped : ℕ) : Type 0 where
   pub no_block : block ≡ []
   pub none_dropped : dropped ≡ 0
 
--- part of a line stands, or a storage line whose block has this size
+-- part of a line is there, or a storage line whose block has this size
 abbrev pub IsStageOf : Option ℕ → List ℕ → List ℕ → ℕ → Type 0
 IsStageOf None line block dropped = InLine line block dropped
 IsStageOf (Some size) line block dropped = (h : Header) × (h.size ≡ size) × InBlock h line block dropped
@@ -51,7 +51,7 @@ abbrev pub OpensBlock : Line → Type 0
 OpensBlock (Whole turn) = ⊥
 OpensBlock (Opens h) = Unit {0}
 
--- the turn of a storage line, where its block and the two bytes after it begin these bytes, and none where they are not all there
+-- the turn of a storage line, if its block and the two bytes after it begin these bytes, and none if they are not all there
 abbrev pub IsTurnWithin : Header → List ℕ → Option Turn → Type 0
 IsTurnWithin h after None = length after < h.size + 2
 IsTurnWithin h after (Some turn) = (h.size + 2 ≤ length after) × (turn ≡ block_turn h (take h.size after) (slice_range after h.size (h.size + 2)))
@@ -69,12 +69,12 @@ abbrev pub GoesOn : Option ℕ → List ℕ → List ℕ → ℕ → List ℕ �
 GoesOn None line block dropped piece = HasNoNewline (line ++ piece) × (length (line ++ piece) < MOST_LINE_BYTES)
 GoesOn (Some size) line block dropped piece = dropped + length block + length piece < size + 2
 
--- the block and its end are there with the piece, if a block stands
+-- the block and its end are there with the piece, if a block is there
 abbrev pub BlockEnds : Option ℕ → List ℕ → ℕ → List ℕ → Type 0
 BlockEnds None block dropped piece = Unit {0}
 BlockEnds (Some size) block dropped piece = size + 2 ≤ dropped + length block + length piece
 
--- A step took n bytes of the piece, and gave this turn, or none so far. Where it gave none and more is there, it dropped nothing.
+-- A step took n bytes of the piece, and gave this turn, or none so far. If it gave none and more is there, it dropped nothing.
 abbrev pub StepGives : List ℕ → List ℕ → Option Turn → ℕ → Stage → Type 0
 StepGives bytes piece None n new = (0 < n) × (n ≤ length piece) × (next_turn (bytes ++ take n piece) ≡ None) × (staged new ≡ kept_of (bytes ++ take n piece))
     × (n < length piece → staged new ≡ bytes ++ take n piece)

@@ -87,7 +87,7 @@ impl Block {
 impl Clone for Block {
     ghost is_clone = { λ block copy. copy ≡ block };
 
-    /// The same bytes, shared. It takes no memory, and fails only where a block has too many clones to
+    /// The same bytes, shared. It takes no memory, and fails only if a block has too many clones to
     /// be counted.
     fn clone(&self) -> Result<Block, AllocError> {
         Ok(Block {

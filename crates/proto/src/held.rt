@@ -18,7 +18,7 @@ impl Model for Held {
 
     ghost view = { λ a. a.bytes.items };
 
-    // Nothing stands beside the bytes.
+    // Nothing is beside the bytes.
     ghost invariant = { λ a. a ≡ record { bytes = a.bytes } };
 }
 

@@ -83,7 +83,7 @@ impl Reader {
     /// The turns that the next piece of the stream ends, in order. After a Close there are none,
     /// whatever comes. The only error is a failed allocation, and it changes nothing.
     ///
-    /// A piece in which no turn ends is added in place, and what was kept is copied only where one
+    /// A piece in which no turn ends is added in place, and what was kept is copied only if one
     /// does, so the cost is linear in the bytes, however they are cut.
     pub fn feed(&mut self, alloc: Global, piece: &[u8]) -> Result<Vec<Turn>, AllocError>
         ensures turns { IfOk result (λ turns. self.old.closed ≡ false → ReadsTurns (self.old.kept ++ piece.now) turns.items self.new) }

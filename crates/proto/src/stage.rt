@@ -1,4 +1,4 @@
-//! What stands of the turn that comes next.
+//! What is there of the turn that comes next.
 
 ghost use Rattle.std.specs.Prelude.{◌≡◌, ◌≤◌, ◌<◌, ◌+◌, ◌-◌, ◌^◌, ◌++◌, ◌∷◌, [], length, take, drop, IfOk, OnOk, OnErr, None, Some, min, nat_lt, if◌then◌else◌};
 ghost use Rattle.std.specs.Bool.{OnTrue, OnFalse};
@@ -19,15 +19,15 @@ use memchr::memchr;
 use std::alloc::{AllocError, Global};
 use std::mem;
 
-/// A line, or a storage line and part of its block. Where all of a block stands in the piece in which
+/// A line, or a storage line and part of its block. If all of a block is in the piece in which
 /// its line ends, the turn is given at once; else what the line asks beside the size of its block is
 /// read once more when the block ends.
 #[derive(Drop)]
 pub struct Stage {
-    /// With its newline, where a block follows.
+    /// With its newline, if a block follows.
     pub line: Held,
     pub block: Held,
-    /// How many bytes the block has, where the line opens one.
+    /// How many bytes the block has, if the line opens one.
     pub size: Option<u32>,
     /// How many bytes of the block are only counted.
     pub dropped: usize,
@@ -269,7 +269,7 @@ impl Stage {
         }
     }
 
-    /// Takes the end of the line, and all of its block where that stands in the piece.
+    /// Takes the end of the line, and all of its block if that is in the piece.
     fn end_line(
         &mut self,
         alloc: Global,

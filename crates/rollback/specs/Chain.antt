@@ -80,7 +80,7 @@ undone c = record c { members = [] }
 abbrev pub is_standing : Standing → StateView → Bool
 is_standing st s = (s.number == st.n) && token_eq s.token st.token
 
--- the chain over the state that stands, where that is the committed one or a member's
+-- the chain over the state that stands, if that is the committed one or a member's
 abbrev pub chain_from : Standing → StateView → List TentativeView → Option ChainView
 chain_from st have [] = if is_standing st have then Some (record { have = have; members = [] }) else None
 chain_from st have (t ∷ ts) = if is_standing st have then Some (record { have = have; members = t ∷ ts }) else chain_from st t.after ts

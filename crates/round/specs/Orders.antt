@@ -40,7 +40,7 @@ AreOf (h ∷ hs) (s ∷ ss) = (h.name ≡ name_of_caller s.caller) × (h.log ≡
 abbrev pub IsAsBefore : TableId → Seat ℕ View → Seat ℕ View → Type 0
 IsAsBefore table t u = (u.table_id ≡ table) × (u.me.1 ≡ []) × (u.me.0.makes ≡ t.me.0.makes) × (u.me.0.next ≡ t.me.0.next)
 
--- What a round comes to: there is one order in which each step of the group stands once, those of a request in their order and those of a
+-- What a round comes to: there is one order in which each step of the group is once, those of a request in their order and those of a
 -- seat as it made them; in that order the steps lead from the opening items to these, and answered what each request is given.
 pub record RoundResult (base : Stamp) (opening : Items) (group : List Task) (seats : List Sitting) (now : Items) (answers : List (List Answer)) : Type 0 where
   pub order : List Entry

@@ -24,7 +24,7 @@ pub record IsMadeCommit (met : StateView → Type 0) (rounds : Executed → Type
   pub new_number : executed.new.number ≡ n
   pub new_token : executed.new.token ≡ token
 
--- what a decree needs, where this stands before it
+-- what a decree needs, if this stands before it
 abbrev pub IsMade : (StateView → Type 0) → (Executed → Type 0) → Standing → Decree → Type 0
 IsMade met rounds s (Commit n token) = IsMadeCommit met rounds s n token
 IsMade met rounds s Rollback = Unit {0}

@@ -17,7 +17,7 @@ NumberAndTokenTell = (met : List StateView) (s t : StateView) → ToldApart (Con
 abbrev pub TokenTells : Type 0
 TokenTells = (met : List StateView) (s t : StateView) → ToldApart (Contains met) → IsKnown (Contains met) s → IsKnown (Contains met) t → 0 < s.number → 0 < t.number → s.token ≡ t.token → s ≡ t
 
--- rounds that made one state were of one batch, where the texts of the batches are among such as have distinct digests
+-- rounds that made one state were of one batch, if the texts of the batches are among such as have distinct digests
 abbrev pub StateTellsBatch : Type 0
 StateTellsBatch = (texts : List (List ℕ)) (old before : StateView) (e other : Executed) → Distinct (Contains texts) → Contains texts (batch_text e.batch) → Contains texts (batch_text other.batch)
     → IsOver old e → IsOver before other → e.new ≡ other.new → e.batch ≡ other.batch
@@ -30,12 +30,12 @@ HasRun = (met : List StateView) (rounds : List Executed) (decrees : List Decree)
 abbrev pub OneRun : Type 0
 OneRun = (met : List StateView) (rounds : List Executed) (decrees : List Decree) (run other : List Executed) → ToldApart (Contains met) → IsRunOf (Contains met) (Contains rounds) decrees run → IsRunOf (Contains met) (Contains rounds) decrees other → states_of run ≡ states_of other
 
--- where more decrees are chosen, more states met and more rounds executed, a run of them extends the run before
+-- if more decrees are chosen, more states met and more rounds executed, a run of them extends the run before
 abbrev pub RunGrows : Type 0
 RunGrows = (met met_later : List StateView) (rounds rounds_later : List Executed) (decrees more : List Decree) (run : List Executed) → AreAmong met met_later → AreAmong rounds rounds_later → ToldApart (Contains met_later) → AllMade (Contains met_later) (Contains rounds_later) (decrees ++ more) → IsRunOf (Contains met) (Contains rounds) decrees run
     → (later : List Executed) × Extends run later × IsRunOf (Contains met_later) (Contains rounds_later) (decrees ++ more) later
 
--- a state that was met is, where it is committed, the run's of its number
+-- a state that was met is, if it is committed, the run's of its number
 abbrev pub CommittedIsOfRun : Type 0
 CommittedIsOfRun = (met : List StateView) (rounds : List Executed) (decrees : List Decree) (run : List Executed) (s : StateView) → ToldApart (Contains met) → IsRunOf (Contains met) (Contains rounds) decrees run → IsKnown (Contains met) s → IsCommitted decrees s → slice_get (states_of run) s.number ≡ Some s
 

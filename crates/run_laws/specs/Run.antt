@@ -26,7 +26,7 @@ IsRunFrom old (e ∷ es) = IsOver old e × IsRunFrom e.new es
 abbrev pub made_in : List Executed → List StateView
 made_in run = map (λ e. e.new) run
 
--- the state after so many rounds stands at that place, from 0 on
+-- the state after so many rounds is at that place, from 0 on
 abbrev pub states_of : List Executed → List StateView
 states_of run = initial_state ∷ made_in run
 

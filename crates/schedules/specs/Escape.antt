@@ -76,7 +76,7 @@ abbrev pub with_byte : Option ℕ → List ℕ → List ℕ
 with_byte None bs = bs
 with_byte (Some b) bs = b ∷ bs
 
--- the bytes for which the text stands, where this stands of an escape
+-- the bytes for which the text stands, if this stands of an escape
 abbrev pub unescaped_from : Escape → List ℕ → Option (List ℕ)
 unescaped_from Whole [] = Some []
 unescaped_from Backslash [] = None

@@ -29,7 +29,7 @@ greatest_replica = 255
 abbrev pub NamesClient : ℕ → List ℕ → Type 0
 NamesClient c digits = node_number greatest_client digits ≡ Some c
 
--- an executor, or a verifier, where it is known which of them it is
+-- an executor, or a verifier, if it is known which of them it is
 abbrev pub NumbersReplica : ℕ → List ℕ → Type 0
 NumbersReplica id digits = node_number greatest_replica digits ≡ Some id
 

@@ -11,12 +11,12 @@ BeginsWith word P text = (rest : List ℕ) × (text ≡ word ++ 32 ∷ rest) × 
 abbrev pub Joins : (List ℕ → Type 0) → (List ℕ → Type 0) → List ℕ → Type 0
 Joins P Q text = (front : List ℕ) × (back : List ℕ) × (text ≡ front ++ 32 ∷ back) × P front × Q back
 
--- what stands before the first such byte, and what after it; none where there is none
+-- what is before the first such byte, and what after it; none if there is none
 abbrev pub parted : ℕ → List ℕ → Option (List ℕ × List ℕ)
 parted separator [] = None
 parted separator (b ∷ bs) = if b == separator then Some ([], bs) else option_map (λ p. (b ∷ p.0, p.1)) (parted separator bs)
 
--- two values, of what stands before the first space, and of what stands after it
+-- two values, of what is before the first space, and of what is after it
 abbrev pub pair_said : {A B : Type 0} → (List ℕ → Option A) → (List ℕ → Option B) → List ℕ → Option (A × B)
 pair_said first second text = do
   p ← parted 32 text

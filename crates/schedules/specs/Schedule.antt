@@ -53,7 +53,7 @@ abbrev pub AllFit : ℕ → List (List ℕ) → Type 0
 AllFit place [] = Unit {0}
 AllFit place (line ∷ lines) = FitsPlace place line × AllFit (suc place) lines
 
--- The line of this number, counted from 1, is the first one that may not stand where it stands; or it is missing, as the file ends before `u` and `clients`.
+-- The line of this number, counted from 1, is the first one that may not be where it is; or it is missing, as the file ends before `u` and `clients`.
 pub record IsFirstBad (lines : List (List ℕ)) (number : ℕ) : Type 0 where
   -- how many lines stand before it
   pub before : ℕ

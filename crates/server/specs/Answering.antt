@@ -1,4 +1,4 @@
--- What stands between the event loop and the service: what it hands in, and what it hands out.
+-- What is between the event loop and the service: what it hands in, and what it hands out.
 use Rattle.std.specs.Prelude.{◌≡◌, ◌⊎◌, ℕ, Bool, List, [], ◌∷◌, ◌++◌, true, false, map, Some, Result, Ok, Err, refl}
 use Rattle.std.specs.List.{AllZip}
 use Rattle.std.specs.Coded.{Coded, code_by, coded×, coded_list}

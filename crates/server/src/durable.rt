@@ -8,7 +8,7 @@ ghost use Rattle.server.specs.Durable.{IsFoundOf};
 use crate::answering::Answering;
 use crate::save::{Save, SaveFault};
 use event_loop::{Heard, Said, Serve};
-use figures::{Figures, Saves, one_more};
+use figures::{Figures, Histogram, Saves, one_more};
 use service::{Service, ServiceRecord};
 use std::alloc::Global;
 use std::mem;
@@ -118,6 +118,9 @@ impl<S: Save> DurableService<S> {
             waiting: self.held.len().saturating_add(self.answering.said_count()) as u64,
             failing: if self.is_failing { 1 } else { 0 },
             bytes: 0,
+            folders: 0,
+            current_folders: 0,
+            times: Histogram::NONE,
         };
         figures
     }

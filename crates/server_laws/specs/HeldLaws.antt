@@ -29,7 +29,7 @@ OneIsRead = (u id : ℕ) (bytes : List ℕ) (x : Durable) (s : ExecutorState) �
 abbrev pub WorldsAreOfExecutorMachines : Type 0
 WorldsAreOfExecutorMachines = (c : ConfigView) (events : List Event) (worlds : List WorldView) (w : WorldView) → ReachedWorlds c events worlds → EndsWith worlds w → HasExecutorMachine w.u worlds w
 
--- where digests tell their texts apart, the states that were met are told apart: each has the token of its parts
+-- if digests tell their texts apart, the states that were met are told apart: each has the token of its parts
 abbrev pub MetAreToldApart : Type 0
 MetAreToldApart = (c : ConfigView) (events : List Event) (worlds : List WorldView) → ReachedWorlds c events worlds → DigestsAreDistinct worlds → ToldApart (IsMet worlds)
 
@@ -63,7 +63,7 @@ executor_record (Gone kept) = kept.saved
 abbrev pub lost_executors : WorldView → ℕ
 lost_executors w = count_below (λ id. is_gone (slice_get w.executors id)) (member_count w.u)
 
--- An executor that is not lost for good has the state of the last chosen Commit, by its record, and where it is up by its state.
+-- An executor that is not lost for good has the state of the last chosen Commit, by its record, and if it is up by its state.
 pub record ExecutorKeeps (worlds : List WorldView) (w : WorldView) : Type 0 where
   pub executor : ℕ
   pub slot : Slot ExecutorView
@@ -78,7 +78,7 @@ pub record ExecutorKeeps (worlds : List WorldView) (w : WorldView) : Type 0 wher
   pub number : last.number ≡ (standing (chosen_list w)).n
   pub token : last.token ≡ (standing (chosen_list w)).token
 
--- where a Commit is chosen, and at most u executors are lost, another one keeps the state of the last one
+-- if a Commit is chosen, and at most u executors are lost, another one keeps the state of the last one
 abbrev pub ExecutorsKeepChosen : List WorldView → WorldView → Type 0
 ExecutorsKeepChosen worlds w = lost_executors w ≤ w.u → 0 < (standing (chosen_list w)).n → ExecutorKeeps worlds w
 

@@ -15,7 +15,7 @@ ExecutorsKeepTheRun = (c : ConfigView) (events : List Event) (worlds : List Worl
 
 -- ---- of the world to which events lead
 
--- through whichever worlds the events lead to this one, they show one server, where digests tell the states that were met there apart
+-- through whichever worlds the events lead to this one, they show one server, if digests tell the states that were met there apart
 abbrev pub ShowsOneServer : ConfigView → List Event → WorldView → Type 0
 ShowsOneServer c events w = (through : IsReached c events w) → DigestsAreDistinct through.worlds → IsOneServer events through.worlds
 

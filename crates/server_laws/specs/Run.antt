@@ -29,7 +29,7 @@ pub record IsRun (met : StateView → Type 0) (events : List Event) (w : WorldVi
   pub one_each : known_by run ≡ commits (chosen_list w)
   -- an executor had each state, committed or in its chain
   pub states_met : AreAll (made_in run) met
-  -- each of the 2u + 1 executors, up, down or lost, has one saved state, which is the first one where it never saved
+  -- each of the 2u + 1 executors, up, down or lost, has one saved state, which is the first one if it never saved
   pub each_has_one : (id : ℕ) → id < member_count w.u → HasOne w id
   -- what it has committed is the state after so many rounds, whole
   pub committed : (id : ℕ) (x : Durable) → Has w id x → slice_get (states_of run) x.have.number ≡ Some x.have
@@ -68,6 +68,6 @@ pub record KeepsTheEnd (w : WorldView) (run : List Executed) : Type 0 where
   pub is_last : slice_get (states_of run) (length run) ≡ Some last
   pub keeps : Keeps saved last
 
--- where at most u executors are lost, and the run has a round, another one keeps what it ends with
+-- if at most u executors are lost, and the run has a round, another one keeps what it ends with
 abbrev pub ExecutorsKeep : (StateView → Type 0) → List Event → WorldView → Type 0
 ExecutorsKeep met events w = lost_executors w ≤ w.u → (run : List Executed) → IsRun met events w run → 0 < length run → KeepsTheEnd w run

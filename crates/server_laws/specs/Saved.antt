@@ -45,7 +45,7 @@ pub record HasSaved (w : WorldView) (id : ℕ) (x : Durable) : Type 0 where
   pub there : slice_get w.executors id ≡ Some slot
   pub saved : IsSavedIn w.u id slot x
 
--- what is found in a record: what it spells, or the first state where there is none
+-- what is found in a record: what it spells, or the first state if there is none
 abbrev pub FoundIn : ℕ → ℕ → Option (List ℕ) → Durable → Type 0
 FoundIn u id None x = x ≡ first_durable
 FoundIn u id (Some bytes) x = IsSpelled u id (Some bytes) x

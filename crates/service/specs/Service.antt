@@ -178,7 +178,7 @@ pub record HasSameRequests (v now : ServiceView) : Type 0 where
   pub waiting : now.waiting ≡ v.waiting
   pub replicas : now.replicas ≡ v.replicas
 
--- A piece came of a connection that is here; where the call failed it may not have been looked at.
+-- A piece came of a connection that is here; if the call failed it may not have been looked at.
 abbrev pub Hears : ℕ → ℕ → List ℕ → ConnectionsView → ConnectionsView → Result Said Fault → Type 0
 Hears key number piece v now (Ok said) = (now.heard ≡ v.heard ++ (number, piece) ∷ []) × (now.given ≡ v.given ++ (number, said.bytes.items) ∷ []) × (now.passed ≡ (v.passed ++ heard_as number piece ∷ []) ++ given_as number said.bytes.items ∷ []) × (said.key ≡ key) × (said.number ≡ number)
 Hears key number piece v now (Err fault) = (((now.heard ≡ v.heard) × (now.passed ≡ v.passed)) ⊎ ((now.heard ≡ v.heard ++ (number, piece) ∷ []) × (now.passed ≡ v.passed ++ heard_as number piece ∷ []))) × (now.given ≡ v.given)

@@ -38,7 +38,7 @@ impl Turns {
         }
     }
 
-    /// Takes the first one. `None` exactly where none wait.
+    /// Takes the first one. `None` exactly if none wait.
     pub(crate) fn take(&mut self) -> Option<Turn>
         ensures { MatchOption result ((self.old ≡ []) × (self.new ≡ [])) (λ turn. self.old ≡ turn ∷ self.new) }
     {

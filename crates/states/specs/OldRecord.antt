@@ -23,7 +23,7 @@ use Rattle.states.specs.Within.{BlocksWithin, RepliesWithin}
 abbrev pub old_pages : Items → List (List (List ℕ × Item))
 old_pages m = each_among OLD_PAGES (old_entries m)
 
--- of each old page nothing where it is the same as before, or else its entries
+-- of each old page nothing if it is the same as before, or else its entries
 abbrev pub old_changes : Items → Items → List (Option (List (List ℕ × Item)))
 old_changes before m = each_among OLD_PAGES (λ p. changed_page (old_entries before p) (old_entries m p))
 
@@ -40,7 +40,7 @@ old_state_text s = old_head_text (head_of_state s) ++ sessions_text s.sessions +
 unfoldable pub old_after_text : Items → StateView → List ℕ
 old_after_text before s = old_head_text (head_of_state s) ++ sessions_text s.sessions ++ old_changes_text before s.items
 
--- what stands before the items
+-- what is before the items
 abbrev pub old_front_text : Head × Replies → List ℕ
 old_front_text p = old_head_text p.0 ++ sessions_text p.1
 

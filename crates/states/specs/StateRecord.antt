@@ -83,12 +83,12 @@ pub record IsLaterState (s : StateView) : Type 0 where
   pub state : IsState s
   pub later : 0 < s.number
 
--- the state of this head, these sessions and items, where a batch led to it
+-- the state of this head, these sessions and items, if a batch led to it
 abbrev pub MakesLater : Head → Replies → Items → Result StateView Fault → Type 0
 MakesLater h sessions items (Ok s) = IsLaterState s × (s ≡ state_of h sessions items)
 MakesLater h sessions items (Err e) = Refused e (IsLaterState (state_of h sessions items) → ⊥)
 
--- the same, where this batch made it of this state
+-- the same, if this batch made it of this state
 abbrev pub MakesSuccessor : StateView → Batch → Head → Replies → Items → Result StateView Fault → Type 0
 MakesSuccessor old batch h sessions items (Ok s) = IsSuccessor old batch s × (s ≡ state_of h sessions items)
 MakesSuccessor old batch h sessions items (Err e) = Refused e (IsSuccessor old batch (state_of h sessions items) → ⊥)

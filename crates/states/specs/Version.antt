@@ -32,7 +32,7 @@ abbrev pub IsStateIn : Version → StateView → Type 0
 IsStateIn First = IsOldState
 IsStateIn Second = IsState
 
--- a state that the batch makes of another, where the version has both
+-- a state that the batch makes of another, if the version has both
 abbrev pub IsSuccessorIn : Version → StateView → Batch → StateView → Type 0
 IsSuccessorIn First = IsOldSuccessor
 IsSuccessorIn Second = IsSuccessor

@@ -123,7 +123,7 @@ fn are_others(
 }
 
 /// The items whose old pages' encoding over those before is a prefix of the bytes: of each old page
-/// 0 where it is the same, and its four pages are shared then, or 1 and its entries.
+/// 0 if it is the same, and its four pages are shared then, or 1 and its entries.
 pub fn take_old_changes<'b>(
     alloc: Global,
     before: &Snapshot,

@@ -69,10 +69,12 @@ memory_data x = object (member (codes "item_bytes") (whole x.item_bytes)
 
 unfoldable pub saves_data : Saves → Data
 saves_data x = object (member (codes "bytes") (whole x.bytes)
+    (member (codes "current_folders") (whole x.current_folders)
     (member (codes "failed") (whole x.failed)
     (member (codes "failing") (whole x.failing)
+    (member (codes "folders") (whole x.folders)
     (member (codes "made") (whole x.made)
-    (member (codes "waiting") (whole x.waiting) no_members)))))
+    (member (codes "waiting") (whole x.waiting) no_members)))))))
 
 -- how many lines were refused, in the order of ALL_REFUSALS
 unfoldable pub refusals_data : Refusals → Data
@@ -118,7 +120,8 @@ batch_parts_data p = object (member (codes "agree") (histogram_data p.agree)
 unfoldable pub times_data : Figures → Data
 times_data f = object (member (codes "batch") (histogram_data f.batch_times)
     (member (codes "parts") (batch_parts_data f.batch_parts)
-    (member (codes "reply") (histogram_data f.reply_times) no_members)))
+    (member (codes "reply") (histogram_data f.reply_times)
+    (member (codes "save") (histogram_data f.saves.times) no_members))))
 
 -- all figures
 unfoldable pub figures_data : Figures → Data

@@ -60,7 +60,7 @@ fn memory_json(alloc: Global, memory: &Memory) -> Result<Value, AllocError>
 fn saves_json(alloc: Global, saves: &Saves) -> Result<Value, AllocError>
     ensures { IfOk result (λ v. view v ≡ spec.saves_data saves.now) }
 {
-    json!(in alloc; {"made": saves.made, "failed": saves.failed, "waiting": saves.waiting, "failing": saves.failing, "bytes": saves.bytes})
+    json!(in alloc; {"made": saves.made, "failed": saves.failed, "waiting": saves.waiting, "failing": saves.failing, "bytes": saves.bytes, "folders": saves.folders, "current_folders": saves.current_folders})
 }
 
 /// How many lines were refused, by why.
@@ -161,7 +161,8 @@ fn times_json(alloc: Global, figures: &Figures) -> Result<Value, AllocError>
     json!(in alloc; {
         "reply": histogram_json(alloc, &figures.reply_times)?,
         "batch": histogram_json(alloc, &figures.batch_times)?,
-        "parts": batch_parts_json(alloc, &figures.batch_parts)?
+        "parts": batch_parts_json(alloc, &figures.batch_parts)?,
+        "save": histogram_json(alloc, &figures.saves.times)?
     })
 }
 

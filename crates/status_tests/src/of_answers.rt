@@ -232,9 +232,12 @@ fn numbers_of_the_data(rt: HostRuntime) -> Result<(), Fail> {
     assert!(rt; number_at(alloc, "/saves/waiting") == Some(5));
     assert!(rt; number_at(alloc, "/saves/failing") == Some(1));
     assert!(rt; number_at(alloc, "/saves/bytes") == Some(73_728));
+    assert!(rt; number_at(alloc, "/saves/folders") == Some(3));
+    assert!(rt; number_at(alloc, "/saves/current_folders") == Some(2));
     assert!(rt; number_at(alloc, "/times/reply/counts/1") == Some(1));
     assert!(rt; number_at(alloc, "/times/batch/sum") == Some(1234567));
     assert!(rt; number_at(alloc, "/times/parts/agree/sum") == Some(300));
+    assert!(rt; number_at(alloc, "/times/save/sum") == Some(700));
     Ok(())
 }
 

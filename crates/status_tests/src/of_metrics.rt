@@ -39,13 +39,13 @@ fn have_line(alloc: Global, wanted: &[u8]) -> bool {
     }
 }
 
-/// 40 metrics with two lines each; 30 values, 32 of commands, ten of refused lines, 18 of each of six histograms. Each
+/// 43 metrics with two lines each; 32 values, 32 of commands, ten of refused lines, 18 of each of seven histograms. Each
 /// node that is there has a line of two metrics.
 #[test]
 fn each_line_is_of_the_form(rt: HostRuntime) -> Result<(), Fail> {
     let alloc = rt.alloc();
-    assert!(rt; are_form(alloc, &Figures::NONE, 80 + 30 + 32 + 10 + 108));
-    assert!(rt; are_form(alloc, &some_figures(), 80 + 30 + 32 + 10 + 108 + 12));
+    assert!(rt; are_form(alloc, &Figures::NONE, 86 + 32 + 32 + 10 + 126));
+    assert!(rt; are_form(alloc, &some_figures(), 86 + 32 + 32 + 10 + 126 + 12));
     Ok(())
 }
 
@@ -91,6 +91,9 @@ fn lines_of_saves(rt: HostRuntime) -> Result<(), Fail> {
     assert!(rt; have_line(alloc, b"eve_save_failing 1"));
     assert!(rt; have_line(alloc, b"# TYPE eve_data_bytes gauge"));
     assert!(rt; have_line(alloc, b"eve_data_bytes 73728"));
+    assert!(rt; have_line(alloc, b"eve_folders 3"));
+    assert!(rt; have_line(alloc, b"eve_current_folders 2"));
+    assert!(rt; have_line(alloc, b"eve_save_seconds_sum 0.000700"));
     Ok(())
 }
 

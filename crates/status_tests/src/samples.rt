@@ -1,6 +1,6 @@
 //! Figures that are not all zero.
 
-use figures::{Asked, Figures, Kind, NodeFigures, Refusal, Saves};
+use figures::{Asked, Figures, Histogram, Kind, NodeFigures, Refusal, Saves};
 use proto::Reply;
 use status::{History, Seen};
 use std::alloc::Global;
@@ -17,7 +17,11 @@ pub fn some_figures() -> Figures {
         waiting: 5,
         failing: 1,
         bytes: 73_728,
+        folders: 3,
+        current_folders: 2,
+        times: Histogram::NONE,
     };
+    figures.saves.times.observe(700);
     figures.connections.open = 3;
     figures.connections.idle = 4;
     figures.refusals.count(Refusal::Number);

@@ -34,7 +34,7 @@ abbrev pub ReadsFailed : List Read → List Read → Type 0
 ReadsFailed reads last = ((kind : ErrorKind) × (last ≡ Err kind ∷ []) × (kind ≢ Interrupted)) ⊎ ((last ≡ []) × (length reads ≡ 2 ^ 64 - 1))
 
 module _ {S T : Type 0} (gives : S → Read → S → Type 0) (remaining : S → Option (List ℕ)) (hears : T → List ℕ → Bool → T → Type 0) (leaves : T → T → Type 0) where
-  -- How it ends, after reads that went on: by a last one. There is one hangup, and where all was read none is left;
+  -- How it ends, after reads that went on: by a last one. There is one hangup, and if all was read none is left;
   -- or the last piece was enough.
   abbrev pub ReadsEndAs : Ending → List Read → List Read → S → T → T → Type 0
   ReadsEndAs AtEnd reads last after s t = (last ≡ Ok [] ∷ []) × IsAtEnd (remaining after) × leaves s t

@@ -7,7 +7,7 @@ use Rattle.token.specs.declared.form.Form.TheVariants.{Old, Current, Tree}
 use Rattle.token.specs.Digest.{digest}
 use Rattle.token.specs.Told.{told_sessions_text}
 
--- a digest, and a text where one is kept
+-- a digest, and a text if one is kept
 abbrev pub DigestedView : Type 0
 DigestedView = List ℕ × Option (List ℕ)
 

@@ -1,4 +1,4 @@
--- A page as parts, and what stands first in them.
+-- A page as parts, and what is first in them.
 use Rattle.std.specs.Prelude.{◌≡◌, ◌≢◌, ℕ, ◌<◌, List, [], ◌∷◌, length, map, Bool, true, false, filter, ◌==◌, IsTrue, slice_index_or, sum}
 use Rattle.std.specs.Borrow.{Bor}
 use Rattle.std.specs.Ordering.{is_lt}

@@ -13,7 +13,7 @@ use Rattle.transfer.specs.Parcel.{ParcelView, answer_of, take_of}
 abbrev pub DigestsTellPages : Layout → Layout → Items → Items → Type 0
 DigestsTellPages one other a b = (p : ℕ) → p < page_count → page_digest_in one a p ≡ page_digest_in other b p → page_entries a p ≡ page_entries b p
 
--- where digests tell their pages apart, what is answered to the need of a state makes, over that state's pages, the state that answered
+-- if digests tell their pages apart, what is answered to the need of a state makes, over that state's pages, the state that answered
 abbrev pub HandsOver : Type 0
 HandsOver = (own s : StateView) → IsState s → 0 < s.number → DigestsTellPages (layout_of s.form) (layout_of own.form) s.items own.items → take_of own.items (answer_of s (need_of own)) s.number s.token ≡ Some s
 

@@ -82,7 +82,7 @@ parcel_state own p = with_token (parts_of (record { origin = p.origin; sessions 
 abbrev pub makes_state : Items → ParcelView → Bool
 makes_state own p = fits_form p.origin.form (joined_with own p.pages)
 
--- what is taken: that state, where it has this number and this token
+-- what is taken: that state, if it has this number and this token
 abbrev pub take_of : Items → ParcelView → ℕ → Token → Option StateView
 take_of own p n token =
     if (p.origin.number == n) && (makes_state own p && token_eq (parcel_state own p).token token) then Some (parcel_state own p) else None

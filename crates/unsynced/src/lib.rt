@@ -1,6 +1,6 @@
 //! A disk whose syncs may be turned off.
 //!
-//! It stands on `sqlite_disk`. A database over such a disk keeps what its contracts say also without syncs, under another
+//! It is built on `sqlite_disk`. A database over such a disk keeps what its contracts say also without syncs, under another
 //! kind of crash: the process ends, and the machine goes on. Such a crash leaves what was written, so nothing has to be
 //! synced. The layer above uses that `OptionalSync` meets `Disk`: what is proved over every disk holds of it.
 #![tactic(auto)]

@@ -80,7 +80,7 @@ on_change id s from view =
     if nat_lt view s.view then stays s
     else record { state = in_view s view; saves = nat_lt s.view view; letters = letter id (Verifier from) (Promise view (known s) s.accepted) ∷ [] }
 
--- asks for what it does not know, where the sender knows more
+-- asks for what it does not know, if the sender knows more
 abbrev pub asked_if_behind : ℕ → VerifierState → ℕ → ℕ → List (Letter Ballot)
 asked_if_behind id s from count = if nat_lt (known s) count then letter id (Verifier from) (Ask (next_place s)) ∷ [] else []
 

@@ -16,7 +16,7 @@ accepted_text a = num w64 a.0 ++ decree_text a.1
 abbrev pub head_text : ℕ → ℕ → VerifierState → List ℕ
 head_text u id s = ((num w8 id ++ num w8 u) ++ num w64 s.view) ++ option_text accepted_text s.accepted
 
--- the version and the kind, and all that stands before the decrees; version 1 is of a verifier that has forgotten none
+-- the version and the kind, and all that is before the decrees; version 1 is of a verifier that has forgotten none
 abbrev pub fields_text : ℕ → ℕ → VerifierState → List ℕ
 fields_text u id s = if s.start.place == 0 then 1 ∷ 86 ∷ head_text u id s else 2 ∷ 86 ∷ (head_text u id s ++ start_text s.start)
 

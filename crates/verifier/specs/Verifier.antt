@@ -20,7 +20,7 @@ pub record VerifierView : Type 0 where
   -- the record that its keeper has, and how many saves have failed
   pub saved : Option (List ℕ)
   pub failures : ℕ
-  -- whether the keeper was told that the next save fails
+  -- whether the keeper's next save is set to fail
   pub told : Bool
 
 abbrev pub outcome : VerifierView → Input → OutcomeView

@@ -12,7 +12,7 @@ option_text encoding (Some x) = 1 ∷ encoding x
 abbrev pub list_text : {X : Type 0} → (X → List ℕ) → List X → List ℕ
 list_text encoding xs = num w32 (length xs) ++ flat_map encoding xs
 
--- such a list where it is allowed; another has no such text
+-- such a list if it is allowed; another has no such text
 abbrev pub limited_text : {X : Type 0} → (List X → Bool) → (X → List ℕ) → List X → List ℕ
 limited_text may encoding xs = only_if (may xs) (list_text encoding xs) (list_text encoding xs)
 

@@ -23,7 +23,7 @@ head_of (x ∷ xs) = x
 pub tail_of : {X : Type 0} (x y : X) (xs ys : List X) → x ∷ xs ≡ y ∷ ys → xs ≡ ys
 tail_of x y xs ys e = cc
 
--- two texts of which each stands behind 256 unless its value has bytes
+-- two texts of which each is behind 256 unless its value has bytes
 pub data BothWays (a b : Bool) (x y v w r s : List ℕ) : Type 0 where
   has : a ≡ true → b ≡ true → x ++ r ≡ y ++ s → BothWays a b x y v w r s
   lacks : a ≡ false → b ≡ false → v ++ r ≡ w ++ s → BothWays a b x y v w r s

@@ -68,7 +68,7 @@ keys_apart xs ys r s e = (limited_prefix_free are_few_keys few_keys key_text key
 pub keys_prefix_free : IsPrefixFree keys_text
 keys_prefix_free = record { apart = keys_apart }
 
--- a list of 1 to MOST_KEYS keys stands at the front of bytes
+-- a list of 1 to MOST_KEYS keys is at the front of bytes
 pub keys_at_front : (keys : List (List ℕ)) (bytes rest : List ℕ) → ((i : ℕ) → get_or bytes i 0 < 256) → bytes ≡ keys_text keys ++ rest
     → (1 ≤ length keys) × (length keys ≤ MOST_KEYS) × (bytes ≡ list_text key_text keys ++ rest)
 unfolding keys_text

@@ -26,7 +26,7 @@ module _ {X : Type 0} (may : List X → Bool) (few : (xs : List X) → may xs �
   pub limited_prefix_free : IsPrefixFree (limited_text may encoding)
   limited_prefix_free = record { apart = limited_apart }
 
--- an allowed list stands at the front of bytes
+-- an allowed list is at the front of bytes
 pub limited_at_front : {X : Type 0} (may : List X → Bool) (encoding : X → List ℕ) (xs : List X) (bytes rest : List ℕ) → ((i : ℕ) → get_or bytes i 0 < 256)
     → bytes ≡ limited_text may encoding xs ++ rest → (may xs ≡ true) × (bytes ≡ list_text encoding xs ++ rest)
 limited_at_front may encoding xs bytes rest are_bytes e =

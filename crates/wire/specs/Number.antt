@@ -1,5 +1,5 @@
 -- Numbers, and texts of a stated length. Only a value that has such bytes is encoded by bytes. Any other
--- one stands behind 256, which is no byte, so that no two values whatever are encoded alike.
+-- one is behind 256, which is no byte, so that no two values whatever are encoded alike.
 use Rattle.std.specs.Prelude.{ℕ, ◌+◌, ◌-◌, ◌*◌, ◌^◌, ℤ, pos, negsuc, List, [], ◌∷◌, length, Bool, ◌&&◌, nat_eq, nat_lt, if◌then◌else◌}
 use Rattle.std.specs.List.{list_all}
 use Rattle.std.specs.Int.{Width, w32, byte_len, to_be_bytes}

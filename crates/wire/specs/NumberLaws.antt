@@ -76,7 +76,7 @@ too_short w wide n bytes rest are_bytes short e =
           omega (arith, are_bytes 0)
     ]
 
--- a number that stands at the front of bytes is one of its width
+-- a number that is at the front of bytes is one of its width
 pub below_of : (w : Width) (n : ℕ) (bytes rest : List ℕ) → ((i : ℕ) → get_or bytes i 0 < 256) → bytes ≡ num w n ++ rest → n < 256 ^ byte_len w
 unfolding num
 below_of w n bytes rest are_bytes e =

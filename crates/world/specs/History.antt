@@ -29,6 +29,6 @@ pub record IsHistoryTo (c : ConfigView) (events : List Event) (w : WorldView) (h
   pub ends : EndsWith worlds w
   pub given : history ≡ history_of worlds
 
--- where digests tell apart the states that executors had on the way, it is linearizable
+-- if digests tell apart the states that executors had on the way, it is linearizable
 abbrev pub IsLinearizableIfDistinct : ConfigView → List Event → List AllGiven → Type 0
 IsLinearizableIfDistinct c events history = (is : IsHistoryOfPlay c events history) → DigestsAreDistinct is.worlds → IsLinearizable events history

@@ -1,4 +1,4 @@
--- What the executors wait for, where no letter comes.
+-- What the executors wait for, if no letter comes.
 use Rattle.std.specs.Prelude.{◌≡◌, ℕ, ◌<◌, List, Option, None, Some, slice_get}
 use Rattle.exec_lines.specs.declared.shown.NextWork.{NextWork}
 use Rattle.exec_lines.specs.declared.shown.NextWork.TheVariants as next_work

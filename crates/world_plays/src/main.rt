@@ -8,7 +8,7 @@
 //!   losses up to `u`. All clients add one to a counter, so each is given rising numbers, and none is given
 //!   twice.
 //! - `trimmed FIRST PLAYS EVENTS`: the same, and among the events verifiers trim their logs.
-//! - `random FIRST SEEDS EVENTS`: for each seed, and where 0 to 3 replicas of each kind may fail, eight
+//! - `random FIRST SEEDS EVENTS`: for each seed, and for 0 to 3 replicas of each kind that may fail, eight
 //!   clients ask twenty commands each, and then come so many events of a line `random` of a schedule.
 //! - `restarts FILE`: the row in this file, with a crash and a restart after each of its events, of each
 //!   replica. What a client is given has to be a beginning of what the row gives it; so no reply of the row

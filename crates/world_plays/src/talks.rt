@@ -11,7 +11,7 @@ pub struct Talk {
     turns: Vec<Turn>,
     /// How many requests ran.
     ran: u64,
-    /// The text of the last reply, also where it was not to be given.
+    /// The text of the last reply, also if it was not to be given.
     last: Vec<u8>,
     /// The texts of the first turns, one after the other.
     text: Vec<u8>,
@@ -105,7 +105,7 @@ impl Talk {
         given.len() <= self.text.len()
     }
 
-    /// How many turns were given, where these are their whole texts.
+    /// How many turns were given, if these are their whole texts.
     pub fn turns_of(&self, given: &[u8]) -> Option<u64> {
         if !self.text.starts_with(given) {
             return None;

@@ -9,7 +9,7 @@ pub enum Task<'a> {
     Trimmed(Seeds),
     /// Of random events, from the seed `first` on.
     Random(Seeds),
-    /// Of the row that stands in the file of this name.
+    /// Of the row that is in the file of this name.
     Restarts(&'a str),
 }
 

@@ -1,4 +1,4 @@
-//! What a client is given where one of three executors and one of three verifiers fails.
+//! What a client is given if one of three executors and one of three verifiers fails.
 
 use crate::stage::{Done, gives};
 use events::Replica;

@@ -88,11 +88,11 @@ pub record VerifierStands (w : WorldView) (place : ℕ) (d : Decree) : Type 0 wh
   pub record_is : verifier_record slot ≡ Some (record_text w.u verifier saved)
   pub keeps : Holds saved place d ⊎ StartsAbove (chosen_list w) saved place
 
--- where at most u verifiers are lost, another one keeps each chosen decree, or what stands after it
+-- if at most u verifiers are lost, another one keeps each chosen decree, or what stands after it
 abbrev pub ChosenStands : WorldView → Type 0
 ChosenStands w = lost_verifiers w ≤ w.u → (place : ℕ) (d : Decree) → ChosenInWorld w place d → VerifierStands w place d
 
--- where at most u verifiers are lost, another one keeps each chosen decree
+-- if at most u verifiers are lost, another one keeps each chosen decree
 abbrev pub ChosenIsKept : WorldView → Type 0
 ChosenIsKept w = lost_verifiers w ≤ w.u → (place : ℕ) (d : Decree) → ChosenInWorld w place d → VerifierKeeps w place d
 

@@ -63,7 +63,7 @@ pub record StopsIn (old : Kept) (after : Option (List ℕ)) (kept : Kept) : Type
   pub untried : kept.failures ≡ old.failures → kept.fails_next ≡ old.fails_next
   pub spent : old.failures < kept.failures → kept.fails_next ≡ false
 
--- A verifier is given an input. It does the step, which it does not where that saves and the save is to fail; or, where the input fits a line, it stops, and nothing is sent.
+-- A verifier is given an input. It does the step, which it does not if that saves and the save is to fail; or, if the input fits a line, it stops, and nothing is sent.
 abbrev pub VerifierSettles : Slot VerifierView → of_verifier.Input → Slot VerifierView → List (Letter Ballot) → Type 0
 VerifierSettles (Up v) x now new =
     (IsTrue (not (v.told && (outcome v x).saves)) × (now ≡ Up (handled v x)) × (new ≡ (outcome v x).letters))
@@ -79,12 +79,12 @@ ExecutorSettles (Up e) x now new =
 ExecutorSettles (Down kept) x now new = (now ≡ Down kept) × (new ≡ [])
 ExecutorSettles (Gone kept) x now new = (now ≡ Gone kept) × (new ≡ [])
 
--- the first record, where there was none
+-- the first record, if there was none
 abbrev pub first_if_none : Option (List ℕ) → List ℕ → Option (List ℕ)
 first_if_none None first = Some first
 first_if_none (Some old) first = Some old
 
--- A verifier that is down is opened with its keeper: it is new, or goes on from its record; a new one is not, where its first save is to fail. Or it stays down, with its record, or with its first one where it had none.
+-- A verifier that is down is opened with its keeper: it is new, or goes on from its record; a new one is not, if its first save is to fail. Or it stays down, with its record, or with its first one if it had none.
 abbrev pub VerifierReopens : ℕ → ℕ → Slot VerifierView → Slot VerifierView → List (Letter Ballot) → Type 0
 VerifierReopens u id (Up v) now new = (now ≡ Up v) × (new ≡ [])
 VerifierReopens u id (Down kept) now new =
@@ -111,6 +111,6 @@ ClientSettlesWhere true old x now new =
     ((g : Given) × IsClientStep old.client.u old.client.client old.client.talk x g × (now ≡ record { client = record old.client { talk = g.talk }; given = old.given ++ g.bytes }) × (new ≡ g.letters))
     ⊎ (IsTrue (fits_talk old.client.talk x && not (is_hangup x)) × ((talk : Talk) × (now ≡ record { client = record old.client { talk = talk; up = false }; given = old.given }) × (new ≡ [])))
 
--- A client's part is given an input. It does the step; or, where the input fits a line and is no hangup, it stops, and nothing is asked or given. One that was stopped stays as it is.
+-- A client's part is given an input. It does the step; or, if the input fits a line and is no hangup, it stops, and nothing is asked or given. One that was stopped stays as it is.
 abbrev pub ClientSettles : ClientSlot → of_client.Input → ClientSlot → List (Letter Body) → Type 0
 ClientSettles old x now new = ClientSettlesWhere old.client.up old x now new

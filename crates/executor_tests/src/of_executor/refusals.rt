@@ -1,4 +1,4 @@
-//! Batches that run on threads, where memory may be refused: `scripts/refusals` refuses each growth in turn.
+//! Batches that run on threads while memory may be refused: `scripts/refusals` refuses each growth in turn.
 //! A run that is refused one leaves its base as it was: the batch runs over it once more, and comes to the
 //! state of one thread. `NoMemory` ends a row that was refused a growth elsewhere.
 

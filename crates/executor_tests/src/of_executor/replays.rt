@@ -99,7 +99,7 @@ fn add_tasks(alloc: Global, requests: &[Request], tasks: &mut Vec<Task>) -> Resu
     Ok(())
 }
 
-/// The answers to each request of the batch on the plain store, where the steps are made in this order.
+/// The answers to each request of the batch on the plain store, if the steps are made in this order.
 fn replay_batch(
     alloc: Global,
     plain: &mut PlainStore,
@@ -148,7 +148,7 @@ fn are_given(
     Ok((requests.len(), answers.len()) == (replies.len(), replies.len()))
 }
 
-/// Whether they are those on the plain store, where the steps are made in this order, one after the other.
+/// Whether they are those on the plain store, if the steps are made in this order, one after the other.
 fn agree(
     alloc: Global,
     plain: &mut PlainStore,

@@ -1,5 +1,6 @@
-use Rattle.std.proofs.Common.{rules, ◌≡◌, ◌<◌, ◌+◌, List, ◌∷◌, ◌++◌, Option, None, refl, ap, ◌∙◌, subst, length}
+use Rattle.std.proofs.Common.{rules, ◌≡◌, ◌<◌, ◌+◌, List, [], ◌∷◌, ◌++◌, Option, None, refl, sym, ap, ◌∙◌, subst, length}
 use Rattle.std.specs.Prelude.{option_to_list}
+use Rattle.std.proofs.lemmas.List.{append-nil}
 use Rattle.service.specs.declared.note.Waiting.{Waiting}
 use Rattle.service.specs.Service.{ServiceView, none_shown, assigned, Gives}
 use Rattle.service.specs.Owed.{Remembers}
@@ -74,6 +75,24 @@ pub returns-in_default-pop_front-clause-tells : goal.returns-in_default-pop_fron
 returns-in_default-pop_front-clause-tells c =
     let kept : c.reserve.new.self.items ≡ c.args.said.now.items = search rules in
     tells_same _ _ _ _ c.args.said.now.items c.reserve.new.self.items (ap (λ (x : ServiceView). x.connections.table) c.self.view_is) kept
+
+pub returns-then-is_err-clause-given : goal.returns-then-is_err-clause-given
+returns-then-is_err-clause-given c =
+    let kept : c.reserve.new.self.items ≡ c.args.said.now.items = search rules in (
+      [],
+      kept ∙ sym (append-nil c.args.said.now.items),
+      ap (λ (x : ServiceView). x.connections.given) c.self.view_is ∙ sym (append-nil c.args.self.now.connections.given),
+      ap (λ (x : ServiceView). x.connections.passed) c.self.view_is ∙ sym (append-nil c.args.self.now.connections.passed),
+    )
+
+pub returns-in_default-pop_front-clause-given : goal.returns-in_default-pop_front-clause-given
+returns-in_default-pop_front-clause-given c =
+    let kept : c.reserve.new.self.items ≡ c.args.said.now.items = search rules in (
+      [],
+      kept ∙ sym (append-nil c.args.said.now.items),
+      ap (λ (x : ServiceView). x.connections.given) c.self.view_is ∙ sym (append-nil c.args.self.now.connections.given),
+      ap (λ (x : ServiceView). x.connections.passed) c.self.view_is ∙ sym (append-nil c.args.self.now.connections.passed),
+    )
 
 pub returns-clause-given : goal.returns-clause-given
 returns-clause-given c =
