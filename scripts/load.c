@@ -5,7 +5,8 @@
 // -P etcd        etcd's JSON over HTTP, by which each key and value is sent in base 64
 //
 // Each connection keeps `depth` requests outstanding and sends the next one only when a reply has come.
-// Before the measured part each key is set once (unless -n), so that a server that drops nothing has each key.
+// Before the measured part each key is set once (unless -n), so that a server that drops nothing has each key. That may take
+// ten minutes and 2 ms a key; else it is an error.
 // Every reply is checked: a set answers STORED; a get answers END, or one VALUE of the asked key with the right
 // flags, length and bytes (a key's value is its own text, repeated) and then END; with the other protocols likewise.
 // With -H a get that finds nothing is an error.
@@ -481,8 +482,9 @@ static void *work(void *arg) {
     }
     if (!no_fill) {
         w->is_filling = 1;
-        w->stop_at = now() + (uint64_t)600e9;
+        w->stop_at = now() + (uint64_t)(600e9 + 2e6 * (double)keys);
         drive(w, ep);
+        if (!is_filled(w)) complain(w, "not each key was set in time");
         w->is_filling = 0;
         w->hits = w->misses = 0;
     }

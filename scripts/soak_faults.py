@@ -1,8 +1,12 @@
-"""Small servers for `scripts/soak --wrong`: a right one, and one for each fault that its load generator has to notice."""
+"""Small servers for `scripts/soak --wrong`: a right one, and one for each fault that its load generator has to notice.
+
+    soak_faults.py PORT KIND    a right server that takes memory as KIND of LEAKS says, until a signal ends it
+"""
 import random
 import socket
 import socketserver
 import struct
+import sys
 import threading
 import time
 
@@ -220,12 +224,36 @@ class Listening(socketserver.ThreadingTCPServer):
     daemon_threads = True
     request_queue_size = 64
 
-    def __init__(self, small):
+    def __init__(self, small, port=0):
         self.small = small
-        super().__init__(("127.0.0.1", 0), Served)
+        super().__init__(("127.0.0.1", port), Served)
         threading.Thread(target=self.serve_forever, daemon=True).start()
 
 
 def started(fault, seed):
     """A small server with this fault, and its port."""
     return Listening(Small(fault, random.Random(seed)))
+
+
+# What memory does, whether that is flat, and how many MB are taken by this second.
+LEAKS = {
+    "none": ("is flat", True, lambda second: 0),
+    "early": ("grows in the first third alone", True, lambda second: 3 * min(second, 9)),
+    "slow": ("grows by 0.5 MB in each minute", False, lambda second: second // 2),
+    "late": ("grows at the end alone", False, lambda second: 20 * (second > 26)),
+}
+
+
+def leak(port, kind):
+    """A right server, which takes memory and never uses it."""
+    kept, begun = [], time.monotonic()
+    Listening(Small((0, None), random.Random(1)), port)
+    while True:
+        if len(kept) < LEAKS[kind][2](int(time.monotonic() - begun)):
+            kept.append(random.randbytes(1_000_000))
+        else:
+            time.sleep(0.05)
+
+
+if __name__ == "__main__":
+    leak(int(sys.argv[1]), sys.argv[2])

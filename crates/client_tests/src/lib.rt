@@ -1,5 +1,5 @@
 //! Tests of `client` by its public calls: a row for each thing that the table of a client's part says,
-//! with ample memory, where one of three executors may fail.
+//! with ample memory. One of three executors may fail.
 //!
 //! A row says what is handed in, the bytes that the client is given, and what is asked of each executor:
 //! see `handed` and `seen`.

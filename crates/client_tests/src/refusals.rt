@@ -1,6 +1,5 @@
-//! Each line where memory may be refused: where a growth of `handle` is, it is `NoMemory`, and the
-//! client's part is stopped and gives nothing more. A row ends at the first one that was refused.
-//! `scripts/refusals` refuses each in turn.
+//! Each rule, if an allocation of `handle` fails: it is `NoMemory`, and the client's part is stopped and gives
+//! nothing more. A row ends at the first allocation that failed. `scripts/refusals` has each fail in turn.
 
 use crate::handed::Handed::{Again, Deleted, Feed, Found, Hangup, Stored};
 use crate::seen::{Talk, is_held};

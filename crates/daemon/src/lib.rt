@@ -18,8 +18,8 @@ mod told;
 
 pub use laws::lines_add_up;
 pub use lines::{
-    NO_TARGET, tell, tell_begun, tell_few_files, tell_listening, tell_saved_again, tell_start,
-    tell_status, tell_unsaved,
+    NO_TARGET, tell, tell_begun, tell_behind, tell_current, tell_few_files, tell_listening,
+    tell_saved_again, tell_start, tell_status, tell_trouble, tell_unsaved,
 };
 pub use report::{Due, Report, Totals};
 pub use save_watch::{SaveLine, SaveWatch};

@@ -1,7 +1,7 @@
 //! The lines of the log.
 
 use crate::report::Due;
-use crate::settings::{Listen, Settings};
+use crate::settings::{DataPlace, Listen, Settings};
 use figures::{Figures, NodeFigures, Refusal, Refusals, Replicas, VERSION};
 use log::{Log, info, warn};
 use std::fmt::Display;
@@ -23,10 +23,42 @@ pub fn tell_start<R: Log>(rt: &R, settings: &Settings) {
         info!(rt; target: NO_TARGET, "a connection on which nothing happens for {seconds} seconds is closed");
     }
     if let Some(data) = &settings.data {
-        let path = data.path.as_str();
-        let synced = if data.syncs { "" } else { ", without syncs" };
-        info!(rt; target: NO_TARGET, "what is answered is saved in {path} first{synced}");
+        tell_folders(rt, data);
     }
+}
+
+/// Tells where what is answered is saved first.
+fn tell_folders<R: Log>(rt: &R, data: &DataPlace) {
+    let synced = if data.syncs { "" } else { ", without syncs" };
+    match data.paths.as_slice() {
+        [path] => info!(rt; target: NO_TARGET, "what is answered is saved in {path} first{synced}"),
+        paths => {
+            let count = paths.len();
+            info!(rt; target: NO_TARGET, "what is answered is saved first in more than half of {count} folders{synced}");
+            for path in paths {
+                info!(rt; target: NO_TARGET, "a copy is in {path}");
+            }
+        }
+    }
+}
+
+/// Tells that a folder could not be read as it was, and what is done about it.
+pub fn tell_trouble<R: Log, D: Display>(rt: &R, path: &str, why: &D, is_renewed: bool) {
+    if is_renewed {
+        warn!(rt; target: NO_TARGET, "{path}: {why}; it is made anew from the other folders");
+    } else {
+        warn!(rt; target: NO_TARGET, "{path}: {why}; it is not used before the next start");
+    }
+}
+
+/// Tells that a folder does not have the last save, and why.
+pub fn tell_behind<R: Log, D: Display>(rt: &R, path: &str, why: &D) {
+    warn!(rt; target: NO_TARGET, "{path} does not have the last save: {why}");
+}
+
+/// Tells that each folder has the last save again.
+pub fn tell_current<R: Log>(rt: &R) {
+    info!(rt; target: NO_TARGET, "each folder has the last save again");
 }
 
 /// Tells how many items were saved before it began, or that nothing was.
@@ -48,9 +80,9 @@ pub fn tell_saved_again<R: Log>(rt: &R, seconds: u64) {
     info!(rt; target: NO_TARGET, "it is saved and answered again, after {seconds} seconds");
 }
 
-/// Tells that fewer files may be open than so many connections take.
-pub fn tell_few_files<R: Log>(rt: &R, files: u64, needed: u64) {
-    warn!(rt; target: NO_TARGET, "at most {files} files may be open, and {needed} may be needed: raise LimitNOFILE, or ulimit -n");
+/// Tells that fewer files may be open than so many connections take, so that fewer of these are served.
+pub fn tell_few_files<R: Log>(rt: &R, files: u64, needed: u64, served: u64) {
+    warn!(rt; target: NO_TARGET, "at most {files} files may be open, and {needed} may be needed: at most {served} connections are served; raise LimitNOFILE, or ulimit -n");
 }
 
 /// Tells where its figures are shown.

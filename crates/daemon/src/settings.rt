@@ -33,9 +33,9 @@ pub enum Listen {
 /// Where a daemon saves what it answers, before it does.
 #[derive(Drop)]
 pub struct DataPlace {
-    /// The folder.
-    pub path: String,
-    /// Nothing is in it yet. Else something is.
+    /// The folders, each with a copy: at least one.
+    pub paths: Vec<String>,
+    /// Nothing is in them yet. Else something is.
     pub is_new: bool,
     /// Each save is synced. Else what was answered stays if the process ends, and not if the machine does.
     pub syncs: bool,
@@ -124,9 +124,13 @@ fn dialect_option<'a>(alloc: Global) -> Arg<'a> {
 
 /// The option for the folder in which all is saved.
 fn data_option<'a>(alloc: Global) -> Arg<'a> {
-    Arg::new(alloc, "data").long("data").value_name("DIR").help(
-        "Saves what it answers in this folder before it answers, and goes on from it",
-    )
+    Arg::new(alloc, "data")
+        .long("data")
+        .value_name("DIR")
+        .action(ArgAction::Append)
+        .help(
+            "Saves what it answers in this folder before it answers, and goes on from it; given more than once, a copy is in each, and more than half of them have to be there",
+        )
 }
 
 /// The option for a folder in which nothing is saved yet.
@@ -135,7 +139,7 @@ fn new_option<'a>(alloc: Global) -> Arg<'a> {
         .long("new")
         .action(ArgAction::SetTrue)
         .help(
-            "Begins with an empty folder; to be given at the first start with --data, and not later",
+            "Begins with empty folders; to be given at the first start with --data, and not later",
         )
 }
 
@@ -268,22 +272,40 @@ fn syncs(command: &mut Command<'_>, text: &str) -> Result<bool, Error> {
     }
 }
 
-/// The folder at this path, as the matches say.
+/// The most folders that may have a copy each.
+const MOST_FOLDERS: usize = 9;
+
+/// The paths of folders, of which each is given once.
+fn folders(alloc: Global, command: &mut Command<'_>, texts: &[&str]) -> Result<Vec<String>, Error> {
+    if MOST_FOLDERS < texts.len() {
+        return Err(command.error(ErrorKind::ValueValidation, "at most 9 folders may be given")?);
+    }
+    let mut paths = Vec::with_capacity(alloc, texts.len())?;
+    for (at, path) in texts.iter().enumerate() {
+        if path.is_empty() {
+            return Err(command.error(
+                ErrorKind::ValueValidation,
+                "a folder is of the form /var/lib/eve_cached",
+            )?);
+        }
+        if texts[..at].contains(path) {
+            return Err(command.error(ErrorKind::ArgumentConflict, "a folder is given twice")?);
+        }
+        paths.push(String::from_str(alloc, path)?)?;
+    }
+    Ok(paths)
+}
+
+/// The folders at these paths, as the matches say.
 fn data_at(
     alloc: Global,
     command: &mut Command<'_>,
     matches: &ArgMatches<'_>,
-    path: &str,
+    paths: &[&str],
 ) -> Result<DataPlace, Error> {
-    if path.is_empty() {
-        return Err(command.error(
-            ErrorKind::ValueValidation,
-            "a folder is of the form /var/lib/eve_cached",
-        )?);
-    }
     let syncs = syncs(command, matches.get_str("sync").unwrap_or("turn"))?;
     Ok(DataPlace {
-        path: String::from_str(alloc, path)?,
+        paths: folders(alloc, command, paths)?,
         is_new: matches.get_flag("new"),
         syncs,
     })
@@ -295,8 +317,8 @@ fn data_of(
     command: &mut Command<'_>,
     matches: &ArgMatches<'_>,
 ) -> Result<Option<DataPlace>, Error> {
-    match matches.get_str("data") {
-        Some(path) => Ok(Some(data_at(alloc, command, matches, path)?)),
+    match matches.get_strs("data") {
+        Some(paths) => Ok(Some(data_at(alloc, command, matches, paths)?)),
         None if matches.get_flag("new") => Err(command.error(
             ErrorKind::MissingRequiredArgument,
             "--new needs --data DIR",

@@ -134,7 +134,7 @@ fn the_start_is_told(rt: HostRuntime) -> Result<(), Fail> {
     tell_begun(&memory, Some(7));
     tell_unsaved(&memory, &"the disk is full");
     tell_saved_again(&memory, 12);
-    tell_few_files(&memory, 100, 137);
+    tell_few_files(&memory, 100, 137, 40);
     tell_status(&memory, address);
     assert!(rt;
         are(
@@ -147,7 +147,7 @@ fn the_start_is_told(rt: HostRuntime) -> Result<(), Fail> {
                 "[INFO ] it goes on from what was saved: 7 items",
                 "[WARN ] nothing is answered, since it cannot be saved: the disk is full",
                 "[INFO ] it is saved and answered again, after 12 seconds",
-                "[WARN ] at most 100 files may be open, and 137 may be needed: raise LimitNOFILE, or ulimit -n",
+                "[WARN ] at most 100 files may be open, and 137 may be needed: at most 40 connections are served; raise LimitNOFILE, or ulimit -n",
                 "[INFO ] figures on http://127.0.0.1:11280/"
             ]
         )

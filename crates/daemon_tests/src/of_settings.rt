@@ -80,7 +80,7 @@ fn all_given(alloc: Global) -> bool {
 fn saves_in(alloc: Global, words: &str, path: &str, is_new: bool, syncs: bool) -> bool {
     match read(alloc, words) {
         Some(Ok(settings)) => {
-            matches!(&settings.data, Some(data) if data.path.as_str() == path && data.is_new == is_new && data.syncs == syncs)
+            matches!(&settings.data, Some(data) if matches!(data.paths.as_slice(), [only] if only.as_str() == path) && data.is_new == is_new && data.syncs == syncs)
         }
         _ => false,
     }
@@ -101,6 +101,26 @@ fn a_folder_is_new_or_not_and_synced_or_not(rt: HostRuntime) -> Result<(), Fail>
     );
     assert!(rt; saves_in(alloc, "--data here --sync turn", "here", false, true));
     assert!(rt; saves_in(alloc, "--sync none --data here", "here", false, false));
+    Ok(())
+}
+
+/// How many folders the words name.
+fn folders_of(alloc: Global, words: &str) -> Option<usize> {
+    match read(alloc, words) {
+        Some(Ok(settings)) => match &settings.data {
+            Some(data) => Some(data.paths.len()),
+            None => None,
+        },
+        _ => None,
+    }
+}
+
+#[test]
+fn several_folders_have_a_copy_each(rt: HostRuntime) -> Result<(), Fail> {
+    let alloc = rt.alloc();
+    assert!(rt; folders_of(alloc, "--data a --data b --new --data c") == Some(3));
+    assert!(rt; folders_of(alloc, "--data a") == Some(1));
+    assert!(rt; folders_of(alloc, "--u 0").is_none());
     Ok(())
 }
 
@@ -184,7 +204,11 @@ fn other_words_are_refused(rt: HostRuntime) -> Result<(), Fail> {
         ("--data a --sync some", ErrorKind::InvalidValue),
         ("--data=", ErrorKind::ValueValidation),
         ("--data", ErrorKind::InvalidValue),
-        ("--data a --data b", ErrorKind::ArgumentConflict),
+        ("--data a --data b --data a", ErrorKind::ArgumentConflict),
+        (
+            "--data a --data b --data c --data d --data e --data f --data g --data h --data i --data j",
+            ErrorKind::ValueValidation,
+        ),
         ("--max-bytes 1k", ErrorKind::ValueValidation),
         ("--max-bytes 17179869184G", ErrorKind::ValueValidation),
         ("--listen 127.0.0.1", ErrorKind::ValueValidation),

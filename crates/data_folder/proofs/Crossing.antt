@@ -1,10 +1,7 @@
--- A folder goes to the thread of its service, and is lent to the thread that saves.
-use mathlib.Core.List.{[], ◌∷◌}
-use mir.Syntax.{Sym}
+-- A folder goes to the thread of its service, and is lent to the threads that save.
 use denote.RattleType.{RattleType}
 use denote.Struct.Declared.{shape}
-use denote.Struct.Tuple.{TupleAt, type_at}
-use denote.Param.Send.{IsSend, sendable, recorded_send, struct_send}
+use denote.Param.Send.{IsSend, IsSync, sendable, recorded_send, recorded_sync, struct_send, struct_sync}
 use Rattle.std.proofs.Crossing.{crosses}
 use Rattle.std.proofs.alloc.Global.TheSendSync as global
 use Rattle.std.proofs.option.Option.TheSendSync as option
@@ -16,10 +13,8 @@ use Rattle.proto.proofs.key.Key.TheSendSync as key
 use Rattle.proto.proofs.block.Block.TheSendSync as block
 use Rattle.items.proofs.item.Item.TheSendSync as item
 use Rattle.wire.proofs.counted.Counted.TheSendSync as counted
-use Rattle.ensemble.proofs.Crossing.{state_send}
-use Rattle.folders.proofs.stamp.SaveStamp.TheSendSync as stamp
+use Rattle.ensemble.proofs.Crossing.{state_send, state_sync}
 use Rattle.shelf.proofs.waiting.WaitingChanges.TheSendSync as waiting
-use Rattle.server.proofs.save.SaveFault.TheSendSync as fault
 use Rattle.sqlite_store.proofs.store.FileStore.TheSendSync as file_store
 use Rattle.sqlite_disk.proofs.modelled.Modelled.TheSendSync as modelled
 use Rattle.sqlite_disk.proofs.start.Unknown.TheSendSync as unknown
@@ -31,7 +26,7 @@ use Rattle.row_store.specs.contracts.rows.RowStore as rows
 use Rattle.shelf.specs.contracts.shelf.Shelf as shelf
 use Rattle.data_folder.specs.contracts.folder.DataFolder as folder
 use Rattle.data_folder.specs.contracts.host.HostFolder as host
-use Rattle.data_folder.specs.contracts.host.LentFolder as lent
+use Rattle.data_folder.specs.contracts.stored_record.StoredRecord as stored
 
 ruleset parts = (
   text.the_send,
@@ -46,10 +41,6 @@ ruleset parts = (
   item.the_send,
   item.the_sync,
   counted.the_send,
-  stamp.the_field_send,
-  stamp.the_send,
-  fault.the_field_send,
-  fault.the_send,
   arc.the_send,
   arc.the_sync,
   vec.the_send,
@@ -69,10 +60,10 @@ rows_send : (T : RattleType) (g : store.Ghosts T.Denot) → IsSend T → IsSend 
 rows_send T g s = struct_send (shape (rows.the_type T g)) (s, ((search (parts, sendable)), tt))
 
 shelf_send : (T : RattleType) (g : store.Ghosts T.Denot) → IsSend T → IsSend (shelf.the_field T g).row
-shelf_send T g s = struct_send (shape (shelf.the_type T g)) (rows_send T g s, ((search (waiting.the_field_send, parts, sendable) depth 60 fits 20000), ((search (parts, sendable)), tt)))
+shelf_send T g s = struct_send (shape (shelf.the_type T g)) (rows_send T g s, ((search (waiting.the_field_send, parts, sendable) depth 60 fits 20000), tt))
 
 folder_field : (T : RattleType) (g : store.Ghosts T.Denot) → IsSend T → IsSend (folder.the_field T g).row
-folder_field T g s = struct_send (shape (folder.the_type T g)) (shelf_send T g s, (state_send, ((search (parts, sendable)), ((search (parts, sendable)), tt))))
+folder_field T g s = struct_send (shape (folder.the_type T g)) (shelf_send T g s, (state_send, ((search (crosses, sendable)), tt)))
 
 -- If its store may.
 pub folder_send : (T : RattleType) (g : store.Ghosts T.Denot) → IsSend T → IsSend (folder.the_row T g)
@@ -84,18 +75,16 @@ start_send = search (unknown.the_send, crosses, sendable) depth 60 fits 20000
 file_send : IsSend file.the_row
 file_send = search (crosses, sendable) depth 60 fits 20000
 
-lent_field : IsSend lent.the_field.row
-lent_field = struct_send (shape lent.the_type) ((search (folder_field, file_store.the_field_send, file_store.the_send, optional.the_send, modelled.the_send, file_send, start_send, crosses, sendable) depth 60 fits 20000), tt)
-
-pub lent_send : IsSend lent.the_row
-lent_send = recorded_send _ _ _ lent.the_type.to_one lent_field
+host_field : IsSend host.the_field.row
+host_field = struct_send (shape host.the_type) ((search (folder_field, file_store.the_field_send, file_store.the_send, optional.the_send, modelled.the_send, file_send, start_send, crosses, sendable) depth 60 fits 20000), tt)
 
 -- A folder of the host may.
 pub host_send : IsSend host.the_row
-host_send = recorded_send _ _ _ host.the_type.to_one (struct_send (shape host.the_type) (lent_field, tt))
+host_send = recorded_send _ _ _ host.the_type.to_one host_field
 
--- what a closure lends to another thread, if each thing may go there
-pub three_are_lent : (name : Sym) (A B C : RattleType) → IsSend A → IsSend B → IsSend C → IsSend (TupleAt name (A ∷ B ∷ C ∷ []))
-three_are_lent name A B C a b c =
-    let lent = type_at name (A ∷ B ∷ C ∷ []) in
-    recorded_send _ _ _ lent.to_one (struct_send (shape lent) (a, (b, (c, tt))))
+stored_field : IsSync stored.the_field.row
+stored_field = struct_sync (shape stored.the_type) ((search (parts, sendable) depth 60 fits 20000), (state_sync, tt))
+
+-- Threads that save share what is stored.
+pub stored_sync : IsSync stored.the_row
+stored_sync = recorded_sync _ _ _ stored.the_type.to_one stored_field

@@ -28,8 +28,11 @@ pub enum DataFault {
     /// It is a database, and none that this program made.
     #[error("a database of another program")]
     OtherTables,
-    /// The data is of another site, or one of several folders.
-    #[error("data of another site, or of several folders")]
+    /// The data is one of so many copies, in as many folders.
+    #[error("made with {0} folders")]
+    OtherFolders(u32),
+    /// The data is of another site than that of the other folders.
+    #[error("data of another site than that of the other folders")]
     OtherSite,
     /// A page, a row or the text is none that was written, or the items are not those of the state.
     #[error("damaged")]

@@ -1,38 +1,26 @@
 //! The file of a folder, opened.
 
-ghost use Rattle.std.specs.Prelude.{IsTrue, IfOk};
-ghost use Rattle.sqlite_trees.specs.View.{IsClean};
-ghost use Rattle.sqlite_store.specs.FileStore.{view};
-ghost use Rattle.data_folder.specs.Found.{FindsRecord};
+ghost use Rattle.std.specs.Prelude.{IfOk};
+ghost use Rattle.sqlite_store.specs.FileStore.{view, recovers};
+ghost use Rattle.data_folder.specs.Found.{MayFind, FindsCopy};
 
 use crate::fault::DataFault;
 use crate::folder::DataFolder;
+use crate::found_copy::{FoundCopy, Wanted};
 use crate::tables::{has_tables, set_version};
-use service::ServiceRecord;
 use sqlite::{Alter, Connection, File, FileStore, Files, Options, Unknown};
 use std::fs;
 use std::hash::{BuildHasher, RandomState};
 use unsynced::OptionalSync;
 
 /// The file's name in its folder.
-const FILE: &str = "eve.db";
+pub const FILE: &str = "eve.db";
 
 /// The files of a folder: the database and its log.
 pub const FILES: [&str; 2] = [FILE, "eve.db-wal"];
 
 /// The disk of a folder, whose syncs may be turned off.
 pub type FolderStore = FileStore<OptionalSync<File>>;
-
-/// How a folder is opened.
-#[derive(Clone, Copy, Debug)]
-pub struct FolderOptions {
-    /// No data is in it yet. Else some is.
-    pub is_new: bool,
-    /// The data is of a service of `2u + 1` nodes of each kind.
-    pub u: u8,
-    /// Each save is synced. Else what was saved stays if the process ends, and not if the machine does.
-    pub syncs: bool,
-}
 
 /// The database at this path, in which each page has a sum.
 fn database_at(
@@ -59,10 +47,11 @@ fn database_at(
 fn store_at(
     rt: &HostRuntime,
     path: &str,
-    options: FolderOptions,
+    is_new: bool,
+    syncs: bool,
 ) -> Result<FolderStore, DataFault> {
-    let mut connection = database_at(rt, path, options.syncs)?;
-    let has_tables = has_tables(&mut connection, options.is_new)?;
+    let mut connection = database_at(rt, path, syncs)?;
+    let has_tables = has_tables(&mut connection, is_new)?;
     let store = connection.into_store();
     if has_tables {
         return Ok(store);
@@ -85,8 +74,9 @@ fn versioned(store: FolderStore) -> Result<FolderStore, DataFault> {
 
 impl DataFolder<FolderStore> {
     /// Opens the file `eve.db` in the folder, for this process alone: until the result is dropped every other open of it
-    /// is refused. It gives the record that was saved last, if there is one. A folder without data needs `is_new`, and one
+    /// is refused. It gives what was saved last, if there is something. A folder without data needs `is_new`, and one
     /// with data refuses it: so a disk that is not mounted is not taken for an empty one. The folder has to be there.
+    /// With `syncs` each save is synced. Else what was saved stays if the process ends, and not if the machine does.
     ///
     /// A file that was damaged is refused: its pages have sums, each row is as it was written or is refused, and the items
     /// are those of the state that was saved, since its token is made anew from them. That is not proved of an item that
@@ -96,16 +86,17 @@ impl DataFolder<FolderStore> {
     pub fn open(
         rt: &HostRuntime,
         folder: &str,
-        options: FolderOptions,
-    ) -> Result<(DataFolder<FolderStore>, Option<ServiceRecord>), DataFault>
-        ensures { IfOk result (λ opened. IsClean (view opened.0.shelf.rows.store) → IsTrue (view opened.0.shelf.rows.store).is_open → FindsRecord (view opened.0.shelf.rows.store).committed opened.1) }
+        wanted: Wanted,
+        syncs: bool,
+    ) -> Result<(DataFolder<FolderStore>, Option<FoundCopy>), DataFault>
+        ensures { IfOk result (λ opened. FindsCopy (MayFind (view opened.0.shelf.rows.store) (recovers opened.0.shelf.rows.store)) opened.1) }
     {
         let path = format!(in rt.alloc(); "{folder}/{FILE}")?;
-        if !options.is_new && !fs::exists(rt, path.as_str())? {
+        if !wanted.is_new && !fs::exists(rt, path.as_str())? {
             return Err(DataFault::NoData);
         }
-        let store = store_at(rt, path.as_str(), options)?;
+        let store = store_at(rt, path.as_str(), wanted.is_new, syncs)?;
         let store = versioned(store)?;
-        DataFolder::over(rt.alloc(), store, options.is_new, options.u)
+        DataFolder::over(rt.alloc(), store, wanted)
     }
 }

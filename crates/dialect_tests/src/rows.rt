@@ -1,5 +1,5 @@
-//! Lines with their blocks, and what is told of them: the rows are those of the page that says what
-//! the dialect is, and were tried with memcached 1.6.18.
+//! Lines with their blocks, and what they give: the rows are those of the page that says what the dialect
+//! is, and were tried with memcached 1.6.18.
 
 use crate::tell::{Row, are_told};
 use std::test::Fail;

@@ -171,7 +171,7 @@ fn add_turn(alloc: Global, turn: &Turn, out: &mut Vec<u8>) -> Result<(), AllocEr
     }
 }
 
-/// The turns of the piece. If a growth is refused it is fed once more: nothing has changed by then.
+/// The turns of the piece. If an allocation fails it is fed once more: nothing has changed by then.
 fn feed_again(alloc: Global, reader: &mut Reader, piece: &[u8]) -> Result<Vec<Turn>, AllocError> {
     match reader.feed(alloc, piece) {
         Ok(turns) => Ok(turns),

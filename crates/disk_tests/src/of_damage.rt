@@ -1,4 +1,5 @@
-//! Damage at each byte of both files: it is told when the files are opened or read, or what is read is what some save made.
+//! Damage at each byte of both files: it is reported when they are opened or read, or what is read is what some
+//! save made.
 
 use crate::files::{Image, image_of, made, opened};
 use crate::turns::{TURNS, content_of, is_of_a_turn, save_all};

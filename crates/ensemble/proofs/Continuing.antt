@@ -16,6 +16,7 @@ use Rattle.ensemble.specs.Steps.{ExecutorsGoOn, VerifiersGoOn, NodesGoOn, Letter
 use Rattle.ensemble.proofs.Moments.{Order, now_both}
 use Rattle.ensemble.proofs.Goes.{ensemble_noted}
 use Rattle.ensemble.proofs.Going.{take_held_goes, cut_goes, collect_goes, open_executor_goes, open_verifier_at_goes, suspect_at_goes, trim_at_goes, run_jobs_goes, again_at_goes, deliver_goes, deliver_none, asks_goes}
+use Rattle.ensemble.proofs.StopLemmas.{stop_executor_goes, stop_verifier_goes}
 use Rattle.ensemble.proofs.Served.{any_besides}
 use Rattle.ensemble.proofs.Ending.{MayBecome, goes_on_after}
 
@@ -37,12 +38,14 @@ module _ (e : EnsembleView) (n : NodesView) where
   executors_go_on steps (inr (inl cut)) before h = cut_goes (ensemble_after before e) n h cut.id cut.moment (still_now before.order e.order cut.moment cut.now) cut.moves
   executors_go_on steps (inr (inr (inl collects))) before h = collect_goes (ensemble_after before e) n h collects.0 collects.1
   executors_go_on steps (inr (inr (inr (inl opens)))) before h = open_executor_goes (ensemble_after before e) n h opens.0 (inl opens.1)
-  executors_go_on steps (inr (inr (inr (inr runs)))) before h = run_jobs_goes (ensemble_after before e) n h steps runs
+  executors_go_on steps (inr (inr (inr (inr (inl stops))))) before h = stop_executor_goes (ensemble_after before e) n h stops.0 stops.1
+  executors_go_on steps (inr (inr (inr (inr (inr runs))))) before h = run_jobs_goes (ensemble_after before e) n h steps runs
 
   verifiers_go_on : VerifiersGoOn e n → MayBecome e (record e { nodes = n })
   verifiers_go_on (inl suspects) before h = suspect_at_goes (ensemble_after before e) n h suspects.0 suspects.1
   verifiers_go_on (inr (inl trims)) before h = trim_at_goes (ensemble_after before e) n h trims.0 trims.1
-  verifiers_go_on (inr (inr opens)) before h = open_verifier_at_goes (ensemble_after before e) n h opens.0 (inl opens.1)
+  verifiers_go_on (inr (inr (inl opens))) before h = open_verifier_at_goes (ensemble_after before e) n h opens.0 (inl opens.1)
+  verifiers_go_on (inr (inr (inr stops))) before h = stop_verifier_goes (ensemble_after before e) n h stops.0 stops.1
 
   nodes_go_on : RunIsSteps → NodesGoOn e n → MayBecome e (record e { nodes = n })
   nodes_go_on steps (inl executors) = executors_go_on steps executors

@@ -134,7 +134,7 @@ ruleset shares = (
 pub state_send : IsSend state.the_row
 state_send = search (parts, sendable) depth 60 fits 20000
 
-state_sync : IsSync state.the_row
+pub state_sync : IsSync state.the_row
 state_sync = search (shares, parts, sendable) depth 60 fits 20000
 
 pages_send : IsSend pages.the_row

@@ -35,7 +35,7 @@ stopped_verifier slot = crashed_slot verifier_kept slot
 
 -- ---- all replicas crash
 
-executor_crashes : {cut : Option ℕ} → (w : WorldView) (id : ℕ) (slot : Slot ExecutorView) → slice_get w.executors id ≡ Some slot → Moves cut w (record w { executors = slice_set w.executors id (stopped_executor slot) })
+pub executor_crashes : {cut : Option ℕ} → (w : WorldView) (id : ℕ) (slot : Slot ExecutorView) → slice_get w.executors id ≡ Some slot → Moves cut w (record w { executors = slice_set w.executors id (stopped_executor slot) })
 executor_crashes {cut} w id slot at =
     let now : WorldView = record w { executors = slice_set w.executors id (stopped_executor slot) } in
     let next : WorldNext w (Crash (Executor id)) now = λ i. record w { executors = changed_at w.executors id (crashed_slot executor_kept) (sym at i) } in
@@ -55,7 +55,7 @@ executors_crash {cut} w these (slot ∷ rest) is =
     let later : Moves cut mid now = executors_crash mid (these ++ left ∷ []) rest at in
     subst (λ (slots : List (Slot ExecutorView)). Moves cut w (record w { executors = slots })) (append_assoc these (left ∷ []) (map stopped_executor rest)) (moves_on w mid now first later)
 
-verifier_crashes : {cut : Option ℕ} → (w : WorldView) (id : ℕ) (slot : Slot VerifierView) → slice_get w.verifiers id ≡ Some slot → Moves cut w (record w { verifiers = slice_set w.verifiers id (stopped_verifier slot) })
+pub verifier_crashes : {cut : Option ℕ} → (w : WorldView) (id : ℕ) (slot : Slot VerifierView) → slice_get w.verifiers id ≡ Some slot → Moves cut w (record w { verifiers = slice_set w.verifiers id (stopped_verifier slot) })
 verifier_crashes {cut} w id slot at =
     let now : WorldView = record w { verifiers = slice_set w.verifiers id (stopped_verifier slot) } in
     let next : WorldNext w (Crash (Verifier id)) now = λ i. record w { verifiers = changed_at w.verifiers id (crashed_slot verifier_kept) (sym at i) } in

@@ -38,7 +38,7 @@ slot_of h = h.slot
 abbrev client_in : ClientSlot → ClientView
 client_in slot = slot.client
 
-nothing_next : next_turn [] ≡ None
+pub nothing_next : next_turn [] ≡ None
 unfolding next_turn
 nothing_next = refl
 
@@ -50,18 +50,18 @@ same_executors : (u n : ℕ) → all_up (first_executor u) n ≡ map slot_of (fi
 same_executors u zero = refl
 same_executors u (suc n) = ap (λ (xs : List (Slot ExecutorView)). xs ++ Up (first_executor u n) ∷ []) (same_executors u n) ∙ sym (map_snoc slot_of (first_hosts u n) (first_host u n))
 
-same_clients : (u n : ℕ) → map client_in (new_clients u n) ≡ map (client_of u) (first_proxies_of n)
+pub same_clients : (u n : ℕ) → map client_in (new_clients u n) ≡ map (client_of u) (first_proxies_of n)
 same_clients u zero = refl
 same_clients u (suc n) =
     let p : ProxyView = record { client = suc n; last = 0; asked = None } in
     map_snoc client_in (new_clients u n) (record { client = client_of u p; given = [] })
     ∙ (ap (λ (xs : List ClientView). xs ++ client_of u p ∷ []) (same_clients u n) ∙ sym (map_snoc (client_of u) (first_proxies_of n) p))
 
-count_of : (n : ℕ) → length (first_proxies_of n) ≡ n
+pub count_of : (n : ℕ) → length (first_proxies_of n) ≡ n
 count_of zero = refl
 count_of (suc n) = length-append (first_proxies_of n) (record { client = suc n; last = 0; asked = None } ∷ []) ∙ (ap (λ (k : ℕ). k + 1) (count_of n) ∙ add-one n)
 
-of_proxies : (n i : ℕ) (p : ProxyView) → slice_get (first_proxies_of n) i ≡ Some p → (p.client ≡ suc i) × (p.last ≡ 0)
+pub of_proxies : (n i : ℕ) (p : ProxyView) → slice_get (first_proxies_of n) i ≡ Some p → (p.client ≡ suc i) × (p.last ≡ 0)
 of_proxies zero i p at = absurd (cc at)
 of_proxies (suc n) i p at =
     let new : ProxyView = record { client = suc n; last = 0; asked = None } in
@@ -77,11 +77,11 @@ of_hosts u (suc n) id h at = ⊎_elim
     (λ (last : (id ≡ length (first_hosts u n)) × (h ≡ first_host u n)). (ap (λ (k : HostView). k.held) last.1, ap (λ (k : HostView). k.sent) last.1))
     (at_end (first_hosts u n) (first_host u n) h id at)
 
-no_event : (before : List Event) (e : Event) (after : List Event) → [] ≡ before ++ e ∷ after → ⊥
+pub no_event : (before : List Event) (e : Event) (after : List Event) → [] ≡ before ++ e ∷ after → ⊥
 no_event [] e after is = cc is
 no_event (x ∷ before) e after is = cc is
 
-begins_empty : (early late : Order) → [] ≡ early ++ late → [] ≡ early
+pub begins_empty : (early late : Order) → [] ≡ early ++ late → [] ≡ early
 begins_empty [] late is = refl
 begins_empty (x ∷ early) late is = absurd (cc is)
 

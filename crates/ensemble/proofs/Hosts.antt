@@ -144,7 +144,7 @@ host_goes {cut} Does n now w id like acts m =
 -- ---- what hosts do
 
 -- its executor was given an input, or opened
-acts_settled : {cut : Option ℕ} → (w : WorldView) (id : ℕ) (h left : HostView) (slot : Slot ExecutorView) (sent : List (Letter Body)) → HasSent h id w.letters → Moves cut w (with_executor w id slot sent) → left ≡ record h { slot = slot } → Acts cut w id left sent
+pub acts_settled : {cut : Option ℕ} → (w : WorldView) (id : ℕ) (h left : HostView) (slot : Slot ExecutorView) (sent : List (Letter Body)) → HasSent h id w.letters → Moves cut w (with_executor w id slot sent) → left ≡ record h { slot = slot } → Acts cut w id left sent
 acts_settled {cut} w id h left slot sent has moves is = subst (λ (x : HostView). Acts cut w id x sent) (sym is) (record {
   new = sent;
   moves = moves;
@@ -204,10 +204,10 @@ acts_advances {cut} w id h left sent at has (inr (forgets, none)) = subst (λ (x
 
 -- ---- jobs
 
-abbrev RunsAlone : HostView → HostView → List (Letter Body) → Type 0
+abbrev pub RunsAlone : HostView → HostView → List (Letter Body) → Type 0
 RunsAlone h left sent = HostRuns h left × (sent ≡ [])
 
-acts_runs : {cut : Option ℕ} → RunIsSteps → (w : WorldView) (id : ℕ) (h left : HostView) (sent : List (Letter Body)) → slice_get w.executors id ≡ Some h.slot → HasSent h id w.letters → RunsAlone h left sent → Acts cut w id left sent
+pub acts_runs : {cut : Option ℕ} → RunIsSteps → (w : WorldView) (id : ℕ) (h left : HostView) (sent : List (Letter Body)) → slice_get w.executors id ≡ Some h.slot → HasSent h id w.letters → RunsAlone h left sent → Acts cut w id left sent
 acts_runs {cut} steps w id h left sent at has (did, none) =
     let inputs = steps h.slot did.0 did.1 did.2 in
     subst (λ (x : HostView). Acts cut w id x sent) (sym did.3) (record {

@@ -1,23 +1,24 @@
-mod Lists
-mod Sizes
+pub mod Lists
+pub mod Sizes
 pub mod Moments
 pub mod Past
-mod Goes
-mod Hosts
-mod Verifiers
-mod Clients
-mod Numbered
-mod Logs
-mod Asks
-mod GhostVec
-mod First
-mod Going
-mod Sending
-mod Cutting
-mod Served
-mod Trimming
-mod Collecting
-mod Ending
-mod Begun
-mod Continuing
+pub mod Goes
+pub mod Hosts
+pub mod Verifiers
+pub mod Clients
+pub mod Numbered
+pub mod Logs
+pub mod Asks
+pub mod GhostVec
+pub mod First
+pub mod Going
+pub mod Sending
+pub mod Cutting
+pub mod Served
+pub mod Trimming
+pub mod Collecting
+pub mod Ending
+pub mod StopLemmas
+pub mod Begun
+pub mod Continuing
 pub mod Crossing

@@ -28,7 +28,7 @@ use Rattle.ensemble.proofs.Moments.{cut_by}
 use Rattle.ensemble.proofs.Goes.{Moves, stays, moves_by, Goes, goes_nowhere, same_proxies}
 
 -- what a verifier did is an event, or nothing
-abbrev Acts : Option ℕ → WorldView → ℕ → Slot VerifierView → List (Letter Ballot) → Type 0
+abbrev pub Acts : Option ℕ → WorldView → ℕ → Slot VerifierView → List (Letter Ballot) → Type 0
 Acts cut w id left sent = Moves cut w (with_verifier w id left sent)
 
 acts_given : {cut : Option ℕ} → (w : WorldView) (id : ℕ) (x : Input) (e : Event) (old left : Slot VerifierView) (sent : List (Letter Ballot)) → slice_get w.verifiers id ≡ Some old → VerifierSettles old x left sent
@@ -81,7 +81,7 @@ like_acts n w id left sent mail like grows = record {
   hosts = λ j k there. sent_still k j w.letters (map as_sent sent) (like.hosts j k there);
 }
 
-verifier_goes : {cut : Option ℕ} → (Does : Slot VerifierView → Slot VerifierView → List (Letter Ballot) → Type 0) (n now : NodesView) (w : WorldView) (id : ℕ) → IsLike n w
+pub verifier_goes : {cut : Option ℕ} → (Does : Slot VerifierView → Slot VerifierView → List (Letter Ballot) → Type 0) (n now : NodesView) (w : WorldView) (id : ℕ) → IsLike n w
     → ((old left : Slot VerifierView) (sent : List (Letter Ballot)) → slice_get w.verifiers id ≡ Some old → Does old left sent → Acts cut w id left sent)
     → VerifierMoves Does id n now → Goes cut n now w
 verifier_goes {cut} Does n now w id like acts m =

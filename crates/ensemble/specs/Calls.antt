@@ -1,11 +1,16 @@
 -- What is done of one replica, and of what jobs send.
 use Rattle.std.specs.Prelude.{◌≡◌, ℕ, ◌+◌, ◌-◌, ◌*◌, ◌^◌, ◌<◌, ◌≤◌, List, [], ◌++◌, flat_map, take, Some, slice_get}
+use Rattle.decrees.specs.declared.ballot.Ballot.{Ballot}
 use Rattle.decrees.specs.declared.node.Letter.{Letter}
 use Rattle.events.specs.declared.event.Replica.{Replica}
 use Rattle.events.specs.declared.event.Replica.TheVariants as replica
 use Rattle.exec_lines.specs.declared.body.Body.{Body}
+use Rattle.verifier.specs.Verifier.{VerifierView}
+use Rattle.worlds.specs.Slot.{Slot}
+use Rattle.worlds.specs.Slots.{verifier_kept, crashed_slot}
 use Rattle.hosts.specs.Host.{HostView, HostReopens}
-use Rattle.ensemble.specs.Nodes.{NodesView, AtHost, HostMoves, VerifierMoves, VerifierOpens, RunsAll}
+use Rattle.hosts.specs.Stops.{HostStops}
+use Rattle.ensemble.specs.Nodes.{NodesView, AtHost, HostMoves, AtVerifier, VerifierMoves, VerifierOpens, RunsAll}
 use Rattle.ensemble.specs.Served.{VerifierPosts}
 
 -- the host of this number, if it is there, did this, and what it sent is under way
@@ -34,6 +39,17 @@ IsReopened (replica.Verifier id) n now = OnlyMember id (VerifierMoves (VerifierO
 abbrev pub IsReopenedAndPosts : Replica → NodesView → NodesView → Type 0
 IsReopenedAndPosts (replica.Executor id) n now = OnlyMember id (HostPosts (λ h left sent. HostReopens n.u id h left sent) id n now) n now
 IsReopenedAndPosts (replica.Verifier id) n now = OnlyMember id (VerifierPosts (VerifierOpens n.u id) id n now) n now
+
+-- ---- a replica stops
+
+-- it stopped, if it was up, and is down with what it kept
+abbrev pub VerifierCrashes : Slot VerifierView → Slot VerifierView → List (Letter Ballot) → Type 0
+VerifierCrashes v left sent = (left ≡ crashed_slot verifier_kept v) × (sent ≡ [])
+
+-- just this replica stopped, if it is there and was up: it is down with what it kept, and all else is as it was
+abbrev pub IsStopped : Replica → NodesView → NodesView → Type 0
+IsStopped (replica.Executor id) n now = (executors : List HostView) × AtHost HostStops id n.executors executors [] × (now ≡ record n { executors = executors })
+IsStopped (replica.Verifier id) n now = (verifiers : List (Slot VerifierView)) × AtVerifier VerifierCrashes id n.verifiers verifiers [] × (now ≡ record n { verifiers = verifiers })
 
 -- ---- jobs
 

@@ -6,10 +6,12 @@ use Rattle.sessions.specs.declared.request.Request.{Request}
 use Rattle.exec_lines.specs.declared.input.Input.TheVariants as executor_input
 use Rattle.verifier.specs.declared.input.Input.TheVariants as verifier_input
 use Rattle.hosts.specs.Host.{HostSettles, HostReopens, HostCollects}
+use Rattle.hosts.specs.Stops.{HostStops}
 use Rattle.memcached_spec.specs.Asked.{HasText}
 use Rattle.ensemble.specs.declared.answer.Answer.{Answer}
 use Rattle.ensemble.specs.declared.noted.Noted.TheVariants as noted
 use Rattle.ensemble.specs.Nodes.{NodesView, HostMoves, HostAdvances, VerifierMoves, VerifierGets, VerifierOpens, VerifierTrims, Delivers, RunsAll, IsAskedBy, IsPosted, AsksAgain}
+use Rattle.ensemble.specs.Calls.{VerifierCrashes}
 use Rattle.ensemble.specs.Moments.{IsNow}
 use Rattle.ensemble.specs.Ensemble.{EnsembleView, answer_log, order_log, moment_entry}
 
@@ -20,21 +22,23 @@ pub record IsCutNow (e : EnsembleView) (n : NodesView) : Type 0 where
   pub now : IsNow e.order moment
   pub moves : HostMoves (λ h left sent. HostSettles h (executor_input.Cut moment) left sent) id e.nodes n
 
--- what is done of executors: one is given an order that it held, cuts, sends what its jobs left, or is opened; or all run their jobs
+-- what is done of executors: one is given an order that it held, cuts, sends what its jobs left, is opened, or stops; or all run their jobs
 abbrev pub ExecutorsGoOn : EnsembleView → NodesView → Type 0
 ExecutorsGoOn e n =
     ((id : ℕ) × HostMoves HostAdvances id e.nodes n)
     ⊎ IsCutNow e n
     ⊎ ((id : ℕ) × HostMoves HostCollects id e.nodes n)
     ⊎ ((id : ℕ) × HostMoves (λ h left sent. HostReopens e.nodes.u id h left sent) id e.nodes n)
+    ⊎ ((id : ℕ) × HostMoves HostStops id e.nodes n)
     ⊎ RunsAll e.nodes n
 
--- what is done of verifiers: one suspects the leader, forgets decrees, or is opened
+-- what is done of verifiers: one suspects the leader, forgets decrees, is opened, or stops
 abbrev pub VerifiersGoOn : EnsembleView → NodesView → Type 0
 VerifiersGoOn e n =
     ((id : ℕ) × VerifierMoves (VerifierGets verifier_input.Suspect) id e.nodes n)
     ⊎ ((id : ℕ) × VerifierMoves VerifierTrims id e.nodes n)
     ⊎ ((id : ℕ) × VerifierMoves (VerifierOpens e.nodes.u id) id e.nodes n)
+    ⊎ ((id : ℕ) × VerifierMoves VerifierCrashes id e.nodes n)
 
 -- or a proxy asks again
 abbrev pub NodesGoOn : EnsembleView → NodesView → Type 0

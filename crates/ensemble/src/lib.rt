@@ -4,6 +4,7 @@
 //!     let number = ensemble.ask(alloc, 1, command, quiet)?;               // proxy 1, which is free, asks
 //!     let answers = ensemble.work(rt, clock, alloc, seconds);             // until the replicas can do nothing more
 //!     ensemble.again(alloc, 1);                                           // no reply came: it asks all executors
+//!     ensemble.stop(Replica::Executor(0));                                // a node stops, and keeps its record
 //!     ensemble.restart(alloc, Replica::Executor(0));                      // a node that stopped is opened again
 //!     let record = ensemble.record(alloc)?;                               // what is kept of it when its process ends
 //!     let ensemble = Ensemble::reopen(alloc, record)?;                    // another process goes on from there
@@ -31,14 +32,16 @@ mod progress;
 mod recording;
 mod refusing;
 mod showing;
+mod stopping;
 mod tending;
 mod times;
 mod working;
 
 pub use answer::Answer;
 pub use ensemble::Ensemble;
+pub use nodes::Nodes;
 pub use noted::Noted;
-pub use pages::PAGES;
+pub use opening::first_proxies;
 pub use process_laws::{
     a_process_comes_back, a_reopened_ensemble_follows, an_ensemble_goes_on_after_a_process,
     processes_follow_each_other,

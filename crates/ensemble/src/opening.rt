@@ -18,7 +18,7 @@ use std::collections::VecDeque;
 use worlds::{Config, VerifierPlace};
 
 /// So many proxies that have asked nothing.
-fn first_proxies(alloc: Global, count: u16) -> Result<Vec<Proxy>, AllocError>
+pub fn first_proxies(alloc: Global, count: u16) -> Result<Vec<Proxy>, AllocError>
     ensures { IfOk result (λ proxies. proxies.items ≡ first_proxies_of count) }
 {
     let mut proxies = Vec::new(alloc);

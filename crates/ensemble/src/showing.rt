@@ -1,7 +1,6 @@
 //! Where the replicas are, for whoever watches. Nothing is decided by it.
 
 use crate::ensemble::Ensemble;
-use std::alloc::Global;
 
 impl Ensemble {
     /// The number of the last committed state of the executors that are up: 0 if none is.
@@ -25,11 +24,10 @@ impl Ensemble {
         0
     }
 
-    /// How many bytes the keys and the data have of all items on this page of that state. None: no executor is up, or
-    /// there is no memory to look.
-    pub fn page_bytes(&self, alloc: Global, number: usize) -> Option<u64> {
+    /// How many bytes the keys and the data have of all items of that state. None: no executor is up.
+    pub fn item_bytes(&self) -> Option<u64> {
         for host in &self.nodes.executors {
-            if let Some(bytes) = host.page_bytes(alloc, number) {
+            if let Some(bytes) = host.item_bytes() {
                 return Some(bytes);
             }
         }

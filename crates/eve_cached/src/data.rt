@@ -1,13 +1,18 @@
-//! The folder in which all that is answered is saved first.
+//! The folders in which all that is answered is saved first.
 
 use crate::{DISK_FAILED, IN_USE, NO_DATA, REFUSED};
-use daemon::{NO_TARGET, Settings, Stamped};
-use data_folder::{DataFault, FolderOptions, HostFolder};
+use daemon::{DataPlace, NO_TARGET, Settings, Stamped, tell_trouble};
+use data_folder::{DataFault, HostFolder};
+use data_folders::{
+    FolderTrouble, FoldersFault, FoldersOptions, HostFolders, Opened, open_folders,
+};
 use log::error;
-use server::ServiceRecord;
+use server::{SaveFault, ServiceRecord};
+use std::rt::Clock;
+use std::thread::Threads;
 
-/// The status of a program whose folder cannot be used.
-fn status_of(fault: DataFault) -> u8 {
+/// The status of a program one of whose folders cannot be used.
+fn status_of_folder(fault: DataFault) -> u8 {
     match fault {
         DataFault::NoMemory => REFUSED,
         DataFault::InUse => IN_USE,
@@ -16,33 +21,95 @@ fn status_of(fault: DataFault) -> u8 {
     }
 }
 
+/// The status of a program whose folders cannot be used.
+fn status_of(fault: FoldersFault) -> u8 {
+    match fault {
+        FoldersFault::At(_, fault) => status_of_folder(fault),
+        FoldersFault::TooFew { .. } => NO_DATA,
+        FoldersFault::NotSaved(SaveFault::Disk) => DISK_FAILED,
+        FoldersFault::NotSaved(SaveFault::NoMemory) => REFUSED,
+        FoldersFault::NotSaved(_) => NO_DATA,
+        FoldersFault::NoMemory => REFUSED,
+    }
+}
+
 /// Where what is answered is saved.
 #[derive(Drop)]
 pub enum Data {
     Nowhere,
     In {
-        folder: HostFolder,
+        folders: HostFolders,
         /// What was saved there last.
         found: Option<ServiceRecord>,
     },
 }
 
-/// The folder of the settings, if they have one. If it cannot be used the log tells why.
-pub fn open_data(rt: &HostRuntime, settings: &Settings) -> Result<Data, u8> {
-    let Some(place) = &settings.data else {
-        return Ok(Data::Nowhere);
+/// Tells why the folders cannot be used. The program's status.
+fn refused<R: Clock + Eprint>(rt: &R, settings: &Settings, fault: FoldersFault) -> u8 {
+    let path = match (fault, &settings.data) {
+        (FoldersFault::At(at, _), Some(place)) => place.paths.get(at),
+        _ => None,
     };
-    let path = place.path.as_str();
-    let options = FolderOptions {
+    match path {
+        Some(path) => error!(Stamped(rt); target: NO_TARGET, "{path}: {fault}"),
+        None => error!(Stamped(rt); target: NO_TARGET, "{fault}"),
+    }
+    status_of(fault)
+}
+
+/// Tells which folders could not be read as they were.
+fn tell_troubles(rt: &HostRuntime, place: &DataPlace, troubles: &[FolderTrouble]) {
+    for trouble in troubles {
+        if let Some(path) = place.paths.get(trouble.folder) {
+            tell_trouble(
+                &Stamped(rt),
+                path.as_str(),
+                &trouble.fault,
+                trouble.is_renewed,
+            );
+        }
+    }
+}
+
+/// Opens the folders. The log tells which cannot be read as they were.
+fn open_places(
+    rt: &HostRuntime,
+    settings: &Settings,
+    place: &DataPlace,
+) -> Result<Opened<HostFolder>, u8> {
+    let options = FoldersOptions {
         is_new: place.is_new,
         u: settings.u,
         syncs: place.syncs,
     };
-    match HostFolder::open(rt, path, options) {
-        Ok((folder, found)) => Ok(Data::In { folder, found }),
-        Err(fault) => {
-            error!(Stamped(rt); target: NO_TARGET, "{path}: {fault}");
-            Err(status_of(fault))
-        }
+    let mut troubles = Vec::new(rt.alloc());
+    let opened = open_folders(rt, place.paths.as_slice(), options, &mut troubles);
+    tell_troubles(rt, place, &troubles);
+    match opened {
+        Ok(opened) => Ok(opened),
+        Err(fault) => Err(refused(rt, settings, fault)),
+    }
+}
+
+/// The folders of the settings, opened, if they have some. If they cannot be used the log tells why.
+pub fn open_data(rt: &HostRuntime, settings: &Settings) -> Result<Option<Opened<HostFolder>>, u8> {
+    match &settings.data {
+        Some(place) => Ok(Some(open_places(rt, settings, place)?)),
+        None => Ok(None),
+    }
+}
+
+/// Begins with what was opened. If that cannot be done the log tells why.
+pub fn begin_data<R: Threads + Clock + Eprint + AllocGlobal + Sync>(
+    rt: &R,
+    settings: &Settings,
+    opened: Option<Opened<HostFolder>>,
+) -> Result<Data, u8> {
+    let Some(opened) = opened else {
+        return Ok(Data::Nowhere);
+    };
+    match HostFolders::begin(rt, rt.alloc(), opened) {
+        Ok((folders, found)) => Ok(Data::In { folders, found }),
+        Err(fault) => Err(refused(rt, settings, fault)),
     }
 }

@@ -3,18 +3,21 @@
 ghost use Rattle.std.specs.Prelude.{◌<◌};
 
 use crate::showing::{Shown, show};
-use crate::watching::{Known, warn_of_files, watch};
+use crate::watching::{Known, connections_of, watch};
 use crate::{CANNOT, DISK_FAILED, REFUSED};
 use daemon::{
     Listen, NO_TARGET, Settings, Stamped, tell_begun, tell_listening, tell_start, tell_status,
 };
+use libc::net::{SO_KEEPALIVE, SOL_SOCKET, setsockopt};
 use log::{error, warn};
+use mio::net::TcpListener as MioTcpListener;
 use server::{
     Listener, Options, Save, SaveFault, ServeFault, Service, ServiceRecord, Watcher, serve_beside,
 };
-use service_laws::{replicas_agree_and_keep, service_is_linearizable};
+use service_laws::{replicas_agree_and_keep, service_goes_on, service_is_linearizable};
 use std::alloc::Global;
 use std::net::{Net, SocketAddr, TcpListener, TcpStream};
+use std::os::fd::AsRawFd;
 use std::os::unix::fs::FileTypeExt;
 use std::os::unix::net::{UnixListener, UnixStream};
 use std::rt::{Clock, Files};
@@ -32,18 +35,28 @@ struct Ports {
     status: Option<TcpListener>,
 }
 
-/// A listener at the address. If there is none, the log tells why.
+/// A listener at the address. If there is none, the log tells why. As many connections wait to be accepted as the system
+/// lets wait: of std's own listeners 128 do.
 fn bound<R: Net<Listener = TcpListener, Stream = TcpStream> + Clock + Eprint>(
     rt: &R,
     address: SocketAddr,
 ) -> Result<TcpListener, u8> {
-    match TcpListener::bind(rt, address) {
-        Ok(listener) => Ok(listener),
+    match MioTcpListener::bind(rt, address) {
+        Ok(listener) => Ok(TcpListener::from(listener)),
         Err(fault) => {
             error!(Stamped(rt); target: NO_TARGET, "cannot listen on {address}: {fault}");
             Err(CANNOT)
         }
     }
+}
+
+/// Has the system look now and then whether the client of a silent connection is still there: an accepted socket has this
+/// option if its listener has it. Whether the system took it.
+fn keep_alive(listener: &TcpListener) -> bool {
+    // The option is a C `int`, whose bytes these are.
+    let mut value = [0u8; 16];
+    value[0] = 1;
+    unsafe { setsockopt(listener.as_raw_fd(), SOL_SOCKET, SO_KEEPALIVE, &value, 4) == 0 }
 }
 
 /// A listener at the Unix socket. A socket that a process has left behind is removed.
@@ -72,6 +85,9 @@ fn listener<R: Net<Listener = TcpListener, Stream = TcpStream> + Clock + Files +
     match listen {
         Listen::Tcp(address) => {
             let listener = bound(rt, *address)?;
+            if !keep_alive(&listener) {
+                warn!(Stamped(rt); target: NO_TARGET, "clients that vanish are not noticed: no keepalive on {address}");
+            }
             let at = listener.local_addr().unwrap_or(*address);
             tell_listening(&Stamped(rt), &Listen::Tcp(at));
             Ok(Listener::Tcp(listener))
@@ -167,10 +183,12 @@ fn attend<
     });
 }
 
-/// Ends the service that has served. The history of its connections is linearizable, and its replicas agree and keep
-/// what they decided. Two laws say so, which do nothing.
+/// Ends the service that has served. The history of its connections is linearizable, also together with those of the
+/// processes before it, if it goes on from what they saved. Its replicas agree and keep what they decided. Three laws say
+/// so, which do nothing.
 fn end(service: Service) {
     service_is_linearizable(&service);
+    service_goes_on(&service);
     replicas_agree_and_keep(&service);
     service.end();
 }
@@ -201,10 +219,10 @@ fn refused<R: Clock + Eprint>(rt: &R, fault: ServeFault) -> u8 {
     }
 }
 
-/// How the settings have it serve.
-fn options_of(settings: &Settings) -> Options {
+/// How the settings have it serve, with so many connections at once.
+fn options_of(settings: &Settings, connections: u16) -> Options {
     Options {
-        connections: usize::from(settings.connections),
+        connections: usize::from(connections),
         refusal: TOO_MANY,
         idle_seconds: settings.idle,
         u: settings.u,
@@ -213,17 +231,18 @@ fn options_of(settings: &Settings) -> Options {
     }
 }
 
-/// Tells what runs, as it begins, and whether it begins with nothing although it saves.
+/// Tells what runs, as it begins, and whether it begins with nothing although it saves. How many connections it can
+/// serve at once.
 fn tell_first<R: Clock + Files + Eprint + AllocGlobal>(
     rt: &R,
     settings: &Settings,
     is_found: bool,
-) {
+) -> u16 {
     tell_start(&Stamped(rt), settings);
     if settings.data.is_some() && !is_found {
         tell_begun(&Stamped(rt), None);
     }
-    warn_of_files(rt, settings);
+    connections_of(rt, settings)
 }
 
 /// Runs a daemon that saves what it answers, and goes on from what was found. The status of the program if it ends by
@@ -240,8 +259,8 @@ pub fn run<
     S: Save + Drop + Send,
 >(rt: &R, settings: Settings, saver: S, found: Option<ServiceRecord>) -> u8 {
     let is_found = found.is_some();
-    tell_first(rt, &settings, is_found);
-    let options = options_of(&settings);
+    let connections = tell_first(rt, &settings, is_found);
+    let options = options_of(&settings, connections);
     let Ports { clients, status } = match open_ports(rt, rt.alloc(), &settings) {
         Ok(ports) => ports,
         Err(status) => return status,
@@ -254,7 +273,12 @@ pub fn run<
         saver,
         found,
         move |watcher| {
-            attend(rt, watcher, status, Known::begin(rt, &settings, is_found));
+            attend(
+                rt,
+                watcher,
+                status,
+                Known::begin(rt, &settings, connections, is_found),
+            );
         },
     );
     match served {

@@ -1,15 +1,15 @@
 //! A memcached server on replicas, as a daemon.
 //!
 //!     eve_cached --listen ADDR:PORT --listen unix:PATH --u U --connections N --idle SECONDS --dialect DIALECT
-//!         --max-bytes B --data DIR --new --sync MODE --status ADDR:PORT
+//!         --max-bytes B --data DIR --data DIR .. --new --sync MODE --status ADDR:PORT
 //!
-//! It is built on `server` (`serve_beside`), `data_folder` (the folder of `--data`), `daemon` (its words and its log),
+//! It is built on `server` (`serve_beside`), `data_folders` (the folders of `--data`), `daemon` (its words and its log),
 //! `status_server` (the status port) and `service_laws`, whose laws it calls at its end.
 //!
 //! It serves until a signal ends it, and tells on standard error what an operator wants to know. Status 0 for `--help`
 //! and `--version`, 1 if memory ran out before it served, 2 for other words, 3 if it cannot listen or cannot start, or
-//! if the system no longer lets it wait on its sockets, 4 if the folder of `--data` cannot be used, 5 if its disk failed,
-//! 6 if another process uses it.
+//! if the system no longer lets it wait on its sockets, 4 if the folders of `--data` cannot be used, 5 if a disk failed,
+//! 6 if another process uses one.
 #![tactic(auto)]
 
 mod data;
@@ -17,7 +17,7 @@ mod life;
 mod showing;
 mod watching;
 
-use crate::data::{Data, open_data};
+use crate::data::{Data, begin_data, open_data};
 use crate::life::run;
 use clap::Error;
 use clap::error::ErrorKind;
@@ -32,7 +32,7 @@ pub const REFUSED: u8 = 1;
 /// It cannot listen or start.
 pub const CANNOT: u8 = 3;
 
-/// The folder of its data cannot be used.
+/// The folders of its data cannot be used.
 pub const NO_DATA: u8 = 4;
 
 /// The disk failed.
@@ -69,9 +69,13 @@ fn main(rt: HostRuntime) -> ExitCode {
         Ok(settings) => settings,
         Err(status) => return status,
     };
-    match open_data(&rt, &settings) {
+    let opened = match open_data(&rt, &settings) {
+        Ok(opened) => opened,
+        Err(status) => return ExitCode::from(status),
+    };
+    match begin_data(&rt, &settings, opened) {
         Ok(Data::Nowhere) => ExitCode::from(run(&rt, settings, NoFolder, None)),
-        Ok(Data::In { folder, found }) => ExitCode::from(run(&rt, settings, folder, found)),
+        Ok(Data::In { folders, found }) => ExitCode::from(run(&rt, settings, folders, found)),
         Err(status) => ExitCode::from(status),
     }
 }

@@ -3,7 +3,7 @@
 use crate::showing::Shown;
 use daemon::{
     Report, SaveLine, SaveWatch, Settings, Stamped, Totals, open_files, process_id, resident_pages,
-    seconds, tell, tell_few_files, tell_saved_again, tell_unsaved,
+    seconds, tell, tell_behind, tell_current, tell_few_files, tell_saved_again, tell_unsaved,
 };
 use data_folder::FILES;
 use figures::{Figures, Limits, Process};
@@ -38,10 +38,19 @@ fn file_bytes<R: Files + AllocGlobal>(rt: &R, folder: &str, name: &str) -> u64 {
 }
 
 /// The bytes of the files in a folder of data.
-fn data_bytes<R: Files + AllocGlobal>(rt: &R, folder: &str) -> u64 {
+fn folder_bytes<R: Files + AllocGlobal>(rt: &R, folder: &str) -> u64 {
     let mut sum: u64 = 0;
     for name in FILES {
         sum = sum.saturating_add(file_bytes(rt, folder, name));
+    }
+    sum
+}
+
+/// The bytes of the files in all folders of data.
+fn data_bytes<R: Files + AllocGlobal>(rt: &R, folders: &[String]) -> u64 {
+    let mut sum: u64 = 0;
+    for folder in folders {
+        sum = sum.saturating_add(folder_bytes(rt, folder.as_str()));
     }
     sum
 }
@@ -58,16 +67,21 @@ fn own_id<R: Files + AllocGlobal>(rt: &R) -> u64 {
     process_id(text.as_str()).unwrap_or(0)
 }
 
-/// Tells if fewer files may be open than the connections may take.
-pub fn warn_of_files<R: Files + Clock + Eprint + AllocGlobal>(rt: &R, settings: &Settings) {
+/// How many connections can be served at once: as many as the settings say, or fewer if fewer files may be open than these
+/// may take. Then the log tells. The other files stay for the status port and the folders of the data.
+pub fn connections_of<R: Files + Clock + Eprint + AllocGlobal>(rt: &R, settings: &Settings) -> u16 {
+    let asked = settings.connections;
     let Ok(text) = fs::read_to_string(rt, "/proc/self/limits") else {
-        return;
+        return asked;
     };
-    let needed = u64::from(settings.connections).saturating_add(OTHER_FILES);
-    if let Some(files) = open_files(text.as_str()) {
-        if files < needed {
-            tell_few_files(&Stamped(rt), files, needed);
+    let needed = u64::from(asked).saturating_add(OTHER_FILES);
+    match open_files(text.as_str()) {
+        Some(files) if files < needed => {
+            let served = files.saturating_sub(OTHER_FILES).max(1);
+            tell_few_files(&Stamped(rt), files, needed, served);
+            u16::try_from(served).unwrap_or(asked)
         }
+        _ => asked,
     }
 }
 
@@ -78,17 +92,18 @@ pub struct Known<'a> {
     start: Option<Instant>,
     process: Process,
     limits: Limits,
-    /// The folder of its data.
-    folder: Option<&'a str>,
+    /// The folders of its data. None if it has none.
+    folders: &'a [String],
     /// Whether it goes on from what was saved.
     is_found: bool,
 }
 
 impl<'a> Known<'a> {
-    /// The process begins to serve with these settings.
+    /// The process begins to serve with these settings, so many connections at once.
     pub fn begin<R: Clock + Files + AllocGlobal>(
         rt: &R,
         settings: &'a Settings,
+        connections: u16,
         is_found: bool,
     ) -> Known<'a> {
         Known {
@@ -98,13 +113,13 @@ impl<'a> Known<'a> {
                 started: seconds(rt),
             },
             limits: Limits {
-                connections: u64::from(settings.connections),
+                connections: u64::from(connections),
                 idle_seconds: u64::from(settings.idle),
                 item_bytes: settings.max_bytes,
             },
-            folder: match &settings.data {
-                Some(place) => Some(place.path.as_str()),
-                None => None,
+            folders: match &settings.data {
+                Some(place) => place.paths.as_slice(),
+                None => &[],
             },
             is_found,
         }
@@ -134,10 +149,7 @@ impl<'a> Known<'a> {
         figures.process = self.process;
         figures.limits = self.limits;
         figures.memory.resident_bytes = resident_bytes(rt);
-        figures.saves.bytes = match self.folder {
-            Some(folder) => data_bytes(rt, folder),
-            None => 0,
-        };
+        figures.saves.bytes = data_bytes(rt, self.folders);
         figures
     }
 }
@@ -157,6 +169,29 @@ fn tells_of_saves<R: Wait + Clock + Eprint, S: Save>(
     fault == Some(SaveFault::Disk)
 }
 
+/// Tells if another folder lacks the last save than was told before, which is changed, and if each has it again.
+fn tells_of_folders<R: Wait + Clock + Eprint, S: Save>(
+    rt: &R,
+    watcher: &Watcher<'_, S>,
+    folders: &[String],
+    told: &mut Option<usize>,
+) {
+    let behind = watcher.save_folders(rt).behind;
+    let at = behind.map(|(at, _)| at);
+    if at == *told {
+        return;
+    }
+    *told = at;
+    match behind {
+        Some((at, fault)) => {
+            if let Some(path) = folders.get(at) {
+                tell_behind(&Stamped(rt), path.as_str(), &fault);
+            }
+        }
+        None => tell_current(&Stamped(rt)),
+    }
+}
+
 /// Looks once a second what the server has counted, shows it and tells what is due, until the server ends by itself or
 /// nothing can be saved any more.
 pub fn watch<R: Wait + Clock + Files + Eprint + AllocGlobal, S: Save>(
@@ -169,12 +204,16 @@ pub fn watch<R: Wait + Clock + Files + Eprint + AllocGlobal, S: Save>(
     watcher.see(rt, &first);
     let mut report = Report::new(Totals::of(&first));
     let mut saves = SaveWatch::NONE;
+    let mut told = None;
     for _ in rt.forever() {
         thread::sleep(rt, Duration::from_secs(1));
         if watcher.has_ended() || tells_of_saves(rt, watcher, &mut saves) {
             return;
         }
         let figures = known.figures(rt, watcher);
+        if 1 < known.folders.len() && 0 < figures.saves.made {
+            tells_of_folders(rt, watcher, known.folders, &mut told);
+        }
         watcher.see(rt, &figures);
         shown.renew(rt, figures);
         let due = report.due(Totals::of(&figures), seconds(rt));

@@ -1,4 +1,4 @@
-//! Tentative states that are handed in, where another hand made them of the same batch.
+//! Tentative states that are handed in: another executor made them of the same batch.
 
 use crate::given::Given::{Adopt, AdoptOverAnother, Order, Step};
 use crate::given::{E2, Told, batch, token_of};

@@ -32,10 +32,10 @@ pub const V1: Node = Node::Verifier(1);
 
 pub const V2: Node = Node::Verifier(2);
 
-/// What was told of each state, by its number: the token of the state before it, its own, and its epoch.
+/// What was sent of each state, by its number: the token of the state before it, its own, and its epoch.
 pub type Told = [(Token, Token, u64); 10];
 
-/// What is known of the states before any was told. A function, since the table would be in the proof of each
+/// What is known of the states before any was sent. A function, since the table would be in the proof of each
 /// function that names a constant.
 pub fn none_told() -> Told {
     let mut told = [(NO_TOKEN, NO_TOKEN, 0u64); 10];

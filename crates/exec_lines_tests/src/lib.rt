@@ -1,9 +1,9 @@
-//! Tests of `exec_lines` by its public calls, with ample memory, where mostly one of three executors may
-//! fail. Each thing that the table of an executor's steps says is a script: what an executor is given, row by
-//! row, and what it does then. The modules have the scripts, and `script` plays them.
+//! Tests of `exec_lines` by its public calls, with ample memory. In most, one of three executors may fail. Each
+//! thing that the table of an executor's steps says is a script: what an executor is given, row by row, and what
+//! it does then. The modules have the scripts, and `script` plays them.
 //!
 //! What a step does is compared as a short text, in which each letter has a mark, the number of the
-//! node that it goes to and what it tells of: see `seen`.
+//! node that it goes to and what it says: see `seen`.
 #![tactic(auto)]
 
 #[cfg(test)]

@@ -89,7 +89,7 @@ pub const SCRIPTS: &[Script] = &[
             ],
         ),
     ),
-    // A commit of a state that it has not stands: it is behind.
+    // It lacks the committed state: it is behind.
     (
         "one_that_is_behind_begins_nothing",
         U,

@@ -1,7 +1,6 @@
-//! Each line of the table through `ExecNode::handle`, and a restart, where memory may be refused:
-//! where a growth is, the executor is stopped and has its old record, with which it is opened again.
-//! `scripts/refusals` refuses each growth in turn. `NoMemory` ends a row that was refused some, and
-//! `NotOpen` one in which something else does not hold.
+//! Each rule of the table through `ExecNode::handle`, and a restart. If an allocation fails, the executor is
+//! stopped and has its old record, with which it is opened again. `scripts/refusals` has each allocation fail in
+//! turn. `NoMemory` ends a row in which one failed, and `NotOpen` one in which something else does not hold.
 
 use crate::given::Given::{Adopt, Commit, Cut, Finish, Heard, Order, Rollback, Stands, Step, Want};
 use crate::given::{C1, C2, C3, E0, E1, E2, Given, NONE, Told, V0, input, letter, none_told};

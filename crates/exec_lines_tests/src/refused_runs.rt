@@ -1,6 +1,5 @@
-//! A job that is run whole by `ExecNode::run`, where memory may be refused: where a growth is, the executor
-//! is stopped and has its old record. `NoMemory` ends a row that was refused some, and `NotOpen` one in which
-//! something else does not hold.
+//! A job that is run whole by `ExecNode::run`. If an allocation fails, the executor is stopped and has its old
+//! record. `NoMemory` ends a row in which one failed, and `NotOpen` one in which something else does not hold.
 
 use crate::given::Given::{Commit, Cut, Sets};
 use crate::given::{C1, C2, Told, V0, none_told};

@@ -170,7 +170,8 @@ fn serves(alloc: Global, executor: &mut Executor) -> Result<bool, Fault> {
     Ok(waits && is_stored(answers.as_slice()))
 }
 
-/// Whether a save that fails stops it: the state that was executed is told to none, and its first record stays.
+/// Whether a save that fails stops it: no verifier gets the token of the state that was executed, and its first record
+/// stays.
 fn stops(alloc: Global, executor: &mut Executor) -> Result<bool, Fault> {
     wants(alloc, executor)?;
     executor.keeper().fail_next();

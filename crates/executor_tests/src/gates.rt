@@ -34,7 +34,7 @@ pub enum Waits {
     InsideShortly,
 }
 
-/// Counts the steps that saw another one where they waited.
+/// Counts the steps that met another one while they waited.
 #[derive(Drop)]
 pub struct Meeting<'a, R: Clock> {
     rt: &'a R,

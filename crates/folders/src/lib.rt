@@ -5,7 +5,7 @@
 //! read. `a_saved_turn_is_found` says why that is right: if a save is in more than half of the folders, its record or a
 //! later one is found.
 //!
-//! No program calls `newest` yet: `shelf` and `data_folder` use `SaveStamp` alone.
+//! `data_folders` calls `newest` at a start; `shelf` and `data_folder` use `SaveStamp` alone.
 #![tactic(auto)]
 
 mod laws;

@@ -32,6 +32,7 @@ process_numbers f =
     ∷ (codes "uptime", f.uptime_seconds)
     ∷ (codes "time", sum_of f.process.started f.uptime_seconds)
     ∷ (codes "pointer_size", 64)
+    ∷ (codes "threads", 2)
     ∷ []
 
 unfoldable pub connection_numbers : Figures → List (List ℕ × ℕ)

@@ -1,5 +1,6 @@
 //! What a reader is told of its server, and what it counts there.
 
+use crate::turn::leaves_out;
 use dialect::{Notice, Report, Show, Turn};
 use figures::{Figures, Refusal, plus};
 use proto::{Command, Update};
@@ -103,6 +104,26 @@ fn count_refused(turn: &Turn, figures: &mut Figures) {
 pub fn count_all_refused(turns: &[Turn], figures: &mut Figures) {
     for turn in turns {
         count_refused(turn, figures);
+    }
+}
+
+/// Whether the turn asks to store something and shows nothing. A server that is full refuses it without a word.
+fn is_stored_quietly(turn: &Turn) -> bool {
+    match turn {
+        Turn::Ask(Command::Update(Update::Store { .. }), show) => leaves_out(show),
+        Turn::Ask(Command::Update(Update::Cas { block, .. }), show) => {
+            !block.is_empty() && leaves_out(show)
+        }
+        _ => false,
+    }
+}
+
+/// Counts the lines that gave these turns, as far as they are refused without a word, if the server is full.
+pub fn count_refused_quietly(is_full: bool, turns: &[Turn], figures: &mut Figures) {
+    for turn in turns {
+        if is_full && is_stored_quietly(turn) {
+            figures.refusals.count(Refusal::Full);
+        }
     }
 }
 

@@ -6,7 +6,9 @@ ghost use Rattle.grammar.specs.Limit.{turn_when, behind_mark};
 ghost use Rattle.grammar.specs.declared.reader.Reader.TheVariants.{Memcached, Limited};
 ghost use Rattle.grammar.specs.Reads.{new_reader, dialect_of, with_mark, ReaderReads};
 
-use crate::conditions::{Conditions, bytes_in, count_all_refused, count_refused_of_profile};
+use crate::conditions::{
+    Conditions, bytes_in, count_all_refused, count_refused_of_profile, count_refused_quietly,
+};
 use crate::limit::refused;
 use crate::turn::{Turn, of_memcached, of_profile};
 use figures::{Figures, plus};
@@ -109,6 +111,7 @@ fn feed_limited(
 {
     let is_full = conditions.is_full;
     let read = reader.feed(alloc, piece)?;
+    count_refused_quietly(is_full, read.as_slice(), &mut conditions.figures);
     let turns = all_if(alloc, is_full, read)?;
     conditions.asked_bytes = plus(conditions.asked_bytes, bytes_in(turns.as_slice()));
     count_all_refused(turns.as_slice(), &mut conditions.figures);

@@ -75,16 +75,20 @@ fn put_numbers(rows: &[(&[u8], u64)], out: &mut Vec<u8>) -> Result<(), AllocErro
     Ok(())
 }
 
+/// A server has a thread for sockets and one that works. Those that run a batch come and go.
+const THREADS: u64 = 2;
+
 #[tactic(auto, unfolding(crate::specs::Stats::process_numbers))]
 fn put_process(figures: &Figures, out: &mut Vec<u8>) -> Result<(), AllocError>
     ensures { OnOk result (out.new.items ≡ out.old.items ++ spec.number_lines (spec.process_numbers figures.now)) }
 {
     let now = plus(figures.process.started, figures.uptime_seconds);
-    let rows: [(&[u8], u64); 4] = [
+    let rows: [(&[u8], u64); 5] = [
         (b"pid", figures.process.id),
         (b"uptime", figures.uptime_seconds),
         (b"time", now),
         (b"pointer_size", 64),
+        (b"threads", THREADS),
     ];
     put_numbers(rows.as_slice(), out)
 }

@@ -1,4 +1,5 @@
 pub mod Host
+pub mod Stops
 pub mod Shown
 pub mod Orders
 pub mod Due

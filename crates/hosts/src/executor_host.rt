@@ -43,6 +43,7 @@ impl ExecutorHost {
     ghost use Rattle.worlds.specs.World.{nothing_kept};
     ghost use Rattle.worlds.specs.Status.{node_at};
     ghost use Rattle.hosts.specs.Host.{HostSettles, HostTakes, HostRuns, HostReopens, HostCollects, is_order as of_order};
+    ghost use Rattle.hosts.specs.Stops.{HostStops};
 
     /// The host of an executor that was never opened: it is down, and nothing is kept.
     pub fn unopened(alloc: Global) -> ExecutorHost
@@ -74,6 +75,14 @@ impl ExecutorHost {
         ensures { HostReopens u id self.old self.new result.items }
     {
         self.place.restart(alloc, u, id)
+    }
+
+    /// The executor stops as by a crash, if it is up: it is down with its record. The orders that it holds and what was
+    /// not collected stay.
+    pub fn stop(&mut self)
+        ensures { HostStops self.old self.new [] }
+    {
+        self.place.crash();
     }
 
     /// Gives the executor a letter, or holds it if it is an order: whether that was done, and what the executor

@@ -9,7 +9,7 @@ use crate::executor_host::ExecutorHost;
 use exec_lines::ExecutorRecord;
 use keeper::MemKeeper;
 use pages::PAGES;
-use std::alloc::{AllocError, Global};
+use std::alloc::AllocError;
 
 impl ExecutorHost {
     /// How many requests the batch has that the executor is to run, if it is up and has a job.
@@ -67,19 +67,12 @@ impl ExecutorHost {
         Some(items)
     }
 
-    /// How many bytes the keys and the data have of all items on this page of the executor's committed state, if it is
-    /// up and there is memory to look. It is below `PAGES`.
-    pub fn page_bytes(&self, alloc: Global, number: usize) -> Option<u64> {
+    /// How many bytes the keys and the data have of all items of the executor's committed state, if it is up.
+    pub fn item_bytes(&self) -> Option<u64> {
         let pages = self.place.node()?.state().chain().committed().pages();
-        let entries = pages.entries(alloc, number % PAGES).ok()?;
         let mut bytes = 0u64;
-        for entry in &entries {
-            let item = entry
-                .key()
-                .as_slice()
-                .len()
-                .saturating_add(entry.value().block.len());
-            bytes = bytes.saturating_add(item as u64);
+        for number in 0..PAGES {
+            bytes = bytes.saturating_add(pages.bytes(number));
         }
         Some(bytes)
     }

@@ -55,6 +55,11 @@ impl ItemTree {
         self.items.len()
     }
 
+    /// How many bytes its keys and data have. No clause says so.
+    pub fn bytes(&self) -> u64 {
+        self.items.bytes()
+    }
+
     /// Whether an item is due at the moment or before it. It visits none.
     pub fn has_due(&self, moment: u32) -> bool
         ensures none { result ≡ false → alive self.now moment ≡ self.now }

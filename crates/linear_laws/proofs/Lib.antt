@@ -4,6 +4,7 @@ pub mod Flat
 pub mod Later
 pub mod Rounds
 pub mod Runs
+pub mod InTime
 pub mod Fresh
 pub mod Plays
 pub mod Samples

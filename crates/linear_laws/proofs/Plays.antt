@@ -1,8 +1,6 @@
 -- A play is linearizable.
-use Rattle.std.proofs.Common.{◌≡◌, ℕ, suc, ◌+◌, ◌-◌, ◌≤◌, ◌⊎◌, inl, inr, List, [], ◌∷◌, ◌++◌, length, take, Some, refl, sym, ap, ◌∙◌, subst, arith}
-use Rattle.std.specs.Prelude.{slice_get, flat_map, Contains, max}
-use Rattle.std.specs.FinMap.{get-empty}
-use Rattle.std.specs.Ordering.{nat_cmp}
+use Rattle.std.proofs.Common.{◌≡◌, ℕ, suc, ◌+◌, ◌-◌, ◌⊎◌, inl, inr, List, [], ◌∷◌, ◌++◌, length, take, Some, refl, sym, ap, ◌∙◌, subst, arith}
+use Rattle.std.specs.Prelude.{slice_get, flat_map, Contains}
 use Rattle.std.proofs.lemmas.List.Elements.{Contains-append_cases}
 use Rattle.proto.specs.declared.command.Command.{Command}
 use Rattle.proto.specs.declared.reply.Reply.{Reply}
@@ -10,8 +8,6 @@ use Rattle.proto.specs.declared.turn.Turn.{Turn}
 use Rattle.proto.specs.Grammar.{Spells}
 use Rattle.proto.proofs.SpellsLemmas.{spells_one, spells_some}
 use Rattle.item_steps.specs.Steps.{steps}
-use Rattle.sessions.specs.declared.sessions.LastReply.{LastReply}
-use Rattle.std.specs.Option.{option_map_or}
 use Rattle.states.specs.State.{StateView, initial_state}
 use Rattle.states.specs.Followed.{moment_of}
 use Rattle.memcached_spec.specs.Asked.{asked, TextsBy}
@@ -25,15 +21,17 @@ use Rattle.memcached_spec.specs.Fed.{fed_to, IsMoment}
 use Rattle.server_laws.specs.Saved.{IsMet}
 use Rattle.server_laws.specs.Served.{WasAnswered}
 use Rattle.server_laws.specs.Run.{IsRun, RunsGrow}
-use Rattle.server_laws.specs.Laws.{WorldsAreOfOneServer}
+use Rattle.server_laws.specs.InTime.{WasCut, RunsGrowInTime, IsOneServerInTime, WorldsAreInTime}
 use Rattle.memcached_spec.specs.Server.{Line, Tick}
 use Rattle.memcached_spec.specs.Order.{replies_from, IsExecutedFor, IsAnsweredBy, IsOrder, OrdersGrow}
+use Rattle.linear_laws.specs.InTime.{AreBatchesOfCuts, OrdersGrowInTime, IsLinearizableInTime}
 use Rattle.linear_laws.specs.Laws.{seen, last_of, given_in, history_of, PlaysAreLinearizable, ReachedAreLinearizable}
 use Rattle.executor.proofs.RoundLemmas.{get_map}
 use Rattle.linear_laws.proofs.Flat.{after_first}
 use Rattle.linear_laws.proofs.Rounds.{contains_at, answers_made}
 use Rattle.linear_laws.proofs.Runs.{IsMadeOf, made_of_run, made_on, made_leads, AreOfCommands, ClientMade, client_made}
 use Rattle.linear_laws.proofs.Fresh.{all_fresh}
+use Rattle.linear_laws.proofs.InTime.{max_is, first_number, batches_of, is_linearizable}
 
 -- a list whose members stand at the same places of another is a beginning of it
 beginning : {X : Type 0} (xs ys : List X) → ((i : ℕ) (x : X) → slice_get xs i ≡ Some x → slice_get ys i ≡ Some x) → xs ≡ take (length xs) ys
@@ -42,10 +40,6 @@ beginning (x ∷ xs) [] h = absurd (let none = h 0 x refl in cc none)
 beginning {X} (x ∷ xs) (y ∷ ys) h =
     let first : y ≡ x = cc (h 0 x refl) in
     λ i. sym first i ∷ beginning xs ys (λ k. h (suc k)) i
-
--- the greater of two moments is one of them
-max_is : (a b : ℕ) → (max a b ≡ a) ⊎ ((max a b ≡ b) × (a ≤ b))
-max_is a b = grind (arith)
 
 module _ (met : StateView → Type 0) (events : List Event) (w : WorldView) (run : List Executed) (is_run : IsRun met events w run) (lines : List Line) (made : IsMadeOf initial_state run lines) where
   of_client : (c : ℕ) (turns : List Turn) (rest : List ℕ) → Spells (fed_to c events) turns rest → AreOfCommands c (asked turns) run
@@ -56,7 +50,7 @@ module _ (met : StateView → Type 0) (events : List Event) (w : WorldView) (run
       (a.from_one, subst (λ (ts : List Turn). slice_get (asked ts) (q.number - 1) ≡ Some q.command) same.0 a.is)
 
   of_turns : (c : ℕ) (turns : List Turn) (rest : List ℕ) → Spells (fed_to c events) turns rest → ClientMade (asked turns) run lines c 0
-  of_turns c turns rest spells = client_made c (asked turns) initial_state run lines 0 is_run.follows made (of_client c turns rest spells) (ap (λ o. option_map_or (λ (k : LastReply). k.number + 1) o 1) (get-empty nat_cmp c))
+  of_turns c turns rest spells = client_made c (asked turns) initial_state run lines 0 is_run.follows made (of_client c turns rest spells) (first_number c)
 
   ran_first : (c : ℕ) (turns : List Turn) (m : ClientMade (asked turns) run lines c 0) → m.ran ≡ take (length m.ran) (asked turns)
   ran_first c turns m = beginning m.ran (asked turns) (λ i x at. let same : 0 + i ≡ i = omega arith in sym (ap (slice_get (asked turns)) same) ∙ m.theirs i x at)
@@ -66,10 +60,11 @@ module _ (met : StateView → Type 0) (events : List Event) (w : WorldView) (run
       let m = of_turns c turns rest spells in
       record { turns = turns; rest = rest; spells = spells; count = length m.ran; made = m.made ∙ ap (flat_map steps) (ran_first c turns m) }
 
+  abbrev spelled : (c : ℕ) → (turns : List Turn) × (rest : List ℕ) × Spells (fed_to c events) turns rest
+  spelled c = spells_some (suc (length (fed_to c events))) (fed_to c events) (omega arith)
+
   asked_only : (c : ℕ) → IsExecutedFor lines c (fed_to c events)
-  asked_only c =
-      let s = spells_some (suc (length (fed_to c events))) (fed_to c events) (omega arith) in
-      executed_for c s.0 s.1 s.2
+  asked_only c = executed_for c (spelled c).0 (spelled c).1 (spelled c).2
 
   reply_there : (c : ℕ) (turns : List Turn) (rest : List ℕ) (spells : Spells (fed_to c events) turns rest) (number : ℕ) (r : Reply) → WasAnswered run c number r
       → slice_get (replies_from (take (length (of_turns c turns rest spells).ran) (asked turns)) (answers_made c lines)) (number - 1) ≡ Some r
@@ -113,6 +108,9 @@ module _ (met : StateView → Type 0) (events : List Event) (w : WorldView) (run
         | inr there ↦ ticks e.new later h.1 h.4 follows.1 (λ r k. cuts r (in_tail e r later k)) (inr (subst (IsMoment events) (sym follows.0.round.moment) now)) m there
       ]
 
+  pub are_batches : ((r : Executed) → Contains run r → WasCut events r.batch) → AreBatchesOfCuts events lines
+  are_batches cut = batches_of events spelled run lines is_run.follows made (λ c. of_client c (spelled c).0 (spelled c).1 (spelled c).2) cut
+
   pub is_order : IsOrder events (given_in w) lines
   is_order = record {
     done = record { last = seen (last_of initial_state run); leads = made_leads initial_state run lines made; fresh = all_fresh initial_state run lines is_run.follows made };
@@ -138,5 +136,32 @@ plays_are_linearizable events (first ∷ later) (run, is_run, grow) =
     let made = made_of_run initial_state run is_run.follows in
     (made.0, is_order (IsMet (first ∷ later)) [] first run is_run made.0 made.1, orders_grow (IsMet (first ∷ later)) [] run made.0 events later made.1 grow)
 
-pub reached_are_linearizable : WorldsAreOfOneServer → ReachedAreLinearizable
-reached_are_linearizable one c events worlds reached distinct = plays_are_linearizable events worlds (one c events worlds reached distinct)
+module _ (met : StateView → Type 0) where
+  orders_grow_in_time : (past : List Event) (before : List Executed) (lines : List Line) (es : List Event) (xs : List WorldView) → IsMadeOf initial_state before lines → RunsGrowInTime met past before es xs → OrdersGrowInTime past lines es (history_of xs)
+  orders_grow_in_time past before lines [] [] made grow = tt
+  orders_grow_in_time past before lines [] (x ∷ xs) made grow = absurd grow
+  orders_grow_in_time past before lines (e ∷ es) [] made grow = absurd grow
+  orders_grow_in_time past before lines (e ∷ es) (x ∷ xs) made (run, extends, in_time, grow) =
+      let follows : IsRunFrom initial_state (before ++ extends.0) = subst (IsRunFrom initial_state) extends.1 in_time.is_run.follows in
+      let later = made_of_run (last_of initial_state before) extends.0 (after_first initial_state before extends.0 follows) in
+      let made_now : IsMadeOf initial_state run (lines ++ later.0) = subst (λ (r : List Executed). IsMadeOf initial_state r (lines ++ later.0)) (sym extends.1) (made_on initial_state before extends.0 lines later.0 made later.1) in (
+        later.0,
+        is_order met (past ++ e ∷ []) x run in_time.is_run (lines ++ later.0) made_now,
+        are_batches met (past ++ e ∷ []) x run in_time.is_run (lines ++ later.0) made_now in_time.cut,
+        orders_grow_in_time (past ++ e ∷ []) run (lines ++ later.0) es xs made_now grow,
+      )
+
+plays_are_in_time : (events : List Event) (worlds : List WorldView) → IsOneServerInTime events worlds → IsLinearizableInTime events (history_of worlds)
+plays_are_in_time events [] none = absurd none
+plays_are_in_time events (first ∷ later) (run, in_time, grow) =
+    let made = made_of_run initial_state run in_time.is_run.follows in (
+      made.0,
+      is_order (IsMet (first ∷ later)) [] first run in_time.is_run made.0 made.1,
+      are_batches (IsMet (first ∷ later)) [] first run in_time.is_run made.0 made.1 in_time.cut,
+      orders_grow_in_time (IsMet (first ∷ later)) [] run made.0 events later made.1 grow,
+    )
+
+pub reached_are_linearizable : WorldsAreInTime → ReachedAreLinearizable
+reached_are_linearizable are_in_time c events worlds reached distinct =
+    let h = plays_are_in_time events worlds (are_in_time c events worlds reached distinct) in
+    record { order = is_linearizable events (history_of worlds) h; in_time = h }

@@ -1,7 +1,7 @@
 -- What a run makes for each client.
 use Rattle.std.proofs.Common.{◌≡◌, ℕ, zero, suc, ◌+◌, ◌-◌, ◌≤◌, inl, inr, List, [], ◌∷◌, ◌++◌, map, length, take, drop, Some, refl, sym, ap, ◌∙◌, subst, arith, append_assoc}
 use Rattle.std.specs.Prelude.{slice_get, flat_map, Contains}
-use Rattle.std.proofs.lemmas.List.{map-append}
+use Rattle.std.proofs.lemmas.List.{append-nil, map-append}
 use Rattle.std.proofs.Math.Seq.{take-append_seam}
 use Rattle.proto.specs.declared.command.Command.{Command}
 use Rattle.item_steps.specs.Steps.{steps, reply}
@@ -56,6 +56,12 @@ as_many c lines = by (made_for c lines)
     by [] = refl
     by (x ∷ xs) = ap suc (by xs)
 
+-- the steps of one command more
+pub steps_next : (commands : List Command) (b : ℕ) (command : Command) → slice_get commands b ≡ Some command → flat_map steps (take b commands) ++ steps command ≡ flat_map steps (take (suc b) commands)
+steps_next [] b command at = absurd (cc at)
+steps_next (x ∷ xs) zero command at = let same : x ≡ command = cc at in ap steps (sym same) ∙ sym (append-nil (steps x))
+steps_next (x ∷ xs) (suc b) command at = append_assoc (steps x) (flat_map steps (take b xs)) (steps command) ∙ ap (λ l. steps x ++ l) (steps_next xs b command at)
+
 pub drop_seam : {X : Type 0} (xs ys : List X) → drop (length xs) (xs ++ ys) ≡ ys
 drop_seam [] ys = refl
 drop_seam (x ∷ xs) ys = drop_seam xs ys
@@ -83,14 +89,14 @@ module _ (c : ℕ) (commands : List Command) (s : StateView) (e : Executed) (ove
   number_is : one.runner.1.number ≡ suc b
   number_is = runs_next s.sessions [] e.batch.requests one.runner one.runs ∙ ap (next_number s.sessions) one.client ∙ next
 
-  number_after : next_number e.new.sessions c ≡ suc (suc b)
+  pub number_after : next_number e.new.sessions c ≡ suc (suc b)
   number_after =
       let after = after_answer s e over (record { place = one.runner.0; client = one.runner.1.client; number = one.runner.1.number; reply = reply one.runner.1.command (answers_made c first) }) one.replied in
       let here : next_number e.new.sessions c ≡ one.runner.1.number + 1 = ap (next_number e.new.sessions) (sym one.client) ∙ after in
       let number = number_is in
       omega (arith, here, number)
 
-  its_command : slice_get commands b ≡ Some one.runner.1.command
+  pub its_command : slice_get commands b ≡ Some one.runner.1.command
   its_command =
       let h = of_commands e one.runner.1 (in_head e run) (runner_in s e.batch one.runner one.runs) one.client in
       let number = number_is in

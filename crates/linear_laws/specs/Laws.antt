@@ -16,6 +16,7 @@ use Rattle.worlds.specs.Asked.{IsAskedRequest}
 use Rattle.server_laws.specs.Run.{IsRun, IsOneServer}
 use Rattle.memcached_spec.specs.Order.{AllGiven, IsLinearizable}
 use Rattle.memcached_spec.specs.Server.{Server, Line, Leads, new_server}
+use Rattle.linear_laws.specs.InTime.{IsLinearizablePlay}
 
 -- what a server is that has this state
 abbrev pub seen : StateView → Server
@@ -57,11 +58,11 @@ PlaysAreLinearizable = (events : List Event) (worlds : List WorldView) → IsOne
 
 -- if digests tell the states that were met apart, the worlds that events lead through are linearizable
 abbrev pub ReachedAreLinearizable : Type 0
-ReachedAreLinearizable = (c : ConfigView) (events : List Event) (worlds : List WorldView) → ReachedWorlds c events worlds → DigestsAreDistinct worlds → IsLinearizable events (history_of worlds)
+ReachedAreLinearizable = (c : ConfigView) (events : List Event) (worlds : List WorldView) → ReachedWorlds c events worlds → DigestsAreDistinct worlds → IsLinearizablePlay events (history_of worlds)
 
 -- of the world to which events lead
 abbrev pub ShowsLinearizable : ConfigView → List Event → WorldView → Type 0
-ShowsLinearizable c events w = (through : IsReached c events w) → DigestsAreDistinct through.worlds → IsLinearizable events (history_of through.worlds)
+ShowsLinearizable c events w = (through : IsReached c events w) → DigestsAreDistinct through.worlds → IsLinearizablePlay events (history_of through.worlds)
 
 -- The mixer lets these four run in one group, in any interleaving: a get of several keys is no one step.
 abbrev pub GetsMayOverlap : Type 0

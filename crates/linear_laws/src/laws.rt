@@ -2,7 +2,7 @@
 
 ghost use Rattle.linear_laws.specs.Laws.{RoundIsOneList, RunIsOneList, ListGoesOn, AskedLaterIsLater, PlaysAreLinearizable, ReachedAreLinearizable, GetsMayOverlap};
 
-use server_laws::worlds_are_of_one_server;
+use server_laws::worlds_are_in_time;
 
 /// A round is one list of item steps, and so is a run, whose list goes on if the run does.
 pub fn rounds_are_one_list()
@@ -21,11 +21,12 @@ pub fn plays_are_linearizable()
     ensures { PlaysAreLinearizable }
 {}
 
-/// The worlds that events lead through are linearizable.
+/// The worlds that events lead through are linearizable, also with orders that are made of batches. Each of these was cut
+/// when its commands had been asked, and what is due at its moment is gone as it begins.
 pub fn reached_are_linearizable()
     ensures { ReachedAreLinearizable }
 {
-    worlds_are_of_one_server();
+    worlds_are_in_time();
 }
 
 /// A get of several keys is no one step: the mixer lets two of them and two sets run in one group, so that

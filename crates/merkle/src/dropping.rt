@@ -4,19 +4,25 @@ ghost use Rattle.merkle.specs.Tree.{shape, fork_shape, IsCached, IsForkCached};
 ghost use Rattle.merkle.specs.Alive.{IsPartOf, IsLessOf, IsAlive};
 
 use crate::due::{earlier, is_above};
-use crate::fork::{Fork, Tree};
+use crate::fork::{Fork, Leaf, Tree};
 use crate::key::{TreeKey, TreeValue};
 use crate::removing::take_small;
 use std::alloc::AllocError;
 use std::sync::Arc;
 
-/// Drops each entry that is due at the moment or before it, and counts it off `len`. It visits no other
-/// entry. If an allocation fails, a part of them may be dropped.
+/// How many bytes the key and the value of a leaf have.
+pub(crate) fn leaf_bytes<K: TreeKey, V: TreeValue<K>>(leaf: &Leaf<K, V>) -> u64 {
+    leaf.entry.value().bytes(leaf.entry.key())
+}
+
+/// Drops each entry that is due at the moment or before it, and counts it off `len`, and its bytes off `bytes`. It visits
+/// no other entry. If an allocation fails, a part of them may be dropped.
 #[cycle(dropping)]
 pub(crate) fn drop_at<K: TreeKey + Drop, V: TreeValue<K> + Drop>(
     tree: &mut Tree<K, V>,
     due: &mut Option<u64>,
     len: &mut u64,
+    bytes: &mut u64,
     moment: u64,
     depth: u32,
 ) -> Result<(), AllocError>
@@ -35,14 +41,15 @@ pub(crate) fn drop_at<K: TreeKey + Drop, V: TreeValue<K> + Drop>(
     }
     match tree {
         Tree::Empty => Ok(()),
-        Tree::Leaf(_) => {
+        Tree::Leaf(leaf) => {
+            *bytes = bytes.saturating_sub(leaf_bytes(leaf));
             *tree = Tree::Empty;
             *due = None;
             *len -= 1;
             Ok(())
         }
         Tree::Fork(fork) => {
-            let (small, done) = drop_fork(Arc::make_mut(fork)?, due, len, moment, depth);
+            let (small, done) = drop_fork(Arc::make_mut(fork)?, due, len, bytes, moment, depth);
             if let Some(small) = small {
                 *tree = small;
             }
@@ -57,6 +64,7 @@ fn drop_fork<K: TreeKey + Drop, V: TreeValue<K> + Drop>(
     fork: &mut Fork<K, V>,
     due: &mut Option<u64>,
     len: &mut u64,
+    bytes: &mut u64,
     moment: u64,
     depth: u32,
 ) -> (Option<Tree<K, V>>, Result<(), AllocError>)
@@ -74,7 +82,7 @@ fn drop_fork<K: TreeKey + Drop, V: TreeValue<K> + Drop>(
     ensures some_len { IfSome result.0 (λ small. len.new + length (pairs (fork_shape fork.old)) ≡ len.old + length (pairs (shape small))) }
     ensures some_ok { OnOk result.1 (IfSome result.0 (λ small. IsAlive V.due moment (shape small))) }
 {
-    let done = drop_below(fork, len, moment, depth);
+    let done = drop_below(fork, len, bytes, moment, depth);
     *due = earlier(fork.left_due, fork.right_due);
     (take_small(fork), done)
 }
@@ -84,6 +92,7 @@ fn drop_fork<K: TreeKey + Drop, V: TreeValue<K> + Drop>(
 fn drop_below<K: TreeKey + Drop, V: TreeValue<K> + Drop>(
     fork: &mut Fork<K, V>,
     len: &mut u64,
+    bytes: &mut u64,
     moment: u64,
     depth: u32,
 ) -> Result<(), AllocError>
@@ -96,8 +105,22 @@ fn drop_below<K: TreeKey + Drop, V: TreeValue<K> + Drop>(
     ensures len { len.new + length (pairs (fork_shape fork.old)) ≡ len.old + length (pairs (fork_shape fork.new)) }
 {
     fork.digest = None;
-    let left = drop_at(&mut fork.left, &mut fork.left_due, len, moment, depth + 1);
-    let right = drop_at(&mut fork.right, &mut fork.right_due, len, moment, depth + 1);
+    let left = drop_at(
+        &mut fork.left,
+        &mut fork.left_due,
+        len,
+        bytes,
+        moment,
+        depth + 1,
+    );
+    let right = drop_at(
+        &mut fork.right,
+        &mut fork.right_due,
+        len,
+        bytes,
+        moment,
+        depth + 1,
+    );
     left?;
     right
 }

@@ -5,7 +5,7 @@ ghost use Rattle.merkle.specs.Shape.{pairs, IsTrie};
 ghost use Rattle.merkle.specs.Tree.{shape};
 
 use crate::fork::Tree;
-use crate::key::TreeKey;
+use crate::key::{TreeKey, TreeValue};
 
 /// The value of a key, at this depth of a tree.
 pub(crate) fn find_at<'a, K: TreeKey, V>(
@@ -37,11 +37,18 @@ pub(crate) fn find_at<'a, K: TreeKey, V>(
     }
 }
 
-/// Whether a whole tree has the key.
-pub(crate) fn has_key<K: TreeKey, V>(tree: &Tree<K, V>, key: &K, hash: &[u8; 32]) -> bool
+/// Whether a whole tree has the key, and how many bytes the key and its value have: 0 if it has not.
+pub(crate) fn has_key<K: TreeKey, V: TreeValue<K>>(
+    tree: &Tree<K, V>,
+    key: &K,
+    hash: &[u8; 32],
+) -> (bool, u64)
     requires known { hash.now ≡ K.hash key.now }
     requires trie { IsTrie K.bit K.BITS 0 (shape tree.now) }
-    ensures { result ≡ is_some (find K.cmp key.now (pairs (shape tree.now))) }
+    ensures { result.0 ≡ is_some (find K.cmp key.now (pairs (shape tree.now))) }
 {
-    find_at(tree, key, hash, 0).is_some()
+    match find_at(tree, key, hash, 0) {
+        Some(value) => (true, value.bytes(key)),
+        None => (false, 0),
+    }
 }

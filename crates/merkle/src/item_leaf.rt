@@ -20,6 +20,11 @@ impl TreeValue<Key> for Item {
         self.due
     }
 
+    /// Those of the key and of the data.
+    fn bytes(&self, key: &Key) -> u64 {
+        (key.as_slice().len() as u64).saturating_add(self.block.len() as u64)
+    }
+
     fn put_text<S: Sink>(&self, key: &Key, sink: &mut S) -> Result<(), S::Refusal> {
         key.put(sink)?;
         self.put(sink)

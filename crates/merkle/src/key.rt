@@ -52,6 +52,9 @@ pub trait TreeValue<K> {
     fn due(&self) -> Option<u64>
         ensures { result ≡ due self.now };
 
+    /// How many bytes the key and the value have. It is a figure: no clause says what it gives.
+    fn bytes(&self, key: &K) -> u64;
+
     /// Writes the text of the key with the value.
     fn put_text<S: Sink>(&self, key: &K, sink: &mut S) -> Result<(), S::Refusal>
         ensures { OnOk result (Puts S.holds (text key.now self.now) sink.old sink.new) };

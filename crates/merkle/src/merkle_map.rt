@@ -2,7 +2,7 @@ ghost use Rattle.std.specs.Prelude.{◌≡◌, ◌+◌, cond, true, IfOk, OnOk, 
 ghost use Rattle.merkle.specs.Tree.{IsLeaf};
 
 use crate::differing::differ_at;
-use crate::dropping::drop_at;
+use crate::dropping::{drop_at, leaf_bytes};
 use crate::due::is_above;
 use crate::finding::{find_at, has_key};
 use crate::fork::{Leaf, Tree};
@@ -26,6 +26,8 @@ pub struct MerkleMap<K: TreeKey, V: TreeValue<K>> {
     /// The first due time of its entries.
     due: Option<u64>,
     len: u64,
+    /// How many bytes its keys and values have. No clause says so.
+    bytes: u64,
 }
 
 impl<K: TreeKey + Drop, V: TreeValue<K> + Drop> Drop for MerkleMap<K, V> {
@@ -34,6 +36,7 @@ impl<K: TreeKey + Drop, V: TreeValue<K> + Drop> Drop for MerkleMap<K, V> {
             tree: _,
             due: _,
             len: _,
+            bytes: _,
         } = self;
     }
 }
@@ -100,6 +103,7 @@ impl<K: TreeKey + Drop, V: TreeValue<K> + Drop> MerkleMap<K, V> {
             tree: Tree::Empty,
             due: None,
             len: 0,
+            bytes: 0,
         }
     }
 
@@ -109,6 +113,11 @@ impl<K: TreeKey + Drop, V: TreeValue<K> + Drop> MerkleMap<K, V> {
         ensures mapped { result ≡ length (map.entries (map.from_entries {R = K.cmp} self.now)) }
     {
         self.len
+    }
+
+    /// How many bytes its keys and values have, as `TreeValue::bytes` counts them. No clause says so.
+    pub fn bytes(&self) -> u64 {
+        self.bytes
     }
 
     /// The value of the key, if there is one.
@@ -133,10 +142,12 @@ impl<K: TreeKey + Drop, V: TreeValue<K> + Drop> MerkleMap<K, V> {
         ensures err { OnErr result (self.new ≡ self.old) }
     {
         let leaf = new_leaf(alloc, entry)?;
-        let found = has_key(&self.tree, leaf.entry.key(), &leaf.hash);
+        let (found, bytes) = has_key(&self.tree, leaf.entry.key(), &leaf.hash);
         let len = len_after(self.len, found)?;
         put_at(alloc, &mut self.tree, &mut self.due, &leaf, 0)?;
         self.len = len;
+        self.bytes = self.bytes.saturating_sub(bytes);
+        self.bytes = self.bytes.saturating_add(leaf_bytes(&leaf));
         Ok(())
     }
 
@@ -147,16 +158,16 @@ impl<K: TreeKey + Drop, V: TreeValue<K> + Drop> MerkleMap<K, V> {
         ensures err { OnErr result (self.new ≡ self.old) }
     {
         let hash = key.hash();
-        let found = has_key(&self.tree, key, &hash);
+        let (found, bytes) = has_key(&self.tree, key, &hash);
         if found {
-            self.remove_found(key, &hash)
+            self.remove_found(key, &hash, bytes)
         } else {
             Ok(())
         }
     }
 
-    /// Removes the key, which is there.
-    fn remove_found(&mut self, key: &K, hash: &[u8; 32]) -> Result<(), AllocError>
+    /// Removes the key, which is there and has so many bytes with its value.
+    fn remove_found(&mut self, key: &K, hash: &[u8; 32], bytes: u64) -> Result<(), AllocError>
         requires known { hash.now ≡ K.hash key.now }
         requires found { is_some (map.find K.cmp key.now self.old) ≡ true }
         ensures ok { OnOk result (map.from_entries {R = K.cmp} self.new ≡ map.remove (map.from_entries self.old) key.now) }
@@ -164,6 +175,7 @@ impl<K: TreeKey + Drop, V: TreeValue<K> + Drop> MerkleMap<K, V> {
     {
         remove_at(&mut self.tree, &mut self.due, key, hash, 0)?;
         self.len -= 1;
+        self.bytes = self.bytes.saturating_sub(bytes);
         Ok(())
     }
 
@@ -194,7 +206,14 @@ impl<K: TreeKey + Drop, V: TreeValue<K> + Drop> MerkleMap<K, V> {
         ensures ok { OnOk result (map.from_entries {R = K.cmp} self.new ≡ alive_map V.due moment (map.from_entries self.old)) }
         ensures fewer { length self.new ≤ length self.old }
     {
-        drop_at(&mut self.tree, &mut self.due, &mut self.len, moment, 0)
+        drop_at(
+            &mut self.tree,
+            &mut self.due,
+            &mut self.len,
+            &mut self.bytes,
+            moment,
+            0,
+        )
     }
 
     /// The digest of the map. This takes no memory. It hashes what was written since the last `seal`
@@ -263,6 +282,7 @@ impl<K: TreeKey + Drop, V: TreeValue<K> + Drop> Clone for MerkleMap<K, V> {
             tree: self.tree.clone()?,
             due: self.due,
             len: self.len,
+            bytes: self.bytes,
         })
     }
 }

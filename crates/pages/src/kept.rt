@@ -29,6 +29,17 @@ pub(crate) enum Kept {
     Tree(ItemTree),
 }
 
+/// How many bytes the keys and the data of entries have.
+fn bytes_of(entries: &[Entry<Key, Item>]) -> u64 {
+    let mut bytes = 0u64;
+    for entry in entries {
+        let key = entry.key().as_slice().len();
+        let item = key.saturating_add(entry.value().block.len());
+        bytes = bytes.saturating_add(item as u64);
+    }
+    bytes
+}
+
 impl Kept {
     pub(crate) fn layout(&self) -> Layout
         ensures { result ≡ layout_kept self.now }
@@ -58,6 +69,14 @@ impl Kept {
         match self {
             Kept::Sorted(page) => page.entries().len() as u64,
             Kept::Tree(tree) => tree.len(),
+        }
+    }
+
+    /// How many bytes the keys and the data have. Of sorted items it looks at each.
+    pub(crate) fn bytes(&self) -> u64 {
+        match self {
+            Kept::Sorted(page) => bytes_of(page.entries()),
+            Kept::Tree(tree) => tree.bytes(),
         }
     }
 

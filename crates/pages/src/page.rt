@@ -139,6 +139,11 @@ impl Page {
         self.kept.len()
     }
 
+    /// How many bytes its keys and data have. No clause says so.
+    pub(crate) fn bytes(&self) -> u64 {
+        self.kept.bytes()
+    }
+
     /// Its entries, which are sorted, in the order of their keys.
     pub(crate) fn sorted_entries(&self) -> &[Entry<Key, Item>]
         requires { self.now.layout ≡ Sorted }

@@ -228,6 +228,14 @@ impl Snapshot {
         self.page(number).len()
     }
 
+    /// How many bytes the keys and the data of a page have. No clause says so. Of a tree they are kept, of sorted items each
+    /// one is looked at.
+    pub fn bytes(&self, number: usize) -> u64
+        requires { number < page_count }
+    {
+        self.page(number).bytes()
+    }
+
     /// The entries of a page of sorted ones, in the order of their keys.
     pub(crate) fn sorted_page(&self, number: usize) -> &[Entry<Key, Item>]
         requires within { number < page_count }

@@ -35,7 +35,7 @@ fn ask_all(alloc: Global, gather: &mut Gather, clients: &[u16]) -> Result<(), Al
     Ok(())
 }
 
-/// The next batch. If a growth is refused it is cut once more: nothing has changed by then.
+/// The next batch. If an allocation fails it is cut once more: nothing has changed by then.
 fn cut_again(
     alloc: Global,
     gather: &mut Gather,
@@ -168,7 +168,7 @@ fn rows_of_batches(rt: HostRuntime) -> Result<(), Fail> {
     Ok(())
 }
 
-/// `scripts/refusals` refuses each growth of it in turn.
+/// `scripts/refusals` has each of its allocations fail in turn.
 #[test]
 fn a_refused_cut_changes_nothing(rt: HostRuntime) -> Result<(), Fail> {
     let done = done_anew(rt.alloc(), A_65TH_WAITS);

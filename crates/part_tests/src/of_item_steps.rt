@@ -7,7 +7,7 @@ use proto::{Command, Reader, Turn, write_reply};
 use std::alloc::{AllocError, Global};
 use std::test::Fail;
 
-/// What the step gives. If a growth is refused it is made once more: nothing has changed by then.
+/// What the step gives. If an allocation fails it is made once more: nothing has changed by then.
 fn apply_again<S: Store>(
     alloc: Global,
     store: &mut S,
@@ -50,7 +50,7 @@ fn run<S: Store>(
     write_reply(&reply_of(alloc, command, answers.as_slice())?, out)
 }
 
-/// Drops what is due; once more if a growth is refused.
+/// Drops what is due; once more if an allocation fails.
 fn drop_due_again<S: Store>(store: &mut S, moment: u32) -> Result<(), AllocError> {
     match store.drop_due(moment) {
         Ok(()) => Ok(()),
@@ -269,7 +269,7 @@ fn commands_on_pages_and_on_a_plain_store(rt: HostRuntime) -> Result<(), Fail> {
     Ok(())
 }
 
-/// `scripts/refusals` refuses each growth of it in turn.
+/// `scripts/refusals` has each of its allocations fail in turn.
 #[test]
 fn a_refused_step_changes_nothing(rt: HostRuntime) -> Result<(), Fail> {
     let gave = give_on_both(rt.alloc(), EACH, EACH_GIVES);

@@ -201,7 +201,7 @@ fn sets_twenty(alloc: Global, store: &mut PlainStore) -> Result<bool, AllocError
     Ok(true)
 }
 
-/// With `--fail-alloc N` one growth of it is refused, for each N.
+/// With `--fail-alloc N` one allocation of it fails, for each N.
 #[test]
 fn a_refused_put_changes_nothing(rt: HostRuntime) -> Result<(), Fail> {
     let mut store = PlainStore::new(rt.alloc());

@@ -1,5 +1,5 @@
-//! A node that stops, and is opened again, after each event of a play: what the client is given is then a
-//! beginning of what it is given without.
+//! A node that stops, and is opened again, after each event of a play. What the client is given is then a beginning of
+//! what it is given without; and it is all of that, at the latest when all replicas have come back.
 
 use crate::played::played;
 use std::alloc::{AllocError, Global};
@@ -36,6 +36,13 @@ const OF_THREE: [Lines; 10] = [
     ("settle 1", 60),
 ];
 
+/// There is a new leader, the client asks again, and each executor cuts a batch.
+const ALL_COME_BACK: &str = "suspect 0\nsuspect 1\nsuspect 2\nsettle 1000\nagain 1\nsettle 1000\n\
+    cut 0 1000\ncut 1 1000\ncut 2 1000\nsettle 1000\n";
+
+/// The client, which asks three commands, is given all after fewer rounds.
+const MOST_ROUNDS: usize = 5;
+
 /// How many lines there are.
 fn count(rows: &[Lines]) -> usize {
     let mut sum = 0usize;
@@ -45,8 +52,14 @@ fn count(rows: &[Lines]) -> usize {
     sum
 }
 
-/// The schedule, with more lines after so many.
-fn with_lines(alloc: Global, rows: &[Lines], at: usize, more: &str) -> Result<String, AllocError> {
+/// The schedule, with more lines after so many, and at its end so many rounds in which all come back.
+fn with_lines(
+    alloc: Global,
+    rows: &[Lines],
+    at: usize,
+    more: &str,
+    rounds: usize,
+) -> Result<String, AllocError> {
     let mut text = String::new(alloc);
     let mut before = 0usize;
     for (line, times) in rows {
@@ -58,6 +71,9 @@ fn with_lines(alloc: Global, rows: &[Lines], at: usize, more: &str) -> Result<St
                 text.push_str(more)?;
             }
         }
+    }
+    for _ in 0..rounds {
+        text.push_str(ALL_COME_BACK)?;
     }
     Ok(text)
 }
@@ -77,19 +93,48 @@ fn given(alloc: Global, schedule: &str) -> Result<String, AllocError> {
     Ok(shown)
 }
 
+/// Whether the client is given all of `whole` after so many rounds. None: it is given no beginning of it.
+fn is_given(
+    alloc: Global,
+    rows: &[Lines],
+    at: usize,
+    more: &str,
+    rounds: usize,
+    whole: &str,
+) -> Result<Option<bool>, AllocError> {
+    let schedule = with_lines(alloc, rows, at, more, rounds)?;
+    let some = given(alloc, schedule.as_str())?;
+    let is_all = some.as_str() == whole;
+    Ok(whole.starts_with(some.as_str()).then_some(is_all))
+}
+
+/// Whether the client is given all of `whole` after some rounds, and a beginning of it before.
+fn is_given_all(
+    alloc: Global,
+    rows: &[Lines],
+    at: usize,
+    more: &str,
+    whole: &str,
+) -> Result<bool, AllocError> {
+    for rounds in 0..MOST_ROUNDS {
+        match is_given(alloc, rows, at, more, rounds, whole)? {
+            Some(true) => return Ok(true),
+            Some(false) => {}
+            None => return Ok(false),
+        }
+    }
+    Ok(false)
+}
+
 /// Whether it holds of these nodes, each after each event.
 fn holds(alloc: Global, rows: &[Lines], nodes: &[&str], whole: &str) -> Result<bool, AllocError> {
-    let schedule = with_lines(alloc, rows, 0, "")?;
-    let all = given(alloc, schedule.as_str())?;
-    if all.as_str() != whole {
+    if is_given(alloc, rows, 0, "", 0, whole)? != Some(true) {
         return Ok(false);
     }
     for node in nodes {
         for at in 1..count(rows) {
             let more = format!(in alloc; "crash {node}\nrestart {node}\n")?;
-            let schedule = with_lines(alloc, rows, at, more.as_str())?;
-            let some = given(alloc, schedule.as_str())?;
-            if !whole.starts_with(some.as_str()) {
+            if !is_given_all(alloc, rows, at, more.as_str(), whole)? {
                 return Ok(false);
             }
         }

@@ -122,7 +122,7 @@ const SET_TREES: Record = &[
     TREES,
 ];
 
-/// What a state is told by here: its number, its token and its form.
+/// What identifies a state here: its number, its token and its form.
 type Told = (u64, [u8; 32], Form);
 
 /// Bytes of a version; and what they are read as, and the record that is written of it then, if they are

@@ -7,6 +7,7 @@ use Rattle.std.proofs.alloc.Global.TheSendSync as global
 use Rattle.std.proofs.collections.VecDeque.TheSendSync as deque
 use Rattle.std.proofs.vec.Vec.TheSendSync as vec
 use Rattle.event_loop.proofs.message.Said.TheSendSync as said
+use Rattle.figures.proofs.histogram.Histogram.TheSendSync as histogram
 use Rattle.service.proofs.Crossing.{service_send}
 use Rattle.server.proofs.answering.Lost.TheSendSync as lost
 use Rattle.server.specs.contracts.answering.Answering as answering
@@ -29,4 +30,4 @@ answering_send = search (parts, sendable) depth 60 fits 20000
 
 -- With where its record is saved, if that may go there, and what is held.
 pub durable_send : (T : RattleType) → IsSend T → IsSend (durable.the_row T)
-durable_send T s = recorded_send _ _ _ (durable.the_type T).to_one (struct_send (shape (durable.the_type T)) (global.the_field_send, (answering_send, (s, ((search (parts, sendable)), ((search (parts, sendable)), ((search (parts, sendable)), ((search (parts, sendable)), tt))))))))
+durable_send T s = recorded_send _ _ _ (durable.the_type T).to_one (struct_send (shape (durable.the_type T)) (global.the_field_send, (answering_send, (s, ((search (parts, sendable)), ((search (parts, sendable)), ((search (parts, sendable)), ((search (parts, sendable)), ((search (histogram.the_field_send, crosses, sendable)), tt)))))))))

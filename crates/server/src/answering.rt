@@ -128,7 +128,7 @@ impl Answering {
     pub fn figures(&mut self) -> Figures
         ensures same { self.new ≡ self.old }
     {
-        self.service.figures(self.alloc)
+        self.service.figures()
     }
 
     /// Takes over what only the event loop and the system know, for `stats`.

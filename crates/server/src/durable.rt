@@ -6,7 +6,7 @@ ghost use Rattle.server.specs.Answering.{DoesWhatIsDue};
 ghost use Rattle.server.specs.Durable.{IsFoundOf};
 
 use crate::answering::Answering;
-use crate::save::{Save, SaveFault};
+use crate::save::{Save, SaveFault, SaveFolders};
 use event_loop::{Heard, Said, Serve};
 use figures::{Figures, Histogram, Saves, one_more};
 use service::{Service, ServiceRecord};
@@ -15,6 +15,7 @@ use std::mem;
 use std::rt::Clock;
 use std::sync::Wait;
 use std::thread::Threads;
+use std::time::Instant;
 
 /// So few messages are saved at once. More wait for what the service has to do next, and are saved with that.
 const MOST_AT_ONCE: usize = 2;
@@ -39,6 +40,18 @@ pub struct DurableService<S> {
     made: u64,
     /// Saves that failed.
     failed: u64,
+    /// What they took.
+    times: Histogram,
+}
+
+/// How long it is since this moment, in microseconds. 0: the clock cannot be read.
+fn micros_since<C: Clock>(clock: &C, begun: Option<Instant>) -> u64 {
+    match (begun, Instant::now(clock)) {
+        (Some(begun), Ok(now)) => u64::try_from(
+            now.saturating_duration_since(begun).as_micros(),
+        ).unwrap_or(u64::MAX),
+        _ => 0,
+    }
 }
 
 /// Saves the record while the service works.
@@ -68,6 +81,7 @@ fn save_and_run<S: Save, R: Threads + Wait + Sync, C: Clock>(
 }
 
 impl<S: Save> DurableService<S> {
+    ghost use denote.Param.Send.{IsSync};
     ghost use Rattle.std.specs.Prelude.{◌≡◌, [], true, false, not};
     ghost use Rattle.server.specs.Durable.{IsSavedNow, MayBeSavedNow, ReleasesHeld};
 
@@ -86,6 +100,7 @@ impl<S: Save> DurableService<S> {
             is_failing: false,
             made: 0,
             failed: 0,
+            times: Histogram::NONE,
         }
     }
 
@@ -102,6 +117,7 @@ impl<S: Save> DurableService<S> {
             is_failing: _,
             made: _,
             failed: _,
+            times: _,
         } = self;
         drop(held);
         (answering.into_service(), saver)
@@ -112,15 +128,16 @@ impl<S: Save> DurableService<S> {
         ensures same { self.new ≡ self.old }
     {
         let mut figures = self.answering.figures();
+        let folders = self.folders();
         figures.saves = Saves {
             made: self.made,
             failed: self.failed,
             waiting: self.held.len().saturating_add(self.answering.said_count()) as u64,
             failing: if self.is_failing { 1 } else { 0 },
             bytes: 0,
-            folders: 0,
-            current_folders: 0,
-            times: Histogram::NONE,
+            folders: folders.all,
+            current_folders: folders.current,
+            times: self.times,
         };
         figures
     }
@@ -141,8 +158,13 @@ impl<S: Save> DurableService<S> {
         }
     }
 
-    /// A save succeeded, or failed.
-    fn note(&mut self, is_saved: bool)
+    /// In how many folders it is saved.
+    pub fn folders(&self) -> SaveFolders {
+        self.saver.folders()
+    }
+
+    /// A save succeeded, or failed, after so many microseconds.
+    fn note(&mut self, is_saved: bool, micros: u64)
         ensures answering { self.new.answering ≡ self.old.answering }
         ensures saver { self.new.saver ≡ self.old.saver }
         ensures held { self.new.held ≡ self.old.held }
@@ -153,11 +175,13 @@ impl<S: Save> DurableService<S> {
         } else {
             self.failed = one_more(self.failed);
         }
+        self.times.observe(micros);
         self.is_failing = !is_saved;
     }
 
     /// Saves a record of this moment: whether it is saved.
-    fn save(&mut self) -> bool
+    fn save<R: Threads + Sync, C: Clock>(&mut self, rt: &R, clock: &C) -> bool
+        requires { IsSync R.row }
         ensures answering { self.new.answering ≡ self.old.answering }
         ensures held { self.new.held ≡ self.old.held }
         ensures failing { self.new.is_failing ≡ not result }
@@ -168,16 +192,18 @@ impl<S: Save> DurableService<S> {
             self.is_failing = false;
             return true;
         }
+        let begun = Instant::now(clock).ok();
         let is_saved = match self.answering.record() {
-            Ok(record) => self.saver.save(self.alloc, &record),
+            Ok(record) => self.saver.save(rt, self.alloc, &record),
             Err(_) => false,
         };
-        self.note(is_saved);
+        self.note(is_saved, micros_since(clock, begun));
         is_saved
     }
 
     /// Hands out what is held, if a record of this moment is saved.
-    fn hand_out(&mut self) -> Vec<Said>
+    fn hand_out<R: Threads + Sync, C: Clock>(&mut self, rt: &R, clock: &C) -> Vec<Said>
+        requires { IsSync R.row }
         ensures answering { self.new.answering ≡ self.old.answering }
         ensures releases { ReleasesHeld S.is_text (S.may_find self.old.saver) (S.may_find self.new.saver) self.old.answering.service self.old.held.items result.items self.new.held.items }
         ensures failing { self.new.is_failing ≡ true → result.items ≡ [] }
@@ -187,7 +213,7 @@ impl<S: Save> DurableService<S> {
             self.is_failing = false;
             return Vec::new(self.alloc);
         }
-        if self.save() {
+        if self.save(rt, clock) {
             mem::replace(&mut self.held, Vec::new(self.alloc))
         } else {
             Vec::new(self.alloc)
@@ -217,6 +243,7 @@ impl<S: Save> DurableService<S> {
         ensures failing { self.new.is_failing ≡ true → result.items ≡ [] }
         ensures leaves { self.new.is_failing ≡ false → result.items ≡ self.old.held.items }
     {
+        let begun = Instant::now(clock).ok();
         let is_saved = save_and_run(
             &mut self.saver,
             &mut self.answering,
@@ -226,7 +253,7 @@ impl<S: Save> DurableService<S> {
             clock,
             seconds,
         );
-        self.note(is_saved);
+        self.note(is_saved, micros_since(clock, begun));
         if !is_saved {
             return Vec::new(self.alloc);
         }
@@ -274,12 +301,12 @@ impl<S: Save> DurableService<S> {
         ensures rests { self.old.is_failing ≡ true → self.new.answering ≡ self.old.answering }
     {
         if self.is_failing {
-            return self.hand_out();
+            return self.hand_out(rt, clock);
         }
         match self.answering.record() {
             Ok(record) => self.save_beside(record, rt, clock, seconds),
             Err(_) => {
-                self.note(false);
+                self.note(false, 0);
                 Vec::new(self.alloc)
             }
         }
@@ -332,7 +359,7 @@ impl<S: Save> Serve for DurableService<S> {
         if self.is_full() {
             return Vec::new(self.alloc);
         }
-        self.hand_out()
+        self.hand_out(rt, clock)
     }
 
     fn tick(&mut self)

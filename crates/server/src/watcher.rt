@@ -1,7 +1,7 @@
 //! What others see of a server while it serves.
 
 use crate::durable::DurableService;
-use crate::save::{Save, SaveFault};
+use crate::save::{Save, SaveFault, SaveFolders};
 use event_loop::{Counts, Watch};
 use figures::{Connections, Figures};
 use std::sync::Wait;
@@ -54,6 +54,11 @@ impl<'a, S: Save> Watcher<'a, S> {
     /// waits as in `figures`.
     pub fn save_fault<R: Wait>(&self, rt: &R) -> Option<SaveFault> {
         self.watch.service(rt).fault()
+    }
+
+    /// In how many folders it is saved. The caller waits as in `figures`.
+    pub fn save_folders<R: Wait>(&self, rt: &R) -> SaveFolders {
+        self.watch.service(rt).folders()
     }
 
     /// Whether the server has ended by itself, since the system refused to wait on its sockets. Its thread sets this, so

@@ -1,106 +1,90 @@
 //! When a server with a limit of memory stores no more.
 
-use service::{ItemBytes, Limit};
+use service::Limit;
 use std::test::Fail;
-
-/// So many pages have items.
-const PAGES: usize = 256;
 
 /// So many bytes each item has.
 const ITEM: u64 = 1_000;
 
-/// A limit, of which a page is looked at for each 1,000 bytes.
-const LIMIT: u64 = 8_192_000;
+/// A limit. The items are counted again for each 10,000 bytes that are asked to be stored.
+const LIMIT: u64 = 10_240_000;
 
-/// Pages with their bytes, and what a server knows of them.
+/// Items with so many bytes, and what a server knows of them.
 struct Store {
-    pages: [u64; PAGES],
-    known: ItemBytes,
+    bytes: u64,
     limit: Limit,
     asked: u64,
     micros: u64,
+    /// How often the items were counted.
+    looks: u64,
 }
 
 impl Drop for Store {
     fn drop(self) {
         let Store {
-            pages: _,
-            known: _,
+            bytes: _,
             limit: _,
             asked: _,
             micros: _,
+            looks: _,
         } = self;
     }
 }
 
 impl Store {
-    /// Each page has so many bytes, and all were looked at.
     fn of(bytes: u64) -> Store {
-        let mut known = ItemBytes::new();
-        for _ in 0..PAGES {
-            known.found(bytes, 0);
-        }
         Store {
-            pages: [bytes; PAGES],
-            known,
+            bytes,
             limit: Limit::new(LIMIT),
             asked: 0,
             micros: 0,
+            looks: 0,
         }
-    }
-
-    fn total(&self) -> u64 {
-        let mut total = 0u64;
-        for bytes in &self.pages {
-            total = total.saturating_add(*bytes);
-        }
-        total
     }
 
     /// Whether it stores no more, as a service decides it before each piece.
     fn is_full(&mut self) -> bool {
-        for _ in 0..self.limit.looks(&self.known, self.asked, self.micros) {
-            let bytes = self.pages[self.known.next() % PAGES];
-            self.known.found(bytes, self.asked);
+        if self.limit.is_due(self.asked, self.micros) {
+            self.limit.found(self.bytes, self.asked, self.micros);
+            self.looks = self.looks.saturating_add(1);
         }
-        self.limit.is_reached(&self.known, self.asked)
+        self.limit.is_reached(self.asked)
     }
 
-    /// An item is asked to be stored; the page has so many bytes then.
-    fn ask(&mut self, page: usize, bytes: u64) {
+    /// An item is asked to be stored, after which the items have so many bytes.
+    fn ask(&mut self, bytes: u64) {
         self.asked = self.asked.saturating_add(ITEM);
-        self.pages[page % PAGES] = bytes;
+        self.bytes = bytes;
     }
 }
 
 /// Stores items until it is full: how many.
-fn filled(store: &mut Store) -> usize {
-    for count in 0..10_000usize {
+fn filled(store: &mut Store) -> u64 {
+    for count in 0..20_000u64 {
         if store.is_full() {
             return count;
         }
-        let page = count % PAGES;
-        let bytes = store.pages[page].saturating_add(ITEM);
-        store.ask(page, bytes);
+        let bytes = store.bytes.saturating_add(ITEM);
+        store.ask(bytes);
     }
     0
 }
 
 /// Whether it is never full while so many items are stored in place of others.
-fn has_room_throughout(store: &mut Store, count: usize) -> bool {
-    for at in 0..count {
+fn has_room_throughout(store: &mut Store, count: u64) -> bool {
+    for _ in 0..count {
         if store.is_full() {
             return false;
         }
-        let bytes = store.pages[at % PAGES];
-        store.ask(at % PAGES, bytes);
+        let bytes = store.bytes;
+        store.ask(bytes);
     }
     true
 }
 
-/// After how many milliseconds it stores again, if it does within two seconds.
+/// After how many milliseconds it stores again, if it does within a second.
 fn millis_until_room(store: &mut Store) -> Option<u64> {
-    for millis in 0..2_000u64 {
+    for millis in 0..1_000u64 {
         store.micros = store.micros.saturating_add(1_000);
         if !store.is_full() {
             return Some(millis);
@@ -110,65 +94,65 @@ fn millis_until_room(store: &mut Store) -> Option<u64> {
 }
 
 #[test]
-fn without_a_limit_nothing_is_looked_at(rt: HostRuntime) -> Result<(), Fail> {
-    let known = ItemBytes::new();
-    let mut limit = Limit::new(0);
+fn without_a_limit_nothing_is_counted(rt: HostRuntime) -> Result<(), Fail> {
+    let limit = Limit::new(0);
     assert!(rt; !limit.is_set());
-    assert!(rt; !limit.is_reached(&known, u64::MAX));
-    assert_eq!(rt; limit.looks(&known, u64::MAX, u64::MAX), 0);
+    assert!(rt; !limit.is_reached(u64::MAX));
+    assert!(rt; !limit.is_due(u64::MAX, u64::MAX));
     Ok(())
 }
 
 #[test]
-fn what_was_asked_counts_until_its_page_is_looked_at(rt: HostRuntime) -> Result<(), Fail> {
-    let mut known = ItemBytes::new();
-    assert_eq!(rt; known.at_most(700), 700);
-    for _ in 0..PAGES {
-        known.found(2, 700);
-    }
-    assert_eq!(rt; known.total(), 512);
-    assert_eq!(rt; known.at_most(700), 512);
-    assert_eq!(rt; known.at_most(800), 612);
-    known.found(5, 800);
-    assert_eq!(rt; known.total(), 515);
-    assert_eq!(rt; known.at_most(800), 615, "the oldest look counts");
-    Ok(())
-}
-
-#[test]
-fn pages_are_looked_at_as_more_is_asked(rt: HostRuntime) -> Result<(), Fail> {
-    let known = ItemBytes::new();
+fn nothing_is_stored_before_the_items_are_counted(rt: HostRuntime) -> Result<(), Fail> {
     let mut limit = Limit::new(LIMIT);
-    assert_eq!(rt; limit.looks(&known, 999, 0), 0);
-    assert_eq!(rt; limit.looks(&known, 3_100, 0), 3);
-    assert_eq!(rt; limit.looks(&known, 3_999, 0), 0);
-    assert_eq!(rt; limit.looks(&known, 100_000, 0), 16, "at most");
-    assert_eq!(rt; limit.looks(&known, 100_000, 0), 16, "the others later");
+    assert!(rt; limit.is_due(0, 0) && limit.is_reached(0));
+    limit.found(0, 0, 0);
+    assert!(rt; !limit.is_due(0, 0) && !limit.is_reached(0));
     Ok(())
 }
 
 #[test]
-fn it_is_full_a_little_below_the_limit(rt: HostRuntime) -> Result<(), Fail> {
+fn what_was_asked_since_they_were_counted_counts(rt: HostRuntime) -> Result<(), Fail> {
+    let mut limit = Limit::new(LIMIT);
+    limit.found(LIMIT - 700, 5_000, 0);
+    assert!(rt; !limit.is_reached(5_700));
+    assert!(rt; limit.is_reached(5_701));
+    Ok(())
+}
+
+#[test]
+fn they_are_counted_as_more_is_asked(rt: HostRuntime) -> Result<(), Fail> {
+    let mut limit = Limit::new(LIMIT);
+    limit.found(0, 0, 0);
+    assert!(rt; !limit.is_due(9_999, 1_000_000));
+    assert!(rt; limit.is_due(10_000, 0));
+    let mut store = Store::of(0);
+    assert!(rt; has_room_throughout(&mut store, 5_000));
+    assert_eq!(rt; store.looks, 500);
+    Ok(())
+}
+
+#[test]
+fn it_is_full_just_below_the_limit(rt: HostRuntime) -> Result<(), Fail> {
     let mut store = Store::of(0);
     let count = filled(&mut store);
-    let total = store.total();
-    assert!(rt; 7_900 <= count && total <= LIMIT);
+    assert!(rt; 10_230 <= count && count <= 10_241);
     Ok(())
 }
 
 #[test]
 fn items_in_place_of_others_do_not_fill_it(rt: HostRuntime) -> Result<(), Fail> {
-    let mut store = Store::of(30_000);
+    let mut store = Store::of(LIMIT - 20_000);
     assert!(rt; has_room_throughout(&mut store, 50_000));
     Ok(())
 }
 
 #[test]
-fn there_is_room_within_a_second(rt: HostRuntime) -> Result<(), Fail> {
+fn there_is_room_within_some_milliseconds(rt: HostRuntime) -> Result<(), Fail> {
     let mut store = Store::of(0);
     assert!(rt; filled(&mut store) != 0);
-    store.pages = [16_000; PAGES];
+    store.bytes = LIMIT / 2;
     let millis = millis_until_room(&mut store);
-    assert!(rt; matches!(millis, Some(millis) if millis < 1_000));
+    assert!(rt; matches!(millis, Some(millis) if millis < 10));
     Ok(())
 }

@@ -1,16 +1,13 @@
 //! What is counted while connections are served. No decision rests on it.
 
-use crate::item_bytes::{ItemBytes, Limit};
+use crate::limit::Limit;
 use crate::note::Note;
 use crate::replicas::note_node;
+use connections::Said;
 use ensemble::{Ensemble, Replica, Times};
 use figures::{Figures, one_more};
 use grammar::Conditions;
-use proto::Reply;
-use std::alloc::Global;
-
-/// How many pages are looked at for the figures. All are looked at in 32 times.
-const PAGES_AT_ONCE: usize = 8;
+use proto::{Fault, Reply};
 
 /// What was counted, whether a command was answered since the clock was last read, and whether more may be stored.
 pub struct Counting {
@@ -19,8 +16,9 @@ pub struct Counting {
     /// The moment, in microseconds of the caller's clock.
     micros: u64,
     has_answered: bool,
-    item_bytes: ItemBytes,
     limit: Limit,
+    /// Connections that were closed since there was no memory for what came of them.
+    closed: u64,
 }
 
 impl Drop for Counting {
@@ -29,15 +27,15 @@ impl Drop for Counting {
             conditions: _,
             micros: _,
             has_answered: _,
-            item_bytes: _,
             limit: _,
+            closed: _,
         } = self;
     }
 }
 
 impl Counting {
-    /// Nothing is counted, with these figures of the replicas and with what is known of the items.
-    fn of(figures: Figures, item_bytes: ItemBytes) -> Counting {
+    /// Nothing is counted, with these figures of the replicas.
+    fn of(figures: Figures) -> Counting {
         Counting {
             conditions: Conditions {
                 is_full: false,
@@ -46,24 +44,24 @@ impl Counting {
             },
             micros: 0,
             has_answered: false,
-            item_bytes,
             limit: Limit::new(0),
+            closed: 0,
         }
     }
 
-    /// Nothing is counted, there are no items, and so many executors and as many verifiers are up.
+    /// Nothing is counted, and so many executors and as many verifiers are up.
     pub fn new(members: u8) -> Counting {
         let mut figures = Figures::NONE;
         for id in 0..members {
             note_node(&mut figures, Replica::Executor(id), true);
             note_node(&mut figures, Replica::Verifier(id), true);
         }
-        Counting::of(figures, ItemBytes::new())
+        Counting::of(figures)
     }
 
-    /// Nothing is counted, all replicas are down, and which items there are is not known.
+    /// Nothing is counted, and all replicas are down.
     pub fn reopened() -> Counting {
-        Counting::of(Figures::NONE, ItemBytes::unknown())
+        Counting::of(Figures::NONE)
     }
 
     /// The moment, in microseconds of the caller's clock.
@@ -86,42 +84,40 @@ impl Counting {
         figures.connections = seen.connections;
     }
 
-    /// Looks at the page of items whose look is the oldest, for how many bytes it has. `false`: no executor is up, or
-    /// there is no memory to look, and what is known of it stays.
-    fn look_once(&mut self, alloc: Global, ensemble: &Ensemble) -> bool {
-        match ensemble.page_bytes(alloc, self.item_bytes.next()) {
-            Some(bytes) => {
-                self.item_bytes.found(bytes, self.conditions.asked_bytes);
-                true
-            }
-            None => false,
+    /// Counts the bytes of the items, if an executor is up. Else what was counted last stays.
+    pub fn look(&mut self, ensemble: &Ensemble) {
+        if let Some(bytes) = ensemble.item_bytes() {
+            self.conditions.figures.memory.item_bytes = bytes;
         }
     }
 
-    /// Looks at so many pages of items, as far as that can be done.
-    fn look_at(&mut self, alloc: Global, ensemble: &Ensemble, count: u64) {
-        for _ in 0..count {
-            if !self.look_once(alloc, ensemble) {
-                return;
-            }
+    /// Counts the bytes of the items for the limit, if an executor is up.
+    fn look_for_limit(&mut self, ensemble: &Ensemble) {
+        if let Some(bytes) = ensemble.item_bytes() {
+            self.limit
+                .found(bytes, self.conditions.asked_bytes, self.micros);
         }
     }
 
-    /// Looks at some pages of items, for how many bytes they have: at all that were not looked at yet, if they may have
-    /// items.
-    pub fn look(&mut self, alloc: Global, ensemble: &Ensemble) {
-        let count = self.item_bytes.unseen().max(PAGES_AT_ONCE);
-        self.look_at(alloc, ensemble, count as u64);
-        self.conditions.figures.memory.item_bytes = self.item_bytes.total();
-    }
-
-    /// Decides whether more may be stored. If there is a limit it looks at some pages for that. If it is not known which
-    /// items there are, nothing may be stored.
-    pub fn decide(&mut self, alloc: Global, ensemble: &Ensemble) {
+    /// Decides whether more may be stored, if there is a limit.
+    pub fn decide(&mut self, ensemble: &Ensemble) {
         let asked = self.conditions.asked_bytes;
-        let count = self.limit.looks(&self.item_bytes, asked, self.micros);
-        self.look_at(alloc, ensemble, count);
-        self.conditions.is_full = self.limit.is_reached(&self.item_bytes, asked);
+        if self.limit.is_due(asked, self.micros) {
+            self.look_for_limit(ensemble);
+        }
+        self.conditions.is_full = self.limit.is_reached(asked);
+    }
+
+    /// Counts the connection, if it is closed since there was no memory for what came of it.
+    pub fn hear(&mut self, heard: &Result<Said, Fault>) {
+        if let Err(Fault::NoMemory) = heard {
+            self.closed = one_more(self.closed);
+        }
+    }
+
+    /// How many connections were closed since there was no memory for what came of them.
+    pub fn closed(&self) -> u64 {
+        self.closed
     }
 
     /// How many microseconds went by since this moment.

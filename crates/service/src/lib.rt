@@ -6,6 +6,7 @@
 //!     let at_once = service.hear(alloc, key, number, bytes)?;         // what it is given before its command is answered
 //!     let said = service.work(rt, clock, alloc, seconds);             // what connections are given: the replies
 //!     service.tick(alloc);                                            // each 100 ms while `is_waiting`
+//!     service.stop(Replica::Executor(0));                             // a node stops, until a tick opens it again
 //!     let record = service.record(alloc)?;                            // what is kept, after any of these calls
 //!     let mut service = Service::reopen(alloc, record, dialect)?;     // another process goes on from it
 //!
@@ -19,7 +20,7 @@ mod assignment;
 mod counting;
 mod hearing;
 mod incidents;
-mod item_bytes;
+mod limit;
 mod nodes;
 mod note;
 mod pause;
@@ -29,6 +30,7 @@ mod reopening;
 mod replicas;
 mod service;
 mod service_record;
+mod stopping;
 mod ticking;
 mod working;
 
@@ -37,7 +39,7 @@ pub use connections::{Dialect, MOST_PLACES, MOST_UNWRITTEN, Said};
 pub use ensemble::{Config, Replica};
 pub use figures::Figures;
 pub use incidents::Incidents;
-pub use item_bytes::{ItemBytes, Limit};
+pub use limit::Limit;
 pub use process_laws::{
     a_reopened_service_follows, a_service_follows_others, a_service_is_a_process,
     services_follow_each_other,

@@ -145,7 +145,7 @@ impl Service {
         ensures requests { HasSameRequests self.old self.new }
         ensures process { IsSameProcess self.old self.new }
     {
-        self.counting.decide(alloc, &self.ensemble);
+        self.counting.decide(&self.ensemble);
         let micros = self.counting.micros();
         let heard = hear_at(
             alloc,
@@ -156,6 +156,7 @@ impl Service {
             &mut self.counting.conditions,
             micros,
         );
+        self.counting.hear(&heard);
         self.connections.always();
         heard
     }
@@ -242,16 +243,15 @@ impl Service {
         self.counting.set_micros(micros);
     }
 
-    /// What was counted, and where the replicas are; `stats` shows these from now on. How many bytes the items have is
-    /// looked up for 8 of the 256 pages in each call, and after `reopen` for all pages once. Left 0 is what only the event
-    /// loop and the system know.
-    pub fn figures(&mut self, alloc: Global) -> Figures
+    /// What was counted, and where the replicas are; `stats` shows these from now on. The bytes of the items are counted in
+    /// each call. Left 0 is what only the event loop and the system know.
+    pub fn figures(&mut self) -> Figures
         ensures same { self.new ≡ self.old }
     {
-        self.counting.look(alloc, &self.ensemble);
+        self.counting.look(&self.ensemble);
         let mut figures = self.counting.conditions.figures;
         self.show_replicas(&mut figures);
-        figures.memory.refusals = self.refused();
+        figures.memory.refusals = self.refused().saturating_add(self.counting.closed());
         self.counting.conditions.figures = figures;
         figures
     }

@@ -1,16 +1,21 @@
 -- Each batch of the order is in time.
-use Rattle.std.proofs.Common.{◌≡◌, ◌⊎◌, ⊎_elim, ℕ, inl, inr, Bool, true, false, List, [], ◌∷◌, ◌++◌, map, length, Some, refl, sym, ap, ◌∙◌, subst, arith, append_assoc}
-use Rattle.std.specs.Prelude.{Contains, slice_get, ◌==◌, if◌then◌else◌}
+use Rattle.std.proofs.Common.{◌≡◌, ◌⊎◌, ⊎_elim, ℕ, suc, inl, inr, Bool, true, false, List, [], ◌∷◌, ◌++◌, map, length, take, Some, refl, sym, ap, ◌∙◌, subst, arith, append_assoc}
+use Rattle.std.specs.Prelude.{Contains, slice_get, flat_map, ◌==◌, if◌then◌else◌}
 use Rattle.std.proofs.lemmas.Bool.{eq-eqb}
 use Rattle.std.proofs.lemmas.List.Elements.{Contains-append_left, Contains-append_right}
+use Rattle.std.proofs.lemmas.List.{append-nil}
+use Rattle.proto.specs.declared.command.Command.{Command}
 use Rattle.item_steps.specs.declared.step.Step.{Step}
+use Rattle.item_steps.specs.Steps.{steps}
 use Rattle.sessions.specs.declared.request.Request.{Request}
 use Rattle.sessions.specs.Fresh.{next_number}
 use Rattle.batches.specs.declared.batch.Batch.{Batch}
 use Rattle.states.specs.State.{StateView, initial_state}
 use Rattle.states.specs.Followed.{moment_of}
 use Rattle.executor.proofs.RoundLemmas.{get_map}
-use Rattle.grammar.specs.Asks.{IsAskedIn}
+use Rattle.grammar.specs.declared.turn.Turn.{Turn}
+use Rattle.grammar.specs.Asks.{SpellsIn, commands_in, IsAskedIn}
+use Rattle.grammar.proofs.ReadLemmas.{some_spelled}
 use Rattle.memcached_spec.specs.Server.{Line, Made, Tick, Do, made_for}
 use Rattle.run_laws.specs.Run.{Executed, IsOver, IsRunFrom}
 use Rattle.run_laws.proofs.Elements.{in_head, in_tail, in_none, first_or_other}
@@ -27,14 +32,15 @@ use Rattle.ensemble.proofs.Moments.{moments_both, moment_longer, now_after, cut_
 use Rattle.service.specs.declared.assignment.Assignment.{Assignment}
 use Rattle.service.specs.Service.{ServiceView, IsService, HasEnsemble, HasMoments, asked_keys, assigned_as}
 use Rattle.linear_laws.proofs.Rounds.{RoundMade, steps_made, runner_in}
-use Rattle.linear_laws.proofs.Runs.{IsMadeOf}
+use Rattle.linear_laws.proofs.Runs.{IsMadeOf, steps_made-append, steps_next}
+use Rattle.linear_laws.proofs.InTime.{did_step}
 use Rattle.service_laws.specs.Orders.{RanInTurn}
-use Rattle.service_laws.specs.InTime.{IsTimely, IsStepInTime, IsBatchInTime, IsInTime}
+use Rattle.service_laws.specs.InTime.{IsTimely, IsStepInTime, IsBatchInTime, FollowInTime, IsInTime}
 use Rattle.service_laws.proofs.AskedLemmas.{place_of}
 use Rattle.service_laws.proofs.ServingLemmas.{for_one}
 use Rattle.service_laws.proofs.Renamed.{renamed_line}
-use Rattle.service_laws.proofs.ConnectionRuns.{owner_in, line_ran, max_is, lines_of}
-use Rattle.service_laws.proofs.Turns.{IsRunOf, owner, turn_of_request, at_seam, carried, owner_is}
+use Rattle.service_laws.proofs.ConnectionRuns.{owner_in, AreInTurn, line_ran, one_steps, none_steps, max_is, lines_of}
+use Rattle.service_laws.proofs.Turns.{IsRunOf, owner, turn_of_request, at_seam, carried, owner_is, turn_is, are_in_turn}
 
 -- ---- lists
 
@@ -62,26 +68,6 @@ in_map f (x ∷ xs) y c = elim (first_or_other (f x) y (map f xs) c) [
   | inl same ↦ (x, in_head x xs, same)
   | inr later ↦ let there = in_map f xs y later in (there.0, in_tail x there.0 xs there.1, there.2)
 ]
-
--- a step that is among the lines is one of its client's
-did_step : (lines : List Line) (d : Made) → Contains lines (Do d) → Contains (steps_made d.client lines) d.step
-did_step [] d i = absurd (in_none (Do d) i)
-did_step (Tick m ∷ lines) d i = elim (first_or_other (Tick m) (Do d) lines i) [
-  | inl same ↦ absurd (cc same)
-  | inr later ↦ did_step lines d later
-]
-did_step (Do x ∷ lines) d i = elim (first_or_other (Do x) (Do d) lines i) [
-  | inl same ↦
-      let here : x ≡ d = cc same in
-      let own : (x.client == d.client) ≡ true = eq-eqb x.client d.client (ap (λ (y : Made). y.client) here) in
-      subst (λ (b : Bool). Contains (map (λ (y : Made). y.step) (if b then x ∷ made_for d.client lines else made_for d.client lines)) d.step) (sym own)
-      (subst (λ (y : Made). Contains (x.step ∷ steps_made d.client lines) y.step) here (in_head x.step (steps_made d.client lines)))
-  | inr later ↦ by (x.client == d.client) (did_step lines d later)
-]
-  where
-    by : (b : Bool) → Contains (steps_made d.client lines) d.step → Contains (map (λ (y : Made). y.step) (if b then x ∷ made_for d.client lines else made_for d.client lines)) d.step
-    by true later = in_tail x.step d.step (steps_made d.client lines) later
-    by false later = later
 
 module _ (v : ServiceView) (talks : IsConnections v.connections) (ok : IsService v) (over : HasEnsemble v) (moments : HasMoments v) where
   -- ---- one batch
@@ -133,56 +119,102 @@ module _ (v : ServiceView) (talks : IsConnections v.connections) (ok : IsService
     abbrev renamed : StateView → Line → Line
     renamed s = renamed_line (owner_in its_owner s)
 
-    step_in_time : (s : StateView) (e : Executed) (first : List Line) → IsOver s e → RoundMade s e first → (place : ℕ) → slice_get run place ≡ Some e → (d : Made) → Contains first (Do d) → IsStepInTime v e.batch.moment (renamed s (Do d))
-    step_in_time s e first is_over round place at d i =
-        let one = line_ran s e is_over first round d i in
-        let w = carried v.connections.dialect v.connections.heard v.connections.given (moments_among v.connections.passed) v.assignments (IsMet over.world.through.worlds) over.world.events over.world.now run serves in_turn s e first place d.client one at in
-        let q = one.runner.1 in
-        let conn : w.a.connection ≡ owner_in its_owner s d.client =
-        sym (owner_is v.connections.dialect v.connections.heard v.connections.given (moments_among v.connections.passed) v.assignments (IsMet over.world.through.worlds) over.world.events over.world.now run serves in_turn w.a w.there) ∙ (λ j. its_owner (w.proxy j) (w.number j)) in
-        let its_number : q.number ≡ next_number s.sessions d.client = runs_next s.sessions [] e.batch.requests one.runner one.runs ∙ ap (next_number s.sessions) one.client in
-        record {
-          made = record d { client = owner_in its_owner s d.client };
-          is = refl;
-          turn = w.a.turn;
-          command = q.command;
-          asked = subst (λ (c : ℕ). IsAskedIn v.connections.dialect (bytes_of_connection c v.connections.heard) w.a.turn q.command) conn w.asks;
-          step = subst (λ (ss : List Step). Contains ss d.step) one.made (did_step first d i);
-          timely = subst (λ (c : ℕ). IsTimely v.connections.dialect v.connections.passed c w.a.turn e.batch.moment) conn
-              (timely_of w.a w.there e.batch (cut e (contains_at run place e at)) q (runner_in s e.batch one.runner one.runs) (one.client ∙ sym w.proxy) (its_number ∙ sym w.number));
+    abbrev its_turn : ℕ → ℕ → ℕ
+    its_turn = turn_of_request v.assignments
+
+    -- the turns that the connection's bytes spell
+    abbrev spelled : (c : ℕ) → (turns : List Turn) × SpellsIn v.connections.dialect (bytes_of_connection c v.connections.heard) turns
+    spelled c = some_spelled v.connections.dialect (bytes_of_connection c v.connections.heard)
+
+    abbrev commands_of : ℕ → List Command
+    commands_of c = commands_in (spelled c).0
+
+    -- so many of the connection's commands were executed in these lines, and the rest of the run executes the others in turn
+    record IsAt (c : ℕ) (s : StateView) (later : List Executed) (lines : List Line) (made : IsMadeOf s later lines) (earlier : List Line) : Type 0 where
+      count : ℕ
+      executed : steps_made c earlier ≡ flat_map steps (take count (commands_of c))
+      others : AreInTurn its_owner its_turn c (commands_of c) s later lines made count
+
+    module _ (s : StateView) (e : Executed) (is_over : IsOver s e) (later : List Executed) (lines : List Line) (made : IsMadeOf s (e ∷ later) lines) (earlier : List Line) where
+      -- after the round one command more was executed, or none
+      next_at : (c : ℕ) → IsAt c s (e ∷ later) lines made earlier → IsAt c e.new later made.1 made.4 (earlier ++ map (renamed s) made.0)
+      next_at c at = elim at.others [
+        | inl (one, others) ↦ record {
+          count = suc at.count;
+          executed = steps_made-append c earlier (map (renamed s) made.0) ∙ ((λ i. at.executed i ++ one_steps s e is_over made.0 made.3 its_owner its_turn c (commands_of c) at.count one i) ∙ steps_next (commands_of c) at.count one.ran.runner.1.command one.command_is);
+          others = others;
+        }
+        | inr (none, others) ↦ record {
+          count = at.count;
+          executed = steps_made-append c earlier (map (renamed s) made.0) ∙ ((λ i. at.executed i ++ none_steps s e is_over made.0 made.3 its_owner its_turn c (commands_of c) at.count none i) ∙ append-nil (flat_map steps (take at.count (commands_of c))));
+          others = others;
+        }
+      ]
+
+      module _ (here : (c : ℕ) → IsAt c s (e ∷ later) lines made earlier) (place : ℕ) (there : slice_get run place ≡ Some e) where
+        step_in_time : (d : Made) → Contains made.0 (Do d) → IsStepInTime v e.batch.moment earlier (renamed s (Do d))
+        step_in_time d i =
+            let one = line_ran s e is_over made.0 made.3 d i in
+            let w = carried v.connections.dialect v.connections.heard v.connections.given (moments_among v.connections.passed) v.assignments (IsMet over.world.through.worlds) over.world.events over.world.now run serves in_turn s e made.0 place d.client one there in
+            let q = one.runner.1 in
+            let own : ℕ = owner_in its_owner s d.client in
+            let conn : w.a.connection ≡ own =
+            sym (owner_is v.connections.dialect v.connections.heard v.connections.given (moments_among v.connections.passed) v.assignments (IsMet over.world.through.worlds) over.world.events over.world.now run serves in_turn w.a w.there) ∙ (λ j. its_owner (w.proxy j) (w.number j)) in
+            let its_number : q.number ≡ next_number s.sessions d.client = runs_next s.sessions [] e.batch.requests one.runner one.runs ∙ ap (next_number s.sessions) one.client in
+            let at = here own in
+            let turn_here : w.a.turn ≡ its_turn d.client (next_number s.sessions d.client) =
+            sym (turn_is v.connections.dialect v.connections.heard v.connections.given (moments_among v.connections.passed) v.assignments (IsMet over.world.through.worlds) over.world.events over.world.now run serves in_turn w.a w.there) ∙ (λ j. its_turn (w.proxy j) (w.number j)) in
+            let next : its_turn d.client (next_number s.sessions d.client) ≡ suc at.count = elim at.others [
+              | inl (o, others) ↦ let same : d.client ≡ o.proxy = o.only d.client one refl in ap (λ (p : ℕ). its_turn p (next_number s.sessions p)) same ∙ o.its_turn
+              | inr (none, others) ↦ absurd (none d.client one refl)
+            ] in
+            record {
+              made = record d { client = own };
+              is = refl;
+              turn = w.a.turn;
+              command = q.command;
+              asked = subst (λ (c : ℕ). IsAskedIn v.connections.dialect (bytes_of_connection c v.connections.heard) w.a.turn q.command) conn w.asks;
+              step = subst (λ (ss : List Step). Contains ss d.step) one.made (did_step made.0 d i);
+              executed = record { turns = (spelled own).0; spells = (spelled own).1; count = at.count; made = at.executed };
+              next = turn_here ∙ next;
+              timely = subst (λ (c : ℕ). IsTimely v.connections.dialect v.connections.passed c w.a.turn e.batch.moment) conn
+                  (timely_of w.a w.there e.batch (cut e (contains_at run place e there)) q (runner_in s e.batch one.runner one.runs) (one.client ∙ sym w.proxy) (its_number ∙ sym w.number));
+            }
+
+        of_line : (l : Line) → Contains made.3.rest l → IsStepInTime v e.batch.moment earlier (renamed s l)
+        of_line (Tick m) c = absurd (made.3.no_tick m c)
+        of_line (Do d) c = step_in_time d (subst (λ (ls : List Line). Contains ls (Do d)) (sym made.3.begins) (in_tail (Tick (moment_of s e.batch)) (Do d) made.3.rest c))
+
+        one_batch : IsBatchInTime v earlier (map (renamed s) made.0)
+        one_batch = record {
+          moment = e.batch.moment;
+          now = moment_of s e.batch;
+          late = elim (max_is e.batch.moment s.moment) [
+            | inl is ↦ omega (arith, is)
+            | inr (is, le) ↦ omega (arith, is, le)
+          ];
+          rest = map (renamed s) made.3.rest;
+          begins = ap (map (renamed s)) made.3.begins;
+          each = λ line c. let from = in_map (renamed s) made.3.rest line c in subst (IsStepInTime v e.batch.moment earlier) from.2 (of_line from.0 from.1);
         }
 
-    one_batch : (s : StateView) (e : Executed) (first : List Line) → IsOver s e → RoundMade s e first → (place : ℕ) → slice_get run place ≡ Some e → IsBatchInTime v (map (renamed s) first)
-    one_batch s e first is_over round place at = record {
-      moment = e.batch.moment;
-      now = moment_of s e.batch;
-      late = elim (max_is e.batch.moment s.moment) [
-        | inl is ↦ omega (arith, is)
-        | inr (is, le) ↦ omega (arith, is, le)
-      ];
-      rest = map (renamed s) round.rest;
-      begins = ap (map (renamed s)) round.begins;
-      each = λ line c. let from = in_map (renamed s) round.rest line c in subst (IsStepInTime v e.batch.moment) from.2 (of_line from.0 from.1);
-    }
-      where
-        of_line : (l : Line) → Contains round.rest l → IsStepInTime v e.batch.moment (renamed s l)
-        of_line (Tick m) c = absurd (round.no_tick m c)
-        of_line (Do d) c = step_in_time s e first is_over round place at d (subst (λ (ls : List Line). Contains ls (Do d)) (sym round.begins) (in_tail (Tick (moment_of s e.batch)) (Do d) round.rest c))
-
-    in_time : (s : StateView) (before later : List Executed) (lines : List Line) (made : IsMadeOf s later lines) → IsRunFrom s later → run ≡ before ++ later → IsInTime v (lines_of its_owner (turn_of_request v.assignments) s later lines made)
+    in_time : (s : StateView) (before later : List Executed) (lines : List Line) (made : IsMadeOf s later lines) → IsRunFrom s later → run ≡ before ++ later → (earlier : List Line) → ((c : ℕ) → IsAt c s later lines made earlier)
+        → (batches : List (List Line)) × (lines_of its_owner its_turn s later lines made ≡ flat_map (λ batch. batch) batches) × FollowInTime v earlier batches
     unfolding lines_of
-    in_time s before [] lines made follows is = ([], refl, λ batch c. absurd (in_none batch c))
-    in_time s before (e ∷ later) lines made follows is =
+    in_time s before [] lines made follows is earlier here = ([], refl, tt)
+    in_time s before (e ∷ later) lines made follows is earlier here =
         let at : slice_get run (length before) ≡ Some e = ap (λ (r : List Executed). slice_get r (length before)) is ∙ at_seam before e later in
         let this : List Line = map (renamed s) made.0 in
-        let rest = in_time e.new (before ++ e ∷ []) later made.1 made.4 follows.1 (is ∙ sym (append_assoc before (e ∷ []) later)) in (
+        let rest = in_time e.new (before ++ e ∷ []) later made.1 made.4 follows.1 (is ∙ sym (append_assoc before (e ∷ []) later)) (earlier ++ this) (λ c. next_at s e follows.0 later lines made earlier c (here c)) in (
           this ∷ rest.0,
           ap (λ (ls : List Line). this ++ ls) rest.1,
-          λ batch c. elim (first_or_other this batch rest.0 c) [
-            | inl same ↦ subst (IsBatchInTime v) same (one_batch s e made.0 follows.0 made.3 (length before) at)
-            | inr there ↦ rest.2 batch there
-          ],
+          (one_batch s e follows.0 later lines made earlier here (length before) at, rest.2),
         )
 
     pub are_in_time : (lines : List Line) (made : IsMadeOf initial_state run lines) → IsInTime v (lines_of its_owner (turn_of_request v.assignments) initial_state run lines made)
-    are_in_time lines made = in_time initial_state [] run lines made serves.is_run.follows refl
+    are_in_time lines made = in_time initial_state [] run lines made serves.is_run.follows refl [] (λ c. record {
+      count = 0;
+      executed = refl;
+      others = are_in_turn v.connections.dialect v.connections.heard v.connections.given (moments_among v.connections.passed) v.assignments (IsMet over.world.through.worlds) over.world.events over.world.now run serves in_turn c (spelled c).0 (spelled c).1
+          [] run initial_state lines made serves.is_run.follows refl 0 refl 0 (λ a place there own lt ran. absurd (omega (arith, lt))) (λ t from_one le. absurd (omega (arith, from_one, le)));
+    })

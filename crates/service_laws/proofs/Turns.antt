@@ -155,7 +155,7 @@ module _ (d : Dialect) (heard given : List (ℕ × List ℕ)) (moments_of : List
       let same = same_request f.0 a f.2 c f.3 f.4 in
       ap (λ (o : Option Assignment). option_map_or (λ (x : Assignment). x.connection) o 0) f.1 ∙ ap (λ (x : Assignment). x.connection) same
 
-  turn_is : (a : Assignment) → Contains xs a → its_turn_of a.proxy a.number ≡ a.turn
+  pub turn_is : (a : Assignment) → Contains xs a → its_turn_of a.proxy a.number ≡ a.turn
   unfolding turn_of_request
   turn_is a c =
       let f = found xs a c in
@@ -287,7 +287,7 @@ module _ (d : Dialect) (heard given : List (ℕ × List ℕ)) (moments_of : List
             | inr is ↦ (w.0.a, w.0.there, w.1, w.2 ∙ sym is, k, omega arith, w.0.ran)
           ]
 
-    are_in_turn : (before later : List Executed) (s : StateView) (lines : List Line) (made : IsMadeOf s later lines) → IsRunFrom s later → run ≡ before ++ later → (k : ℕ) → k ≡ length before → (b : ℕ) → Low k b → High k b → AreInTurn its_owner its_turn_of c (commands_in turns) s later lines made b
+    pub are_in_turn : (before later : List Executed) (s : StateView) (lines : List Line) (made : IsMadeOf s later lines) → IsRunFrom s later → run ≡ before ++ later → (k : ℕ) → k ≡ length before → (b : ℕ) → Low k b → High k b → AreInTurn its_owner its_turn_of c (commands_in turns) s later lines made b
     are_in_turn before [] s lines made h is k len b low high = tt
     are_in_turn before (e ∷ later) s lines made h is k len b low high =
         let at : slice_get run k ≡ Some e = (λ i. slice_get (is i) (len i)) ∙ at_seam before e later in

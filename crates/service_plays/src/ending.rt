@@ -2,7 +2,7 @@
 
 use crate::judge::Judge;
 use crate::peer::Peer;
-use crate::play::{PEERS, Stage, take};
+use crate::play::{PEERS, Stage, stops, take};
 use service::Service;
 use std::alloc::Global;
 use std::mem;
@@ -37,6 +37,7 @@ impl Stage {
         let Ok(service) = Service::reopen(alloc, record, self.plan.dialect) else {
             return;
         };
+        self.stops = self.stops.saturating_add(stops(&mut self.service));
         mem::replace(&mut self.service, service).end();
         self.ends = self.ends.saturating_add(1);
         self.last = next.saturating_sub(1);

@@ -13,6 +13,9 @@
 //! With the word `ends` a record is made at times, and the process ends at others: all connections are gone, and another
 //! process goes on from the last record. Replies up to that record have to stay true. What was asked or given after it
 //! never was.
+//!
+//! With the word `stops` replicas stop at times, as if each were a process that was killed: one, or more than `U`. What
+//! connections are given stays right. If more than `U` are down nobody is answered until ticks have opened them.
 #![tactic(auto)]
 
 mod command;
@@ -23,6 +26,7 @@ mod model;
 mod peer;
 mod plan;
 mod play;
+mod stopping;
 mod wanted;
 
 use crate::plan::{Plan, plan_of};
@@ -45,6 +49,7 @@ fn follow<R: Threads + Wait + Sync + Clock>(
         seed,
         calls,
         has_ends,
+        has_stops: _,
     } = plan;
     let Some(shown) = play(threads, rt.alloc(), plan) else {
         println!(rt; "cannot play u {u}, seed {seed}")?;

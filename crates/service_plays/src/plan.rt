@@ -12,6 +12,8 @@ pub struct Plan {
     pub calls: u64,
     /// Whether the process ends at times, and another one goes on from the last record.
     pub has_ends: bool,
+    /// Whether replicas stop at times, until ticks open them again.
+    pub has_stops: bool,
 }
 
 /// The play that a line asks for. `None`: it asks for none.
@@ -26,11 +28,13 @@ pub fn plan_of(line: &str) -> Option<Plan> {
         seed,
         calls,
         has_ends: false,
+        has_stops: false,
     };
     for word in words {
         match word {
             "memcached" => plan.dialect = Dialect::Memcached,
             "ends" => plan.has_ends = true,
+            "stops" => plan.has_stops = true,
             _ => return None,
         }
     }

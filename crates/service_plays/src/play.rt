@@ -3,6 +3,7 @@
 use crate::judge::Judge;
 use crate::peer::Peer;
 use crate::plan::Plan;
+use crate::stopping::CALLS_TO_STOP;
 use random::Words;
 use service::{Config, Said, Service, ServiceRecord};
 use std::alloc::Global;
@@ -49,6 +50,8 @@ pub struct Stage {
     pub record: Option<ServiceRecord>,
     /// How often it ended.
     pub ends: u64,
+    /// How often a replica was found down in processes that ended.
+    pub stops: u64,
 }
 
 /// The clients, none of whom has a connection.
@@ -158,11 +161,12 @@ impl Stage {
             last: 0,
             record: None,
             ends: 0,
+            stops: 0,
         })
     }
 
     /// The replicas work, and the clients are given what is answered. At times a record is made then.
-    fn work<R: Threads + Wait + Sync + Clock>(&mut self, threads: &R, alloc: Global) {
+    pub fn work<R: Threads + Wait + Sync + Clock>(&mut self, threads: &R, alloc: Global) {
         for said in self
             .service
             .work(threads, threads, alloc, self.judge.moment)
@@ -210,7 +214,7 @@ impl Stage {
     }
 
     /// A client does something: it comes, leaves, asks, or tells that bytes are written.
-    fn act(&mut self, alloc: Global) {
+    pub fn act(&mut self, alloc: Global) {
         let key = self.words.below(PEERS as u32) as usize;
         let Stage {
             service,
@@ -242,8 +246,11 @@ impl Stage {
         }
     }
 
-    /// One call at random, or an end of the process.
+    /// One call at random, or an end of the process. Replicas may stop before it.
     fn call<R: Threads + Wait + Sync + Clock>(&mut self, threads: &R, alloc: Global) {
+        if self.plan.has_stops && self.words.one_in(CALLS_TO_STOP) {
+            self.stop(threads, alloc);
+        }
         if self.plan.has_ends && self.words.one_in(CALLS_TO_END) {
             self.begin_anew(alloc);
             self.check(alloc);
@@ -268,6 +275,7 @@ impl Stage {
             last: _,
             record,
             ends: _,
+            stops: _,
         } = self;
         service.end();
         drop(record);
@@ -334,8 +342,8 @@ impl Stage {
 }
 
 /// How often a replica was found down.
-fn stops(alloc: Global, service: &mut Service) -> u64 {
-    let replicas = service.figures(alloc).replicas;
+pub fn stops(service: &mut Service) -> u64 {
+    let replicas = service.figures().replicas;
     let mut stops = 0u64;
     for node in replicas.executors.iter().chain(replicas.verifiers.iter()) {
         stops = stops.saturating_add(node.stops);
@@ -371,7 +379,7 @@ fn drive<R: Threads + Wait + Sync + Clock>(
     Shown {
         commands: stage.judge.commands,
         replies: stage.judge.replies,
-        stops: stops(alloc, &mut stage.service),
+        stops: stage.stops.saturating_add(stops(&mut stage.service)),
         ends: stage.ends,
         wrong,
     }

@@ -13,6 +13,7 @@ STAT pid 77\r\n\
 STAT uptime 10\r\n\
 STAT time 1700000010\r\n\
 STAT pointer_size 64\r\n\
+STAT threads 2\r\n\
 STAT max_connections 1024\r\n\
 STAT curr_connections 2\r\n\
 STAT total_connections 3\r\n\

@@ -121,6 +121,6 @@ pub fn waiting_of(alloc: Global, rows: &[Row]) -> Result<WaitingChanges, Fault>
     let next = number_at(first, rows.len())?;
     let changes = changes_in(alloc, first, rows)?;
     let mut waiting = WaitingChanges::of_file(alloc, first, next, changes);
-    waiting.turn_over(alloc, 0);
+    waiting.turn_over(alloc, true);
     Ok(waiting)
 }

@@ -27,8 +27,6 @@ use std::alloc::Global;
 pub struct Shelf<S: Store> {
     rows: RowStore<S>,
     waiting: WaitingChanges,
-    /// So many changes are gathered before their items are written to rows.
-    least: usize,
     ghost tabled: { rows.tables ≡ 5 },
     ghost stands: { IsClean (S.view rows.store) → IsTrue (S.view rows.store).is_open → ∥ HasWaiting (S.view rows.store).committed (waiting_view waiting) ∥₁ },
 }
@@ -38,7 +36,6 @@ impl<S: Store + Drop> Drop for Shelf<S> {
         let Shelf {
             rows: _,
             waiting: _,
-            least: _,
         } = self;
     }
 }
@@ -101,9 +98,8 @@ impl<S: Store> Shelf<S> {
     ghost use Rattle.shelf.specs.InMemory.{items_in, IsUnchanged};
     ghost use Rattle.shelf.specs.WaitingView.{changed_rows, IsTurn};
 
-    /// What the rows say, or the rows and why they cannot be read. So many changes are gathered before their items are
-    /// written to rows.
-    fn over(alloc: Global, rows: RowStore<S>, least: usize) -> Result<Shelf<S>, (S, ReadFault)>
+    /// What the rows say, or the rows and why they cannot be read.
+    fn over(alloc: Global, rows: RowStore<S>) -> Result<Shelf<S>, (S, ReadFault)>
         requires { rows.tables ≡ 5 }
         ensures opened { IfOk result (λ shelf. IsClean (S.view shelf.rows.store) → IsTrue (S.view shelf.rows.store).is_open) }
         ensures same { IfOk result (λ shelf. IsClean (S.view shelf.rows.store) → IsSame (S.view rows.store) (S.view shelf.rows.store)) }
@@ -111,25 +107,20 @@ impl<S: Store> Shelf<S> {
     {
         let mut rows = rows;
         match waiting_in(alloc, &mut rows) {
-            Ok(waiting) => Ok(Shelf {
-                rows,
-                waiting,
-                least,
-            }),
+            Ok(waiting) => Ok(Shelf { rows, waiting }),
             Err(fault) => Err((rows.into_store(), fault)),
         }
     }
 
     /// What a file says, whose first five trees are the tables item, change, process, reply and parked. The store comes
-    /// back if it cannot be read. So many changes are gathered before their items are written to rows: fewer make saves
-    /// write more pages, more make an open take longer.
-    pub fn open(alloc: Global, store: S, least: usize) -> Result<Shelf<S>, (S, ReadFault)>
+    /// back if it cannot be read.
+    pub fn open(alloc: Global, store: S) -> Result<Shelf<S>, (S, ReadFault)>
         ensures opened { IfOk result (λ shelf. IsClean (S.view shelf.rows.store) → IsTrue (S.view shelf.rows.store).is_open) }
         ensures same { IfOk result (λ shelf. IsClean (S.view shelf.rows.store) → IsSame (S.view store) (S.view shelf.rows.store)) }
         ensures quiet { IfOk result (λ shelf. IsQuiet S.view S.faults S.recovers S.is_shielded store shelf.rows.store) }
     {
         match RowStore::over(store, 5) {
-            Ok(rows) => Shelf::over(alloc, rows, least),
+            Ok(rows) => Shelf::over(alloc, rows),
             Err(store) => Err((store, ReadFault::Store(StoreError::Broken))),
         }
     }
@@ -145,11 +136,7 @@ impl<S: Store> Shelf<S> {
     pub fn into_store(self) -> S
         ensures { result ≡ self.rows.store }
     {
-        let Shelf {
-            rows,
-            waiting: _,
-            least: _,
-        } = self;
+        let Shelf { rows, waiting: _ } = self;
         rows.into_store()
     }
 
@@ -198,6 +185,9 @@ impl<S: Store> Shelf<S> {
     /// After an error they are as they were, and so is what the file says, unless the store is shut; then the file has to
     /// be opened again, and says what it said or what this save makes of it.
     ///
+    /// At least so many changes, and 4 MiB, are gathered before their items are written to rows, or 64 MiB. Fewer make saves
+    /// write more pages. More make the file larger and an open longer.
+    ///
     /// A crash, also one during this call, leaves what it could leave before, or what this save makes of it.
     ///
     /// The error is Full also if a place is from 2^63 on, and Unstorable if the changes are more than 10^9 bytes.
@@ -206,6 +196,7 @@ impl<S: Store> Shelf<S> {
         alloc: Global,
         turn: &SavedTurn,
         changes: &mut Vec<PlacedItems>,
+        least: usize,
     ) -> Result<(), StoreError>
         ensures saved { OnOk result (IsClean (S.view self.new.rows.store) → IsTrue (S.view self.new.rows.store).is_open × IsTurn (S.view self.old.rows.store).committed (items_in (S.view self.old.rows.store).committed self.old.waiting) changes.old.items turn.now.process turn.now.replies.items (S.view self.new.rows.store).committed) }
         ensures items { OnOk result (IsClean (S.view self.new.rows.store) → (p : ℕ) → items_in (S.view self.new.rows.store).committed self.new.waiting p ≡ changed_rows (items_in (S.view self.old.rows.store).committed self.old.waiting) changes.old.items p) }
@@ -223,7 +214,8 @@ impl<S: Store> Shelf<S> {
         let planned = plan(alloc, &self.waiting, count, turn, changes)?;
         self.rows.save(&planned)?;
         self.waiting.note(count, changes);
-        self.waiting.turn_over(alloc, self.least);
+        let is_due = self.waiting.has_enough(least);
+        self.waiting.turn_over(alloc, is_due);
         Ok(())
     }
 }

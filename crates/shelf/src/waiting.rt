@@ -2,9 +2,46 @@
 
 ghost use Rattle.std.specs.Prelude.{◌≡◌};
 
+use base::Entry;
 use item_rows::PlacedItems;
+use items::Item;
+use proto::Key;
 use std::alloc::{AllocError, Global};
 use std::mem;
+
+/// With fewer bytes of changes no items are written to rows.
+const LEAST_BYTES: u64 = 4 << 20;
+
+/// With so many bytes of changes items are written to rows, however few changes those are.
+const MOST_BYTES: u64 = 64 << 20;
+
+/// What an item takes in a change row beside its key and its data, about.
+const HEAD_BYTES: usize = 32;
+
+/// How many bytes an item takes in a change row, about.
+fn bytes_of(entry: &Entry<Key, Item>) -> u64 {
+    let key = entry.key().as_slice().len();
+    let data = entry.value().block.len();
+    key.saturating_add(data).saturating_add(HEAD_BYTES) as u64
+}
+
+/// How many bytes the items of a place take in a change row, about.
+fn bytes_at(placed: &PlacedItems) -> u64 {
+    let mut bytes = HEAD_BYTES as u64;
+    for entry in placed.1.as_slice() {
+        bytes = bytes.saturating_add(bytes_of(entry));
+    }
+    bytes
+}
+
+/// How many bytes changes take in their rows, about.
+fn bytes_in(changes: &[PlacedItems]) -> u64 {
+    let mut bytes = 0u64;
+    for placed in changes {
+        bytes = bytes.saturating_add(bytes_at(placed));
+    }
+    bytes
+}
 
 /// The changes of a file whose items are not in their rows.
 pub struct WaitingChanges {
@@ -15,6 +52,8 @@ pub struct WaitingChanges {
     pub done: usize,
     /// Later changes, in the order of saves: from `middle` up to `next`.
     pub gathered: Vec<PlacedItems>,
+    /// How many bytes those take in their rows, about.
+    pub bytes: u64,
     pub first: u64,
     pub middle: u64,
     /// The number of the next save.
@@ -27,6 +66,7 @@ impl Drop for WaitingChanges {
             pending: _,
             done: _,
             gathered: _,
+            bytes: _,
             first: _,
             middle: _,
             next: _,
@@ -51,6 +91,7 @@ impl WaitingChanges {
         WaitingChanges {
             pending: Vec::new(alloc),
             done: 0,
+            bytes: bytes_in(&changes),
             gathered: changes,
             first,
             middle: first,
@@ -110,18 +151,27 @@ impl WaitingChanges {
         ensures noted { waiting_view self.new ≡ waiting_after (waiting_view self.old) count changes.old.items }
         ensures taken { changes.new.items ≡ [] }
     {
+        self.bytes = self.bytes.saturating_add(bytes_in(changes));
         self.first = self.first_after(count);
         self.done += count;
         self.next += 1;
         let _ = self.gathered.append(changes);
     }
 
-    /// If nothing is pending, and at least so many changes are gathered, those are pending from now on.
-    pub fn turn_over(&mut self, alloc: Global, least: usize)
+    /// Whether it is time to write the gathered changes to rows: there are at least so many of them, and they have at least
+    /// `LEAST_BYTES`; or they have `MOST_BYTES`.
+    pub fn has_enough(&self, least: usize) -> bool {
+        let is_long = LEAST_BYTES <= self.bytes && least <= self.gathered.len();
+        is_long || MOST_BYTES <= self.bytes
+    }
+
+    /// If it is due and nothing is pending, the gathered changes are pending from now on.
+    pub fn turn_over(&mut self, alloc: Global, is_due: bool)
         ensures { (waiting_view self.new ≡ waiting_view self.old) ⊎ TurnsOver (waiting_view self.old) (waiting_view self.new) }
     {
-        if self.left() == 0 && self.first == self.middle && least <= self.gathered.len() {
+        if self.left() == 0 && self.first == self.middle && is_due {
             let mut pending = mem::replace(&mut self.gathered, Vec::new(alloc));
+            self.bytes = 0;
             let _ = pending.sort_by_key(|placed: &PlacedItems| placed.0);
             self.done = 0;
             self.pending = pending;

@@ -151,9 +151,10 @@ function show(f) {
   const counts = f.times.reply.counts.map((n, i) => Math.max(0, n - then.replies[i]));
   const asked = f.keys.asked - then.keys.asked, found = f.keys.found - then.keys.found;
   const refused = sum(f.refusals), limit = f.server.limits.item_bytes;
-  const failing = f.saves.failing > 0, troubles = [];
+  const failing = f.saves.failing > 0, behind = f.saves.folders - f.saves.current_folders, troubles = [];
   if (down) troubles.push(down + (down > 1 ? " nodes are down" : " node is down"));
   if (failing) troubles.push("nothing is answered: the last save failed");
+  else if (behind > 0) troubles.push(behind + " of " + f.saves.folders + " folders lack the last save");
   at("state").textContent = troubles.join("; ") || "all nodes are up";
   at("state").className = troubles.length ? "bad" : "good";
   at("version").textContent = f.server.version;
@@ -163,7 +164,8 @@ function show(f) {
     ["Items", short(f.memory.items), "each in every executor"], ["Keys and values", size(f.memory.item_bytes), limit ? "of " + size(limit) : "no limit", limit && limit <= f.memory.item_bytes ? "bad" : ""],
     ["Memory", f.memory.resident_bytes ? size(f.memory.resident_bytes) : "unknown", "of the process"], ["Refused lines", short(refused), "since the start"]]);
   tiles("saves", f.saves.made || f.saves.failed ? [["Saves", short(f.saves.made), "since the start"], ["Saves that failed", whole(f.saves.failed), failing ? "the last one too" : "since the start", failing ? "bad" : ""],
-    ["Waiting for a save", short(f.saves.waiting), "messages to connections"], ["Data on disk", size(f.saves.bytes), "files in the folder"]] : []);
+    ["Waiting for a save", short(f.saves.waiting), "messages to connections"], ["Data on disk", size(f.saves.bytes), "files in all folders"],
+    ["Folders", whole(f.saves.current_folders) + " of " + whole(f.saves.folders), "have the last save", behind > 0 ? "bad" : ""], ["A save takes", time(Math.round(f.times.save.sum / Math.max(1, sum(f.times.save.counts)))), "mean since the start"]] : []);
   charts(rates, counts);
   nodes("executors", executors);
   nodes("verifiers", verifiers);

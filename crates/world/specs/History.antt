@@ -4,10 +4,11 @@ use Rattle.std.specs.declared.alloc.Global.{Global}
 use Rattle.std.specs.declared.vec.Vec.{Vec}
 use Rattle.events.specs.declared.event.Event.{Event}
 use Rattle.events.specs.Config.{ConfigView}
-use Rattle.memcached_spec.specs.Order.{AllGiven, IsLinearizable}
+use Rattle.memcached_spec.specs.Order.{AllGiven}
 use Rattle.worlds.specs.World.{ReachedWorlds, EndsWith, WorldView}
 use Rattle.server_laws.specs.Saved.{DigestsAreDistinct}
 use Rattle.linear_laws.specs.Laws.{history_of}
+use Rattle.linear_laws.specs.InTime.{IsLinearizablePlay}
 
 -- the bytes in these vectors
 abbrev pub texts_in : List (Vec ℕ Global) → AllGiven
@@ -31,4 +32,4 @@ pub record IsHistoryTo (c : ConfigView) (events : List Event) (w : WorldView) (h
 
 -- if digests tell apart the states that executors had on the way, it is linearizable
 abbrev pub IsLinearizableIfDistinct : ConfigView → List Event → List AllGiven → Type 0
-IsLinearizableIfDistinct c events history = (is : IsHistoryOfPlay c events history) → DigestsAreDistinct is.worlds → IsLinearizable events history
+IsLinearizableIfDistinct c events history = (is : IsHistoryOfPlay c events history) → DigestsAreDistinct is.worlds → IsLinearizablePlay events history

@@ -68,7 +68,7 @@ fn played(
 /// from the first world on.
 ///
 /// If digests tell apart the states that executors had on the way, this history is linearizable, as that of
-/// one memcached server (`memcached_spec`).
+/// one memcached server (`memcached_spec`), and no batch shows what is due at its moment.
 ///
 /// A node that runs out of memory stops. The only error is that memory runs out for the world's lists, for the
 /// history, for the copy of a letter, or for a node that is opened for the first time.

@@ -37,7 +37,7 @@ fn played(alloc: Global, config: &Config, events: &[Event]) -> Result<World, All
 /// that executors have committed is of one run of a single server, in this world and in each one on the
 /// way to it, and more events only extend that run; and if at most `u` executors are lost for good, the
 /// record of another one has the state that the run ends with. Then what clients asked and were given on the
-/// way is linearizable, as of one memcached server (`memcached_spec`).
+/// way is linearizable, as of one memcached server (`memcached_spec`), and no batch shows what is due at its moment.
 ///
 /// A node that finds no memory stops. The only error is that the world finds none for its lists, for the copy
 /// of a letter, or for a node that is opened for the first time.

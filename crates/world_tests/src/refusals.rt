@@ -1,5 +1,5 @@
-//! A row in which memory may be refused: `scripts/refusals` refuses each growth in turn. `NoMemory` ends a
-//! row whose world was refused some for its lists or for the copy of a letter.
+//! A row in which allocations may fail: `scripts/refusals` has each fail in turn. `NoMemory` ends a row in which
+//! one of the world's own failed, for its lists or for the copy of a letter.
 
 use crate::stage::{Done, played};
 use proto::Fault;

@@ -1,6 +1,6 @@
-//! Batches that run on threads while memory may be refused: `scripts/refusals` refuses each growth in turn.
-//! A run that is refused one leaves its base as it was: the batch runs over it once more, and comes to the
-//! state of one thread. `NoMemory` ends a row that was refused a growth elsewhere.
+//! Batches that run on threads while allocations may fail: `scripts/refusals` has each fail in turn. A run in
+//! which one fails leaves its base as it was: the batch runs over it once more, and comes to the state of one
+//! thread. `NoMemory` ends a row in which an allocation elsewhere failed.
 
 use super::ways::{Way, agreeing};
 use super::*;

@@ -57,7 +57,7 @@ enum Form {
     Stands,
 }
 
-/// The words of each form, where `#` is a number.
+/// The words of each form, in which `#` is a number.
 const FORMS: [(Form, &str); 13] = [
     (Form::Token, "token # of batch # epoch # over #"),
     (Form::Accept, "accept view # place # commit # token #"),

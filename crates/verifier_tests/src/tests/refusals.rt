@@ -1,6 +1,6 @@
-//! Each line of a verifier where memory may be refused: where a growth is, the verifier is stopped and has its
-//! old record, with which it is opened again. `scripts/refusals` refuses each growth in turn. `NoMemory` ends a
-//! row that was refused some, and `NotOpen` one in which something else does not hold.
+//! Each rule of a verifier. If an allocation fails, the verifier is stopped and has its old record, with which it
+//! is opened again. `scripts/refusals` has each allocation fail in turn. `NoMemory` ends a row in which one failed,
+//! and `NotOpen` one in which something else does not hold.
 
 use super::records::{handle, keeper_of, open, record};
 use base::Text;

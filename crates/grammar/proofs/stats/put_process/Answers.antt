@@ -5,7 +5,7 @@ use Rattle.grammar.specs.Stats.{number_lines, process_numbers}
 use Rattle.grammar.proofs.stats.put_process.Goals as goal
 
 rows_of : Figures → ℕ → List (List ℕ × ℕ)
-rows_of f time = (codes "pid", f.process.id) ∷ (codes "uptime", f.uptime_seconds) ∷ (codes "time", time) ∷ (codes "pointer_size", 64) ∷ []
+rows_of f time = (codes "pid", f.process.id) ∷ (codes "uptime", f.uptime_seconds) ∷ (codes "time", time) ∷ (codes "pointer_size", 64) ∷ (codes "threads", 2) ∷ []
 
 pub returns : goal.returns
 unfolding process_numbers rows_of

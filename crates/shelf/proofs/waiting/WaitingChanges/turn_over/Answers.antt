@@ -11,8 +11,8 @@ empty : (xs : List PlacedItems) → length xs ≡ 0 → xs ≡ []
 empty [] e = refl
 empty (x ∷ xs) e = absurd (omega (arith, e))
 
-pub returns-then-least-len : goal.returns-then-least-len
-returns-then-least-len c =
+pub returns-then-is_due : goal.returns-then-is_due
+returns-then-is_due c =
     let sorted : IsResorted c.replace-pending.result.items c.sort_by_key.new.self.items =
     resorted c.replace-pending.result.items c.sort_by_key.new.self.items (c.sort_by_key.ensures.stable (λ (placed : PlacedItems). placed.0) (answers_always _ _ _ (λ f a r g h. search rules))) in
     inr (record {

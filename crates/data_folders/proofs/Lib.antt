@@ -1,0 +1,2 @@
+mod CopyLemmas
+pub mod Crossing

@@ -1,0 +1,7 @@
+use denote.Exit.{no}
+use denote.Param.Send.{param_send, arg_send}
+use Rattle.data_folder.proofs.Crossing.{host_send}
+use Rattle.data_folders.proofs.host.HostFolders.begin.Goals as goal
+
+pub begin-requires-send-F : goal.begin-requires-send-F
+begin-requires-send-F g c κs within = param_send 0 _ (arg_send _ no _ host_send)

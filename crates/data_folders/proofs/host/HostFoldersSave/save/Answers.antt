@@ -1,0 +1,7 @@
+use denote.Exit.{no}
+use denote.Param.Send.{param_send, arg_send}
+use Rattle.data_folder.proofs.Crossing.{host_send}
+use Rattle.data_folders.proofs.host.HostFoldersSave.save.Goals as goal
+
+pub save-requires-send-F : goal.save-requires-send-F
+save-requires-send-F g c κs within = param_send 0 _ (arg_send _ no _ host_send)

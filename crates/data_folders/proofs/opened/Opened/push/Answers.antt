@@ -1,0 +1,18 @@
+use Rattle.std.proofs.Common.{◌∙◌, List, ◌++◌, [], ◌∷◌, Option, Some, ap, sym, subst}
+use Rattle.std.specs.List.{AllZip}
+use Rattle.server.specs.declared.save.SaveFault.TheVariants as cause
+use Rattle.data_folder.specs.declared.found_copy.FoundCopy.{FoundCopy}
+use Rattle.data_folders.specs.declared.place.FolderPlace.{FolderPlace}
+use Rattle.data_folders.specs.Copies.{OpensAs}
+use Rattle.data_folders.proofs.CopyLemmas.{pairs_push}
+use Rattle.data_folders.proofs.opened.Opened.push.Goals as goal
+
+pub invariant_of-self-2 : goal.invariant_of-self-2
+invariant_of-self-2 g c =
+    let place : FolderPlace g.row.F.Denot = record { copy = c.args.copy; fault = Some cause.Disk } in
+    let places = c.push_reserved.ensures.items ∙ ap (λ (l : List (FolderPlace g.row.F.Denot)). l ++ place ∷ []) c.in_ok-reserve.ensures.items in
+    let finds = c.push_reserved-2.ensures.items ∙ ap (λ (l : List (Option FoundCopy)). l ++ c.args.found ∷ []) c.in_ok-reserve-2.ensures.items in
+    record {
+      pairs = subst (λ (both : List (FolderPlace g.row.F.Denot) × List (Option FoundCopy)). ∥ AllZip (OpensAs g.F.SaveCopy.may_find) both.0 both.1 ∥₁) (λ i. (sym places i, sym finds i))
+          (pairs_push g.F.SaveCopy.may_find c.args.self.now.places.items c.args.self.now.finds.items place c.args.found c.args.self.now.pairs c.requires);
+    }

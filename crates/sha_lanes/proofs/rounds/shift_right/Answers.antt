@@ -1,0 +1,5 @@
+use Rattle.sha_lanes.proofs.LaneLemmas.{shifts_each}
+use Rattle.sha_lanes.proofs.rounds.shift_right.Goals as goal
+
+pub returns : goal.returns
+returns c = shifts_each c.args.k c.args.x c.fits-x.0

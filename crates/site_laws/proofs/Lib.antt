@@ -1,0 +1,10 @@
+pub mod OrderLemmas
+pub mod Merge
+pub mod Filled
+pub mod Allowed
+pub mod Parts
+pub mod Ends
+pub mod Unopened
+pub mod Deeds
+pub mod Shown
+pub mod Whole
