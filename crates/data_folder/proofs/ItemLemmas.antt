@@ -18,7 +18,7 @@ use Rattle.shelf.specs.WaitingView.{changed_rows, IsTurn, SaysItems}
 use Rattle.states.specs.State.{StateView, initial_state}
 use Rattle.data_folder.specs.declared.found_copy.FoundCopy.{FoundCopy}
 use Rattle.data_folder.specs.Found.{SavedText, SavesText, HoldsText, HoldsSomeText}
-use Rattle.data_folder.specs.Items.{AreRowsOf, SaysItemsOf, HoldsRecord, MayLeave, AreStatesTold, HasItemsOf, IsStateFound, OpensWith, HasSaved, LeavesOldOr}
+use Rattle.data_folder.specs.Items.{AreRowsOf, SaysItemsOf, HoldsRecord, CrashLeaves, AreStatesTold, HasItemsOf, IsStateFound, OpensWith, LeavesRecord, LeavesOldOr}
 use Rattle.data_folder.proofs.FolderLemmas.{fits_in}
 
 -- changes make the same of the same row
@@ -43,7 +43,7 @@ record_after old new rows changes (Some saved) replies s last state is turn kept
 -- an open file leaves what it has, and so the items that were read
 pub opens_with : (v : View) (recovers : Trees → Type 0) (waiting : WaitingChanges) (state : StateView) (copy : Option FoundCopy) → IsStateFound copy state → (IsClean v → IsTrue v.is_open)
     → ((db : Trees) → IsTrue v.is_open → recovers db → db ≡ v.committed) → (IsClean v → IsTrue v.is_open → SaysItems v.committed (items_in v.committed waiting))
-    → (IsClean v → IsTrue v.is_open → AreStatesTold initial_state state → AreRowsOf (items_in v.committed waiting) state.items) → OpensWith (MayLeave v recovers) (HasItemsOf v waiting state) copy
+    → (IsClean v → IsTrue v.is_open → AreStatesTold initial_state state → AreRowsOf (items_in v.committed waiting) state.items) → OpensWith (CrashLeaves v recovers) (HasItemsOf v waiting state) copy
 opens_with v recovers waiting state copy found is_open settled says are = record {
   state = state;
   found = found;

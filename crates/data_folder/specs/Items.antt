@@ -35,7 +35,7 @@ pub record HoldsRecord (db : Trees) (s : SavedText) (state : StateView) : Type 0
   pub items : SaysItemsOf db state.items
 
 -- a crash may leave this file, if the disk did as it is supposed to
-pub record MayLeave (v : View) (recovers : Trees → Type 0) (db : Trees) : Type 0 where
+pub record CrashLeaves (v : View) (recovers : Trees → Type 0) (db : Trees) : Type 0 where
   pub clean : IsClean v
   pub may : recovers db
 
@@ -82,7 +82,7 @@ module _ (may_leave : Trees → Type 0) (has_items : StateView → Type 0) where
     pub left : AreStatesTold initial_state state → (db : Trees) → may_leave db → ∥ SaysItemsOf db state.items ∥₁
 
   -- A crash leaves the text of this save and the items of this state, and nothing else.
-  pub record HasSaved (s : SavedText) (state : StateView) : Type 0 where
+  pub record LeavesRecord (s : SavedText) (state : StateView) : Type 0 where
     pub items : has_items state
     pub left : (db : Trees) → may_leave db → ∥ HoldsRecord db s state ∥₁
 

@@ -6,7 +6,7 @@ ghost use Rattle.states.specs.State.{StateView, initial_state};
 ghost use Rattle.item_rows.specs.Changed.{LeadTo};
 ghost use Rattle.shelf.specs.InMemory.{items_in};
 ghost use Rattle.data_folder.specs.Found.{SavedText, RowFits, HasCopy, HoldsSomeText, SavesText, MayFind, FindsOnly, FindsOldOr, FindsCopy};
-ghost use Rattle.data_folder.specs.Items.{AreRowsOf, AreStatesTold, MayLeave, HasItemsOf, IsStateFound, OpensWith, HasSaved, LeavesOldOr};
+ghost use Rattle.data_folder.specs.Items.{AreRowsOf, AreStatesTold, CrashLeaves, HasItemsOf, IsStateFound, OpensWith, LeavesRecord, LeavesOldOr};
 
 use crate::fault::{DataFault, record_fault, store_fault};
 use crate::found_copy::{FoundCopy, FoundProcess, Wanted, found_in};
@@ -111,7 +111,7 @@ impl<S: Store + Drop> DataFolder<S> {
         wanted: Wanted,
     ) -> Result<(DataFolder<S>, Option<FoundCopy>), DataFault>
         ensures finds { IfOk result (λ opened. FindsCopy (MayFind (S.view opened.0.shelf.rows.store) (S.recovers opened.0.shelf.rows.store)) opened.1) }
-        ensures items { IfOk result (λ opened. OpensWith (MayLeave (S.view opened.0.shelf.rows.store) (S.recovers opened.0.shelf.rows.store))
+        ensures items { IfOk result (λ opened. OpensWith (CrashLeaves (S.view opened.0.shelf.rows.store) (S.recovers opened.0.shelf.rows.store))
             (HasItemsOf (S.view opened.0.shelf.rows.store) opened.0.shelf.waiting opened.0.last) opened.1) }
     {
         match Shelf::open(alloc, store) {
@@ -129,7 +129,7 @@ impl<S: Store + Drop> DataFolder<S> {
         wanted: Wanted,
     ) -> Result<(DataFolder<S>, Option<FoundCopy>), DataFault>
         ensures finds { IfOk result (λ opened. FindsCopy (MayFind (S.view opened.0.shelf.rows.store) (S.recovers opened.0.shelf.rows.store)) opened.1) }
-        ensures items { IfOk result (λ opened. OpensWith (MayLeave (S.view opened.0.shelf.rows.store) (S.recovers opened.0.shelf.rows.store))
+        ensures items { IfOk result (λ opened. OpensWith (CrashLeaves (S.view opened.0.shelf.rows.store) (S.recovers opened.0.shelf.rows.store))
             (HasItemsOf (S.view opened.0.shelf.rows.store) opened.0.shelf.waiting opened.0.last) opened.1) }
     {
         match found_in(alloc, &mut shelf, wanted) {
@@ -148,7 +148,7 @@ impl<S: Store + Drop> DataFolder<S> {
         requires items { IsClean (S.view shelf.rows.store) → IsTrue (S.view shelf.rows.store).is_open → AreStatesTold initial_state found.state
             → AreRowsOf (items_in (S.view shelf.rows.store).committed shelf.waiting) found.state.items }
         ensures finds { IfOk result (λ opened. FindsCopy (MayFind (S.view opened.0.shelf.rows.store) (S.recovers opened.0.shelf.rows.store)) opened.1) }
-        ensures items { IfOk result (λ opened. OpensWith (MayLeave (S.view opened.0.shelf.rows.store) (S.recovers opened.0.shelf.rows.store))
+        ensures items { IfOk result (λ opened. OpensWith (CrashLeaves (S.view opened.0.shelf.rows.store) (S.recovers opened.0.shelf.rows.store))
             (HasItemsOf (S.view opened.0.shelf.rows.store) opened.0.shelf.waiting opened.0.last) opened.1) }
     {
         shelf.says();
@@ -211,11 +211,11 @@ impl<S: Store + Drop> DataFolder<S> {
             → FindsOldOr (MayFind (S.view self.old.shelf.rows.store) (S.recovers self.old.shelf.rows.store)) (MayFind (S.view self.new.shelf.rows.store) (S.recovers self.new.shelf.rows.store)) s }
         ensures items { (s : SavedText) → IsSomeAnd prepared.turn.process (SavesText s) → (last : StateView)
             → HasItemsOf (S.view self.old.shelf.rows.store) self.old.shelf.waiting self.old.last last → LeadTo prepared.changes.items last.items prepared.state.items
-            → OnOk result (HasSaved (MayLeave (S.view self.new.shelf.rows.store) (S.recovers self.new.shelf.rows.store))
+            → OnOk result (LeavesRecord (CrashLeaves (S.view self.new.shelf.rows.store) (S.recovers self.new.shelf.rows.store))
             (HasItemsOf (S.view self.new.shelf.rows.store) self.new.shelf.waiting self.new.last) s prepared.state) }
         ensures left { (s : SavedText) → IsSomeAnd prepared.turn.process (SavesText s) → (last : StateView)
             → HasItemsOf (S.view self.old.shelf.rows.store) self.old.shelf.waiting self.old.last last → LeadTo prepared.changes.items last.items prepared.state.items
-            → LeavesOldOr (MayLeave (S.view self.old.shelf.rows.store) (S.recovers self.old.shelf.rows.store)) (MayLeave (S.view self.new.shelf.rows.store) (S.recovers self.new.shelf.rows.store)) s prepared.state }
+            → LeavesOldOr (CrashLeaves (S.view self.old.shelf.rows.store) (S.recovers self.old.shelf.rows.store)) (CrashLeaves (S.view self.new.shelf.rows.store) (S.recovers self.new.shelf.rows.store)) s prepared.state }
         ensures stays { OnErr result ((last : StateView) → HasItemsOf (S.view self.old.shelf.rows.store) self.old.shelf.waiting self.old.last last
             → HasItemsOf (S.view self.new.shelf.rows.store) self.new.shelf.waiting self.new.last last) }
     {
@@ -242,11 +242,11 @@ impl<S: Store + Drop> DataFolder<S> {
         ensures crash { FindsOldOr (MayFind (S.view self.old.shelf.rows.store) (S.recovers self.old.shelf.rows.store)) (MayFind (S.view self.new.shelf.rows.store) (S.recovers self.new.shelf.rows.store)) (record { stamp = stamp; text = stored.now.text.items }) }
         ensures items { OnOk result ((last : StateView)
             → HasItemsOf (S.view self.old.shelf.rows.store) self.old.shelf.waiting self.old.last last → AreStatesTold last stored.now.state
-            → HasSaved (MayLeave (S.view self.new.shelf.rows.store) (S.recovers self.new.shelf.rows.store))
+            → LeavesRecord (CrashLeaves (S.view self.new.shelf.rows.store) (S.recovers self.new.shelf.rows.store))
             (HasItemsOf (S.view self.new.shelf.rows.store) self.new.shelf.waiting self.new.last) (record { stamp = stamp; text = stored.now.text.items }) stored.now.state) }
         ensures left { (last : StateView)
             → HasItemsOf (S.view self.old.shelf.rows.store) self.old.shelf.waiting self.old.last last → AreStatesTold last stored.now.state
-            → LeavesOldOr (MayLeave (S.view self.old.shelf.rows.store) (S.recovers self.old.shelf.rows.store)) (MayLeave (S.view self.new.shelf.rows.store) (S.recovers self.new.shelf.rows.store)) (record { stamp = stamp; text = stored.now.text.items }) stored.now.state }
+            → LeavesOldOr (CrashLeaves (S.view self.old.shelf.rows.store) (S.recovers self.old.shelf.rows.store)) (CrashLeaves (S.view self.new.shelf.rows.store) (S.recovers self.new.shelf.rows.store)) (record { stamp = stamp; text = stored.now.text.items }) stored.now.state }
         ensures stays { OnErr result ((last : StateView) → HasItemsOf (S.view self.old.shelf.rows.store) self.old.shelf.waiting self.old.last last
             → HasItemsOf (S.view self.new.shelf.rows.store) self.new.shelf.waiting self.new.last last) }
     {
@@ -264,11 +264,11 @@ impl<S: Store + Drop> DataFolder<S> {
 
 impl<S: Store + Drop> SaveCopy for DataFolder<S> {
     ghost use Rattle.data_folder.specs.Found.{MayFind};
-    ghost use Rattle.data_folder.specs.Items.{MayLeave, HasItemsOf};
+    ghost use Rattle.data_folder.specs.Items.{CrashLeaves, HasItemsOf};
 
     ghost may_find = { λ folder found. MayFind (S.view folder.shelf.rows.store) (S.recovers folder.shelf.rows.store) found };
 
-    ghost may_leave = { λ folder db. MayLeave (S.view folder.shelf.rows.store) (S.recovers folder.shelf.rows.store) db };
+    ghost may_leave = { λ folder db. CrashLeaves (S.view folder.shelf.rows.store) (S.recovers folder.shelf.rows.store) db };
 
     ghost has_items = { λ folder s. HasItemsOf (S.view folder.shelf.rows.store) folder.shelf.waiting folder.last s };
 

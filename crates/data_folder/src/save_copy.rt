@@ -22,7 +22,7 @@ pub trait SaveCopy {
     ghost use Rattle.sqlite_trees.specs.Tree.{Trees};
     ghost use Rattle.states.specs.State.{StateView};
     ghost use Rattle.data_folder.specs.Found.{SavedText, FindsOnly, FindsOldOr};
-    ghost use Rattle.data_folder.specs.Items.{AreStatesTold, HasSaved, LeavesOldOr};
+    ghost use Rattle.data_folder.specs.Items.{AreStatesTold, LeavesRecord, LeavesOldOr};
 
     /// Another process may find this in it, if this one ends now: the text of a save, or none. It is what may be found
     /// after a crash at any moment, also during the save before.
@@ -48,7 +48,7 @@ pub trait SaveCopy {
     ) -> Result<(), SaveFault>
         ensures saved { OnOk result (FindsOnly (may_find self.new) (record { stamp = stamp; text = stored.now.text.items })) }
         ensures crash { FindsOldOr (may_find self.old) (may_find self.new) (record { stamp = stamp; text = stored.now.text.items }) }
-        ensures items { OnOk result ((last : StateView) → has_items self.old last → AreStatesTold last stored.now.state → HasSaved (may_leave self.new) (has_items self.new) (record { stamp = stamp; text = stored.now.text.items }) stored.now.state) }
+        ensures items { OnOk result ((last : StateView) → has_items self.old last → AreStatesTold last stored.now.state → LeavesRecord (may_leave self.new) (has_items self.new) (record { stamp = stamp; text = stored.now.text.items }) stored.now.state) }
         ensures left { (last : StateView) → has_items self.old last → AreStatesTold last stored.now.state → LeavesOldOr (may_leave self.old) (may_leave self.new) (record { stamp = stamp; text = stored.now.text.items }) stored.now.state }
         ensures stays { OnErr result ((last : StateView) → has_items self.old last → has_items self.new last) };
 }

@@ -6,7 +6,7 @@ use Rattle.event_loop.specs.declared.message.Said.{Said}
 use Rattle.service.specs.Record.{RecordView}
 use Rattle.server.specs.Answering.{AnsweringView}
 use Rattle.server.specs.Durable.{IsOfMoment, IsSavedNow, LeavesNothing, LeavesHeld, Releases, HandsOutSaved}
-use Rattle.saved_laws.specs.Behind.{Moment, moment_of, GoesOnFrom, IsOfOne, IsBehind}
+use Rattle.saved_laws.specs.Behind.{Moment, moment_with, GoesOnFrom, IsOfOne, IsBehind}
 
 module _ (is_text : RecordView → List ℕ → Type 0) (begun : Option (List ℕ) → Type 0) where
   one_more : (moments : List Moment) (left : List Said) (now : Moment) (found : Option (List ℕ)) → IsOfOne is_text moments left found → IsOfOne is_text (moments ++ now ∷ []) left found
@@ -17,9 +17,9 @@ module _ (is_text : RecordView → List ℕ → Type 0) (begun : Option (List �
       elim (behind found may) [ inl none ↦ inl none | inr one ↦ inr (one_more moments left now found one) ]
 
   module _ (before may_find : Option (List ℕ) → Type 0) (moments : List Moment) (left held out rest : List Said) (v now : AnsweringView)
-      (here : Contains moments (moment_of v left held)) (behind : IsBehind is_text begun before moments left) where
+      (here : Contains moments (moment_with v left held)) (behind : IsBehind is_text begun before moments left) where
     abbrev then : Moment
-    then = moment_of now (left ++ out) rest
+    then = moment_with now (left ++ out) rest
 
     of_then : (found : Option (List ℕ)) → IsOfMoment is_text now.service found → IsOfOne is_text (moments ++ then ∷ []) (left ++ out) found
     of_then found is = record {
@@ -31,8 +31,8 @@ module _ (is_text : RecordView → List ℕ → Type 0) (begun : Option (List �
 
     of_before : (found : Option (List ℕ)) (gone : List Said) (more : List Said) → held ≡ gone ++ more → IsOfMoment is_text v.service found → IsOfOne is_text (moments ++ then ∷ []) (left ++ gone) found
     of_before found gone more parts is = record {
-      moment = moment_of v left held;
-      there = Contains-append_left moments (then ∷ []) (moment_of v left held) here;
+      moment = moment_with v left held;
+      there = Contains-append_left moments (then ∷ []) (moment_with v left held) here;
       is = is;
       later = record { more = more ++ v.said; is = ap (λ xs. left ++ (xs ++ v.said)) parts ∙ (ap (λ xs. left ++ xs) (append_assoc gone more v.said) ∙ sym (append_assoc left gone (more ++ v.said))) };
     }

@@ -12,8 +12,8 @@ pub record Moment : Type 0 where
   pub said : List Said
 
 -- the moment at which this has left, that is held, and the rest was said behind it
-abbrev pub moment_of : AnsweringView → (left held : List Said) → Moment
-moment_of v left held = record { service = v.service; said = left ++ (held ++ v.said) }
+abbrev pub moment_with : AnsweringView → (left held : List Said) → Moment
+moment_with v left held = record { service = v.service; said = left ++ (held ++ v.said) }
 
 -- the first list goes on from the second
 pub record GoesOnFrom (xs ys : List Said) : Type 0 where

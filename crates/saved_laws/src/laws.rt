@@ -4,7 +4,7 @@ ghost use Rattle.std.specs.Prelude.{◌∷◌, ◌++◌, [], ℕ, List, Contains
 ghost use Rattle.event_loop.specs.declared.message.Said.{Said};
 ghost use Rattle.server.specs.Answering.{AnsweringView};
 ghost use Rattle.server.specs.Durable.{HandsOutSaved};
-ghost use Rattle.saved_laws.specs.Behind.{Moment, moment_of, IsBehind};
+ghost use Rattle.saved_laws.specs.Behind.{Moment, moment_with, IsBehind};
 
 use server::Save;
 
@@ -23,7 +23,7 @@ pub fn hearing_is_behind<S: Save>()
 /// of a moment by which all that had left was said, it is so after it, with what leaves by this call.
 pub fn work_is_behind<S: Save>()
     ensures { (begun before saver : S) (moments : List Moment) (left held out rest : List Said) (seconds : ℕ) (v now : AnsweringView)
-        → Contains moments (moment_of v left held) → IsBehind S.is_text (S.may_find begun) (S.may_find before) moments left
+        → Contains moments (moment_with v left held) → IsBehind S.is_text (S.may_find begun) (S.may_find before) moments left
         → HandsOutSaved S.is_text (S.may_find before) (S.may_find saver) seconds v held out now rest
-        → IsBehind S.is_text (S.may_find begun) (S.may_find saver) (moments ++ moment_of now (left ++ out) rest ∷ []) (left ++ out) }
+        → IsBehind S.is_text (S.may_find begun) (S.may_find saver) (moments ++ moment_with now (left ++ out) rest ∷ []) (left ++ out) }
 {}
