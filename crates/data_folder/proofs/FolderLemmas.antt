@@ -122,7 +122,7 @@ open_if shut true h e = refl
 open_if shut false h e = absurd (let both : true ≡ false = sym (h refl) ∙ e in cc both)
 
 -- the text of the parts of a record is one of it
-text_of_parts : (r : RecordView) (process : ProcessText) (state : StateView) (replicas : ProcessView) (next : ℕ) (text : List ℕ) → replicas ≡ r.replicas → next ≡ r.next
+abbrev text_of_parts : (r : RecordView) (process : ProcessText) (state : StateView) (replicas : ProcessView) (next : ℕ) (text : List ℕ) → replicas ≡ r.replicas → next ≡ r.next
     → IsStoredOf process state replicas → text ≡ service_text process next → IsServiceText r text
 text_of_parts r process state replicas next text are is stored same =
     record { process = process; state = state; stored = subst (λ (p : ProcessView). IsStoredOf process state p) are stored; is = subst (λ (n : ℕ). text ≡ service_text process n) is same }

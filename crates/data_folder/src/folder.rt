@@ -209,9 +209,9 @@ impl<S: Store + Drop> DataFolder<S> {
         ensures saved { (s : SavedText) → IsSomeAnd prepared.turn.process (SavesText s) → OnOk result (FindsOnly (MayFind (S.view self.new.shelf.rows.store) (S.recovers self.new.shelf.rows.store)) s) }
         ensures crash { (s : SavedText) → IsSomeAnd prepared.turn.process (SavesText s)
             → FindsOldOr (MayFind (S.view self.old.shelf.rows.store) (S.recovers self.old.shelf.rows.store)) (MayFind (S.view self.new.shelf.rows.store) (S.recovers self.new.shelf.rows.store)) s }
-        ensures items { (s : SavedText) → IsSomeAnd prepared.turn.process (SavesText s) → (last : StateView)
+        ensures items { OnOk result ((s : SavedText) → IsSomeAnd prepared.turn.process (SavesText s) → (last : StateView)
             → HasItemsOf (S.view self.old.shelf.rows.store) self.old.shelf.waiting self.old.last last → LeadTo prepared.changes.items last.items prepared.state.items
-            → OnOk result (LeavesRecord (CrashLeaves (S.view self.new.shelf.rows.store) (S.recovers self.new.shelf.rows.store))
+            → LeavesRecord (CrashLeaves (S.view self.new.shelf.rows.store) (S.recovers self.new.shelf.rows.store))
             (HasItemsOf (S.view self.new.shelf.rows.store) self.new.shelf.waiting self.new.last) s prepared.state) }
         ensures left { (s : SavedText) → IsSomeAnd prepared.turn.process (SavesText s) → (last : StateView)
             → HasItemsOf (S.view self.old.shelf.rows.store) self.old.shelf.waiting self.old.last last → LeadTo prepared.changes.items last.items prepared.state.items

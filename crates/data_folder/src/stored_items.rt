@@ -110,11 +110,7 @@ pub fn state_with(alloc: Global, text: &ProcessText, found: &FoundItems) -> Resu
 }
 
 /// Whether these are the items of the state, each at its place. It takes them.
-fn are_items_of(
-    alloc: Global,
-    found: &mut FoundItems,
-    state: &State,
-) -> Result<bool, AllocError>
+fn are_items_of(alloc: Global, found: &mut FoundItems, state: &State) -> Result<bool, AllocError>
     ensures { IfOk result (λ are. IsTrue are → AreStatesTold initial_state state.now → AreRowsOf (rows_found found.old) state.now.items) }
 {
     let none = State::first(alloc)?;

@@ -5,7 +5,7 @@ use Rattle.shelf.specs.InMemory.{items_in}
 use Rattle.shelf.specs.WaitingView.{IsTurn}
 use Rattle.data_folder.specs.Found.{HoldsSomeText}
 use Rattle.data_folder.proofs.FolderLemmas.{text_after, some_text_after}
-use Rattle.data_folder.proofs.ItemLemmas.{items_saved, record_after}
+use Rattle.data_folder.proofs.ItemLemmas.{items_saved, on_err_always, record_after}
 use Rattle.data_folder.proofs.folder.DataFolder.write.Goals as goal
 
 pub invariant_of-self : goal.invariant_of-self
@@ -59,12 +59,12 @@ returns-in_err-save-clause-left g c = λ s is last has leads db may.
     ]
 
 pub returns-in_err-save-clause-stays : goal.returns-in_err-save-clause-stays
-returns-in_err-save-clause-stays g c = λ last has. record {
+returns-in_err-save-clause-stays g c = on_err_always c.from_residual.result (λ last has. record {
   last_is = has.last_is;
   items = λ clean is_open p less.
       let clean_before : IsClean (g.S.Store.view c.args.self.now.shelf.rows.store) = omega (arith, c.save.ensures.clean, clean) in
       (c.in_err-save.ensures.same clean is_open).items p ∙ has.items clean_before (c.requires.open clean_before) p less;
-}
+})
 
 pub returns-clause-left : goal.returns-clause-left
 returns-clause-left g c = λ s is last has leads db may.
