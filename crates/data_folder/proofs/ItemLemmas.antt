@@ -83,11 +83,11 @@ on_err_always (Ok x) p = tt
 on_err_always (Err e) p = p
 
 -- after another error too
-pub on_ok_as : {T E F P : Type 0} (r : Result T E) (q : Result T F) → is_ok q ≡ is_ok r → OnOk r P → OnOk q P
-on_ok_as (Ok x) (Ok y) e p = p
-on_ok_as (Ok x) (Err f) e p = tt
-on_ok_as (Err x) (Ok y) e p = absurd (cc e)
-on_ok_as (Err x) (Err f) e p = tt
+pub on_ok_as : {T E F : Type 0} (P : Type 0) (r : Result T E) (q : Result T F) → is_ok q ≡ is_ok r → OnOk r P → OnOk q P
+on_ok_as P (Ok x) (Ok y) e p = p
+on_ok_as P (Ok x) (Err f) e p = tt
+on_ok_as P (Err x) (Ok y) e p = absurd (cc e)
+on_ok_as P (Err x) (Err f) e p = tt
 
 -- what a save leaves has the text of the save and the items of the state
 pub record_after : (old new : Trees) (rows : Rows Row) (changes : List PlacedItems) (process : Option SavedProcess) (replies : List ReplyChange) (s : SavedText) (last : Items) (state : StateView)

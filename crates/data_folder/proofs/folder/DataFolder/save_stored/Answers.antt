@@ -7,7 +7,7 @@ use Rattle.data_folder.proofs.folder.DataFolder.save_stored.Goals as goal
 
 pub returns-in-Ok-clause-items : goal.returns-in-Ok-clause-items
 returns-in-Ok-clause-items g c =
-    on_ok_as c.write.result c.map_err.result c.map_err.ensures.variant
+    on_ok_as _ c.write.result c.map_err.result c.map_err.ensures.variant
     (on_ok_weaker c.write.result
     (λ leaves last has told.
     subst (λ (s : StateView). LeavesRecord (CrashLeaves (g.S.Store.view c.write.new.self.shelf.rows.store) (g.S.Store.recovers c.write.new.self.shelf.rows.store)) (HasItemsOf (g.S.Store.view c.write.new.self.shelf.rows.store) c.write.new.self.shelf.waiting c.write.new.self.last) (record { stamp = c.args.stamp; text = c.args.stored.now.text.items }) s) c.in-Ok.ensures.state
