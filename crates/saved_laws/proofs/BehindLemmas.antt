@@ -1,12 +1,12 @@
 -- What may be found stays behind what has left.
-use Rattle.std.proofs.Common.{◌≡◌, ◌⊎◌, inl, inr, ℕ, List, [], ◌∷◌, ◌++◌, Option, refl, sym, ap, ◌∙◌, subst, append-nil, append_assoc}
+use Rattle.std.proofs.Common.{◌≡◌, inl, inr, ℕ, List, [], ◌∷◌, ◌++◌, Option, refl, sym, ap, ◌∙◌, subst, append-nil, append_assoc}
 use Rattle.std.specs.Prelude.{Contains}
 use Rattle.std.proofs.lemmas.List.Elements.{Contains-append_left, Contains-push}
 use Rattle.event_loop.specs.declared.message.Said.{Said}
 use Rattle.service.specs.Record.{RecordView}
 use Rattle.server.specs.Answering.{AnsweringView}
-use Rattle.server.specs.Durable.{IsOfMoment, IsSavedNow, LeavesNothing, LeavesHeld, Releases, HandsOutSaved}
-use Rattle.saved_laws.specs.Behind.{Moment, moment_with, GoesOnFrom, IsOfOne, IsBehind}
+use Rattle.server.specs.Durable.{IsOfMoment, Releases}
+use Rattle.saved_laws.specs.Behind.{Moment, moment_with, IsOfOne, IsBehind}
 
 module _ (is_text : RecordView → List ℕ → Type 0) (begun : Option (List ℕ) → Type 0) where
   one_more : (moments : List Moment) (left : List Said) (now : Moment) (found : Option (List ℕ)) → IsOfOne is_text moments left found → IsOfOne is_text (moments ++ now ∷ []) left found
