@@ -1,5 +1,5 @@
 -- What a save leaves of the items of a state.
-use Rattle.std.proofs.Common.{◌≡◌, ◌∙◌, ℕ, ◌<◌, List, [], ◌∷◌, map, Option, None, Some, IsTrue, refl, sym, ap, subst}
+use Rattle.std.proofs.Common.{◌≡◌, ◌∙◌, ℕ, List, [], ◌∷◌, map, Option, None, Some, IsTrue, refl, sym, ap, subst}
 use Rattle.std.specs.Prelude.{◌==◌, ◌/◌, ◌^◌, if◌then◌else◌, filter, length, Result, Ok, Err, OnOk, OnErr, IsSomeAnd}
 use Rattle.std.specs.Result.{is_ok}
 use Rattle.std.specs.FinMap.{entries, from_sorted, len-entries, len-empty, entries-from_sorted}
@@ -25,8 +25,8 @@ use Rattle.shelf.specs.Rows.{row_of_change}
 use Rattle.shelf.specs.WaitingView.{changed_rows, IsTurn, SaysItems}
 use Rattle.states.specs.State.{StateView, initial_state}
 use Rattle.data_folder.specs.declared.found_copy.FoundCopy.{FoundCopy}
-use Rattle.data_folder.specs.Found.{SavedText, SavesText, HoldsText, HoldsSomeText}
-use Rattle.data_folder.specs.Items.{AreRowsOf, SaysItemsOf, HoldsRecord, CrashLeaves, laid_of, AreStatesTold, HasItemsOf, IsStateFound, OpensWith, LeavesRecord, LeavesOldOr}
+use Rattle.data_folder.specs.Found.{SavedText, SavesText, HoldsSomeText}
+use Rattle.data_folder.specs.Items.{AreRowsOf, SaysItemsOf, HoldsRecord, CrashLeaves, laid_of, AreStatesTold, HasItemsOf, IsStateFound, OpensWith}
 use Rattle.data_folder.proofs.FolderLemmas.{fits_in}
 
 -- changes make the same of the same row
