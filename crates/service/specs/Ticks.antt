@@ -68,7 +68,11 @@ replica_at members at = if nat_lt at members then Executor at else Verifier (at 
 abbrev pub is_up_in : NodesView → ℕ → Bool
 is_up_in n at = is_up_at n (replica_at (2 * n.u + 1) at)
 
--- each node that has a pause is up
+-- each of the 2u + 1 executors and of as many verifiers has a pause
+abbrev pub EachHasPause : ReplicasView → Type 0
+EachHasPause r = length r.pauses ≡ 2 * (2 * r.ensemble.nodes.u + 1)
+
+-- each node is up
 abbrev pub AreAllUpIn : ReplicasView → Type 0
 AreAllUpIn r = (at : ℕ) → at < length r.pauses → is_up_in r.ensemble.nodes at ≡ true
 

@@ -74,7 +74,7 @@ impl Service {
     ghost use Rattle.ensemble.specs.First.{AreAllUp};
     ghost use Rattle.service.specs.Steps.{NoneWaits};
     ghost use Rattle.service.specs.Owed.{AllWait, IsFreeIn};
-    ghost use Rattle.service.specs.Ticks.{AreAllUpIn};
+    ghost use Rattle.service.specs.Ticks.{AreAllUpIn, EachHasPause};
 
     /// A service where no connection came, over `2u + 1` executors, as many verifiers, and as many proxies as
     /// the config has clients. What connections send is read in this grammar.
@@ -282,6 +282,7 @@ impl Service {
         ensures own { IsServiceAlone self.now }
         ensures ensemble { IsEnsembleAfter self.now.replicas.ensemble.found self.now.replicas.ensemble }
         ensures process { IsProcess self.now }
+        ensures pauses { EachHasPause self.now.replicas }
     {
         self.connections.always();
         self.ensemble.shows();
