@@ -1,6 +1,6 @@
 -- Nodes that stopped, as ticks find them.
-use Rattle.std.proofs.Common.{◌≡◌, ◌⊎◌, inl, inr, ⊎_elim, ℕ, zero, suc, ◌+◌, ◌-◌, ◌*◌, ◌^◌, ◌≤◌, ◌<◌, Bool, true, false, List, [], Option, Some, None, refl, sym, ap, ◌∙◌, subst, arith, length, slice_get, slice_set, if◌then◌else◌}
-use Rattle.std.specs.Prelude.{◌≢◌, nat_lt, replicate}
+use Rattle.std.proofs.Common.{◌≡◌, ◌⊎◌, inl, inr, ⊎_elim, ℕ, zero, suc, ◌+◌, ◌-◌, ◌*◌, ◌^◌, ◌≤◌, ◌<◌, Bool, true, false, List, [], Option, Some, None, refl, sym, ap, ◌∙◌, subst, arith, length, slice_get, slice_set}
+use Rattle.std.specs.Prelude.{◌≢◌, nat_lt, replicate, if◌then◌else◌}
 use Rattle.std.proofs.lemmas.Bool.{lt-ltb}
 use Rattle.std.proofs.lemmas.List.{length-replicate}
 use Rattle.connections.proofs.PlaceLemmas.{set_get, set_other, same_or_not}
@@ -25,11 +25,11 @@ use Rattle.service.proofs.Lists.{below_or_not}
 
 -- ---- places
 
-abbrev place_in : ℕ → Replica → ℕ
-place_in members (Executor id) = id
-place_in members (Verifier id) = members + id
+abbrev place_of_node : ℕ → Replica → ℕ
+place_of_node members (Executor id) = id
+place_of_node members (Verifier id) = members + id
 
-place_back : (members at : ℕ) → place_in members (replica_at members at) ≡ at
+place_back : (members at : ℕ) → place_of_node members (replica_at members at) ≡ at
 place_back members at = by (nat_lt at members) refl
   where
     not_below : nat_lt at members ≡ false → members ≤ at
@@ -38,13 +38,13 @@ place_back members at = by (nat_lt at members) refl
         (λ (more : members ≤ at). more)
         (below_or_not at members)
 
-    by : (b : Bool) → nat_lt at members ≡ b → place_in members (if b then Executor at else Verifier (at - members)) ≡ at
+    by : (b : Bool) → nat_lt at members ≡ b → place_of_node members (if b then Executor at else Verifier (at - members)) ≡ at
     by true is = refl
     by false is = let more = not_below is in omega (arith, more)
 
 -- nodes at two places are two
 others_differ : (members at other : ℕ) → other ≢ at → replica_at members other ≢ replica_at members at
-others_differ members at other differs same = differs (sym (place_back members other) ∙ (ap (place_in members) same ∙ place_back members at))
+others_differ members at other differs same = differs (sym (place_back members other) ∙ (ap (place_of_node members) same ∙ place_back members at))
 
 -- ---- one node is opened
 
@@ -87,6 +87,11 @@ pub others_stay : (at : ℕ) (n now : NodesView) → size_of now ≡ size_of n �
 others_stay at n now size is other differs =
     ap (λ (u : ℕ). is_up_at now (replica_at (2 * u + 1) other)) (same_u n now size)
     ∙ reopened_others n now (replica_at (2 * n.u + 1) at) (replica_at (2 * n.u + 1) other) (others_differ (2 * n.u + 1) at other differs) is
+
+-- the node at this place was opened, and is up
+pub opened_here : (at : ℕ) (replica : Replica) (n now : NodesView) (is_back : Bool) → replica ≡ replica_at (2 * n.u + 1) at → size_of now ≡ size_of n → is_back ≡ is_up_at now replica → is_back ≡ true → is_up_in now at ≡ true
+opened_here at replica n now is_back here size up yes =
+    ap (λ (u : ℕ). is_up_at now (replica_at (2 * u + 1) at)) (same_u n now size) ∙ (ap (is_up_at now) (sym here) ∙ (sym up ∙ yes))
 
 pub same_stay : (at : ℕ) (n now : NodesView) → now ≡ n → OthersStay at n now
 same_stay at n now same other differs = ap (λ (x : NodesView). is_up_in x other) same
@@ -183,8 +188,7 @@ module _ (at : ℕ) (first now next : ReplicasView) (due : Bool) (earlier : firs
   -- the node at this place
   here : (p : Pause) → slice_get now.pauses at ≡ Some p → NodeHasTicked at p first.refused next
   here p there =
-      let t : NodeTicksIn at found now.pauses next.pauses due (Some p) = subst (NodeTicksIn at found now.pauses next.pauses due) there ticks in
-      (
+      let t : NodeTicksIn at found now.pauses next.pauses due (Some p) = subst (NodeTicksIn at found now.pauses next.pauses due) there ticks in (
         found,
         ap (λ (xs : List Pause). slice_get xs at) t.0 ∙ set_get now.pauses at (pause_after found p) p there,
         record {
@@ -216,8 +220,7 @@ all_ticked at first now all are i p e = let below = get_below first.pauses i p e
 -- each tick counts, whatever was refused before it in the call
 pub ticked_since : (old mid now : ReplicasView) → mid.pauses ≡ old.pauses → old.refused ≤ mid.refused → mid.refused ≤ now.refused → NodesHaveTicked mid now → NodesHaveTicked old now
 ticked_since old mid now same earlier later are i p e =
-    let was = are i p (ap (λ (xs : List Pause). slice_get xs i) same ∙ e) in
-    (
+    let was = are i p (ap (λ (xs : List Pause). slice_get xs i) same ∙ e) in (
       was.0,
       was.1,
       record {
