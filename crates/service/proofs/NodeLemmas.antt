@@ -4,15 +4,9 @@ use Rattle.std.specs.Prelude.{◌≢◌, nat_lt, replicate, if◌then◌else◌}
 use Rattle.std.proofs.lemmas.Bool.{lt-ltb}
 use Rattle.std.proofs.lemmas.List.{length-replicate}
 use Rattle.connections.proofs.PlaceLemmas.{set_get, set_other, same_or_not}
-use Rattle.decrees.specs.declared.ballot.Ballot.{Ballot}
-use Rattle.decrees.specs.declared.node.Letter.{Letter}
 use Rattle.events.specs.declared.event.Replica.{Replica}
 use Rattle.events.specs.declared.event.Replica.TheVariants.{Executor, Verifier}
-use Rattle.exec_lines.specs.declared.body.Body.{Body}
-use Rattle.verifier.specs.Verifier.{VerifierView}
-use Rattle.worlds.specs.Slot.{Slot}
-use Rattle.hosts.specs.Host.{HostView, HostReopens}
-use Rattle.ensemble.specs.Nodes.{NodesView, size_of, AtHostIn, AtVerifierIn, HostMoves, VerifierMoves, VerifierOpens}
+use Rattle.ensemble.specs.Nodes.{NodesView, size_of, AtHostIn, AtVerifierIn}
 use Rattle.ensemble.specs.First.{AreAllUp}
 use Rattle.ensemble.specs.Shown.{is_host_up, is_place_up, is_up_at}
 use Rattle.ensemble.specs.Calls.{IsReopened}
@@ -48,36 +42,36 @@ others_differ members at other differs same = differs (sym (place_back members o
 
 -- ---- one node is opened
 
+-- what is at another place stays, if at most one place is set
+module _ {X : Type 0} (In : Option X → Type 0) (old now : List X) (id k : ℕ) (differs : k ≢ id) (none : In None → now ≡ old) (some : (x : X) → In (Some x) → (left : X) × (now ≡ slice_set old id left)) where
+  at_other : (o : Option X) → In o → slice_get now k ≡ slice_get old k
+  at_other None is = ap (λ (xs : List X). slice_get xs k) (none is)
+  at_other (Some x) is = let s = some x is in ap (λ (xs : List X). slice_get xs k) s.1 ∙ set_other old id s.0 k differs
+
 module _ (n now : NodesView) where
-  other_hosts : (id k : ℕ) (executors : List HostView) (sent : List (Letter Body)) → k ≢ id → (h : Option HostView) → AtHostIn (λ h left sent. HostReopens n.u id h left sent) id n.executors executors sent h → slice_get executors k ≡ slice_get n.executors k
-  other_hosts id k executors sent differs None at = ap (λ (xs : List HostView). slice_get xs k) at.0
-  other_hosts id k executors sent differs (Some h) at = ap (λ (xs : List HostView). slice_get xs k) at.2 ∙ set_other n.executors id at.0 k differs
-
-  other_verifiers : (id k : ℕ) (verifiers : List (Slot VerifierView)) (sent : List (Letter Ballot)) → k ≢ id → (v : Option (Slot VerifierView)) → AtVerifierIn (VerifierOpens n.u id) id n.verifiers verifiers sent v → slice_get verifiers k ≡ slice_get n.verifiers k
-  other_verifiers id k verifiers sent differs None at = ap (λ (xs : List (Slot VerifierView)). slice_get xs k) at.0
-  other_verifiers id k verifiers sent differs (Some v) at = ap (λ (xs : List (Slot VerifierView)). slice_get xs k) at.2 ∙ set_other n.verifiers id at.0 k differs
-
-  host_opened : (id : ℕ) (r : Replica) → r ≢ Executor id → HostMoves (λ h left sent. HostReopens n.u id h left sent) id n now → is_up_at now r ≡ is_up_at n r
-  host_opened id (Executor k) differs m =
+  host_opened : (id : ℕ) (r : Replica) → r ≢ Executor id → id ≤ 2 * n.u → IsReopened (Executor id) n now → is_up_at now r ≡ is_up_at n r
+  host_opened id (Executor k) differs here is =
+      let m = is.here here in
       ap (λ (x : NodesView). is_host_up (slice_get x.executors k)) m.5
-      ∙ ap is_host_up (other_hosts id k m.0 m.1 (λ same. differs (ap (λ (x : ℕ). Executor x) same)) (slice_get n.executors id) m.3)
-  host_opened id (Verifier k) differs m = ap (λ (x : NodesView). is_place_up (slice_get x.verifiers k)) m.5
+      ∙ ap is_host_up (at_other (AtHostIn _ id n.executors m.0 m.1) n.executors m.0 id k (λ same. differs (ap (λ (x : ℕ). Executor x) same)) (λ at. at.0) (λ h at. (at.0, at.2)) (slice_get n.executors id) m.3)
+  host_opened id (Verifier k) differs here is = let m = is.here here in ap (λ (x : NodesView). is_place_up (slice_get x.verifiers k)) m.5
 
-  verifier_opened : (id : ℕ) (r : Replica) → r ≢ Verifier id → VerifierMoves (VerifierOpens n.u id) id n now → is_up_at now r ≡ is_up_at n r
-  verifier_opened id (Executor k) differs m = ap (λ (x : NodesView). is_host_up (slice_get x.executors k)) m.5
-  verifier_opened id (Verifier k) differs m =
+  verifier_opened : (id : ℕ) (r : Replica) → r ≢ Verifier id → id ≤ 2 * n.u → IsReopened (Verifier id) n now → is_up_at now r ≡ is_up_at n r
+  verifier_opened id (Executor k) differs here is = let m = is.here here in ap (λ (x : NodesView). is_host_up (slice_get x.executors k)) m.5
+  verifier_opened id (Verifier k) differs here is =
+      let m = is.here here in
       ap (λ (x : NodesView). is_place_up (slice_get x.verifiers k)) m.5
-      ∙ ap is_place_up (other_verifiers id k m.0 m.1 (λ same. differs (ap (λ (x : ℕ). Verifier x) same)) (slice_get n.verifiers id) m.3)
+      ∙ ap is_place_up (at_other (AtVerifierIn _ id n.verifiers m.0 m.1) n.verifiers m.0 id k (λ same. differs (ap (λ (x : ℕ). Verifier x) same)) (λ at. at.0) (λ v at. (at.0, at.2)) (slice_get n.verifiers id) m.3)
 
   -- each other one is up or down as before
   reopened_others : (opened r : Replica) → r ≢ opened → IsReopened opened n now → is_up_at now r ≡ is_up_at n r
   reopened_others (Executor id) r differs is = ⊎_elim
       (λ (beyond : 2 * n.u < id). ap (λ (x : NodesView). is_up_at x r) (is.beyond beyond))
-      (λ (here : id ≤ 2 * n.u). host_opened id r differs (is.here here))
+      (λ (here : id ≤ 2 * n.u). host_opened id r differs here is)
       (below_or_not (2 * n.u) id)
   reopened_others (Verifier id) r differs is = ⊎_elim
       (λ (beyond : 2 * n.u < id). ap (λ (x : NodesView). is_up_at x r) (is.beyond beyond))
-      (λ (here : id ≤ 2 * n.u). verifier_opened id r differs (is.here here))
+      (λ (here : id ≤ 2 * n.u). verifier_opened id r differs here is)
       (below_or_not (2 * n.u) id)
 
 same_u : (n now : NodesView) → size_of now ≡ size_of n → now.u ≡ n.u
