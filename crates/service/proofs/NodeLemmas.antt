@@ -1,12 +1,13 @@
 -- Nodes that stopped, as ticks find them.
-use Rattle.std.proofs.Common.{◌≡◌, ◌⊎◌, inl, inr, ⊎_elim, ℕ, zero, suc, ◌+◌, ◌-◌, ◌*◌, ◌^◌, ◌≤◌, ◌<◌, Bool, true, false, List, [], Option, Some, None, refl, sym, ap, ◌∙◌, subst, arith, length, slice_get, slice_set}
+use Rattle.std.proofs.Common.{◌≡◌, ◌⊎◌, inl, inr, ⊎_elim, ℕ, zero, suc, ◌+◌, ◌-◌, ◌*◌, ◌^◌, ◌≤◌, ◌<◌, Bool, true, false, List, [], ◌∷◌, Option, Some, None, refl, sym, ap, ◌∙◌, subst, arith, length, slice_get, slice_set}
 use Rattle.std.specs.Prelude.{◌≢◌, nat_lt, replicate, if◌then◌else◌}
 use Rattle.std.proofs.lemmas.Bool.{lt-ltb}
 use Rattle.std.proofs.lemmas.List.{length-replicate}
 use Rattle.connections.proofs.PlaceLemmas.{set_get, set_other, same_or_not}
 use Rattle.events.specs.declared.event.Replica.{Replica}
 use Rattle.events.specs.declared.event.Replica.TheVariants.{Executor, Verifier}
-use Rattle.ensemble.specs.Nodes.{NodesView, size_of, AtHostIn, AtVerifierIn}
+use Rattle.hosts.specs.Host.{HostReopens}
+use Rattle.ensemble.specs.Nodes.{NodesView, size_of, AtHostIn, AtVerifierIn, VerifierOpens}
 use Rattle.ensemble.specs.First.{AreAllUp}
 use Rattle.ensemble.specs.Shown.{is_host_up, is_place_up, is_up_at}
 use Rattle.ensemble.specs.Calls.{IsReopened}
@@ -27,8 +28,8 @@ place_back : (members at : ℕ) → place_of_node members (replica_at members at
 place_back members at = by (nat_lt at members) refl
   where
     not_below : nat_lt at members ≡ false → members ≤ at
-    not_below no = ⊎_elim
-        (λ (less : at < members). let clash : true ≡ false = sym (lt-ltb at members less) ∙ no in absurd (cc clash))
+    not_below above = ⊎_elim
+        (λ (less : at < members). let clash : true ≡ false = sym (lt-ltb at members less) ∙ above in absurd (cc clash))
         (λ (more : members ≤ at). more)
         (below_or_not at members)
 
@@ -53,7 +54,7 @@ module _ (n now : NodesView) where
   host_opened id (Executor k) differs here is =
       let m = is.here here in
       ap (λ (x : NodesView). is_host_up (slice_get x.executors k)) m.5
-      ∙ ap is_host_up (at_other (AtHostIn _ id n.executors m.0 m.1) n.executors m.0 id k (λ same. differs (ap (λ (x : ℕ). Executor x) same)) (λ at. at.0) (λ h at. (at.0, at.2)) (slice_get n.executors id) m.3)
+      ∙ ap is_host_up (at_other (AtHostIn (λ h left sent. HostReopens n.u id h left sent) id n.executors m.0 m.1) n.executors m.0 id k (λ same. differs (ap (λ (x : ℕ). Executor x) same)) (λ at. at.0) (λ h at. (at.0, at.2)) (slice_get n.executors id) m.3)
   host_opened id (Verifier k) differs here is = let m = is.here here in ap (λ (x : NodesView). is_place_up (slice_get x.verifiers k)) m.5
 
   verifier_opened : (id : ℕ) (r : Replica) → r ≢ Verifier id → id ≤ 2 * n.u → IsReopened (Verifier id) n now → is_up_at now r ≡ is_up_at n r
@@ -61,7 +62,7 @@ module _ (n now : NodesView) where
   verifier_opened id (Verifier k) differs here is =
       let m = is.here here in
       ap (λ (x : NodesView). is_place_up (slice_get x.verifiers k)) m.5
-      ∙ ap is_place_up (at_other (AtVerifierIn _ id n.verifiers m.0 m.1) n.verifiers m.0 id k (λ same. differs (ap (λ (x : ℕ). Verifier x) same)) (λ at. at.0) (λ v at. (at.0, at.2)) (slice_get n.verifiers id) m.3)
+      ∙ ap is_place_up (at_other (AtVerifierIn (VerifierOpens n.u id) id n.verifiers m.0 m.1) n.verifiers m.0 id k (λ same. differs (ap (λ (x : ℕ). Verifier x) same)) (λ at. at.0) (λ v at. (at.0, at.2)) (slice_get n.verifiers id) m.3)
 
   -- each other one is up or down as before
   reopened_others : (opened r : Replica) → r ≢ opened → IsReopened opened n now → is_up_at now r ≡ is_up_at n r
@@ -84,8 +85,8 @@ others_stay at n now size is other differs =
 
 -- the node at this place was opened, and is up
 pub opened_here : (at : ℕ) (replica : Replica) (n now : NodesView) (is_back : Bool) → replica ≡ replica_at (2 * n.u + 1) at → size_of now ≡ size_of n → is_back ≡ is_up_at now replica → is_back ≡ true → is_up_in now at ≡ true
-opened_here at replica n now is_back here size up yes =
-    ap (λ (u : ℕ). is_up_at now (replica_at (2 * u + 1) at)) (same_u n now size) ∙ (ap (is_up_at now) (sym here) ∙ (sym up ∙ yes))
+opened_here at replica n now is_back here size up back =
+    ap (λ (u : ℕ). is_up_at now (replica_at (2 * u + 1) at)) (same_u n now size) ∙ (ap (is_up_at now) (sym here) ∙ (sym up ∙ back))
 
 pub same_stay : (at : ℕ) (n now : NodesView) → now ≡ n → OthersStay at n now
 same_stay at n now same other differs = ap (λ (x : NodesView). is_up_in x other) same
@@ -168,12 +169,12 @@ module _ (at : ℕ) (first now next : ReplicasView) (due : Bool) (earlier : firs
   )
 
   same_nodes : (b : Bool) → IsOpenedIf b at now next → b ≡ false → is_up_in next.ensemble.nodes at ≡ found
-  same_nodes true is no = absurd (cc no)
-  same_nodes false is no = ap (λ (x : NodesView). is_up_in x at) is
+  same_nodes true is not_due = absurd (cc not_due)
+  same_nodes false is not_due = ap (λ (x : NodesView). is_up_in x at) is
 
   opens_here : (b : Bool) → IsOpenedIf b at now next → b ≡ true → UnlessRefused now.refused next.refused (is_up_in next.ensemble.nodes at ≡ true)
-  opens_here true is yes = is
-  opens_here false is yes = absurd (cc yes)
+  opens_here true is was_due = is
+  opens_here false is was_due = absurd (cc was_due)
 
   not_due_if_up : (b : Bool) (p : Pause) → b ≡ true → is_opened b p ≡ false
   not_due_if_up true p up = refl

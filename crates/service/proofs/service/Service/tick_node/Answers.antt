@@ -21,8 +21,8 @@ invariant_of-self c =
       c.self.invariant.3,
     )
 
-pub invariant_of-self-2 : goal.invariant_of-self-2
-invariant_of-self-2 c =
+pub invariant_of-self-else-tick : goal.invariant_of-self-else-tick
+invariant_of-self-else-tick c =
     let s = c.self.inside in (
       c.self.invariant.0,
       c.self.invariant.1,
@@ -51,8 +51,8 @@ returns-then-tick-clause-others c =
     subst (λ (v : ServiceView). OthersStay c.args.at v.replicas.ensemble.nodes n) c.self.view_is
     (others_stay c.args.at s.ensemble.nodes n c.restart-is_back.ensures.size (subst (λ (r : Replica). IsReopened r s.ensemble.nodes n) here c.restart-is_back.ensures.only))
 
-pub returns-clause-ticks : goal.returns-clause-ticks
-returns-clause-ticks c =
+pub returns-else-tick-clause-ticks : goal.returns-else-tick-clause-ticks
+returns-else-tick-clause-ticks c =
     let s = c.self.inside in
     let here : c.replica-replica.result ≡ replica_at (2 * s.ensemble.nodes.u + 1) c.args.at = c.replica-replica.ensures ∙ node_here s.u s.nodes.members s.ensemble.nodes s.nodes.pauses.items c.args.at c.self.invariant.2 in
     let found : c.is_up-is_up.result ≡ is_up_in s.ensemble.nodes c.args.at = c.is_up-is_up.ensures ∙ ap (is_up_at s.ensemble.nodes) here in
@@ -63,5 +63,5 @@ returns-clause-ticks c =
       ap (λ (v : ServiceView). v.replicas.ensemble.nodes) c.self.view_is,
     )
 
-pub returns-clause-others : goal.returns-clause-others
-returns-clause-others c = same_stay c.args.at c.args.self.now.replicas.ensemble.nodes c.self.inside.ensemble.nodes (ap (λ (v : ServiceView). v.replicas.ensemble.nodes) c.self.view_is)
+pub returns-else-tick-clause-others : goal.returns-else-tick-clause-others
+returns-else-tick-clause-others c = same_stay c.args.at c.args.self.now.replicas.ensemble.nodes c.self.inside.ensemble.nodes (ap (λ (v : ServiceView). v.replicas.ensemble.nodes) c.self.view_is)
