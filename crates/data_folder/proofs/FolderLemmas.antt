@@ -23,6 +23,7 @@ use Rattle.process_parts.specs.Parts.{IsStoredOf}
 use Rattle.ensemble.specs.Kept.{ProcessView}
 use Rattle.service.specs.Record.{RecordView}
 use Rattle.data_folder.specs.Text.{IsServiceText, TellsService, service_text}
+use Rattle.data_folder.specs.Items.{TellsState}
 use Rattle.data_folder.specs.Found.{SavedText, StampFits, RowFits, SavesText, IsCopyOf, text_of_row, HoldsText, HoldsSomeText, HasCopy, MayFind, FindsCopy}
 
 abbrev blob_in : Value → List ℕ
@@ -55,7 +56,7 @@ found_is db found h = sym (ap text_in_rows h.row ∙ (text_is h.saved h.fits ∙
 one_text : (db : Trees) (found other : Option SavedText) → HoldsText db found → HoldsText db other → found ≡ other
 one_text db found other h k = found_is db found h ∙ sym (found_is db other k)
 
-abbrev fits_in : (s : SavedText) (saved : SavedProcess) → SavesText s saved → StampFits saved.stamp
+abbrev pub fits_in : (s : SavedText) (saved : SavedProcess) → SavesText s saved → StampFits saved.stamp
 fits_in s saved is = subst StampFits (sym is.1.0) is.0
 
 -- what a turn leaves has the text of the turn
@@ -121,7 +122,16 @@ open_if shut true h e = refl
 open_if shut false h e = absurd (let both : true ≡ false = sym (h refl) ∙ e in cc both)
 
 -- the text of the parts of a record is one of it
+abbrev text_of_parts : (r : RecordView) (process : ProcessText) (state : StateView) (replicas : ProcessView) (next : ℕ) (text : List ℕ) → replicas ≡ r.replicas → next ≡ r.next
+    → IsStoredOf process state replicas → text ≡ service_text process next → IsServiceText r text
+text_of_parts r process state replicas next text are is stored same =
+    record { process = process; state = state; stored = subst (λ (p : ProcessView). IsStoredOf process state p) are stored; is = subst (λ (n : ℕ). text ≡ service_text process n) is same }
+
 pub tells_of : (r : RecordView) (process : ProcessText) (state : StateView) (replicas : ProcessView) (next : ℕ) (text : List ℕ) → replicas ≡ r.replicas → next ≡ r.next
     → IsStoredOf process state replicas → text ≡ service_text process next → TellsService r text
-tells_of r process state replicas next text are is stored same =
-    ∣ record { process = process; state = state; stored = subst (λ (p : ProcessView). IsStoredOf process state p) are stored; is = subst (λ (n : ℕ). text ≡ service_text process n) is same } ∣₁
+tells_of r process state replicas next text are is stored same = ∣ text_of_parts r process state replicas next text are is stored same ∣₁
+
+-- with this state, which is shared
+pub tells_state : (r : RecordView) (process : ProcessText) (state : StateView) (replicas : ProcessView) (next : ℕ) (text : List ℕ) (shared : StateView) → replicas ≡ r.replicas → next ≡ r.next
+    → IsStoredOf process state replicas → text ≡ service_text process next → shared ≡ state → TellsState r text shared
+tells_state r process state replicas next text shared are is stored same share = ∣ record { text = text_of_parts r process state replicas next text are is stored same; same = sym share } ∣₁

@@ -1,2 +1,3 @@
 mod FolderLemmas
+mod ItemLemmas
 pub mod Crossing

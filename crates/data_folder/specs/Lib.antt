@@ -1,3 +1,4 @@
 pub mod Text
 pub mod Found
+pub mod Items
 pub mod Host

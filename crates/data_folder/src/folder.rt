@@ -1,8 +1,12 @@
 //! One copy of the record of a service, in the file of a folder.
 
-ghost use Rattle.std.specs.Prelude.{◌≡◌, IsTrue, IfOk, OnOk, IsSomeAnd};
+ghost use Rattle.std.specs.Prelude.{◌≡◌, IsTrue, IfOk, OnOk, OnErr, IsSomeAnd};
 ghost use Rattle.sqlite_trees.specs.View.{IsClean};
+ghost use Rattle.states.specs.State.{StateView, initial_state};
+ghost use Rattle.item_rows.specs.Changed.{LeadTo};
+ghost use Rattle.shelf.specs.InMemory.{items_in};
 ghost use Rattle.data_folder.specs.Found.{SavedText, RowFits, HasCopy, HoldsSomeText, SavesText, MayFind, FindsOnly, FindsOldOr, FindsCopy};
+ghost use Rattle.data_folder.specs.Items.{AreRowsOf, AreStatesTold, CrashLeaves, HasItemsOf, IsStateFound, OpensWith, LeavesRecord, LeavesOldOr};
 
 use crate::fault::{DataFault, record_fault, store_fault};
 use crate::found_copy::{FoundCopy, FoundProcess, Wanted, found_in};
@@ -106,7 +110,9 @@ impl<S: Store + Drop> DataFolder<S> {
         store: S,
         wanted: Wanted,
     ) -> Result<(DataFolder<S>, Option<FoundCopy>), DataFault>
-        ensures { IfOk result (λ opened. FindsCopy (MayFind (S.view opened.0.shelf.rows.store) (S.recovers opened.0.shelf.rows.store)) opened.1) }
+        ensures finds { IfOk result (λ opened. FindsCopy (MayFind (S.view opened.0.shelf.rows.store) (S.recovers opened.0.shelf.rows.store)) opened.1) }
+        ensures items { IfOk result (λ opened. OpensWith (CrashLeaves (S.view opened.0.shelf.rows.store) (S.recovers opened.0.shelf.rows.store))
+            (HasItemsOf (S.view opened.0.shelf.rows.store) opened.0.shelf.waiting opened.0.last) opened.1) }
     {
         match Shelf::open(alloc, store) {
             Ok(shelf) => DataFolder::of_shelf(alloc, shelf, wanted),
@@ -122,7 +128,9 @@ impl<S: Store + Drop> DataFolder<S> {
         mut shelf: Shelf<S>,
         wanted: Wanted,
     ) -> Result<(DataFolder<S>, Option<FoundCopy>), DataFault>
-        ensures { IfOk result (λ opened. FindsCopy (MayFind (S.view opened.0.shelf.rows.store) (S.recovers opened.0.shelf.rows.store)) opened.1) }
+        ensures finds { IfOk result (λ opened. FindsCopy (MayFind (S.view opened.0.shelf.rows.store) (S.recovers opened.0.shelf.rows.store)) opened.1) }
+        ensures items { IfOk result (λ opened. OpensWith (CrashLeaves (S.view opened.0.shelf.rows.store) (S.recovers opened.0.shelf.rows.store))
+            (HasItemsOf (S.view opened.0.shelf.rows.store) opened.0.shelf.waiting opened.0.last) opened.1) }
     {
         match found_in(alloc, &mut shelf, wanted) {
             Ok(found) => DataFolder::with_found(shelf, found),
@@ -135,9 +143,15 @@ impl<S: Store + Drop> DataFolder<S> {
         shelf: Shelf<S>,
         found: FoundProcess,
     ) -> Result<(DataFolder<S>, Option<FoundCopy>), DataFault>
-        requires { IsClean (S.view shelf.rows.store) → IsTrue (S.view shelf.rows.store).is_open → HasCopy (S.view shelf.rows.store).committed found.copy }
-        ensures { IfOk result (λ opened. FindsCopy (MayFind (S.view opened.0.shelf.rows.store) (S.recovers opened.0.shelf.rows.store)) opened.1) }
+        requires copy { IsClean (S.view shelf.rows.store) → IsTrue (S.view shelf.rows.store).is_open → HasCopy (S.view shelf.rows.store).committed found.copy }
+        requires state { IsStateFound found.copy found.state }
+        requires items { IsClean (S.view shelf.rows.store) → IsTrue (S.view shelf.rows.store).is_open → AreStatesTold initial_state found.state
+            → AreRowsOf (items_in (S.view shelf.rows.store).committed shelf.waiting) found.state.items }
+        ensures finds { IfOk result (λ opened. FindsCopy (MayFind (S.view opened.0.shelf.rows.store) (S.recovers opened.0.shelf.rows.store)) opened.1) }
+        ensures items { IfOk result (λ opened. OpensWith (CrashLeaves (S.view opened.0.shelf.rows.store) (S.recovers opened.0.shelf.rows.store))
+            (HasItemsOf (S.view opened.0.shelf.rows.store) opened.0.shelf.waiting opened.0.last) opened.1) }
     {
+        shelf.says();
         if shelf.is_shut() {
             return Err(DataFault::Disk);
         }
@@ -175,7 +189,9 @@ impl<S: Store + Drop> DataFolder<S> {
         stamp: SaveStamp,
         stored: &StoredRecord,
     ) -> Result<PreparedSave, Fault>
-        ensures { IfOk result (λ prepared. IsSomeAnd prepared.turn.process (SavesText (record { stamp = stamp; text = stored.now.text.items }))) }
+        ensures turn { IfOk result (λ prepared. IsSomeAnd prepared.turn.process (SavesText (record { stamp = stamp; text = stored.now.text.items }))) }
+        ensures state { IfOk result (λ prepared. prepared.state ≡ stored.now.state) }
+        ensures changes { IfOk result (λ prepared. AreStatesTold self.now.last stored.now.state → LeadTo prepared.changes.items self.now.last.items stored.now.state.items) }
     {
         let turn = saved_turn(alloc, place, stamp, stored.text.as_slice())?;
         let changes = changes_since(alloc, self.last.pages(), stored.state.pages())?;
@@ -193,6 +209,15 @@ impl<S: Store + Drop> DataFolder<S> {
         ensures saved { (s : SavedText) → IsSomeAnd prepared.turn.process (SavesText s) → OnOk result (FindsOnly (MayFind (S.view self.new.shelf.rows.store) (S.recovers self.new.shelf.rows.store)) s) }
         ensures crash { (s : SavedText) → IsSomeAnd prepared.turn.process (SavesText s)
             → FindsOldOr (MayFind (S.view self.old.shelf.rows.store) (S.recovers self.old.shelf.rows.store)) (MayFind (S.view self.new.shelf.rows.store) (S.recovers self.new.shelf.rows.store)) s }
+        ensures items { OnOk result ((s : SavedText) → IsSomeAnd prepared.turn.process (SavesText s) → (last : StateView)
+            → HasItemsOf (S.view self.old.shelf.rows.store) self.old.shelf.waiting self.old.last last → LeadTo prepared.changes.items last.items prepared.state.items
+            → LeavesRecord (CrashLeaves (S.view self.new.shelf.rows.store) (S.recovers self.new.shelf.rows.store))
+            (HasItemsOf (S.view self.new.shelf.rows.store) self.new.shelf.waiting self.new.last) s prepared.state) }
+        ensures left { (s : SavedText) → IsSomeAnd prepared.turn.process (SavesText s) → (last : StateView)
+            → HasItemsOf (S.view self.old.shelf.rows.store) self.old.shelf.waiting self.old.last last → LeadTo prepared.changes.items last.items prepared.state.items
+            → LeavesOldOr (CrashLeaves (S.view self.old.shelf.rows.store) (S.recovers self.old.shelf.rows.store)) (CrashLeaves (S.view self.new.shelf.rows.store) (S.recovers self.new.shelf.rows.store)) s prepared.state }
+        ensures stays { OnErr result ((last : StateView) → HasItemsOf (S.view self.old.shelf.rows.store) self.old.shelf.waiting self.old.last last
+            → HasItemsOf (S.view self.new.shelf.rows.store) self.new.shelf.waiting self.new.last last) }
     {
         let PreparedSave {
             turn,
@@ -215,6 +240,15 @@ impl<S: Store + Drop> DataFolder<S> {
     ) -> Result<(), SaveFault>
         ensures saved { OnOk result (FindsOnly (MayFind (S.view self.new.shelf.rows.store) (S.recovers self.new.shelf.rows.store)) (record { stamp = stamp; text = stored.now.text.items })) }
         ensures crash { FindsOldOr (MayFind (S.view self.old.shelf.rows.store) (S.recovers self.old.shelf.rows.store)) (MayFind (S.view self.new.shelf.rows.store) (S.recovers self.new.shelf.rows.store)) (record { stamp = stamp; text = stored.now.text.items }) }
+        ensures items { OnOk result ((last : StateView)
+            → HasItemsOf (S.view self.old.shelf.rows.store) self.old.shelf.waiting self.old.last last → AreStatesTold last stored.now.state
+            → LeavesRecord (CrashLeaves (S.view self.new.shelf.rows.store) (S.recovers self.new.shelf.rows.store))
+            (HasItemsOf (S.view self.new.shelf.rows.store) self.new.shelf.waiting self.new.last) (record { stamp = stamp; text = stored.now.text.items }) stored.now.state) }
+        ensures left { (last : StateView)
+            → HasItemsOf (S.view self.old.shelf.rows.store) self.old.shelf.waiting self.old.last last → AreStatesTold last stored.now.state
+            → LeavesOldOr (CrashLeaves (S.view self.old.shelf.rows.store) (S.recovers self.old.shelf.rows.store)) (CrashLeaves (S.view self.new.shelf.rows.store) (S.recovers self.new.shelf.rows.store)) (record { stamp = stamp; text = stored.now.text.items }) stored.now.state }
+        ensures stays { OnErr result ((last : StateView) → HasItemsOf (S.view self.old.shelf.rows.store) self.old.shelf.waiting self.old.last last
+            → HasItemsOf (S.view self.new.shelf.rows.store) self.new.shelf.waiting self.new.last last) }
     {
         if self.has_failed || self.shelf.is_shut() {
             return Err(SaveFault::Disk);
@@ -230,8 +264,13 @@ impl<S: Store + Drop> DataFolder<S> {
 
 impl<S: Store + Drop> SaveCopy for DataFolder<S> {
     ghost use Rattle.data_folder.specs.Found.{MayFind};
+    ghost use Rattle.data_folder.specs.Items.{CrashLeaves, HasItemsOf};
 
     ghost may_find = { λ folder found. MayFind (S.view folder.shelf.rows.store) (S.recovers folder.shelf.rows.store) found };
+
+    ghost may_leave = { λ folder db. CrashLeaves (S.view folder.shelf.rows.store) (S.recovers folder.shelf.rows.store) db };
+
+    ghost has_items = { λ folder s. HasItemsOf (S.view folder.shelf.rows.store) folder.shelf.waiting folder.last s };
 
     /// Saves it: all of it, or nothing. After Ok a process that opens the folder later finds this record, also after a
     /// crash, until another one is saved. After an error the folder has what was saved before, unless the disk failed:

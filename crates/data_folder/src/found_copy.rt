@@ -4,12 +4,15 @@ ghost use Rattle.std.specs.Prelude.{◌≡◌, ◌≤◌, None, IsTrue, IfOk, Is
 ghost use Rattle.sqlite_trees.specs.View.{IsClean, doubt};
 ghost use Rattle.row_store.specs.Saved.{IsSame};
 ghost use Rattle.data_folder.specs.Found.{StampFits, HasCopy, IsCopyOf};
-ghost use Rattle.data_folder.specs.Text.{IsServiceText, service_text};
+ghost use Rattle.states.specs.State.{initial_state};
+ghost use Rattle.shelf.specs.InMemory.{items_in};
+ghost use Rattle.data_folder.specs.Text.{service_text};
+ghost use Rattle.data_folder.specs.Items.{AreRowsOf, AreStatesTold, IsTextWith, IsStateFound};
 ghost use Rattle.process_text.specs.Text.{IsProcessText};
 
 use crate::fault::DataFault;
 use crate::service_text::take_text;
-use crate::stored_items::state_with;
+use crate::stored_items::{state_with, with_items};
 use folders::SaveStamp;
 use process_parts::record_of;
 use process_text::ProcessText;
@@ -108,24 +111,31 @@ fn record_in<S: Store>(
     next: u64,
 ) -> Result<(State, ServiceRecord), DataFault>
     requires { IsProcessText text.now }
-    ensures is { IfOk result (λ read. IsServiceText read.1 (service_text text.now next)) }
+    ensures is { IfOk result (λ read. IsTextWith read.1 (service_text text.now next) read.0) }
+    ensures items { IfOk result (λ read. IsClean (S.view shelf.new.rows.store) → IsTrue (S.view shelf.new.rows.store).is_open → AreStatesTold initial_state read.0
+        → AreRowsOf (items_in (S.view shelf.new.rows.store).committed shelf.new.waiting) read.0.items) }
     ensures same { IsClean (S.view shelf.new.rows.store) → IsSame (S.view shelf.old.rows.store) (S.view shelf.new.rows.store) }
     ensures clean { doubt (S.view shelf.old.rows.store).is_clean ≤ doubt (S.view shelf.new.rows.store).is_clean }
 {
     let items = shelf.items(alloc)?;
     let state = state_with(alloc, text, &items)?;
+    let state = with_items(alloc, items, state)?;
     let replicas = record_of(alloc, text, &state)?;
     Ok((state, ServiceRecord::of(replicas, next)))
 }
 
-/// What a file without a process has.
-fn nothing(alloc: Global) -> Result<FoundProcess, DataFault>
-    ensures { IfOk result (λ found. found.copy ≡ None) }
+/// What a file without a process has: no items.
+fn nothing<S: Store>(alloc: Global, shelf: &mut Shelf<S>) -> Result<FoundProcess, DataFault>
+    ensures copy { IfOk result (λ found. found.copy ≡ None) }
+    ensures state { IfOk result (λ found. IsStateFound found.copy found.state) }
+    ensures items { IfOk result (λ found. IsClean (S.view shelf.new.rows.store) → IsTrue (S.view shelf.new.rows.store).is_open → AreStatesTold initial_state found.state
+        → AreRowsOf (items_in (S.view shelf.new.rows.store).committed shelf.new.waiting) found.state.items) }
+    ensures same { IsClean (S.view shelf.new.rows.store) → IsSame (S.view shelf.old.rows.store) (S.view shelf.new.rows.store) }
+    ensures clean { doubt (S.view shelf.old.rows.store).is_clean ≤ doubt (S.view shelf.new.rows.store).is_clean }
 {
-    Ok(FoundProcess {
-        state: State::first(alloc)?,
-        copy: None,
-    })
+    let items = shelf.items(alloc)?;
+    let state = with_items(alloc, items, State::first(alloc)?)?;
+    Ok(FoundProcess { state, copy: None })
 }
 
 /// The same stamp, whose numbers have 64 bits.
@@ -144,6 +154,9 @@ fn found_of<S: Store>(
     wanted: Wanted,
 ) -> Result<FoundProcess, DataFault>
     ensures is { IfOk result (λ found. IsSomeAnd found.copy (λ copy. IsCopyOf saved.now copy)) }
+    ensures state { IfOk result (λ found. IsStateFound found.copy found.state) }
+    ensures items { IfOk result (λ found. IsClean (S.view shelf.new.rows.store) → IsTrue (S.view shelf.new.rows.store).is_open → AreStatesTold initial_state found.state
+        → AreRowsOf (items_in (S.view shelf.new.rows.store).committed shelf.new.waiting) found.state.items) }
     ensures same { IsClean (S.view shelf.new.rows.store) → IsSame (S.view shelf.old.rows.store) (S.view shelf.new.rows.store) }
     ensures clean { doubt (S.view shelf.old.rows.store).is_clean ≤ doubt (S.view shelf.new.rows.store).is_clean }
 {
@@ -166,10 +179,13 @@ pub fn found_in<S: Store>(
     shelf: &mut Shelf<S>,
     wanted: Wanted,
 ) -> Result<FoundProcess, DataFault>
-    ensures { IfOk result (λ found. IsClean (S.view shelf.new.rows.store) → IsTrue (S.view shelf.new.rows.store).is_open → HasCopy (S.view shelf.new.rows.store).committed found.copy) }
+    ensures copy { IfOk result (λ found. IsClean (S.view shelf.new.rows.store) → IsTrue (S.view shelf.new.rows.store).is_open → HasCopy (S.view shelf.new.rows.store).committed found.copy) }
+    ensures state { IfOk result (λ found. IsStateFound found.copy found.state) }
+    ensures items { IfOk result (λ found. IsClean (S.view shelf.new.rows.store) → IsTrue (S.view shelf.new.rows.store).is_open → AreStatesTold initial_state found.state
+        → AreRowsOf (items_in (S.view shelf.new.rows.store).committed shelf.new.waiting) found.state.items) }
 {
     match shelf.process(alloc)? {
-        None => nothing(alloc),
+        None => nothing(alloc, shelf),
         Some(_) if wanted.is_new => Err(DataFault::HasData),
         Some(saved) => found_of(alloc, shelf, &saved, wanted),
     }

@@ -2,7 +2,8 @@
 
 ghost use Rattle.std.specs.Prelude.{IfOk};
 ghost use Rattle.data_folder.specs.Found.{FindsCopy};
-ghost use Rattle.data_folder.specs.Host.{host_may_find};
+ghost use Rattle.data_folder.specs.Items.{OpensWith};
+ghost use Rattle.data_folder.specs.Host.{host_may_find, host_may_leave, host_has_items};
 
 use crate::fault::DataFault;
 use crate::folder::DataFolder;
@@ -34,7 +35,8 @@ impl HostFolder {
         wanted: Wanted,
         syncs: bool,
     ) -> Result<(HostFolder, Option<FoundCopy>), DataFault>
-        ensures { IfOk result (λ opened. FindsCopy (host_may_find opened.0) opened.1) }
+        ensures finds { IfOk result (λ opened. FindsCopy (host_may_find opened.0) opened.1) }
+        ensures items { IfOk result (λ opened. OpensWith (host_may_leave opened.0) (host_has_items opened.0) opened.1) }
     {
         match DataFolder::open(rt, folder, wanted, syncs) {
             Ok((folder, found)) => Ok((HostFolder { folder }, found)),
@@ -45,6 +47,10 @@ impl HostFolder {
 
 impl SaveCopy for HostFolder {
     ghost may_find = { host_may_find };
+
+    ghost may_leave = { host_may_leave };
+
+    ghost has_items = { host_has_items };
 
     fn save_copy(
         &mut self,

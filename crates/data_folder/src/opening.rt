@@ -3,6 +3,7 @@
 ghost use Rattle.std.specs.Prelude.{IfOk};
 ghost use Rattle.sqlite_store.specs.FileStore.{view, recovers};
 ghost use Rattle.data_folder.specs.Found.{MayFind, FindsCopy};
+ghost use Rattle.data_folder.specs.Items.{CrashLeaves, HasItemsOf, OpensWith};
 
 use crate::fault::DataFault;
 use crate::folder::DataFolder;
@@ -89,7 +90,9 @@ impl DataFolder<FolderStore> {
         wanted: Wanted,
         syncs: bool,
     ) -> Result<(DataFolder<FolderStore>, Option<FoundCopy>), DataFault>
-        ensures { IfOk result (λ opened. FindsCopy (MayFind (view opened.0.shelf.rows.store) (recovers opened.0.shelf.rows.store)) opened.1) }
+        ensures finds { IfOk result (λ opened. FindsCopy (MayFind (view opened.0.shelf.rows.store) (recovers opened.0.shelf.rows.store)) opened.1) }
+        ensures items { IfOk result (λ opened. OpensWith (CrashLeaves (view opened.0.shelf.rows.store) (recovers opened.0.shelf.rows.store))
+            (HasItemsOf (view opened.0.shelf.rows.store) opened.0.shelf.waiting opened.0.last) opened.1) }
     {
         let path = format!(in rt.alloc(); "{folder}/{FILE}")?;
         if !wanted.is_new && !fs::exists(rt, path.as_str())? {

@@ -1,16 +1,20 @@
 //! The state whose items a file has.
 
-ghost use Rattle.std.specs.Prelude.{◌<◌, IfOk};
+ghost use Rattle.std.specs.Prelude.{◌≡◌, ◌<◌, IsTrue, IfOk};
 ghost use Rattle.pages.specs.Page.{page_count};
+ghost use Rattle.states.specs.State.{initial_state};
 ghost use Rattle.process_text.specs.StateOf.{IsStateOf};
+ghost use Rattle.shelf.specs.Found.{rows_found};
+ghost use Rattle.data_folder.specs.Items.{AreRowsOf, AreStatesTold};
 
 use base::Entry;
+use item_rows::changes_since;
 use item_tree::ItemTree;
 use items::{Item, Store};
 use pages::{Layout, Page};
 use process_text::ProcessText;
 use proto::{Fault, Key};
-use shelf::FoundItems;
+use shelf::{FoundItems, are_all};
 use states::{State, layout_of};
 use std::alloc::{AllocError, Global};
 use token::PAGES;
@@ -103,4 +107,27 @@ pub fn state_with(alloc: Global, text: &ProcessText, found: &FoundItems) -> Resu
     let mut bytes = text.front(alloc)?;
     put_pages(alloc, layout_of(text.head.origin.form), found, &mut bytes)?;
     text.state(alloc, &bytes)
+}
+
+/// Whether these are the items of the state, each at its place. It takes them.
+fn are_items_of(alloc: Global, found: &mut FoundItems, state: &State) -> Result<bool, AllocError>
+    ensures { IfOk result (λ are. IsTrue are → AreStatesTold initial_state state.now → AreRowsOf (rows_found found.old) state.now.items) }
+{
+    let none = State::first(alloc)?;
+    let placed = changes_since(alloc, none.pages(), state.pages())?;
+    Ok(are_all(found, &placed))
+}
+
+/// The state, if these are its items, each at its place. `BadRecord`: an item is at another one, where no later save would
+/// change it. `NoMemory` is the only other error.
+pub fn with_items(alloc: Global, found: FoundItems, state: State) -> Result<State, Fault>
+    ensures same { IfOk result (λ now. now ≡ state) }
+    ensures items { IfOk result (λ now. AreStatesTold initial_state now → AreRowsOf (rows_found found) now.items) }
+{
+    let mut found = found;
+    match are_items_of(alloc, &mut found, &state) {
+        Ok(true) => Ok(state),
+        Ok(false) => Err(Fault::BadRecord),
+        Err(_) => Err(Fault::NoMemory),
+    }
 }

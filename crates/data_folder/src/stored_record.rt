@@ -2,6 +2,7 @@
 
 ghost use Rattle.std.specs.Prelude.{IfOk};
 ghost use Rattle.data_folder.specs.Text.{TellsService};
+ghost use Rattle.data_folder.specs.Items.{TellsState};
 
 use crate::fault::record_fault;
 use crate::service_text::text_of;
@@ -26,7 +27,8 @@ impl Drop for StoredRecord {
 
 /// What is saved of this record, or why it cannot be.
 fn stored_with(alloc: Global, kept: &ServiceRecord) -> Result<StoredRecord, Fault>
-    ensures { IfOk result (λ made. TellsService kept.now made.text.items) }
+    ensures tells { IfOk result (λ made. TellsService kept.now made.text.items) }
+    ensures state { IfOk result (λ made. TellsState kept.now made.text.items made.state) }
 {
     let stored = stored_of(alloc, kept.replicas())?;
     if !stored.text.is_process() {
@@ -41,7 +43,8 @@ impl StoredRecord {
     /// What is saved of this record. The state is shared with it. `Unstorable`: the record is none that can be stored.
     /// `NoMemory` is the only other error.
     pub fn of(alloc: Global, kept: &ServiceRecord) -> Result<StoredRecord, SaveFault>
-        ensures { IfOk result (λ stored. TellsService kept.now stored.text.items) }
+        ensures tells { IfOk result (λ stored. TellsService kept.now stored.text.items) }
+        ensures state { IfOk result (λ stored. TellsState kept.now stored.text.items stored.state) }
     {
         match stored_with(alloc, kept) {
             Ok(stored) => Ok(stored),

@@ -5,3 +5,4 @@ mod WaitingLemmas
 mod FitLemmas
 mod OpenLemmas
 mod SaveLemmas
+mod TakenLemmas

@@ -11,6 +11,7 @@
 
 mod changes;
 mod columns;
+mod comparing;
 mod planning;
 mod process;
 mod reading;
@@ -18,6 +19,7 @@ mod reply;
 mod shelf;
 mod waiting;
 
+pub use comparing::are_all;
 pub use planning::SavedTurn;
 pub use process::SavedProcess;
 pub use reading::FoundItems;

@@ -96,7 +96,7 @@ impl<S: Store> Shelf<S> {
     ghost use Rattle.shelf.specs.Rows.{process_rows, reply_row};
     ghost use Rattle.shelf.specs.Found.{rows_found};
     ghost use Rattle.shelf.specs.InMemory.{items_in, IsUnchanged};
-    ghost use Rattle.shelf.specs.WaitingView.{changed_rows, IsTurn};
+    ghost use Rattle.shelf.specs.WaitingView.{changed_rows, IsTurn, SaysItems};
 
     /// What the rows say, or the rows and why they cannot be read.
     fn over(alloc: Global, rows: RowStore<S>) -> Result<Shelf<S>, (S, ReadFault)>
@@ -131,6 +131,11 @@ impl<S: Store> Shelf<S> {
     {
         self.rows.is_shut()
     }
+
+    /// What the file says of places are its rows of items with the changes over them that are in memory. It does nothing.
+    pub fn says(&self)
+        ensures { IsClean (S.view self.now.rows.store) → IsTrue (S.view self.now.rows.store).is_open → SaysItems (S.view self.now.rows.store).committed (items_in (S.view self.now.rows.store).committed self.now.waiting) }
+    {}
 
     /// The store, as the last save left it.
     pub fn into_store(self) -> S
