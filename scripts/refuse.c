@@ -1,8 +1,8 @@
-/* Loaded before the C library: refuses growths of memory, and says so on standard error.
-   REFUSE=N         the growth with the number N, counted from 1
+/* Loaded before the C library: lets allocations fail, and says so on standard error. A growth is a call for memory.
+   REFUSE=N         the growth with the number N, counted from 1, fails
    REFUSE_EVERY=N   each N-th one after that one too
    REFUSE_PERIOD=S  in place of these two: one growth in each period of S seconds but the first, at a random
-                    moment, in whichever thread grows then */
+                    moment, in whichever thread asks for memory then */
 #define _GNU_SOURCE
 #include <dlfcn.h>
 #include <stdlib.h>

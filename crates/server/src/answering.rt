@@ -265,7 +265,7 @@ impl Serve for Answering {
     ghost use Rattle.std.specs.Prelude.{◌≡◌, ◌⊎◌, ℕ, [], true, false};
     ghost use Rattle.service.specs.Steps.{NoneWaits};
     ghost use Rattle.service.specs.Owed.{AllWait, IsFreeIn};
-    ghost use Rattle.service.specs.Ticks.{HaveWaited, HavePaused, HasSameAsked};
+    ghost use Rattle.service.specs.Ticks.{HaveWaited, HavePaused, NodesHaveTicked, HasSameAsked, AreAllUpIn};
     ghost use Rattle.server.specs.Answering.{HandsInAll, HandsOut};
 
     fn set_micros(&mut self, micros: u64)
@@ -300,6 +300,7 @@ impl Serve for Answering {
         ensures asks { HasSameAsked self.old.service self.new.service }
         ensures waited { HaveWaited self.old.service.waiting self.new.service.waiting }
         ensures paused { HavePaused self.old.service.replicas.pauses self.new.service.replicas.pauses }
+        ensures nodes { NodesHaveTicked self.old.service.replicas self.new.service.replicas }
         ensures said { self.new.said ≡ self.old.said }
         ensures lost { self.new.lost ≡ self.old.lost }
     {
@@ -315,6 +316,7 @@ impl Serve for Answering {
 
     fn is_waiting(&self) -> bool
         ensures service { result ≡ false → (self.now.service.line ≡ []) × NoneWaits self.now.service.waiting }
+        ensures up { result ≡ false → AreAllUpIn self.now.service.replicas }
         ensures lost { result ≡ false → self.now.lost ≡ [] }
     {
         self.service.is_waiting() || !self.lost.is_empty()

@@ -318,7 +318,7 @@ impl<S: Save> Serve for DurableService<S> {
     ghost use Rattle.std.specs.Prelude.{◌≡◌, ◌≢◌, ◌⊎◌, ℕ, [], true, false};
     ghost use Rattle.service.specs.Steps.{NoneWaits};
     ghost use Rattle.service.specs.Owed.{AllWait, IsFreeIn};
-    ghost use Rattle.service.specs.Ticks.{HaveWaited, HavePaused, HasSameAsked};
+    ghost use Rattle.service.specs.Ticks.{HaveWaited, HavePaused, NodesHaveTicked, HasSameAsked, AreAllUpIn};
     ghost use Rattle.server.specs.Answering.{HandsInAll};
     ghost use Rattle.server.specs.Durable.{HandsOutSaved};
 
@@ -367,6 +367,7 @@ impl<S: Save> Serve for DurableService<S> {
         ensures asks { HasSameAsked self.old.answering.service self.new.answering.service }
         ensures waited { HaveWaited self.old.answering.service.waiting self.new.answering.service.waiting }
         ensures paused { HavePaused self.old.answering.service.replicas.pauses self.new.answering.service.replicas.pauses }
+        ensures nodes { NodesHaveTicked self.old.answering.service.replicas self.new.answering.service.replicas }
         ensures said { self.new.answering.said ≡ self.old.answering.said }
         ensures lost { self.new.answering.lost ≡ self.old.answering.lost }
         ensures saver { self.new.saver ≡ self.old.saver }
@@ -390,6 +391,7 @@ impl<S: Save> Serve for DurableService<S> {
         ensures held { result ≡ false → self.now.held.items ≡ [] }
         ensures said { result ≡ false → self.now.answering.said ≡ [] }
         ensures service { result ≡ false → (self.now.answering.service.line ≡ []) × NoneWaits self.now.answering.service.waiting }
+        ensures up { result ≡ false → AreAllUpIn self.now.answering.service.replicas }
         ensures lost { result ≡ false → self.now.answering.lost ≡ [] }
     {
         self.is_failing

@@ -5,7 +5,6 @@ use std::alloc::Global;
 use std::rt::Clock;
 use std::sync::Wait;
 use std::thread::Threads;
-use std::time::SystemTime;
 
 /// What is asked. It changes no item.
 const FIRST: &[u8] = b"get eve\r\n";
@@ -13,16 +12,9 @@ const FIRST: &[u8] = b"get eve\r\n";
 /// So many ticks are made at most until it is answered. It takes fewer than ten at any `u`.
 const MOST_TICKS: usize = 64;
 
-/// The seconds since 1970, or 0 if the clock cannot be read.
-fn seconds<R: Clock>(rt: &R) -> u32 {
-    let Ok(now) = SystemTime::now(rt) else {
-        return 0;
-    };
-    match now.duration_since(SystemTime::UNIX_EPOCH) {
-        Ok(since) => u32::try_from(since.as_secs()).unwrap_or(u32::MAX),
-        Err(_) => 0,
-    }
-}
+/// The moment of all that is done here. A state's moment never falls, so each batch has that of the last one before: no
+/// time passes before the event loop's clock begins.
+const MOMENT: u32 = 0;
 
 /// The bytes of the first command.
 fn first(alloc: Global) -> Result<Vec<u8>, Fault> {
@@ -46,12 +38,12 @@ fn has_said<R: Threads + Wait + Clock + Sync>(
     service: &mut Service,
 ) -> bool {
     service.tick(alloc);
-    !service.work(rt, rt, alloc, seconds(rt)).is_empty()
+    !service.work(rt, rt, alloc, MOMENT).is_empty()
 }
 
 /// Has the replicas answer one command of a connection that nobody is, under this number. Replicas that were opened with
 /// their records have no leader until somebody who waits suspects the last one; so the first client would wait for that,
-/// which takes some ticks. If it is not answered, clients wait.
+/// which takes some ticks. If it is not answered, clients wait. What proxies had outstanding may be carried out here too.
 pub fn find_leader<R: Threads + Wait + Clock + Sync>(
     rt: &R,
     alloc: Global,

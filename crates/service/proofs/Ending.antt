@@ -68,6 +68,8 @@ module _ (v : ServiceView) (waiting : List (Option Outstanding)) (pauses : List 
     ordered = h.ordered;
     in_turn = h.in_turn;
     waits = λ a w. absurd (none a w);
+    placed = λ i a w. absurd (none a (i, w.0, w.1, w.2));
+    unreplied = λ a w. absurd (none a w);
   }
 
   still_world : EnsembleFollows → HasAll v → HasEnsemble v → HasEnsemble (ended v waiting pauses)

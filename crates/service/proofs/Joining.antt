@@ -290,6 +290,16 @@ module _ (b v : ServiceView) (hb : IsWhole b) (own : IsServiceAlone v) (dialect 
     ordered = ordered;
     in_turn = in_turn;
     waits = λ a w. Contains-append_right b.assignments v.assignments a (own.service.waits a w);
+    placed = own.service.placed;
+    unreplied = λ a w reply was. ⊎_elim
+        (λ (old : Contains c1.replied (record { connection = a.connection; turn = a.turn }, reply)).
+        let r = hb.service.replied (record { connection = a.connection; turn = a.turn }, reply) old in
+        let same : r.0.connection ≡ a.connection = ap (λ (n : CommandNumber). n.connection) r.2 in
+        let below = first_below r.0 r.1 in
+        let since = second_since a (own.service.waits a w) in
+        absurd (omega (arith, below, since, same)))
+        (λ (new : Contains c2.replied (record { connection = a.connection; turn = a.turn }, reply)). own.service.unreplied a w reply new)
+        (Contains-append_cases c1.replied c2.replied (record { connection = a.connection; turn = a.turn }, reply) was);
   }
 
   -- ---- moments

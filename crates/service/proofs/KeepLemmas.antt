@@ -1,5 +1,5 @@
 -- Each call keeps what always holds of a service.
-use Rattle.std.proofs.Common.{◌≡◌, ◌⊎◌, ⊎_elim, ℕ, zero, suc, ◌<◌, ◌≤◌, Bool, List, [], ◌∷◌, ◌++◌, map, length, Option, Some, None, refl, sym, ap, ◌∙◌, subst, arith, slice_get, append_assoc}
+use Rattle.std.proofs.Common.{◌≡◌, ◌⊎◌, ⊎_elim, ℕ, zero, suc, ◌-◌, ◌<◌, ◌≤◌, Bool, List, [], ◌∷◌, ◌++◌, map, length, Option, Some, None, refl, sym, ap, ◌∙◌, subst, arith, slice_get, append_assoc}
 use Rattle.std.specs.Prelude.{Contains}
 use Rattle.std.proofs.lemmas.List.{append-nil, map-append}
 use Rattle.std.proofs.lemmas.List.Elements.{Contains-push, Contains-append_left, Contains-append_right, Contains-append_cases}
@@ -9,21 +9,24 @@ use Rattle.sessions.specs.declared.request.Request.{Request}
 use Rattle.connections.specs.declared.connections.CommandNumber.{CommandNumber}
 use Rattle.connections.specs.declared.places.Place.{Place}
 use Rattle.connections.specs.declared.said.Said.{Said}
-use Rattle.connections.specs.Connections.{ConnectionsView}
+use Rattle.connections.specs.Connections.{ConnectionsView, WasReplied}
+use Rattle.connections.proofs.PlaceLemmas.{set_get}
 use Rattle.connections.proofs.TakeLemmas.{get_pushed, contains_at, one_of}
 use Rattle.ensemble.specs.declared.answer.Answer.{Answer}
 use Rattle.ensemble.specs.Nodes.{size_of}
 use Rattle.ensemble.specs.declared.noted.Noted.{Noted}
 use Rattle.ensemble.specs.declared.noted.Noted.TheVariants as noted
 use Rattle.ensemble.specs.Ensemble.{EnsembleView, answer_entry, order_entry, moment_entry}
+use Rattle.ensemble.proofs.Lists.{place_of}
 use Rattle.service.specs.declared.assignment.Assignment.{Assignment}
 use Rattle.service.specs.declared.assignment.Outstanding.{Outstanding}
 use Rattle.service.specs.declared.note.Waiting.{Waiting}
 use Rattle.service.specs.declared.asking.Asking.{Asking}
 use Rattle.service.specs.declared.asking.Asking.TheVariants.{Nothing, Asked, Failed}
-use Rattle.service.specs.Service.{ServiceView, ReplicasView, IsSameProcess, none_shown, asked_keys, before_ask, IsAnsweredEarlier, command_number_of, IsAssigned, IsService, Waits, asked_as, assigned_as, assigned, AreLogged, AnswersTo, Gives, GivesNothing, GivesOne, given_entry, passed_entry}
+use Rattle.service.specs.Service.{ServiceView, ReplicasView, IsSameProcess, none_shown, asked_keys, before_ask, IsAnsweredEarlier, command_number_of, IsAssigned, IsService, WaitsAt, Waits, asked_as, assigned_as, assigned, AreLogged, AnswersTo, Gives, GivesNothing, GivesOne, given_entry, passed_entry}
 use Rattle.service.proofs.OrderLemmas.{Order, asked_push, none_asked, more_asks_nothing, before_same, before_last, asked_below, asked_count}
 use Rattle.service.specs.Steps.{NoneWaits, KeepsWaits, AddsWait, EndsWait, KeepsTaken, IsAskedOf, AsksFor, Settles}
+use Rattle.service.specs.Owed.{IsFreeIn, EndsWaitAt}
 
 -- ---- nothing was asked yet
 
@@ -37,10 +40,16 @@ first_keeps v none none_asked none_ordered none_replied none_waits = record {
   ordered = ap asked_keys none_ordered ∙ sym (ap (map assigned_as) none);
   in_turn = λ i b at_i. let e : ◌≡◌ {A = Option Assignment} None (Some b) = subst (λ (xs : List Assignment). slice_get xs i ≡ Some b) none at_i in absurd (cc e);
   waits = λ a w. absurd (none_waits a w);
+  placed = λ i a w. absurd (none_waits a (i, w.0, w.1, w.2));
+  unreplied = λ a w. absurd (none_waits a w);
 }
   where
     empty : {X : Type 0} (x : X) → Contains [] x → ⊥
     empty x i = let lt = i.1 in absurd (omega (arith, lt))
+
+-- who waits waited
+still_waits : (old new : List (Option Outstanding)) → KeepsWaits old new → (a : Assignment) → Waits new a → Waits old a
+still_waits old new keeps a w = let was = keeps w.0 a (w.1, w.2, w.3) in (w.0, was.0, was.1, was.2)
 
 -- who ends a wait adds none
 pub ends_keeps : (old new : List (Option Outstanding)) (proxy number : ℕ) (r : Option Outstanding) → EndsWait old proxy number new r → KeepsWaits old new
@@ -84,27 +93,29 @@ keeps v now ok taken replied asked answered same more none order waits = record 
       let was = ok.in_turn i b at turn from_one below in
       let before : before_ask i now.order ≡ before_ask i v.order = ap (before_ask i) order ∙ before_same i v.order more (asked_below v ok i b at) in
       record { assignment = was.assignment; assigned = subst (λ (xs : List Assignment). Contains xs was.assignment) (sym same) was.assigned; of_connection = was.of_connection; of_turn = was.of_turn; answered = subst (λ (o : Order). Contains o ((was.assignment.proxy, was.assignment.number), noted.Answered)) (sym before) was.answered };
-  waits = λ a w. subst (λ (xs : List Assignment). Contains xs a) (sym same) (ok.waits a (waits a w));
+  waits = λ a w. subst (λ (xs : List Assignment). Contains xs a) (sym same) (ok.waits a (still_waits v.waiting now.waiting waits a w));
+  placed = λ i a w. ok.placed i a (waits i a w);
+  unreplied = λ a w reply was. ok.unreplied a (still_waits v.waiting now.waiting waits a w) reply (subst (λ (xs : List (CommandNumber × replies.Reply)). WasReplied xs a.connection a.turn reply) replied was);
 }
 
 -- another line
 pub lined : (v : ServiceView) (line : List Waiting) → IsService v → IsService (record v { line = line })
-lined v line ok = keeps v (record v { line = line }) ok (λ e i. i) refl refl (λ x i. i) refl [] refl (sym (append-nil v.order)) (λ a w. w)
+lined v line ok = keeps v (record v { line = line }) ok (λ e i. i) refl refl (λ x i. i) refl [] refl (sym (append-nil v.order)) (λ i a w. w)
 
 -- whatever is seen of the replicas
 pub seen : (v : ServiceView) (replicas : ReplicasView) → IsService v → IsService (record v { replicas = replicas })
-seen v replicas ok = keeps v (record v { replicas = replicas }) ok (λ e i. i) refl refl (λ x i. i) refl [] refl (sym (append-nil v.order)) (λ a w. w)
+seen v replicas ok = keeps v (record v { replicas = replicas }) ok (λ e i. i) refl refl (λ x i. i) refl [] refl (sym (append-nil v.order)) (λ i a w. w)
 
 -- the connections alone went on
 pub connections_keep : (v : ServiceView) (now : ConnectionsView) → IsService v → now.taken ≡ v.connections.taken → now.replied ≡ v.connections.replied → IsService (record v { connections = now })
-connections_keep v now ok taken replied = keeps v (record v { connections = now }) ok (λ e i. subst (λ (xs : List (CommandNumber × Command)). Contains xs e) (sym taken) i) replied refl (λ x i. i) refl [] refl (sym (append-nil v.order)) (λ a w. w)
+connections_keep v now ok taken replied = keeps v (record v { connections = now }) ok (λ e i. subst (λ (xs : List (CommandNumber × Command)). Contains xs e) (sym taken) i) replied refl (λ x i. i) refl [] refl (sym (append-nil v.order)) (λ i a w. w)
 
 -- the replicas worked
 pub worked_keeps : (v : ServiceView) (asked : List (Request × Bool)) (answered : List ((ℕ × ℕ) × replies.Reply)) (order : Order) (moment : ℕ) (answers : List Answer) → IsService v → asked ≡ v.asked → answered ≡ v.answered ++ map answer_entry answers → order ≡ (v.order ++ moment_entry moment ∷ []) ++ map order_entry answers
     → IsService (record v { asked = asked; answered = answered; order = order })
 worked_keeps v asked answered order moment answers ok same is ordered =
     keeps v (record v { asked = asked; answered = answered; order = order }) ok (λ e i. i) refl same
-    (λ x i. subst (λ (xs : List ((ℕ × ℕ) × replies.Reply)). Contains xs x) (sym is) (Contains-append_left v.answered (map answer_entry answers) x i)) refl (moment_entry moment ∷ map order_entry answers) (none_asked answers) (ordered ∙ append_assoc v.order (moment_entry moment ∷ []) (map order_entry answers)) (λ a w. w)
+    (λ x i. subst (λ (xs : List ((ℕ × ℕ) × replies.Reply)). Contains xs x) (sym is) (Contains-append_left v.answered (map answer_entry answers) x i)) refl (moment_entry moment ∷ map order_entry answers) (none_asked answers) (ordered ∙ append_assoc v.order (moment_entry moment ∷ []) (map order_entry answers)) (λ i a w. w)
 
 pub tended_keeps : (v : ServiceView) (asked : List (Request × Bool)) (answered : List ((ℕ × ℕ) × replies.Reply)) (order : Order) (waiting : List (Option Outstanding)) → IsService v → asked ≡ v.asked → answered ≡ v.answered → order ≡ v.order → KeepsWaits v.waiting waiting
     → IsService (record v { asked = asked; answered = answered; order = order; waiting = waiting })
@@ -124,7 +135,7 @@ are_logged answers old new order order_now is ordered a i = (
 
 -- ---- a command is asked
 
-module _ (v : ServiceView) (ok : IsService v) (at : Place) (proxy : ℕ) (next : ConnectionsView) (e f : EnsembleView) (same_asked : e.asked ≡ v.asked) (same_answered : e.answered ≡ v.answered) (same_order : e.order ≡ v.order) (a : Assignment) (waiting : List (Option Outstanding)) (line : List Waiting) (is : IsAskedOf at proxy v.connections next e f a) (adds : AddsWait v.waiting a waiting) where
+module _ (v : ServiceView) (ok : IsService v) (at : Place) (proxy : ℕ) (next : ConnectionsView) (e f : EnsembleView) (same_asked : e.asked ≡ v.asked) (same_answered : e.answered ≡ v.answered) (same_order : e.order ≡ v.order) (a : Assignment) (waiting : List (Option Outstanding)) (line : List Waiting) (is : IsAskedOf at proxy v.connections next e f a) (free : IsFreeIn v.waiting proxy) (adds : AddsWait v.waiting a waiting) where
   abbrev pub now : ServiceView
   now = record { connections = next; asked = f.asked; answered = f.answered; order = f.order; assignments = v.assignments ++ a ∷ []; waiting = waiting; line = line; replicas = none_shown }
 
@@ -239,19 +250,39 @@ module _ (v : ServiceView) (ok : IsService v) (at : Place) (proxy : ℕ) (next :
         ∙ (ap (λ (n : ℕ). map assigned_as v.assignments ++ (n, a.number) ∷ []) (sym is.of_proxy)
         ∙ sym (map-append assigned_as v.assignments (a ∷ [])))));
     in_turn = turn_now;
-    waits = λ b w. ⊎_elim (λ (old : Waits v.waiting b). kept b (ok.waits b old)) (λ (same : b ≡ a). subst (Contains (v.assignments ++ a ∷ [])) (sym same) (Contains-push v.assignments a)) (adds b w);
+    waits = λ b w. ⊎_elim
+        (λ (old : WaitsAt v.waiting w.0 b). kept b (ok.waits b (w.0, old.0, old.1, old.2)))
+        (λ (new : (b ≡ a) × (w.0 ≡ a.proxy - 1)). subst (Contains (v.assignments ++ a ∷ [])) (sym new.0) (Contains-push v.assignments a))
+        (adds w.0 b (w.1, w.2, w.3));
+    placed = λ i b w. ⊎_elim
+        (λ (old : WaitsAt v.waiting i b). ok.placed i b old)
+        (λ (new : (b ≡ a) × (i ≡ a.proxy - 1)).
+        let same : b.proxy ≡ a.proxy = ap (λ (x : Assignment). x.proxy) new.0 in
+        let here = new.1 in
+        let of_proxy = is.of_proxy in
+        let numbered = free.1 in
+        omega (arith, same, here, of_proxy, numbered))
+        (adds i b w);
+    unreplied = λ b w reply was.
+        let before : WasReplied v.connections.replied b.connection b.turn reply = subst (λ (xs : List (CommandNumber × replies.Reply)). WasReplied xs b.connection b.turn reply) is.bytes.replied was in
+        ⊎_elim
+        (λ (old : WaitsAt v.waiting w.0 b). ok.unreplied b (w.0, old.0, old.1, old.2) reply before)
+        (λ (new : (b ≡ a) × (w.0 ≡ a.proxy - 1)).
+        let r = ok.replied (record { connection = b.connection; turn = b.turn }, reply) before in
+        differs r.0 r.1 (ap (λ (n : CommandNumber). n.connection) r.2 ∙ ap (λ (x : Assignment). x.connection) new.0) (ap (λ (n : CommandNumber). n.turn) r.2 ∙ ap (λ (x : Assignment). x.turn) new.0))
+        (adds w.0 b (w.1, w.2, w.3));
   }
 
 -- whatever came of it
-pub assign_keeps : (v : ServiceView) (at : Place) (proxy : ℕ) (next : ConnectionsView) (e f : EnsembleView) (asking : Asking) (pool waiting : List (Option Outstanding)) (assignments : List Assignment) (said said_now : List Said) (key : ℕ) (line : List Waiting) → IsService v → e.asked ≡ v.asked → e.answered ≡ v.answered → e.order ≡ v.order → pool ≡ v.waiting
+pub assign_keeps : (v : ServiceView) (at : Place) (proxy : ℕ) (next : ConnectionsView) (e f : EnsembleView) (asking : Asking) (pool waiting : List (Option Outstanding)) (assignments : List Assignment) (said said_now : List Said) (key : ℕ) (line : List Waiting) → IsService v → e.asked ≡ v.asked → e.answered ≡ v.answered → e.order ≡ v.order → pool ≡ v.waiting → IsFreeIn pool proxy
     → AsksFor at proxy v.connections e next f asking → Settles key asking pool waiting v.assignments assignments said said_now
     → IsService (record { connections = next; asked = f.asked; answered = f.answered; order = f.order; assignments = assignments; waiting = waiting; line = line; replicas = none_shown })
-assign_keeps v at proxy next e f Nothing pool waiting assignments said said_now key line ok a b o same asks settles =
-    keeps v _ ok asks.0.taken asks.0.replied (ap (λ (x : EnsembleView). x.asked) asks.0.same ∙ a) (λ x i. subst (λ (xs : List ((ℕ × ℕ) × replies.Reply)). Contains xs x) (sym (ap (λ (y : EnsembleView). y.answered) asks.0.same ∙ b)) i) settles.1 [] refl (ap (λ (y : EnsembleView). y.order) asks.0.same ∙ (o ∙ sym (append-nil v.order))) (λ y w. subst (λ (ws : List (Option Outstanding)). Waits ws y) (settles.0 ∙ same) w)
-assign_keeps v at proxy next e f (Failed g) pool waiting assignments said said_now key line ok a b o same asks settles =
-    keeps v _ ok asks.0.taken asks.0.replied (ap (λ (x : EnsembleView). x.asked) asks.0.same ∙ a) (λ x i. subst (λ (xs : List ((ℕ × ℕ) × replies.Reply)). Contains xs x) (sym (ap (λ (y : EnsembleView). y.answered) asks.0.same ∙ b)) i) settles.1 [] refl (ap (λ (y : EnsembleView). y.order) asks.0.same ∙ (o ∙ sym (append-nil v.order))) (λ y w. subst (λ (ws : List (Option Outstanding)). Waits ws y) (settles.0 ∙ same) w)
-assign_keeps v at proxy next e f (Asked x) pool waiting assignments said said_now key line ok a b o same asks settles =
-    subst (λ (xs : List Assignment). IsService (record { connections = next; asked = f.asked; answered = f.answered; order = f.order; assignments = xs; waiting = waiting; line = line; replicas = none_shown })) (sym settles.1) (asked_keeps v ok at proxy next e f a b o x waiting line asks (subst (λ (ws : List (Option Outstanding)). AddsWait ws x waiting) same settles.0))
+assign_keeps v at proxy next e f Nothing pool waiting assignments said said_now key line ok a b o same free asks settles =
+    keeps v _ ok asks.0.taken asks.0.replied (ap (λ (x : EnsembleView). x.asked) asks.0.same ∙ a) (λ x i. subst (λ (xs : List ((ℕ × ℕ) × replies.Reply)). Contains xs x) (sym (ap (λ (y : EnsembleView). y.answered) asks.0.same ∙ b)) i) settles.1 [] refl (ap (λ (y : EnsembleView). y.order) asks.0.same ∙ (o ∙ sym (append-nil v.order))) (λ k y w. subst (λ (ws : List (Option Outstanding)). WaitsAt ws k y) (settles.0 ∙ same) w)
+assign_keeps v at proxy next e f (Failed g) pool waiting assignments said said_now key line ok a b o same free asks settles =
+    keeps v _ ok asks.0.taken asks.0.replied (ap (λ (x : EnsembleView). x.asked) asks.0.same ∙ a) (λ x i. subst (λ (xs : List ((ℕ × ℕ) × replies.Reply)). Contains xs x) (sym (ap (λ (y : EnsembleView). y.answered) asks.0.same ∙ b)) i) settles.1 [] refl (ap (λ (y : EnsembleView). y.order) asks.0.same ∙ (o ∙ sym (append-nil v.order))) (λ k y w. subst (λ (ws : List (Option Outstanding)). WaitsAt ws k y) (settles.0 ∙ same) w)
+assign_keeps v at proxy next e f (Asked x) pool waiting assignments said said_now key line ok a b o same free asks settles =
+    subst (λ (xs : List Assignment). IsService (record { connections = next; asked = f.asked; answered = f.answered; order = f.order; assignments = xs; waiting = waiting; line = line; replicas = none_shown })) (sym settles.1) (asked_keeps v ok at proxy next e f a b o x waiting line asks (subst (λ (ws : List (Option Outstanding)). IsFreeIn ws proxy) same free) (subst (λ (ws : List (Option Outstanding)). AddsWait ws x waiting) same settles.0))
 
 pub assign_gives : (at : Place) (proxy : ℕ) (old next : ConnectionsView) (e f : EnsembleView) (asking : Asking) (was waiting : List (Option Outstanding)) (before assignments : List Assignment) (said said_now : List Said) (key : ℕ)
     → AsksFor at proxy old e next f asking → Settles key asking was waiting before assignments said said_now → Gives old said next said_now
@@ -271,9 +302,9 @@ assign_size at proxy old next e f (Failed g) asks = ap (λ (x : EnsembleView). s
 
 -- ---- a reply comes back
 
-pub replied_keeps : (v : ServiceView) (next : ConnectionsView) (waiting : List (Option Outstanding)) (o : Outstanding) (proxy number : ℕ) (reply : replies.Reply) (said said_now : List Said) → IsService v → Contains v.answered ((proxy, number), reply) → Contains v.order ((proxy, number), noted.Answered) → EndsWait v.waiting proxy number waiting (Some o)
+pub replied_keeps : (v : ServiceView) (next : ConnectionsView) (waiting : List (Option Outstanding)) (o : Outstanding) (proxy number : ℕ) (reply : replies.Reply) (said said_now : List Said) → IsService v → Contains v.answered ((proxy, number), reply) → Contains v.order ((proxy, number), noted.Answered) → EndsWait v.waiting proxy number waiting (Some o) → EndsWaitAt v.waiting o waiting
     → AnswersTo o.assignment reply v.connections next said said_now → IsService (record v { connections = next; waiting = waiting })
-replied_keeps v next waiting o proxy number reply said said_now ok logged in_order ends to = record {
+replied_keeps v next waiting o proxy number reply said said_now ok logged in_order ends back to = record {
   each = λ a i.
       let e = ok.each a i in
       record { command = e.command; taken = subst (λ (xs : List (CommandNumber × Command)). Contains xs (command_number_of a, e.command)) (sym to.taken) e.taken; request = e.request; quiet = e.quiet; asked = e.asked; of_proxy = e.of_proxy; numbered = e.numbered; same = e.same };
@@ -291,8 +322,40 @@ replied_keeps v next waiting o proxy number reply said said_now ok logged in_ord
       to.replied;
   ordered = ok.ordered;
   in_turn = ok.in_turn;
-  waits = λ a w. ok.waits a (ends.0 a w);
+  waits = λ a w. ok.waits a (was_waiting a w);
+  placed = λ i a w. ok.placed i a (ends.0 i a w);
+  unreplied = none_replied;
 }
+  where
+    was_waiting : (a : Assignment) → Waits waiting a → Waits v.waiting a
+    was_waiting = still_waits v.waiting waiting ends.0
+
+    -- the place of the proxy that waited for the reply is empty now
+    other_place : (a : Assignment) → Waits waiting a → o.assignment.connection ≡ a.connection → o.assignment.turn ≡ a.turn → ⊥
+    other_place a w connection turn =
+        let first = place_of v.assignments o.assignment (ok.waits o.assignment (back.0, o, back.1, refl)) in
+        let second = place_of v.assignments a (ok.waits a (was_waiting a w)) in
+        let index : first.0 ≡ second.0 = ok.once first.0 second.0 o.assignment a first.1 second.1 connection turn in
+        let both : ◌≡◌ {A = Option Assignment} (Some o.assignment) (Some a) = sym first.1 ∙ (ap (slice_get v.assignments) index ∙ second.1) in
+        let same : o.assignment ≡ a = cc both in
+        let one : o.assignment.proxy ≡ suc back.0 = ok.placed back.0 o.assignment (o, back.1, refl) in
+        let other : a.proxy ≡ suc w.0 = ok.placed w.0 a (ends.0 w.0 a (w.1, w.2, w.3)) in
+        let proxies : o.assignment.proxy ≡ a.proxy = ap (λ (x : Assignment). x.proxy) same in
+        let here : w.0 ≡ back.0 = omega (arith, one, other, proxies) in
+        let gone : slice_get waiting back.0 ≡ Some None = ap (λ (xs : List (Option Outstanding)). slice_get xs back.0) back.2 ∙ set_get v.waiting back.0 None (Some o) back.1 in
+        let clash : ◌≡◌ {A = Option (Option Outstanding)} (Some None) (Some (Some w.1)) = sym gone ∙ (ap (slice_get waiting) (sym here) ∙ w.2) in
+        absurd (cc clash)
+
+    none_replied : (a : Assignment) → Waits waiting a → (r : replies.Reply) → WasReplied next.replied a.connection a.turn r → ⊥
+    none_replied a w r was = ⊎_elim
+        (λ (same : next.replied ≡ v.connections.replied). ok.unreplied a (was_waiting a w) r (subst (λ (xs : List (CommandNumber × replies.Reply)). WasReplied xs a.connection a.turn r) same was))
+        (λ (more : next.replied ≡ v.connections.replied ++ (command_number_of o.assignment, reply) ∷ []). ⊎_elim
+        (λ (before : Contains v.connections.replied (record { connection = a.connection; turn = a.turn }, r)). ok.unreplied a (was_waiting a w) r before)
+        (λ (new : Contains ((command_number_of o.assignment, reply) ∷ []) (record { connection = a.connection; turn = a.turn }, r)).
+        let same = one_of (command_number_of o.assignment, reply) (record { connection = a.connection; turn = a.turn }, r) new in
+        other_place a w (ap (λ (x : CommandNumber × replies.Reply). x.0.connection) same) (ap (λ (x : CommandNumber × replies.Reply). x.0.turn) same))
+        (Contains-append_cases v.connections.replied ((command_number_of o.assignment, reply) ∷ []) (record { connection = a.connection; turn = a.turn }, r) (subst (λ (xs : List (CommandNumber × replies.Reply)). WasReplied xs a.connection a.turn r) more was)))
+        to.replied
 
 -- ---- what is given
 

@@ -6,6 +6,7 @@ pub mod MomentLemmas
 pub mod OwedLemmas
 pub mod ToldLemmas
 pub mod TickLemmas
+mod NodeLemmas
 mod Lists
 mod Joining
 pub mod Ending

@@ -8,8 +8,7 @@ use Rattle.serving.specs.declared.patience.Urge.{Urge}
 use Rattle.serving.specs.declared.patience.Urge.TheVariants.{Wait, Again, Suspect}
 use Rattle.serving.specs.Patience.{urge_of, after_tick}
 use Rattle.service.specs.declared.assignment.Outstanding.{Outstanding}
-use Rattle.service.specs.declared.pause.Pause.{Pause}
-use Rattle.service.specs.Ticks.{sent_again, after_urge, waited_on, with_patience, urge_in, urge_at, SetsPatienceIn, SetsPatience, AllHaveWaited, pause_after, NodeTicksIn, NodeTicks, HavePaused}
+use Rattle.service.specs.Ticks.{sent_again, after_urge, waited_on, with_patience, urge_in, urge_at, SetsPatienceIn, SetsPatience, AllHaveWaited}
 
 -- ---- places, one after the other
 
@@ -120,20 +119,3 @@ urged_waits u seen at old mid new due s t = by (slice_get old at) refl due s
         let there : slice_get mid at ≡ Some between = ap (λ (xs : List (Option Outstanding)). slice_get xs at) s ∙ set_get old at between place e in
         let set : new ≡ slice_set mid at (with_patience (sent_again seen) between) = subst (SetsPatienceIn (sent_again seen) at mid new) there t in
         set ∙ (ap (λ (xs : List (Option Outstanding)). slice_set xs at (with_patience (sent_again seen) between)) s ∙ (set_twice old at between (with_patience (sent_again seen) between) ∙ ap (slice_set old at) (waits_urged u seen place due)))
-
--- ---- nodes
-
-abbrev pub Paused : Pause → Pause → Type 0
-Paused p now = (is_up : Bool) × (now ≡ pause_after is_up p)
-
-pub node_sets : (at : ℕ) (is_up due : Bool) (old new : List Pause) → NodeTicks at is_up old new due → Sets Paused at old new
-node_sets at is_up due old new = by (slice_get old at)
-  where
-    by : (o : Option Pause) → NodeTicksIn at is_up old new due o → SetsIn Paused at old new o
-    by None s = s.0
-    by (Some p) s = (pause_after is_up p, (is_up, refl), s.0)
-
-pub all_paused : (at : ℕ) (old new : List Pause) → length old ≤ at → AreSet Paused at old new → HavePaused old new
-all_paused at old new all are i p e =
-    let was = all_set Paused at old new all are i p e in
-    (was.1.0, was.2 ∙ ap (λ (q : Pause). Some q) was.1.1)

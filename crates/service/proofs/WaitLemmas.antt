@@ -1,11 +1,11 @@
 -- What proxies wait for, as places are set.
-use Rattle.std.proofs.Common.{◌≡◌, ◌⊎◌, inl, inr, ⊎_elim, ℕ, zero, suc, Bool, true, false, List, [], ◌∷◌, Option, Some, None, refl, sym, ap, ◌∙◌, subst, length, slice_get, slice_set}
+use Rattle.std.proofs.Common.{◌≡◌, ◌⊎◌, inl, inr, ⊎_elim, ℕ, zero, suc, ◌-◌, Bool, true, false, List, [], ◌∷◌, Option, Some, None, refl, sym, ap, ◌∙◌, subst, length, slice_get, slice_set}
 use Rattle.std.specs.Prelude.{◌≢◌, ◌==◌, ◌&&◌, replicate, if◌then◌else◌}
 use Rattle.std.proofs.lemmas.Bool.{eqb-true}
 use Rattle.connections.proofs.PlaceLemmas.{set_other, same_or_not}
 use Rattle.service.specs.declared.assignment.Assignment.{Assignment}
 use Rattle.service.specs.declared.assignment.Outstanding.{Outstanding}
-use Rattle.service.specs.Service.{Waits}
+use Rattle.service.specs.Service.{WaitsAt}
 use Rattle.service.specs.Steps.{NoneWaits, KeepsWaits, AddsWait, EndsWait, is_request_of, assignment_of, owed_of, TakesOne, TakesWaitIn, TakesWaitAt, SetsWaitIn, SetsWaitAt}
 
 -- so many that wait for nothing
@@ -32,15 +32,18 @@ is_some_of : (p : Option Outstanding) (a : Assignment) → assignment_of p ≡ S
 is_some_of None a e = let s : ◌≡◌ {A = Option Assignment} None (Some a) = e in absurd (cc s)
 is_some_of (Some o) a e = (o, refl, let s : ◌≡◌ {A = Option Assignment} (Some o.assignment) (Some a) = e in cc s)
 
--- who waits after a place was set waited, or is there
-set_waits : (xs : List (Option Outstanding)) (i : ℕ) (p : Option Outstanding) (a : Assignment) → Waits (slice_set xs i p) a → Waits xs a ⊎ (assignment_of p ≡ Some a)
-set_waits xs i p a w = ⊎_elim
-    (λ (same : w.0 ≡ i). inr (some_is p w.1 a (sym (set_there xs i p (Some w.1) (subst (λ (k : ℕ). slice_get (slice_set xs i p) k ≡ Some (Some w.1)) same w.2))) w.3))
-    (λ (differs : w.0 ≢ i). inl (w.0, w.1, sym (set_other xs i p w.0 differs) ∙ w.2, w.3))
-    (same_or_not w.0 i)
+-- who waits at a place after one was set waited there, or was set there
+set_waits : (xs : List (Option Outstanding)) (i : ℕ) (p : Option Outstanding) (k : ℕ) (a : Assignment) → WaitsAt (slice_set xs i p) k a → WaitsAt xs k a ⊎ ((k ≡ i) × (assignment_of p ≡ Some a))
+set_waits xs i p k a w = ⊎_elim
+    (λ (same : k ≡ i). inr (same, some_is p w.0 a (sym (set_there xs i p (Some w.0) (subst (λ (n : ℕ). slice_get (slice_set xs i p) n ≡ Some (Some w.0)) same w.1))) w.2))
+    (λ (differs : k ≢ i). inl (w.0, sym (set_other xs i p k differs) ∙ w.1, w.2))
+    (same_or_not k i)
 
-pub adds_set : (xs : List (Option Outstanding)) (i : ℕ) (o : Outstanding) → AddsWait xs o.assignment (slice_set xs i (Some o))
-adds_set xs i o a w = ⊎_elim (λ (old : Waits xs a). inl old) (λ (new : assignment_of (Some o) ≡ Some a). inr (let s : ◌≡◌ {A = Option Assignment} (Some o.assignment) (Some a) = new in sym (cc s))) (set_waits xs i (Some o) a w)
+pub adds_set : (xs : List (Option Outstanding)) (i : ℕ) (o : Outstanding) → i ≡ o.assignment.proxy - 1 → AddsWait xs o.assignment (slice_set xs i (Some o))
+adds_set xs i o place k a w = ⊎_elim
+    (λ (old : WaitsAt xs k a). inl old)
+    (λ (new : (k ≡ i) × (assignment_of (Some o) ≡ Some a)). inr ((let s : ◌≡◌ {A = Option Assignment} (Some o.assignment) (Some a) = new.1 in sym (cc s)), new.0 ∙ place))
+    (set_waits xs i (Some o) k a w)
 
 abbrev of_owed : Option (ℕ × Assignment) → Option Assignment
 of_owed None = None
@@ -57,11 +60,11 @@ pub keeps_set : (xs ys : List (Option Outstanding)) (i : ℕ) → SetsWaitAt i x
 keeps_set xs ys i s = by (slice_get xs i) refl s
   where
     by : (o : Option (Option Outstanding)) → slice_get xs i ≡ o → SetsWaitIn i xs ys o → KeepsWaits xs ys
-    by None e s a w = subst (λ (zs : List (Option Outstanding)). Waits zs a) s w
-    by (Some place) e s a w = ⊎_elim
-        (λ (old : Waits xs a). old)
-        (λ (new : assignment_of s.0 ≡ Some a). let t = is_some_of place a (same_assignment place s.0 (sym s.1) ∙ new) in (i, t.0, e ∙ ap (λ (p : Option Outstanding). Some p) t.1, t.2))
-        (set_waits xs i s.0 a (subst (λ (zs : List (Option Outstanding)). Waits zs a) s.2 w))
+    by None e s k a w = subst (λ (zs : List (Option Outstanding)). WaitsAt zs k a) s w
+    by (Some place) e s k a w = ⊎_elim
+        (λ (old : WaitsAt xs k a). old)
+        (λ (new : (k ≡ i) × (assignment_of s.0 ≡ Some a)). let t = is_some_of place a (same_assignment place s.0 (sym s.1) ∙ new.1) in (t.0, ap (slice_get xs) new.0 ∙ (e ∙ ap (λ (p : Option Outstanding). Some p) t.1), t.2))
+        (set_waits xs i s.0 k a (subst (λ (zs : List (Option Outstanding)). WaitsAt zs k a) s.2 w))
 
 both_true : (a b : Bool) → (a && b) ≡ true → (a ≡ true) × (b ≡ true)
 both_true true b e = (refl, e)
@@ -71,19 +74,22 @@ pub ends_take : (xs ys : List (Option Outstanding)) (i proxy number : ℕ) (resu
 ends_take xs ys i proxy number result t = by (slice_get xs i) refl t
   where
     moved : (zs : List (Option Outstanding)) → zs ≡ xs → KeepsWaits xs zs
-    moved zs e a w = subst (λ (us : List (Option Outstanding)). Waits us a) e w
+    moved zs e k a w = subst (λ (us : List (Option Outstanding)). WaitsAt us k a) e w
 
     nothing : (r : Option Outstanding) → ys ≡ xs → r ≡ None → EndsWait xs proxy number ys r
     nothing r e none = subst (EndsWait xs proxy number ys) (sym none) (moved ys e)
 
     cleared : ys ≡ slice_set xs i None → KeepsWaits xs ys
-    cleared set a w = ⊎_elim (λ (old : Waits xs a). old) (λ (new : assignment_of None ≡ Some a). let s : ◌≡◌ {A = Option Assignment} None (Some a) = new in absurd (cc s)) (set_waits xs i None a (subst (λ (zs : List (Option Outstanding)). Waits zs a) set w))
+    cleared set k a w = ⊎_elim
+        (λ (old : WaitsAt xs k a). old)
+        (λ (new : (k ≡ i) × (assignment_of None ≡ Some a)). let s : ◌≡◌ {A = Option Assignment} None (Some a) = new.1 in absurd (cc s))
+        (set_waits xs i None k a (subst (λ (zs : List (Option Outstanding)). WaitsAt zs k a) set w))
 
     unset : (p : Option Outstanding) → slice_get xs i ≡ Some p → ys ≡ slice_set xs i p → KeepsWaits xs ys
-    unset p at set a w = ⊎_elim
-        (λ (old : Waits xs a). old)
-        (λ (new : assignment_of p ≡ Some a). let t = is_some_of p a new in (i, t.0, at ∙ ap (λ (q : Option Outstanding). Some q) t.1, t.2))
-        (set_waits xs i p a (subst (λ (zs : List (Option Outstanding)). Waits zs a) set w))
+    unset p at set k a w = ⊎_elim
+        (λ (old : WaitsAt xs k a). old)
+        (λ (new : (k ≡ i) × (assignment_of p ≡ Some a)). let t = is_some_of p a new.1 in (t.0, ap (slice_get xs) new.0 ∙ (at ∙ ap (λ (q : Option Outstanding). Some q) t.1), t.2))
+        (set_waits xs i p k a (subst (λ (zs : List (Option Outstanding)). WaitsAt zs k a) set w))
 
     by_some : (o : Outstanding) (b : Bool) (now : Option Outstanding) → is_request_of proxy number (Some o) ≡ b → slice_get xs i ≡ Some (Some o) → result ≡ (if b then Some o else None) → now ≡ (if b then None else Some o) → ys ≡ slice_set xs i now → EndsWait xs proxy number ys result
     by_some o true now is at r n set =

@@ -6,7 +6,7 @@ use Rattle.proto.specs.declared.reply.Reply as replies
 use Rattle.sessions.specs.declared.request.Request.{Request}
 use Rattle.connections.specs.declared.connections.CommandNumber.{CommandNumber}
 use Rattle.connections.specs.declared.said.Said.{Said}
-use Rattle.connections.specs.Connections.{ConnectionsView, bytes_of_connection, IsAnswered}
+use Rattle.connections.specs.Connections.{ConnectionsView, bytes_of_connection, WasReplied, IsAnswered}
 use Rattle.connections.specs.History.{Passed, heard_as, given_as, heard_among, given_among, moments_among}
 use Rattle.grammar.specs.declared.reader.Dialect.{Dialect}
 use Rattle.grammar.specs.Asks.{IsAskedIn}
@@ -111,6 +111,10 @@ pub record IsAssigned (v : ServiceView) (a : Assignment) : Type 0 where
   pub numbered : request.number ≡ a.number
   pub same : request.command ≡ command
 
+-- at this place the reply to this is waited for
+abbrev pub WaitsAt : List (Option Outstanding) → ℕ → Assignment → Type 0
+WaitsAt waiting i a = (o : Outstanding) × (slice_get waiting i ≡ Some (Some o)) × (o.assignment ≡ a)
+
 -- a proxy waits for the reply to this
 abbrev pub Waits : List (Option Outstanding) → Assignment → Type 0
 Waits waiting a = (i : ℕ) × (o : Outstanding) × (slice_get waiting i ≡ Some (Some o)) × (o.assignment ≡ a)
@@ -129,6 +133,10 @@ pub record IsService (v : ServiceView) : Type 0 where
   -- each earlier command of its connection was answered before a command was asked
   pub in_turn : (i : ℕ) (b : Assignment) → slice_get v.assignments i ≡ Some b → (turn : ℕ) → 1 ≤ turn → turn < b.turn → IsAnsweredEarlier v.assignments b.connection turn (before_ask i v.order)
   pub waits : (a : Assignment) → Waits v.waiting a → Contains v.assignments a
+  -- who waits is the proxy that asked. Proxies are numbered from 1
+  pub placed : (i : ℕ) (a : Assignment) → WaitsAt v.waiting i a → a.proxy ≡ suc i
+  -- no reply came back to a command for which a proxy waits
+  pub unreplied : (a : Assignment) → Waits v.waiting a → (reply : replies.Reply) → WasReplied v.connections.replied a.connection a.turn reply → ⊥
 
 -- the command of this number was asked as a request that was answered so, by then
 abbrev pub WasAnsweredBy : List Assignment → List ((ℕ × ℕ) × replies.Reply) → List ((ℕ × ℕ) × Noted) → ℕ → ℕ → replies.Reply → Type 0

@@ -1,5 +1,5 @@
 -- What proxies wait for, and how a command is asked.
-use Rattle.std.specs.Prelude.{◌≡◌, ◌⊎◌, ℕ, ◌≤◌, ◌==◌, ◌&&◌, Bool, false, List, [], ◌∷◌, ◌++◌, Option, Some, None, Contains, slice_get, slice_set, if◌then◌else◌}
+use Rattle.std.specs.Prelude.{◌≡◌, ◌⊎◌, ℕ, ◌-◌, ◌≤◌, ◌==◌, ◌&&◌, Bool, false, List, [], ◌∷◌, ◌++◌, Option, Some, None, Contains, slice_get, slice_set, if◌then◌else◌}
 use Rattle.proto.specs.declared.command.Command.{Command}
 use Rattle.connections.specs.declared.connections.CommandNumber.{CommandNumber}
 use Rattle.connections.specs.declared.places.Place.{Place}
@@ -15,7 +15,7 @@ use Rattle.service.specs.declared.assignment.Assignment.{Assignment}
 use Rattle.service.specs.declared.assignment.Outstanding.{Outstanding}
 use Rattle.service.specs.declared.asking.Asking.{Asking}
 use Rattle.service.specs.declared.asking.Asking.TheVariants.{Nothing, Asked, Failed}
-use Rattle.service.specs.Service.{Waits, given_entry, passed_entry}
+use Rattle.service.specs.Service.{WaitsAt, Waits, given_entry, passed_entry}
 use Rattle.service.specs.Owed.{WaitsNow}
 
 abbrev pub NoneWaits : List (Option Outstanding) → Type 0
@@ -57,13 +57,13 @@ SetsWaitAt at old new = SetsWaitIn at old new (slice_get old at)
 
 -- ---- all places
 
--- no proxy waits for what none waited for
+-- no proxy waits for what it did not wait for
 abbrev pub KeepsWaits : List (Option Outstanding) → List (Option Outstanding) → Type 0
-KeepsWaits old new = (a : Assignment) → Waits new a → Waits old a
+KeepsWaits old new = (i : ℕ) (a : Assignment) → WaitsAt new i a → WaitsAt old i a
 
--- one waits for this
+-- its proxy waits for this
 abbrev pub AddsWait : List (Option Outstanding) → Assignment → List (Option Outstanding) → Type 0
-AddsWait old added new = (a : Assignment) → Waits new a → Waits old a ⊎ (a ≡ added)
+AddsWait old added new = (i : ℕ) (a : Assignment) → WaitsAt new i a → WaitsAt old i a ⊎ ((a ≡ added) × (i ≡ added.proxy - 1))
 
 -- one waits no more, for this
 abbrev pub EndsWait : List (Option Outstanding) → ℕ → ℕ → List (Option Outstanding) → Option Outstanding → Type 0

@@ -1,14 +1,19 @@
 -- What a tick does of what waits, and of the nodes that stopped.
-use Rattle.std.specs.Prelude.{◌≡◌, ℕ, Bool, true, false, List, Option, Some, None, slice_get, slice_set}
+use Rattle.std.specs.Prelude.{◌≡◌, ◌≢◌, ℕ, ◌+◌, ◌-◌, ◌*◌, ◌<◌, Bool, true, false, nat_lt, List, Option, Some, None, length, slice_get, slice_set, if◌then◌else◌}
+use Rattle.events.specs.declared.event.Replica.{Replica}
+use Rattle.events.specs.declared.event.Replica.TheVariants.{Executor, Verifier}
 use Rattle.serving.specs.declared.patience.Patience.{Patience}
 use Rattle.serving.specs.declared.patience.Seen.{Seen}
 use Rattle.serving.specs.declared.patience.Urge.{Urge}
 use Rattle.serving.specs.declared.patience.Urge.TheVariants.{Wait, Again, Suspect}
 use Rattle.serving.specs.Patience.{urge_of, after_tick}
+use Rattle.ensemble.specs.Nodes.{NodesView}
+use Rattle.ensemble.specs.Shown.{is_up_at}
 use Rattle.service.specs.declared.assignment.Outstanding.{Outstanding}
 use Rattle.service.specs.declared.pause.Pause.{Pause}
 use Rattle.service.specs.Pause.{is_pause_over, after_up, after_down}
-use Rattle.service.specs.Service.{ServiceView}
+use Rattle.service.specs.Service.{ReplicasView, ServiceView}
+use Rattle.service.specs.Told.{UnlessRefused}
 
 -- ---- what waits
 
@@ -55,6 +60,29 @@ HaveWaited old new = (u : ℕ) × (seen : Seen) × AllHaveWaited u seen old new
 
 -- ---- nodes
 
+-- the node at this place: executors come first, then as many verifiers
+abbrev pub replica_at : ℕ → ℕ → Replica
+replica_at members at = if nat_lt at members then Executor at else Verifier (at - members)
+
+-- whether the node at this place is up
+abbrev pub is_up_in : NodesView → ℕ → Bool
+is_up_in n at = is_up_at n (replica_at (2 * n.u + 1) at)
+
+-- each of the 2u + 1 executors and of as many verifiers has a pause
+abbrev pub EachHasPause : ReplicasView → Type 0
+EachHasPause r = length r.pauses ≡ 2 * (2 * r.ensemble.nodes.u + 1)
+
+-- each node is up
+abbrev pub AreAllUpIn : ReplicasView → Type 0
+AreAllUpIn r = (at : ℕ) → at < length r.pauses → is_up_in r.ensemble.nodes at ≡ true
+
+-- There are 2u + 1 executors and as many verifiers, of this u, and each has a pause.
+pub record HavePauses (u : ℕ) (n : NodesView) (members : ℕ) (pauses : List Pause) : Type 0 where
+  pub few : u < 4
+  pub same : n.u ≡ u
+  pub members_are : members ≡ 2 * u + 1
+  pub each : length pauses ≡ 2 * members
+
 abbrev pub pause_after : Bool → Pause → Pause
 pause_after true p = after_up p
 pause_after false p = after_down p
@@ -75,6 +103,32 @@ NodeTicks at is_up old new due = NodeTicksIn at is_up old new due (slice_get old
 -- the pause of each node is that after a tick that found it up, or down
 abbrev pub HavePaused : List Pause → List Pause → Type 0
 HavePaused old new = (i : ℕ) (p : Pause) → slice_get old i ≡ Some p → (is_up : Bool) × (slice_get new i ≡ Some (pause_after is_up p))
+
+-- all nodes but the one at this place are up or down as before
+abbrev pub OthersStay : ℕ → NodesView → NodesView → Type 0
+OthersStay at n now = (other : ℕ) → other ≢ at → is_up_in now other ≡ is_up_in n other
+
+-- the node at this place is up, unless something was refused, if it was due. Else all nodes are as before
+abbrev pub IsOpenedIf : Bool → ℕ → ReplicasView → ReplicasView → Type 0
+IsOpenedIf true at old new = UnlessRefused old.refused new.refused (is_up_in new.ensemble.nodes at ≡ true)
+IsOpenedIf false at old new = new.ensemble.nodes ≡ old.ensemble.nodes
+
+-- A tick found the node at this place up or down, and its pause was this.
+pub record HasTicked (at : ℕ) (is_up : Bool) (p : Pause) (refused : ℕ) (now : ReplicasView) : Type 0 where
+  -- one that it found up is up
+  pub stays : is_up ≡ true → is_up_in now.ensemble.nodes at ≡ true
+  -- one that it found down is up if its pause had gone by, unless something was refused
+  pub opens : is_opened is_up p ≡ true → UnlessRefused refused now.refused (is_up_in now.ensemble.nodes at ≡ true)
+  -- else it is down
+  pub rests : is_up ≡ false → is_opened is_up p ≡ false → is_up_in now.ensemble.nodes at ≡ false
+
+-- the node at this place has this pause then
+abbrev pub NodeHasTicked : ℕ → Pause → ℕ → ReplicasView → Type 0
+NodeHasTicked at p refused now = (is_up : Bool) × (slice_get now.pauses at ≡ Some (pause_after is_up p)) × HasTicked at is_up p refused now
+
+-- all nodes have
+abbrev pub NodesHaveTicked : ReplicasView → ReplicasView → Type 0
+NodesHaveTicked old now = (at : ℕ) (p : Pause) → slice_get old.pauses at ≡ Some p → NodeHasTicked at p old.refused now
 
 -- ---- all
 

@@ -1,7 +1,8 @@
 //! The nodes that may have stopped.
 
-ghost use Rattle.std.specs.Prelude.{◌≡◌, ◌<◌, length};
-ghost use Rattle.service.specs.Ticks.{pause_after, is_opened, NodeTicks};
+ghost use Rattle.std.specs.Prelude.{◌≡◌, ◌<◌, ◌+◌, ◌*◌, IfOk, replicate};
+ghost use Rattle.service.specs.Pause.{first_pause};
+ghost use Rattle.service.specs.Ticks.{pause_after, is_opened, replica_at, NodeTicks};
 
 use crate::pause::Pause;
 use ensemble::Replica;
@@ -14,6 +15,7 @@ pub struct Nodes {
     pauses: Vec<Pause>,
     /// Of the requests for which nobody waits: they were outstanding when the process before this one ended.
     pub gone: Patience,
+    ghost few: { members < 8 },
 }
 
 impl Drop for Nodes {
@@ -51,15 +53,13 @@ impl Nodes {
     /// `2u + 1` executors and as many verifiers, none of which has stopped yet.
     pub fn new(alloc: Global, u: u8) -> Result<Nodes, AllocError>
         requires { u < 4 }
+        ensures members { IfOk result (λ nodes. nodes.members ≡ 2 * u + 1) }
+        ensures pauses { IfOk result (λ nodes. nodes.pauses.items ≡ replicate (2 * (2 * u + 1)) first_pause) }
     {
         let members = 2 * u + 1;
-        let mut pauses = Vec::new(alloc);
-        for _ in 0..2 * members {
-            pauses.push(Pause::new())?;
-        }
         Ok(Nodes {
             members,
-            pauses,
+            pauses: vec![in alloc; Pause::new(); usize::from(2 * members)]?,
             gone: patience_of_gone(),
         })
     }
@@ -70,15 +70,16 @@ impl Nodes {
     }
 
     /// How many nodes there are.
-    pub fn count(&self) -> usize
-        ensures { result ≡ length self.now.pauses.items }
+    pub fn count(&self) -> u8
+        ensures { result ≡ 2 * self.now.members }
     {
-        self.pauses.len()
+        2 * self.members
     }
 
     /// The node at this place.
-    pub fn replica(&self, at: usize) -> Replica {
-        let at = u8::try_from(at).unwrap_or(0);
+    pub fn replica(&self, at: u8) -> Replica
+        ensures { result ≡ replica_at self.now.members at }
+    {
         if at < self.members {
             Replica::Executor(at)
         } else {
@@ -87,10 +88,11 @@ impl Nodes {
     }
 
     /// A tick that finds the node at this place up or down: whether it is to be opened now.
-    pub fn tick(&mut self, at: usize, is_up: bool) -> bool
-        ensures { NodeTicks at is_up self.old.pauses.items self.new.pauses.items result }
+    pub fn tick(&mut self, at: u8, is_up: bool) -> bool
+        ensures ticks { NodeTicks at is_up self.old.pauses.items self.new.pauses.items result }
+        ensures members { self.new.members ≡ self.old.members }
     {
-        match self.pauses.get_mut(at) {
+        match self.pauses.get_mut(usize::from(at)) {
             Some(pause) => tick_one(pause, is_up),
             None => false,
         }

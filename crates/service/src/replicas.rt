@@ -26,7 +26,7 @@ pub fn note_node(figures: &mut Figures, replica: Replica, is_up: bool) {
 
 impl Service {
     /// Shows the replica at this place.
-    fn show_node(&self, figures: &mut Figures, at: usize) {
+    fn show_node(&self, figures: &mut Figures, at: u8) {
         let replica = self.nodes.replica(at);
         note_node(figures, replica, self.ensemble.is_up(replica));
     }

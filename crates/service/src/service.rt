@@ -48,6 +48,7 @@ impl Model for Service {
     ghost use Rattle.ensemble.specs.contracts.ensemble.Ensemble as of_ensemble;
     ghost use Rattle.service.specs.Service.{ServiceView, IsService, HasMoments, assigned, none_shown, service_code};
     ghost use Rattle.service.specs.Owed.{Remembers};
+    ghost use Rattle.service.specs.Ticks.{HavePauses};
 
     ghost Value = { ServiceView };
 
@@ -56,7 +57,7 @@ impl Model for Service {
     ghost view = { λ s. record { connections = s.connections; asked = s.ensemble.asked; answered = s.ensemble.answered; order = s.ensemble.order; assignments = assigned s.assignments.items; waiting = s.pool; line = s.line.items; replicas = record { ensemble = s.ensemble; refused = s.refused + s.ensemble.refused; pauses = s.nodes.pauses.items } } };
 
     ghost invariant = { λ s. IsService (record { connections = s.connections; asked = s.ensemble.asked; answered = s.ensemble.answered; order = s.ensemble.order; assignments = assigned s.assignments.items; waiting = s.pool; line = s.line.items; replicas = none_shown })
-        × HasMoments (record { connections = s.connections; asked = s.ensemble.asked; answered = s.ensemble.answered; order = s.ensemble.order; assignments = assigned s.assignments.items; waiting = s.pool; line = s.line.items; replicas = none_shown }) × (s.u < 4) × Remembers s.line.items s.pool s.connections.table };
+        × HasMoments (record { connections = s.connections; asked = s.ensemble.asked; answered = s.ensemble.answered; order = s.ensemble.order; assignments = assigned s.assignments.items; waiting = s.pool; line = s.line.items; replicas = none_shown }) × HavePauses s.u s.ensemble.nodes s.nodes.members s.nodes.pauses.items × Remembers s.line.items s.pool s.connections.table };
 }
 
 impl Service {
@@ -73,6 +74,7 @@ impl Service {
     ghost use Rattle.ensemble.specs.First.{AreAllUp};
     ghost use Rattle.service.specs.Steps.{NoneWaits};
     ghost use Rattle.service.specs.Owed.{AllWait, IsFreeIn};
+    ghost use Rattle.service.specs.Ticks.{AreAllUpIn, EachHasPause};
 
     /// A service where no connection came, over `2u + 1` executors, as many verifiers, and as many proxies as
     /// the config has clients. What connections send is read in this grammar.
@@ -86,8 +88,9 @@ impl Service {
         ensures up { IfOk result (λ s. AreAllUp config.now.u config.now.clients s.replicas.ensemble.nodes) }
         ensures found { IfOk result (λ s. s.replicas.ensemble.found ≡ None) }
     {
+        let u = config.u();
         let pool = Pool::new(alloc, config.clients())?;
-        let nodes = Nodes::new(alloc, config.u())?;
+        let nodes = Nodes::new(alloc, u)?;
         let members = nodes.members();
         let ensemble = Ensemble::open(alloc, config)?;
         Ok(Service {
@@ -96,7 +99,7 @@ impl Service {
             line: VecDeque::new(alloc),
             pool,
             nodes,
-            u: config.u(),
+            u,
             suspicions: 0,
             counting: Counting::new(members),
             refused: 0,
@@ -206,6 +209,7 @@ impl Service {
     /// Whether something waits for a tick: a request is not answered, or a node is down.
     pub fn is_waiting(&self) -> bool
         ensures no { result ≡ false → (self.now.line ≡ []) × NoneWaits self.now.waiting }
+        ensures up { result ≡ false → AreAllUpIn self.now.replicas }
     {
         if !self.line.is_empty() {
             return true;
@@ -278,6 +282,7 @@ impl Service {
         ensures own { IsServiceAlone self.now }
         ensures ensemble { IsEnsembleAfter self.now.replicas.ensemble.found self.now.replicas.ensemble }
         ensures process { IsProcess self.now }
+        ensures pauses { EachHasPause self.now.replicas }
     {
         self.connections.always();
         self.ensemble.shows();

@@ -66,14 +66,21 @@ fn tick_at(
 impl Service {
     ghost use Rattle.std.specs.Prelude.{◌≡◌, ◌<◌, ◌≤◌, Bool, true, false, slice_get};
     ghost use Rattle.ensemble.specs.Nodes.{size_of};
-    ghost use Rattle.ensemble.specs.Shown.{is_up_at};
-    ghost use Rattle.service.specs.Told.{UnlessRefused};
-    ghost use Rattle.service.specs.Ticks.{waited_on, SetsPatience, HaveWaited, NodeTicks, HavePaused, HasSameAsked};
+    ghost use Rattle.service.specs.Ticks.{waited_on, is_up_in, SetsPatience, HaveWaited, NodeTicks, IsOpenedIf, OthersStay, HavePaused, NodesHaveTicked, HasSameAsked, AreAllUpIn};
+
+    /// Whether the node at this place is up.
+    fn is_node_up(&self, at: u8) -> bool
+        ensures { result ≡ is_up_in self.now.replicas.ensemble.nodes at }
+    {
+        self.ensemble.is_up(self.nodes.replica(at))
+    }
 
     /// Whether a node is down.
-    pub(crate) fn is_any_down(&self) -> bool {
+    pub(crate) fn is_any_down(&self) -> bool
+        ensures { result ≡ false → AreAllUpIn self.now.replicas }
+    {
         for at in 0..self.nodes.count() {
-            if !self.ensemble.is_up(self.nodes.replica(at)) {
+            if !self.is_node_up(at) {
                 return true;
             }
         }
@@ -93,14 +100,16 @@ impl Service {
     }
 
     /// Opens the node at this place again if it is down and its pause has gone by.
-    fn tick_node(&mut self, alloc: Global, at: usize, replica: Replica)
+    fn tick_node(&mut self, alloc: Global, at: u8)
         ensures connections { self.new.connections ≡ self.old.connections }
         ensures size { size_of self.new.replicas.ensemble.nodes ≡ size_of self.old.replicas.ensemble.nodes }
         ensures asks { HasSameAsked self.old self.new }
         ensures waiting { self.new.waiting ≡ self.old.waiting }
-        ensures paused { (due : Bool) × NodeTicks at (is_up_at self.old.replicas.ensemble.nodes replica) self.old.replicas.pauses self.new.replicas.pauses due × (due ≡ true → UnlessRefused self.old.replicas.refused self.new.replicas.refused (is_up_at self.new.replicas.ensemble.nodes replica ≡ true)) }
+        ensures ticks { (due : Bool) × NodeTicks at (is_up_in self.old.replicas.ensemble.nodes at) self.old.replicas.pauses self.new.replicas.pauses due × IsOpenedIf due at self.old.replicas self.new.replicas }
+        ensures others { OthersStay at self.old.replicas.ensemble.nodes self.new.replicas.ensemble.nodes }
         ensures counted { self.old.replicas.refused ≤ self.new.replicas.refused }
     {
+        let replica = self.nodes.replica(at);
         let is_up = self.ensemble.is_up(replica);
         note_node(&mut self.counting.conditions.figures, replica, is_up);
         if self.nodes.tick(at, is_up) {
@@ -115,16 +124,15 @@ impl Service {
         ensures size { size_of self.new.replicas.ensemble.nodes ≡ size_of self.old.replicas.ensemble.nodes }
         ensures asks { HasSameAsked self.old self.new }
         ensures waiting { self.new.waiting ≡ self.old.waiting }
-        ensures paused { HavePaused self.old.replicas.pauses self.new.replicas.pauses }
+        ensures nodes { NodesHaveTicked self.old.replicas self.new.replicas }
         ensures counted { self.old.replicas.refused ≤ self.new.replicas.refused }
     {
         for at in 0..self.nodes.count() {
-            let replica = self.nodes.replica(at);
-            self.tick_node(alloc, at, replica);
+            self.tick_node(alloc, at);
         }
     }
 
-    /// TellsMore the next verifier that the leader is suspected. They take turns, from the second one on.
+    /// Tells the next verifier that the leader is suspected. They take turns, from the second one on.
     fn suspect(&mut self, alloc: Global)
         ensures connections { self.new.connections ≡ self.old.connections }
         ensures size { size_of self.new.replicas.ensemble.nodes ≡ size_of self.old.replicas.ensemble.nodes }
@@ -226,21 +234,35 @@ impl Service {
         urge == Urge::Suspect
     }
 
-    /// A tick, ten of which come in a second while something waits (`is_waiting`), also while requests come: a
-    /// proxy that waits for long asks again, and then suspects the leader; a node that stopped is opened
-    /// again. No new command is asked. `work` is to come after it.
-    pub fn tick(&mut self, alloc: Global)
+    /// What is due of all that was asked and not answered.
+    fn tick_asked(&mut self, alloc: Global)
         ensures connections { self.new.connections ≡ self.old.connections }
         ensures size { size_of self.new.replicas.ensemble.nodes ≡ size_of self.old.replicas.ensemble.nodes }
         ensures asks { HasSameAsked self.old self.new }
         ensures waited { HaveWaited self.old.waiting self.new.waiting }
-        ensures paused { HavePaused self.old.replicas.pauses self.new.replicas.pauses }
+        ensures paused { self.new.replicas.pauses ≡ self.old.replicas.pauses }
         ensures counted { self.old.replicas.refused ≤ self.new.replicas.refused }
     {
         let is_suspected = self.tick_proxies(alloc);
         if self.tick_gone(alloc) || is_suspected {
             self.suspect(alloc);
         }
+    }
+
+    /// A tick, ten of which come in a second while something waits (`is_waiting`), also while requests come: a
+    /// proxy that waits for long asks again, and then suspects the leader; a node that it finds down is opened again
+    /// once its pause has gone by, and is up then, unless memory was refused, which is counted (`refused`). A node that
+    /// it finds up is up. No new command is asked. `work` is to come after it.
+    pub fn tick(&mut self, alloc: Global)
+        ensures connections { self.new.connections ≡ self.old.connections }
+        ensures size { size_of self.new.replicas.ensemble.nodes ≡ size_of self.old.replicas.ensemble.nodes }
+        ensures asks { HasSameAsked self.old self.new }
+        ensures waited { HaveWaited self.old.waiting self.new.waiting }
+        ensures paused { HavePaused self.old.replicas.pauses self.new.replicas.pauses }
+        ensures nodes { NodesHaveTicked self.old.replicas self.new.replicas }
+        ensures counted { self.old.replicas.refused ≤ self.new.replicas.refused }
+    {
+        self.tick_asked(alloc);
         self.tick_nodes(alloc);
     }
 }

@@ -154,7 +154,7 @@ function show(f) {
   const failing = f.saves.failing > 0, behind = f.saves.folders - f.saves.current_folders, troubles = [];
   if (down) troubles.push(down + (down > 1 ? " nodes are down" : " node is down"));
   if (failing) troubles.push("nothing is answered: the last save failed");
-  else if (behind > 0) troubles.push(behind + " of " + f.saves.folders + " folders lack the last save");
+  else if (behind > 0) troubles.push("the last save is in " + f.saves.current_folders + " of " + f.saves.folders + " folders");
   at("state").textContent = troubles.join("; ") || "all nodes are up";
   at("state").className = troubles.length ? "bad" : "good";
   at("version").textContent = f.server.version;

@@ -27,7 +27,7 @@ invariant_of-self-2 c =
     let now : ServiceView = record v { connections = c.answer_to.new.connections; waiting = c.answered.new.self; line = c.answer_to.new.line.items } in
     let o = c.in-Some.outstanding in
     let back = gives_back _ c.args.answer.proxy c.args.answer.number s.pool c.answered.new.self o c.in-Some.ensures.at in
-    let ok = lined (record v { connections = c.answer_to.new.connections; waiting = c.answered.new.self }) c.answer_to.new.line.items (replied_keeps v c.answer_to.new.connections c.answered.new.self o c.args.answer.proxy c.args.answer.number c.args.answer.reply _ _ c.self.invariant.0 logged ordered c.in-Some.ensures.ends c.answer_to.ensures.answers) in
+    let ok = lined (record v { connections = c.answer_to.new.connections; waiting = c.answered.new.self }) c.answer_to.new.line.items (replied_keeps v c.answer_to.new.connections c.answered.new.self o c.args.answer.proxy c.args.answer.number c.args.answer.reply _ _ c.self.invariant.0 logged ordered c.in-Some.ensures.ends back c.answer_to.ensures.answers) in
     (ok, answered_moments v now _ _ c.self.invariant.1 c.answer_to.ensures.answers.dialect refl refl refl c.answer_to.ensures.answers.gives (moment_now now ok c.always.ensures.connections c.always.ensures.history (given_handed v v.order c.answer_to.new.connections _ _ c.self.invariant.1 refl (gives_one s.connections c.answer_to.new.connections _ _ c.answer_to.ensures.answers.gives))), c.self.invariant.2, c.answer_to.ensures.remembers s.pool c.answered.new.self back c.self.invariant.3)
 
 pub returns-clause-given : goal.returns-clause-given

@@ -8,7 +8,8 @@ use Rattle.connections.specs.declared.said.Said.{Said}
 use Rattle.service.specs.Told.{TellsIn}
 use Rattle.service.proofs.ToldLemmas.{assign_tells, shorter, tells_same}
 use Rattle.service.proofs.MomentLemmas.{assigned_moments, given_handed, asked_moments, moment_now}
-use Rattle.service.proofs.KeepLemmas.{assign_keeps, assign_gives, lined, asks_same}
+use Rattle.service.proofs.KeepLemmas.{assign_keeps, assign_gives, assign_size, lined, asks_same}
+use Rattle.service.proofs.NodeLemmas.{size_keeps}
 use Rattle.service.proofs.OwedLemmas.{assign_remembers}
 use Rattle.service.proofs.service.Service.assign.Goals as goal
 
@@ -31,9 +32,9 @@ invariant_of-self-2 c =
     let line = c.pop_front.new.self.items in
     let now : ServiceView = record { connections = next; asked = f.asked; answered = f.answered; order = f.order; assignments = assigned c.settle.new.assignments.items; waiting = c.settle.new.pool; line = line; replicas = none_shown } in
     let popped : s.line.items ≡ w ∷ line = c.in-Some-pop_front.ensures.items in
-    let ok = assign_keeps v _ _ next s.ensemble f c.ask-asking.result s.pool c.settle.new.pool (assigned c.settle.new.assignments.items) _ _ w.at.key line c.self.invariant.0 refl refl refl refl c.ask-asking.ensures.asks c.settle.ensures in
+    let ok = assign_keeps v _ _ next s.ensemble f c.ask-asking.result s.pool c.settle.new.pool (assigned c.settle.new.assignments.items) _ _ w.at.key line c.self.invariant.0 refl refl refl refl c.in-Some.ensures.pool c.ask-asking.ensures.asks c.settle.ensures in
     let remembers = assign_remembers line w s.pool c.settle.new.pool s.connections next c.in-Some.proxy s.ensemble f c.ask-asking.result _ _ _ _ c.in-Some.ensures.pool c.ask-asking.ensures.asks c.settle.ensures (subst (λ (l : List Waiting). Remembers l s.pool s.connections.table) popped c.self.invariant.3) in
-    (ok, assigned_moments v now _ _ s.ensemble f c.ask-asking.result s.pool _ _ w.at.key c.self.invariant.1 refl refl refl refl c.ask-asking.ensures.asks c.settle.ensures (moment_now now ok c.always.ensures.connections c.always.ensures.history (given_handed v f.order next _ _ c.self.invariant.1 (asked_moments _ _ _ next s.ensemble f c.ask-asking.result c.ask-asking.ensures.asks) (assign_gives _ _ s.connections next s.ensemble f c.ask-asking.result s.pool c.settle.new.pool _ (assigned c.settle.new.assignments.items) _ _ w.at.key c.ask-asking.ensures.asks c.settle.ensures))), c.self.invariant.2, remembers)
+    (ok, assigned_moments v now _ _ s.ensemble f c.ask-asking.result s.pool _ _ w.at.key c.self.invariant.1 refl refl refl refl c.ask-asking.ensures.asks c.settle.ensures (moment_now now ok c.always.ensures.connections c.always.ensures.history (given_handed v f.order next _ _ c.self.invariant.1 (asked_moments _ _ _ next s.ensemble f c.ask-asking.result c.ask-asking.ensures.asks) (assign_gives _ _ s.connections next s.ensemble f c.ask-asking.result s.pool c.settle.new.pool _ (assigned c.settle.new.assignments.items) _ _ w.at.key c.ask-asking.ensures.asks c.settle.ensures))), size_keeps s.u s.nodes.members s.ensemble.nodes f.nodes s.nodes.pauses.items c.self.invariant.2 (assign_size w.at c.in-Some.proxy s.connections next s.ensemble f c.ask-asking.result c.ask-asking.ensures.asks), remembers)
 
 pub returns-clause-tells : goal.returns-clause-tells
 returns-clause-tells c =

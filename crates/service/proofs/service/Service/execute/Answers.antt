@@ -3,6 +3,7 @@ use Rattle.ensemble.specs.Ensemble.{moment_entry}
 use Rattle.service.specs.Service.{ServiceView, none_shown, assigned, IsPassedNow}
 use Rattle.service.proofs.MomentLemmas.{worked_moments}
 use Rattle.service.proofs.KeepLemmas.{worked_keeps, are_logged}
+use Rattle.service.proofs.NodeLemmas.{size_keeps}
 use Rattle.service.proofs.service.Service.execute.Goals as goal
 
 pub invariant_of-self : goal.invariant_of-self
@@ -12,7 +13,7 @@ invariant_of-self g c =
     let now : IsPassedNow s.connections.passed c.args.moment = subst (λ (x : ServiceView). IsPassedNow x.connections.passed c.args.moment) (sym c.self.view_is) c.requires in (
       worked_keeps v c.work.new.self.asked c.work.new.self.answered c.work.new.self.order c.args.moment c.work.result.items c.self.invariant.0 c.work.ensures.asked c.work.ensures.answered c.work.ensures.order,
       worked_moments v c.work.new.self.asked c.work.new.self.answered c.work.new.self.order c.args.moment c.work.result.items c.self.invariant.1 c.work.ensures.answered c.work.ensures.order now,
-      c.self.invariant.2,
+      size_keeps s.u s.nodes.members s.ensemble.nodes c.work.new.self.nodes s.nodes.pauses.items c.self.invariant.2 c.work.ensures.size,
       c.self.invariant.3,
     )
 

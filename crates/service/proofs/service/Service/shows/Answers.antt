@@ -1,6 +1,7 @@
-use Rattle.std.proofs.Common.{rules, ◌+◌, refl, subst}
+use Rattle.std.proofs.Common.{rules, ◌+◌, refl, subst, arith}
 use Rattle.service.specs.Service.{ServiceView, none_shown, assigned}
 use Rattle.service.specs.Process.{IsServiceAlone, IsProcess}
+use Rattle.service.specs.Ticks.{EachHasPause}
 use Rattle.service.proofs.KeepLemmas.{seen}
 use Rattle.service.proofs.Ending.{own_after}
 use Rattle.service.proofs.service.Service.shows.Goals as goal
@@ -20,8 +21,13 @@ returns c =
       same_answered = refl;
       same_order = refl;
     } in
+    let each = c.self.invariant.2.each in
+    let members = c.self.invariant.2.members_are in
+    let same = c.self.invariant.2.same in
+    let paused : EachHasPause v.replicas = omega (arith, each, members, same) in
     record {
       own = subst IsServiceAlone c.self.view_is own;
       ensemble = search rules;
       process = subst IsProcess c.self.view_is (own_after v own c.shows.ensures);
+      pauses = subst (λ (x : ServiceView). EachHasPause x.replicas) c.self.view_is paused;
     }

@@ -1,7 +1,7 @@
 use Rattle.std.proofs.Common.{◌≡◌, ◌≤◌}
 use Rattle.ensemble.specs.Nodes.{size_of}
 use Rattle.service.specs.Ticks.{HasSameAsked}
-use Rattle.service.proofs.TickLemmas.{Paused, AreSet}
+use Rattle.service.proofs.NodeLemmas.{HaveTickedBelow}
 use Rattle.service.proofs.service.Service.tick_nodes.Given as goal
 
 abbrev pub invariant-loop-at : goal.invariant-loop-at
@@ -11,5 +11,5 @@ invariant-loop-at l = record {
   asks : HasSameAsked l.initial.self l.self;
   waiting : l.self.waiting ≡ l.initial.self.waiting;
   counted : l.initial.self.replicas.refused ≤ l.self.replicas.refused;
-  paused : AreSet Paused l.at l.initial.self.replicas.pauses l.self.replicas.pauses;
+  ticked : HaveTickedBelow l.at l.initial.self.replicas l.self.replicas;
 }
