@@ -77,7 +77,7 @@ best-from known ps (suc n) b e = ⊎_elim
 abbrev best_of : ℕ → VerifierState → Option (ℕ × Decree)
 best_of u s = best_below (known s) s.promises (member_count u)
 
--- what may be proposed where nothing was accepted
+-- what may be proposed if nothing was accepted
 abbrev fresh_of : ℕ → VerifierState → Option Decree
 fresh_of u s = by_verdict ((stands s).n + 1) s.doubt (verdict u (stands s) s.votes)
 

@@ -110,7 +110,7 @@ found_among u all w p d (l ∷ ls) v e (there h) = let r = found_among u all w p
 chosen_at-says : (u : ℕ) (ls : Letters) (p : ℕ) (d : Decree) → chosen_at u ls p ≡ Some d → Chosen u ls p d
 chosen_at-says u ls p d e = chosen_among-says u ls p ls d e
 
--- and where a decree is chosen, one is computed
+-- and if a decree is chosen, one is computed
 chosen_at-some : (u : ℕ) (ls : Letters) (p : ℕ) (d : Decree) → Chosen u ls p d → (x : Decree) × (chosen_at u ls p ≡ Some x)
 chosen_at-some u ls p d c =
     let s = Quorum-someone c.1 in
@@ -131,7 +131,7 @@ place_below_last (l ∷ ls) w p d v (there h) =
 pub chosen_below_last : (u : ℕ) (ls : Letters) (p : ℕ) (d : Decree) → Chosen u ls p d → p ≤ last_place ls
 chosen_below_last u ls p d c = let s = Quorum-someone c.1 in place_below_last ls c.0 p d s.0 s.1
 
--- the list is that of a first decree and of the rest, where the place has a decree
+-- the list is that of a first decree and of the rest, if the place has a decree
 from_first : (u : ℕ) (ls : Letters) (p : ℕ) (o : Option Decree) (rest : List Decree) (i : ℕ) (d : Decree) → chosen_at u ls p ≡ o → ((k : ℕ) → slice_get rest k ≡ Some d → Chosen u ls ((p + 1) + k) d) → slice_get (before_gap o rest) i ≡ Some d → Chosen u ls (p + i) d
 from_first u ls p None rest i d is later h = absurd (cc)
 from_first u ls p (Some x) rest zero d is later h =

@@ -25,7 +25,7 @@ shared f g (suc n) h =
     (λ (a : f n ≡ false). let r = shared f g n (omega (arith, count_false f n a, count_up g n)) in (r.0, omega (arith, r.1), r.2, r.3))
     (cases_Bool (f n))
 
--- some number passes where the count is above 0
+-- some number passes if the count is above 0
 someone : (f : ℕ → Bool) (n : ℕ) → 0 < count_below f n → (v : ℕ) × (v < n) × (f v ≡ true)
 someone f zero h = absurd (omega arith)
 someone f (suc n) h =
@@ -70,7 +70,7 @@ count_rest f (suc n) = ⊎_elim
     (λ (t : f n ≡ false). omega (arith, count_rest f n, count_false f n t, count_true (λ v. not (f v)) n (ap not t)))
     (cases_Bool (f n))
 
--- where at most u are lost, a quorum has a member that is not
+-- if at most u are lost, a quorum has a member that is not
 pub Quorum-outside : {u : ℕ} {P : ℕ → Type 0} (lost : ℕ → Bool) → count_below lost (member_count u) ≤ u → Quorum u P → (v : ℕ) × (v < member_count u) × IsTrue (not (lost v)) × P v
 Quorum-outside {u} {P} lost few p =
     let s = shared (λ v. not (lost v)) p.member (member_count u) (omega (arith, Quorum-enough p, count_rest lost (member_count u))) in

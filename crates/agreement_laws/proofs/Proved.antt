@@ -52,7 +52,7 @@ list_chosen u ls p d e =
     let at : 1 + (p - 1) ≡ p = omega (arith, i.0) in
     subst (λ z. Chosen u ls z d) at (chosen_from-says u ls 1 (last_place ls) (p - 1) d i.1)
 
--- and each chosen decree stands in it
+-- and each chosen decree is in it
 pub chosen_listed : {u : ℕ} {ls : Letters} → LettersOk u ls → (p : ℕ) (d : Decree) → Chosen u ls p d → decree_at (chosen u ls) p ≡ Some d
 chosen_listed {u} {ls} ok p d c =
     let low = chosen_above ok p d c in

@@ -128,7 +128,7 @@ must_repeat = proposed ++ comes 2 ∷ comes 3 ∷ Suspect 1 Done ∷ comes 12 �
 repeats : chosen 1 (letters_of 1 must_repeat) ≡ commit ∷ []
 repeats = refl
 
--- The same, where verifier 1 was opened again between (if a record had not what was accepted, a Rollback would be chosen too).
+-- The same, if verifier 1 was opened again between (if a record had not what was accepted, a Rollback would be chosen too).
 abbrev must_remember : List Event
 must_remember = proposed ++ comes 2 ∷ comes 3 ∷ Crash 1 ∷ opens 1 ∷ Suspect 1 Done ∷ comes 14 ∷ comes 15 ∷ comes 16 ∷ comes 17 ∷ []
 

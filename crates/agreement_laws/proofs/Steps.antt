@@ -1,4 +1,4 @@
--- Each line of a verifier keeps what holds, also where the verifier stops in it.
+-- Each line of a verifier keeps what holds, also if the verifier stops in it.
 use Rattle.std.proofs.Common.{◌≡◌, ℕ, suc, ◌+◌, ◌-◌, ◌*◌, ◌%◌, ◌≤◌, Bool, true, false, not, ◌&&◌, ◌||◌, List, [], ◌∷◌, ◌++◌, take, drop, Option, Some, None, slice_get, inr, refl, sym, subst, ⊎_elim, arith, append_assoc, is_some}
 use Rattle.std.specs.Prelude.{◌==◌, nat_lt, nat_le}
 use Rattle.std.proofs.lemmas.Bool.{and_parts, eqb-true, ltb-true, ltb-false, leb-false, cond_both, false≢true}

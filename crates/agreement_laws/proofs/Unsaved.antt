@@ -20,7 +20,7 @@ use Rattle.verifier.specs.Lines.{learn, proposal, proposing, try_to_propose, vot
 use Rattle.verifier.specs.Step.{of_executor, of_verifier, received, step}
 use Rattle.agreement_laws.specs.Letters.{Letters}
 
--- the record of this state is still that of the outcome's, where nothing is saved
+-- the record of this state is still that of the outcome's, if nothing is saved
 abbrev pub KeepsRecord : VerifierState → OutcomeView → Type 0
 KeepsRecord s o = o.saves ≡ false → down o.state ≡ down s
 

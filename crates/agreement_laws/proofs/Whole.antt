@@ -1,4 +1,4 @@
--- Where no verifier is told to forget, none does: each has its whole log, and none tells what stands at a start.
+-- If no verifier is told to forget, none does: each has its whole log, and none tells what stands at a start.
 use Rattle.std.proofs.Common.{◌≡◌, ℕ, ◌+◌, Bool, true, false, ◌||◌, List, [], ◌∷◌, ◌++◌, Option, Some, None, refl, ⊎_elim, arith, drop, take, nat_le}
 use Rattle.std.specs.Prelude.{◌==◌, nat_lt}
 use Rattle.std.proofs.lemmas.Bool.{cond_both, leb-true, eqb-false}

@@ -36,7 +36,7 @@ recorded (Stopped saved) = Some saved
 abbrev pub record_of : List VerifierSlot → ℕ → Option VerifierState
 record_of slots v = option_and_then recorded (slice_get slots v)
 
--- the decree stands at its place in the log, or is the accepted one of the place after it
+-- the decree is at its place in the log, or is the accepted one of the place after it
 abbrev pub Holds : VerifierState → ℕ → Decree → Type 0
 Holds s place d = (decree_of s place ≡ Some d) ⊎ ((place ≡ next_place s) × ((view : ℕ) × (s.accepted ≡ Some (view, d))))
 
@@ -108,7 +108,7 @@ pub record IsBackedList (u : ℕ) (events : List Event) : Type 0 where
 abbrev pub ListIsBacked : Type 0
 ListIsBacked = (u : ℕ) (events : List Event) → IsBackedList u events
 
--- what a record has is of the list: what stands at its start, and the decrees after that
+-- what a record has is of the list: what is at its start, and the decrees after that
 pub record IsOfList (chosen : List Decree) (s : VerifierState) : Type 0 where
   pub before : List Decree
   pub more : List Decree

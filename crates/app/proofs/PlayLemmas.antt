@@ -1,4 +1,4 @@
--- What holds of the bytes that were read, where those are known.
+-- What holds of the bytes that were read, if those are known.
 use Rattle.std.proofs.Common.{◌≡◌, ◌⊎◌, ℕ, List, Option, Some, None, ⊎_elim, sym, subst}
 use Rattle.std.specs.Prelude.{IfSome}
 use Rattle.std.specs.Io.KnownBytes.{Appends}

@@ -78,7 +78,7 @@ module _ {K X : Type 0} {R : K → K → Ordering} (o : IsTotalOrder R) where
   rises (e ∷ es) h zero (suc j) d l g = less_than_all e.0 es (and_parts _ _ h).0 j d (omega arith)
   rises (e ∷ es) h (suc i) (suc j) d l g = rises es (and_parts _ _ h).1 i j d (omega arith) (omega arith)
 
-  -- where the entry at place i has the key, those before it are below
+  -- if the entry at place i has the key, those before it are below
   pub below_at : (es : List (K × X)) → is_sorted R es ≡ true → (k : K) (i : ℕ) → i < length es → ((d : K × X) → R (get_or es i d).0 k ≡ Equal) → Below es k i
   below_at es h k i l tie j d g = sym (alike_right o (get_or es i d).0 k (get_or es j d).0 (tie d)) ∙ rises es h j i d g l
 

@@ -97,7 +97,7 @@ none_past : (sessions : Replies) (rs : List Request) → list_all (waits_on sess
 none_past sessions [] h = refl
 none_past sessions (r ∷ rs) h = rw ((and_parts (not (is_next sessions r)) _ (and_parts _ _ h).0).1) (ap (λ xs. r ∷ xs) (none_past sessions rs (and_parts _ _ h).1))
 
--- where all wait on, none is taken, and all are left
+-- if all wait on, none is taken, and all are left
 pub none_taken : (limit : ℕ) (sessions : Replies) (waiting : List Request) → list_all (waits_on sessions) waiting ≡ true → taken limit sessions waiting ≡ []
 none_taken limit sessions waiting h = ap (take limit) (none_next sessions waiting h) ∙ take_none limit
 

@@ -28,7 +28,7 @@ and_true true h = h
 and_true false h = refl
 
 module _ (p q : Request → Bool) where
-  -- what stays, where up to k that pass p are taken, and those that pass q are dropped
+  -- what stays, if up to k that pass p are taken, and those that pass q are dropped
   abbrev pub staying : ℕ → List Request → List Request
   staying k [] = []
   staying k (r ∷ rs) = cond (nat_lt 0 k && p r) (staying (k - 1) rs) (cond (q r) (staying k rs) (r ∷ staying k rs))

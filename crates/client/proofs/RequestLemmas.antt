@@ -1,4 +1,4 @@
--- A request is told by its fields.
+-- A request is identified by its fields.
 use Rattle.std.proofs.Common.{◌≡◌, ℕ, suc, zero, ◌+◌, ◌≤◌, refl, subst, ap, sym, ◌∙◌, arith}
 use Rattle.std.proofs.Math.Bridge.{le_prop}
 use Rattle.proto.specs.declared.command.Command.{Command}

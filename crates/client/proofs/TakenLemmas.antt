@@ -135,7 +135,7 @@ module _ (P : ℕ → replies.Reply → Type 0) where
   stays_ok : (c : ℕ) (all : List ℕ) (hung : Bool) (t : Talk) (given : List ℕ) → TalkOk P c all hung t given → TalkOk P c all hung t (given ++ [])
   stays_ok c all hung t given ok = subst (TalkOk P c all hung t) (sym (append-nil given)) ok
 
-  -- where something is outstanding it is not closed
+  -- if something is outstanding it is not closed
   pub going_on : (c : ℕ) (all : List ℕ) (hung : Bool) (t : Talk) (given : List ℕ) (a : Asked) → TalkOk P c all hung t given → t.outstanding ≡ Some a → t.closed ≡ false
   going_on c all hung t given a ok at = by t.closed refl
     where

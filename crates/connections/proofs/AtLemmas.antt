@@ -65,7 +65,7 @@ left_others at table = by (slice_get table at.key)
     by None = λ other differs. refl
     by (Some p) = λ other differs. other_place table at.key (left_place at.number p) other differs
 
--- where it is here nobody is at its place then
+-- if it is here nobody is at its place then
 pub left_none : (v : ConnectionsView) (at : Place) (c : ConnectionView) → place_in v.table at.key ≡ Some c → c.number ≡ at.number → left_at at v.table ≡ slice_set v.table at.key None
 left_none v at c e same =
     let there = place_there v.table at.key c e in

@@ -1,4 +1,4 @@
--- What bytes ask stays where more come, and logs that get longer.
+-- What bytes ask stays if more come, and logs that get longer.
 use Rattle.std.proofs.Common.{◌≡◌, ℕ, ◌-◌, Bool, true, false, List, [], ◌∷◌, ◌++◌, refl, sym, ◌∙◌, ap}
 use Rattle.std.specs.Prelude.{◌≢◌, ◌==◌, if◌then◌else◌}
 use Rattle.std.proofs.lemmas.Bool.{eq-eqb, eqb-true}
@@ -9,7 +9,7 @@ use Rattle.grammar.specs.declared.reader.Dialect.{Dialect}
 use Rattle.grammar.proofs.AskLemmas.{begins_longer, shown_imply}
 use Rattle.connections.specs.Connections.{bytes_in, bytes_of_connection, IsAnswered}
 
--- what was answered in order stays so where more comes, and more replies do
+-- what was answered in order stays so if more comes, and more replies do
 pub answered_longer : (d : Dialect) (P Q : ℕ → replies.Reply → Type 0) (heard more given : List ℕ) → ((q : ℕ) (r : replies.Reply) → P q r → Q q r) → IsAnswered d P heard given → IsAnswered d Q (heard ++ more) given
 answered_longer d P Q heard more given f is = record { taken = is.taken; texts = shown_imply P Q f 1 is.taken given is.texts; first = begins_longer d heard more is.taken is.first }
 

@@ -41,7 +41,7 @@ stands_false st s e number text =
     let yes2 : token_eq s.token st.token ≡ true = (bytes_eq-Decides s.token.0 st.token.0).1 (ap (λ (z : token.Token). z.0) text) in
     ⊎_elim (λ a. false≢true (sym a ∙ yes1)) (λ b. false≢true (sym b ∙ yes2)) (and_cases (s.number == st.n) (token_eq s.token st.token) e)
 
--- what became of a member, where these stay after the state that stands
+-- what became of a member, if these stay after the state that stands
 pub data Place (st : Standing) (have : StateView) (left : List TentativeView) (m : TentativeView) : Type 0 where
   under : m.after.number < st.n → Place st have left m
   at_it : m.after ≡ have → Place st have left m

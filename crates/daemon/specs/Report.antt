@@ -1,11 +1,11 @@
--- Which lines are due, and what the log has told of then.
+-- Which lines are due, and what the log has reported then.
 use Rattle.std.specs.Prelude.{ℕ}
 use Rattle.daemon.specs.declared.report.Due.{Due}
 use Rattle.daemon.specs.declared.report.Report.{Report}
 use Rattle.daemon.specs.declared.report.Totals.{Totals}
 use Rattle.daemon.specs.Told.{told_since, due_number, told_after}
 
--- a log that has told of nothing, and of which these are the beginning
+-- a log that has reported nothing, and of which these are the beginning
 abbrev pub report_from : Totals → Report
 report_from totals = record {
   stops = told_since totals.stops;

@@ -11,7 +11,7 @@ abbrev pub is_second : Option ℕ → ℕ → Bool
 is_second None second = false
 is_second (Some last) second = last == second
 
--- something came that no line told of, and this second had no line
+-- something came that no line reported, and this second had no line
 abbrev pub is_line_due : Told → ℕ → ℕ → Bool
 is_line_due told count second = nat_lt told.count count && not (is_second told.second second)
 
@@ -31,7 +31,7 @@ abbrev pub number_of_all : List (ℕ × ℕ) → ℕ
 number_of_all [] = 0
 number_of_all (line ∷ lines) = line.0 + number_of_all lines
 
--- what was told of after all looks
+-- what was reported after all looks
 abbrev pub told_of_all : Told → List (ℕ × ℕ) → Told
 told_of_all told [] = told
 told_of_all told (look ∷ looks) = told_of_all (told_after told look.0 look.1) looks

@@ -3,7 +3,7 @@
 //! It is built on `clap` for the words, on `log` for the lines, on `jiff` for their times, on `figures` for what they are
 //! about and on `grammar` for the dialects. The program `eve_cached` uses `read_settings`, and `Report`, which says which
 //! lines are due: at most one of a kind a second, and the numbers of a kind's lines add up to what has happened. A line
-//! that is told while something goes on, such as saves that fail, is told at most once a minute.
+//! that is logged while something goes on, such as saves that fail, is logged at most once a minute.
 #![tactic(auto)]
 
 mod laws;

@@ -1,8 +1,8 @@
-//! Lines that are told at most once a minute.
+//! Lines that are logged at most once a minute.
 
 ghost use Rattle.std.specs.Prelude.{◌≡◌, ◌≤◌, ◌<◌, ◌+◌, ◌⊎◌, ℕ, Some, true};
 
-/// When a line was told of something that goes on.
+/// When a line was logged of something that goes on.
 #[derive(Clone, Copy, Debug, PartialEq, Eq)]
 pub struct Minutely {
     /// The second of the last line.
@@ -10,10 +10,10 @@ pub struct Minutely {
 }
 
 impl Minutely {
-    /// No line was told.
+    /// No line was logged.
     pub const NONE: Minutely = Minutely { last: None };
 
-    /// Whether a line is due in this second: none was in the minute before it. It is told then. If the clock was set
+    /// Whether a line is due in this second: none was in the minute before it. It is logged then. If the clock was set
     /// back one is due, too.
     pub fn is_due(&mut self, second: u64) -> bool
         ensures told { result ≡ true → self.new.last ≡ Some second }

@@ -70,7 +70,7 @@ impl Totals {
     }
 }
 
-/// What is to be told now: for each kind the number of its line, if one is due.
+/// What is to be logged now: for each kind the number of its line, if one is due.
 #[derive(Clone, Copy, Debug, PartialEq, Eq)]
 pub struct Due {
     pub stops: Option<u64>,
@@ -84,7 +84,7 @@ pub struct Due {
     pub memory: Option<u64>,
 }
 
-/// How far the log has told of each kind.
+/// How far the log has reported each kind.
 #[derive(Clone, Copy, Debug, PartialEq, Eq)]
 pub struct Report {
     pub stops: Told,
@@ -116,7 +116,7 @@ impl Report {
         }
     }
 
-    /// Which lines are due in this second. Each is told by this.
+    /// Which lines are due in this second. Each is logged by this.
     pub fn due(&mut self, totals: Totals, second: u64) -> Due
         ensures due { result ≡ due_lines self.old totals second }
         ensures after { self.new ≡ report_after self.old totals second }

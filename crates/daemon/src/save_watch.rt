@@ -1,18 +1,18 @@
-//! When it is told that nothing can be saved, and that it can again.
+//! When it is logged that nothing can be saved, and that it can again.
 
 ghost use Rattle.std.specs.Prelude.{◌≡◌, ◌-◌, ℕ, Some, None, true, false};
 ghost use Rattle.daemon.specs.declared.save_watch.SaveLine.TheVariants.{Fails, Again};
 
 use crate::minutely::Minutely;
 
-/// Since when saves fail, and when that was told.
+/// Since when saves fail, and when that was logged.
 #[derive(Clone, Copy, Debug, PartialEq, Eq)]
 pub struct SaveWatch {
     told: Minutely,
     since: Option<u64>,
 }
 
-/// What is told of saves.
+/// What is logged of saves.
 #[derive(Clone, Copy, Debug, PartialEq, Eq)]
 pub enum SaveLine {
     Nothing,
@@ -29,7 +29,7 @@ impl SaveWatch {
         since: None,
     };
 
-    /// What is due in this second: at most once a minute that saves fail, and once that they succeed again, if it was told
+    /// What is due this second: at most once a minute that saves fail, and once that they succeed again, if it was logged
     /// that they fail.
     pub fn look(&mut self, is_failing: bool, second: u64) -> SaveLine
         ensures fails { result ≡ Fails → is_failing ≡ true }

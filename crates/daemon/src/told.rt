@@ -3,17 +3,17 @@
 ghost use Rattle.std.specs.Prelude.{◌≡◌};
 ghost use Rattle.daemon.specs.Told.{told_since, due_number, told_after};
 
-/// How far lines of one kind have told of a count that only grows.
+/// How far lines of one kind have reported a count that only grows.
 #[derive(Clone, Copy, Debug, PartialEq, Eq)]
 pub struct Told {
-    /// What was told of.
+    /// What was reported.
     pub count: u64,
     /// The second of the last line.
     pub second: Option<u64>,
 }
 
 impl Told {
-    /// So much happened before the first line, and is not told of.
+    /// So much happened before the first line, and is not reported.
     pub fn new(count: u64) -> Told
         ensures { result ≡ told_since count }
     {

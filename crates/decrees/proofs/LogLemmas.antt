@@ -46,7 +46,7 @@ pub Stands-take : (start : Start) (xs : List Decree) (s : Standing) (i : ℕ) (z
 Stands-take start xs s i z below k e =
     subst (λ ys. IsStandingOf start ys (standing_after s (get_or xs i z))) (sym (take_more xs i z below)) (Stands-learn start (take i xs) s (get_or xs i z) k e)
 
--- what is left to test, where the next one passes
+-- what is left to test, if the next one passes
 pub is_log_from-next : (s : Standing) (xs : List Decree) (i : ℕ) (z : Decree) → i < length xs → may_follow s (get_or xs i z) ≡ true → is_log_from s (drop i xs) ≡ is_log_from (standing_after s (get_or xs i z)) (drop (i + 1) xs)
 is_log_from-next s xs i z below e =
     ap (is_log_from s) (drop_more xs i z below)

@@ -33,7 +33,7 @@ fn short(image: Image) -> Image {
     }
 }
 
-/// Whether damage was told.
+/// Whether damage was reported.
 fn is_told(rt: &impl Abort, alloc: Global, log: &Image, db: &Image) -> Result<bool, Fail> {
     let Some(mut rows) = opened(alloc, log, db)? else {
         return Ok(true);

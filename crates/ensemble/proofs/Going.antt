@@ -250,14 +250,14 @@ asks_logged asked proxies old number command quiet r now a of is = record {
   after = is;
 }
 
--- where nothing is answered
+-- if nothing is answered
 pub deliver_none : AnswerIsReplied → (e : EnsembleView) (h : IsEnsemble e) (n : NodesView) (answer : Option Answer) → Delivers e.nodes n answer → answer ≡ None → IsEnsemble (record e { nodes = n })
 deliver_none law e h n answer d none =
     subst (λ (logs : List ((ℕ × ℕ) × replies.Reply) × List ((ℕ × ℕ) × Noted)). IsEnsemble (record { nodes = n; asked = e.asked; answered = logs.0; order = logs.1; refused = e.refused; found = e.found }))
     (λ i. (append-nil e.answered i, append-nil e.order i))
     (subst (λ (o : Option Answer). IsEnsemble (record { nodes = n; asked = e.asked; answered = e.answered ++ answer_log o; order = e.order ++ order_log o; refused = e.refused; found = e.found })) none (deliver_goes law e h n answer d))
 
--- where one is
+-- if one is
 pub deliver_some : AnswerIsReplied → (e : EnsembleView) (h : IsEnsemble e) (n : NodesView) (answer : Option Answer) (a : Answer) (log : List ((ℕ × ℕ) × replies.Reply)) (order : Order) → Delivers e.nodes n answer → answer ≡ Some a
     → log ≡ e.answered ++ ((a.proxy, a.number), a.reply) ∷ [] → order ≡ e.order ++ ((a.proxy, a.number), noted.Answered) ∷ [] → IsEnsemble (record { nodes = n; asked = e.asked; answered = log; order = order; refused = e.refused; found = e.found })
 deliver_some law e h n answer a log order d some is in_order =

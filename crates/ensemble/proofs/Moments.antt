@@ -134,7 +134,7 @@ cut_cases before after moment c = ⊎_elim
     (λ (new : Contains after (Cut c.0 moment)). inr (c.0, new))
     (Contains-append_cases before after (Cut c.0 moment) c.1)
 
--- where it stands
+-- where it is
 pub cut_place : {X : Type 0} (xs : List X) (x : X) → Contains xs x → (before after : List X) × (xs ≡ before ++ x ∷ after)
 cut_place [] x c = absurd (in_none x c)
 cut_place {X} (y ∷ xs) x c = ⊎_elim

@@ -11,7 +11,7 @@ use Rattle.ensemble.specs.declared.answer.Answer.{Answer}
 use Rattle.ensemble.specs.Nodes.{AreNumbered, IsAskedBy, ProxyGets}
 use Rattle.ensemble.proofs.Lists.{set_split}
 
--- one that stands where another one of its number stood
+-- one that is where another one of its number was
 set_numbered : (proxies : List ProxyView) (index : ℕ) (was p : ProxyView) → AreNumbered proxies → slice_get proxies index ≡ Some was → p.client ≡ was.client → AreNumbered (slice_set proxies index p)
 set_numbered proxies index was p are there same i q at = ⊎_elim
     (λ (here : (i ≡ index) × (q ≡ p)). ap (λ (x : ProxyView). x.client) here.1 ∙ (same ∙ (are index was there ∙ ap suc (sym here.0))))

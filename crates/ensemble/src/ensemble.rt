@@ -29,7 +29,7 @@ pub struct Ensemble {
     pub(crate) asked: Log<Request, bool>,
     /// Each answer: the proxy and the request's number, and the reply.
     pub(crate) answered: Log<(u16, u64), Reply>,
-    /// In which order requests were asked and answered, by the proxy and the request's number. Between them stand the
+    /// In which order requests were asked and answered, by the proxy and the request's number. Between them are the
     /// moments that were handed in, each under the proxy 0, which there is none of.
     pub(crate) order: Log<(u16, u64), Noted>,
     /// What its process began with, if it began with what was kept of another one.

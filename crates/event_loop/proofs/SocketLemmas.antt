@@ -101,12 +101,12 @@ writes_once a b piece r traffic writes ended failed only_failed blocked others =
   others = others;
 }
 
--- what was read is not what was told
+-- what was read is not what was reported
 pub more_got : (told got new bytes : List ℕ) → told ≡ got → new ≡ got ++ bytes → bytes ≢ [] → told ≢ new
 more_got told got new [] same more some all = some refl
 more_got told got new (b ∷ bytes) same more some all = omega (arith, ap (λ (l : List ℕ). length l) same, ap (λ (l : List ℕ). length l) more, ap (λ (l : List ℕ). length l) all, length-append got (b ∷ bytes))
 
--- nothing was told
+-- nothing was reported
 pub tells_nothing : (key : ℕ) (a b : SocketView) (x y : List Heard) → y ≡ x → b.told ≡ a.told → b.untold ≡ a.untold → b.traffic.said ≡ a.traffic.said → b.number ≡ a.number → b.closes ≡ a.closes → (a.has_ended ≡ true → b.has_ended ≡ true) → Tells key a b x y
 tells_nothing key a b x y heard told untold said number closes ended =
     record {
@@ -121,7 +121,7 @@ tells_nothing key a b x y heard told untold said number closes ended =
       ended = ended;
     }
 
--- one was told after the other
+-- one was reported after the other
 pub tells_then : (key : ℕ) (a b c : SocketView) (x y z : List Heard) → Tells key a b x y → Tells key b c y z → Tells key a c x z
 tells_then key a b c x y z p q =
     record {
@@ -141,7 +141,7 @@ pub writes_tells : (key : ℕ) (a b : SocketView) (x : List Heard) → SocketWri
 writes_tells key a b x p =
     tells_nothing key a b x x refl (ap (λ (s : SocketView). s.told) p.others) (ap (λ (s : SocketView). s.untold) p.others) p.traffic.said (ap (λ (s : SocketView). s.number) p.others) (ap (λ (s : SocketView). s.closes) p.others) p.ended
 
--- a turn that wrote, and then told or not that all is written
+-- a turn that wrote, and then reported or not that all is written
 module _ (may_read : Bool) (a b : SocketView) (w : SocketWrites a b) (one : MayBeWritten a → length a.traffic.writes < length b.traffic.writes) where
   some_results : MayBeWritten a → 0 < length w.results
   some_results m = omega (arith, one m, ap (λ (l : List (Result ℕ Error)). length l) w.writes, length-append a.traffic.writes w.results)

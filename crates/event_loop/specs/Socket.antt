@@ -11,9 +11,9 @@ use Rattle.event_loop.specs.Traffic.{Traffic, IsWritten, One, IsFailed, IsBlocke
 pub record SocketView : Type 0 where
   pub number : ℕ
   pub traffic : Traffic
-  -- the bytes of it that the service was told of
+  -- the bytes of it that were reported to the service
   pub told : List ℕ
-  -- how much was said to it since it was last told that all is written
+  -- how much was said to it since it was last reported that all is written
   pub untold : ℕ
   pub is_readable : Bool
   pub is_writable : Bool
@@ -23,7 +23,7 @@ pub record SocketView : Type 0 where
   pub has_ended : Bool
   pub is_listed : Bool
 
--- the service was told of all that reads gave. If memory for the last bytes ran out, the socket has ended
+-- all that reads gave was reported to the service. If memory for the last bytes ran out, the socket has ended
 pub record IsSocket (s : SocketView) : Type 0 where
   pub all : s.has_ended ≡ false → s.told ≡ s.traffic.got
   pub lost : List ℕ
@@ -70,7 +70,7 @@ pub record SocketWrites (old new : SocketView) : Type 0 where
   pub blocked : old.is_writable ≡ true → (new.is_writable ≡ true) ⊎ One IsBlocked results
   pub others : new ≡ record old { traffic = new.traffic; is_writable = new.is_writable; has_ended = new.has_ended }
 
--- one read was made, and its bytes were told or are lost
+-- one read was made, and its bytes were reported or are lost
 pub record SocketReads (old new : SocketView) : Type 0 where
   pub piece : Piece
   pub reads : new.traffic.reads ≡ old.traffic.reads ++ piece ∷ []
@@ -86,16 +86,16 @@ pub record Tells (key : ℕ) (old new : SocketView) (before after : List Heard) 
   pub more : List Heard
   pub heard : after ≡ before ++ more
   pub about : All (IsAbout key old.number) more
-  -- each byte that was told is in one of them, in order
+  -- each byte that was reported is in one of them, in order
   pub told : new.told ≡ old.told ++ told_in more
-  -- what was not told of as written is told in one of them, or is still to be told
+  -- what was not reported as written is reported in one of them, or is still to be reported
   pub untold : sum_by written_told_by more + new.untold ≡ old.untold
   pub said : new.traffic.said ≡ old.traffic.said
   pub number : new.number ≡ old.number
   pub closes : new.closes ≡ old.closes
   pub ended : old.has_ended ≡ true → new.has_ended ≡ true
 
--- that it has ended is told last, unless the service has closed it
+-- that it has ended is reported last, unless the service has closed it
 abbrev pub last_told : ℕ → SocketView → List Heard
 last_told key s = if s.closes then [] else (Left key s.number ∷ [])
 
@@ -146,7 +146,7 @@ pub record SocketTurns (may_read : Bool) (old new : SocketView) : Type 0 where
   pub pieces : List Piece
   pub reads : new.traffic.reads ≡ old.traffic.reads ++ pieces
   pub once : length pieces ≤ 1
-  -- what could be written or read was, but nothing is read while the service waits to be told that all is written
+  -- what could be written or read was, but nothing is read while the service waits for the report that all is written
   pub is_written : MayBeWritten old → 0 < length results
   pub is_read : may_read ≡ true → MayBeRead old → (0 < length pieces) ⊎ (MOST_UNWRITTEN ≤ new.untold)
   -- it ends by a write or a read, or since bytes that it read are lost
@@ -155,10 +155,10 @@ pub record SocketTurns (may_read : Bool) (old new : SocketView) : Type 0 where
   -- it rests from writes or reads only if the stream says so
   pub blocked : old.is_writable ≡ true → (new.is_writable ≡ true) ⊎ One IsBlocked results
   pub emptied : old.is_readable ≡ true → (new.is_readable ≡ true) ⊎ One IsEmptied pieces
-  -- the service has bytes of it if it had before, or was told of more
+  -- the service has bytes of it if it had before, or more were reported to it
   pub outstanding : (new.is_outstanding ≡ true) ↔ ((old.is_outstanding ≡ true) ⊎ (length old.told < length new.told))
   pub others : new ≡ record old { traffic = new.traffic; told = new.told; untold = new.untold; is_readable = new.is_readable; is_writable = new.is_writable; is_outstanding = new.is_outstanding; has_ended = new.has_ended; is_listed = new.is_listed }
 
--- there is something that the service has to be told: that the socket has ended, or that all is written
+-- there is something that has to be reported to the service: that the socket has ended, or that all is written
 abbrev pub HasToTell : SocketView → Type 0
 HasToTell s = (IsSocketOver s × (s.closes ≡ false)) ⊎ ((length s.traffic.waits ≡ 0) × (MOST_UNWRITTEN ≤ s.untold))

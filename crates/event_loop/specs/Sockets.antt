@@ -57,7 +57,7 @@ pub record SocketHears (old : SocketView) (one : Said) (new : SocketView) : Type
 abbrev pub HearsListed : SocketView → Said → SocketView → Type 0
 HearsListed s said t = (heard : SocketView) × SocketHears s said heard × IsSameButListed heard t
 
--- a socket noted what an event told
+-- a socket noted what an event said
 pub record Notes (old : SocketView) (ready : Readiness) (new : SocketView) : Type 0 where
   pub ended : (new.has_ended ≡ true) ↔ ((old.has_ended ≡ true) ⊎ (ready.is_broken ≡ true))
   pub closed : (new.is_read_closed ≡ true) ↔ ((old.is_read_closed ≡ true) ⊎ (ready.is_read_closed ≡ true))
@@ -77,7 +77,7 @@ pub record IsGiven (old : SocketsView) (said : Said) (new : SocketsView) : Type 
   pub joins : (s : SocketView) → get old.all said.key ≡ Some s → s.number ≡ said.number → (t : SocketView) × (get new.all said.key ≡ Some t) × HearsListed s said t
   pub next : new.next ≡ old.next
 
--- after a turn a socket is here, or it has told that it is gone
+-- after a turn a socket is here, or it has reported that it is gone
 abbrev pub IsTurned : Bool → ℕ → SocketView → Option SocketView → List Heard → List Heard → Type 0
 IsTurned may_read key s None before after = (t : SocketView) × Leaves key s t before after × IsSocketOver t × SocketTurns may_read s t
 IsTurned may_read key s (Some t) before after = Tells key s t before after × SocketTurns may_read s t

@@ -12,7 +12,7 @@ pub struct Counts {
     pub open: u64,
     /// Connections that were let in.
     pub accepted: u64,
-    /// Connections that were told that there is no room for them.
+    /// Connections that were refused since there is no room for them.
     pub refused: u64,
     /// Connections that were closed since nothing happened on them for as long as is allowed.
     pub idle: u64,
@@ -68,7 +68,7 @@ impl Shared {
         self.is_stopping.store(true, Ordering::SeqCst);
     }
 
-    /// Whether the loop was told to stop.
+    /// Whether the loop is to stop.
     pub fn is_stopping(&self) -> bool {
         self.is_stopping.load(Ordering::SeqCst)
     }

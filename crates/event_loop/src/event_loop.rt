@@ -63,7 +63,7 @@ impl Admission {
     }
 }
 
-/// The listeners, the sockets, and what is to be told of them.
+/// The listeners, the sockets, and what is to be reported of them.
 pub struct EventLoop {
     alloc: Global,
     poll: Poll,
@@ -78,7 +78,7 @@ pub struct EventLoop {
     leavers: Leavers,
     idle: Idle,
     refused: RefusedConnections<Stream>,
-    /// What is to be told to the service.
+    /// What is to be reported to the service.
     heard: Vec<Heard>,
     buffer: Vec<u8>,
     /// A socket had more to write after its last turn.
@@ -194,7 +194,7 @@ impl EventLoop {
     }
 
     /// Whether something is to be done although nothing more becomes ready: a socket takes more, or, if more may be
-    /// told to the service, something was heard or a socket or a listener has more.
+    /// reported to the service, something was heard or a socket or a listener has more.
     pub fn has_more(&self, may_tell: bool) -> bool
         ensures owed { may_tell ≡ true → 0 < length self.now.heard.items → result ≡ true }
     {
@@ -419,7 +419,7 @@ impl EventLoop {
         self.counts == self.shown
     }
 
-    /// How much there is to be told to the service.
+    /// How much there is to be reported to the service.
     pub fn heard_count(&self) -> usize
         ensures { result ≡ length self.now.heard.items }
     {

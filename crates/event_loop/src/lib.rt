@@ -14,9 +14,9 @@
 //! `slab` and `http_server` (its `Log`, a history that takes no memory). The layer above implements `Serve` and calls
 //! `serve`.
 //!
-//! `Socket` and `Sockets` are generic in their stream, so their contracts say which bytes move. What is told of a
+//! `Socket` and `Sockets` are generic in their stream, so their contracts say which bytes move. What is said of a
 //! socket is what its reads gave, in order, under its number (`Socket::turn`, `IsSocket`). What is written is a
-//! beginning of what was said (`Buffered`). A socket that is gone was told as left, unless the service closed it. What is
+//! beginning of what was said (`Buffered`). A socket that is gone was said to be, unless the service closed it. What is
 //! said joins the socket of its key and number and no other (`Sockets::give_all`). A socket that is here has a turn, or
 //! nothing is to be done for it until an event comes or the service says something (`IsSockets`). What the system does
 //! with a socket no contract says, nor what the loops of the two threads do while they wait.

@@ -229,8 +229,8 @@ pub struct LoopSide {
     pub ends: LoopEnds,
 }
 
-/// The loop of the event loop's thread, until it is told to stop or the system refuses to wait on the
-/// sockets. Then the service is told to stop.
+/// The loop of the event loop's thread, until it is to stop or the system refuses to wait on the
+/// sockets. Then the service is stopped.
 pub fn run_loop<R: Threads + Wait + Sync + Clock, S: Serve>(
     rt: &R,
     service: &Mutex<S>,

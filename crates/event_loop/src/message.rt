@@ -20,7 +20,7 @@ pub enum Heard {
         number: u64,
         bytes: Vec<u8>,
     },
-    /// All that was said to the connection is written: so many bytes since this was last told, which is
+    /// All that was said to the connection is written: so many bytes since this was last said, which is
     /// at least `MOST_UNWRITTEN`.
     Written {
         key: usize,

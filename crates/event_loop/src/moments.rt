@@ -1,4 +1,4 @@
-//! The time by which the service is told how late it is.
+//! The time by which the service is given how late it is.
 
 use std::rt::Clock;
 use std::time::{Duration, Instant, SystemTime};

@@ -91,7 +91,7 @@ impl<S: Read + Drop> RefusedConnections<S> {
         !self.all.is_empty()
     }
 
-    /// Keeps one that was told so. If there are `MOST_REFUSED` the oldest is closed; if memory runs out this one is.
+    /// Keeps one that was refused. If there are `MOST_REFUSED` the oldest is closed; if memory runs out this one is.
     pub fn keep(&mut self, stream: S) {
         if MOST_REFUSED <= self.all.len() {
             drop(self.all.pop_front());

@@ -9,7 +9,7 @@ use std::thread::Threads;
 pub trait Serve {
     ghost use denote.Param.Send.{IsSync};
 
-    /// It is now so many microseconds after the start of 1970. It is told before it works and after, and before it hears: then
+    /// It is now so many microseconds after the start of 1970. It is said before it works and after, and before it hears: then
     /// the moment at which what it hears was read.
     fn set_micros(&mut self, micros: u64);
 

@@ -122,7 +122,7 @@ fn round<R: Threads + Wait + Sync + Clock, S: Serve>(
     }
 }
 
-/// The loop of the service's thread, until it is told to stop. It holds the lock while the service works
+/// The loop of the service's thread, until it is to stop. It holds the lock while the service works
 /// and while it puts what is said, so whoever takes the lock finds all that was said before in the link.
 pub fn run_service<R: Threads + Wait + Sync + Clock, S: Serve>(
     rt: &R,

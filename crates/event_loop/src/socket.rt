@@ -30,7 +30,7 @@ pub enum After {
     Reads,
     /// There is more to do, once there is memory.
     NoMemory,
-    /// The connection has ended, and this was told.
+    /// The connection has ended, and this was reported.
     Gone,
 }
 
@@ -69,9 +69,9 @@ fn tell_bytes(heard: &mut Vec<Heard>, key: usize, number: u64, bytes: Vec<u8>) -
 pub struct Socket<S: Read + Write> {
     traffic: Buffered<S>,
     number: u64,
-    /// The bytes that were told to the service. Only contracts read them.
+    /// The bytes that were reported to the service. Only contracts read them.
     told: Log<(), Vec<u8>>,
-    /// The bytes said and not told of as written.
+    /// The bytes said and not reported as written.
     untold: usize,
     /// What was read and written since this was last asked.
     moved: Moved,
@@ -84,7 +84,7 @@ pub struct Socket<S: Read + Write> {
     is_writable: bool,
     /// The other side sends no more. What it sent before may still be there, and no event tells of the end.
     is_read_closed: bool,
-    /// Bytes of it were told, and the service is not done with them.
+    /// Bytes of it were reported, and the service is not done with them.
     is_outstanding: bool,
     /// It is closed once all is written.
     closes: bool,
@@ -166,7 +166,7 @@ impl<S: Read + Write> Socket<S> {
         self.is_listed = is_listed;
     }
 
-    /// Notes what an event tells. Its number, if the other side sends no more and no event told so before.
+    /// Notes what an event tells. Its number, if the other side sends no more and no event said so before.
     pub fn note(&mut self, ready: Readiness) -> Option<u64>
         ensures notes { Notes self.old ready self.new }
         ensures number { IfSome result (λ number. number ≡ self.old.number) }
@@ -180,7 +180,7 @@ impl<S: Read + Write> Socket<S> {
         if leaves { Some(self.number) } else { None }
     }
 
-    /// Its number, if an event told that the other side sends no more.
+    /// Its number, if an event said that the other side sends no more.
     pub fn leaver(&self) -> Option<u64>
         ensures number { IfSome result (λ number. number ≡ self.now.number) }
         ensures leaves { IsSome result ↔ (self.now.is_read_closed ≡ true) }

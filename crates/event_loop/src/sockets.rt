@@ -140,7 +140,7 @@ impl<S: Read + Write + Drop> Sockets<S> {
     }
 
     /// Notes what an event tells of the socket of this key, and lists it for a turn. Its number, if the other side
-    /// sends no more and no event told so before.
+    /// sends no more and no event said so before.
     pub fn note(&mut self, key: usize, ready: Readiness) -> Option<u64>
         ensures others { (other : ℕ) → other ≢ key → get self.new.all other ≡ get self.old.all other }
         ensures notes { (s : SocketView) → get self.old.all key ≡ Some s → (t : SocketView) × (get self.new.all key ≡ Some t) × NotesListed s ready t }

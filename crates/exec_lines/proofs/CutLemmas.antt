@@ -1,4 +1,4 @@
--- The batch that is cut is the one of the definition, and batches are told apart by their texts.
+-- The batch that is cut is the one of the definition, and batches are distinguished by their texts.
 use Rattle.std.proofs.Common.{◌≡◌, ℕ, ◌≤◌, Bool, true, false, List, [], ◌∷◌, ◌++◌, length, Option, Some, None, refl, sym, ap, ◌∙◌, arith}
 use Rattle.std.specs.Prelude.{IsTrue}
 use Rattle.std.specs.Str.{bytes_eq}
@@ -32,7 +32,7 @@ of_requests epoch n moment (r ∷ rs) first last few None c = absurd (cc c)
 of_requests epoch n moment (r ∷ rs) first last few (Some b) c =
     ap (λ (x : Batch). Some x) (same_batch b (record { epoch = epoch; n = n; moment = moment; requests = r ∷ rs; first = first; last = last; few = few }) c.epoch_is c.n_is c.moment_is c.requests_are)
 
--- where there is a number for it
+-- if there is a number for it
 pub cut_is : (s : ExecutorState) (moment : ℕ) (batch : Option Batch) → has_number s ≡ true → IsCut s.standing.epoch (next_batch_number s) moment (requests_taken s) batch → batch ≡ cut_batch s moment
 cut_is s moment batch h c = by (has_number s) refl h
   where
@@ -40,7 +40,7 @@ cut_is s moment batch h c = by (has_number s) refl h
     by true e t = of_requests s.standing.epoch (next_batch_number s) moment (requests_taken s) _ _ _ batch c
     by false e t = absurd (cc t)
 
--- and where there is none
+-- and if there is none
 pub cut_none : (s : ExecutorState) (moment : ℕ) → has_number s ≡ false → cut_batch s moment ≡ None
 cut_none s moment h = by (has_number s) refl h
   where
@@ -48,7 +48,7 @@ cut_none s moment h = by (has_number s) refl h
     by true e t = absurd (cc t)
     by false e t = refl
 
--- whether two batches are the same is told by their texts
+-- whether two batches are the same is decided by their texts
 pub told_by_text : (a b one other : Batch) (same : Bool) → (IsTrue same → a ≡ b) × (a ≡ b → IsTrue same) → a ≡ one → b ≡ other → same ≡ bytes_eq (batch_text one) (batch_text other)
 told_by_text a b one other same h ea eb = by same (bytes_eq (batch_text a) (batch_text b)) h refl ∙ (λ i. bytes_eq (batch_text (ea i)) (batch_text (eb i)))
   where

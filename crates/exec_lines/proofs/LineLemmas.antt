@@ -1,4 +1,4 @@
--- The lines of the table, where a test is known.
+-- The lines of the table, if a test is known.
 use Rattle.std.proofs.Common.{◌≡◌, ℕ, ◌<◌, true, false, List, length, Option, Some, None, Result, Ok, Err, refl, sym, ap, ◌∙◌}
 use Rattle.std.specs.Prelude.{IsTrue, IfSome, IfOk, IsErr, ◌&&◌, ◌==◌}
 use Rattle.std.specs.Str.{bytes_eq}
@@ -83,7 +83,7 @@ verifier_unheard u id s v (body.Need q) other = refl
 verifier_unheard u id s v (body.Parcel p) other = refl
 verifier_unheard u id s v (body.Ballot b) other = absurd (other b refl)
 
--- where it is an error nothing is asked of an answer
+-- if it is an error nothing is asked of an answer
 pub no_answer : {X E : Type 0} (P : X → Type 0) (r : Result X E) → IsErr r → IfOk r P
 no_answer P (Ok x) e = absurd (cc e)
 no_answer P (Err x) e = tt

@@ -49,7 +49,7 @@ stays_executor s place st c is begun from = record {
 pub idle_executor : (s : ExecutorState) → 1 ≤ s.standing.epoch → s.work ≡ None → IsExecutor s
 idle_executor s begun idle = record { begun = begun; works = subst (λ (w : Option WorkView). IfSome w (WorksOverTip s)) (sym idle) tt }
 
--- what is over the end stays where the epoch goes on
+-- what is over the end stays if the epoch goes on
 pub over_goes_on : (s : ExecutorState) (place : ℕ) (st : Standing) (c : ChainView) → goes_on s st ≡ true → ◌≡◌ {A = ExecutorState} (record s { known = place; standing = st; chain = c }) (stood_over s place st c)
 over_goes_on s place st c on = λ i. record s { known = place; standing = st; chain = sym (cond-true (goes_on s st) c (undone c) on) i; work = sym (cond-true (goes_on s st) s.work None on) i }
 
@@ -60,7 +60,7 @@ pub from_ok : {P : Type 0} (r : Result (Unit {0}) AllocError) → is_ok r ≡ tr
 from_ok (Ok x) e p = p
 from_ok (Err x) e p = absurd (cc e)
 
--- a result that is given back, where something else holds of each that is Ok
+-- a result that is given back, if something else holds of each that is Ok
 pub ok_ends : {P Q End : Type 0} (r : Result (Unit {0}) AllocError) (b : Bool) → b ≡ is_ok r → ((b ≡ true) × End) ⊎ (b ≡ false) → (End → P → Q) → OnOk r P → OnOk r Q
 ok_ends (Ok x) b is (inl ends) f p = f ends.1 p
 ok_ends (Ok x) b is (inr e) f p = absurd (cc (is, e))

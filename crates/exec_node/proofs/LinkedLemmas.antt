@@ -124,7 +124,7 @@ of_decree u id s v place d l =
     (λ _ are. record { chain = record { state = l.chain.state; few = are.few; over = tt }; over = tt }))
     (λ _. cond_both (nat_lt (s.known + 1) place) _ _ Stays (λ _ _. l) (λ _ _. l))
 
--- the end of the chain with the work, where the epoch goes on, and else the state that stands alone
+-- the end of the chain with the work, if the epoch goes on, and else the state that stands alone
 abbrev told_state : ExecutorState → ℕ → Standing → ChainView → Bool → ExecutorState
 told_state s place st c on = record s { known = place; standing = st; chain = if on then c else undone c; work = if on then s.work else None }
 

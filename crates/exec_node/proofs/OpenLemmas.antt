@@ -58,7 +58,7 @@ pub none_is_saved : (u id : ℕ) (saved : Option (List ℕ)) → StoredExecutor 
 none_is_saved u id None stored = tt
 none_is_saved u id (Some bytes) stored = absurd stored
 
--- where it is opened from a record of version 1, a call is refused as one that saves
+-- if it is opened from a record of version 1, a call is refused as one that saves
 module _ {N K : Type 0} (u id : ℕ) (saved : Option (List ℕ)) (s : ExecutorState) (stored : StoredExecutor u id saved (Some (Ok (First, s)))) where
   pub renewal_stopped : (failed : K → ℕ) (keeper : K) (r : Result N (Fault × K)) → IfErr r (λ refused. refused.0 ≡ Stopped → ((failed keeper < failed refused.1) ⊎ (failed keeper ≡ 2 ^ 64 - 1)) ⊎ IsCountedRecord u id saved)
       → IfErr r (λ refused. refused.0 ≡ Stopped → (IsToBeSaved u id saved × ((failed keeper < failed refused.1) ⊎ (failed keeper ≡ 2 ^ 64 - 1))) ⊎ IsCountedRecord u id saved)

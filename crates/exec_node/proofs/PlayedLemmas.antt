@@ -47,7 +47,7 @@ within_top (x ∷ rs) (suc i) r at = (let later = within_top rs i r at in omega 
 complete_of : (r : BatchRequest) → length r.steps ≤ length r.answers → is_complete r ≡ true
 complete_of r h = grind (arith, nat_tests, h)
 
--- where the requests of a group are complete the group is done
+-- if the requests of a group are complete the group is done
 done_of : (p : Progress) → Each (λ r. r.group ≡ p.group → is_complete r ≡ true) p.running → is_group_done p ≡ true
 done_of p h = all_ran p.group p.running (λ j l. by j (slice_get p.running j) refl)
   where

@@ -79,7 +79,7 @@ one_read u id bytes version other s t r q =
 pub one_state : OneExecutorState
 one_state u id bytes s t r q = one_read u id bytes r.0 q.0 s t r.1 q.1
 
--- where no head stands there is no record
+-- if no head is there, there is no record
 pub no_head : (u id : ℕ) (bytes : List ℕ) → NoPrefix Always executor_head_text bytes → (s : ExecutorState) → IsReadRecord u id bytes s → ⊥
 no_head u id bytes none s r = none.none (r.0, head_in u id s) (chain_text_in r.0 s.chain) tt r.1.spelled
 

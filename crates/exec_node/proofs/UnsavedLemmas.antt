@@ -28,7 +28,7 @@ use Rattle.exec_lines.specs.Lines.{wanted, went_on, ordered, after_cut, cut_batc
 use Rattle.exec_lines.specs.Step.{from_client, from_executor, from_verifier, on_ballot, on_letter}
 use Rattle.exec_node.specs.Laws.{UnsavedExecutorStays}
 
--- where nothing is saved, what was saved is the same
+-- if nothing is saved, what was saved is the same
 abbrev Kept : ExecutorState → ExecutorOutcome → Type 0
 Kept s o = o.saves ≡ false → after_crash o.state ≡ after_crash s
 

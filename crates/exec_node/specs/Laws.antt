@@ -60,7 +60,7 @@ pub record IsLinkedExecutor (s : ExecutorState) : Type 0 where
   pub chain : IsRecorded s.chain
   pub over : IfSome s.work (λ w. w.base ≡ chain_tip s.chain)
 
--- so it stays, whatever is done, but for a tentative state that is handed in: its base is told by number and token alone
+-- so it stays, whatever is done, but for a tentative state that is handed in: its base is identified by number and token alone
 abbrev pub LinkedStays : Type 0
 LinkedStays = (u id : ℕ) (s : ExecutorState) (input : Input) → hands_in input ≡ false → IsExecutor s → IsLinkedExecutor s → AreStates (executor_step u id s input).state.chain → IsLinkedExecutor (executor_step u id s input).state
 

@@ -1,4 +1,4 @@
--- Where all groups are done, each request has the answers that its reply is made of, and the sessions have a text.
+-- If all groups are done, each request has the answers that its reply is made of, and the sessions have a text.
 use Rattle.std.proofs.Common.{◌≡◌, ℕ, zero, suc, ◌<◌, ◌≤◌, Bool, true, false, List, [], ◌∷◌, ◌++◌, map, length, set, Some, None, Option, refl, sym, ap, ◌∙◌, arith, subst, inl, inr, append_assoc}
 use Rattle.std.specs.Prelude.{slice_get, All, IsTrue, IfSome, if◌then◌else◌, not, ◌&&◌, ◌==◌}
 use Rattle.std.specs.List.{zip}
@@ -30,7 +30,7 @@ get_middle : (earlier later : List Request) (q : Request) → slice_get (earlier
 get_middle [] later q = refl
 get_middle (e ∷ earlier) later q = get_middle earlier later q
 
--- a request that runs stands at its place in the batch
+-- a request that runs is at its place in the batch
 pub fresh_at : (s : Replies) (earlier later : List Request) (i : ℕ) (r : Runner) → slice_get (fresh_after s earlier later) i ≡ Some r → slice_get (earlier ++ later) r.0 ≡ Some r.1
 fresh_at s earlier [] i r at = absurd (cc at)
 fresh_at s earlier (q ∷ later) i r at = by (λ i at. subst (λ (all : List Request). slice_get all r.0 ≡ Some r.1) (append_assoc earlier (q ∷ []) later) (fresh_at s (earlier ++ q ∷ []) later i r at)) (runs s earlier q) i at
@@ -124,7 +124,7 @@ found_ready running lent i group place same there ready =
 pub first_is : (running : List BatchRequest) (group : ℕ) → IsNextGroup running None group → IsFirst running group
 first_is running group next k d l = next.least k d l refl
 
--- where no request runs in any group, none runs
+-- if no request runs in any group, none runs
 pub none_run : (running : List BatchRequest) → IsLast running None → running ≡ []
 none_run [] last = refl
 none_run (x ∷ running) last = absurd (let e : true ≡ false = last 0 x (omega arith) in cc e)

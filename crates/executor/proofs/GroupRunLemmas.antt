@@ -1,4 +1,4 @@
--- Where the steps of a group ran in some interleaving, work goes on as if they were made one after the other.
+-- If the steps of a group ran in some interleaving, work goes on as if they were made one after the other.
 use Rattle.std.proofs.Common.{◌≡◌, ◌≢◌, ℕ, zero, suc, nat_le, Bool, true, false, List, [], ◌∷◌, ◌++◌, map, length, drop, set, Some, refl, sym, ap, ◌∙◌, arith, subst, append_assoc}
 use Rattle.std.specs.Prelude.{slice_get, IsTrue, ◌==◌, if◌then◌else◌}
 use Rattle.std.specs.List.{AllByRecursion}
@@ -33,7 +33,7 @@ left_in group r = if r.group == group then at_place r.place (drop (length r.answ
 abbrev pub with_answers : ℕ → List (ℕ × Answer) → BatchRequest → BatchRequest
 with_answers group answers r = if r.group == group then record r { answers = r.answers ++ answers_at r.place answers } else r
 
--- a list that was changed at one place and then mapped is another map of the list, where the two agree
+-- a list that was changed at one place and then mapped is another map of the list, if the two agree
 set_map : {X Y : Type 0} (f h : X → Y) (xs : List X) (i : ℕ) (x y : X) → slice_get xs i ≡ Some x → f y ≡ h x → ((j : ℕ) (z : X) → j ≢ i → slice_get xs j ≡ Some z → f z ≡ h z) → map f (set xs i y) ≡ map h xs
 set_map f h [] i x y at here others = absurd (cc at)
 set_map f h (z ∷ xs) zero x y at here others =

@@ -81,7 +81,7 @@ pub step_is_next : (w : Progress) (next : Option ℕ) → IfSome next (λ place.
 step_is_next w None f = tt
 step_is_next w (Some place) f = has_step w place f
 
--- where no step is left no place comes next
+-- if no step is left no place comes next
 pub none_is_next : (w : Progress) → is_group_done w ≡ true → (next : Option ℕ) → IfSome next (λ place. IsFirstLeft w.running w.group place) → next ≡ None
 none_is_next w done None f = refl
 none_is_next w done (Some place) f =
@@ -94,7 +94,7 @@ pub lowest_is_next : (base : StateView) (batch : Batch) (ordered : Bool) (w : Pr
 lowest_is_next base batch ordered w worked None f = tt
 lowest_is_next base batch ordered w worked (Some place) f = none_lower base batch ordered w worked place f
 
--- where no request made a step, none of the group did
+-- if no request made a step, none of the group did
 pub untouched_in_group : (w : Progress) → is_untouched w ≡ true → IsUntouched w
 untouched_in_group w e =
     all-of-each (λ r. r.group ≡ w.group → r.answers ≡ []) w.running (λ i r at in_group. empty r.answers (eqb-true (length r.answers) 0 (all_at (λ x. length x.answers == 0) w.running e i r at)))

@@ -129,7 +129,7 @@ whole_member t u rest others over same =
     let after = (after_free t.before.items).apart t.after u.after rest others (both.1 ∙ ap (λ (b : StateView). after_text b.items u.after ++ others) (sym over)) in
     ((λ i. batch_text (both.0 i) ++ after_text (over i).items (after.0 i)), after.1)
 
--- over one state, a record that stands at the front of bytes is that of one tentative state
+-- over one state, a record that is at the front of bytes is that of one tentative state
 pub one_over_in : (version : Version) (base : StateView) (t u : TentativeView) (rest others : List ℕ) → IsTentativeOverIn version base t → IsTentativeOverIn version base u
     → member_text_in version t ++ rest ≡ member_text_in version u ++ others → (t ≡ u) × (rest ≡ others)
 one_over_in version base t u rest others is it same =
@@ -153,7 +153,7 @@ one_member t u over same =
     let after = (after_free t.before.items).apart t.after u.after [] [] (ap (λ (x : List ℕ). x ++ []) (both.1 ∙ ap (λ (b : StateView). after_text b.items u.after) (sym over))) in
     (both.0, after.0)
 
--- a head stands first
+-- a head is first
 head_first : (before : Items) (s : StateView) → after_text before s ≡ head_text (head_of_state s) ++ (sessions_text s.sessions ++ changes_text (layout_of s.form) before s.items)
 unfolding after_text
 head_first before s = append_assoc (head_text (head_of_state s)) (sessions_text s.sessions) (changes_text (layout_of s.form) before s.items)

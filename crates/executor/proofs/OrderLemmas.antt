@@ -24,7 +24,7 @@ module _ {X : Type 0} where
   set_other (x ∷ l) (suc i) zero a b n = refl
   set_other (x ∷ l) (suc i) (suc j) a b n = ap (λ xs. x ∷ xs) (set_other l i j a b (λ e. n (ap suc e)))
 
-  -- what stands there already changes nothing
+  -- what is there already changes nothing
   pub set_here : (l : List X) (i : ℕ) (x : X) → slice_get l i ≡ Some x → set l i x ≡ l
   set_here l i x at = ap (set l i) (sym (get_or_from_slice_get l i x x at)) ∙ set-get_or l i x
 
@@ -34,7 +34,7 @@ module _ {X : Type 0} where
   found_at (x ∷ l) i within = (get_or (x ∷ l) i x, slice_get-get_or (x ∷ l) i x within)
 
 module _ {X : Type 0} where
-  -- where no list has a member left, one more is an order by itself
+  -- if no list has a member left, one more is an order by itself
   one_left : (lists : List (List X)) (i : ℕ) (xs : List X) (x : X) → AllByRecursion (λ list. list ≡ []) lists → slice_get lists i ≡ Some xs
       → IsInterleaving (slice_set lists i (xs ++ x ∷ [])) (x ∷ [])
   one_left [] i xs x all at = absurd (cc at)

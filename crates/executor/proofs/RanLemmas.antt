@@ -34,7 +34,7 @@ answers_are group all (r ∷ running) untouched = (λ i. one (r.group == group) 
     one false t = refl
     one true t = ap (λ xs. record r { answers = xs ++ answers_at r.place all }) (untouched 0 r refl (eqb-true r.group group t))
 
--- What work comes to where its group ran as a round.
+-- What work comes to if its group ran as a round.
 pub record GroupRan (base : StateView) (batch : Batch) (ordered : Bool) (w : Progress) (now : Items) (answers : List (List Answer)) : Type 0 where
   pub answers_to : Task → List Answer
   pub each : answers ≡ map answers_to (tasks_in w.group w.running)

@@ -34,7 +34,7 @@ none_among (x ∷ xs) (y ∷ others) later e =
     let tail : map Some xs ++ None ∷ later ≡ map Some others = cc e in
     none_among xs others later tail
 
--- replies that are kept are told by the sessions
+-- replies that are kept are given by the sessions
 pub one_list : (xs ys : List Answered) → map Some xs ≡ map Some ys → xs ≡ ys
 one_list [] [] e = refl
 one_list [] (y ∷ ys) e = absurd (cc e)
@@ -45,7 +45,7 @@ one_list (x ∷ xs) (y ∷ ys) e =
     let tail : map Some xs ≡ map Some ys = cc e in
     (λ i. same i ∷ one_list xs ys tail i)
 
--- where no reply is kept for a request that ran
+-- if no reply is kept for a request that ran
 pub lacks : (s before : Replies) (requests : List Request) (place : ℕ) (q : Request) (replies : List Answered) → place < length requests → q ≡ get_or requests place q → runs before (take place requests) q ≡ true
     → map Some replies ++ map (kept_for s) (fresh_after before (take place requests) (drop place requests)) ≡ map (kept_for s) (runners_among before requests) → (e : Fault)
     → Refused e (kept_for s (place, q) ≡ None) → Refused e (LackOne s (runners_among before requests))

@@ -84,7 +84,7 @@ fresh_low s earlier (q ∷ later) i r at = by (fresh_low s (earlier ++ q ∷ [])
     by low true (suc i) at = omega (arith, low i r at, length_push earlier q)
     by low false i at = omega (arith, low i r at, length_push earlier q)
 
--- the requests that run stand in batch order
+-- the requests that run are in batch order
 pub fresh_rising : (s : Replies) (earlier later : List Request) (i j : ℕ) (r t : Runner) → slice_get (fresh_after s earlier later) i ≡ Some r → slice_get (fresh_after s earlier later) j ≡ Some t → i < j → r.0 < t.0
 fresh_rising s earlier [] i j r t at there l = absurd (cc at)
 fresh_rising s earlier (q ∷ later) i j r t at there l = by (λ i j a b l. fresh_rising s (earlier ++ q ∷ []) later i j r t a b l) (runs s earlier q) i j at there l

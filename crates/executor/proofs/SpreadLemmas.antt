@@ -1,4 +1,4 @@
--- Lists among which empty ones stand have the same orders.
+-- Lists among which empty ones are have the same orders.
 use Rattle.std.proofs.Common.{◌≡◌, ℕ, zero, suc, Bool, true, false, List, [], ◌∷◌, map, length, drop, set, Some, refl, sym, ap, subst}
 use Rattle.std.specs.Prelude.{slice_get, filter, ◌==◌, if◌then◌else◌}
 use Rattle.std.specs.List.{AllByRecursion}
@@ -38,7 +38,7 @@ spread_orders (x ∷ order) ls ms s h =
     let f = found ls ms s h.0 x h.1 h.2 in
     (f.0, h.1, f.1, spread_orders order (set ls h.0 h.1) (set ms f.0 h.1) f.2 h.3)
 
--- the steps of the group's requests stand among those of all requests
+-- the steps of the group's requests are among those of all requests
 pub group_is_spread : (group : ℕ) (running : List BatchRequest) → Each (λ r. r.group ≡ group → r.answers ≡ []) running → Spread (placed (tasks_in group running)) (map (left_in group) running)
 group_is_spread group [] untouched = end
 group_is_spread group (r ∷ running) untouched = by (r.group == group) refl (group_is_spread group running (λ i. untouched (suc i)))

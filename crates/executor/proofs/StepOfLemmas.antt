@@ -70,7 +70,7 @@ step_in-left first group place m (x ∷ xs) none (suc i) r at is = by (is_ready 
     by true e more = (let made = sym (cond-true (is_ready group place x) _ _ e) ∙ none in cc made)
     by false e more = more (unmapped (λ s. (s.0, x ∷ s.1)) (step_in first group place m xs) (sym (cond-false (is_ready group place x) _ _ e) ∙ none))
 
--- where there is no step at the place no request is ready there
+-- if there is no step at the place no request is ready there
 pub none_ready : (w : WorkView) (place i : ℕ) (r : BatchRequest) → step_of w place ≡ None → slice_get w.progress.running i ≡ Some r → is_ready w.progress.group place r ≡ true → ⊥
 none_ready w place i r none at is =
     step_in-left (first_place w.base w.batch) w.progress.group place w.progress.items w.progress.running

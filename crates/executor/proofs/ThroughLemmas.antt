@@ -30,7 +30,7 @@ step_at first w i r now after at in_group d = record {
   its = refl;
 }
 
--- where all requests ran the group is done
+-- if all requests ran the group is done
 pub all_ran : (group : ℕ) (running : List BatchRequest) → ((j : ℕ) → j < length running → IsNotLeft group (slice_get running j)) → list_all (λ r. not (r.group == group) || is_complete r) running ≡ true
 all_ran group [] h = refl
 all_ran group (r ∷ running) h = rw (here r (h 0 (omega arith))) (all_ran group running (λ j l. h (suc j) (omega (arith, l))))

@@ -261,7 +261,7 @@ module _ (base : StateView) (batch : Batch) (ordered : Bool) where
         token = refl;
       }
 
-  -- where no request runs, the batch is done at once
+  -- if no request runs, the batch is done at once
   pub nothing_is_round : (group : ℕ) → all_begun base batch ordered ≡ [] → Round base batch ordered (state_made base batch (started base batch ordered 0)) []
   nothing_is_round group none =
       let w = started base batch ordered 0 in

@@ -22,7 +22,7 @@ use Rattle.executor.specs.Fresh.{Runner, runners_among}
 abbrev pub runners : StateView → Batch → List Runner
 runners old batch = runners_among old.sessions batch.requests
 
--- where place 0 of the batch runs
+-- if place 0 of the batch runs
 abbrev pub first_place : StateView → Batch → Stamp
 first_place old batch = record { moment = moment_of old batch; stamp = first_stamp batch.n }
 
@@ -61,7 +61,7 @@ pub record Round (old : StateView) (batch : Batch) (ordered : Bool) (new : State
   pub replied : replies ≡ map (answered answers) (runners old batch)
   pub sessions : new.sessions ≡ kept_after old.sessions replies
   pub moment : new.moment ≡ moment_of old batch
-  -- what the state is told by
+  -- what identifies the state
   pub form : new.form ≡ form_after old batch
   pub number : new.number ≡ batch.n
   pub previous : new.previous ≡ old.token

@@ -17,7 +17,7 @@ use wire::Sink;
 impl Committed {
     /// Writes the record of the state, without the replies. A sink that takes shared pieces gets the
     /// texts that are kept of its pages and its sessions; so a record in a text of pieces copies little.
-    /// The sink may refuse it, as where an allocation fails.
+    /// The sink may refuse it, as when an allocation fails.
     pub fn put<S: Sink>(&self, sink: &mut S) -> Result<(), S::Refusal>
         ensures { OnOk result (Puts S.holds (state_text self.now.state) sink.old sink.new) }
     {

@@ -72,7 +72,7 @@ module _ {X : Type 0} (p : X → Bool) where
       by false e rest (inr later) = rw e (rest later)
 
 module _ {X : Type 0} where
-  -- what does not stand at the place that is taken out is kept
+  -- what is not at the place that is taken out is kept
   pub in_removed : (xs : List X) (i : ℕ) (x : X) → i < length xs → Contains xs x → (slice_index_or xs i x ≡ x) ⊎ Contains (remove xs i) x
   in_removed xs i x within (k, lt, e) = by (cases_order k i)
     where

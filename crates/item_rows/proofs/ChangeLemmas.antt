@@ -4,7 +4,7 @@ use Rattle.std.specs.Prelude.{◌==◌, if◌then◌else◌, IsSome}
 use Rattle.item_rows.specs.Changes.{Rows, ItemChange, with_change, rows_after, or_first, last_change, IsNamed, IsUnnamed}
 
 module _ {X : Type 0} where
-  -- what stands at a place: the last change of it, or its row
+  -- what is at a place: the last change of it, or its row
   abbrev pub or_row : Option (Option X) → Option X → Option X
   or_row None row = row
   or_row (Some v) row = v

@@ -35,7 +35,7 @@ eight a b c d e f g h i j lt pc pd pe pf pg ph pi pj =
     omega (arith, s7, pj)
 
 module _ {K : Type 0} (bit : K → ℕ → Bool) (k : K) where
-  -- the number behind which a byte stands
+  -- the number behind which a byte is
   byte : (n from a b : ℕ) → b < 256 → cond (bit k from) 1 0 ≡ b / 128 % 2 → cond (bit k (suc from)) 1 0 ≡ b / 64 % 2 → cond (bit k (suc (suc from))) 1 0 ≡ b / 32 % 2 → cond (bit k (suc (suc (suc from)))) 1 0 ≡ b / 16 % 2
       → cond (bit k (suc (suc (suc (suc from))))) 1 0 ≡ b / 8 % 2 → cond (bit k (suc (suc (suc (suc (suc from)))))) 1 0 ≡ b / 4 % 2 → cond (bit k (suc (suc (suc (suc (suc (suc from))))))) 1 0 ≡ b / 2 % 2 → cond (bit k (suc (suc (suc (suc (suc (suc (suc from)))))))) 1 0 ≡ b / 1 % 2
       → bits_behind bit (suc (suc (suc (suc (suc (suc (suc (suc n)))))))) from a k ≡ bits_behind bit n (suc (suc (suc (suc (suc (suc (suc (suc from)))))))) (256 * a + b) k

@@ -1,4 +1,4 @@
--- Where texts have distinct digests, the digest of items tells them.
+-- If texts have distinct digests, the digest of items tells them.
 use Rattle.std.proofs.Common.{◌≡◌, ℕ, List, [], ◌++◌, ap}
 use Rattle.std.specs.Cmp.Lexicographic.{nat_list_cmp_total}
 use Rattle.items.specs.declared.item.Item.{Item}

@@ -6,7 +6,7 @@ use Rattle.std.proofs.lemmas.Map.Entries.{option_filter}
 use Rattle.base.proofs.MapLemmas.{as_t, from_t, sorted_filter, find_filter}
 use Rattle.items.specs.Map.{Items, by_bytes, alive, is_alive}
 
--- what stands at a key of the items that are alive
+-- what is at a key of the items that are alive
 pub get-alive : (m : Items) (moment : ℕ) (q : List ℕ) → get (alive m moment) q ≡ option_filter (is_alive moment) (get m q)
 get-alive m moment q =
     let sorted : is_sorted by_bytes (entries m) ≡ true = from_t _ (entries_sorted m) in

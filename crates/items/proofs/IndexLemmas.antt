@@ -46,7 +46,7 @@ eq_nat a b = by (nat_lt a b) (a == b) refl refl
     by false true il ie = rw (il, ie) refl
     by false false il ie = rw (il, ie) refl
 
--- times and keys tie where both are the same
+-- times and keys tie if both are the same
 tie : (a b : ℕ) (j k : List ℕ) → eq_by_cmp by_due (a, j) (b, k) ≡ ((a == b) && eq_by_cmp by_bytes j k)
 tie a b j k = sym (tied_then (nat_cmp a b) (by_bytes j k)) ∙ ap (λ t. t && eq_by_cmp by_bytes j k) (eq_nat a b)
 
@@ -229,7 +229,7 @@ less_time x y e = by (nat_lt x.0 y.0) (x.0 == y.0) refl refl
     by false false il is =
         absurd (let no : Greater ≡ Less = sym (ap (λ r. ordering_then r (by_bytes x.1 y.1)) (λ i. cond (il i) Less (cond (is i) Equal Greater))) ∙ e in cc)
 
--- where one time is after the moment, those that are not sooner are
+-- if one time is after the moment, those that are not sooner are
 later-rest : (moment : ℕ) (x : ℕ × List ℕ) (index : Dues) → below_all by_due x index ≡ true → nat_lt moment x.0 ≡ true → later moment index ≡ index
 later-rest moment x [] h l = refl
 later-rest moment x (e ∷ index) h l =
@@ -244,7 +244,7 @@ later-all moment (e ∷ index) h l =
     let here : nat_lt moment e.0.0 ≡ true = l e (omega arith) in
     ap (λ b. cond b (e ∷ later moment index) (later moment index)) here ∙ ap (λ es. e ∷ es) (later-rest moment e.0 index (and_parts _ _ h).0 here)
 
--- what is due stands first
+-- what is due is first
 pub later-from : (moment n : ℕ) (index : Dues) → IsTrue (is_sorted by_due index) → IsDueUpTo moment index n → IsLaterFrom moment index n → drop n index ≡ later moment index
 later-from moment zero index h due l = sym (later-all moment index h l)
 later-from moment (suc n) [] h due l = refl
@@ -360,7 +360,7 @@ module _ (e : (ℕ × List ℕ) × Item) (index : Dues) (xs : Entries) (is : IsI
       find_filter nat_list_cmp_total (is_alive moment) e.0.1 xs sorted ∙ ap (option_filter (is_alive moment)) first-is.0 ∙ ap (λ b. cond b (Some e.1) None) (first-due moment due) in
       absurd (let no : true ≡ false = sym (ap is_some first-is.0) ∙ ap (λ (es : Entries). is_some (find by_bytes e.0.1 es)) (sym same) ∙ ap is_some left in cc)
 
--- where nothing in the index is due nothing is dropped
+-- if nothing in the index is due nothing is dropped
 pub all-living : (index : Dues) (xs : Entries) (moment : ℕ) → IsIndex index xs → IsTrue (is_sorted by_bytes xs) → later moment index ≡ index → living moment xs ≡ xs
 all-living index xs moment is sorted all =
     same_entries by_bytes nat_list_cmp_total bytes_only _ _ (as_t _ (sorted_filter by_bytes (λ x. is_alive moment x.1) xs sorted)) (as_t _ sorted)
@@ -442,17 +442,17 @@ same-living xs moment sorted same =
     sym (entries-from_sorted by_bytes _ (as_t _ (sorted_filter by_bytes (λ e. is_alive moment e.1) xs sorted)))
     ∙ ap entries (sym (alive-list xs moment sorted) ∙ same) ∙ entries-from_sorted by_bytes xs (as_t _ sorted)
 
--- nothing is due where the first of the index is not
+-- nothing is due if the first of the index is not
 pub alive-none : (index : Dues) (xs : Entries) (moment : ℕ) → IsIndexed index xs → IsLaterFrom moment index 0 → alive (from_sorted xs) moment ≡ from_sorted xs
 alive-none index xs moment is l = alive-list xs moment is.sorted ∙ ap from_sorted (all-living index xs moment is.indexed is.sorted (later-all moment index is.indexed.rises l))
 
--- and something where it is
+-- and something if it is
 pub alive-some : (index : Dues) (xs : Entries) (moment : ℕ) → IsIndexed index xs → 0 < length index → IsDueUpTo moment index 1 → alive (from_sorted xs) moment ≢ from_sorted xs
 alive-some [] xs moment is l due same = absurd (omega arith)
 alive-some (e ∷ index) xs moment is l due same =
     first-dropped e index xs is.indexed moment (due 0 e (omega arith)) is.sorted (same-living xs moment is.sorted same)
 
--- where something is due the first of the index is
+-- if something is due the first of the index is
 pub first-found : (index : Dues) (xs : Entries) (moment : ℕ) → IsIndexed index xs → alive (from_sorted xs) moment ≢ from_sorted xs → (0 < length index) × IsDueUpTo moment index 1
 first-found [] xs moment is some = absurd (some (alive-none [] xs moment is (λ d l. absurd (omega arith))))
 first-found (e ∷ index) xs moment is some = (omega arith, at)
@@ -524,7 +524,7 @@ module _ (index : Dues) (xs : Entries) (m : Items) (moment : ℕ) (b : Bool) (is
       due zero d l = affirmed b (nat_lt moment (get_or index 0 d).0.0) (some d (by (length index) refl)) found
       due (suc k) d l = absurd (omega arith)
 
--- where the index is empty nothing is due
+-- if the index is empty nothing is due
 pub none-first : (index : Dues) (xs : Entries) (m : Items) → IsIndexed index xs → from_sorted xs ≡ m → length index ≡ 0 → (moment : ℕ) → alive m moment ≡ m
 none-first index xs m is view_is empty moment =
     subst (λ (n : Items). alive n moment ≡ n) view_is (alive-none index xs moment is (λ d l. absurd (omega (arith, l, empty))))

@@ -1,11 +1,11 @@
--- What was asked later stands later.
+-- What was asked later comes later.
 use Rattle.std.proofs.Common.{◌≡◌, ℕ, zero, suc, ◌≤◌, ◌⊎◌, inl, inr, ⊎_elim, List, [], ◌∷◌, ◌++◌, length, Some, sym, ap, ◌∙◌, subst, arith}
 use Rattle.std.specs.Prelude.{Contains, slice_get}
 use Rattle.run_laws.specs.Run.{Executed}
 use Rattle.run_laws.proofs.Elements.{in_head, in_tail}
 use Rattle.linear_laws.specs.Laws.{AskedLaterIsLater}
 
--- an element of a list with others behind it is one of the list, or stands behind it
+-- an element of a list with others behind it is one of the list, or is behind it
 in_first : {X : Type 0} (xs ys : List X) (k : ℕ) (x : X) → slice_get (xs ++ ys) k ≡ Some x → Contains xs x ⊎ (length xs ≤ k)
 in_first [] ys k x e = inr (omega arith)
 in_first {X} (y ∷ xs) ys zero x e = inl (let same : y ≡ x = cc e in subst (λ (z : X). Contains (y ∷ xs) z) same (in_head y xs))

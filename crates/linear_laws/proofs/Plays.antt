@@ -33,7 +33,7 @@ use Rattle.linear_laws.proofs.Runs.{IsMadeOf, made_of_run, made_on, made_leads, 
 use Rattle.linear_laws.proofs.Fresh.{all_fresh}
 use Rattle.linear_laws.proofs.InTime.{max_is, first_number, batches_of, is_linearizable}
 
--- a list whose members stand at the same places of another is a beginning of it
+-- a list whose members are at the same places of another is a beginning of it
 beginning : {X : Type 0} (xs ys : List X) → ((i : ℕ) (x : X) → slice_get xs i ≡ Some x → slice_get ys i ≡ Some x) → xs ≡ take (length xs) ys
 beginning [] ys h = refl
 beginning (x ∷ xs) [] h = absurd (let none = h 0 x refl in cc none)

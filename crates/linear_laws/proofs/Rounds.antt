@@ -74,7 +74,7 @@ groups_no_tick who f base m (g ∷ groups) now answers run t c =
       | inr there ↦ groups_no_tick who f base (items_after base m run.0) groups now run.1 run.3 t there
     ]
 
--- how often a number stands in a list
+-- how often a number is in a list
 abbrev pub count : ℕ → List ℕ → ℕ
 count u xs = length (filter (λ x. x == u) xs)
 
@@ -116,7 +116,7 @@ same_test a q p u e = elim (same_or_not q p) [
   | inr other ↦ ne_eqb (a + q) u (λ s. other (omega (arith, e, s))) ∙ sym (ne_eqb q p other)
 ]
 
--- a unique stands as often as the request of its place has updates
+-- a unique is there as often as the request of its place has updates
 count_order : (who : ℕ → ℕ) (base : Stamp) (u p : ℕ) → base.stamp + p ≡ u → (m : Items) (order : List Placed) → count u (uniques (lines_in who base m order)) ≡ updates_in (filter (λ s. s.0 == p) order)
 count_order who base u p at m [] = refl
 count_order who base u p at m ((q, step.Read key) ∷ order) =
@@ -243,7 +243,7 @@ module _ (who : ℕ → ℕ) (base : Stamp) (c : ℕ) where
 
 -- ---- the requests that run
 
--- a request that runs stands at its place
+-- a request that runs is at its place
 runner_there : (s : Replies) (earlier later : List Request) (r : Runner) → Contains (fresh_after s earlier later) r → slice_get (earlier ++ later) r.0 ≡ Some r.1
 runner_there s earlier [] r c = absurd (in_none r c)
 runner_there s earlier (q ∷ later) r c = elim (first_or_later s earlier later q r c) [
@@ -463,7 +463,7 @@ module _ (old : StateView) (e : Executed) (over : IsOver old e) where
   none_at p none g order h = filter_none (λ (s : Placed). s.0 == p) order (order_each (λ (s : Placed). (s.0 == p) ≡ false) order (lists g)
       (λ i list at. lists_all (λ q. (q == p) ≡ false) g i list at (λ r there. ne_eqb r.0 p (none i r there))) h)
 
-  -- what is known of how often a unique stands: it is that of the place of a request that ran, and stands once at most; or stands nowhere
+  -- what is known of how often a unique is there: it is that of the place of a request that ran, and is there once at most; or it is nowhere
   unique_at : (u p : ℕ) → first.stamp + p ≡ u → ((p < MOST_REQUESTS) × (count u (uniques of_groups) ≤ 1)) ⊎ (count u (uniques of_groups) ≡ 0)
   unfolding of_groups
   unique_at u p is =

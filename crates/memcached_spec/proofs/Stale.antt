@@ -144,7 +144,7 @@ record Sees (d : Made) : Type 0 where
   item : Item
   seen : d.answer ≡ Seen (Some item)
 
--- where it is there each get sees it
+-- if it is there each get sees it
 get_sees : (s t : Server) (lines : List Line) (d : Made) → AreSteps lines → Leads s lines t → Has s → Contains lines (Do d) → d.step ≡ get_step → Sees d
 get_sees s t [] d are leads h at gets = absurd (none_in (Do d) at)
 get_sees s t (Tick now ∷ lines) d are leads h at gets = ⊎_elim

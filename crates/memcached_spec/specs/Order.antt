@@ -50,7 +50,7 @@ OrdersGrow past before [] (g ∷ gs) = ⊥
 OrdersGrow past before (e ∷ es) [] = ⊥
 OrdersGrow past before (e ∷ es) (g ∷ gs) = (more : List Line) × IsOrder (past ++ e ∷ []) g (before ++ more) × OrdersGrow (past ++ e ∷ []) (before ++ more) es gs
 
--- A play of these events, with what clients had been given before the first and after each of them, is linearizable: what was done before an event stands before all that comes later.
+-- A play of these events, with what clients had been given before the first and after each of them, is linearizable: what was done before an event is before all that comes later.
 abbrev pub IsLinearizable : List Event → List AllGiven → Type 0
 IsLinearizable events [] = ⊥
 IsLinearizable events (first ∷ later) = (lines : List Line) × IsOrder [] first lines × OrdersGrow [] lines events later

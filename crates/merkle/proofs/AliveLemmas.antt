@@ -32,7 +32,7 @@ module _ {K V : Type 0} (due : V → Option ℕ) (moment : ℕ) where
         | false ↦ alive_append xs ys
       ]
 
-  -- where the least due time is above the moment, all is there
+  -- if the least due time is above the moment, all is there
   pub all_alive : (s : Shape K V) → is_above moment (least due s) ≡ true → alive_entries due moment (pairs s) ≡ pairs s
   all_alive none h = refl
   all_alive (one k v) h = ap (λ b. cond b ((k, v) ∷ []) []) h
@@ -46,7 +46,7 @@ module _ {K V : Type 0} (due : V → Option ℕ) (moment : ℕ) where
       let rest : length (alive_entries due moment es) ≤ length es = at_most es in
       elim (is_above moment (due e.1)) as (λ b. length (cond b (e ∷ alive_entries due moment es) (alive_entries due moment es)) ≤ suc (length es)) [ true ↦ omega arith | false ↦ omega arith ]
 
-  -- where it is not, something is due
+  -- if it is not, something is due
   pub fewer_alive : (s : Shape K V) → is_above moment (least due s) ≡ false → length (alive_entries due moment (pairs s)) < length (pairs s)
   fewer_alive none h = absurd (let e : true ≡ false = h in cc)
   fewer_alive (one k v) h = (let e : length (alive_entries due moment (pairs (one k v))) ≡ 0 = ap (λ b. length {A = K × V} (cond b ((k, v) ∷ []) [])) h in omega arith)

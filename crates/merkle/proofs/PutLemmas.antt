@@ -42,7 +42,7 @@ module _ {K V : Type 0} (R : K → K → Ordering) where
   put_none k v = record { found = λ q. refl; sides = λ test side all on. (on, tt); count = refl }
 
 module _ {K V : Type 0} {R : K → K → Ordering} (same : IsAntisymmetric R) where
-  -- where no key of the other side ties
+  -- if no key of the other side ties
   counted : (a b c : ℕ) (o : Option V) → b ≡ cond (is_some o) a (a + 1) → c + b ≡ cond (is_some o) (c + a) (c + a + 1)
   counted a b c None e = omega arith
   counted a b c (Some v) e = omega arith

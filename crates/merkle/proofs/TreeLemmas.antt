@@ -1,4 +1,4 @@
--- What stays where a fork is cloned, and what two bits say of each other.
+-- What stays if a fork is cloned, and what two bits say of each other.
 use Rattle.std.proofs.Common.{◌≡◌, ℕ, Bool, true, false, List, Result, Err, OnErr, refl, sym, ap, ◌∙◌, subst, ◌⊎◌, inl, inr}
 use Rattle.std.specs.Prelude.{IfSome, Option}
 use mathlib.Core.Bool.{beq}
@@ -38,6 +38,6 @@ same_cached {K} {V} hash text due a b (inr s) k =
     let right : b.right_due ≡ least due (shape b.right) = s.right_due ∙ k.2 ∙ ap (least due) (sym s.right.0) in
     (subst (λ o. IfSome o (λ digest. digest ≡ digest_of text (fork_shape b))) (sym s.digest) one, left, right, s.left.1 hash text due k.3, s.right.1 hash text due k.4)
 
--- what holds at an error holds where there is one
+-- what holds at an error holds if there is one
 pub of_err : {T E P : Type 0} (r : Result T E) (e : E) → r ≡ Err e → OnErr r P → P
 of_err {P = P} r e is h = subst (λ x. OnErr x P) is h

@@ -28,7 +28,7 @@ joined : {A : Type 0} (b : Bool) (xs : List A) (x : A) (ys : List A) → cond b 
 joined true xs x ys = append_assoc xs (x ∷ []) ys
 joined false xs x ys = refl
 
--- the number after these, where it is `most` after those before them
+-- the number after these, if it is `most` after those before them
 abbrev pub number_from : ℕ → List (Command × ℕ) → Command → ℕ
 number_from most earlier c = fold (λ m e. if conflicts e.0 c then max m (e.1 + 1) else m) most earlier
 

@@ -20,7 +20,7 @@ count-more m pages = length-append (entries m) (flat_map entries pages)
 abbrev of_page : List (List ℕ × Item) → ℕ → List (List ℕ × Item)
 of_page es p = filter (λ e. page_number e.0 == p) es
 
--- how often a number stands among those from a on
+-- how often a number is among those from a on
 abbrev hits : ℕ → ℕ → ℕ → ℕ
 hits x a zero = 0
 hits x a (suc n) = cond (x == a) 1 0 + hits x (a + 1) n

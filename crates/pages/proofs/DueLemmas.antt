@@ -1,4 +1,4 @@
--- How many items stand in the pages of which something is due.
+-- How many items are in the pages of which something is due.
 use Rattle.std.proofs.Common.{◌≡◌, ◌≢◌, ℕ, suc, ◌+◌, ◌<◌, ◌≤◌, ◌⊎◌, inl, inr, ⊎_elim, Bool, true, false, cond, List, [], ◌∷◌, map, length, refl, ap, ◌∙◌, arith}
 use Rattle.std.specs.Prelude.{filter}
 use Rattle.std.specs.FinMap.{entries, from_sorted}
@@ -16,7 +16,7 @@ fewer_or_same {X} p (x ∷ xs) = by (p x) (fewer_or_same p xs)
     by true rest = ⊎_elim (λ less. inl (omega (arith, less))) (λ same. inr (ap (λ l. x ∷ l) same)) rest
     by false rest = inl (omega (arith, length_filter p xs))
 
--- where dropping changes a page, the page has fewer items then
+-- if dropping changes a page, the page has fewer items then
 alive-fewer : (m : Items) (moment : ℕ) → alive m moment ≢ m → length (entries (alive m moment)) < length (entries m)
 alive-fewer m moment some =
     ⊎_elim (λ less. omega (arith, less, ap length (entries-alive m moment))) (λ same. absurd (some (ap from_sorted same ∙ same_map_of m)))
@@ -33,7 +33,7 @@ module _ (moment : ℕ) (m : Items) (pages : List Items) where
       let yes : is_due moment m ≡ true = grind (arith, nat_tests) in
       beside-by true yes ∙ count-more m (filter (is_due moment) pages)
 
--- what is dropped stands in those pages
+-- what is dropped is in those pages
 pub dropped-beside : (moment : ℕ) (pages : List Items) → item_count pages ≤ item_count (map (λ page. alive page moment) pages) + beside_due moment pages
 dropped-beside moment [] = omega arith
 dropped-beside moment (m ∷ pages) = by (is_due moment m) refl (dropped-beside moment pages)

@@ -45,7 +45,7 @@ items-at pages (Update u) place a =
     let done = change-at pages a key (updated u place (get (page_at pages key) key)).0 in
     (done.0, done.1 ∙ ap (λ found. changed (joined_pages pages) key (updated u place found).0) (sym (joined_at pages key a)))
 
--- the page that stands there is the page of the step's key
+-- the page that is there is the page of the step's key
 is_page : (pages : List Items) (p : ℕ) (m : Items) (s : Step) → step_page s ≡ p → slice_get pages p ≡ Some m → page_at pages (step_key s) ≡ m
 is_page pages p m s number here = ap (λ n. get_or pages n no_items) number ∙ get_or_from_slice_get pages p m no_items here
 

@@ -25,7 +25,7 @@ use Rattle.pages.proofs.KeyLemmas.{same_key, all_keys}
 use Rattle.pages.proofs.JoinedLemmas.{same_number}
 use Rattle.pages.proofs.PartLemmas.{entries-page_items}
 
--- what stands at a key is what stands there on its page
+-- what is at a key is what is there on its page
 pub get_among : (count : ℕ) (m : Items) (q : List ℕ) → get m q ≡ find by_bytes q (entries_among count m (number_among count q))
 get_among count m q =
     get-entries m q

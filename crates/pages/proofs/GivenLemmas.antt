@@ -25,7 +25,7 @@ use Rattle.pages.proofs.OldLemmas.{old-number, of_sum, part-small, part-of}
 abbrev made : List (List ℕ × Item) → Items
 made es = from_sorted es
 
--- what stands at a key in the part of some number
+-- what is at a key in the part of some number
 module _ (number : List ℕ → ℕ) (p : ℕ) (es : List (List ℕ × Item)) (rising : T (is_sorted by_bytes es)) where
   abbrev part : List (List ℕ × Item)
   part = filter (λ e. number e.0 == p) es
@@ -94,7 +94,7 @@ module _ (before : List Items) (a : ArePages before) (given : List (Option (List
       joined_at (of_each (page_over_old before given)) q given-pages
       ∙ ap (λ (m : Items). get m q) (get_or-map-range_with_len (page_over_old before given) 0 page_count (page_number q) (page_number q) no_items (page_number-lt q) (omega arith))
 
-  -- what stands at a key of old page p
+  -- what is at a key of old page p
   get_over : (p : ℕ) (o : Option (List (List ℕ × Item))) (q : List ℕ) → given_at given p ≡ o → number_among OLD_PAGES q ≡ p
       → get (joined_pages (of_each (page_over_old before given))) q ≡ get (part_given (page_number q) (get_or before (page_number q) no_items) o) q
   get_over p o q is here =

@@ -58,7 +58,7 @@ from_page p (m ∷ pages) q own l = elim (eq-or-lt_of_le l) [
       ∙ ap (λ k. get (get_or (m ∷ pages) k empty) q) later
 ]
 
--- a key stands in the page of its number alone
+-- a key is in the page of its number alone
 pub joined_at : (pages : List Items) (q : List ℕ) → ArePages pages → get (joined_pages pages) q ≡ get (get_or pages (page_number q) empty) q
 joined_at pages q a =
     let same : page_number q - 0 ≡ page_number q = omega arith in
@@ -114,7 +114,7 @@ own-page pages i a =
 pub page_number-lt : (q : List ℕ) → page_number q < page_count
 page_number-lt q = mod-lt (sum q) (omega arith)
 
--- what stands at a key of pages of which one was changed
+-- what is at a key of pages of which one was changed
 at_set : (pages : List Items) (i : ℕ) (m : Items) (q : List ℕ) → ArePages pages → IsOwn i m → i < page_count
     → get (joined_pages (set pages i m)) q ≡ cond (page_number q == i) (get m q) (get (joined_pages pages) q)
 at_set pages i m q a own l = joined_at (set pages i m) q (pages-set pages i m a own) ∙ by (page_number q == i) refl

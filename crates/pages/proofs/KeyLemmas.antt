@@ -1,4 +1,4 @@
--- Keys that are identified by their bytes, and maps by what stands at their keys.
+-- Keys that are identified by their bytes, and maps by what is at their keys.
 use Rattle.std.proofs.Common.{◌≡◌, ◌≢◌, ℕ, Bool, true, false, List, refl, ap}
 use Rattle.std.specs.Ordering.{eq_by_cmp, is_eq}
 use Rattle.std.specs.declared.cmp.Ordering.{Ordering}

@@ -14,7 +14,7 @@ use Rattle.pages.specs.Page.{number_among, page_number, page_count, page_entries
 use Rattle.pages.specs.Old.{old_entries, part_of_old}
 use Rattle.pages.proofs.JoinedLemmas.{page_number-lt}
 
--- a filter of a filter, where the two together are one test
+-- a filter of a filter, if the two together are one test
 filter_both : {X : Type 0} (a b c : X → Bool) → ((x : X) → b x ≡ true → a x ≡ c x) → ((x : X) → b x ≡ false → c x ≡ false) → (xs : List X) → filter a (filter b xs) ≡ filter c xs
 filter_both a b c in_b out_b [] = refl
 filter_both {X} a b c in_b out_b (x ∷ xs) = by (b x) refl (filter_both a b c in_b out_b xs)

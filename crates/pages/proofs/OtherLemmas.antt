@@ -91,7 +91,7 @@ order-elsewhere pages base m (s ∷ order) covers p l out =
     step-elsewhere pages m s.1 (stamped base s.0) (covers 0 s (omega arith)) p l out
     ∙ order-elsewhere pages base (effect m s.1 (stamped base s.0)).0 order (λ k d lt. covers (suc k) d (omega arith)) p l out
 
--- a set that covers each list covers what stands at an index
+-- a set that covers each list covers what is at an index
 covered-at : (pages : List Bool) (lists : List (List Placed)) (i : ℕ) (list : List Placed) → All (CoversAll pages) lists → slice_get lists i ≡ Some list → CoversAll pages list
 covered-at pages lists i list covers there =
     subst (CoversAll pages) (get_or_from_slice_get lists i list [] there) (covers i [] (slice_get_within lists i list there))

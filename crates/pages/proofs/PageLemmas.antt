@@ -47,7 +47,7 @@ fits-empty = let none : length (entries no_items) ≡ 0 = sym (len-entries no_it
 length-insert : (m : Items) (k : List ℕ) (v : Item) → length (entries (insert m k v)) ≡ cond (is_some (get m k)) (length (entries m)) (length (entries m) + 1)
 length-insert m k v = sym (len-entries (insert m k v)) ∙ len-insert nat_list_cmp_total m k v ∙ ap (λ n. cond (is_some (get m k)) n (n + 1)) (len-entries m)
 
--- an item for which there is room, or that stands in the place of another
+-- an item for which there is room, or that is in the place of another
 pub fits-insert : (m : Items) (k : List ℕ) (v : Item) → PageFits (entries m) → HasRoom m k → PageFits (entries (insert m k v))
 fits-insert m k v fits (inl few) = by (is_some (get m k)) refl
   where
@@ -56,7 +56,7 @@ fits-insert m k v fits (inl few) = by (is_some (get m k)) refl
     by false e = omega (arith, few, length-insert m k v ∙ ap (λ b. cond b (length (entries m)) (length (entries m) + 1)) e)
 fits-insert m k v fits (inr there) = omega (arith, fits, length-insert m k v ∙ ap (λ b. cond b (length (entries m)) (length (entries m) + 1)) there)
 
--- where a page has as many as it may have, there is room at its keys alone
+-- if a page has as many as it may have, there is room at its keys alone
 pub room-there : (m : Items) (k : List ℕ) → MOST_ENTRIES ≤ length (entries m) → HasRoom m k → is_some (get m k) ≡ true
 room-there m k full (inl few) = absurd (omega (arith, full, few))
 room-there m k full (inr there) = there

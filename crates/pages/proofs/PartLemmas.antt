@@ -24,7 +24,7 @@ module _ (m : Items) (p : ℕ) where
   pub entries-page_items : entries (page_items m p) ≡ page_entries m p
   entries-page_items = entries-from_sorted by_bytes (page_entries m p) sorted_page
 
-  -- what stands at a key of the page is what stands there in the whole
+  -- what is at a key of the page is what is there in the whole
   pub get-page_items : (q : List ℕ) → get (page_items m p) q ≡ cond (page_number q == p) (get m q) None
   get-page_items q =
       get-from_sorted by_bytes (page_entries m p) q sorted_page

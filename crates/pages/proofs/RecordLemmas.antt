@@ -1,4 +1,4 @@
--- Texts of pages that stand in bytes.
+-- Texts of pages that are in bytes.
 use Rattle.std.proofs.Common.{◌≡◌, ℕ, suc, ◌<◌, List, ◌∷◌, ◌++◌, length, get_or, refl, ap, ◌∙◌, arith, subst, append_assoc}
 use Rattle.std.specs.Prelude.{◌^◌, flat_map}
 use Rattle.std.specs.Int.{w32}
@@ -24,7 +24,7 @@ use Rattle.pages.specs.declared.layout.Layout.TheVariants.{Sorted, Tree}
 abbrev pub AreBytes : List ℕ → Type 0
 AreBytes bytes = (i : ℕ) → get_or bytes i 0 < 256
 
--- entries whose list stands in bytes behind a mark have a count
+-- entries whose list is in bytes behind a mark have a count
 count_fits : (mark : ℕ) (es : List (List ℕ × Item)) (bytes rest : List ℕ) → AreBytes bytes → bytes ≡ (mark ∷ list_text entry_text es) ++ rest → length es < 2 ^ 32
 count_fits mark es bytes rest are e =
     let same : bytes ≡ mark ∷ (num w32 (length es) ++ (flat_map entry_text es ++ rest)) = e ∙ ap (λ (t : List ℕ). mark ∷ t) (append_assoc (num w32 (length es)) (flat_map entry_text es) rest) in
@@ -45,7 +45,7 @@ pub of_entries : (es : List (List ℕ × Item)) → EntriesFit es → entries (f
 of_entries es fit = entries-from_sorted by_bytes es (as_t _ fit.rising)
 
 module _ (bytes : List ℕ) where
-  -- no page of this layout stands there
+  -- no page of this layout is there
   abbrev pub NoneIn : Layout → Type 0
   NoneIn layout = NoPrefix {X = PageState} (λ page. page.layout ≡ layout) page_record bytes
 

@@ -121,7 +121,7 @@ none-edited f all i page l read same so_far =
     take_more (items_of all) i no_items (omega (arith, l, length-map all (λ (a : PageState). a.items))) ∙ ap (λ m. take i (items_of all) ++ m ∷ []) (sym (items-at all i page l read)) in
     ap (map f) more ∙ map_push f (take i (items_of all)) page.items ∙ (λ j. so_far j ++ same j ∷ []) ∙ sym more
 
--- one value more stands in its place
+-- one value more is in its place
 pub next-value : (f : ℕ → List ℕ) (xs : List (List ℕ)) (i : ℕ) (x : List ℕ) → i < length xs → x ≡ f i → ((k : ℕ) → k < i → get_or xs k [] ≡ f k)
     → (k : ℕ) → k < i + 1 → get_or (set xs i x) k [] ≡ f k
 next-value f xs i x within is so_far k l =

@@ -61,7 +61,7 @@ module _ (nodes : List (List ℕ)) (tree : IsTree nodes) where
   read-root root read = read ∙ get_or_default nodes 1 root [] (omega (arith, tree.count)) ∙ sym root-of_tree
 
 module _ (nodes : List (List ℕ)) (m : ℕ) (d : List ℕ) where
-  -- a node stands above the two below it still where none of the three was set
+  -- a node is still above the two below it if none of the three was set
   above-set : (j : ℕ) → j ≢ m → 2 * j ≢ m → 2 * j + 1 ≢ m → IsAbove nodes j → IsAbove (set nodes m d) j
   above-set j here left right above =
       get_or-set_other nodes m j d [] here ∙ above
@@ -83,7 +83,7 @@ unmarked changed m i within not = (apart, sym (get_or-set_other changed m i true
     apart e = absurd (let yes : true ≡ false = sym (get_or-set_same changed m true false within) ∙ ap (λ (n : ℕ). get_or (set changed m true) n false) (sym e) ∙ not in cc)
 
 module _ (old nodes : List (List ℕ)) (changed : List Bool) (m : ℕ) (so_far : IsRenewed old nodes changed (m + 1)) (some : 0 < m) (few : m < page_count) where
-  -- a node that stands above a changed one is recomputed, and marked
+  -- a node that is above a changed one is recomputed, and marked
   pub renewed-made : (d : List ℕ) → d ≡ digest (inner_text (record { left = get_or nodes (2 * m) []; right = get_or nodes (2 * m + 1) [] }))
       → IsRenewed old (set nodes m d) (set changed m true) m
   renewed-made d made = record {

@@ -6,7 +6,7 @@ use Rattle.items.specs.Map.{Items}
 use Rattle.pages.specs.Page.{PageState, page_number, page_count, page_items, page_digest_in, of_each}
 use Rattle.pages.specs.declared.layout.Layout.{Layout}
 
--- only keys of page p stand in it
+-- only keys of page p are in it
 abbrev pub IsOwn : ℕ → Items → Type 0
 IsOwn p m = (key : List ℕ) → page_number key ≢ p → get m key ≡ None
 

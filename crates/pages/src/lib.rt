@@ -1,7 +1,7 @@
 //! A store of `PAGES` pages. The page of a key is the sum of its bytes modulo their number.
 //!
-//! A page is kept in one of two layouts: sorted by its keys, where its digest is SHA-256 of the page's text,
-//! or as a Merkle tree over the paths of its keys, where a write costs one path. Pages share all with
+//! A page is kept in one of two layouts: sorted by its keys, and its digest is SHA-256 of the page's text,
+//! or as a Merkle tree over the paths of its keys, in which a write costs one path. Pages share all with
 //! their clones: a write copies what it changes. A snapshot has its pages in groups, which it shares with the
 //! `Pages` that are opened of it: a write copies the handles of one group, and a seal in the same layout leaves the
 //! groups that were not written as they are. A write forgets what it changed of the digest, and

@@ -87,7 +87,7 @@ fn is_told_apart(alloc: Global, bytes: &mut [u8], at: usize) -> Result<bool, Fau
     Ok(true)
 }
 
-/// Whether the text is none if it is cut at each of its bytes, and is told apart if each is changed.
+/// Whether the text is none if it is cut at each of its bytes, and is distinguished if each is changed.
 fn are_told_apart(alloc: Global, bytes: &mut [u8]) -> Result<bool, Fault> {
     for at in 0..bytes.len() {
         let front = taken(alloc, bytes.get(..at).unwrap_or(&[]))?;
@@ -115,7 +115,7 @@ fn is_read_back(alloc: Global, page: &Page) -> Result<bool, Fault> {
     is_read(alloc, page, text.as_slice())
 }
 
-/// Whether what is cut or changed of the page's text is told apart, and the text of a tree has the digest of
+/// Whether what is cut or changed of the page's text is distinguished, and the text of a tree has the digest of
 /// its row. The text of two is not changed, for the time.
 fn has_text(alloc: Global, page: &Page, count: usize) -> Result<bool, Fault> {
     let mut text = text_of(alloc, page)?;

@@ -251,7 +251,7 @@ const FIVE: [(&[u8], u8, usize); 5] = [
     (b"ev", 4, 5000),
 ];
 
-/// The sizes of the pieces of their text. Before each data stand 3 bytes of the key and 17 of the item,
+/// The sizes of the pieces of their text. Before each data are 3 bytes of the key and 17 of the item,
 /// before the first 5 of the page.
 const SIZES: [usize; 6] = [
     25,

@@ -72,7 +72,7 @@ same_executors s head (row ∷ rows) (k ∷ ks) has tells are =
     let others : map (executor_of_row s) rows ≡ ks = same_executors s head rows ks has (λ other there. tells other (in_later k other ks there)) are.1 in
     λ i. first i ∷ others i
 
--- the states of the executors are told apart, and this is one of them
+-- the states of the executors are distinguished, and this is one of them
 tells_of : (s : StateView) (ks : List Kept) → IsState s → IsExecutorState ks s → HeadsTellStates ks → (k : Kept) → Contains ks k → TellsOf s k.saved
 tells_of s ks is among tell k there plain other text state head = tell other s state is (inr (record { kept = k; there = there; alone = record { plain = plain; text = text } })) among head
 

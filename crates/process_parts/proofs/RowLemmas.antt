@@ -27,7 +27,7 @@ one_executor_more head [] (other ∷ ks) row k are is = absurd are
 one_executor_more head (first ∷ rows) [] row k are is = absurd are
 one_executor_more head (first ∷ rows) (other ∷ ks) row k are is = (are.0, one_executor_more head rows ks row k are.1 is)
 
--- the same, where the executors are the first ones of a list
+-- the same, if the executors are the first ones of a list
 pub next_executor : (head : Head) (rows more : List ExecutorRow) (row : ExecutorRow) (ks : List Kept) (n : ℕ) (k : Kept) → n < length ks → k ≡ get_or ks n k → more ≡ rows ++ row ∷ [] → AllZip (IsExecutorRow head) rows (take n ks) → IsExecutorRow head row k → AllZip (IsExecutorRow head) more (take (n + 1) ks)
 next_executor head rows more row ks n k lt at is are it =
     let taken : take (n + 1) ks ≡ take n ks ++ k ∷ [] = ap (λ (m : ℕ). take m ks) (add-one n) ∙ (take-suc ks n k lt ∙ ap (λ (x : Kept). take n ks ++ x ∷ []) (sym at)) in

@@ -17,6 +17,6 @@ pub grows_extend : {E : Type 0} (r : Result (Unit {0}) E) (old new other : List 
 grows_extend (Ok x) old new other e = record { more = other; is = e }
 grows_extend (Err x) old new other e = record { more = []; is = e ∙ sym (append-nil old) }
 
--- what it was comes back where all after it is cut off
+-- what it was comes back if all after it is cut off
 pub cut_back : (old new : List ℕ) → Grows old new → take (length old) new ≡ old
 cut_back old new g = ap (take (length old)) g.is ∙ take_at old g.more (length old) refl

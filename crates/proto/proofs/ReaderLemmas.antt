@@ -110,7 +110,7 @@ closed_keeps bytes (Close notice ∷ turns) new r c = r.3
 closed_keeps bytes (Say notice ∷ turns) new r c = closed_keeps r.0 turns new r.2 c
 closed_keeps bytes (Ask command quiet ∷ turns) new r c = closed_keeps r.0 turns new r.2 c
 
--- what stands is at most a line and a block at the limit, with their ends
+-- what is kept is at most a line and a block at the limit, with their ends
 pub held_within : (s : Stage) → IsStage s → length s.line + length s.block ≤ MOST_BLOCK_BYTES + (MOST_LINE_BYTES + 2)
 held_within s i = by s.size s.line s.block s.dropped i
   where

@@ -150,7 +150,7 @@ length_blank size after p = length-append (zeros (min size (length after)) ++ dr
     least : (m n : ℕ) → min m n + (n - m) ≡ n
     least m n = grind (arith, nat_tests)
 
--- A block above the limit is told by its length and what stands behind it.
+-- A block above the limit is identified by its length and what is behind it.
 same_big : (h : Header) (x y : List ℕ) → nat_lt MOST_BLOCK_BYTES h.size ≡ true → length x ≡ length y → drop h.size x ≡ drop h.size y → turn_of_line (Opens h) x ≡ turn_of_line (Opens h) y
 same_big h x y big l e =
     let end : slice_range x h.size (h.size + 2) ≡ slice_range y h.size (h.size + 2) = ap (take (h.size + 2 - h.size)) e in

@@ -31,7 +31,7 @@ pub record InBlock (h : Header) (line block : List ℕ) (dropped : ℕ) : Type 0
   pub kept : nat_lt MOST_BLOCK_BYTES h.size ≡ false → dropped ≡ 0
   pub blank : nat_lt MOST_BLOCK_BYTES h.size ≡ true → 0 < length block → dropped ≡ h.size
 
--- part of a line stands
+-- part of a line is there
 pub record InLine (line block : List ℕ) (dropped : ℕ) : Type 0 where
   pub one_line : HasNoNewline line
   pub short : length line < MOST_LINE_BYTES
@@ -91,7 +91,7 @@ Cuts line piece (End at) = (at < length piece) × HasNoNewline (line ++ take at 
 Cuts line piece (TooLong n) = (0 < n) × (n ≤ length piece) × (next_turn (line ++ piece) ≡ Some (Close LineTooLong, drop n piece))
 Cuts line piece Open = HasNoNewline (line ++ piece) × (length (line ++ piece) < MOST_LINE_BYTES)
 
--- The bytes begin with these turns, of which none closes, and then this stands.
+-- The bytes begin with these turns, of which none closes, and then come those of this.
 abbrev pub SoFar : List ℕ → List Turn → List ℕ → Type 0
 SoFar bytes [] left = bytes ≡ left
 SoFar bytes (Close notice ∷ turns) left = ⊥

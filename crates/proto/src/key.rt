@@ -50,7 +50,7 @@ fn are_key_bytes(bytes: &[u8]) -> bool
     bytes.iter().all(|b| is_key_byte(*b))
 }
 
-/// Whether the bytes may stand as a key: 1 to `MOST_KEY_BYTES`, and none a space or a control
+/// Whether the bytes may be a key: 1 to `MOST_KEY_BYTES`, and none a space or a control
 /// character (protocol.txt, "Keys").
 pub fn is_key_text(bytes: &[u8]) -> bool
     ensures { result ≡ is_key bytes.now }
@@ -59,7 +59,7 @@ pub fn is_key_text(bytes: &[u8]) -> bool
 }
 
 impl Key {
-    /// The key of these bytes, which may stand as one (`is_key_text`).
+    /// The key of these bytes, which may be one (`is_key_text`).
     pub fn new(bytes: Vec<u8>) -> Key
         requires { IsKey bytes.items }
         ensures { result ≡ bytes.items }

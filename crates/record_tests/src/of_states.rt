@@ -208,7 +208,7 @@ const UNFIT: [Row; 3] = [
     },
 ];
 
-/// What a state is told by, and its record of today.
+/// What identifies a state, and its record of today.
 fn told_of(alloc: Global, state: &State) -> Result<(Told, Vec<u8>), AllocError> {
     let mut record = Vec::new(alloc);
     state.put(&mut record)?;

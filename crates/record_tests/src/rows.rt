@@ -72,7 +72,7 @@ fn is_told_apart<T: Record + Drop>(
     Ok(true)
 }
 
-/// Whether a record is none if it is cut at each of its bytes, and is told apart if each is changed.
+/// Whether a record is none if it is cut at each of its bytes, and is distinguished if each is changed.
 fn are_told_apart<T: Record + Drop>(alloc: Global, bytes: &mut [u8]) -> Result<bool, Fault> {
     for at in 0..bytes.len() {
         let front = read_again::<T>(alloc, bytes.get(..at).unwrap_or(&[]))?;

@@ -82,7 +82,7 @@ module _ (version : Version) where
     none = λ xs after f same. no_more s front xs rest after (omega (arith, lt, so_far.are.counted, f.counted)) so_far.are.over f.over (sym so_far.parts ∙ same) none;
   })
 
-  -- where no members stand, no chain is filled with them
+  -- if no members are there, no chain is filled with them
   pub not_filled : (s : StateView) (count : ℕ) (bytes : List ℕ) (e : Fault) → Refused e (NoPrefix (AreMembers version s count) (flat_map (member_text_in version)) bytes) → Refused e (NoPrefix (IsFilled version s count) (members_text version) bytes)
   not_filled s count bytes e = Refused-weaker e (λ (none : NoPrefix (AreMembers version s count) (flat_map (member_text_in version)) bytes). record { none = λ c after f same. none.none c.members after f.members same })
 
@@ -114,7 +114,7 @@ module _ (version : Version) where
       let members = members_apart c.have c.members d.members r q count.0 one.over (subst (λ (s : StateView). AreOverIn version s d.members) (sym state.0) other.over) count.1 in
       ((λ i. record { have = state.0 i; members = members.0 i }), members.1)
 
-  -- where something is left, the whole is no chain
+  -- if something is left, the whole is no chain
   pub chain_left_over : (bytes : List ℕ) (c : ChainView) (rest : List ℕ) → IsRecordedIn version c → bytes ≡ chain_text_in version c ++ rest → (rest ≡ [] → ⊥) → (d : ChainView) → IsRecordedIn version d → bytes ≡ chain_text_in version d → ⊥
   chain_left_over bytes c rest one got more d other e = more (chain_apart c d rest [] one other (sym got ∙ (e ∙ sym (append-nil (chain_text_in version d))))).1
 

@@ -41,7 +41,7 @@ has_is st have (t ∷ ts) =
     cond_both (is_standing st have) _ _ (λ (c : Option ChainView). (is_standing st have || list_any (λ (x : TentativeView). is_standing st x.after) (t ∷ ts)) ≡ is_some c)
     (λ e. rw e refl) (λ e. rw e (has_is st t.after ts))
 
--- where the committed state is another one, the end is the same without the first member
+-- if the committed state is another one, the end is the same without the first member
 pub end_goes_on : (st : Standing) (have : StateView) (ts : List TentativeView) → is_standing st have ≡ false
     → chain_from st (without_first have ts).have (without_first have ts).members ≡ chain_from st have ts
 end_goes_on st have [] e = refl
@@ -57,7 +57,7 @@ pub has_first : (st : Standing) (have : StateView) (ts : List TentativeView) →
 has_first st have [] e has = absurd (cc (ap (λ (c : Option ChainView). is_some c) (cond-false (is_standing st have) (Some (record { have = have; members = [] })) None e), has))
 has_first st have (t ∷ ts) e has = omega arith
 
--- where it is the one, this is the end
+-- if it is the one, this is the end
 pub end_here : (st : Standing) (have : StateView) (ts : List TentativeView) → is_standing st have ≡ true → chain_from st have ts ≡ Some (record { have = have; members = ts })
 end_here st have [] e = cond-true (is_standing st have) _ _ e
 end_here st have (t ∷ ts) e = cond-true (is_standing st have) _ _ e

@@ -119,7 +119,7 @@ one_taken lists before callers n requests ran rest r some small low there t = re
       );
 }
 
--- where some are left, so is one of the caller whose turn it was
+-- if some are left, so is one of the caller whose turn it was
 pub one_left : (lists before : List (List Running)) (callers n requests : ℕ) (ran : List Running) → n < requests → n % callers < callers → Taken lists before callers (n + 1) requests ran
     → (f : Task → Running) (group : List Task) → length group ≡ requests → before ≡ lists_by f callers group
     → (list : List Running) → slice_get lists (n % callers) ≡ Some list → length list ≡ 0 → ⊥

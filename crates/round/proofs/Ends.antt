@@ -68,7 +68,7 @@ kinds_at (x ∷ xs) kinds (suc i) e at = kinds_at xs kinds.2 i e at
 is_place : (n m : ℕ) → (n == m) ≡ true → n ≡ m
 is_place n m is = grind (arith, nat_tests)
 
--- the seat of a caller, where the seats stand in the order of their callers
+-- the seat of a caller, if the seats are in the order of their callers
 caller_at : (ss : List Sitting) (n from : ℕ) → map (λ (s : Sitting). s.caller) ss ≡ range_with_len from n → (i : ℕ) → i < n → (s : Sitting) × (slice_get ss i ≡ Some s) × (s.caller ≡ from + i)
 caller_at [] zero from names i lt = absurd (omega arith)
 caller_at [] (suc n) from names i lt = absurd (let no : [] ≡ from ∷ range_with_len (from + 1) n = names in cc)

@@ -1,4 +1,4 @@
--- Lists by what stands at their places.
+-- Lists by what is at their places.
 use Rattle.std.proofs.Common.{◌≡◌, ◌≢◌, ◌⊎◌, ℕ, zero, suc, ◌+◌, ◌<◌, Bool, true, false, cond, List, [], ◌∷◌, ◌++◌, map, length, set, Some, None, refl, sym, ap, ◌∙◌, inl, inr, ⊎_elim, arith, subst}
 use Rattle.std.specs.Prelude.{slice_get}
 use Rattle.std.specs.List.{filter, AllByRecursion, list_all, range_with_len}
@@ -40,7 +40,7 @@ module _ {X : Type 0} where
       by r true = (suc r.0, r.1)
       by r false = r
 
-  -- a test that only passes where another does
+  -- a test that only passes if another does
   pub filter_within : (p q : X → Bool) (l : List X) → ((i : ℕ) (x : X) → slice_get l i ≡ Some x → p x ≡ true → q x ≡ true) → filter p (filter q l) ≡ filter p l
   filter_within p q [] h = refl
   filter_within p q (x ∷ l) h = by (filter_within p q l (λ i y at. h (suc i) y at)) (p x) (q x) refl refl
@@ -103,7 +103,7 @@ module _ {X Y : Type 0} where
   map_at f (y ∷ ys) zero x at = ap (λ z. Some (f z)) (same_element y x at)
   map_at f (y ∷ ys) (suc i) x at = map_at f ys i x at
 
--- what stands behind a front of the values at a range
+-- what is behind a front of the values at a range
 pub at_range : {Y : Type 0} (f : ℕ → Y) (n from : ℕ) (front : List Y) (y : Y) (back : List Y) → front ++ y ∷ back ≡ map f (range_with_len from n) → (y ≡ f (from + length front)) × (length front < n)
 at_range f zero from [] y back e = no_cons y back e
 at_range f zero from (x ∷ front) y back e = no_cons x (front ++ y ∷ back) e

@@ -16,7 +16,7 @@ use Rattle.round.proofs.Interleaves.{apart_from}
 use Rattle.round.proofs.Dealt.{dealt_is, dealt_apart}
 use Rattle.round.proofs.Follows.{follows_push, running_push, tasks_of_running}
 
--- where a step comes next, one is left
+-- if a step comes next, one is left
 pub is_left : (r : Running) (s : Step) → next_of r ≡ Some s → is_done r ≡ false
 is_left r s next = by (leb (length r.task.steps) (length r.answers)) refl
   where
@@ -44,7 +44,7 @@ module _ (base : Stamp) (group : List Task) (callers : ℕ) (fit : fits base gro
   pub fit_dealt : (caller index : ℕ) (t : Task) → slice_get (dealt callers caller group) index ≡ Some t → task_fits base t ≡ true
   fit_dealt caller index t at = let d = dealt_is callers caller 0 group index t at in list_all_at (task_fits base) group last_two.0 d.0 t d.1
 
--- the step and the answer that stand last are those that were made
+-- the step and the answer that are last are those that were made
 pub made_last : (old new : Running) (step : Step) (answer : Answer) → next_of old ≡ Some step → new ≡ record { task = old.task; answers = old.answers ++ answer ∷ [] }
     → (length new.answers ≤ length new.task.steps)
     × ((s : Step) → slice_get new.task.steps (length new.answers - 1) ≡ Some s → s ≡ step) × ((a : Answer) → slice_get new.answers (length new.answers - 1) ≡ Some a → a ≡ answer)

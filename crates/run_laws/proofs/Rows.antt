@@ -52,7 +52,7 @@ sevens = record { 0 = replicate 32 7 }
 abbrev eights : Token
 eights = record { 0 = replicate 32 8 }
 
--- the Commits stand in the order of the decrees
+-- the Commits are in the order of the decrees
 commits_in_order : commits (Rollback ∷ Commit 1 sevens ∷ Rollback ∷ Commit 2 eights ∷ []) ≡ (1, sevens) ∷ (2, eights) ∷ []
 commits_in_order = refl
 
@@ -120,7 +120,7 @@ decrees = Rollback ∷ Commit 1 second.token ∷ []
 abbrev met : List StateView
 met = second ∷ []
 
--- the state is one, and was made of what stands before it
+-- the state is one, and was made of what is before it
 second_is_state : IsState second
 second_is_state = record {
   sessions_fit = first_is_state.sessions_fit;

@@ -105,7 +105,7 @@ module _ (met : StateView → Type 0) (rounds : Executed → Type 0) (apart : To
         all_known = all_cons rounds e rest.run made.known_round rest.all_known;
       }
 
--- a run grows where more is met and more executed, be it by lists or by what a play says
+-- a run grows if more is met and more executed, be it by lists or by what a play says
 module _ (met later_met : StateView → Type 0) (rounds later_rounds : Executed → Type 0) where
   pub grows : (ds more : List Decree) (run : List Executed) → ((s : StateView) → met s → later_met s) → ((e : Executed) → rounds e → later_rounds e) → ToldApart later_met → AllMade later_met later_rounds (ds ++ more) → IsRunOf met rounds ds run
       → (later : List Executed) × Extends run later × IsRunOf later_met later_rounds (ds ++ more) later

@@ -1,4 +1,4 @@
--- Where texts have distinct digests, a token tells the state.
+-- If texts have distinct digests, a token tells the state.
 use Rattle.std.proofs.Common.{◌≡◌, ℕ, zero, suc, ◌<◌, ◌⊎◌, inl, inr, ⊎_elim, get_or, List, [], ◌∷◌, ◌++◌, refl, sym, ap, ◌∙◌, subst, arith}
 use Rattle.std.specs.Prelude.{Contains, All}
 use Rattle.std.proofs.lemmas.List.Elements.{Contains-get_or, Contains-append_left, Contains-append_right, Contains-append_cases}
@@ -38,7 +38,7 @@ all_of : (these those : List (List ℕ)) → AreAmong these those → All (Conta
 all_of these those among k d low = among (get_or these k d) (Contains-get_or these k d low)
 
 module _ (texts : List (List ℕ)) (distinct : Distinct (Contains texts)) where
-  -- what tokens are digests of is the same where they are
+  -- what tokens are digests of is the same if they are
   same_told : (s t : StateView) → AreAmong (last_of s) texts → AreAmong (last_of t) texts → token_of s ≡ token_of t → told_by s ≡ told_by t
   same_told s t p q e =
       same_value token_text_free (told_by s) (told_by t)

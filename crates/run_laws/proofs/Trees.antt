@@ -1,4 +1,4 @@
--- Where texts have distinct digests, the root of a tree tells its leaves, and the digests of pages tell the items.
+-- If texts have distinct digests, the root of a tree tells its leaves, and the digests of pages tell the items.
 use Rattle.std.proofs.Common.{◌≡◌, ℕ, zero, suc, ◌<◌, ◌*◌, ◌^◌, List, [], ◌∷◌, ◌++◌, map, length, refl, sym, ap, ◌∙◌, arith}
 use Rattle.std.specs.Prelude.{Contains}
 use Rattle.std.specs.FinMap.{entries}
@@ -38,7 +38,7 @@ use Rattle.run_laws.proofs.Elements.{among_head, among_tail, among_left, among_r
 pub same_value : {X : Type 0} {text : X → List ℕ} → IsPrefixFree text → (v w : X) → text v ≡ text w → v ≡ w
 same_value {text = text} free v w e = (free.apart v w [] [] (ap (λ (t : List ℕ). t ++ []) e)).0
 
--- texts that have one digest are one, where these are told apart
+-- texts that have one digest are one, if these are distinguished
 pub same_text : (among : List ℕ → Type 0) → Distinct among → (a b : List ℕ) → among a → among b → digest a ≡ digest b → a ≡ b
 unfolding digest
 same_text among distinct a b p q e = distinct a b p q e
@@ -118,7 +118,7 @@ module _ (texts : List (List ℕ)) (distinct : Distinct (Contains texts)) where
       let rest = same_pages count a b ns (among_tail _ _ texts p) (among_tail _ _ texts q) others in
       λ i. entries i ∷ rest i
 
-  -- and so it tells the items, where the entries of the pages stand in the order of their keys
+  -- and so it tells the items, if the entries of the pages are in the order of their keys
   same_sorted : (height count : ℕ) (a b : Items) → count ≡ 2 ^ height → 0 < count → AreAmong (sorted_texts count a) texts → AreAmong (sorted_texts count b) texts
       → AreAmong (inner_texts height (each_among count (digest_among count a))) texts → AreAmong (inner_texts height (each_among count (digest_among count b))) texts
       → root_of height (each_among count (digest_among count a)) ≡ root_of height (each_among count (digest_among count b)) → a ≡ b
@@ -127,7 +127,7 @@ module _ (texts : List (List ℕ)) (distinct : Distinct (Contains texts)) where
       (length-map-range_with_len (digest_among count a) 0 count ∙ size) (length-map-range_with_len (digest_among count b) 0 count ∙ size) r s e in
       same_among count some a b (same_pages count a b (range_with_len 0 count) p q leaves)
 
-  -- and where they stand in trees
+  -- and if they are in trees
   same_trees : (a b : Items) (ns : List ℕ) → AreAmong (flat_map (λ p. items_texts (page_items a p)) ns) texts → AreAmong (flat_map (λ p. items_texts (page_items b p)) ns) texts
       → map (page_digest_in layout.Tree a) ns ≡ map (page_digest_in layout.Tree b) ns → map (entries_among (pages_of Tree) a) ns ≡ map (entries_among (pages_of Tree) b) ns
   same_trees a b [] p q e = refl

@@ -12,7 +12,7 @@ pub parted_none : (s : ℕ) (text : List ℕ) → ((k : ℕ) → k < length text
 parted_none s [] h = refl
 parted_none s (b ∷ bs) h = rw (not_true _ (h 0 (omega arith)), ← parted_none s bs (λ k l. h (suc k) (omega arith))) refl
 
--- the first separator stands at this place
+-- the first separator is at this place
 pub parted_at : (s : ℕ) (text : List ℕ) (at : ℕ) → at < length text → ((k : ℕ) → k < at → ¬ (is_byte s (get_or text k 0) ≡ true)) → is_byte s (get_or text at 0) ≡ true → Some (take at text, drop (suc at) text) ≡ parted s text
 parted_at s [] at l h e = absurd (omega arith)
 parted_at s (b ∷ bs) zero l h e = rw e refl

@@ -11,7 +11,7 @@ use Rattle.schedules.specs.Line.{node_number}
 use Rattle.schedules.proofs.OptionLemmas.{option_map_some, option_map_none, bind_some, guard_some, at_some}
 use Rattle.schedules.proofs.LinesLemmas.{parted_text}
 
--- where the front has no separator, the text is parted behind it
+-- if the front has no separator, the text is parted behind it
 pub parted_again : (s : ℕ) (front back : List ℕ) → parted s front ≡ None → parted s (front ++ s ∷ back) ≡ Some (front, back)
 parted_again s [] back h = rw (eq-eqb s s refl) refl
 parted_again s (b ∷ bs) back h =

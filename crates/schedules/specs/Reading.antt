@@ -117,7 +117,7 @@ abbrev pub or_bad : {A B : Type 0} → Option A → ℕ → (A → Result B ℕ)
 or_bad None number then_on = Err number
 or_bad (Some a) number then_on = then_on a
 
--- The size of the world, how many lines there were so far, and those that remain; or the number of the first bad line. So many stand before these lines, with `u` among them or not.
+-- The size of the world, how many lines there were so far, and those that remain; or the number of the first bad line. So many are before these lines, with `u` among them or not.
 abbrev pub head_said : Option ℕ → ℕ → List (List ℕ) → Result (ConfigView × ℕ × List (List ℕ)) ℕ
 head_said u before [] = Err (before + 1)
 head_said None before (line ∷ lines) =

@@ -42,20 +42,20 @@ SpellsSchedule bytes s = SaySchedule (told_lines (lines_of bytes)) s
 
 -- ---- what is refused
 
--- the line may stand at this place among those that say something, counted from 0
+-- the line is allowed at this place among those that say something, counted from 0
 abbrev pub FitsPlace : ℕ → List ℕ → Type 0
 FitsPlace zero line = (u : ℕ) × IsSizeText u line
 FitsPlace (suc zero) line = (clients : ℕ) × IsClientsText clients line
 FitsPlace (suc (suc n)) line = SaysSomething line
 
--- they may stand one after another, from this place on
+-- they may come one after another, from this place on
 abbrev pub AllFit : ℕ → List (List ℕ) → Type 0
 AllFit place [] = Unit {0}
 AllFit place (line ∷ lines) = FitsPlace place line × AllFit (suc place) lines
 
 -- The line of this number, counted from 1, is the first one that may not be where it is; or it is missing, as the file ends before `u` and `clients`.
 pub record IsFirstBad (lines : List (List ℕ)) (number : ℕ) : Type 0 where
-  -- how many lines stand before it
+  -- how many lines are before it
   pub before : ℕ
   pub numbered : number ≡ suc before
   pub all_fit : AllFit 0 (told_lines (take before lines))

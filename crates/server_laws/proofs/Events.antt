@@ -218,7 +218,7 @@ module _ {u : ℕ} {w : WorldView} {m : ExecutorMachine} (before : List Executor
         let mine = is.executors id old placed in
         subst (λ (y : WorldView). Follows true u m y) (sym h.3) (reopens old h.0 h.1 mine.0 placed mine.1 mine.2 (subst (λ (y : ℕ). ExecutorReopens y id old h.0 h.1) is.same_u h.2))
 
-  -- ---- an executor that crashes, is lost, or is told that a save will fail
+  -- ---- an executor that crashes, is lost, or whose next save is set to fail
 
   stopped_is : (id : ℕ) (e : ExecutorView) (d : Durable) → IsUp u id d e → IsRecordOf u id e.saved d
   stopped_is id e d same = some_record u id d e.saved same.recorded

@@ -26,7 +26,7 @@ use Rattle.server_laws.proofs.Moves.{Moves}
 use Rattle.server_laws.proofs.Records.{chain_is_linked}
 
 -- Some steps lead to a machine that is of this world, before what its letters make chosen. What is new of history is of an executor of the
--- world; where replicas were only opened, nothing is.
+-- world; if replicas were only opened, nothing is.
 pub record Follows (calm : Bool) (u : ℕ) (m : ExecutorMachine) (w : WorldView) : Type 0 where
   pub now : ExecutorMachine
   pub steps : Steps u m now

@@ -47,7 +47,7 @@ use Rattle.server_laws.proofs.Works.{Comes, begun_comes, moved_comes, stepped_co
 use Rattle.server_laws.proofs.Lines.{told_is, obey_none, obey_is, parcel_moves}
 use Rattle.server_laws.proofs.Stood.{parts, reached_is, stood_is, stood_none, stood_saves}
 
--- What a step owes: it is some steps of the machine, with its ballots, or without them where it stops with the new record. What is not saved
+-- What a step owes: it is some steps of the machine, with its ballots, or without them if it stops with the new record. What is not saved
 -- is as it was, and its work is over the tip.
 pub record IsStepOf (u id : ℕ) (m : ExecutorMachine) (s : ExecutorState) (o : ExecutorOutcome) : Type 0 where
   pub done : Moves false u id m (saved_of o.state) (ballots o.letters)
@@ -207,7 +207,7 @@ module _ (u id : ℕ) (m : ExecutorMachine) (s : ExecutorState) (at : slice_get 
       (λ _. quiet (one_letter id s (Verifier v) (body.Ballot (ballot.Ask (s.known + 1)))) refl (no_token _ (s.known + 1) refl) works)
       (λ _. silent))
 
-  -- what is told to stand, where the state that stands is found, or is not
+  -- what is told to stand, if the state that stands is found, or is not
   stood_of : (place : ℕ) (st : Standing) → nat_lt s.known place ≡ true → IsStandingAt m.decrees place st → (o : Option ChainView) → chain_from st s.chain.have s.chain.members ≡ o → IsStepOf u id m s (stood u id s place st o)
   stood_of place st beyond told o is =
       let after = stood_is u id s place st o is works in

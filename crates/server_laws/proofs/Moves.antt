@@ -1,4 +1,4 @@
--- What becomes of the machine where one executor saves and says something.
+-- What becomes of the machine if one executor saves and says something.
 use Rattle.std.proofs.Common.{◌≡◌, ℕ, zero, suc, ◌<◌, ◌≤◌, ◌⊎◌, Bool, false, List, [], ◌∷◌, ◌++◌, length, take, Some, inl, inr, refl, sym, ◌∙◌, ap, ⊎_elim, slice_get, slice_set}
 use Rattle.std.specs.Prelude.{Contains, ◌==◌, if◌then◌else◌}
 use Rattle.std.proofs.lemmas.Bool.{cond_both}
@@ -66,7 +66,7 @@ set_same [] e x at = absurd (cc)
 set_same (y ∷ xs) zero x at = let same : y ≡ x = cc at in ap (λ (z : Durable). z ∷ xs) (sym same)
 set_same (y ∷ xs) (suc e) x at = ap (λ (z : List Durable). y ∷ z) (set_same xs e x at)
 
--- The executor has saved this, and these ballots were sent. What is new of history is its own; where it only says again what it had, nothing is.
+-- The executor has saved this, and these ballots were sent. What is new of history is its own; if it only says again what it had, nothing is.
 pub record Moves (calm : Bool) (u e : ℕ) (m : ExecutorMachine) (saved : Durable) (sent : Letters) : Type 0 where
   pub now : ExecutorMachine
   pub steps : Steps u m now
@@ -117,7 +117,7 @@ module _ (u e : ℕ) (m : ExecutorMachine) (x : Durable) (at : slice_get m.execu
     rounds_from = round_last member.ordered t;
   }
 
-  -- the same where it stops with the new record
+  -- the same if it stops with the new record
   pub made_alone : (t : TentativeView) → IsMember x.standing.epoch (tip x.have x.chain) t → x.have.number ≡ x.standing.n → Moves false u e m (record x { chain = x.chain ++ t ∷ [] }) []
   made_alone t member level = record {
     now = record m { executors = slice_set m.executors e (record x { chain = x.chain ++ t ∷ [] }); met = m.met ++ t.after ∷ []; rounds = m.rounds ++ executed_of member.ordered t ∷ [] };

@@ -33,7 +33,7 @@ among_decrees [] i d e = absurd (cc e)
 among_decrees (x ∷ ds) zero d e = let same : x ≡ d = cc e in subst (Contains (x ∷ ds)) same (in_head x ds)
 among_decrees (x ∷ ds) (suc i) d e = in_tail x d ds (among_decrees ds i d e)
 
--- states are told apart where more are
+-- states are distinguished if more are
 pub apart_among : (met more : StateView → Type 0) → ((s : StateView) → met s → more s) → ToldApart more → ToldApart met
 apart_among met more h apart = record {
   states = λ s m. apart.states s (h s m);

@@ -53,7 +53,7 @@ made_more met more rounds h s (Commit n t) made = record {
   new_token = made.new_token;
 }
 
--- what was met in the whole play is told apart; what was asked and given is as the laws of `asked` say
+-- what was met in the whole play is distinguished; what was asked and given is as the laws of `asked` say
 module _ (c : ConfigView) (all : List WorldView) (apart : ToldApart (IsMet all)) (executed_cut : ExecutedWasCut) (executed_asked : ExecutedIsAsked) (given_replied : GivenIsReplied) where
   -- a run of the decrees that are chosen in this world, of rounds of the worlds up to it
   abbrev RunOf : List WorldView → WorldView → List Executed → Type 0

@@ -43,7 +43,7 @@ reached_is st have (t ∷ ts) = by (is_standing st have) (reached_is st t.after 
 abbrev pub IsStood : ExecutorOutcome → Durable → Type 0
 IsStood o x = (saved_of o.state ≡ x) × HasWork (saved_of o.state) o.state.work
 
--- work stays where the epoch goes on, over a tip that is the same
+-- work stays if the epoch goes on, over a tip that is the same
 work_over : (s : ExecutorState) (place : ℕ) (st : Standing) (c : ChainView) (work : Option WorkView) → IsEndOf st s.chain.have s.chain.members c → st.epoch ≡ s.standing.epoch → HasWork (saved_of s) work
     → HasWork (record { known = place; standing = st; have = c.have; chain = c.members }) work
 work_over s place st c None is same ok = tt
@@ -55,7 +55,7 @@ work_over s place st c (Some w) is same ok = record {
   level = eqb-true c.have.number st.n (and_parts (c.have.number == st.n) (token_eq c.have.token st.token) is.stands).0;
 }
 
--- the state after it, where it is known whether the epoch goes on
+-- the state after it, if it is known whether the epoch goes on
 abbrev left_where : ExecutorState → ℕ → Standing → ChainView → Bool → ExecutorState
 left_where s place st c b = record s { known = place; standing = st; chain = if b then c else undone c; work = if b then s.work else None }
 

@@ -170,7 +170,7 @@ verifier_sends u id s (input.Letter l) = received_own u id s l.from l.body
 verifier_sends u id s input.Suspect = verifiers_of id (member_count u) (ballot.Change (next_led u id s.view))
 verifier_sends u id s (input.Trim place) = trim_own id s place
 
--- and where it is opened
+-- and if it is opened
 pub opened_sends : (u id : ℕ) (saved : Option (List ℕ)) (failures : ℕ) (told_fails : Bool) (v : VerifierView) (new : Letters) → Opens u id saved failures told_fails v new → AreOf id new
 opened_sends u id None failures told_fails v new h = subst (AreOf id) (sym h.1) tt
 opened_sends u id (Some bytes) failures told_fails v new h = subst (AreOf id) (sym h.2) (others_of id (member_count u) (ballot.Ask (next_place v.state)))

@@ -29,7 +29,7 @@ OneIsRead = (u id : ℕ) (bytes : List ℕ) (x : Durable) (s : ExecutorState) �
 abbrev pub WorldsAreOfExecutorMachines : Type 0
 WorldsAreOfExecutorMachines = (c : ConfigView) (events : List Event) (worlds : List WorldView) (w : WorldView) → ReachedWorlds c events worlds → EndsWith worlds w → HasExecutorMachine w.u worlds w
 
--- if digests tell their texts apart, the states that were met are told apart: each has the token of its parts
+-- if digests tell their texts apart, the states that were met are distinguished: each has the token of its parts
 abbrev pub MetAreToldApart : Type 0
 MetAreToldApart = (c : ConfigView) (events : List Event) (worlds : List WorldView) → ReachedWorlds c events worlds → DigestsAreDistinct worlds → ToldApart (IsMet worlds)
 

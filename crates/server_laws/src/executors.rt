@@ -17,7 +17,7 @@ pub fn worlds_are_of_executor_machines()
     ensures { WorldsAreOfExecutorMachines }
 {}
 
-/// If digests tell the texts of the states that were met apart, the states are told apart, as
+/// If digests tell the texts of the states that were met apart, the states are distinguished, as
 /// `run_laws` and `custody_laws` ask for it: only the first one has number 0, and each other has the token of
 /// its parts.
 pub fn met_are_told_apart_in_worlds()

@@ -76,7 +76,7 @@ impl Service {
     ghost use Rattle.service.specs.Owed.{AllWait, IsFreeIn};
     ghost use Rattle.service.specs.Ticks.{AreAllUpIn, EachHasPause};
 
-    /// A service where no connection came, over `2u + 1` executors, as many verifiers, and as many proxies as
+    /// A service to which no connection came, over `2u + 1` executors, as many verifiers, and as many proxies as
     /// the config has clients. What connections send is read in this grammar.
     ///
     /// NoMemory: an allocation failed. Any other error is that of a node that does not open.

@@ -14,7 +14,7 @@ use Rattle.run_laws.proofs.Elements.{in_head, in_tail, in_none, first_or_other}
 use Rattle.connections.proofs.TakeLemmas.{contains_at}
 use Rattle.ensemble.specs.Ensemble.{EnsembleView, IsEnsemble, is_of, asks_of, asked_turn, turns_of}
 
--- where it stands
+-- where it is
 pub place_of : {X : Type 0} (xs : List X) (x : X) → Contains xs x → (k : ℕ) × (slice_get xs k ≡ Some x)
 place_of xs x c = (c.0, slice_get_read xs (length xs) c.0 x refl c.1 (sym c.2))
 

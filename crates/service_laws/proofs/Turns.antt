@@ -70,7 +70,7 @@ any_or_none {X} P (x ∷ xs) = by (P x) refl (any_or_none P xs)
     by false is (inl there) = inl (there.0, in_tail x there.0 xs there.1, there.2)
     by false is (inr none) = inr (λ y c. ⊎_elim (λ (same : x ≡ y). ap P (sym same) ∙ is) (λ (there : Contains xs y). none y there) (first_or_other x y xs c))
 
--- a list whose members stand at the same places of another is a beginning of it
+-- a list whose members are at the same places of another is a beginning of it
 beginning : {X : Type 0} (xs ys : List X) → ((i : ℕ) (x : X) → slice_get xs i ≡ Some x → slice_get ys i ≡ Some x) → xs ≡ take (length xs) ys
 beginning [] ys h = refl
 beginning (x ∷ xs) [] h = absurd (let none = h 0 x refl in cc none)

@@ -53,7 +53,7 @@ abbrev pub AreAskedInTurn : List Event → List WorldView → List Assignment �
 AreAskedInTurn events worlds assignments = (b : Assignment) (t : ℕ) → Contains assignments b → 1 ≤ t → t < b.turn
     → (a : Assignment) × Contains assignments a × (a.connection ≡ b.connection) × (a.turn ≡ t) × WasAnsweredBefore events worlds a b
 
--- Each moment is a cut of this order: what is before the cut had been heard by then, and answers all that had been given by then. What is asked or given later stands behind it.
+-- Each moment is a cut of this order: what is before the cut had been heard by then, and answers all that had been given by then. What is asked or given later is behind it.
 abbrev pub AreCuts : Dialect → List Passed → List Line → Type 0
 AreCuts d passed lines = (early late : List Passed) → passed ≡ early ++ late → (before after : List Line) × (lines ≡ before ++ after) × IsConnectionOrder d (heard_among early) (given_among early) (moments_among early) before
 

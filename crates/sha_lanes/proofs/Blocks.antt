@@ -20,7 +20,7 @@ hash_after_parts h p t q (suc e) same =
     let at : q + suc e ≡ (q + e) + 1 = omega arith in
     rw (at, hash_after_next h p (q + e), before, same e (omega arith)) refl
 
--- the blocks of t, where t begins with what p has after its first q blocks
+-- the blocks of t, if t begins with what p has after its first q blocks
 pub block_of_rest : (p t : List ℕ) (q e k : ℕ) → take (64 * e) t ≡ drop (64 * q) p → k < e
     → take 64 (drop (k * 64) t) ≡ take 64 (drop ((q + k) * 64) p)
 block_of_rest p t q e k same lt =

@@ -23,7 +23,7 @@ use Rattle.pages.specs.Joined.{IsOwn}
 use Rattle.states.specs.StateRecord.{changed_page, changed_items, change_text}
 
 module _ (layout : Layout) (p : ℕ) (bytes : List ℕ) where
-  -- no page of this number stands there in this layout
+  -- no page of this number is there in this layout
   abbrev pub NoPage : Type 0
   NoPage = NoPrefix {X = PageState} (λ page. IsOwn p page.items) (λ page. text_in layout page.items) bytes
 
@@ -33,7 +33,7 @@ module _ (layout : Layout) (p : ℕ) (bytes : List ℕ) where
   pub no_page_in : (e : Fault) → Refused e (NoPrefix {X = PageState} Always page_record bytes) → Refused e NoPage
   no_page_in e = Refused-weaker e (λ none. record { none = λ v after own same. none.none (laid v.items) after tt same })
 
-  -- what stands there is another page than this one, or in another layout
+  -- what is there is another page than this one, or in another layout
   only_this : (page : PageState) (rest : List ℕ) → bytes ≡ page_record page ++ rest → (m : Items) (after : List ℕ) → bytes ≡ text_in layout m ++ after → (page.layout ≡ layout) × (page.items ≡ m)
   only_this page rest got m after same =
       let as_laid : Laid = record { items = page.items; layout = page.layout } in
@@ -116,14 +116,14 @@ module _ (layout : Layout) (before : Items) where
     abbrev pub NoChange : Type 0
     NoChange = NoPrefix {X = PageState} (λ page. IsOwn p page.items) (λ page. change page.items) bytes
 
-    -- what stands behind mark 1 is another page than before
+    -- what is behind mark 1 is another page than before
     another : (rest after : List ℕ) (v : Items) → bytes ≡ 1 ∷ rest → bytes ≡ change v ++ after → (before ≡ v → ⊥) × (rest ≡ text_in layout v ++ after)
     another rest after v got same = elim (which_items before v) [
       | inl a ↦ absurd (marks_differ after rest (ap (λ t. t ++ after) (sym (spelled v None a.1)) ∙ (sym same ∙ got)))
       | inr a ↦ (a.0, tail_of 1 1 rest (text_in layout v ++ after) (sym got ∙ (same ∙ ap (λ t. t ++ after) (spelled v (Some v) a.1))))
     ]
 
-    -- no page stands behind mark 1
+    -- no page is behind mark 1
     pub no_other : (rest : List ℕ) → bytes ≡ 1 ∷ rest → (e : Fault) → Refused e (NoPrefix {X = PageState} (λ page. IsOwn p page.items) (λ page. text_in layout page.items) rest) → Refused e NoChange
     no_other rest got e = Refused-weaker e (λ none. record { none = λ v after own same. none.none v after own (another rest after v.items got same).1 })
 
@@ -135,7 +135,7 @@ module _ (layout : Layout) (before : Items) where
           both.0 (e ∙ ((text_prefix_free layout).apart page v.items later after (sym read ∙ both.1)).0);
     }
 
-    -- neither mark stands there
+    -- neither mark is there
     pub no_change : ((rest : List ℕ) → bytes ≡ 0 ∷ rest → ⊥) → ((rest : List ℕ) → bytes ≡ 1 ∷ rest → ⊥) → NoChange
     no_change no_same no_new = record {
       none = λ v after own same. elim (which_items before v.items) [

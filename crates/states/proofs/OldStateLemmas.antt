@@ -41,7 +41,7 @@ use Rattle.states.proofs.StateLemmas.{first_is_state}
 use Rattle.states.proofs.RecordLemmas.{body_text, front_text, no_items, not_made, made}
 use Rattle.states.proofs.OldRecordLemmas.{old_pages_free}
 
--- items that stand in a state of the old form have texts there
+-- items that are in a state of the old form have texts there
 pub texts_of_old : (form : Form) (m : Items) → form ≡ Old → FitForm form m → HasTexts Old m
 texts_of_old form m e fit = old_texts m (subst (λ (f : Form). FitForm f m) e fit)
 
@@ -113,7 +113,7 @@ module _ (part : Items → List ℕ) (free : IsPrefixFree part) where
       let one = form (ap (λ (p : Row). p.0.0.0.0.0.0.0) both.0) in
       ((λ i. state_of_row (one i) (both.0 i)), both.1)
 
--- what is kept of the clients stands behind the head, and where it is too long no front stands
+-- what is kept of the clients is behind the head, and if it is too long there is no front
 pub kept_too_long : (bytes rest : List ℕ) (t : (((((ℕ × Token) × ℕ) × List ℕ) × ℕ) × Token) × Replies)
     → bytes ≡ (num w64 t.0.0.0.0.0.0 ++ token_bytes t.0.0.0.0.0.1 ++ num w64 t.0.0.0.0.1 ++ fixed 32 t.0.0.0.1 ++ num w32 t.0.0.1 ++ token_bytes t.0.1 ++ sessions_text t.1) ++ rest
     → (RepliesWithin OLD_BLOCK_BYTES t.1 → ⊥) → NoPrefix IsOldFront old_front_text bytes
@@ -123,7 +123,7 @@ kept_too_long bytes rest t got long = record {
       long (subst (RepliesWithin OLD_BLOCK_BYTES) (sym (ap (λ p. p.1) both.0)) f.2);
 }
 
--- a head stands first
+-- a head comes first
 head_first : (v : StateView) (after : List ℕ) → old_state_text v ++ after ≡ old_head_text (head_of_state v) ++ (sessions_text v.sessions ++ (old_pages_text v.items ++ after))
 unfolding old_state_text
 head_first v after = append_assoc (old_front_text (head_of_state v, v.sessions)) (old_pages_text v.items) after ∙ append_assoc (old_head_text (head_of_state v)) (sessions_text v.sessions) (old_pages_text v.items ++ after)

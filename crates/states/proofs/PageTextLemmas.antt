@@ -136,7 +136,7 @@ module _ (text : ℕ → Items → List ℕ) where
         let here : p + 1 + length pages ≡ p + length (m ∷ pages) = omega arith in
         (more.0, more.1 ∙ ap (λ k. text k (page_items v k) ++ more.0) here)
 
-    -- where no page comes next, the texts are those of no map
+    -- if no page comes next, the texts are those of no map
     pub no_pages : (pages : List Items) (count : ℕ) (bytes rest : List ℕ) → HasPages pages count bytes rest → count < page_count → (e : Fault)
         → Refused e (NoPrefix {X = PageState} (λ page. IsOwn count page.items) (λ page. text count page.items) rest)
         → Refused e (NoPrefix {X = Items} Always (λ m. each_page (λ p. text p (page_items m p))) bytes)

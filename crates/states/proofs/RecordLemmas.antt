@@ -1,4 +1,4 @@
--- A record identifies its state, and where a part of one does not stand, no state stands.
+-- A record identifies its state, and if a part of one is not there, no state is.
 use Rattle.std.proofs.Common.{◌≡◌, Result, Ok, Err, ℕ, ◌<◌, List, [], ◌++◌, length, take, drop, take-append-drop, true, false, refl, sym, ap, ◌∙◌, arith, subst, append_assoc, inl, inr}
 use Rattle.std.specs.Prelude.{not}
 use Rattle.std.proofs.lemmas.Bool.{cases_Bool}
@@ -114,7 +114,7 @@ same_unless xs ys same = elim (cases_Bool (bytes_eq xs ys)) [
   | inr other ↦ absurd (let clash : true ≡ false = ap not (sym other) ∙ same in cc clash)
 ]
 
--- a head stands first
+-- a head comes first
 head_front : (v : StateView) (after : List ℕ) → state_text v ++ after ≡ head_text (head_of_state v) ++ (sessions_text v.sessions ++ (pages_text (layout_of v.form) v.items ++ after))
 unfolding state_text
 head_front v after = append_assoc (front_text (head_of_state v, v.sessions)) (pages_text (layout_of v.form) v.items) after ∙ append_assoc (head_text (head_of_state v)) (sessions_text v.sessions) (pages_text (layout_of v.form) v.items ++ after)
@@ -141,7 +141,7 @@ module _ (bytes : List ℕ) (h : Head) (rest : List ℕ) (got : bytes ≡ head_t
     none = λ v after f same. no_later.none v after (record { state = f; later = omega (arith, some, its_number v after same) }) same;
   }) t
 
--- what stands before the rest
+-- what is before the rest
 pub stripped : (bytes text rest : List ℕ) → bytes_eq (take (length text) bytes) text ≡ true → rest ≡ drop (length text) bytes → bytes ≡ text ++ rest
 stripped bytes text rest same e = sym (take-append-drop (length text) bytes) ∙ (λ i. (bytes_eq-Decides (take (length text) bytes) text).0 same i ++ sym e i)
 

@@ -107,7 +107,7 @@ of_entries m es digests e are = record {
   each = λ q. are.each q ∙ ap (option_and_then (λ (k : LastReply). long_digest k.reply)) (get-from_entries nat_cmp_total es q ∙ ap (find nat_cmp q) e ∙ sym (get-entries m q));
 }
 
--- each session has its digest, where it is long
+-- each session has its digest, if it is long
 pub each_digest : (m : Replies) (digests : DigestsOfClients) (es : Listed) → es ≡ entries m → IsTrue (is_sorted nat_cmp es) → AreDigestsOf m digests
     → All (λ s. get digests s.0 ≡ long_digest s.1.reply) es
 each_digest m digests es e h are i d l =

@@ -18,7 +18,7 @@ pub fn told_texts_tell_sessions()
     ensures { TellsSessions }
 {}
 
-/// By its first byte a told text is told from every other text that is digested.
+/// By its first byte a told text differs from every other text that is digested.
 pub fn told_texts_are_told_apart()
     ensures page { (m : Replies) (page : List (List ℕ × Item)) → told_sessions_text m ≢ page_text page }
     ensures inner { (m : Replies) (t : InnerText) → told_sessions_text m ≢ inner_text t }

@@ -14,7 +14,7 @@ use Rattle.pages.proofs.PartLemmas.{parts-joined}
 use Rattle.pages.proofs.StateLemmas.{items-set}
 use Rattle.transfer.specs.Parcel.{page_from}
 
--- where none came, they are the own ones
+-- if none came, they are the own ones
 none_came : (pages : List Items) → ArePages pages → pages ≡ of_each (page_from (joined_pages pages) [])
 none_came pages are = sym (parts-joined pages are)
 
@@ -40,7 +40,7 @@ module _ (own : Items) (pages : List Items) (came : List (ℕ × Laid)) (is : pa
     one_more : set pages n m.items ≡ of_each (page_from own ((n, m) ∷ came))
     one_more = fill_by_all (page_from own ((n, m) ∷ came)) (set pages n m.items) page_count no_items (length-set pages n m.items ∙ still_all) put_at
 
--- of the pages that came, those that are not left stand in the places of the own ones
+-- of the pages that came, those that are not left are in the places of the own ones
 abbrev pub ArePut : List Items → List (ℕ × Laid) → List (ℕ × Laid) → List Items → Type 0
 ArePut own came left pages = (done : List (ℕ × Laid)) × (came ≡ left ++ done) × ArePages pages × (pages ≡ of_each (page_from (joined_pages own) done))
 
@@ -58,7 +58,7 @@ one_put own came left rest pages at put page so_far last here within is mine =
       now ∙ one_more (joined_pages own) (items_of pages) so_far.0 so_far.3 page.0 page.1 (omega (arith, within, here)),
     )
 
--- once none is left all that came stand in their places
+-- once none is left all that came are in their places
 pub all_put : (own : List Items) (came left : List (ℕ × Laid)) (pages : List Items) → ArePut own came left pages → left ≡ [] → pages ≡ of_each (page_from (joined_pages own) came)
 all_put own came left pages put none =
     let all : came ≡ put.0 = put.1 ∙ ap (λ (ps : List (ℕ × Laid)). ps ++ put.0) none in

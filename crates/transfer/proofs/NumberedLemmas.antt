@@ -14,14 +14,14 @@ use Rattle.transfer.specs.Parcel.{PageOf, numbered_text}
 use Rattle.transfer.specs.ParcelProofs.{numbered_prefix_free}
 
 module _ (bytes : List ℕ) where
-  -- where no number stands, no page stands with its number
+  -- if there is no number, there is no page with its number
   pub no_number : (e : Fault) → Refused e (NoPrefix {X = ℕ} (λ n. Unit {0}) (num w8) bytes) → Refused e (NoPrefix PageOf numbered_text bytes)
   no_number e = Refused-weaker e (λ missing. record {
     none = λ v after own same. missing.none v.0 (laid_record v.1 ++ after) tt (same ∙ append_assoc (num w8 v.0) (laid_record v.1) after);
   })
 
   module _ (n : ℕ) (rest : List ℕ) (got : bytes ≡ num w8 n ++ rest) where
-    -- where no page stands after the number, no page stands with its number
+    -- if no page comes after the number, there is no page with its number
     pub no_page : (e : Fault) → Refused e (NoPrefix {X = PageState} Always page_record rest) → Refused e (NoPrefix PageOf numbered_text bytes)
     no_page e = Refused-weaker e (λ missing. record {
       none = λ v after own same.
@@ -29,7 +29,7 @@ module _ (bytes : List ℕ) where
           missing.none (record { items = v.1.items; layout = v.1.layout; sealed = false }) after tt (sym both.1);
     })
 
-    -- nor where the page that stands there has keys of another number
+    -- nor if the page that is there has keys of another number
     pub not_own : (page : PageState) (after : List ℕ) → rest ≡ page_record page ++ after → (IsOwn n page.items → ⊥) → NoPrefix PageOf numbered_text bytes
     not_own page after here wrong =
         let laid : Laid = record { items = page.items; layout = page.layout } in

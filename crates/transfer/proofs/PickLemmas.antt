@@ -25,7 +25,7 @@ range_more p (suc n) =
     let here : p + 1 + n ≡ p + suc n = omega arith in
     ap (λ (ks : List ℕ). p ∷ ks) (range_more (p + 1) n ∙ ap (λ k. range_with_len (p + 1) n ++ k ∷ []) here)
 
--- what the next page gives stands at the end
+-- what the next page gives is at the end
 pub flat_map_more : {X : Type 0} (f : ℕ → List X) (n : ℕ) → flat_map f (range_with_len 0 (n + 1)) ≡ flat_map f (range_with_len 0 n) ++ f n
 flat_map_more f n =
     let next : n + 1 ≡ suc n = omega arith in
@@ -77,7 +77,7 @@ module _ (passed : ℕ → Bool) (page : ℕ → Laid) where
   each P p zero all = All-nil P
   each P p (suc n) all = all_before P p (passed p) (picks (p + 1) n) (all p (omega arith) (omega arith)) (each P (p + 1) n (λ k a b. all k (omega (arith, a)) (omega (arith, b))))
 
-  -- where a page of another number stands before others, they are looked through
+  -- if a page of another number is before others, they are looked through
   looked_through : (k p : ℕ) (b : Bool) (others : List (ℕ × Laid)) → (k == p) ≡ false → lookup (λ q. k == q) (before p b others) ≡ lookup (λ q. k == q) others
   looked_through k p true others other = refl
   looked_through k p false others other = ap (λ t. cond t (Some (page p)) (lookup (λ q. k == q) others)) other

@@ -1,4 +1,4 @@
--- Where the fields of a gat do not stand, no command stands behind its mark.
+-- If the fields of a gat are not there, no command is behind its mark.
 use Rattle.std.proofs.Common.{◌≡◌, ℕ, List, ◌∷◌, ◌++◌, ℤ, sym, ◌∙◌}
 use Rattle.std.specs.Prelude.{nat_eq}
 use Rattle.base.specs.declared.fault.Fault.{Fault}

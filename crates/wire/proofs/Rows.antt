@@ -1,4 +1,4 @@
--- Where a row of fields does not stand, nothing stands that is made of it.
+-- If a row of fields is not there, nothing is that is made of it.
 use Rattle.std.proofs.Common.{◌≡◌, ℕ, List, ◌∷◌, ◌++◌, sym, ◌∙◌, ap, subst, Option, Some, None}
 use Rattle.std.specs.Prelude.{IfSome}
 use Rattle.base.specs.declared.fault.Fault.{Fault}
@@ -28,7 +28,7 @@ no_marked_row fits text of row to mark bytes after begin fit same e = Refused-we
       none.none (to v) rest (fit v f) (tail_of mark mark after (row (to v) ++ rest) whole);
 })
 
--- what was read does not fit, and nothing else stands there
+-- what was read does not fit, and nothing else is there
 pub unfit : {Y : Type 0} (fits : Y → Type 0) {text : Y → List ℕ} → IsPrefixFree text → (bytes : List ℕ) (y : Y) (rest : List ℕ) → bytes ≡ text y ++ rest → (fits y → ⊥) → NoPrefix fits text bytes
 unfit fits {text} free bytes y rest e wrong = record {
   none = λ v after f here.
@@ -36,7 +36,7 @@ unfit fits {text} free bytes y rest e wrong = record {
       wrong (subst fits (sym both.0) f);
 }
 
--- the row that was read is no value's, and nothing else stands there
+-- the row that was read is no value's, and nothing else is there
 pub no_value : {X Y : Type 0} {row : X → List ℕ} → IsPrefixFree row → (text : Y → List ℕ) (to : Y → X) → ((y : Y) → text y ≡ row (to y)) → (bytes : List ℕ) (x : X) (rest : List ℕ) → bytes ≡ row x ++ rest
     → ((y : Y) → to y ≡ x → ⊥) → NoPrefix Always text bytes
 no_value {row = row} free text to same bytes x rest e wrong = record {

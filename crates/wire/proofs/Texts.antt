@@ -1,4 +1,4 @@
--- Why a text does not stand at the front of bytes.
+-- Why a text is not at the front of bytes.
 use Rattle.std.proofs.Common.{◌≡◌, ℕ, ◌+◌, ◌<◌, ◌≤◌, true, false, List, ◌++◌, length, get_or, sym, ◌∙◌, ap, arith}
 use Rattle.std.specs.Int.{w8, w32}
 use Rattle.std.proofs.lemmas.List.{length-append}

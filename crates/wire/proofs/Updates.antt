@@ -1,4 +1,4 @@
--- Where the fields of an update do not stand, no update stands behind its mark.
+-- If the fields of an update are not there, no update is behind its mark.
 use Rattle.std.proofs.Common.{◌≡◌, ℕ, List, ◌∷◌, ◌++◌, ℤ, sym, ◌∙◌}
 use Rattle.std.specs.Prelude.{nat_eq}
 use Rattle.base.specs.declared.fault.Fault.{Fault}

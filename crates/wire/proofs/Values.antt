@@ -28,7 +28,7 @@ pub none_whole : {X : Type 0} (fits : X → Type 0) (encoding : X → List ℕ) 
     → Refused e (NoPrefix fits encoding bytes) → Refused e ((v : X) → fits v → bytes ≡ encoding v → ⊥)
 none_whole fits encoding bytes e h = Refused-weaker e (λ (none : NoPrefix fits encoding bytes) v f same. none.none v [] f (same ∙ sym (append-nil (encoding v)))) h
 
--- where something is left, the whole is encoded by no value
+-- if something is left, the whole is encoded by no value
 pub left_over : {X : Type 0} {encoding : X → List ℕ} (free : IsPrefixFree encoding) (bytes : List ℕ) (w : X) (rest : List ℕ)
     → bytes ≡ encoding w ++ rest → (rest ≡ [] → ⊥) → (v : X) → bytes ≡ encoding v → ⊥
 left_over {encoding = encoding} free bytes w rest got more v e =

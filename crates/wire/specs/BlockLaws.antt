@@ -29,7 +29,7 @@ block_apart x y r s e =
 pub block_prefix_free : IsPrefixFree block_text
 block_prefix_free = record { apart = block_apart }
 
--- the length of some text, within the limit, and the text stand at the front of bytes
+-- the length of some text, within the limit, and the text are at the front of bytes
 pub block_at_front : (text bytes rest : List ℕ) → ((i : ℕ) → get_or bytes i 0 < 256) → bytes ≡ block_text text ++ rest
     → (length text ≤ MOST_BLOCK_BYTES) × (bytes ≡ num w32 (length text) ++ (text ++ rest))
 unfolding block_text

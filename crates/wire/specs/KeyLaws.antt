@@ -41,7 +41,7 @@ key_apart x y r s e =
 pub key_prefix_free : IsPrefixFree key_text
 key_prefix_free = record { apart = key_apart }
 
--- a key's length and its bytes stand at the front of bytes
+-- a key's length and its bytes are at the front of bytes
 pub key_at_front : (key bytes rest : List ℕ) → ((i : ℕ) → get_or bytes i 0 < 256) → bytes ≡ key_text key ++ rest
     → (is_key key ≡ true) × (bytes ≡ num w8 (length key) ++ (key ++ rest))
 unfolding key_text

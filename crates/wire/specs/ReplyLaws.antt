@@ -37,7 +37,7 @@ values_apart xs ys r s e = (limited_prefix_free are_few few_values found_text fo
 pub values_prefix_free : IsPrefixFree values_text
 values_prefix_free = record { apart = values_apart }
 
--- at most MOST_KEYS items stand at the front of bytes
+-- at most MOST_KEYS items are at the front of bytes
 pub values_at_front : (found : List Found) (bytes rest : List ℕ) → ((i : ℕ) → get_or bytes i 0 < 256) → bytes ≡ values_text found ++ rest
     → (length found ≤ MOST_KEYS) × (bytes ≡ list_text found_text found ++ rest)
 unfolding values_text

@@ -29,7 +29,7 @@ made_of {X} {Y} {row} free text to back again same = record {
       (sym (again v) ∙ (ap back both.0 ∙ again w), both.1);
 }
 
--- a row within limits that have one proof at most is told by the row
+-- a row within limits that have one proof at most is identified by the row
 one_pair : {X : Type 0} (limits : X → Type 0) → ((x : X) → IsProp (limits x)) → (x y : X) (a : limits x) (b : limits y) → x ≡ y → ◌≡◌ {A = (x : X) × limits x} (x, a) (y, b)
 one_pair {X} limits one x y a b e = subst (λ z. (c : limits z) → ◌≡◌ {A = (x : X) × limits x} (x, a) (z, c)) e (λ c. ap (λ l. (x, l)) (one x a c)) b
 

@@ -1,5 +1,5 @@
 //! What the encodings keep apart. No law has a premise on the values: a number out of its width,
-//! a list that is no key or too long a digest is told from every other value all the same.
+//! a list that is no key or too long a digest differs from every other value all the same.
 
 ghost use Rattle.wire.specs.Record.{IsPrefixFree, OneValue};
 ghost use Rattle.wire.specs.Item.{item_text, page_text};

@@ -1,4 +1,4 @@
--- What a closure lends to several threads is shared, where each thing that it lends is.
+-- What a closure lends to several threads is shared, if each thing that it lends is.
 use mathlib.Core.List.{[], ◌∷◌}
 use mir.Syntax.{Sym}
 use denote.RattleType.{RattleType}

@@ -3,7 +3,7 @@ use Rattle.std.specs.Prelude.{◌≡◌, ℕ, ◌<◌, List, length, slice_index
 use Rattle.pages.specs.Page.{PageState, refreshed}
 use Rattle.round.specs.Sittings.{Sitting}
 
--- the seats stand in the order in which they stood
+-- the seats are in the order in which they stood
 abbrev pub StayInOrder : List Sitting → List Sitting → Type 0
 StayInOrder old new = (i : ℕ) (d : Sitting) → i < length old → (slice_index_or new i d).caller ≡ (slice_index_or old i d).caller
 

@@ -11,7 +11,7 @@ use Rattle.worlds.proofs.LeadLemmas.{runs_append, last_append}
 use Rattle.linear_laws.specs.Laws.{given_in, history_of}
 use Rattle.world.specs.History.{IsHistoryOfPlay, IsHistoryTo}
 
--- where no event came there is one world
+-- if no event came there is one world
 of_first : (c : ConfigView) (w : WorldView) (history : List AllGiven) (worlds : List WorldView) → ReachedWorlds c [] worlds → EndsWith worlds w → history ≡ given_in w ∷ [] → IsHistoryTo c [] w history
 of_first c w history [] reached ends given = absurd reached
 of_first c w history (first ∷ []) reached ends given = record { worlds = first ∷ []; reached = reached; ends = ends; given = given ∙ ap (λ (v : WorldView). given_in v ∷ []) (sym ends) }

@@ -22,7 +22,7 @@ ballots-sent (l ∷ ls) = ap (λ (z : List (Letter Ballot)). l ∷ z) (ballots-s
 abbrev pub cast_ballot : Letter Body → Ballot → Letter Ballot
 cast_ballot l b = record { from = l.from; to = l.to; body = b }
 
--- where a ballot stands among the ballots
+-- where a ballot is among the ballots
 pub place_among : (ls : List (Letter Body)) (k : ℕ) (l : Letter Body) (b : Ballot) → slice_get ls k ≡ Some l → l.body ≡ body.Ballot b → (i : ℕ) × (slice_get (ballots ls) i ≡ Some (cast_ballot l b))
 place_among [] k l b at is = absurd (cc)
 place_among (x ∷ ls) zero l b at is =

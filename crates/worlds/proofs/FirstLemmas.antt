@@ -50,7 +50,7 @@ pub length_all_up : {N : Type 0} (node : ℕ → N) (n : ℕ) → length (all_up
 length_all_up node zero = refl
 length_all_up node (suc n) = length-append (all_up node n) (Up (node n) ∷ []) ∙ (ap (λ (k : ℕ). k + 1) (length_all_up node n) ∙ add-one n)
 
--- the replicas of one kind, where the next one is opened in each step
+-- the replicas of one kind, of which the next one is opened in each step
 module _ {N : Type 0} (replica : ℕ → Replica) (node : ℕ → N) (make : List (Slot N) → WorldView)
     (opens : (xs ys : List (Slot N)) → WorldNext (make (xs ++ Down nothing_kept ∷ ys)) (Restart (replica (length xs))) (make (xs ++ Up (node (length xs)) ∷ ys))) where
   abbrev down : ℕ → List (Slot N)

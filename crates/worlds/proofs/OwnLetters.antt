@@ -189,7 +189,7 @@ executor_sends u id s (executor_input.Step place) = stepped_own id s (work_after
 executor_sends u id s executor_input.Finish = finished_own u id s s.work
 executor_sends u id s (executor_input.Adopt t) = adopt_own u id s t
 
--- and where it goes on from its record
+-- and if it goes on from its record
 pub resumed_sends : (u id : ℕ) (s : ExecutorState) → AllFrom (Executor id) (resumed u id s).letters
 resumed_sends u id s =
     all-append (Executor id) (flat_map (token_told u id) s.chain.members) (to_all_verifiers u id (Ask (s.known + 1)) ++ needs u id s) (all_told_own u id s.chain.members)

@@ -60,7 +60,7 @@ settled_executor_sends (Up e) now x new (inr h) = (e.id, subst (AllFrom (node.Ex
 settled_executor_sends (Down kept) now x new h = (0, subst (AllFrom (node.Executor 0)) (sym h.1) tt)
 settled_executor_sends (Gone kept) now x new h = (0, subst (AllFrom (node.Executor 0)) (sym h.1) tt)
 
--- a verifier that is told that a save will fail is still the one of the machine
+-- a verifier whose next save is set to fail is still the one of the machine
 told_same : (u id : ℕ) (v : VerifierView) (mine : machine.VerifierSlot) → IsSameVerifier u id mine (Up v) → IsSameVerifier u id mine (Up (verifier_told v))
 told_same u id v machine.New same = same
 told_same u id v (machine.Stopped saved) same = same
@@ -82,7 +82,7 @@ module _ {may_trim : Bool} {u : ℕ} {w : WorldView} {m : Machine} (is : IsOfMac
       let own = settled_executor_sends old h.0 x h.1 h.2 in
       subst (λ (y : WorldView). Follows may_trim u m y) (sym h.3) (outside_sent is w.clients (slice_set w.executors id h.0) (node.Executor own.0) h.1 tt own.1)
 
-  -- an executor is changed where it stands
+  -- an executor is changed where it is
   executors_differ : (executors : List (Slot ExecutorView)) (now : WorldView) → now ≡ record w { executors = executors } → Follows may_trim u m now
   executors_differ executors now e = ([], refl, subst (λ (y : WorldView). IsOfMachine u y m) (sym e) (record { same_u = is.same_u; letters = is.letters; count = is.count; verifiers = is.verifiers }))
 
@@ -127,7 +127,7 @@ module _ {may_trim : Bool} {u : ℕ} {w : WorldView} {m : Machine} (is : IsOfMac
         let there = is.verifiers id old at in
         subst (λ (y : WorldView). Follows may_trim u m y) (sym h.3) (settles old h.0 h.1 there.0 there.1 there.2 h.2)
 
-  -- ---- a verifier that crashes, is lost, or is told that a save will fail
+  -- ---- a verifier that crashes, is lost, or whose next save is set to fail
 
   stops : (id : ℕ) (v : VerifierView) (slot : Slot VerifierView) → ((saved : VerifierState) → IsKeptAt u id (machine.Stopped saved) v.saved → IsSameVerifier u id (machine.Stopped saved) slot)
       → (mine : machine.VerifierSlot) → slice_get m.verifiers id ≡ Some mine → IsSameVerifier u id mine (Up v) → Follows may_trim u m (record w { verifiers = slice_set w.verifiers id slot })

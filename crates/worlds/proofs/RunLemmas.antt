@@ -39,7 +39,7 @@ ok_is_untold {T} {E} r x false job is fails = inl refl
 ok_is_untold {T} {E} r x true None is fails = inr refl
 ok_is_untold {T} {E} r x true (Some j) is fails = absurd (cc (subst (λ (y : Result T E). IsErr y) is (fails refl refl)))
 
--- where there is no work there is no error
+-- if there is no work there is no error
 pub left_at_error : {T E : Type 0} (r : Result T E) (e : E) (work : Option WorkView) (next : Option NextWork) → r ≡ Err e → (job_of work ≡ None → IsOk r) → ComesNext work next → (n : NextWork) × ComesNext work (Some n)
 left_at_error {T} {E} r e None next is ok comes = absurd (cc (subst (λ (y : Result T E). IsOk y) is (ok refl)))
 left_at_error {T} {E} r e (Some w) None is ok comes = absurd comes

@@ -110,7 +110,7 @@ pub executor_opened_up : (u id : ℕ) (saved : Option (List ℕ)) (failures : �
 executor_opened_up u id None failures told e letters opens = ap (λ (y : ExecutorView). y.up) opens.0
 executor_opened_up u id (Some bytes) failures told e letters opens = ap (λ (y : ExecutorView). y.up) opens.0
 
--- ---- a keeper that was told to fail the next save
+-- ---- a keeper whose next save is set to fail
 
 pub verifier_marked : (v now : VerifierView) (lent left : Kept) → now ≡ record v { saved = left.saved; failures = left.failures; told = left.fails_next } → left ≡ record lent { fails_next = true }
     → lent.saved ≡ v.saved → lent.failures ≡ v.failures → now ≡ verifier_told v

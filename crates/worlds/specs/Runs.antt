@@ -1,4 +1,4 @@
--- A job that an executor runs where it stands.
+-- A job that an executor runs where it is.
 use Rattle.std.specs.Prelude.{◌≡◌, ◌<◌, ◌≤◌, ◌⊎◌, ℕ, true, false, IfSome, List, [], ◌∷◌, ◌++◌, None, Some}
 use Rattle.keeper.specs.Kept.{Kept}
 use Rattle.decrees.specs.declared.node.Letter.{Letter}

@@ -75,7 +75,7 @@ VerifierAtGiven w id x (Some old) now = (slot : Slot VerifierView) × (new : Lis
 abbrev pub VerifierGiven : WorldView → ℕ → of_verifier.Input → WorldView → Type 0
 VerifierGiven w id x now = VerifierAtGiven w id x (slice_get w.verifiers id) now
 
--- ---- a replica is opened, or changed where it stands
+-- ---- a replica is opened, or changed where it is
 
 abbrev pub ExecutorAtOpened : WorldView → ℕ → Option (Slot ExecutorView) → WorldView → Type 0
 ExecutorAtOpened w id None now = now ≡ w

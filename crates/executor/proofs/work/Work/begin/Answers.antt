@@ -12,7 +12,7 @@ use Rattle.executor.proofs.RanLemmas.{untouched_started}
 use Rattle.executor.proofs.work.Work.begin.Goals as goal
 use Rattle.executor.proofs.work.Work.begin.Goals.{In-None}
 
--- where there is no first group no request runs
+-- if there is no first group no request runs
 none : (c : In-None) → all_begun c.args.base.now.state c.args.batch c.args.ordered ≡ []
 none c =
     sym (c.in_ok-running.ensures.begun c.args.base.now.state (sym c.sessions.ensures.sessions))

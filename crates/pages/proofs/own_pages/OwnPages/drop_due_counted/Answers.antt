@@ -31,7 +31,7 @@ pub returns-clause-ok : goal.returns-clause-ok
 returns-clause-ok c =
     ap joined_pages (dropped c) ∙ (joined-alive (items_of c.self.inside.pages.items) c.args.moment c.self.invariant).1 ∙ ap (λ (m : Items). alive m c.args.moment) c.self.view_is
 
--- how many items there were and are, and how many stand beside what was due
+-- how many items there were and are, and how many there are beside what was due
 module _ (c : In_ok-looks) where
   old : item_count (items_of c.deref_mut.result.now) ≡ length (entries c.args.self.now)
   old =
