@@ -8,12 +8,17 @@ use std::alloc::{AllocError, Global};
 use std::marker::Model;
 
 /// Which of the letters that were sent some event delivered.
-#[derive(Drop)]
 pub struct Delivered {
     /// A mark for each letter that was sent.
     marks: Vec<bool>,
     /// All letters before this place were delivered.
     start: usize,
+}
+
+impl Drop for Delivered {
+    fn drop(self) {
+        let Delivered { marks: _, start: _ } = self;
+    }
 }
 
 impl Model for Delivered {
@@ -100,10 +105,18 @@ impl Delivered {
 }
 
 /// What happened in a world so far.
-#[derive(Drop)]
 pub struct Past {
     events: Vec<Event>,
     delivered: Delivered,
+}
+
+impl Drop for Past {
+    fn drop(self) {
+        let Past {
+            events: _,
+            delivered: _,
+        } = self;
+    }
 }
 
 impl Model for Past {

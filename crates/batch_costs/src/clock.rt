@@ -48,9 +48,14 @@ impl<'a> Laps<'a> {
 }
 
 /// The times of many batches.
-#[derive(Drop)]
 pub struct Times {
     rows: Vec<[u64; PARTS]>,
+}
+
+impl Drop for Times {
+    fn drop(self) {
+        let Times { rows: _ } = self;
+    }
 }
 
 impl Times {

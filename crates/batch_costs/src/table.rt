@@ -121,8 +121,8 @@ fn print_kinds<R: Threads + Wait + Sync>(
     site: &mut Site<R>,
     plan: &Plan,
 ) -> Result<(), Fault> {
-    for row in KINDS {
-        print_kind(rt, site, plan, row)?;
+    for row in &KINDS {
+        print_kind(rt, site, plan, *row)?;
     }
     Ok(())
 }

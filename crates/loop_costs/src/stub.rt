@@ -28,7 +28,6 @@ enum Waits {
 }
 
 /// A connection.
-#[derive(Drop)]
 struct Peer {
     key: usize,
     number: u64,
@@ -38,6 +37,19 @@ struct Peer {
     turns: VecDeque<Turn>,
     /// So many bytes were said and not told of as written.
     unwritten: usize,
+}
+
+impl Drop for Peer {
+    fn drop(self) {
+        let Peer {
+            key: _,
+            number: _,
+            waits: _,
+            reader: _,
+            turns: _,
+            unwritten: _,
+        } = self;
+    }
 }
 
 impl Peer {
@@ -137,12 +149,22 @@ fn is_late(turn: &Turn) -> bool {
     }
 }
 
-#[derive(Drop)]
 pub struct Stub {
     alloc: Global,
     store: Store,
     peers: Vec<Option<Peer>>,
     said: Vec<Said>,
+}
+
+impl Drop for Stub {
+    fn drop(self) {
+        let Stub {
+            alloc: _,
+            store: _,
+            peers: _,
+            said: _,
+        } = self;
+    }
 }
 
 impl Stub {

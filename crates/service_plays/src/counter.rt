@@ -14,7 +14,6 @@ pub struct Counted {
 }
 
 /// What was heard and given so far.
-#[derive(Drop)]
 pub struct Counter {
     /// How many commands that add one were heard whole.
     added: u64,
@@ -22,6 +21,16 @@ pub struct Counter {
     most: u64,
     /// For each number, whether it was given to one that adds.
     given: Vec<bool>,
+}
+
+impl Drop for Counter {
+    fn drop(self) {
+        let Counter {
+            added: _,
+            most: _,
+            given: _,
+        } = self;
+    }
 }
 
 impl Counter {

@@ -41,7 +41,6 @@ pub enum Pending {
 }
 
 /// What was heard and given so far.
-#[derive(Drop)]
 pub struct Judge {
     pub counter: Counter,
     /// The counter when a record was made.
@@ -53,6 +52,20 @@ pub struct Judge {
     pub replies: u64,
     /// Whether all was right so far.
     pub is_right: bool,
+}
+
+impl Drop for Judge {
+    fn drop(self) {
+        let Judge {
+            counter: _,
+            kept_counter: _,
+            models: _,
+            moment: _,
+            commands: _,
+            replies: _,
+            is_right: _,
+        } = self;
+    }
 }
 
 /// The number of a `get` of the counter, and what is behind it.

@@ -7,7 +7,6 @@ use std::alloc::{AllocError, Global};
 /// The most bytes of data that grow by `append` and `prepend`.
 const MOST_GROWN: usize = 200;
 
-#[derive(Drop)]
 struct Item {
     data: Vec<u8>,
     flags: u32,
@@ -17,8 +16,18 @@ struct Item {
     store: u64,
 }
 
+impl Drop for Item {
+    fn drop(self) {
+        let Item {
+            data: _,
+            flags: _,
+            due: _,
+            store: _,
+        } = self;
+    }
+}
+
 /// A key, and what it had.
-#[derive(Drop)]
 pub struct Slot {
     item: Option<Item>,
     /// How many stores there were.
@@ -32,6 +41,20 @@ pub struct Slot {
     /// The floor when a record was made, and how many texts there were.
     kept_floor: usize,
     kept_texts: usize,
+}
+
+impl Drop for Slot {
+    fn drop(self) {
+        let Slot {
+            item: _,
+            stores: _,
+            known: _,
+            texts: _,
+            floor: _,
+            kept_floor: _,
+            kept_texts: _,
+        } = self;
+    }
 }
 
 /// What a command answers.
@@ -367,12 +390,21 @@ impl Slot {
 }
 
 /// The keys of one connection. They are named for its number, so no other connection stores anything there.
-#[derive(Drop)]
 pub struct Model {
     pub number: u64,
     slots: Vec<Slot>,
     /// The number of the connection when a record was made.
     kept_number: u64,
+}
+
+impl Drop for Model {
+    fn drop(self) {
+        let Model {
+            number: _,
+            slots: _,
+            kept_number: _,
+        } = self;
+    }
 }
 
 impl Model {

@@ -10,7 +10,6 @@ use std::collections::VecDeque;
 const MOST_COMMANDS: u32 = 4;
 
 /// A client of the service.
-#[derive(Drop)]
 pub struct Peer {
     /// Its place among the clients.
     client: usize,
@@ -25,6 +24,20 @@ pub struct Peer {
     pub unwritten: usize,
     /// Whether it was told to wait with more.
     pub waits: bool,
+}
+
+impl Drop for Peer {
+    fn drop(self) {
+        let Peer {
+            client: _,
+            number: _,
+            begun: _,
+            rest: _,
+            pending: _,
+            unwritten: _,
+            waits: _,
+        } = self;
+    }
 }
 
 /// Puts the bytes of what a client's connection asks.

@@ -3,13 +3,22 @@
 use std::alloc::{AllocError, Global};
 
 /// The bytes of a reply. The unique that a `gets` shows is known only once it is given.
-#[derive(Drop)]
 pub struct Wanted {
     /// What comes before the unique.
     head: Vec<u8>,
     /// The store whose unique is shown.
     store: Option<u64>,
     tail: Vec<u8>,
+}
+
+impl Drop for Wanted {
+    fn drop(self) {
+        let Wanted {
+            head: _,
+            store: _,
+            tail: _,
+        } = self;
+    }
 }
 
 /// The number at the beginning, and what is behind its digits.

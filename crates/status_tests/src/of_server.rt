@@ -14,9 +14,14 @@ use std::thread;
 use std::time::Duration;
 
 /// It always has the same figures.
-#[derive(Drop)]
 struct Same {
     seen: Mutex<Seen>,
+}
+
+impl Drop for Same {
+    fn drop(self) {
+        let Same { seen: _ } = self;
+    }
 }
 
 impl Watch for Same {
@@ -140,19 +145,17 @@ fn closes_the_slow<R: Net<Stream = TcpStream> + Wait + Clock + AllocGlobal>(
 }
 
 #[test]
-fn whole_and_halved_requests(rt: HostRuntime) -> Result<(), Fail> {
-    assert!(rt; answers(&rt, rt.alloc()));
-    Ok(())
-}
-
-#[test]
-fn beside_fifty_silent_clients(rt: HostRuntime) -> Result<(), Fail> {
-    assert!(rt; answers_in_a_crowd(&rt, rt.alloc()));
-    Ok(())
-}
-
-#[test]
-fn a_slow_client_is_closed(rt: HostRuntime) -> Result<(), Fail> {
-    assert!(rt; closes_the_slow(&rt, rt.alloc()));
+fn clients_are_answered_so(rt: HostRuntime) -> Result<(), Fail> {
+    let answered = [
+        ("whole_and_halved_requests", answers(&rt, rt.alloc())),
+        (
+            "beside_fifty_silent_clients",
+            answers_in_a_crowd(&rt, rt.alloc()),
+        ),
+        ("a_slow_client_is_closed", closes_the_slow(&rt, rt.alloc())),
+    ];
+    for (name, is_so) in &answered {
+        assert!(rt; *is_so, "{name}");
+    }
     Ok(())
 }

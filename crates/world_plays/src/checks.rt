@@ -6,9 +6,14 @@ use token::Token;
 use world::World;
 
 /// The tokens of the states that executors committed so far, by number.
-#[derive(Drop)]
 pub struct History {
     tokens: Vec<Option<Token>>,
+}
+
+impl Drop for History {
+    fn drop(self) {
+        let History { tokens: _ } = self;
+    }
 }
 
 impl History {

@@ -11,21 +11,40 @@ use token::Token;
 use world::World;
 
 /// A batch with the tokens of the states that it was executed over and that it led to.
-#[derive(Drop)]
 struct Executed {
     before: Token,
     token: Token,
     batch: Batch,
 }
 
+impl Drop for Executed {
+    fn drop(self) {
+        let Executed {
+            before: _,
+            token: _,
+            batch: _,
+        } = self;
+    }
+}
+
 /// Compares a world with one server, which runs what executors commit.
-#[derive(Drop)]
 pub struct Judge {
     history: History,
     server: PlainServer,
     /// The batches that were executed and that the server has not come to.
     ahead: Vec<Executed>,
     is_one: bool,
+}
+
+impl Drop for Judge {
+    fn drop(self) {
+        let Judge {
+            history: _,
+            server: _,
+            ahead: _,
+            is_one: _,
+        } = self;
+    }
 }
 
 impl Judge {

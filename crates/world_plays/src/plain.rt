@@ -16,12 +16,22 @@ const PAGES: usize = 256;
 
 /// One server with its clients. No group has requests that touch one key, as long as no command has more
 /// than two; so its answers are those of every interleaving.
-#[derive(Drop)]
 pub struct PlainServer {
     items: PlainStore,
     moment: u32,
     number: u64,
     talks: Vec<Talk>,
+}
+
+impl Drop for PlainServer {
+    fn drop(self) {
+        let PlainServer {
+            items: _,
+            moment: _,
+            number: _,
+            talks: _,
+        } = self;
+    }
 }
 
 fn is_same(a: &Item, b: &Item) -> bool {

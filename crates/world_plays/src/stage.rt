@@ -44,7 +44,6 @@ pub struct Again {
 }
 
 /// How far a play is.
-#[derive(Drop)]
 pub struct Stage {
     pub judge: Judge,
     pub u: u8,
@@ -61,6 +60,23 @@ pub struct Stage {
     pub lost_verifiers: u8,
     /// Whether verifiers trim their logs.
     pub trims: bool,
+}
+
+impl Drop for Stage {
+    fn drop(self) {
+        let Stage {
+            judge: _,
+            u: _,
+            clients: _,
+            happened: _,
+            again: _,
+            passed: _,
+            deaf: _,
+            lost_executors: _,
+            lost_verifiers: _,
+            trims: _,
+        } = self;
+    }
 }
 
 impl Stage {

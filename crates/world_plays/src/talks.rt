@@ -5,7 +5,6 @@ use sessions::Request;
 use std::alloc::{AllocError, Global};
 
 /// A client of one server: what its bytes ask, and the texts that answer it.
-#[derive(Drop)]
 pub struct Talk {
     reader: Reader,
     turns: Vec<Turn>,
@@ -17,6 +16,19 @@ pub struct Talk {
     text: Vec<u8>,
     /// Where the text of each of these turns ends.
     ends: Vec<usize>,
+}
+
+impl Drop for Talk {
+    fn drop(self) {
+        let Talk {
+            reader: _,
+            turns: _,
+            ran: _,
+            last: _,
+            text: _,
+            ends: _,
+        } = self;
+    }
 }
 
 impl Talk {

@@ -84,8 +84,8 @@ const PLAYS: [(u8, u64); 6] = [(0, 1), (0, 2), (1, 1), (1, 2), (1, 3), (2, 1)];
 
 #[test]
 fn what_is_given_is_of_one_server(rt: HostRuntime) -> Result<(), Fail> {
-    for (u, seed) in PLAYS {
-        let is_right = is_of_one_server(rt.alloc(), seed, u, 300)?;
+    for (u, seed) in &PLAYS {
+        let is_right = is_of_one_server(rt.alloc(), *seed, *u, 300)?;
         assert!(rt;
             is_right == [true, true],
             "seed {seed}, u {u}: {is_right:?}"

@@ -162,8 +162,8 @@ const TRIMMED: &[u8] = &[
 
 #[test]
 fn a_record_is_taken_and_no_front_of_it(rt: HostRuntime) -> Result<(), Fail> {
-    assert_eq!(rt; first_wrong_front(rt.alloc(), KNOWN)?, None);
-    assert_eq!(rt; first_wrong_front(rt.alloc(), TRIMMED)?, None);
+    assert!(rt; first_wrong_front(rt.alloc(), KNOWN)? == None);
+    assert!(rt; first_wrong_front(rt.alloc(), TRIMMED)? == None);
     Ok(())
 }
 
@@ -172,7 +172,7 @@ fn a_record_is_taken_and_no_front_of_it(rt: HostRuntime) -> Result<(), Fail> {
 /// other: both views and two tokens.
 #[test]
 fn a_changed_record_is_refused_or_is_another(rt: HostRuntime) -> Result<(), Fail> {
-    assert_eq!(rt; count_of_changes(rt.alloc(), KNOWN)?, Some(352));
-    assert_eq!(rt; count_of_changes(rt.alloc(), TRIMMED)?, Some(320));
+    assert!(rt; count_of_changes(rt.alloc(), KNOWN)? == Some(352));
+    assert!(rt; count_of_changes(rt.alloc(), TRIMMED)? == Some(320));
     Ok(())
 }
