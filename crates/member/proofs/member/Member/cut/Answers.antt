@@ -1,0 +1,7 @@
+use Rattle.member.proofs.Steps.{cuts}
+use Rattle.member.proofs.member.Member.cut.Goals as goal
+
+pub invariant_of-self : goal.invariant_of-self
+invariant_of-self c =
+    let s = c.self.inside in
+    (cuts s.id s.config s.leaving.items s.nodes c.cut.new.self s.history c.self.invariant.0 c.args.moment c.noted.new.self c.cut.ensures.moves c.noted.ensures, c.self.invariant.1)

@@ -1,0 +1,18 @@
+use Rattle.std.proofs.Common.{refl, ◌∙◌}
+use Rattle.member.proofs.Works.{none_worked, more_worked}
+use Rattle.member.proofs.member.Member.go_on_to_the_end.Goals as goal
+
+pub loop-init : goal.loop-init
+loop-init g c = record { worked = none_worked c.args.moment _ _ _ _ refl refl; whose = refl }
+
+pub loop-preserved : goal.loop-preserved
+loop-preserved g c = record {
+  worked = more_worked c.args.moment _ _ _ _ _ _ c.loop.invariant.worked c.go_on.ensures.worked;
+  whose = c.go_on.ensures.whose ∙ c.loop.invariant.whose;
+}
+
+pub returns-then-not-go_on-clause-worked : goal.returns-then-not-go_on-clause-worked
+returns-then-not-go_on-clause-worked g c = more_worked c.args.moment _ _ _ _ _ _ c.loop.invariant.worked c.go_on.ensures.worked
+
+pub returns-then-not-go_on-clause-whose : goal.returns-then-not-go_on-clause-whose
+returns-then-not-go_on-clause-whose g c = c.go_on.ensures.whose ∙ c.loop.invariant.whose

@@ -1,0 +1,10 @@
+use Rattle.std.proofs.Common.{refl}
+use Rattle.ensemble.specs.Nodes.{VerifierTrims}
+use Rattle.site_laws.specs.Site.{Trimmed}
+use Rattle.member.proofs.Steps.{verifier_goes_on}
+use Rattle.member.proofs.member.Member.trim.Goals as goal
+
+pub invariant_of-self : goal.invariant_of-self
+invariant_of-self c =
+    let s = c.self.inside in
+    (verifier_goes_on s.id s.config s.leaving.items s.nodes c.trim.new.self s.history c.self.invariant.0 Trimmed VerifierTrims (λ m. m) refl c.trim.ensures.moves, c.self.invariant.1)
