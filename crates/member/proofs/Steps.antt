@@ -7,6 +7,7 @@ use Rattle.proto.specs.declared.command.Command.{Command}
 use Rattle.sessions.specs.declared.request.Request.{Request}
 use Rattle.decrees.specs.declared.ballot.Ballot.{Ballot}
 use Rattle.decrees.specs.declared.node.Letter.{Letter}
+use Rattle.decrees.specs.declared.node.Node.{Node}
 use Rattle.exec_lines.specs.declared.body.Body.{Body}
 use Rattle.events.specs.Config.{ConfigView}
 use Rattle.memcached_spec.specs.Asked.{HasText}
@@ -21,8 +22,9 @@ use Rattle.site_laws.specs.Orders.{shows, entry_of}
 use Rattle.site_laws.specs.Site.{Deed, Does, Shown, IsNodeOf, shown_by}
 use Rattle.site_laws.specs.Site as site
 use Rattle.site_laws.proofs.Merge.{one_more}
-use Rattle.member.specs.Member.{home_of, with_leaving, HasDone}
+use Rattle.member.specs.Member.{MemberView, home_of, with_leaving, HasDone}
 use Rattle.member.specs.Asking.{IsShown}
+use Rattle.member.specs.Passing.{IsFirstTo, IsFirstHere}
 use Rattle.member.specs.Working.{answer_shown}
 use Rattle.member.proofs.Behind.{host_behind, verifier_behind, posted_behind, again_behind, reached_behind}
 
@@ -168,3 +170,7 @@ is_shown shown shown_now client command quiet r given same of command_is is = re
   asks = command_is;
   after = is;
 }
+
+-- the first letter is for this node, which is its own
+pub first_here : (v : MemberView) (to : Node) → IsFirstTo v.nodes.mail to → IsNodeOf (home_of v.config) v.id to → IsFirstHere v
+first_here v to first own = record { letter = first.letter; first = first.first; here = subst (λ (n : Node). IsNodeOf (home_of v.config) v.id n) (sym first.is_to) own }

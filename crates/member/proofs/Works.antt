@@ -60,3 +60,7 @@ module _ (moment : ℕ) where
   -- then the moment was noted
   pub then_noted : (s t u : List Shown) (x y z : List Answer) → Worked moment s x t y → u ≡ t ++ Notes moment ∷ [] → z ≡ y → Worked moment s x u z
   then_noted s t u x y z f noted same_answers = more_worked s t u x y z f (noted_worked t u y z noted same_answers)
+
+  -- the same, from where it began
+  pub from_same : (s t u : List Shown) (x y z : List Answer) → t ≡ s → y ≡ x → Worked moment t y u z → Worked moment s x u z
+  from_same s t u x y z same same_answers f = subst (λ (p : List Shown × List Answer). Worked moment p.0 p.1 u z) (λ i. (same i, same_answers i)) f

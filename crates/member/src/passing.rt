@@ -54,12 +54,14 @@ impl Member {
         receive(&mut self.nodes, letter, &mut self.refused);
     }
 
-    /// Whether the first letter that is under way is for one of its own nodes. None: no letter is under way.
-    pub(crate) fn is_first_here(&self) -> Option<bool>
-        ensures { IfSome result (λ here. IsTrue here → IsFirstHere self.now) }
+    /// Whether a letter is under way, and the first one is for one of its own nodes.
+    pub(crate) fn is_first_here(&self) -> bool
+        ensures { IsTrue result → IsFirstHere self.now }
     {
-        let to = first_to(&self.nodes)?;
-        Some(self.is_here(to))
+        match first_to(&self.nodes) {
+            Some(to) => self.is_here(to),
+            None => false,
+        }
     }
 
     /// The first letter that is under way, which is for one of its own nodes, comes to it: what it answers.
@@ -72,8 +74,8 @@ impl Member {
         Some(self.history.answered(answer))
     }
 
-    /// The first letter that is under way, if there is one, waits until it leaves: whether it does. False: there is no
-    /// memory for that, and it stays under way.
+    /// The first letter that is under way waits until it leaves: whether it does. False: no letter is under way, or there is
+    /// no memory for that, and nothing was done.
     pub(crate) fn set_aside(&mut self) -> bool
         ensures shown { self.new.shown ≡ self.old.shown }
         ensures whose { whose self.new ≡ whose self.old }
@@ -82,10 +84,12 @@ impl Member {
             return false;
         }
         match take_first(&mut self.nodes) {
-            Some(letter) => self.leaving.push_back_reserved(letter),
-            None => (),
+            Some(letter) => {
+                self.leaving.push_back_reserved(letter);
+                true
+            }
+            None => false,
         }
-        true
     }
 
     /// The first letter that waits leaves, if there is one.

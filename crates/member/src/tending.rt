@@ -144,16 +144,9 @@ impl Member {
         ensures counted { self.old.refused ≤ self.new.refused }
     {
         match replica {
-            Replica::Executor(id) => {
-                if id == self.id {
-                    self.open_executor(alloc);
-                }
-            }
-            Replica::Verifier(id) => {
-                if id == self.id {
-                    self.open_verifier(alloc);
-                }
-            }
+            Replica::Executor(id) if id == self.id => self.open_executor(alloc),
+            Replica::Verifier(id) if id == self.id => self.open_verifier(alloc),
+            _ => (),
         }
     }
 

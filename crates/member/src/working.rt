@@ -30,10 +30,13 @@ impl Member {
         if answers.reserve(1).is_err() {
             return false;
         }
-        if let Some(answer) = self.deliver(alloc) {
-            answers.push_reserved(answer);
+        match self.deliver(alloc) {
+            Some(answer) => {
+                answers.push_reserved(answer);
+                true
+            }
+            None => true,
         }
-        true
     }
 
     /// The first letter comes, if it is for one of its own nodes, and what it answers comes behind these; else it waits to
@@ -42,11 +45,10 @@ impl Member {
         ensures worked { Worked moment self.old.shown answers.old.items self.new.shown answers.new.items }
         ensures whose { whose self.new ≡ whose self.old }
     {
-        match self.is_first_here() {
-            Some(true) => self.take(alloc, moment, answers),
-            Some(false) => self.set_aside(),
-            None => false,
+        if self.is_first_here() {
+            return self.take(alloc, moment, answers);
         }
+        self.set_aside()
     }
 
     /// The first letter comes or waits to leave, unless it is a decree for its executor. False: nothing was done.
