@@ -10,7 +10,7 @@ use Rattle.ensemble.specs.Nodes.{NodesView}
 use Rattle.site_laws.specs.Orders.{DoesAll, deeds_of, tagged, entry_of, shows, all_shown}
 use Rattle.site_laws.specs.Site.{Deed, Does, Shown, shown_by, unopened_nodes, IsPart, ShowsSite, SiteIsShown, all_by, asked_by, replies_by, noted_by}
 use Rattle.site_laws.specs.Site as site
-use Rattle.member.specs.Member.{MemberView, whose, home_of, with_leaving, HasDone, IsMember}
+use Rattle.member.specs.Member.{MemberView, whose, home_of, with_leaving, HasDone, IsSiteMember}
 use Rattle.member.specs.Laws.{asked_in, answered_in, noted_in, AreMembers, AreOneEnsemble, MembersAreOneEnsemble}
 
 -- ---- what deeds come to is what they show

@@ -1,5 +1,5 @@
 -- A member that did one thing more.
-use Rattle.std.proofs.Common.{◌≡◌, ⊎_elim, ℕ, List, [], ◌∷◌, ◌++◌, Option, None, Some, slice_get, refl, sym, ap, ◌∙◌, subst, append_assoc}
+use Rattle.std.proofs.Common.{◌≡◌, ⊎_elim, ℕ, List, [], ◌∷◌, ◌++◌, map, Option, None, Some, slice_get, refl, sym, ap, ◌∙◌, subst, append_assoc}
 use Rattle.std.proofs.lemmas.List.{append-nil}
 use Rattle.std.proofs.lemmas.List.Elements.{Contains-append_left, Contains-append_right, Contains-append_cases}
 use Rattle.std.specs.Prelude.{Bool, Contains}
@@ -19,11 +19,11 @@ use Rattle.ensemble.specs.declared.answer.Answer.{Answer}
 use Rattle.ensemble.specs.Nodes.{NodesView, MayGrow, HostMoves, VerifierMoves, IsAskedBy, IsPosted, AsksAgain, NodesReached, DeliversOf, Delivers}
 use Rattle.ensemble.proofs.Lists.{in_head, in_tail}
 use Rattle.site_laws.specs.Orders.{shows, entry_of}
-use Rattle.site_laws.specs.Site.{Deed, Does, Shown, IsNodeOf, shown_by}
+use Rattle.site_laws.specs.Site.{Deed, Does, Shown, IsNodeOf, shown_by, unopened_nodes}
 use Rattle.site_laws.specs.Site as site
 use Rattle.site_laws.proofs.Merge.{one_more}
 use Rattle.member.specs.Member.{MemberView, home_of, with_leaving, HasDone}
-use Rattle.member.specs.Asking.{IsShown}
+use Rattle.member.specs.Asking.{IsAskShown}
 use Rattle.member.specs.Passing.{IsFirstTo, IsFirstHere}
 use Rattle.member.specs.Working.{answer_shown}
 use Rattle.member.proofs.Behind.{host_behind, verifier_behind, posted_behind, again_behind, reached_behind}
@@ -162,7 +162,7 @@ module _ (id : ℕ) (c : ConfigView) where
       (λ x at. in_tail l x (rest ++ n.mail) at)
 
 -- what a request adds to what is shown
-pub is_shown : (shown shown_now : List Shown) (client : ℕ) (command : Command) (quiet : Bool) (r given : Request) → given ≡ r → r.client ≡ client → r.command ≡ command → shown_now ≡ shown ++ site.Asks r quiet ∷ [] → IsShown shown client given.number command quiet shown_now
+pub is_shown : (shown shown_now : List Shown) (client : ℕ) (command : Command) (quiet : Bool) (r given : Request) → given ≡ r → r.client ≡ client → r.command ≡ command → shown_now ≡ shown ++ site.Asks r quiet ∷ [] → IsAskShown shown client given.number command quiet shown_now
 is_shown shown shown_now client command quiet r given same of command_is is = record {
   request = r;
   of_proxy = of;
@@ -174,3 +174,29 @@ is_shown shown shown_now client command quiet r given same of command_is is = re
 -- the first letter is for this node, which is its own
 pub first_here : (v : MemberView) (to : Node) → IsFirstTo v.nodes.mail to → IsNodeOf (home_of v.config) v.id to → IsFirstHere v
 first_here v to first own = record { letter = first.letter; first = first.first; here = subst (λ (n : Node). IsNodeOf (home_of v.config) v.id n) (sym first.is_to) own }
+
+-- one of which nothing was opened
+pub fresh : (id : ℕ) (c : ConfigView) (n : NodesView) (leaving : List (Letter Body)) (shown : List Shown) → n ≡ unopened_nodes c → leaving ≡ [] → shown ≡ [] → HasDone id c (with_leaving leaving n) shown
+fresh id c n leaving shown same none silent = record {
+  deeds = [];
+  leads = λ i. with_leaving (none i) (same i);
+  show = sym silent;
+}
+
+-- one more letter was handed out
+pub out_more : (all letters leaving letters_now leaving_now : List (Letter Body)) (l : Letter Body) → all ≡ letters ++ leaving → leaving ≡ l ∷ leaving_now → letters_now ≡ letters ++ l ∷ [] → all ≡ letters_now ++ leaving_now
+out_more all letters leaving letters_now leaving_now l is first more =
+    is
+    ∙ (ap (λ (ls : List (Letter Body)). letters ++ ls) first
+    ∙ (sym (append_assoc letters (l ∷ []) leaving_now) ∙ ap (λ (ls : List (Letter Body)). ls ++ leaving_now) (sym more)))
+
+pub out_shown : (first shown shown_now : List Shown) (letters letters_now : List (Letter Body)) (l : Letter Body) → shown ≡ first ++ map site.WentOut letters → shown_now ≡ shown ++ site.WentOut l ∷ [] → letters_now ≡ letters ++ l ∷ [] → shown_now ≡ first ++ map site.WentOut letters_now
+out_shown first shown shown_now letters letters_now l is more handed =
+    more
+    ∙ (ap (λ (vs : List Shown). vs ++ site.WentOut l ∷ []) is
+    ∙ (append_assoc first (map site.WentOut letters) (site.WentOut l ∷ [])
+    ∙ ap (λ (vs : List Shown). first ++ vs) (one_more_of letters ∙ ap (λ (ls : List (Letter Body)). map site.WentOut ls) (sym handed))))
+  where
+    one_more_of : (ls : List (Letter Body)) → map site.WentOut ls ++ site.WentOut l ∷ [] ≡ map site.WentOut (ls ++ l ∷ [])
+    one_more_of [] = refl
+    one_more_of (x ∷ ls) = ap (λ (vs : List Shown). site.WentOut x ∷ vs) (one_more_of ls)

@@ -7,11 +7,11 @@ use Rattle.std.specs.Prelude.{Contains, flat_map}
 use Rattle.ensemble.specs.declared.answer.Answer.{Answer}
 use Rattle.ensemble.proofs.Lists.{in_none, first_or_other}
 use Rattle.site_laws.specs.Site.{Shown, Answers, Notes}
-use Rattle.member.specs.Working.{answers_by, answer_shown, IsOfWork, Worked}
+use Rattle.member.specs.Working.{answers_by, answer_shown, IsOfWork, HasWorked}
 
 module _ (moment : ℕ) where
   -- nothing was shown
-  pub none_worked : (shown shown_now : List Shown) (answers answers_now : List Answer) → shown_now ≡ shown → answers_now ≡ answers → Worked moment shown answers shown_now answers_now
+  pub none_worked : (shown shown_now : List Shown) (answers answers_now : List Answer) → shown_now ≡ shown → answers_now ≡ answers → HasWorked moment shown answers shown_now answers_now
   none_worked shown shown_now answers answers_now s a = record {
     added = [];
     after = s ∙ sym (append-nil shown);
@@ -24,7 +24,7 @@ module _ (moment : ℕ) where
   only_one x y is at = ⊎_elim (λ (same : x ≡ y). subst (IsOfWork moment) same is) (λ (none : Contains [] y). absurd (in_none y none)) (first_or_other x y [] at)
 
   -- the moment was noted
-  pub noted_worked : (shown shown_now : List Shown) (answers answers_now : List Answer) → shown_now ≡ shown ++ Notes moment ∷ [] → answers_now ≡ answers → Worked moment shown answers shown_now answers_now
+  pub noted_worked : (shown shown_now : List Shown) (answers answers_now : List Answer) → shown_now ≡ shown ++ Notes moment ∷ [] → answers_now ≡ answers → HasWorked moment shown answers shown_now answers_now
   noted_worked shown shown_now answers answers_now s a = record {
     added = Notes moment ∷ [];
     after = s;
@@ -33,7 +33,7 @@ module _ (moment : ℕ) where
   }
 
   -- an answer was given
-  pub answer_worked : (shown shown_now : List Shown) (answers answers_now : List Answer) (a : Answer) → shown_now ≡ shown ++ answer_shown (Some a) → answers_now ≡ answers ++ a ∷ [] → Worked moment shown answers shown_now answers_now
+  pub answer_worked : (shown shown_now : List Shown) (answers answers_now : List Answer) (a : Answer) → shown_now ≡ shown ++ answer_shown (Some a) → answers_now ≡ answers ++ a ∷ [] → HasWorked moment shown answers shown_now answers_now
   answer_worked shown shown_now answers answers_now a s is = record {
     added = Answers a ∷ [];
     after = s;
@@ -41,7 +41,7 @@ module _ (moment : ℕ) where
     only = λ x at. only_one (Answers a) x tt at;
   }
 
-  pub more_worked : (s t u : List Shown) (x y z : List Answer) → Worked moment s x t y → Worked moment t y u z → Worked moment s x u z
+  pub more_worked : (s t u : List Shown) (x y z : List Answer) → HasWorked moment s x t y → HasWorked moment t y u z → HasWorked moment s x u z
   more_worked s t u x y z f g = record {
     added = f.added ++ g.added;
     after = g.after ∙ (ap (λ (es : List Shown). es ++ g.added) f.after ∙ append_assoc s f.added g.added);
@@ -54,13 +54,13 @@ module _ (moment : ℕ) where
   }
 
   -- then nothing was shown
-  pub then_none : (s t u : List Shown) (x y z : List Answer) → Worked moment s x t y → u ≡ t → z ≡ y → Worked moment s x u z
+  pub then_none : (s t u : List Shown) (x y z : List Answer) → HasWorked moment s x t y → u ≡ t → z ≡ y → HasWorked moment s x u z
   then_none s t u x y z f same same_answers = more_worked s t u x y z f (none_worked t u y z same same_answers)
 
   -- then the moment was noted
-  pub then_noted : (s t u : List Shown) (x y z : List Answer) → Worked moment s x t y → u ≡ t ++ Notes moment ∷ [] → z ≡ y → Worked moment s x u z
+  pub then_noted : (s t u : List Shown) (x y z : List Answer) → HasWorked moment s x t y → u ≡ t ++ Notes moment ∷ [] → z ≡ y → HasWorked moment s x u z
   then_noted s t u x y z f noted same_answers = more_worked s t u x y z f (noted_worked t u y z noted same_answers)
 
   -- the same, from where it began
-  pub from_same : (s t u : List Shown) (x y z : List Answer) → t ≡ s → y ≡ x → Worked moment t y u z → Worked moment s x u z
-  from_same s t u x y z same same_answers f = subst (λ (p : List Shown × List Answer). Worked moment p.0 p.1 u z) (λ i. (same i, same_answers i)) f
+  pub from_same : (s t u : List Shown) (x y z : List Answer) → t ≡ s → y ≡ x → HasWorked moment t y u z → HasWorked moment s x u z
+  from_same s t u x y z same same_answers f = subst (λ (p : List Shown × List Answer). HasWorked moment p.0 p.1 u z) (λ i. (same i, same_answers i)) f

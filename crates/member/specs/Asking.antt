@@ -5,7 +5,7 @@ use Rattle.sessions.specs.declared.request.Request.{Request}
 use Rattle.site_laws.specs.Site.{Shown, Asks}
 
 -- one more request was asked: this one
-pub record IsShown (shown : List Shown) (proxy number : ℕ) (command : Command) (quiet : Bool) (now : List Shown) : Type 0 where
+pub record IsAskShown (shown : List Shown) (proxy number : ℕ) (command : Command) (quiet : Bool) (now : List Shown) : Type 0 where
   pub request : Request
   pub of_proxy : request.client ≡ proxy
   pub numbered : request.number ≡ number

@@ -23,7 +23,7 @@ entry_of (site.Asks r quiet) = entry.Asks r quiet
 entry_of (site.Answers a) = entry.Answers a
 entry_of (site.Notes moment) = entry.Notes moment
 
-shown_back : (x : Shown) → shown_of (entry_of x) ≡ x
+abbrev shown_back : (x : Shown) → shown_of (entry_of x) ≡ x
 shown_back (site.CameIn l) = refl
 shown_back (site.WentOut l) = refl
 shown_back (site.Asks r quiet) = refl

@@ -10,7 +10,7 @@ use Rattle.ensemble.specs.declared.noted.Noted.TheVariants as noted
 use Rattle.ensemble.specs.Ensemble.{EnsembleView, IsEnsemble, answer_entry, order_entry, moment_entry}
 use Rattle.site_laws.specs.Orders.{deeds_of, AreAllowed}
 use Rattle.site_laws.specs.Site.{Shown, CameIn, WentOut, Asks, Answers, Notes, WentBefore, IsPart}
-use Rattle.member.specs.Member.{MemberView, whose, home_of, IsMember}
+use Rattle.member.specs.Member.{MemberView, whose, home_of, IsSiteMember}
 
 -- ---- requests, answers and moments among what members show
 
@@ -40,7 +40,7 @@ noted_in (m, WentOut l) = []
 
 -- these are the members of a site, by their numbers, and each has shown its part of this order, in which each letter went out before it came in
 pub record AreMembers (c : ConfigView) (members : ℕ → MemberView) (order : List (ℕ × Shown)) : Type 0 where
-  pub each : (m : ℕ) → m < member_count c.u → IsMember (members m)
+  pub each : (m : ℕ) → m < member_count c.u → IsSiteMember (members m)
   pub of_site : (m : ℕ) → m < member_count c.u → whose (members m) ≡ (m, c)
   pub show : (m : ℕ) → m < member_count c.u → (members m).shown ≡ deeds_of m order
   pub no_others : (m : ℕ) → member_count c.u ≤ m → deeds_of m order ≡ []

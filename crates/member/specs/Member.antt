@@ -62,5 +62,5 @@ pub record HasDone (id : ℕ) (c : ConfigView) (now : NodesView) (shown : List S
   pub show : shows shown_by deeds ≡ shown
 
 -- what is always true of a member
-abbrev pub IsMember : MemberView → Type 0
-IsMember v = HasDone v.id v.config (with_leaving v.leaving v.nodes) v.shown
+abbrev pub IsSiteMember : MemberView → Type 0
+IsSiteMember v = HasDone v.id v.config (with_leaving v.leaving v.nodes) v.shown

@@ -24,7 +24,7 @@ IsOfWork moment (WentOut l) = ⊥
 IsOfWork moment (Asks r quiet) = ⊥
 
 -- work at this moment gave the answers that came behind these, and showed them in order
-pub record Worked (moment : ℕ) (shown : List Shown) (answers : List Answer) (shown_now : List Shown) (answers_now : List Answer) : Type 0 where
+pub record HasWorked (moment : ℕ) (shown : List Shown) (answers : List Answer) (shown_now : List Shown) (answers_now : List Answer) : Type 0 where
   pub added : List Shown
   pub after : shown_now ≡ shown ++ added
   pub answered : answers_now ≡ answers ++ flat_map answers_by added

@@ -8,7 +8,7 @@ impl Member {
     ghost use Rattle.std.specs.Prelude.{◌≡◌, ◌++◌, ◌∷◌, [], IfOk, OnErr};
     ghost use Rattle.memcached_spec.specs.Asked.{HasText};
     ghost use Rattle.member.specs.Member.{whose, MayAsk};
-    ghost use Rattle.member.specs.Asking.{IsShown};
+    ghost use Rattle.member.specs.Asking.{IsAskShown};
 
     /// The proxy of this number, which is its own and free, asks the command: the number of the request. `quiet`: the reply
     /// is left out of what the connection is given. The reply comes from `work`. The letters of the request to other members
@@ -24,7 +24,7 @@ impl Member {
     ) -> Result<u64, Fault>
         requires free { MayAsk self.old proxy }
         requires text { HasText command quiet }
-        ensures ok { IfOk result (λ number. IsShown self.old.shown proxy number command quiet self.new.shown) }
+        ensures ok { IfOk result (λ number. IsAskShown self.old.shown proxy number command quiet self.new.shown) }
         ensures err { OnErr result (self.new ≡ self.old) }
         ensures whose { whose self.new ≡ whose self.old }
     {

@@ -54,11 +54,11 @@ impl Member {
     ghost use Rattle.std.specs.Prelude.{◌≡◌, ◌<◌, ◌≤◌, ◌-◌, ◌^◌, IsTrue};
     ghost use Rattle.ensemble.specs.Shown.{is_up_at, latest_epoch};
     ghost use Rattle.site_laws.specs.Site.{IsNodeOf};
-    ghost use Rattle.member.specs.Member.{IsMember, MayAsk, home_of, block_of};
+    ghost use Rattle.member.specs.Member.{IsSiteMember, MayAsk, home_of, block_of};
 
     /// What always holds of it: what it did led its nodes where they are, and that is what it shows. The call does nothing.
     pub fn shows(&self)
-        ensures { IsMember self.now }
+        ensures { IsSiteMember self.now }
     {
         let _ = &self.refused;
     }

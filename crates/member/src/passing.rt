@@ -38,7 +38,7 @@ fn take_first(nodes: &mut Nodes) -> Option<Letter<Body>>
 }
 
 impl Member {
-    ghost use Rattle.std.specs.Prelude.{◌≡◌, ◌++◌, ◌∷◌, [], map, true, IfOk, IfSome, IfErr, OnErr, OnOk, IsTrue};
+    ghost use Rattle.std.specs.Prelude.{◌≡◌, ◌++◌, ◌∷◌, [], None, map, true, IfOk, IfSome, IfErr, OnErr, OnOk, IsTrue};
     ghost use Rattle.site_laws.specs.Site.{CameIn, WentOut};
     ghost use Rattle.member.specs.Member.{whose};
     ghost use Rattle.member.specs.Working.{answer_shown};
@@ -96,6 +96,7 @@ impl Member {
     fn let_out(&mut self) -> Option<Letter<Body>>
         ensures letter { IfSome result (λ letter. self.old.leaving ≡ letter ∷ self.new.leaving) }
         ensures none { result ≡ None → self.new ≡ self.old }
+        ensures empty { result ≡ None → self.old.leaving ≡ [] }
         ensures shown { IfSome result (λ letter. self.new.shown ≡ self.old.shown ++ WentOut letter ∷ []) }
         ensures whose { whose self.new ≡ whose self.old }
     {

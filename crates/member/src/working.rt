@@ -18,13 +18,13 @@ impl Member {
     ghost use Rattle.std.specs.Prelude.{◌≡◌, []};
     ghost use Rattle.member.specs.Member.{whose};
     ghost use Rattle.member.specs.Passing.{IsFirstHere};
-    ghost use Rattle.member.specs.Working.{Worked};
+    ghost use Rattle.member.specs.Working.{HasWorked};
 
     /// The first letter comes to the node of its own that it is for, and what that answers comes behind these. False: there is
     /// no memory for an answer, and nothing was done.
     fn take(&mut self, alloc: Global, moment: u32, answers: &mut Vec<Answer>) -> bool
         requires { IsFirstHere self.old }
-        ensures worked { Worked moment self.old.shown answers.old.items self.new.shown answers.new.items }
+        ensures worked { HasWorked moment self.old.shown answers.old.items self.new.shown answers.new.items }
         ensures whose { whose self.new ≡ whose self.old }
     {
         if answers.reserve(1).is_err() {
@@ -42,7 +42,7 @@ impl Member {
     /// The first letter comes, if it is for one of its own nodes, and what it answers comes behind these; else it waits to
     /// leave. False: no letter is under way, or there is no memory, and nothing was done.
     fn deliver_to(&mut self, alloc: Global, moment: u32, answers: &mut Vec<Answer>) -> bool
-        ensures worked { Worked moment self.old.shown answers.old.items self.new.shown answers.new.items }
+        ensures worked { HasWorked moment self.old.shown answers.old.items self.new.shown answers.new.items }
         ensures whose { whose self.new ≡ whose self.old }
     {
         if self.is_first_here() {
@@ -53,7 +53,7 @@ impl Member {
 
     /// The first letter comes or waits to leave, unless it is a decree for its executor. False: nothing was done.
     fn deliver_early(&mut self, alloc: Global, moment: u32, answers: &mut Vec<Answer>) -> bool
-        ensures worked { Worked moment self.old.shown answers.old.items self.new.shown answers.new.items }
+        ensures worked { HasWorked moment self.old.shown answers.old.items self.new.shown answers.new.items }
         ensures whose { whose self.new ≡ whose self.old }
     {
         if self.nodes.is_decree_next() {
@@ -65,7 +65,7 @@ impl Member {
     /// All letters come, or wait to leave, before the first decree of its executor: a batch that was ordered before is to be
     /// executed first.
     fn deliver_all(&mut self, alloc: Global, moment: u32, answers: &mut Vec<Answer>)
-        ensures worked { Worked moment self.old.shown answers.old.items self.new.shown answers.new.items }
+        ensures worked { HasWorked moment self.old.shown answers.old.items self.new.shown answers.new.items }
         ensures whose { whose self.new ≡ whose self.old }
     {
         for _ in 0..MOST_LETTERS {
@@ -84,7 +84,7 @@ impl Member {
         moment: u32,
         answers: &mut Vec<Answer>,
     ) -> bool
-        ensures worked { Worked moment self.old.shown answers.old.items self.new.shown answers.new.items }
+        ensures worked { HasWorked moment self.old.shown answers.old.items self.new.shown answers.new.items }
         ensures whose { whose self.new ≡ whose self.old }
     {
         self.deliver_all(alloc, moment, answers);
@@ -109,7 +109,7 @@ impl Member {
         moment: u32,
         answers: &mut Vec<Answer>,
     ) -> bool
-        ensures worked { Worked moment self.old.shown answers.old.items self.new.shown answers.new.items }
+        ensures worked { HasWorked moment self.old.shown answers.old.items self.new.shown answers.new.items }
         ensures whose { whose self.new ≡ whose self.old }
     {
         for _ in 0..MOST_ROUNDS {
@@ -130,15 +130,22 @@ impl Member {
         alloc: Global,
         moment: u32,
     ) -> Vec<Answer>
-        ensures worked { Worked moment self.old.shown [] self.new.shown result.items }
+        ensures worked { HasWorked moment self.old.shown [] self.new.shown result.items }
         ensures whose { whose self.new ≡ whose self.old }
     {
         let mut answers = Vec::new(alloc);
         self.trim(alloc);
         let is_done = self.go_on_to_the_end(rt, alloc, moment, &mut answers);
+        self.look(is_done);
+        answers
+    }
+
+    /// If more can be done, that is counted.
+    fn look(&mut self, is_done: bool)
+        ensures { self.new ≡ record self.old { refused = self.new.refused } }
+    {
         if !is_done || self.nodes.has_letters() {
             self.refuse();
         }
-        answers
     }
 }

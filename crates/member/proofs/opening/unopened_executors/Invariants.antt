@@ -4,12 +4,12 @@ use Rattle.worlds.specs.World.{nothing_kept}
 use Rattle.hosts.specs.Host.{HostView}
 use Rattle.member.proofs.opening.unopened_executors.Given as goal
 
-abbrev pub invariant-loop : goal.invariant-loop
-invariant-loop l = record {
+abbrev pub invariant-loop-hosts : goal.invariant-loop-hosts
+invariant-loop-hosts l = record {
   made : (let x : HostView = record { slot = Down nothing_kept; held = []; sent = [] } in l.hosts.items ≡ replicate (vec_len l.hosts) x);
   most : vec_len l.hosts ≤ l.fn.count;
   room : l.fn.count ≤ vec_capacity l.hosts;
 }
 
-abbrev pub decreases-loop : goal.decreases-loop
-decreases-loop l = l.fn.count - vec_len l.hosts
+abbrev pub decreases-loop-hosts : goal.decreases-loop-hosts
+decreases-loop-hosts l = l.fn.count - vec_len l.hosts

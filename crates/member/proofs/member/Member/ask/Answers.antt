@@ -2,7 +2,7 @@ use Rattle.std.proofs.Common.{◌≡◌, ℕ, List, sym, ap, ◌∙◌, subst}
 use Rattle.sessions.specs.declared.request.Request.{Request}
 use Rattle.ensemble.specs.Nodes.{IsPosted}
 use Rattle.member.specs.Member.{MemberView, home_of}
-use Rattle.member.specs.Asking.{IsShown}
+use Rattle.member.specs.Asking.{IsAskShown}
 use Rattle.member.proofs.Steps.{asks, is_shown}
 use Rattle.member.proofs.member.Member.ask.Goals as goal
 
@@ -22,5 +22,5 @@ invariant_of-self-2 c =
 pub returns-clause-ok : goal.returns-clause-ok
 returns-clause-ok c =
     let r = c.in_ok-request.request in
-    subst (λ (v : MemberView). IsShown v.shown c.args.proxy c.asked-request.result.number c.args.command c.args.quiet c.asked-request.new.self) c.self.view_is
+    subst (λ (v : MemberView). IsAskShown v.shown c.args.proxy c.asked-request.result.number c.args.command c.args.quiet c.asked-request.new.self) c.self.view_is
     (is_shown c.self.inside.history c.asked-request.new.self c.args.proxy c.args.command c.args.quiet r c.asked-request.result c.asked-request.ensures.same c.in_ok-request.ensures.numbered (ap (λ (x : Request). x.command) c.in_ok-request.ensures.ok.is) c.asked-request.ensures.shown)
