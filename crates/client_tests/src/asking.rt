@@ -1,10 +1,9 @@
 //! Commands of the client's bytes.
 
 use crate::handed::Handed::{Deleted, Feed, Found, Stored};
-use crate::seen::{Talk, is_held};
-use std::test::Fail;
+use crate::seen::Talk;
 
-const TALKS: [Talk; 6] = [
+pub const TALKS: &[Talk] = &[
     Talk {
         name: "a_command_is_asked_of_each_executor",
         u: 1,
@@ -62,11 +61,3 @@ const TALKS: [Talk; 6] = [
         ],
     },
 ];
-
-#[test]
-fn commands_are_asked(rt: HostRuntime) -> Result<(), Fail> {
-    for talk in TALKS {
-        assert_eq!(rt; is_held(rt.alloc(), &talk), Ok(()), "{}", talk.name);
-    }
-    Ok(())
-}

@@ -1,10 +1,9 @@
 //! Requests that are asked once more.
 
 use crate::handed::Handed::{Again, Deleted, Feed};
-use crate::seen::{Talk, is_held};
-use std::test::Fail;
+use crate::seen::Talk;
 
-const TALKS: [Talk; 2] = [
+pub const TALKS: &[Talk] = &[
     Talk {
         name: "what_is_outstanding_is_asked_again",
         u: 1,
@@ -30,11 +29,3 @@ const TALKS: [Talk; 2] = [
         ],
     },
 ];
-
-#[test]
-fn requests_are_asked_again(rt: HostRuntime) -> Result<(), Fail> {
-    for talk in TALKS {
-        assert_eq!(rt; is_held(rt.alloc(), &talk), Ok(()), "{}", talk.name);
-    }
-    Ok(())
-}

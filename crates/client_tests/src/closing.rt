@@ -1,10 +1,9 @@
 //! What closes by the client's own bytes.
 
 use crate::handed::Handed::{Again, Deleted, Feed};
-use crate::seen::{Talk, is_held};
-use std::test::Fail;
+use crate::seen::Talk;
 
-const TALKS: [Talk; 4] = [
+pub const TALKS: &[Talk] = &[
     Talk {
         name: "behind_a_quit_nothing_is_read",
         u: 1,
@@ -49,11 +48,3 @@ const TALKS: [Talk; 4] = [
         ],
     },
 ];
-
-#[test]
-fn what_closes(rt: HostRuntime) -> Result<(), Fail> {
-    for talk in TALKS {
-        assert_eq!(rt; is_held(rt.alloc(), &talk), Ok(()), "{}", talk.name);
-    }
-    Ok(())
-}

@@ -1,10 +1,9 @@
 //! Connections that end.
 
 use crate::handed::Handed::{Again, Deleted, Feed, Hangup};
-use crate::seen::{Talk, is_held};
-use std::test::Fail;
+use crate::seen::Talk;
 
-const TALKS: [Talk; 2] = [
+pub const TALKS: &[Talk] = &[
     Talk {
         name: "what_waits_at_a_hangup_is_let_go",
         u: 1,
@@ -32,11 +31,3 @@ const TALKS: [Talk; 2] = [
         ],
     },
 ];
-
-#[test]
-fn connections_end(rt: HostRuntime) -> Result<(), Fail> {
-    for talk in TALKS {
-        assert_eq!(rt; is_held(rt.alloc(), &talk), Ok(()), "{}", talk.name);
-    }
-    Ok(())
-}

@@ -24,4 +24,6 @@ mod replies;
 #[cfg(test)]
 mod seen;
 #[cfg(test)]
+mod talks;
+#[cfg(test)]
 mod texts;

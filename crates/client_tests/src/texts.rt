@@ -1,10 +1,9 @@
 //! Lines that are answered without an executor.
 
 use crate::handed::Handed::{Deleted, Feed};
-use crate::seen::{Talk, is_held};
-use std::test::Fail;
+use crate::seen::Talk;
 
-const TALKS: [Talk; 3] = [
+pub const TALKS: &[Talk] = &[
     Talk {
         name: "a_line_that_is_no_command_is_answered_at_once",
         u: 1,
@@ -37,11 +36,3 @@ const TALKS: [Talk; 3] = [
         ],
     },
 ];
-
-#[test]
-fn texts_are_given(rt: HostRuntime) -> Result<(), Fail> {
-    for talk in TALKS {
-        assert_eq!(rt; is_held(rt.alloc(), &talk), Ok(()), "{}", talk.name);
-    }
-    Ok(())
-}

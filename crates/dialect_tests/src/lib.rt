@@ -14,3 +14,5 @@ mod shown;
 mod streams;
 #[cfg(test)]
 mod tell;
+#[cfg(test)]
+mod told;

@@ -1,7 +1,6 @@
 //! Lines of meta commands, and what is told of them: what memcached 1.6.18 asks for, as far as the profile has it.
 
-use crate::tell::{Row, are_told};
-use std::test::Fail;
+use crate::tell::Row;
 
 const UNKNOWN: &[u8] = b"ERROR\r\n";
 
@@ -19,7 +18,7 @@ const OPAQUE: &[u8] = b"CLIENT_ERROR opaque token too long\r\n";
 
 const LENGTH: &[u8] = b"CLIENT_ERROR incorrect length for M token\r\n";
 
-const READS: [Row; 23] = [
+pub const READS: &[Row] = &[
     (b"mg k\r\n", b"gets k (meta)\n"),
     (b"  mg  k   v \n", b"gets k (meta value)\n"),
     (
@@ -56,7 +55,7 @@ const READS: [Row; 23] = [
     (b"mg a2V5 b v\r\n", FLAG),
 ];
 
-const STORES: [Row; 30] = [
+pub const STORES: &[Row] = &[
     (b"ms k 2\r\nab\r\n", b"set k 0 0 ab (meta)\n"),
     (b"ms k +2 F+5 T60\r\nab\r\n", b"set k 5 60 ab (meta)\n"),
     (
@@ -116,7 +115,7 @@ const STORES: [Row; 30] = [
     ),
 ];
 
-const UPDATES: [Row; 30] = [
+pub const UPDATES: &[Row] = &[
     (b"md k\r\n", b"delete k (meta)\n"),
     (b"md k q k Ox\r\n", b"delete k (meta quiet kk Ox)\n"),
     // A unique is compared by a `cas` of an item that has expired.
@@ -159,21 +158,3 @@ const UPDATES: [Row; 30] = [
     (b"me k\r\n", UNKNOWN),
     (b"mx k\r\n", UNKNOWN),
 ];
-
-#[test]
-fn meta_reads(rt: HostRuntime) -> Result<(), Fail> {
-    assert!(rt; are_told(rt.alloc(), READS.as_slice())?);
-    Ok(())
-}
-
-#[test]
-fn meta_stores(rt: HostRuntime) -> Result<(), Fail> {
-    assert!(rt; are_told(rt.alloc(), STORES.as_slice())?);
-    Ok(())
-}
-
-#[test]
-fn meta_updates(rt: HostRuntime) -> Result<(), Fail> {
-    assert!(rt; are_told(rt.alloc(), UPDATES.as_slice())?);
-    Ok(())
-}

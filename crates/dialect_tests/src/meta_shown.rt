@@ -109,36 +109,47 @@ fn miss(alloc: Global) -> Reply {
     Reply::Values(Values::new(Vec::new(alloc)))
 }
 
-#[test]
-fn reads(rt: HostRuntime) -> Result<(), Fail> {
-    let alloc = rt.alloc();
-    assert!(rt; are_shown(alloc, &hit(alloc)?, OF_A_HIT.as_slice())?);
-    assert!(rt; are_shown(alloc, &miss(alloc), OF_A_MISS.as_slice())?);
-    Ok(())
+fn reads(alloc: Global) -> Result<bool, AllocError> {
+    Ok(
+        are_shown(alloc, &hit(alloc)?, OF_A_HIT.as_slice())?
+            && are_shown(alloc, &miss(alloc), OF_A_MISS.as_slice())?,
+    )
+}
+
+fn stores(alloc: Global) -> Result<bool, AllocError> {
+    Ok(
+        are_shown(alloc, &Reply::Stored, OF_STORED.as_slice())?
+            && are_shown(alloc, &Reply::NotStored, OF_NOT_STORED.as_slice())?
+            && are_shown(alloc, &Reply::TooLarge, OF_TOO_LARGE.as_slice())?,
+    )
+}
+
+fn removals(alloc: Global) -> Result<bool, AllocError> {
+    Ok(
+        are_shown(alloc, &Reply::Exists, OF_EXISTS.as_slice())?
+            && are_shown(alloc, &Reply::NotFound, OF_NOT_FOUND.as_slice())?
+            && are_shown(alloc, &Reply::Deleted, OF_DELETED.as_slice())?,
+    )
+}
+
+fn counts(alloc: Global) -> Result<bool, AllocError> {
+    Ok(
+        are_shown(alloc, &Reply::Number(17), OF_A_NUMBER.as_slice())?
+            && are_shown(alloc, &Reply::NotNumber, OF_NO_NUMBER.as_slice())?,
+    )
 }
 
 #[test]
-fn stores(rt: HostRuntime) -> Result<(), Fail> {
+fn replies_are_shown_so(rt: HostRuntime) -> Result<(), Fail> {
     let alloc = rt.alloc();
-    assert!(rt; are_shown(alloc, &Reply::Stored, OF_STORED.as_slice())?);
-    assert!(rt; are_shown(alloc, &Reply::NotStored, OF_NOT_STORED.as_slice())?);
-    assert!(rt; are_shown(alloc, &Reply::TooLarge, OF_TOO_LARGE.as_slice())?);
-    Ok(())
-}
-
-#[test]
-fn removals(rt: HostRuntime) -> Result<(), Fail> {
-    let alloc = rt.alloc();
-    assert!(rt; are_shown(alloc, &Reply::Exists, OF_EXISTS.as_slice())?);
-    assert!(rt; are_shown(alloc, &Reply::NotFound, OF_NOT_FOUND.as_slice())?);
-    assert!(rt; are_shown(alloc, &Reply::Deleted, OF_DELETED.as_slice())?);
-    Ok(())
-}
-
-#[test]
-fn counts(rt: HostRuntime) -> Result<(), Fail> {
-    let alloc = rt.alloc();
-    assert!(rt; are_shown(alloc, &Reply::Number(17), OF_A_NUMBER.as_slice())?);
-    assert!(rt; are_shown(alloc, &Reply::NotNumber, OF_NO_NUMBER.as_slice())?);
+    let shown = [
+        ("reads", reads(alloc)?),
+        ("stores", stores(alloc)?),
+        ("removals", removals(alloc)?),
+        ("counts", counts(alloc)?),
+    ];
+    for (name, is_so) in &shown {
+        assert!(rt; *is_so, "{name}");
+    }
     Ok(())
 }

@@ -1,8 +1,7 @@
 //! Lines with their blocks, and what they give: the rows are those of the page that says what the dialect
 //! is, and were tried with memcached 1.6.18.
 
-use crate::tell::{Row, are_told};
-use std::test::Fail;
+use crate::tell::Row;
 
 const FORMAT: &[u8] = b"CLIENT_ERROR bad command line format\r\n";
 
@@ -15,7 +14,7 @@ const BAD_DELTA: &[u8] = b"CLIENT_ERROR invalid numeric delta argument\r\n";
 const BAD_DELETE: &[u8] =
     b"CLIENT_ERROR bad command line format.  Usage: delete <key> [noreply]\r\n";
 
-const STORAGE: [Row; 26] = [
+pub const STORAGE: &[Row] = &[
     (b"set k 0 0 5\r\nhello\r\n", b"set k 0 0 hello\n"),
     (b"set k 0 0 5\nhello\r\n", b"set k 0 0 hello\n"),
     (b"add k 7 60 1 noreply\r\nx\r\n", b"add k 7 60 x (quiet)\n"),
@@ -63,7 +62,7 @@ const STORAGE: [Row; 26] = [
     (b"set k 0 0 1 noreply\r\n5xxmn\r\n", b"MN\r\n"),
 ];
 
-const OTHERS: [Row; 39] = [
+pub const OTHERS: &[Row] = &[
     (b"delete k\r\n", b"delete k\n"),
     (b"delete k 0\r\n", b"delete k\n"),
     (b"delete k noreply\r\n", b"delete k (quiet)\n"),
@@ -110,7 +109,7 @@ const OTHERS: [Row; 39] = [
 ];
 
 // All figures and the settings have no text here.
-const STATS: [Row; 19] = [
+pub const STATS: &[Row] = &[
     (b"stats\r\nmn\r\n", b"MN\r\n"),
     (b"stats settings\r\nmn\r\n", b"MN\r\n"),
     (b"stats reset\r\n", b"RESET\r\n"),
@@ -147,7 +146,7 @@ const STATS: [Row; 19] = [
     (b"lru_crawler\r\n", UNKNOWN),
 ];
 
-const READS: [Row; 13] = [
+pub const READS: &[Row] = &[
     (b"get a\r\n", b"get a\n"),
     (b"  get   a  b \n", b"get a b\n"),
     (b"gets a noreply\r\n", b"gets a noreply\n"),
@@ -162,27 +161,3 @@ const READS: [Row; 13] = [
     (b"gat 0 \x7f\r\n", FORMAT),
     (b"get a\r\r\n", FORMAT),
 ];
-
-#[test]
-fn storage_lines(rt: HostRuntime) -> Result<(), Fail> {
-    assert!(rt; are_told(rt.alloc(), STORAGE.as_slice())?);
-    Ok(())
-}
-
-#[test]
-fn other_lines(rt: HostRuntime) -> Result<(), Fail> {
-    assert!(rt; are_told(rt.alloc(), OTHERS.as_slice())?);
-    Ok(())
-}
-
-#[test]
-fn stats_lines(rt: HostRuntime) -> Result<(), Fail> {
-    assert!(rt; are_told(rt.alloc(), STATS.as_slice())?);
-    Ok(())
-}
-
-#[test]
-fn lines_of_keys(rt: HostRuntime) -> Result<(), Fail> {
-    assert!(rt; are_told(rt.alloc(), READS.as_slice())?);
-    Ok(())
-}

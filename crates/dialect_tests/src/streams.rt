@@ -149,32 +149,43 @@ fn is_greatest_told(alloc: Global, zeros: &[u8]) -> Result<bool, AllocError> {
     Ok(out.len() == 1048576 + 11)
 }
 
-#[test]
-fn cuts(rt: HostRuntime) -> Result<(), Fail> {
-    let alloc = rt.alloc();
-    assert!(rt; is_told_where_cut(alloc)?);
-    assert!(rt; is_told_in_bytes(alloc)?);
-    Ok(())
-}
-
-#[test]
-fn gets_of_many_keys(rt: HostRuntime) -> Result<(), Fail> {
-    let alloc = rt.alloc();
-    assert!(rt; is_in_pieces(alloc, 1, [64, 64, 1])?);
-    assert!(rt; is_in_pieces(alloc, 1, [64, 64, 64])?);
+/// How many letters each key of a `get` has, and how many keys it has in each of three pieces.
+const PIECES: [(usize, [usize; 3]); 4] = [
+    (1, [64, 64, 1]),
+    (1, [64, 64, 64]),
     // Eight keys of 250 bytes fit on a line of 2,048.
-    assert!(rt; is_in_pieces(alloc, 250, [8, 8, 3])?);
+    (250, [8, 8, 3]),
     // 28 keys of 72 bytes and their spaces are 2,044 bytes, with `get` and the line end 2,049.
-    assert!(rt; is_in_pieces(alloc, 72, [27, 27, 5])?);
-    Ok(())
+    (72, [27, 27, 5]),
+];
+
+/// Whether each `get` of many keys is asked in its pieces.
+fn gets_of_many_keys(alloc: Global) -> Result<bool, AllocError> {
+    for (letters, counts) in &PIECES {
+        if !is_in_pieces(alloc, *letters, *counts)? {
+            return Ok(false);
+        }
+    }
+    Ok(true)
+}
+
+fn limits(alloc: Global) -> Result<bool, AllocError> {
+    let zeros = some_zeros(alloc, 1048576)?;
+    Ok(are_large_told(alloc, zeros.as_slice())? && is_greatest_told(alloc, zeros.as_slice())?)
 }
 
 #[test]
-fn limits(rt: HostRuntime) -> Result<(), Fail> {
+fn streams_are_told_so(rt: HostRuntime) -> Result<(), Fail> {
     let alloc = rt.alloc();
-    assert!(rt; are_lines_told(alloc)?);
-    let zeros = some_zeros(alloc, 1048576)?;
-    assert!(rt; are_large_told(alloc, zeros.as_slice())?);
-    assert!(rt; is_greatest_told(alloc, zeros.as_slice())?);
+    let told = [
+        ("cuts: in two", is_told_where_cut(alloc)?),
+        ("cuts: byte by byte", is_told_in_bytes(alloc)?),
+        ("gets_of_many_keys", gets_of_many_keys(alloc)?),
+        ("limits: of lines", are_lines_told(alloc)?),
+        ("limits: of blocks", limits(alloc)?),
+    ];
+    for (name, is_so) in &told {
+        assert!(rt; *is_so, "{name}");
+    }
     Ok(())
 }

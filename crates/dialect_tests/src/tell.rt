@@ -211,12 +211,12 @@ pub fn is_told(alloc: Global, pieces: &[&[u8]], expected: &[u8]) -> Result<bool,
     Ok(out.as_slice() == expected)
 }
 
-/// Whether of each row what is expected is told of its bytes.
-pub fn are_told(alloc: Global, rows: &[Row]) -> Result<bool, AllocError> {
-    for (bytes, expected) in rows {
+/// The first of the rows of whose bytes something else is told than what is expected.
+pub fn first_wrong(alloc: Global, rows: &[Row]) -> Result<Option<usize>, AllocError> {
+    for (at, (bytes, expected)) in rows.iter().enumerate() {
         if !is_told(alloc, &[*bytes], *expected)? {
-            return Ok(false);
+            return Ok(Some(at));
         }
     }
-    Ok(true)
+    Ok(None)
 }

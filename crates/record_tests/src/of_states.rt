@@ -267,19 +267,23 @@ fn is_sealed(alloc: Global, version: Version, bytes: &mut [u8]) -> Result<bool, 
 
 #[test]
 fn states_are_read_so(rt: HostRuntime) -> Result<(), Fail> {
-    for row in ROWS {
+    for row in &ROWS {
         let mut bytes = bytes_of(rt.alloc(), row.record)?;
-        let is_read = is_read_as(rt.alloc(), &row, bytes.as_slice());
+        let is_read = is_read_as(rt.alloc(), row, bytes.as_slice());
         let is_sealed = is_sealed(rt.alloc(), row.version, bytes.as_mut_slice());
-        assert_eq!(rt; (is_read, is_sealed), (Ok(true), Ok(true)), "{}", row.name);
+        assert!(rt;
+            (is_read, is_sealed) == (Ok(true), Ok(true)),
+            "{}",
+            row.name
+        );
     }
     Ok(())
 }
 
 #[test]
 fn each_form_has_its_records(rt: HostRuntime) -> Result<(), Fail> {
-    for row in UNFIT {
-        assert_eq!(rt; is_so(rt.alloc(), &row), Ok(true), "{}", row.name);
+    for row in &UNFIT {
+        assert!(rt; is_so(rt.alloc(), row) == Ok(true), "{}", row.name);
     }
     Ok(())
 }

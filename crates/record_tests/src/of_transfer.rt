@@ -15,8 +15,8 @@ const NEEDS: [(&[Part<'static>], bool); 3] = [
 
 #[test]
 fn a_need_has_a_digest_for_each_page(rt: HostRuntime) -> Result<(), Fail> {
-    for (need, has_record) in NEEDS {
-        assert!(rt; is_so::<Need>(rt.alloc(), &[need], has_record)?);
+    for (need, has_record) in &NEEDS {
+        assert!(rt; is_so::<Need>(rt.alloc(), &[*need], *has_record)?);
     }
     Ok(())
 }
@@ -99,9 +99,9 @@ fn numbers_and_forms_of_parcels(rt: HostRuntime) -> Result<(), Fail> {
         (0, [0, 1], false),
         (4, [0, 1], false),
     ];
-    for (form, number, has_record) in rows {
-        let page = if form == 3 { TREE_PAGE } else { PAGE };
-        assert!(rt; is_parcel(rt.alloc(), (form, number, 1), &[page], has_record)?);
+    for (form, number, has_record) in &rows {
+        let page = if *form == 3 { TREE_PAGE } else { PAGE };
+        assert!(rt; is_parcel(rt.alloc(), (*form, *number, 1), &[page], *has_record)?);
     }
     Ok(())
 }
@@ -113,19 +113,30 @@ const FORMS: [(u8, [Part<'static>; 3], [Part<'static>; 2]); 3] = [
     (3, [TREE_PAGE, TREE_EMPTY, TREE_STRAY], [PAGE, EMPTY]),
 ];
 
+/// Whether each list of a form's pages makes a parcel, or none.
+fn are_parcels(alloc: Global, form: u8, own: [Part; 3], others: [Part; 2]) -> Result<bool, Fault> {
+    let [page, empty, stray] = own;
+    let [other, other_empty] = others;
+    Ok(
+        is_parcel(alloc, (form, [0, 3], 0), &[], true)?
+            && is_parcel(alloc, (form, [0, 3], 2), &[page, empty], true)?
+            && is_parcel(alloc, (form, [0, 3], 1), &[page, empty], false)?
+            && is_parcel(alloc, (form, [0, 3], 2), &[empty, page], false)?
+            && is_parcel(alloc, (form, [0, 3], 2), &[page, page], false)?
+            && is_parcel(alloc, (form, [0, 3], 1), &[stray], false)?
+            && is_parcel(alloc, (form, [0, 3], 1), &[other], false)?
+            && is_parcel(alloc, (form, [0, 3], 1), &[other_empty], false)?
+            && is_parcel(alloc, (form, [0, 3], 2), &[page, other_empty], false)?,
+    )
+}
+
 #[test]
 fn pages_of_parcels(rt: HostRuntime) -> Result<(), Fail> {
-    for (form, [page, empty, stray], [other, other_empty]) in FORMS {
-        let alloc = rt.alloc();
-        assert!(rt; is_parcel(alloc, (form, [0, 3], 0), &[], true)?);
-        assert!(rt; is_parcel(alloc, (form, [0, 3], 2), &[page, empty], true)?);
-        assert!(rt; is_parcel(alloc, (form, [0, 3], 1), &[page, empty], false)?);
-        assert!(rt; is_parcel(alloc, (form, [0, 3], 2), &[empty, page], false)?);
-        assert!(rt; is_parcel(alloc, (form, [0, 3], 2), &[page, page], false)?);
-        assert!(rt; is_parcel(alloc, (form, [0, 3], 1), &[stray], false)?);
-        assert!(rt; is_parcel(alloc, (form, [0, 3], 1), &[other], false)?);
-        assert!(rt; is_parcel(alloc, (form, [0, 3], 1), &[other_empty], false)?);
-        assert!(rt; is_parcel(alloc, (form, [0, 3], 2), &[page, other_empty], false)?);
+    for (form, own, others) in &FORMS {
+        assert!(rt;
+            are_parcels(rt.alloc(), *form, *own, *others)?,
+            "form {form}"
+        );
     }
     Ok(())
 }

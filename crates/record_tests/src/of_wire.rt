@@ -222,19 +222,18 @@ const TOKENS: [Row<'static>; 2] = [(&[7; 32], true), (&[7; 33], false)];
 #[test]
 fn pages_sessions_commands_and_replies(rt: HostRuntime) -> Result<(), Fail> {
     let alloc = rt.alloc();
-    assert_eq!(rt; first_wrong::<Entries>(alloc, &PAGES)?, None);
-    assert_eq!(rt; first_wrong::<Sessions>(alloc, &SESSIONS)?, None);
-    assert_eq!(rt; first_wrong::<Command>(alloc, &COMMANDS)?, None);
-    assert_eq!(rt; first_wrong::<Reply>(alloc, &REPLIES)?, None);
-    Ok(())
-}
-
-#[test]
-fn requests_and_batches(rt: HostRuntime) -> Result<(), Fail> {
-    let alloc = rt.alloc();
-    assert_eq!(rt; BATCH.len(), 51);
-    assert_eq!(rt; first_wrong::<Request>(alloc, &REQUESTS)?, None);
-    assert_eq!(rt; first_wrong::<Batch>(alloc, &BATCHES)?, None);
+    let wrong = [
+        ("pages", first_wrong::<Entries>(alloc, &PAGES)?),
+        ("sessions", first_wrong::<Sessions>(alloc, &SESSIONS)?),
+        ("commands", first_wrong::<Command>(alloc, &COMMANDS)?),
+        ("replies", first_wrong::<Reply>(alloc, &REPLIES)?),
+        ("requests", first_wrong::<Request>(alloc, &REQUESTS)?),
+        ("batches", first_wrong::<Batch>(alloc, &BATCHES)?),
+    ];
+    for (name, row) in &wrong {
+        assert_eq!(rt; *row, None, "{name}");
+    }
+    assert!(rt; BATCH.len() == 51);
     Ok(())
 }
 
@@ -266,21 +265,26 @@ fn a_batch_has_64_requests_at_most(rt: HostRuntime) -> Result<(), Fail> {
 }
 
 #[test]
-fn decrees_and_texts_to_be_digested(rt: HostRuntime) -> Result<(), Fail> {
+fn decrees_heads_marks_and_tokens(rt: HostRuntime) -> Result<(), Fail> {
     let alloc = rt.alloc();
-    assert_eq!(rt; first_wrong::<Decree>(alloc, &DECREES)?, None);
-    assert_eq!(rt; first_wrong::<InnerText>(alloc, &INNER_TEXTS)?, None);
-    assert_eq!(rt; first_wrong::<TokenText>(alloc, &TOKEN_TEXTS)?, None);
-    Ok(())
-}
-
-#[test]
-fn heads_marks_and_tokens(rt: HostRuntime) -> Result<(), Fail> {
-    let alloc = rt.alloc();
-    assert_eq!(rt; first_wrong::<Head>(alloc, &HEADS)?, None);
-    assert_eq!(rt; first_wrong::<Origin>(alloc, &ORIGINS)?, None);
-    assert_eq!(rt; first_wrong::<Form>(alloc, &FORMS)?, None);
-    assert_eq!(rt; first_wrong::<Version>(alloc, &VERSIONS)?, None);
-    assert_eq!(rt; first_wrong::<Token>(alloc, &TOKENS)?, None);
+    let wrong = [
+        ("decrees", first_wrong::<Decree>(alloc, &DECREES)?),
+        (
+            "inner texts",
+            first_wrong::<InnerText>(alloc, &INNER_TEXTS)?,
+        ),
+        (
+            "token texts",
+            first_wrong::<TokenText>(alloc, &TOKEN_TEXTS)?,
+        ),
+        ("heads", first_wrong::<Head>(alloc, &HEADS)?),
+        ("origins", first_wrong::<Origin>(alloc, &ORIGINS)?),
+        ("forms", first_wrong::<Form>(alloc, &FORMS)?),
+        ("versions", first_wrong::<Version>(alloc, &VERSIONS)?),
+        ("tokens", first_wrong::<Token>(alloc, &TOKENS)?),
+    ];
+    for (name, row) in &wrong {
+        assert_eq!(rt; *row, None, "{name}");
+    }
     Ok(())
 }

@@ -61,10 +61,10 @@ fn is_told_apart<T: Record + Drop>(
     bytes: &mut [u8],
     at: usize,
 ) -> Result<bool, Fault> {
-    for turned in [1u8, 2, 128, 255] {
-        turn(bytes, at, turned);
+    for turned in &[1u8, 2, 128, 255] {
+        turn(bytes, at, *turned);
         let again = read_again::<T>(alloc, bytes);
-        turn(bytes, at, turned);
+        turn(bytes, at, *turned);
         if again? == Some(false) {
             return Ok(false);
         }

@@ -26,21 +26,25 @@ fn kept(alloc: Global, seconds: usize) -> Option<(usize, u64, u64)> {
     Some((samples.len(), first.uptime_seconds, last.uptime_seconds))
 }
 
-#[test]
-fn a_sample_each_five_seconds(rt: HostRuntime) -> Result<(), Fail> {
-    let alloc = rt.alloc();
-    assert!(rt; kept(alloc, 0).is_none());
-    assert!(rt; kept(alloc, 1) == Some((1, 0, 0)));
-    assert!(rt; kept(alloc, 5) == Some((1, 0, 0)));
-    assert!(rt; kept(alloc, 6) == Some((2, 0, 5)));
-    Ok(())
-}
+/// So many seconds, and what is kept after them, by what it shows.
+const KEPT: [(&str, usize, Option<(usize, u64, u64)>); 7] = [
+    ("a_sample_each_five_seconds", 0, None),
+    ("a_sample_each_five_seconds", 1, Some((1, 0, 0))),
+    ("a_sample_each_five_seconds", 5, Some((1, 0, 0))),
+    ("a_sample_each_five_seconds", 6, Some((2, 0, 5))),
+    ("the_last_ten_minutes", 600, Some((MOST_SAMPLES, 0, 595))),
+    ("the_last_ten_minutes", 601, Some((MOST_SAMPLES, 5, 600))),
+    (
+        "the_last_ten_minutes",
+        3600,
+        Some((MOST_SAMPLES, 3000, 3595)),
+    ),
+];
 
 #[test]
-fn the_last_ten_minutes(rt: HostRuntime) -> Result<(), Fail> {
-    let alloc = rt.alloc();
-    assert!(rt; kept(alloc, 600) == Some((MOST_SAMPLES, 0, 595)));
-    assert!(rt; kept(alloc, 601) == Some((MOST_SAMPLES, 5, 600)));
-    assert!(rt; kept(alloc, 3600) == Some((MOST_SAMPLES, 3000, 3595)));
+fn samples_are_kept_so(rt: HostRuntime) -> Result<(), Fail> {
+    for (name, seconds, wanted) in &KEPT {
+        assert!(rt; kept(rt.alloc(), *seconds) == *wanted, "{name}: {seconds}");
+    }
     Ok(())
 }

@@ -32,10 +32,21 @@ fn are_form(alloc: Global, figures: &Figures, count: usize) -> bool {
     }
 }
 
-fn have_line(alloc: Global, wanted: &[u8]) -> bool {
+/// The first of these lines that is not there.
+fn missing_in(text: &[u8], lines: &[&[u8]]) -> Option<usize> {
+    for (at, line) in lines.iter().enumerate() {
+        if !has_line(text, *line) {
+            return Some(at);
+        }
+    }
+    None
+}
+
+/// The same in the metrics of some figures.
+fn missing(alloc: Global, lines: &[&[u8]]) -> Option<usize> {
     match metrics_of(alloc, &some_figures()) {
-        Ok(text) => has_line(text.as_slice(), wanted),
-        Err(_) => false,
+        Ok(text) => missing_in(text.as_slice(), lines),
+        Err(_) => Some(lines.len()),
     }
 }
 
@@ -49,68 +60,64 @@ fn each_line_is_of_the_form(rt: HostRuntime) -> Result<(), Fail> {
     Ok(())
 }
 
-#[test]
-fn lines_of_values(rt: HostRuntime) -> Result<(), Fail> {
-    let alloc = rt.alloc();
-    assert!(rt; have_line(alloc, b"eve_uptime_seconds 7"));
-    assert!(rt; have_line(alloc, b"# TYPE eve_uptime_seconds gauge"));
-    assert!(rt; have_line(alloc, b"process_start_time_seconds 1764403200"));
-    assert!(rt; have_line(alloc, b"eve_connections_limit 1024"));
-    assert!(rt; have_line(alloc, b"eve_idle_connections_closed_total 4"));
-    assert!(rt; have_line(alloc, b"eve_lines_refused_total{why=\"number\"} 1"));
-    assert!(rt; have_line(alloc, b"# TYPE eve_connections_accepted_total counter"));
-    assert!(rt; have_line(alloc, b"eve_connections_accepted_total 12"));
-    assert!(rt;
-        have_line(
-            alloc,
-            b"eve_commands_total{command=\"set\",outcome=\"stored\"} 2"
-        )
-    );
-    assert!(rt;
-        have_line(
-            alloc,
-            b"eve_commands_total{command=\"get\",outcome=\"miss\"} 0"
-        )
-    );
-    assert!(rt; have_line(alloc, b"eve_node_up{role=\"executor\",id=\"0\"} 1"));
-    assert!(rt; have_line(alloc, b"eve_node_up{role=\"executor\",id=\"2\"} 0"));
-    assert!(rt; have_line(alloc, b"eve_node_stops_total{role=\"executor\",id=\"0\"} 2"));
-    Ok(())
-}
+const LINES_OF_VALUES: &[&[u8]] = &[
+    b"eve_uptime_seconds 7",
+    b"# TYPE eve_uptime_seconds gauge",
+    b"process_start_time_seconds 1764403200",
+    b"eve_connections_limit 1024",
+    b"eve_idle_connections_closed_total 4",
+    b"eve_lines_refused_total{why=\"number\"} 1",
+    b"# TYPE eve_connections_accepted_total counter",
+    b"eve_connections_accepted_total 12",
+    b"eve_commands_total{command=\"set\",outcome=\"stored\"} 2",
+    b"eve_commands_total{command=\"get\",outcome=\"miss\"} 0",
+    b"eve_node_up{role=\"executor\",id=\"0\"} 1",
+    b"eve_node_up{role=\"executor\",id=\"2\"} 0",
+    b"eve_node_stops_total{role=\"executor\",id=\"0\"} 2",
+];
+
+const LINES_OF_SAVES: &[&[u8]] = &[
+    b"# TYPE eve_saves_total counter",
+    b"eve_saves_total 100",
+    b"# TYPE eve_save_failures_total counter",
+    b"eve_save_failures_total 3",
+    b"# TYPE eve_save_waiting_messages gauge",
+    b"eve_save_waiting_messages 5",
+    b"# TYPE eve_save_failing gauge",
+    b"eve_save_failing 1",
+    b"# TYPE eve_data_bytes gauge",
+    b"eve_data_bytes 73728",
+    b"eve_folders 3",
+    b"eve_current_folders 2",
+    b"eve_save_seconds_sum 0.000700",
+];
+
+const LINES_OF_HISTOGRAMS: &[&[u8]] = &[
+    b"# TYPE eve_reply_seconds histogram",
+    b"eve_reply_seconds_bucket{le=\"0.000050\"} 1",
+    b"eve_reply_seconds_bucket{le=\"0.000100\"} 2",
+    b"eve_reply_seconds_bucket{le=\"2.500000\"} 2",
+    b"eve_reply_seconds_bucket{le=\"+Inf\"} 2",
+    b"eve_reply_seconds_sum 0.000101",
+    b"eve_reply_seconds_count 2",
+    b"eve_batch_seconds_sum 1.234567",
+    b"eve_batch_wait_seconds_sum 0.000001",
+    b"eve_batch_execute_seconds_sum 0.000020",
+    b"eve_batch_agree_seconds_sum 0.000300",
+    b"eve_batch_commit_seconds_sum 0.004000",
+];
+
+/// Lines of some figures, by what they tell.
+const LINES: [(&str, &[&[u8]]); 3] = [
+    ("lines_of_values", LINES_OF_VALUES),
+    ("lines_of_saves", LINES_OF_SAVES),
+    ("lines_of_histograms", LINES_OF_HISTOGRAMS),
+];
 
 #[test]
-fn lines_of_saves(rt: HostRuntime) -> Result<(), Fail> {
-    let alloc = rt.alloc();
-    assert!(rt; have_line(alloc, b"# TYPE eve_saves_total counter"));
-    assert!(rt; have_line(alloc, b"eve_saves_total 100"));
-    assert!(rt; have_line(alloc, b"# TYPE eve_save_failures_total counter"));
-    assert!(rt; have_line(alloc, b"eve_save_failures_total 3"));
-    assert!(rt; have_line(alloc, b"# TYPE eve_save_waiting_messages gauge"));
-    assert!(rt; have_line(alloc, b"eve_save_waiting_messages 5"));
-    assert!(rt; have_line(alloc, b"# TYPE eve_save_failing gauge"));
-    assert!(rt; have_line(alloc, b"eve_save_failing 1"));
-    assert!(rt; have_line(alloc, b"# TYPE eve_data_bytes gauge"));
-    assert!(rt; have_line(alloc, b"eve_data_bytes 73728"));
-    assert!(rt; have_line(alloc, b"eve_folders 3"));
-    assert!(rt; have_line(alloc, b"eve_current_folders 2"));
-    assert!(rt; have_line(alloc, b"eve_save_seconds_sum 0.000700"));
-    Ok(())
-}
-
-#[test]
-fn lines_of_histograms(rt: HostRuntime) -> Result<(), Fail> {
-    let alloc = rt.alloc();
-    assert!(rt; have_line(alloc, b"# TYPE eve_reply_seconds histogram"));
-    assert!(rt; have_line(alloc, b"eve_reply_seconds_bucket{le=\"0.000050\"} 1"));
-    assert!(rt; have_line(alloc, b"eve_reply_seconds_bucket{le=\"0.000100\"} 2"));
-    assert!(rt; have_line(alloc, b"eve_reply_seconds_bucket{le=\"2.500000\"} 2"));
-    assert!(rt; have_line(alloc, b"eve_reply_seconds_bucket{le=\"+Inf\"} 2"));
-    assert!(rt; have_line(alloc, b"eve_reply_seconds_sum 0.000101"));
-    assert!(rt; have_line(alloc, b"eve_reply_seconds_count 2"));
-    assert!(rt; have_line(alloc, b"eve_batch_seconds_sum 1.234567"));
-    assert!(rt; have_line(alloc, b"eve_batch_wait_seconds_sum 0.000001"));
-    assert!(rt; have_line(alloc, b"eve_batch_execute_seconds_sum 0.000020"));
-    assert!(rt; have_line(alloc, b"eve_batch_agree_seconds_sum 0.000300"));
-    assert!(rt; have_line(alloc, b"eve_batch_commit_seconds_sum 0.004000"));
+fn lines_are_there(rt: HostRuntime) -> Result<(), Fail> {
+    for (name, lines) in &LINES {
+        assert_eq!(rt; missing(rt.alloc(), *lines), None, "{name}");
+    }
     Ok(())
 }

@@ -173,8 +173,8 @@ const ROWS: [Row; 6] = [
 
 #[test]
 fn old_states_have_blocks_of_65536_bytes_at_most(rt: HostRuntime) -> Result<(), Fail> {
-    for row in ROWS {
-        assert_eq!(rt; is_so(rt.alloc(), &row), Ok(true), "{}", row.name);
+    for row in &ROWS {
+        assert!(rt; is_so(rt.alloc(), row) == Ok(true), "{}", row.name);
     }
     Ok(())
 }
