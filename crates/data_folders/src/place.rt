@@ -2,6 +2,7 @@
 
 ghost use Rattle.std.specs.Prelude.{◌≡◌};
 ghost use Rattle.data_folders.specs.Copies.{PlaceSaves, is_current};
+ghost use Rattle.data_folders.specs.CopyItems.{PlaceSavesItems};
 
 use data_folder::{CopyPlace, SaveCopy, StoredRecord};
 use folders::SaveStamp;
@@ -39,7 +40,8 @@ impl<F> FolderPlace<F> {
 impl<F: SaveCopy> FolderPlace<F> {
     /// Saves it in this folder, if the folder is open.
     pub fn save(&mut self, alloc: Global, place: CopyPlace, stamp: SaveStamp, stored: &StoredRecord)
-        ensures { PlaceSaves F.may_find (record { stamp = stamp; text = stored.now.text.items }) self.old self.new }
+        ensures saves { PlaceSaves F.may_find (record { stamp = stamp; text = stored.now.text.items }) self.old self.new }
+        ensures items { PlaceSavesItems F.may_leave F.has_items (record { stamp = stamp; text = stored.now.text.items }) stored.now.state self.old self.new }
     {
         self.fault = match &mut self.copy {
             Some(copy) => copy.save_copy(alloc, place, stamp, stored).err(),

@@ -1,3 +1,4 @@
+use Rattle.std.proofs.Common.{inr}
 use Rattle.data_folders.proofs.CopyLemmas.{later_bounded, claimed_bounded}
 use Rattle.data_folders.proofs.beginning.claim.Goals as goal
 
@@ -6,4 +7,12 @@ returns-then-len-eq1-clause-bounded g c = later_bounded g.F.SaveCopy.may_find c.
 
 pub returns-then-is_saved-clause-bounded : goal.returns-then-is_saved-clause-bounded
 returns-then-is_saved-clause-bounded g c =
-    claimed_bounded g.F.SaveCopy.may_find c.args.found.now.stamp (record { stamp = c.args.first; text = c.in-Ok.stored.text.items }) c.requires.later c.args.places.now.items c.save_each.new.places.items c.save_each.ensures c.requires.bounded
+    claimed_bounded g.F.SaveCopy.may_find c.args.found.now.stamp (record { stamp = c.args.first; text = c.in-Ok.stored.text.items }) c.requires.later c.args.places.now.items c.save_each.new.places.items c.save_each.ensures.saves c.requires.bounded
+
+pub returns-then-is_saved-clause-items : goal.returns-then-is_saved-clause-items
+returns-then-is_saved-clause-items g c = inr (record {
+  saved = record { stamp = c.args.first; text = c.in-Ok.stored.text.items };
+  state = c.in-Ok.stored.state;
+  is = c.in-Ok.ensures.state;
+  all = c.save_each.ensures.items;
+})
