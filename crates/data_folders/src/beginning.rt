@@ -1,6 +1,6 @@
 //! How a start begins with what it has opened.
 
-ghost use Rattle.std.specs.Prelude.{◌≡◌, None, IfOk, IfSome, OnOk, All, true};
+ghost use Rattle.std.specs.Prelude.{◌≡◌, None, IfOk, IfSome, IfNone, OnOk, All, true};
 ghost use Rattle.folders.specs.Folders.{is_later_save};
 ghost use Rattle.data_folders.specs.Copies.{IsBounded, IsClaimed, IsNewestCopy, IsNewestRecord};
 
@@ -121,6 +121,7 @@ impl<F: SaveCopy + Send + Drop> Opened<F> {
         alloc: Global,
     ) -> Result<(Copies<F>, Option<ServiceRecord>), FoldersFault>
         ensures newest { IfOk result (λ begun. IfSome begun.1 (IsNewestRecord self.finds.items)) }
+        ensures nothing { IfOk result (λ begun. IfNone begun.1 (All (λ found. found ≡ None) self.finds.items)) }
         ensures claimed { IfOk result (λ begun. IfSome begun.1 (λ _. IsClaimed begun.0.places.items)) }
     {
         if self.is_empty() {

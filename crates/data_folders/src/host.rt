@@ -1,6 +1,6 @@
 //! Folders of the host's file system.
 
-ghost use Rattle.std.specs.Prelude.{IfOk, IfSome};
+ghost use Rattle.std.specs.Prelude.{◌≡◌, None, IfOk, IfSome, IfNone, All};
 ghost use Rattle.data_folder.specs.Text.{TellsService};
 ghost use Rattle.data_folder.specs.Host.{host_may_find};
 ghost use Rattle.data_folders.specs.Copies.{MayFindAmong, IsClaimed, IsNewestRecord};
@@ -35,6 +35,7 @@ impl HostFolders {
         opened: Opened<HostFolder>,
     ) -> Result<(HostFolders, Option<ServiceRecord>), FoldersFault>
         ensures newest { IfOk result (λ begun. IfSome begun.1 (IsNewestRecord opened.finds.items)) }
+        ensures nothing { IfOk result (λ begun. IfNone begun.1 (All (λ found. found ≡ None) opened.finds.items)) }
         ensures claimed { IfOk result (λ begun. IfSome begun.1 (λ _. IsClaimed begun.0.copies.places.items)) }
     {
         match opened.begin(rt, alloc) {

@@ -1,6 +1,6 @@
 //! What a start has opened.
 
-ghost use Rattle.std.specs.Prelude.{◌≡◌, IsTrue, IfSome, IfOk, Some, None, All};
+ghost use Rattle.std.specs.Prelude.{◌≡◌, ◌++◌, ◌∷◌, [], IsTrue, IfSome, IfOk, OnOk, Some, None, All};
 ghost use Rattle.std.specs.List.{AllZip};
 ghost use Rattle.data_folder.specs.Found.{FindsCopy};
 ghost use Rattle.data_folders.specs.Copies.{OpensAs, IsFoundIn, found_stamp, stamps_in, IsNewestCopy};
@@ -56,7 +56,9 @@ fn stamps_of(
 
 impl<F: SaveCopy + Drop> Opened<F> {
     /// None is opened yet. Folders without a copy will have this site's data.
-    pub fn new(alloc: Global, site: u64) -> Opened<F> {
+    pub fn new(alloc: Global, site: u64) -> Opened<F>
+        ensures { result.finds.items ≡ [] }
+    {
         Opened {
             places: Vec::new(alloc),
             finds: Vec::new(alloc),
@@ -80,6 +82,7 @@ impl<F: SaveCopy + Drop> Opened<F> {
     /// One more folder, and what was found in it. `None`: it is not open.
     pub fn push(&mut self, copy: Option<F>, found: Option<FoundCopy>) -> Result<(), AllocError>
         requires { IsFoundIn F.may_find copy found }
+        ensures { OnOk result (self.new.finds.items ≡ self.old.finds.items ++ found ∷ []) }
     {
         self.places.reserve(1)?;
         self.finds.reserve(1)?;
@@ -121,6 +124,7 @@ impl<F: SaveCopy + Drop> Opened<F> {
     /// Uses this folder, which is empty, in place of one that is not open.
     fn renew(&mut self, at: usize, copy: F)
         requires { IsFoundIn F.may_find (Some copy) None }
+        ensures { self.new.finds ≡ self.old.finds }
     {
         if at < self.places.len() && at < self.finds.len() && self.finds[at].is_none() {
             self.places[at].copy = Some(copy);
@@ -138,6 +142,7 @@ impl<F: SaveCopy + Drop> Opened<F> {
         found: Option<FoundCopy>,
     ) -> Result<(), DataFault>
         requires { FindsCopy (F.may_find copy) found }
+        ensures { self.new.finds ≡ self.old.finds }
     {
         match found {
             None => {
