@@ -126,6 +126,7 @@ impl<F: SaveCopy + Send + Drop> Opened<F> {
         alloc: Global,
     ) -> Result<(Copies<F>, Option<ServiceRecord>), FoldersFault>
         ensures newest { IfOk result (λ begun. IfSome begun.1 (IsNewestRecord self.finds.items)) }
+        ensures nothing { IfOk result (λ begun. IfNone begun.1 (All (λ found. found ≡ None) self.finds.items)) }
         ensures claimed { IfOk result (λ begun. IfSome begun.1 (λ _. IsClaimed begun.0.places.items)) }
         ensures items { IfOk result (λ begun. IfSome begun.1 (λ found. ClaimsItems F.may_leave F.has_items found self.places.items begun.0.places.items)) }
         ensures empty { IfOk result (λ begun. IfNone begun.1 (begun.0.places ≡ self.places)) }

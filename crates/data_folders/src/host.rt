@@ -1,6 +1,6 @@
 //! Folders of the host's file system.
 
-ghost use Rattle.std.specs.Prelude.{◌≡◌, IfOk, IfSome, IfNone};
+ghost use Rattle.std.specs.Prelude.{◌≡◌, None, IfOk, IfSome, IfNone, All};
 ghost use Rattle.data_folder.specs.Text.{TellsService};
 ghost use Rattle.data_folder.specs.Host.{host_may_find, host_may_leave, host_has_items};
 ghost use Rattle.data_folders.specs.Copies.{is_current, MayFindAmong, IsClaimed, IsNewestRecord};
@@ -36,6 +36,7 @@ impl HostFolders {
         opened: Opened<HostFolder>,
     ) -> Result<(HostFolders, Option<ServiceRecord>), FoldersFault>
         ensures newest { IfOk result (λ begun. IfSome begun.1 (IsNewestRecord opened.finds.items)) }
+        ensures nothing { IfOk result (λ begun. IfNone begun.1 (All (λ found. found ≡ None) opened.finds.items)) }
         ensures claimed { IfOk result (λ begun. IfSome begun.1 (λ _. IsClaimed begun.0.copies.places.items)) }
         ensures items { IfOk result (λ begun. IfSome begun.1 (λ found. ClaimsItems host_may_leave host_has_items found opened.places.items begun.0.copies.places.items)) }
         ensures empty { IfOk result (λ begun. IfNone begun.1 (begun.0.copies.places ≡ opened.places)) }

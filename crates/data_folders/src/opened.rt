@@ -1,6 +1,6 @@
 //! What a start has opened.
 
-ghost use Rattle.std.specs.Prelude.{◌≡◌, IsTrue, IfSome, IfOk, Some, None, All};
+ghost use Rattle.std.specs.Prelude.{◌≡◌, ◌++◌, ◌∷◌, [], IsTrue, IfSome, IfOk, OnOk, Some, None, All};
 ghost use Rattle.std.specs.List.{AllZip};
 ghost use Rattle.data_folder.specs.Found.{FindsCopy};
 ghost use Rattle.data_folder.specs.Items.{OpensWith};
@@ -59,7 +59,9 @@ fn stamps_of(
 
 impl<F: SaveCopy + Drop> Opened<F> {
     /// None is opened yet. Folders without a copy will have this site's data.
-    pub fn new(alloc: Global, site: u64) -> Opened<F> {
+    pub fn new(alloc: Global, site: u64) -> Opened<F>
+        ensures { result.finds.items ≡ [] }
+    {
         Opened {
             places: Vec::new(alloc),
             finds: Vec::new(alloc),
@@ -84,6 +86,7 @@ impl<F: SaveCopy + Drop> Opened<F> {
     pub fn push(&mut self, copy: Option<F>, found: Option<FoundCopy>) -> Result<(), AllocError>
         requires finds { IsFoundIn F.may_find copy found }
         requires items { HasItemsFound F.may_leave F.has_items copy found }
+        ensures { OnOk result (self.new.finds.items ≡ self.old.finds.items ++ found ∷ []) }
     {
         self.places.reserve(1)?;
         self.finds.reserve(1)?;
@@ -126,6 +129,7 @@ impl<F: SaveCopy + Drop> Opened<F> {
     fn renew(&mut self, at: usize, copy: F)
         requires finds { IsFoundIn F.may_find (Some copy) None }
         requires items { HasItemsFound F.may_leave F.has_items (Some copy) None }
+        ensures { self.new.finds ≡ self.old.finds }
     {
         if at < self.places.len() && at < self.finds.len() && self.finds[at].is_none() {
             self.places[at].copy = Some(copy);
@@ -144,6 +148,7 @@ impl<F: SaveCopy + Drop> Opened<F> {
     ) -> Result<(), DataFault>
         requires finds { FindsCopy (F.may_find copy) found }
         requires items { OpensWith (F.may_leave copy) (F.has_items copy) found }
+        ensures { self.new.finds ≡ self.old.finds }
     {
         match found {
             None => {

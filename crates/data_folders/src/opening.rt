@@ -1,5 +1,7 @@
 //! The folders of a start, opened.
 
+ghost use Rattle.std.specs.Prelude.{◌≡◌, ◌+◌, IfOk, OnOk, length};
+
 use crate::fault::FoldersFault;
 use crate::opened::Opened;
 use data_folder::{DataFault, FILES, HostFolder, Wanted};
@@ -92,7 +94,9 @@ fn open_one(
     syncs: bool,
     opened: &mut Opened<HostFolder>,
     troubles: &mut Vec<FolderTrouble>,
-) -> Result<(), FoldersFault> {
+) -> Result<(), FoldersFault>
+    ensures { OnOk result (length opened.new.finds.items ≡ length opened.old.finds.items + 1) }
+{
     let at = opened.places.len();
     match HostFolder::open(rt, folder, wanted, syncs) {
         Ok((copy, found)) => Ok(opened.push(Some(copy), found)?),
@@ -116,7 +120,9 @@ fn renew_one(
     syncs: bool,
     opened: &mut Opened<HostFolder>,
     at: usize,
-) -> Result<(), DataFault> {
+) -> Result<(), DataFault>
+    ensures { opened.new.finds ≡ opened.old.finds }
+{
     set_aside(rt, folder)?;
     match HostFolder::open(rt, folder, wanted, syncs) {
         Ok((copy, found)) => opened.renew_with(at, copy, found),
@@ -131,7 +137,9 @@ fn renew_each(
     options: FoldersOptions,
     opened: &mut Opened<HostFolder>,
     troubles: &mut [FolderTrouble],
-) {
+)
+    ensures { opened.new.finds ≡ opened.old.finds }
+{
     let wanted = Wanted {
         is_new: true,
         u: options.u,
@@ -155,6 +163,22 @@ fn renew_each(
     }
 }
 
+/// Makes them, if copies were read in more than half of the folders.
+fn renew_lost(
+    rt: &HostRuntime,
+    folders: &[String],
+    options: FoldersOptions,
+    opened: &mut Opened<HostFolder>,
+    troubles: &mut [FolderTrouble],
+)
+    ensures { opened.new.finds ≡ opened.old.finds }
+{
+    if opened.readable() <= folders.len() / 2 {
+        return;
+    }
+    renew_each(rt, folders, options, opened, troubles);
+}
+
 /// Opens each folder.
 fn open_each(
     rt: &HostRuntime,
@@ -162,7 +186,9 @@ fn open_each(
     options: FoldersOptions,
     opened: &mut Opened<HostFolder>,
     troubles: &mut Vec<FolderTrouble>,
-) -> Result<(), FoldersFault> {
+) -> Result<(), FoldersFault>
+    ensures { OnOk result (length opened.new.finds.items ≡ length opened.old.finds.items + length folders.now) }
+{
     let wanted = Wanted {
         is_new: options.is_new,
         u: options.u,
@@ -187,7 +213,7 @@ fn new_site(rt: &HostRuntime, folders: usize) -> Result<u64, FoldersFault> {
 
 /// Opens the folders, which have to be there, for this process alone. Each has a copy of one site's data. Folders that
 /// cannot be read are noted, and the others serve as long as they are more than half of all. Then a damaged file is set
-/// aside, and one is made where none is.
+/// aside, and one is made where none is. Each folder counts, also one that cannot be read.
 ///
 /// `At` if a folder is in use, or has what is no copy of this data: another `u`, another number of folders, a later version;
 /// if there is one folder, any fault of it. With `is_new` each folder has to be without data.
@@ -196,13 +222,13 @@ pub fn open_folders(
     folders: &[String],
     options: FoldersOptions,
     troubles: &mut Vec<FolderTrouble>,
-) -> Result<Opened<HostFolder>, FoldersFault> {
+) -> Result<Opened<HostFolder>, FoldersFault>
+    ensures { IfOk result (λ opened. length opened.finds.items ≡ length folders.now) }
+{
     let mut opened = Opened::new(rt.alloc(), new_site(rt, folders.len())?);
     match open_each(rt, folders, options, &mut opened, troubles) {
         Ok(()) => {
-            if folders.len() / 2 < opened.readable() {
-                renew_each(rt, folders, options, &mut opened, troubles.as_mut_slice());
-            }
+            renew_lost(rt, folders, options, &mut opened, troubles.as_mut_slice());
             Ok(opened)
         }
         Err(fault) => Err(fault),
