@@ -1,0 +1,20 @@
+use Rattle.std.proofs.Common.{ℕ, [], ◌∷◌, ◌++◌, sym, ap, ◌∙◌, arith, vec_len, replicate}
+use Rattle.std.proofs.lemmas.Grind.{replicate_next}
+use Rattle.worlds.specs.declared.slot.Slot.TheVariants.{Down}
+use Rattle.worlds.specs.World.{nothing_kept}
+use Rattle.verifier.specs.Verifier.{VerifierView}
+use Rattle.worlds.specs.Slot.{Slot}
+use Rattle.member.proofs.opening.unopened_verifiers.Goals as goal
+
+pub loop-places-preserved : goal.loop-places-preserved
+loop-places-preserved c =
+    let x : Slot VerifierView = Down nothing_kept in
+    record {
+      made =
+          c.push_reserved.ensures.items
+          ∙ ((λ i. c.loop-places.invariant.made i ++ c.unopened.ensures i ∷ [])
+          ∙ (sym (replicate_next (vec_len c.loop-places.places) x)
+          ∙ ap (λ (k : ℕ). replicate k x) (sym c.push_reserved.ensures.len)));
+      most = omega (arith, c.push_reserved.ensures.len, c.loop-places-test.true);
+      room = omega (arith, c.push_reserved.ensures.capacity, c.loop-places.invariant.room);
+    }

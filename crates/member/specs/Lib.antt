@@ -1,0 +1,7 @@
+pub mod ShownLog
+pub mod Member
+pub mod Asking
+pub mod Passing
+pub mod Tending
+pub mod Working
+pub mod Laws
