@@ -13,9 +13,9 @@ use Rattle.session.proofs.TakenLemmas.{session_implies, new_ok, fed_ok, replied_
 use Rattle.connections.specs.declared.connections.CommandNumber.{CommandNumber}
 use Rattle.connections.specs.Connection.{ConnectionView, new_connection, after_given}
 use Rattle.connections.specs.History.{Passed}
-use Rattle.connections.specs.Places.{place_in, IsGrown}
+use Rattle.connections.specs.Slots.{slot_in, IsGrown}
 use Rattle.connections.specs.Connections.{ConnectionsView, no_connections_from, bytes_of_connection, WasReplied, IsAnswered, IsHere, IsConnections}
-use Rattle.connections.proofs.PlaceLemmas.{there, set_place, other_place, place_there, same_or_not}
+use Rattle.connections.proofs.SlotLemmas.{there, set_slot, other_slot, slot_there, same_or_not}
 use Rattle.connections.proofs.TextLemmas.{bytes_own, bytes_other, answered_longer, answered_implies}
 use Rattle.connections.proofs.StepLemmas.{MayAsk, asks_may, fed_asks, replied_asks, new_reads, fed_reads_so, replied_reads_so}
 use Rattle.connections.proofs.MoveLemmas.{moved_keeps, counted_on}
@@ -25,7 +25,7 @@ use Rattle.connections.proofs.MoveLemmas.{moved_keeps, counted_on}
 pub none_keep : (d : Dialect) (first : ℕ) → IsConnections (no_connections_from d first)
 none_keep d first = record {
   here = λ key c at. let e : ◌≡◌ {A = Option ConnectionView} None (Some c) = at in absurd (cc e);
-  one_place = λ i j c d at_i at_j same. let e : ◌≡◌ {A = Option ConnectionView} None (Some c) = at_i in absurd (cc e);
+  one_key = λ i j c d at_i at_j same. let e : ◌≡◌ {A = Option ConnectionView} None (Some c) = at_i in absurd (cc e);
   answered = λ n. let t = new_ok d (WasReplied [] n) in record { taken = t.taken; texts = t.texts; first = t.front };
   fresh = λ n above. (refl, refl);
   asked = λ e in_it. let lt = in_it.1 in absurd (omega (arith, lt));
@@ -41,7 +41,7 @@ none_keep d first = record {
 pub relogged : (v : ConnectionsView) (passed : List Passed) → IsConnections v → IsConnections (record v { passed = passed })
 relogged v passed ok = record {
   here = λ key c at. let h = ok.here key c at in record { below = h.below; reads = h.reads; since = h.since; talks = h.talks; counted = h.counted };
-  one_place = ok.one_place;
+  one_key = ok.one_key;
   answered = ok.answered;
   fresh = ok.fresh;
   asked = ok.asked;
@@ -52,12 +52,12 @@ relogged v passed ok = record {
   once = ok.once;
 }
 
--- ---- only places are added
+-- ---- only slots are added
 
 pub grown_keeps : (v : ConnectionsView) (table : List (Option ConnectionView)) → IsConnections v → IsGrown v.table table → IsConnections (record v { table = table })
 grown_keeps v table ok grown = record {
   here = λ key c at. let h = ok.here key c (sym (grown key) ∙ at) in record { below = h.below; reads = h.reads; since = h.since; talks = h.talks; counted = h.counted };
-  one_place = λ i j c d at_i at_j same. ok.one_place i j c d (sym (grown i) ∙ at_i) (sym (grown j) ∙ at_j) same;
+  one_key = λ i j c d at_i at_j same. ok.one_key i j c d (sym (grown i) ∙ at_i) (sym (grown j) ∙ at_j) same;
   answered = ok.answered;
   fresh = ok.fresh;
   asked = ok.asked;
@@ -74,8 +74,8 @@ module _ (v : ConnectionsView) (ok : IsConnections v) (table : List (Option Conn
   abbrev pub came : ConnectionsView
   came = record v { table = slice_set table key (Some (new_connection v.dialect number)); next = number + 1 }
 
-  new_at : place_in came.table key ≡ Some (new_connection v.dialect number)
-  new_at = let t = there table key fits in set_place table key (Some (new_connection v.dialect number)) t.0 t.1
+  new_at : slot_in came.table key ≡ Some (new_connection v.dialect number)
+  new_at = let t = there table key fits in set_slot table key (Some (new_connection v.dialect number)) t.0 t.1
 
   new_here : IsHere came (new_connection v.dialect number)
   new_here = record {
@@ -88,26 +88,26 @@ module _ (v : ConnectionsView) (ok : IsConnections v) (table : List (Option Conn
   }
 
   -- who is there is the new one, or was there
-  who : (k : ℕ) (c : ConnectionView) → place_in came.table k ≡ Some c → ((k ≡ key) × (new_connection v.dialect number ≡ c)) ⊎ ((k ≢ key) × (place_in v.table k ≡ Some c))
+  who : (k : ℕ) (c : ConnectionView) → slot_in came.table k ≡ Some c → ((k ≡ key) × (new_connection v.dialect number ≡ c)) ⊎ ((k ≢ key) × (slot_in v.table k ≡ Some c))
   who k c at = ⊎_elim
-      (λ (same : k ≡ key). inl (same, let e : ◌≡◌ {A = Option ConnectionView} (Some (new_connection v.dialect number)) (Some c) = sym new_at ∙ subst (λ (x : ℕ). place_in came.table x ≡ Some c) same at in cc e))
-      (λ (differs : k ≢ key). inr (differs, sym (other_place table key (Some (new_connection v.dialect number)) k differs ∙ grown k) ∙ at))
+      (λ (same : k ≡ key). inl (same, let e : ◌≡◌ {A = Option ConnectionView} (Some (new_connection v.dialect number)) (Some c) = sym new_at ∙ subst (λ (x : ℕ). slot_in came.table x ≡ Some c) same at in cc e))
+      (λ (differs : k ≢ key). inr (differs, sym (other_slot table key (Some (new_connection v.dialect number)) k differs ∙ grown k) ∙ at))
       (same_or_not k key)
 
   pub came_keeps : IsConnections came
   came_keeps = record {
     here = λ k c at. ⊎_elim
         (λ (new : (k ≡ key) × (new_connection v.dialect number ≡ c)). subst (IsHere came) new.1 new_here)
-        (λ (old : (k ≢ key) × (place_in v.table k ≡ Some c)). let h = ok.here k c old.1 in let b = h.below in record { below = omega (arith, b, above); reads = h.reads; since = h.since; talks = h.talks; counted = h.counted })
+        (λ (old : (k ≢ key) × (slot_in v.table k ≡ Some c)). let h = ok.here k c old.1 in let b = h.below in record { below = omega (arith, b, above); reads = h.reads; since = h.since; talks = h.talks; counted = h.counted })
         (who k c at);
-    one_place = λ i j c d at_i at_j same. ⊎_elim
+    one_key = λ i j c d at_i at_j same. ⊎_elim
         (λ (new : (i ≡ key) × (new_connection v.dialect number ≡ c)). ⊎_elim
         (λ (newer : (j ≡ key) × (new_connection v.dialect number ≡ d)). new.0 ∙ sym newer.0)
-        (λ (old : (j ≢ key) × (place_in v.table j ≡ Some d)). let b = (ok.here j d old.1).below in let n : number ≡ c.number = ap (λ (x : ConnectionView). x.number) new.1 in absurd (omega (arith, b, above, n, same)))
+        (λ (old : (j ≢ key) × (slot_in v.table j ≡ Some d)). let b = (ok.here j d old.1).below in let n : number ≡ c.number = ap (λ (x : ConnectionView). x.number) new.1 in absurd (omega (arith, b, above, n, same)))
         (who j d at_j))
-        (λ (old : (i ≢ key) × (place_in v.table i ≡ Some c)). ⊎_elim
+        (λ (old : (i ≢ key) × (slot_in v.table i ≡ Some c)). ⊎_elim
         (λ (new : (j ≡ key) × (new_connection v.dialect number ≡ d)). let b = (ok.here i c old.1).below in let n : number ≡ d.number = ap (λ (x : ConnectionView). x.number) new.1 in absurd (omega (arith, b, above, n, same)))
-        (λ (older : (j ≢ key) × (place_in v.table j ≡ Some d)). ok.one_place i j c d old.1 older.1 same)
+        (λ (older : (j ≢ key) × (slot_in v.table j ≡ Some d)). ok.one_key i j c d old.1 older.1 same)
         (who j d at_j))
         (who i c at_i);
     answered = ok.answered;
@@ -122,9 +122,9 @@ module _ (v : ConnectionsView) (ok : IsConnections v) (table : List (Option Conn
 
 -- ---- a connection is here, and a call changes it
 
-module _ (v : ConnectionsView) (ok : IsConnections v) (key : ℕ) (c : ConnectionView) (at : place_in v.table key ≡ Some c) where
-  set_is : (p : Option ConnectionView) → place_in (slice_set v.table key p) key ≡ p
-  set_is p = set_place v.table key p (Some c) (place_there v.table key c at)
+module _ (v : ConnectionsView) (ok : IsConnections v) (key : ℕ) (c : ConnectionView) (at : slot_in v.table key ≡ Some c) where
+  set_is : (p : Option ConnectionView) → slot_in (slice_set v.table key p) key ≡ p
+  set_is p = set_slot v.table key p (Some c) (slot_there v.table key c at)
 
   -- it leaves, and what came of it and what it was given are so
   gone : (heard given : List (ℕ × List ℕ)) (replied : List (CommandNumber × replies.Reply)) → ((h : ℕ) → h ≢ c.number → bytes_of_connection h heard ≡ bytes_of_connection h v.heard) → ((h : ℕ) → h ≢ c.number → bytes_of_connection h given ≡ bytes_of_connection h v.given)
@@ -137,7 +137,7 @@ module _ (v : ConnectionsView) (ok : IsConnections v) (key : ℕ) (c : Connectio
         was = c;
         was_at = at;
         was_number = refl;
-        others = λ k differs. other_place v.table key None k differs;
+        others = λ k differs. other_slot v.table key None k differs;
         own = λ d e. let clash : ◌≡◌ {A = Option ConnectionView} None (Some d) = sym (set_is None) ∙ e in absurd (cc clash);
         dialect = refl;
         next = refl;
@@ -182,7 +182,7 @@ module _ (v : ConnectionsView) (ok : IsConnections v) (key : ℕ) (c : Connectio
         was = c;
         was_at = at;
         was_number = refl;
-        others = λ k differs. other_place v.table key p k differs;
+        others = λ k differs. other_slot v.table key p k differs;
         own = λ d e. let is = only d (sym (set_is p) ∙ e) in (ap (λ (x : ConnectionView). x.number) is, subst (IsHere now) (sym is) here);
         dialect = refl;
         next = refl;
@@ -220,7 +220,7 @@ module _ (v : ConnectionsView) (ok : IsConnections v) (key : ℕ) (c : Connectio
         was = c;
         was_at = at;
         was_number = refl;
-        others = λ k differs. other_place v.table key p k differs;
+        others = λ k differs. other_slot v.table key p k differs;
         own = λ d e. let is = only d (sym (set_is p) ∙ e) in (ap (λ (x : ConnectionView). x.number) is, subst (IsHere now) (sym is) here);
         dialect = refl;
         next = refl;

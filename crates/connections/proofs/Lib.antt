@@ -1,4 +1,4 @@
-pub mod PlaceLemmas
+pub mod SlotLemmas
 pub mod TextLemmas
 pub mod StepLemmas
 pub mod MoveLemmas

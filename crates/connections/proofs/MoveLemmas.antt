@@ -11,19 +11,19 @@ use Rattle.session.specs.Taken.{SessionOk}
 use Rattle.session.proofs.TakenLemmas.{session_implies}
 use Rattle.connections.specs.declared.connections.CommandNumber.{CommandNumber}
 use Rattle.connections.specs.Connection.{ConnectionView}
-use Rattle.connections.specs.Places.{place_in}
+use Rattle.connections.specs.Slots.{slot_in}
 use Rattle.connections.specs.Connections.{ConnectionsView, bytes_of_connection, WasReplied, IsAnswered, untaken, IsHere, IsConnections}
-use Rattle.connections.proofs.PlaceLemmas.{same_or_not}
+use Rattle.connections.proofs.SlotLemmas.{same_or_not}
 use Rattle.connections.proofs.TextLemmas.{answered_implies}
 use Rattle.connections.proofs.StepLemmas.{MayAsk}
 
 -- What became of the connection of this number, which was at this key.
 pub record Moved (v now : ConnectionsView) (key number : ℕ) : Type 0 where
   pub was : ConnectionView
-  pub was_at : place_in v.table key ≡ Some was
+  pub was_at : slot_in v.table key ≡ Some was
   pub was_number : was.number ≡ number
-  pub others : (k : ℕ) → k ≢ key → place_in now.table k ≡ place_in v.table k
-  pub own : (c : ConnectionView) → place_in now.table key ≡ Some c → (c.number ≡ number) × IsHere now c
+  pub others : (k : ℕ) → k ≢ key → slot_in now.table k ≡ slot_in v.table k
+  pub own : (c : ConnectionView) → slot_in now.table key ≡ Some c → (c.number ≡ number) × IsHere now c
   pub dialect : now.dialect ≡ v.dialect
   pub next : now.next ≡ v.next
   pub first : now.first ≡ v.first
@@ -54,18 +54,18 @@ answered_same v now n dialect heard given replied is =
 
 module _ (v now : ConnectionsView) (key number : ℕ) (ok : IsConnections v) (m : Moved v now key number) where
   -- who is there now was there, or another one of that number
-  back : (k : ℕ) (c : ConnectionView) → place_in now.table k ≡ Some c → (d : ConnectionView) × (place_in v.table k ≡ Some d) × (d.number ≡ c.number)
+  back : (k : ℕ) (c : ConnectionView) → slot_in now.table k ≡ Some c → (d : ConnectionView) × (slot_in v.table k ≡ Some d) × (d.number ≡ c.number)
   back k c at = ⊎_elim
-      (λ (same : k ≡ key). (m.was, subst (λ (x : ℕ). place_in v.table x ≡ Some m.was) (sym same) m.was_at, m.was_number ∙ sym (m.own c (subst (λ (x : ℕ). place_in now.table x ≡ Some c) same at)).0))
+      (λ (same : k ≡ key). (m.was, subst (λ (x : ℕ). slot_in v.table x ≡ Some m.was) (sym same) m.was_at, m.was_number ∙ sym (m.own c (subst (λ (x : ℕ). slot_in now.table x ≡ Some c) same at)).0))
       (λ (differs : k ≢ key). (c, sym (m.others k differs) ∙ at, refl))
       (same_or_not k key)
 
-  here_now : (k : ℕ) (c : ConnectionView) → place_in now.table k ≡ Some c → IsHere now c
+  here_now : (k : ℕ) (c : ConnectionView) → slot_in now.table k ≡ Some c → IsHere now c
   here_now k c at = ⊎_elim
-      (λ (same : k ≡ key). (m.own c (subst (λ (x : ℕ). place_in now.table x ≡ Some c) same at)).1)
+      (λ (same : k ≡ key). (m.own c (subst (λ (x : ℕ). slot_in now.table x ≡ Some c) same at)).1)
       (λ (differs : k ≢ key).
-      let before : place_in v.table k ≡ Some c = sym (m.others k differs) ∙ at in
-      let other : c.number ≢ number = λ same. differs (ok.one_place k key c m.was before m.was_at (same ∙ sym m.was_number)) in
+      let before : slot_in v.table k ≡ Some c = sym (m.others k differs) ∙ at in
+      let other : c.number ≢ number = λ same. differs (ok.one_key k key c m.was before m.was_at (same ∙ sym m.was_number)) in
       stays_here v now c m.dialect m.next m.first m.taken (m.heard c.number other) (m.given c.number other) (m.replied c.number) (ok.here k c before))
       (same_or_not k key)
 
@@ -81,9 +81,9 @@ module _ (v now : ConnectionsView) (key number : ℕ) (ok : IsConnections v) (m 
   pub moved_keeps : IsConnections now
   moved_keeps = record {
     here = here_now;
-    one_place = λ i j c d at_i at_j same.
+    one_key = λ i j c d at_i at_j same.
         let b = back i c at_i in let e = back j d at_j in
-        ok.one_place i j b.0 e.0 b.1 e.1 (b.2 ∙ (same ∙ sym e.2));
+        ok.one_key i j b.0 e.0 b.1 e.1 (b.2 ∙ (same ∙ sym e.2));
     answered = λ n. ⊎_elim
         (λ (same : n ≡ number). subst (λ (x : ℕ). IsAnswered now.dialect (WasReplied now.replied x) (bytes_of_connection x now.heard) (bytes_of_connection x now.given)) (sym same) m.answered)
         (λ (differs : n ≢ number). answered_same v now n m.dialect (m.heard n differs) (m.given n differs) (m.replied n) (ok.answered n))

@@ -13,13 +13,13 @@ use Rattle.session.specs.Session.{SessionStep, session_stays, session_goes_on, i
 use Rattle.session.proofs.TakenLemmas.{none_pending}
 use Rattle.session.specs.declared.session.Ready.{Ready}
 use Rattle.connections.specs.declared.connection.TheConstants.{MOST_UNWRITTEN}
-use Rattle.connections.specs.declared.places.Place.{Place}
+use Rattle.connections.specs.declared.slots.ConnectionId.{ConnectionId}
 use Rattle.connections.specs.declared.said.Said.{Said}
 use Rattle.connections.specs.Connection.{ConnectionView, IsFedTo, ConnectionAnswers, after_given}
-use Rattle.connections.specs.Places.{place_in, is_of_connection, connection_at, is_here, FeedsAt, AnswersAt, TakesWhere, TakesPlace, TakesIn, TakesAt, left_in, left_at, after_written, written_place, written_in, written_at, HasSameOthers}
+use Rattle.connections.specs.Slots.{slot_in, is_of_connection, connection_at, is_here, FeedsAt, AnswersAt, TakesWhere, TakesSlot, TakesIn, TakesAt, left_in, left_at, after_written, written_slot, written_in, written_at, HasSameOthers}
 use Rattle.connections.specs.Connections.{ConnectionsView, IsHere, IsConnections}
 use Rattle.connections.specs.Owed.{HasSameOutstanding, HasCommand, ReadsFurther, AnswersOn, BecomesAt, IsTakenAt, HasNoneToTake}
-use Rattle.connections.proofs.PlaceLemmas.{set_place, other_place, place_there, same_or_not}
+use Rattle.connections.proofs.SlotLemmas.{set_slot, other_slot, slot_there, same_or_not}
 use Rattle.connections.proofs.StepLemmas.{Asks, where_asks, fed_asks}
 use Rattle.connections.proofs.AtLemmas.{found, set_same, left_none, fed_parts, answer_parts, if_some, takes_some}
 
@@ -78,21 +78,21 @@ answers_on c d turn reply bytes a =
       owes = subst (Replies c turn) (sym a.1) (replies_on c turn reply);
     })
 
--- ---- one place of the table
+-- ---- one slot of the table
 
-pub reads_at : (v : ConnectionsView) (at : Place) (piece : List ℕ) (table : List (Option ConnectionView)) (said : Said) → is_here at.number v.table at.key ≡ true → FeedsAt at piece v.table table (Ok said) → BecomesAt ReadsFurther at v.table table
+pub reads_at : (v : ConnectionsView) (at : ConnectionId) (piece : List ℕ) (table : List (Option ConnectionView)) (said : Said) → is_here at.number v.table at.key ≡ true → FeedsAt at piece v.table table (Ok said) → BecomesAt ReadsFurther at v.table table
 reads_at v at piece table said here f d e =
     let c = found v at here in
     let parts = fed_parts v at piece table (Ok said) c.0 c.1 f in
-    let there : place_in table at.key ≡ parts.0 = ap (λ (t : List (Option ConnectionView)). place_in t at.key) parts.2 ∙ set_place v.table at.key parts.0 (Some c.0) (place_there v.table at.key c.0 c.1) in
+    let there : slot_in table at.key ≡ parts.0 = ap (λ (t : List (Option ConnectionView)). slot_in t at.key) parts.2 ∙ set_slot v.table at.key parts.0 (Some c.0) (slot_there v.table at.key c.0 c.1) in
     let is : d ≡ parts.1.0 = if_some (not said.closes) parts.1.0 d (sym parts.1.3 ∙ (sym there ∙ e)) in
     (c.0, c.1, c.2, subst (ReadsFurther c.0) (sym is) (fed_reads c.0 parts.1.0 piece said.bytes.items parts.1.1))
 
-pub answers_at : (v : ConnectionsView) (at : Place) (turn : ℕ) (reply : replies.Reply) (table : List (Option ConnectionView)) (said : Said) → is_here at.number v.table at.key ≡ true → AnswersAt at turn reply v.table table (Some said) → BecomesAt (AnswersOn turn) at v.table table
+pub answers_at : (v : ConnectionsView) (at : ConnectionId) (turn : ℕ) (reply : replies.Reply) (table : List (Option ConnectionView)) (said : Said) → is_here at.number v.table at.key ≡ true → AnswersAt at turn reply v.table table (Some said) → BecomesAt (AnswersOn turn) at v.table table
 answers_at v at turn reply table said here f d e =
     let c = found v at here in
     let parts = answer_parts v at turn reply table (Some said) c.0 c.1 f in
-    let there : place_in table at.key ≡ parts.0 = ap (λ (t : List (Option ConnectionView)). place_in t at.key) parts.2 ∙ set_place v.table at.key parts.0 (Some c.0) (place_there v.table at.key c.0 c.1) in
+    let there : slot_in table at.key ≡ parts.0 = ap (λ (t : List (Option ConnectionView)). slot_in t at.key) parts.2 ∙ set_slot v.table at.key parts.0 (Some c.0) (slot_there v.table at.key c.0 c.1) in
     let kept : (if not said.closes then Some parts.1.0 else None) ≡ Some d = sym parts.1.3 ∙ (sym there ∙ e) in
     ⊎_elim
     (λ step. let is : d ≡ parts.1.0 = if_some (not said.closes) parts.1.0 d kept in
@@ -100,7 +100,7 @@ answers_at v at turn reply table said here f d e =
     (λ last. let none : ◌≡◌ {A = Option ConnectionView} None (Some d) = sym (ap (λ (b : Bool). if not b then Some parts.1.0 else None) last.closes) ∙ kept in absurd (cc none))
     parts.1.1
 
-pub took_at : (at : Place) (old table : List (Option ConnectionView)) (ready : Ready) → TakesAt at old table (Some ready) → IsTakenAt at old table ready
+pub took_at : (at : ConnectionId) (old table : List (Option ConnectionView)) (ready : Ready) → TakesAt at old table (Some ready) → IsTakenAt at old table ready
 took_at at old table ready t =
     let k = takes_some at old table ready t in
     record {
@@ -109,12 +109,12 @@ took_at at old table ready t =
       at_key = k.at_key;
       number = k.number;
       is = k.is;
-      there = ap (λ (x : List (Option ConnectionView)). place_in x at.key) k.set ∙ set_place old at.key (Some k.next) (Some k.was) (place_there old at.key k.was k.at_key);
+      there = ap (λ (x : List (Option ConnectionView)). slot_in x at.key) k.set ∙ set_slot old at.key (Some k.next) (Some k.was) (slot_there old at.key k.was k.at_key);
     }
 
-pub none_to_take : (v : ConnectionsView) (at : Place) (table : List (Option ConnectionView)) → IsConnections v → TakesAt at v.table table None → HasNoneToTake at v.table
+pub none_to_take : (v : ConnectionsView) (at : ConnectionId) (table : List (Option ConnectionView)) → IsConnections v → TakesAt at v.table table None → HasNoneToTake at v.table
 none_to_take v at table ok t c e number =
-    let p = subst (λ (o : Option (Option ConnectionView)). TakesIn at v.table table None o) (place_there v.table at.key c e) t in
+    let p = subst (λ (o : Option (Option ConnectionView)). TakesIn at v.table table None o) (slot_there v.table at.key c e) t in
     let talks = (ok.here at.key c e).talks in
     ⊎_elim
     (λ (taken : c.session.command ≡ None). inl taken)
@@ -127,7 +127,7 @@ none_to_take v at table ok t c e number =
 -- ---- it leaves
 
 -- if it is not here nothing changes
-pub left_same : (at : Place) (table : List (Option ConnectionView)) → is_here at.number table at.key ≡ false → left_at at table ≡ table
+pub left_same : (at : ConnectionId) (table : List (Option ConnectionView)) → is_here at.number table at.key ≡ false → left_at at table ≡ table
 left_same at table not_here = by (slice_get table at.key) refl
   where
     by : (o : Option (Option ConnectionView)) → slice_get table at.key ≡ o → left_in at table o ≡ table
@@ -136,77 +136,77 @@ left_same at table not_here = by (slice_get table at.key) refl
         let b : is_of_connection at.number p ≡ false = sym (ap (λ (o : Option (Option ConnectionView)). is_of_connection at.number (connection_at o)) e) ∙ not_here in
         ap (λ (x : Bool). slice_set table at.key (if x then None else p)) b ∙ set_same table at.key p e
 
-pub failed_table : (v : ConnectionsView) (at : Place) (piece : List ℕ) (table : List (Option ConnectionView)) (fault : Fault) → is_here at.number v.table at.key ≡ true → FeedsAt at piece v.table table (Err fault) → table ≡ left_at at v.table
+pub failed_table : (v : ConnectionsView) (at : ConnectionId) (piece : List ℕ) (table : List (Option ConnectionView)) (fault : Fault) → is_here at.number v.table at.key ≡ true → FeedsAt at piece v.table table (Err fault) → table ≡ left_at at v.table
 failed_table v at piece table fault here f =
     let c = found v at here in
     let parts = fed_parts v at piece table (Err fault) c.0 c.1 f in
     parts.2 ∙ (ap (slice_set v.table at.key) parts.1.0 ∙ sym (left_none v at c.0 c.1 c.2))
 
 -- who is at its key then is another one, and was there
-pub left_own : (at : Place) (table : List (Option ConnectionView)) (d : ConnectionView) → place_in (left_at at table) at.key ≡ Some d → (d.number ≢ at.number) × (place_in table at.key ≡ Some d)
+pub left_own : (at : ConnectionId) (table : List (Option ConnectionView)) (d : ConnectionView) → slot_in (left_at at table) at.key ≡ Some d → (d.number ≢ at.number) × (slot_in table at.key ≡ Some d)
 left_own at table d = by (slice_get table at.key) refl
   where
-    by_place : (p : Option ConnectionView) (b : Bool) → slice_get table at.key ≡ Some p → is_of_connection at.number p ≡ b → place_in (slice_set table at.key (if b then None else p)) at.key ≡ Some d → (d.number ≢ at.number) × (place_in table at.key ≡ Some d)
-    by_place p true e is there = let none : ◌≡◌ {A = Option ConnectionView} None (Some d) = sym (set_place table at.key None p e) ∙ there in absurd (cc none)
-    by_place p false e is there =
-        let same : p ≡ Some d = sym (set_place table at.key p p e) ∙ there in
+    by_slot : (p : Option ConnectionView) (b : Bool) → slice_get table at.key ≡ Some p → is_of_connection at.number p ≡ b → slot_in (slice_set table at.key (if b then None else p)) at.key ≡ Some d → (d.number ≢ at.number) × (slot_in table at.key ≡ Some d)
+    by_slot p true e is there = let none : ◌≡◌ {A = Option ConnectionView} None (Some d) = sym (set_slot table at.key None p e) ∙ there in absurd (cc none)
+    by_slot p false e is there =
+        let same : p ≡ Some d = sym (set_slot table at.key p p e) ∙ there in
         (λ number. let clash : true ≡ false = sym (eq-eqb d.number at.number number) ∙ (ap (is_of_connection at.number) (sym same) ∙ is) in absurd (cc clash), ap connection_at e ∙ same)
 
-    by : (o : Option (Option ConnectionView)) → slice_get table at.key ≡ o → place_in (left_in at table o) at.key ≡ Some d → (d.number ≢ at.number) × (place_in table at.key ≡ Some d)
+    by : (o : Option (Option ConnectionView)) → slice_get table at.key ≡ o → slot_in (left_in at table o) at.key ≡ Some d → (d.number ≢ at.number) × (slot_in table at.key ≡ Some d)
     by None e there = let none : ◌≡◌ {A = Option ConnectionView} None (Some d) = sym (ap connection_at e) ∙ there in absurd (cc none)
-    by (Some p) e there = by_place p (is_of_connection at.number p) e refl there
+    by (Some p) e there = by_slot p (is_of_connection at.number p) e refl there
 
 -- ---- bytes are written
 
 -- who is there then was there, and less of it waits to be written
-pub record WasWritten (at : Place) (count key : ℕ) (table : List (Option ConnectionView)) (d : ConnectionView) : Type 0 where
+pub record WasWritten (at : ConnectionId) (count key : ℕ) (table : List (Option ConnectionView)) (d : ConnectionView) : Type 0 where
   pub was : ConnectionView
-  pub there : place_in table key ≡ Some was
+  pub there : slot_in table key ≡ Some was
   pub became : (d ≡ was) ⊎ ((d ≡ after_written count was) × (was.number ≡ at.number) × (key ≡ at.key))
 
-pub written_back : (at : Place) (count key : ℕ) (table : List (Option ConnectionView)) (d : ConnectionView) → place_in (written_at at count table) key ≡ Some d → WasWritten at count key table d
+pub written_back : (at : ConnectionId) (count key : ℕ) (table : List (Option ConnectionView)) (d : ConnectionView) → slot_in (written_at at count table) key ≡ Some d → WasWritten at count key table d
 written_back at count key table d = by (slice_get table at.key) refl
   where
-    by_number : (c : ConnectionView) (b : Bool) → key ≡ at.key → place_in table key ≡ Some c → (c.number == at.number) ≡ b → (if b then after_written count c else c) ≡ d → WasWritten at count key table d
+    by_number : (c : ConnectionView) (b : Bool) → key ≡ at.key → slot_in table key ≡ Some c → (c.number == at.number) ≡ b → (if b then after_written count c else c) ≡ d → WasWritten at count key table d
     by_number c true same e is became = record { was = c; there = e; became = inr (sym became, eqb-true c.number at.number is, same) }
     by_number c false same e is became = record { was = c; there = e; became = inl (sym became) }
 
-    by_place : (p : Option ConnectionView) → key ≡ at.key → slice_get table at.key ≡ Some p → written_place at.number count p ≡ Some d → WasWritten at count key table d
-    by_place None same e there = let none : ◌≡◌ {A = Option ConnectionView} None (Some d) = there in absurd (cc none)
-    by_place (Some c) same e there =
-        by_number c (c.number == at.number) same (ap (place_in table) same ∙ ap connection_at e) refl (let s : ◌≡◌ {A = Option ConnectionView} (Some (if c.number == at.number then after_written count c else c)) (Some d) = there in cc s)
+    by_slot : (p : Option ConnectionView) → key ≡ at.key → slice_get table at.key ≡ Some p → written_slot at.number count p ≡ Some d → WasWritten at count key table d
+    by_slot None same e there = let none : ◌≡◌ {A = Option ConnectionView} None (Some d) = there in absurd (cc none)
+    by_slot (Some c) same e there =
+        by_number c (c.number == at.number) same (ap (slot_in table) same ∙ ap connection_at e) refl (let s : ◌≡◌ {A = Option ConnectionView} (Some (if c.number == at.number then after_written count c else c)) (Some d) = there in cc s)
 
-    by : (o : Option (Option ConnectionView)) → slice_get table at.key ≡ o → place_in (written_in at count table o) key ≡ Some d → WasWritten at count key table d
+    by : (o : Option (Option ConnectionView)) → slice_get table at.key ≡ o → slot_in (written_in at count table o) key ≡ Some d → WasWritten at count key table d
     by None e there = record { was = d; there = there; became = inl refl }
     by (Some p) e there = ⊎_elim
-        (λ (same : key ≡ at.key). by_place p same e (sym (set_place table at.key (written_place at.number count p) p e) ∙ (sym (ap (place_in (slice_set table at.key (written_place at.number count p))) same) ∙ there)))
-        (λ (differs : key ≢ at.key). record { was = d; there = sym (other_place table at.key (written_place at.number count p) key differs) ∙ there; became = inl refl })
+        (λ (same : key ≡ at.key). by_slot p same e (sym (set_slot table at.key (written_slot at.number count p) p e) ∙ (sym (ap (slot_in (slice_set table at.key (written_slot at.number count p))) same) ∙ there)))
+        (λ (differs : key ≢ at.key). record { was = d; there = sym (other_slot table at.key (written_slot at.number count p) key differs) ∙ there; became = inl refl })
         (same_or_not key at.key)
 
-pub written_others : (at : Place) (count : ℕ) (table : List (Option ConnectionView)) → HasSameOthers at.key table (written_at at count table)
+pub written_others : (at : ConnectionId) (count : ℕ) (table : List (Option ConnectionView)) → HasSameOthers at.key table (written_at at count table)
 written_others at count table = by (slice_get table at.key)
   where
     by : (o : Option (Option ConnectionView)) → HasSameOthers at.key table (written_in at count table o)
     by None = λ other differs. refl
-    by (Some p) = λ other differs. other_place table at.key (written_place at.number count p) other differs
+    by (Some p) = λ other differs. other_slot table at.key (written_slot at.number count p) other differs
 
-written_here : (v : ConnectionsView) (table : List (Option ConnectionView)) (at : Place) (count key : ℕ) (d : ConnectionView) → IsConnections v → WasWritten at count key v.table d → IsHere (record v { table = table }) d
+written_here : (v : ConnectionsView) (table : List (Option ConnectionView)) (at : ConnectionId) (count key : ℕ) (d : ConnectionView) → IsConnections v → WasWritten at count key v.table d → IsHere (record v { table = table }) d
 written_here v table at count key d ok w =
     let h = ok.here key w.was w.there in
     let same : IsHere (record v { table = table }) w.was = record { below = h.below; reads = h.reads; since = h.since; talks = h.talks; counted = h.counted } in
     let less : IsHere (record v { table = table }) (after_written count w.was) = record { below = h.below; reads = h.reads; since = h.since; talks = h.talks; counted = h.counted } in
     ⊎_elim (λ is. subst (IsHere (record v { table = table })) (sym is) same) (λ is. subst (IsHere (record v { table = table })) (sym is.0) less) w.became
 
-number_of : (at : Place) (count key : ℕ) (table : List (Option ConnectionView)) (d : ConnectionView) (w : WasWritten at count key table d) → w.was.number ≡ d.number
+number_of : (at : ConnectionId) (count key : ℕ) (table : List (Option ConnectionView)) (d : ConnectionView) (w : WasWritten at count key table d) → w.was.number ≡ d.number
 number_of at count key table d w = ⊎_elim (λ is. sym (ap (λ (c : ConnectionView). c.number) is)) (λ is. sym (ap (λ (c : ConnectionView). c.number) is.0)) w.became
 
-pub written_keeps : (v : ConnectionsView) (at : Place) (count : ℕ) → IsConnections v → IsConnections (record v { table = written_at at count v.table })
+pub written_keeps : (v : ConnectionsView) (at : ConnectionId) (count : ℕ) → IsConnections v → IsConnections (record v { table = written_at at count v.table })
 written_keeps v at count ok = record {
   here = λ key d e. written_here v (written_at at count v.table) at count key d ok (written_back at count key v.table d e);
-  one_place = λ i j c d at_i at_j same.
+  one_key = λ i j c d at_i at_j same.
       let a = written_back at count i v.table c at_i in
       let b = written_back at count j v.table d at_j in
-      ok.one_place i j a.was b.was a.there b.there (number_of at count i v.table c a ∙ (same ∙ sym (number_of at count j v.table d b)));
+      ok.one_key i j a.was b.was a.there b.there (number_of at count i v.table c a ∙ (same ∙ sym (number_of at count j v.table d b)));
   answered = ok.answered;
   fresh = ok.fresh;
   asked = ok.asked;

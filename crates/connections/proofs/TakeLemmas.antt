@@ -20,9 +20,9 @@ use Rattle.session.proofs.TakenLemmas.{going_on, taken_ok}
 use Rattle.session.specs.declared.session.Ready.{Ready}
 use Rattle.connections.specs.declared.connections.CommandNumber.{CommandNumber}
 use Rattle.connections.specs.Connection.{ConnectionView, IsTaken}
-use Rattle.connections.specs.Places.{place_in}
+use Rattle.connections.specs.Slots.{slot_in}
 use Rattle.connections.specs.Connections.{ConnectionsView, bytes_of_connection, untaken, WasReplied, AreBefore, AreReplied, IsHere, IsConnections}
-use Rattle.connections.proofs.PlaceLemmas.{set_place, other_place, place_there, same_or_not}
+use Rattle.connections.proofs.SlotLemmas.{set_slot, other_slot, slot_there, same_or_not}
 
 -- the command behind some turns
 asked_behind : (taken turns : List Turn) (command : Command) (show : Show) → slice_get (commands_in ((taken ++ Ask command show ∷ []) ++ turns)) (length (commands_in taken)) ≡ Some command
@@ -58,7 +58,7 @@ answered_turn P q (Ask command show ∷ turns) bytes texts (suc k) below =
     let r = answered_turn P (q + 1) turns texts.1 texts.4 k (omega (arith, below)) in
     (r.0, subst (λ (n : ℕ). P n r.0) (omega arith) r.1)
 
-module _ (v : ConnectionsView) (ok : IsConnections v) (key : ℕ) (c : ConnectionView) (at : place_in v.table key ≡ Some c) (ready : Ready) (next : ConnectionView) (t : IsTaken c ready next) where
+module _ (v : ConnectionsView) (ok : IsConnections v) (key : ℕ) (c : ConnectionView) (at : slot_in v.table key ≡ Some c) (ready : Ready) (next : ConnectionView) (t : IsTaken c ready next) where
   h : IsHere v c
   h = ok.here key c at
 
@@ -91,12 +91,12 @@ module _ (v : ConnectionsView) (ok : IsConnections v) (key : ℕ) (c : Connectio
 
   pub is_asked : IsAskedIn v.dialect all ready.turn ready.command
   is_asked =
-      let place : ready.turn - 1 ≡ length (commands_in h.talks.taken) = let a = turn_is in let b = last_is in omega (arith, a, b) in
+      let slot : ready.turn - 1 ≡ length (commands_in h.talks.taken) = let a = turn_is in let b = last_is in omega (arith, a, b) in
       record {
         turns = live.turns;
         spells = spells;
         from_one = let a = turn_is in let b = last_is in omega (arith, a, b);
-        is = (λ i. slice_get (commands_in (split i)) (place i)) ∙ asked_behind h.talks.taken c.session.waiting ready.command show;
+        is = (λ i. slice_get (commands_in (split i)) (slot i)) ∙ asked_behind h.talks.taken c.session.waiting ready.command show;
       }
 
   pub has_text : HasText ready.command ready.quiet
@@ -148,19 +148,19 @@ module _ (v : ConnectionsView) (ok : IsConnections v) (key : ℕ) (c : Connectio
             (old_or_new e in_it);
       })
 
-  who : (k : ℕ) (d : ConnectionView) → place_in now.table k ≡ Some d → ((k ≡ key) × (next ≡ d)) ⊎ ((k ≢ key) × (place_in v.table k ≡ Some d))
+  who : (k : ℕ) (d : ConnectionView) → slot_in now.table k ≡ Some d → ((k ≡ key) × (next ≡ d)) ⊎ ((k ≢ key) × (slot_in v.table k ≡ Some d))
   who k d e = ⊎_elim
-      (λ (same : k ≡ key). inl (same, let s : ◌≡◌ {A = Option ConnectionView} (Some next) (Some d) = sym (set_place v.table key (Some next) (Some c) (place_there v.table key c at)) ∙ subst (λ (x : ℕ). place_in now.table x ≡ Some d) same e in cc s))
-      (λ (differs : k ≢ key). inr (differs, sym (other_place v.table key (Some next) k differs) ∙ e))
+      (λ (same : k ≡ key). inl (same, let s : ◌≡◌ {A = Option ConnectionView} (Some next) (Some d) = sym (set_slot v.table key (Some next) (Some c) (slot_there v.table key c at)) ∙ subst (λ (x : ℕ). slot_in now.table x ≡ Some d) same e in cc s))
+      (λ (differs : k ≢ key). inr (differs, sym (other_slot v.table key (Some next) k differs) ∙ e))
       (same_or_not k key)
 
-  back : (k : ℕ) (d : ConnectionView) → place_in now.table k ≡ Some d → (f : ConnectionView) × (place_in v.table k ≡ Some f) × (f.number ≡ d.number)
+  back : (k : ℕ) (d : ConnectionView) → slot_in now.table k ≡ Some d → (f : ConnectionView) × (slot_in v.table k ≡ Some f) × (f.number ≡ d.number)
   back k d e = ⊎_elim
-      (λ (new : (k ≡ key) × (next ≡ d)). (c, subst (λ (x : ℕ). place_in v.table x ≡ Some c) (sym new.0) at, sym same_number ∙ ap (λ (x : ConnectionView). x.number) new.1))
-      (λ (old : (k ≢ key) × (place_in v.table k ≡ Some d)). (d, old.1, refl))
+      (λ (new : (k ≡ key) × (next ≡ d)). (c, subst (λ (x : ℕ). slot_in v.table x ≡ Some c) (sym new.0) at, sym same_number ∙ ap (λ (x : ConnectionView). x.number) new.1))
+      (λ (old : (k ≢ key) × (slot_in v.table k ≡ Some d)). (d, old.1, refl))
       (who k d e)
 
-  here_other : (k : ℕ) (d : ConnectionView) → k ≢ key → place_in v.table k ≡ Some d → IsHere now d
+  here_other : (k : ℕ) (d : ConnectionView) → k ≢ key → slot_in v.table k ≡ Some d → IsHere now d
   here_other k d differs e =
       let o = ok.here k d e in
       record {
@@ -170,7 +170,7 @@ module _ (v : ConnectionsView) (ok : IsConnections v) (key : ℕ) (c : Connectio
         talks = o.talks;
         counted = λ x in_it is. ⊎_elim
             (λ (old : Contains v.taken x). o.counted x old is)
-            (λ (new : entry ≡ x). absurd (differs (ok.one_place k key d c e at (sym is ∙ sym (ap (λ (y : CommandNumber × Command). y.0.connection) new)))))
+            (λ (new : entry ≡ x). absurd (differs (ok.one_key k key d c e at (sym is ∙ sym (ap (λ (y : CommandNumber × Command). y.0.connection) new)))))
             (old_or_new x in_it);
       }
 
@@ -194,8 +194,8 @@ module _ (v : ConnectionsView) (ok : IsConnections v) (key : ℕ) (c : Connectio
 
   pub taken_keeps : IsConnections now
   taken_keeps = record {
-    here = λ k d e. ⊎_elim (λ (new : (k ≡ key) × (next ≡ d)). subst (IsHere now) new.1 here_next) (λ (old : (k ≢ key) × (place_in v.table k ≡ Some d)). here_other k d old.0 old.1) (who k d e);
-    one_place = λ i j d e at_i at_j same. let f = back i d at_i in let g = back j e at_j in ok.one_place i j f.0 g.0 f.1 g.1 (f.2 ∙ (same ∙ sym g.2));
+    here = λ k d e. ⊎_elim (λ (new : (k ≡ key) × (next ≡ d)). subst (IsHere now) new.1 here_next) (λ (old : (k ≢ key) × (slot_in v.table k ≡ Some d)). here_other k d old.0 old.1) (who k d e);
+    one_key = λ i j d e at_i at_j same. let f = back i d at_i in let g = back j e at_j in ok.one_key i j f.0 g.0 f.1 g.1 (f.2 ∙ (same ∙ sym g.2));
     answered = ok.answered;
     fresh = ok.fresh;
     asked = λ e in_it. ⊎_elim

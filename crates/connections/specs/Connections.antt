@@ -12,7 +12,7 @@ use Rattle.connections.specs.declared.connections.CommandNumber.{CommandNumber}
 use Rattle.connections.specs.declared.said.Said.{Said}
 use Rattle.connections.specs.Connection.{ConnectionView}
 use Rattle.connections.specs.History.{Passed, heard_as, given_as, heard_among, given_among}
-use Rattle.connections.specs.Places.{place_in}
+use Rattle.connections.specs.Slots.{slot_in}
 
 pub record ConnectionsView : Type 0 where
   -- in which grammar their bytes are read
@@ -98,8 +98,8 @@ pub record IsHere (v : ConnectionsView) (c : ConnectionView) : Type 0 where
   pub counted : (e : CommandNumber × Command) → Contains v.taken e → e.0.connection ≡ c.number → e.0.turn + untaken c.session.command ≤ c.session.last
 
 pub record IsConnections (v : ConnectionsView) : Type 0 where
-  pub here : (key : ℕ) (c : ConnectionView) → place_in v.table key ≡ Some c → IsHere v c
-  pub one_place : (i j : ℕ) (c d : ConnectionView) → place_in v.table i ≡ Some c → place_in v.table j ≡ Some d → c.number ≡ d.number → i ≡ j
+  pub here : (key : ℕ) (c : ConnectionView) → slot_in v.table key ≡ Some c → IsHere v c
+  pub one_key : (i j : ℕ) (c d : ConnectionView) → slot_in v.table i ≡ Some c → slot_in v.table j ≡ Some d → c.number ≡ d.number → i ≡ j
   -- each connection, here or gone, was answered in order
   pub answered : (number : ℕ) → IsAnswered v.dialect (WasReplied v.replied number) (bytes_of_connection number v.heard) (bytes_of_connection number v.given)
   pub fresh : (number : ℕ) → v.next ≤ number → (bytes_of_connection number v.heard ≡ []) × (bytes_of_connection number v.given ≡ [])

@@ -1,5 +1,5 @@
 pub mod Connection
-pub mod Places
+pub mod Slots
 pub mod Owed
 pub mod Logs
 pub mod History

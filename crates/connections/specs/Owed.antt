@@ -3,9 +3,9 @@ use Rattle.std.specs.Prelude.{◌≡◌, ◌⊎◌, ℕ, ◌≤◌, true, false,
 use Rattle.session.specs.Session.{is_outstanding_as}
 use Rattle.session.specs.declared.session.Ready.{Ready}
 use Rattle.connections.specs.declared.connection.TheConstants.{MOST_UNWRITTEN}
-use Rattle.connections.specs.declared.places.Place.{Place}
+use Rattle.connections.specs.declared.slots.ConnectionId.{ConnectionId}
 use Rattle.connections.specs.Connection.{ConnectionView, IsTaken}
-use Rattle.connections.specs.Places.{place_in}
+use Rattle.connections.specs.Slots.{slot_in}
 
 -- the same command is outstanding, and is taken or not as before
 abbrev pub HasSameOutstanding : ConnectionView → ConnectionView → Type 0
@@ -30,18 +30,18 @@ pub record AnswersOn (turn : ℕ) (c d : ConnectionView) : Type 0 where
   pub owes : (HasSameOutstanding c d × (HasCommand c ⊎ (is_outstanding_as c.session.outstanding turn ≡ false))) ⊎ (d.session.outstanding ≡ None) ⊎ HasCommand d
 
 -- who is at the key then was there, is the connection of this number, and became so
-abbrev pub BecomesAt : (ConnectionView → ConnectionView → Type 0) → Place → List (Option ConnectionView) → List (Option ConnectionView) → Type 0
-BecomesAt Becomes at old new = (d : ConnectionView) → place_in new at.key ≡ Some d → (c : ConnectionView) × (place_in old at.key ≡ Some c) × (c.number ≡ at.number) × Becomes c d
+abbrev pub BecomesAt : (ConnectionView → ConnectionView → Type 0) → ConnectionId → List (Option ConnectionView) → List (Option ConnectionView) → Type 0
+BecomesAt Becomes at old new = (d : ConnectionView) → slot_in new at.key ≡ Some d → (c : ConnectionView) × (slot_in old at.key ≡ Some c) × (c.number ≡ at.number) × Becomes c d
 
 -- the command of the connection was taken
-pub record IsTakenAt (at : Place) (old new : List (Option ConnectionView)) (ready : Ready) : Type 0 where
+pub record IsTakenAt (at : ConnectionId) (old new : List (Option ConnectionView)) (ready : Ready) : Type 0 where
   pub was : ConnectionView
   pub next : ConnectionView
-  pub at_key : place_in old at.key ≡ Some was
+  pub at_key : slot_in old at.key ≡ Some was
   pub number : was.number ≡ at.number
   pub is : IsTaken was ready next
-  pub there : place_in new at.key ≡ Some next
+  pub there : slot_in new at.key ≡ Some next
 
 -- if the connection is here it has no command to be taken, or too much of it waits to be written
-abbrev pub HasNoneToTake : Place → List (Option ConnectionView) → Type 0
-HasNoneToTake at table = (c : ConnectionView) → place_in table at.key ≡ Some c → c.number ≡ at.number → (c.session.command ≡ None) ⊎ (MOST_UNWRITTEN ≤ c.unwritten)
+abbrev pub HasNoneToTake : ConnectionId → List (Option ConnectionView) → Type 0
+HasNoneToTake at table = (c : ConnectionView) → slot_in table at.key ≡ Some c → c.number ≡ at.number → (c.session.command ≡ None) ⊎ (MOST_UNWRITTEN ≤ c.unwritten)

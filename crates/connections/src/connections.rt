@@ -4,8 +4,8 @@ ghost use Rattle.std.specs.Prelude.{◌≡◌};
 
 use crate::connection::Connection;
 use crate::history::History;
-use crate::places::Place;
 use crate::said::Said;
+use crate::slots::ConnectionId;
 use crate::table;
 use grammar::{Conditions, Dialect};
 use http_server::Log;
@@ -66,11 +66,11 @@ impl Connections {
     ghost use Rattle.memcached_spec.specs.Asked.{HasText};
     ghost use Rattle.grammar.specs.Reads.{with_mark};
     ghost use Rattle.connections.specs.Connection.{new_connection};
-    ghost use Rattle.connections.specs.Places.{place_in, is_here, is_untaken_in, left_at, written_at, HasSameOthers, IsGrown};
+    ghost use Rattle.connections.specs.Slots.{slot_in, is_here, is_untaken_in, left_at, written_at, HasSameOthers, IsGrown};
     ghost use Rattle.connections.specs.Owed.{ReadsFurther, AnswersOn, BecomesAt, IsTakenAt, HasNoneToTake};
     ghost use Rattle.connections.specs.History.{IsHistory, given_as, moment_as};
     ghost use Rattle.connections.specs.Told.{IsToldAt, IsToldToLeave, IsFedAt, IsAnsweredAt};
-    ghost use Rattle.connections.specs.declared.table.TheConstants.{MOST_PLACES};
+    ghost use Rattle.connections.specs.declared.table.TheConstants.{MOST_SLOTS};
     ghost use Rattle.connections.specs.Connections.{IsConnections, no_connections, no_connections_from, HasSameLogs, PassesOn, AreBefore, AreReplied};
 
     /// No connection came. Their bytes are to be read in this grammar.
@@ -115,15 +115,15 @@ impl Connections {
     ///
     /// After an error no connection has changed. Unfit: the number is not above those that came, or is 2^64 - 1, or
     /// another connection is at the key; Full: the key is 65,536 or more; NoMemory: an allocation failed.
-    pub fn come(&mut self, alloc: Global, at: Place) -> Result<(), Fault>
+    pub fn come(&mut self, alloc: Global, at: ConnectionId) -> Result<(), Fault>
         ensures logs { HasSameLogs self.old self.new }
-        ensures here { OnOk result (place_in self.new.table at.key ≡ Some (new_connection self.old.dialect at.number)) }
+        ensures here { OnOk result (slot_in self.new.table at.key ≡ Some (new_connection self.old.dialect at.number)) }
         ensures next { OnOk result ((self.old.next ≤ at.number) × (self.new.next ≡ at.number + 1)) }
         ensures err { OnErr result (self.new.next ≡ self.old.next) }
         ensures same { OnErr result (IsGrown self.old.table self.new.table) }
         ensures same_others { HasSameOthers at.key self.old.table self.new.table }
-        ensures unfit { result ≡ Err Fault.Unfit → (at.number < self.old.next) ⊎ (is_some (place_in self.old.table at.key) ≡ true) ⊎ (at.number + 1 ≡ 2 ^ 64) }
-        ensures full { result ≡ Err Fault.Full → MOST_PLACES ≤ at.key }
+        ensures unfit { result ≡ Err Fault.Unfit → (at.number < self.old.next) ⊎ (is_some (slot_in self.old.table at.key) ≡ true) ⊎ (at.number + 1 ≡ 2 ^ 64) }
+        ensures full { result ≡ Err Fault.Full → MOST_SLOTS ≤ at.key }
         ensures only { IfErr result (λ fault. (fault ≡ Fault.Unfit) ⊎ (fault ≡ Fault.Full) ⊎ (fault ≡ Fault.NoMemory)) }
     {
         if at.number < self.next {
@@ -151,7 +151,7 @@ impl Connections {
     pub fn hear(
         &mut self,
         alloc: Global,
-        at: Place,
+        at: ConnectionId,
         piece: Vec<u8>,
         conditions: &mut Conditions,
     ) -> Result<Said, Fault>
@@ -164,7 +164,7 @@ impl Connections {
         ensures leaves { OnErr result (is_here at.number self.new.table at.key ≡ false) }
         ensures left { OnErr result (self.new.table ≡ left_at at self.old.table) }
         ensures reads { IfOk result (λ said. BecomesAt ReadsFurther at self.old.table self.new.table) }
-        ensures closes { IfOk result (λ said. said.closes ≡ true → place_in self.new.table at.key ≡ None) }
+        ensures closes { IfOk result (λ said. said.closes ≡ true → slot_in self.new.table at.key ≡ None) }
         ensures told { IfOk result (λ said. IsToldAt at self.old.table self.new.table said) }
         ensures fed { IfOk result (λ said. IsFedAt at (with_mark self.old.dialect conditions.old.is_full piece.items) self.old.table self.new.table said) }
         ensures same_others { HasSameOthers at.key self.old.table self.new.table }
@@ -183,7 +183,7 @@ impl Connections {
     }
 
     /// Takes the command of a connection that was not taken. `None`: there is none, or the connection is not here.
-    pub fn take(&mut self, at: Place) -> Option<Ready>
+    pub fn take(&mut self, at: ConnectionId) -> Option<Ready>
         ensures none { IfNone result (self.new ≡ self.old) }
         ensures why { IfNone result (HasNoneToTake at self.old.table) }
         ensures there { IfSome result (λ ready. IsTakenAt at self.old.table self.new.table ready) }
@@ -208,7 +208,13 @@ impl Connections {
     /// Gives a connection the reply to its command of this number: what it is given. It stays at its key unless that
     /// says that it is to be closed, and it is told whether its next command is outstanding now. `None`: it is not here
     /// any more, and the reply is let go. If memory is wanted it leaves, and is told to close.
-    pub fn answer(&mut self, alloc: Global, at: Place, turn: u64, reply: Reply) -> Option<Said>
+    pub fn answer(
+        &mut self,
+        alloc: Global,
+        at: ConnectionId,
+        turn: u64,
+        reply: Reply,
+    ) -> Option<Said>
         ensures none { IfNone result (self.new ≡ self.old) }
         ensures here { is_some result ≡ is_here at.number self.old.table at.key }
         ensures answers { IfSome result (λ said. BecomesAt (AnswersOn turn) at self.old.table self.new.table) }
@@ -216,7 +222,7 @@ impl Connections {
         ensures given { IfSome result (λ said. self.new.given ≡ self.old.given ++ (at.number, said.bytes.items) ∷ []) }
         ensures passed { IfSome result (λ said. self.new.passed ≡ self.old.passed ++ given_as at.number said.bytes.items ∷ []) }
         ensures to { IfSome result (λ said. (said.key ≡ at.key) × (said.number ≡ at.number)) }
-        ensures closes { IfSome result (λ said. said.closes ≡ true → place_in self.new.table at.key ≡ None) }
+        ensures closes { IfSome result (λ said. said.closes ≡ true → slot_in self.new.table at.key ≡ None) }
         ensures told { IfSome result (λ said. IsToldAt at self.old.table self.new.table said) }
         ensures answered { IfSome result (λ said. IsAnsweredAt at turn reply self.old.table self.new.table said) }
         ensures same_others { HasSameOthers at.key self.old.table self.new.table }
@@ -238,7 +244,7 @@ impl Connections {
     }
 
     /// A connection leaves. If it is not here nothing changes.
-    pub fn leave(&mut self, at: Place)
+    pub fn leave(&mut self, at: ConnectionId)
         ensures left { is_here at.number self.new.table at.key ≡ false }
         ensures same_others { HasSameOthers at.key self.old.table self.new.table }
         ensures table { self.new ≡ record self.old { table = left_at at self.old.table } }
@@ -247,7 +253,7 @@ impl Connections {
     }
 
     /// A connection leaves for want of memory: what it is told. `None`: it is not here.
-    pub fn drop_out(&mut self, alloc: Global, at: Place) -> Option<Said>
+    pub fn drop_out(&mut self, alloc: Global, at: ConnectionId) -> Option<Said>
         ensures none { IfNone result (self.new ≡ self.old) }
         ensures here { is_some result ≡ is_here at.number self.old.table at.key }
         ensures given { IfSome result (λ said. self.new.given ≡ self.old.given ++ (at.number, said.bytes.items) ∷ []) }
@@ -271,14 +277,14 @@ impl Connections {
 
     /// So many of the bytes that a connection was given are written. If it is not here nothing changes. While 256 KB
     /// or more are not written its command is not taken.
-    pub fn written(&mut self, at: Place, count: usize)
+    pub fn written(&mut self, at: ConnectionId, count: usize)
         ensures { self.new ≡ record self.old { table = written_at at count self.old.table } }
     {
         table::written(&mut self.table, at, count);
     }
 
     /// Whether a connection is here and has a command that was not taken.
-    pub fn is_ready(&self, at: Place) -> bool
+    pub fn is_ready(&self, at: ConnectionId) -> bool
         ensures { result ≡ is_untaken_in at.number self.now.table at.key }
     {
         table::is_ready(&self.table, at)

@@ -10,15 +10,15 @@
 mod connection;
 mod connections;
 mod history;
-mod places;
 mod said;
+mod slots;
 mod table;
 
 pub use connection::{Connection, MOST_UNWRITTEN};
 pub use connections::{CommandNumber, Connections};
 pub use grammar::Dialect;
 pub use history::{History, Passing};
-pub use places::Place;
 pub use said::Said;
 pub use session::Ready;
-pub use table::MOST_PLACES;
+pub use slots::ConnectionId;
+pub use table::MOST_SLOTS;

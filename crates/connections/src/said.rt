@@ -2,7 +2,7 @@
 
 ghost use Rattle.std.specs.Prelude.{◌≡◌, [], true, false};
 
-use crate::places::Place;
+use crate::slots::ConnectionId;
 use std::alloc::Global;
 
 /// What a connection is given.
@@ -23,7 +23,7 @@ pub struct Said {
 
 impl Said {
     /// No bytes, to a connection that is to be closed.
-    pub fn last(alloc: Global, at: Place) -> Said
+    pub fn last(alloc: Global, at: ConnectionId) -> Said
         ensures key { result.key ≡ at.key }
         ensures number { result.number ≡ at.number }
         ensures bytes { result.bytes.items ≡ [] }

@@ -23,7 +23,7 @@ pub use lines::{
 };
 pub use report::{Due, Report, Totals};
 pub use save_watch::{SaveLine, SaveWatch};
-pub use settings::{DataPlace, Listen, MOST_CONNECTIONS, Settings, read_settings};
+pub use settings::{DataSettings, Listen, MOST_CONNECTIONS, Settings, read_settings};
 pub use stamped::{Stamped, seconds};
 pub use system::{open_files, process_id, resident_pages};
 pub use told::Told;

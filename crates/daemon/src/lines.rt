@@ -1,7 +1,7 @@
 //! The lines of the log.
 
 use crate::report::Due;
-use crate::settings::{DataPlace, Listen, Settings};
+use crate::settings::{DataSettings, Listen, Settings};
 use figures::{Figures, NodeFigures, Refusal, Refusals, Replicas, VERSION};
 use log::{Log, info, warn};
 use std::fmt::Display;
@@ -28,7 +28,7 @@ pub fn tell_start<R: Log>(rt: &R, settings: &Settings) {
 }
 
 /// Tells where what is answered is saved first.
-fn tell_folders<R: Log>(rt: &R, data: &DataPlace) {
+fn tell_folders<R: Log>(rt: &R, data: &DataSettings) {
     let synced = if data.syncs { "" } else { ", without syncs" };
     match data.paths.as_slice() {
         [path] => info!(rt; target: NO_TARGET, "what is answered is saved in {path} first{synced}"),

@@ -32,7 +32,7 @@ pub enum Listen {
 
 /// Where a daemon saves what it answers, before it does.
 #[derive(Drop)]
-pub struct DataPlace {
+pub struct DataSettings {
     /// The folders, each with a copy: at least one.
     pub paths: Vec<String>,
     /// Nothing is in them yet. Else something is.
@@ -59,7 +59,7 @@ pub struct Settings {
     /// In which grammar clients' bytes are read.
     pub dialect: Dialect,
     /// Where it saves what it answers. None: nowhere.
-    pub data: Option<DataPlace>,
+    pub data: Option<DataSettings>,
     ghost few: { u < 4 },
 }
 
@@ -196,7 +196,7 @@ fn address(
 }
 
 /// Where the text says that clients are served.
-fn place_of(alloc: Global, command: &mut Command<'_>, text: &str) -> Result<Listen, Error> {
+fn listen_of(alloc: Global, command: &mut Command<'_>, text: &str) -> Result<Listen, Error> {
     match text.strip_prefix(UNIX) {
         Some("") => Err(command.error(
             ErrorKind::ValueValidation,
@@ -302,9 +302,9 @@ fn data_at(
     command: &mut Command<'_>,
     matches: &ArgMatches<'_>,
     paths: &[&str],
-) -> Result<DataPlace, Error> {
+) -> Result<DataSettings, Error> {
     let syncs = syncs(command, matches.get_str("sync").unwrap_or("turn"))?;
-    Ok(DataPlace {
+    Ok(DataSettings {
         paths: folders(alloc, command, paths)?,
         is_new: matches.get_flag("new"),
         syncs,
@@ -316,7 +316,7 @@ fn data_of(
     alloc: Global,
     command: &mut Command<'_>,
     matches: &ArgMatches<'_>,
-) -> Result<Option<DataPlace>, Error> {
+) -> Result<Option<DataSettings>, Error> {
     match matches.get_strs("data") {
         Some(paths) => Ok(Some(data_at(alloc, command, matches, paths)?)),
         None if matches.get_flag("new") => Err(command.error(
@@ -332,10 +332,10 @@ fn data_of(
 }
 
 /// Where clients are served.
-fn places(alloc: Global, command: &mut Command<'_>, texts: &[&str]) -> Result<Vec<Listen>, Error> {
+fn listens(alloc: Global, command: &mut Command<'_>, texts: &[&str]) -> Result<Vec<Listen>, Error> {
     let mut all = Vec::with_capacity(alloc, texts.len())?;
     for text in texts {
-        all.push(place_of(alloc, command, text)?)?;
+        all.push(listen_of(alloc, command, text)?)?;
     }
     Ok(all)
 }
@@ -346,7 +346,7 @@ fn given(
     command: &mut Command<'_>,
     matches: &ArgMatches<'_>,
 ) -> Result<Settings, Error> {
-    let listen = places(alloc, command, matches.get_strs("listen").unwrap_or(&[]))?;
+    let listen = listens(alloc, command, matches.get_strs("listen").unwrap_or(&[]))?;
     let status = match matches.get_str("status") {
         Some(text) => Some(address(alloc, command, "status", text)?),
         None => None,

@@ -10,11 +10,11 @@ use Rattle.sqlite_value.specs.Order.{Row, column}
 use Rattle.sqlite_trees.specs.Tree.{Trees}
 use Rattle.sqlite_trees.specs.View.{View, IsClean}
 use Rattle.item_rows.specs.Changes.{Rows}
-use Rattle.item_rows.specs.Placed.{PlacedItems}
+use Rattle.item_rows.specs.RowItems.{RowItems}
 use Rattle.shelf.specs.declared.process.SavedProcess.{SavedProcess}
 use Rattle.shelf.specs.declared.reply.ReplyChange.{ReplyChange}
 use Rattle.shelf.specs.Rows.{process_rows}
-use Rattle.shelf.specs.WaitingView.{IsTurn, process_after}
+use Rattle.shelf.specs.WaitingView.{IsAfterSave, process_after}
 use Rattle.data_folder.specs.declared.found_copy.FoundCopy.{FoundCopy}
 use Rattle.process_text.specs.declared.process_text.ProcessText.{ProcessText}
 use Rattle.states.specs.State.{StateView}
@@ -42,11 +42,11 @@ number_in (Blob b) = 0
 -- what the rows of a process have of it
 abbrev text_in_rows : List Row → Option SavedText
 text_in_rows [] = None
-text_in_rows (row ∷ rows) = Some (record { stamp = record { start = number_in (column row 2); turn = number_in (column row 3) }; text = blob_in (column row 7) })
+text_in_rows (row ∷ rows) = Some (record { stamp = record { start = number_in (column row 2); save = number_in (column row 3) }; text = blob_in (column row 7) })
 
 text_is : (saved : Option SavedProcess) → RowFits saved → text_in_rows (process_rows saved) ≡ text_of_row saved
 text_is None fits = refl
-text_is (Some saved) fits = λ i. Some (record { stamp = record { start = of_z-to_z w64 saved.stamp.start fits.0 i; turn = of_z-to_z w64 saved.stamp.turn fits.1 i }; text = saved.text })
+text_is (Some saved) fits = λ i. Some (record { stamp = record { start = of_z-to_z w64 saved.stamp.start fits.0 i; save = of_z-to_z w64 saved.stamp.save fits.1 i }; text = saved.text })
 
 -- rows have one text
 found_is : (db : Trees) (found : Option SavedText) → HoldsText db found → found ≡ text_in_rows (db 2)
@@ -58,13 +58,13 @@ one_text db found other h k = found_is db found h ∙ sym (found_is db other k)
 abbrev pub fits_in : (s : SavedText) (saved : SavedProcess) → SavesText s saved → StampFits saved.stamp
 fits_in s saved is = subst StampFits (sym is.1.0) is.0
 
--- what a turn leaves has the text of the turn
-pub text_after : (old new : Trees) (items : Rows Row) (changes : List PlacedItems) (process : Option SavedProcess) (replies : List ReplyChange) (s : SavedText)
-    → IsSomeAnd process (SavesText s) → IsTurn old items changes process replies new → HoldsSomeText old → (found : Option SavedText) → HoldsText new found → ∥ (found ≡ Some s) ∥₁
-text_after old new items changes None replies s is turn kept found has = absurd is
-text_after old new items changes (Some saved) replies s is turn kept found has =
+-- what a save leaves has the text of the save
+pub text_after : (old new : Trees) (items : Rows Row) (changes : List RowItems) (process : Option SavedProcess) (replies : List ReplyChange) (s : SavedText)
+    → IsSomeAnd process (SavesText s) → IsAfterSave old items changes process replies new → HoldsSomeText old → (found : Option SavedText) → HoldsText new found → ∥ (found ≡ Some s) ∥₁
+text_after old new items changes None replies s is save kept found has = absurd is
+text_after old new items changes (Some saved) replies s is save kept found has =
     ∥∥₁_map kept (λ was. found_is new found has
-    ∙ (ap text_in_rows (turn.process_is was.1.saved was.1.row)
+    ∙ (ap text_in_rows (save.process_is was.1.saved was.1.row)
     ∙ (text_is (Some saved) (fits_in s saved is) ∙ (λ i. Some (record { stamp = is.1.0 i; text = is.1.1 i })))))
 
 after_fits : (process was : Option SavedProcess) → RowFits process → RowFits was → RowFits (process_after process was)
@@ -72,10 +72,10 @@ after_fits None was fits before = before
 after_fits (Some saved) was fits before = fits
 
 -- and has some text
-pub some_text_after : (old new : Trees) (items : Rows Row) (changes : List PlacedItems) (process : Option SavedProcess) (replies : List ReplyChange)
-    → RowFits process → IsTurn old items changes process replies new → HoldsSomeText old → HoldsSomeText new
-some_text_after old new items changes process replies fits turn kept =
-    ∥∥₁_map kept (λ was. (text_of_row (process_after process was.1.saved), record { saved = process_after process was.1.saved; fits = after_fits process was.1.saved fits was.1.fits; row = turn.process_is was.1.saved was.1.row; is = refl }))
+pub some_text_after : (old new : Trees) (items : Rows Row) (changes : List RowItems) (process : Option SavedProcess) (replies : List ReplyChange)
+    → RowFits process → IsAfterSave old items changes process replies new → HoldsSomeText old → HoldsSomeText new
+some_text_after old new items changes process replies fits save kept =
+    ∥∥₁_map kept (λ was. (text_of_row (process_after process was.1.saved), record { saved = process_after process was.1.saved; fits = after_fits process was.1.saved fits was.1.fits; row = save.process_is was.1.saved was.1.row; is = refl }))
 
 -- a row that is of a save fits
 pub row_fits : (s : SavedText) (process : Option SavedProcess) → IsSomeAnd process (SavesText s) → RowFits process

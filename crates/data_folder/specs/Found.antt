@@ -20,7 +20,7 @@ text_of_row (Some saved) = Some (record { stamp = saved.stamp; text = saved.text
 
 -- its numbers have 64 bits
 abbrev pub StampFits : SaveStamp → Type 0
-StampFits stamp = (stamp.start < 2 ^ 64) × (stamp.turn < 2 ^ 64)
+StampFits stamp = (stamp.start < 2 ^ 64) × (stamp.save < 2 ^ 64)
 
 abbrev pub RowFits : Option SavedProcess → Type 0
 RowFits None = ⊤

@@ -19,7 +19,7 @@ use Rattle.data_folder.specs.declared.found_copy.FoundCopy.{FoundCopy}
 
 -- ---- what a file says
 
--- the row of each place is that of these items
+-- each row is that of these items
 abbrev pub AreRowsOf : Rows Row → Items → Type 0
 AreRowsOf rows m = (p : ℕ) → p < 2 ^ 63 → rows p ≡ rows_of m p
 

@@ -10,14 +10,14 @@ ghost use Rattle.data_folder.specs.Items.{AreRowsOf, AreStatesTold, CrashLeaves,
 
 use crate::fault::{DataFault, record_fault, store_fault};
 use crate::found_copy::{FoundCopy, FoundProcess, Wanted, found_in};
-use crate::save_copy::{CopyPlace, SaveCopy};
+use crate::save_copy::{CopyId, SaveCopy};
 use crate::stored_record::StoredRecord;
 use folders::SaveStamp;
-use item_rows::{PlacedItems, changes_since};
+use item_rows::{RowItems, changes_since};
 use pages::Snapshot;
 use proto::Fault;
 use server::SaveFault;
-use shelf::{SavedProcess, SavedTurn, Shelf};
+use shelf::{SavedExtras, SavedProcess, Shelf};
 use sqlite_trees::error::StoreError;
 use sqlite_trees::store::Store;
 use sqlite_value::value::Bytes;
@@ -55,16 +55,16 @@ impl<S: Store + Drop> Drop for DataFolder<S> {
 /// What one save writes, and the state whose items the file has then.
 #[derive(Drop)]
 struct PreparedSave {
-    turn: SavedTurn,
-    changes: Vec<PlacedItems>,
+    extras: SavedExtras,
+    changes: Vec<RowItems>,
     state: State,
 }
 
 /// The site as it is written: none if there is one folder.
-fn site_bytes(alloc: Global, place: CopyPlace) -> Result<Bytes, AllocError> {
+fn site_bytes(alloc: Global, id: CopyId) -> Result<Bytes, AllocError> {
     let mut bytes = Vec::new(alloc);
-    if place.folders != 1 {
-        place.site.put(&mut bytes)?;
+    if id.folders != 1 {
+        id.site.put(&mut bytes)?;
     }
     Bytes::from_slice(alloc, &bytes)
 }
@@ -72,7 +72,7 @@ fn site_bytes(alloc: Global, place: CopyPlace) -> Result<Bytes, AllocError> {
 /// The row of a process.
 fn saved_process(
     alloc: Global,
-    place: CopyPlace,
+    id: CopyId,
     stamp: SaveStamp,
     text: &[u8],
 ) -> Result<SavedProcess, AllocError>
@@ -80,24 +80,24 @@ fn saved_process(
 {
     Ok(SavedProcess {
         stamp,
-        site: site_bytes(alloc, place)?,
-        folder: place.folder,
-        folders: place.folders,
+        site: site_bytes(alloc, id)?,
+        folder: id.folder,
+        folders: id.folders,
         text: Bytes::from_slice(alloc, text)?,
     })
 }
 
-/// The turn of a process, which has no long replies of its own.
-fn saved_turn(
+/// What is saved beside items of a process, which has no long replies of its own.
+fn saved_extras(
     alloc: Global,
-    place: CopyPlace,
+    id: CopyId,
     stamp: SaveStamp,
     text: &[u8],
-) -> Result<SavedTurn, AllocError>
-    ensures { IfOk result (λ turn. IsSomeAnd turn.process (SavesText (record { stamp = stamp; text = text.now }))) }
+) -> Result<SavedExtras, AllocError>
+    ensures { IfOk result (λ extras. IsSomeAnd extras.process (SavesText (record { stamp = stamp; text = text.now }))) }
 {
-    Ok(SavedTurn {
-        process: Some(saved_process(alloc, place, stamp, text)?),
+    Ok(SavedExtras {
+        process: Some(saved_process(alloc, id, stamp, text)?),
         replies: Vec::new(alloc),
     })
 }
@@ -185,18 +185,18 @@ impl<S: Store + Drop> DataFolder<S> {
     fn prepared(
         &self,
         alloc: Global,
-        place: CopyPlace,
+        id: CopyId,
         stamp: SaveStamp,
         stored: &StoredRecord,
     ) -> Result<PreparedSave, Fault>
-        ensures turn { IfOk result (λ prepared. IsSomeAnd prepared.turn.process (SavesText (record { stamp = stamp; text = stored.now.text.items }))) }
+        ensures extras { IfOk result (λ prepared. IsSomeAnd prepared.extras.process (SavesText (record { stamp = stamp; text = stored.now.text.items }))) }
         ensures state { IfOk result (λ prepared. prepared.state ≡ stored.now.state) }
         ensures changes { IfOk result (λ prepared. AreStatesTold self.now.last stored.now.state → LeadTo prepared.changes.items self.now.last.items stored.now.state.items) }
     {
-        let turn = saved_turn(alloc, place, stamp, stored.text.as_slice())?;
+        let extras = saved_extras(alloc, id, stamp, stored.text.as_slice())?;
         let changes = changes_since(alloc, self.last.pages(), stored.state.pages())?;
         Ok(PreparedSave {
-            turn,
+            extras,
             changes,
             state: stored.state.share()?,
         })
@@ -205,27 +205,27 @@ impl<S: Store + Drop> DataFolder<S> {
     /// Writes it. If it cannot be written the file is as it was, unless the disk failed.
     fn write(&mut self, alloc: Global, prepared: PreparedSave) -> Result<(), StoreError>
         requires open { IsClean (S.view self.old.shelf.rows.store) → IsTrue (S.view self.old.shelf.rows.store).is_open }
-        requires fits { RowFits prepared.turn.process }
-        ensures saved { (s : SavedText) → IsSomeAnd prepared.turn.process (SavesText s) → OnOk result (FindsOnly (MayFind (S.view self.new.shelf.rows.store) (S.recovers self.new.shelf.rows.store)) s) }
-        ensures crash { (s : SavedText) → IsSomeAnd prepared.turn.process (SavesText s)
+        requires fits { RowFits prepared.extras.process }
+        ensures saved { (s : SavedText) → IsSomeAnd prepared.extras.process (SavesText s) → OnOk result (FindsOnly (MayFind (S.view self.new.shelf.rows.store) (S.recovers self.new.shelf.rows.store)) s) }
+        ensures crash { (s : SavedText) → IsSomeAnd prepared.extras.process (SavesText s)
             → FindsOldOr (MayFind (S.view self.old.shelf.rows.store) (S.recovers self.old.shelf.rows.store)) (MayFind (S.view self.new.shelf.rows.store) (S.recovers self.new.shelf.rows.store)) s }
-        ensures items { OnOk result ((s : SavedText) → IsSomeAnd prepared.turn.process (SavesText s) → (last : StateView)
+        ensures items { OnOk result ((s : SavedText) → IsSomeAnd prepared.extras.process (SavesText s) → (last : StateView)
             → HasItemsOf (S.view self.old.shelf.rows.store) self.old.shelf.waiting self.old.last last → LeadTo prepared.changes.items last.items prepared.state.items
             → LeavesRecord (CrashLeaves (S.view self.new.shelf.rows.store) (S.recovers self.new.shelf.rows.store))
             (HasItemsOf (S.view self.new.shelf.rows.store) self.new.shelf.waiting self.new.last) s prepared.state) }
-        ensures left { (s : SavedText) → IsSomeAnd prepared.turn.process (SavesText s) → (last : StateView)
+        ensures left { (s : SavedText) → IsSomeAnd prepared.extras.process (SavesText s) → (last : StateView)
             → HasItemsOf (S.view self.old.shelf.rows.store) self.old.shelf.waiting self.old.last last → LeadTo prepared.changes.items last.items prepared.state.items
             → LeavesOldOr (CrashLeaves (S.view self.old.shelf.rows.store) (S.recovers self.old.shelf.rows.store)) (CrashLeaves (S.view self.new.shelf.rows.store) (S.recovers self.new.shelf.rows.store)) s prepared.state }
         ensures stays { OnErr result ((last : StateView) → HasItemsOf (S.view self.old.shelf.rows.store) self.old.shelf.waiting self.old.last last
             → HasItemsOf (S.view self.new.shelf.rows.store) self.new.shelf.waiting self.new.last last) }
     {
         let PreparedSave {
-            turn,
+            extras,
             mut changes,
             state,
         } = prepared;
         let least = quarter_of(state.pages());
-        self.shelf.save(alloc, &turn, &mut changes, least)?;
+        self.shelf.save(alloc, &extras, &mut changes, least)?;
         self.last = state;
         Ok(())
     }
@@ -234,7 +234,7 @@ impl<S: Store + Drop> DataFolder<S> {
     fn save_stored(
         &mut self,
         alloc: Global,
-        place: CopyPlace,
+        id: CopyId,
         stamp: SaveStamp,
         stored: &StoredRecord,
     ) -> Result<(), SaveFault>
@@ -253,7 +253,7 @@ impl<S: Store + Drop> DataFolder<S> {
         if self.has_failed || self.shelf.is_shut() {
             return Err(SaveFault::Disk);
         }
-        match self.prepared(alloc, place, stamp, stored) {
+        match self.prepared(alloc, id, stamp, stored) {
             Ok(prepared) => self
                 .write(alloc, prepared)
                 .map_err(|error| store_fault(error)),
@@ -278,11 +278,11 @@ impl<S: Store + Drop> SaveCopy for DataFolder<S> {
     fn save_copy(
         &mut self,
         alloc: Global,
-        place: CopyPlace,
+        id: CopyId,
         stamp: SaveStamp,
         stored: &StoredRecord,
     ) -> Result<(), SaveFault> {
-        let saved = self.save_stored(alloc, place, stamp, stored);
+        let saved = self.save_stored(alloc, id, stamp, stored);
         self.has_failed = saved == Err(SaveFault::Disk);
         saved
     }

@@ -9,7 +9,7 @@ use crate::fault::DataFault;
 use crate::folder::DataFolder;
 use crate::found_copy::{FoundCopy, Wanted};
 use crate::opening::FolderStore;
-use crate::save_copy::{CopyPlace, SaveCopy};
+use crate::save_copy::{CopyId, SaveCopy};
 use crate::stored_record::StoredRecord;
 use folders::SaveStamp;
 use server::SaveFault;
@@ -55,10 +55,10 @@ impl SaveCopy for HostFolder {
     fn save_copy(
         &mut self,
         alloc: Global,
-        place: CopyPlace,
+        id: CopyId,
         stamp: SaveStamp,
         stored: &StoredRecord,
     ) -> Result<(), SaveFault> {
-        self.folder.save_copy(alloc, place, stamp, stored)
+        self.folder.save_copy(alloc, id, stamp, stored)
     }
 }

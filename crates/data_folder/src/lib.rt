@@ -2,7 +2,7 @@
 //!
 //!     let (mut folder, found) = HostFolder::open(&rt, "/var/lib/eve", wanted, true)?;   // what was saved last, if something was
 //!     let stored = StoredRecord::of(alloc, &record)?;                                  // what is saved of a record
-//!     folder.save_copy(alloc, place, stamp, &stored)?;                                 // then a crash leaves this one
+//!     folder.save_copy(alloc, id, stamp, &stored)?;                                    // then a crash leaves this one
 //!
 //! It is built on `shelf` (the rows of a file, saved together), `item_rows` (where the row of an item is), `process_text`
 //! (the text of a process) and `process_parts` (a record of a process as such a text and one state, and back). The layer
@@ -29,5 +29,5 @@ pub use folder::DataFolder;
 pub use found_copy::{FoundCopy, Wanted};
 pub use host::HostFolder;
 pub use opening::{FILE, FILES, FolderStore};
-pub use save_copy::{CopyPlace, SaveCopy};
+pub use save_copy::{CopyId, SaveCopy};
 pub use stored_record::StoredRecord;

@@ -7,7 +7,7 @@ use std::alloc::Global;
 
 /// Which of several copies of one site's data a folder has.
 #[derive(Clone, Copy, Debug, PartialEq, Eq)]
-pub struct CopyPlace {
+pub struct CopyId {
     /// Which site's data it is. It is written only if there are several folders.
     pub site: u64,
     /// Which of the folders it is, from 0.
@@ -42,7 +42,7 @@ pub trait SaveCopy {
     fn save_copy(
         &mut self,
         alloc: Global,
-        place: CopyPlace,
+        id: CopyId,
         stamp: SaveStamp,
         stored: &StoredRecord,
     ) -> Result<(), SaveFault>

@@ -20,8 +20,8 @@ use std::alloc::{AllocError, Global};
 use token::PAGES;
 use wire::Record;
 
-/// From page to page the places of items are so far apart.
-const PAGE_PLACES: u64 = 1 << 55;
+/// From page to page the row numbers of items are so far apart.
+const PAGE_ROW_NUMBERS: u64 = 1 << 55;
 
 /// Adds entries, which are shared.
 fn share_all(
@@ -34,7 +34,7 @@ fn share_all(
     Ok(())
 }
 
-/// The entries of a page, in the order of their places.
+/// The entries of a page, in the order of their row numbers.
 fn page_entries(
     alloc: Global,
     found: &FoundItems,
@@ -42,9 +42,9 @@ fn page_entries(
 ) -> Result<Vec<Entry<Key, Item>>, AllocError>
     requires { number < page_count }
 {
-    let first = number as u64 * PAGE_PLACES;
+    let first = number as u64 * PAGE_ROW_NUMBERS;
     let mut entries = Vec::new(alloc);
-    for (_, items) in found.range(first..first + PAGE_PLACES) {
+    for (_, items) in found.range(first..first + PAGE_ROW_NUMBERS) {
         share_all(items.as_slice(), &mut entries)?;
     }
     Ok(entries)
@@ -109,16 +109,16 @@ pub fn state_with(alloc: Global, text: &ProcessText, found: &FoundItems) -> Resu
     text.state(alloc, &bytes)
 }
 
-/// Whether these are the items of the state, each at its place. It takes them.
+/// Whether these are the items of the state, each in its row. It takes them.
 fn are_items_of(alloc: Global, found: &mut FoundItems, state: &State) -> Result<bool, AllocError>
     ensures { IfOk result (λ are. IsTrue are → AreStatesTold initial_state state.now → AreRowsOf (rows_found found.old) state.now.items) }
 {
     let none = State::first(alloc)?;
-    let placed = changes_since(alloc, none.pages(), state.pages())?;
-    Ok(are_all(found, &placed))
+    let row_items = changes_since(alloc, none.pages(), state.pages())?;
+    Ok(are_all(found, &row_items))
 }
 
-/// The state, if these are its items, each at its place. `BadRecord`: an item is at another one, where no later save would
+/// The state, if these are its items, each in its row. `BadRecord`: an item is in another one, where no later save would
 /// change it. `NoMemory` is the only other error.
 pub fn with_items(alloc: Global, found: FoundItems, state: State) -> Result<State, Fault>
     ensures same { IfOk result (λ now. now ≡ state) }

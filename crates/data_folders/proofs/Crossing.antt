@@ -13,17 +13,17 @@ use Rattle.folders.proofs.stamp.SaveStamp.TheSendSync as stamp
 use Rattle.server.proofs.save.SaveFault.TheSendSync as fault
 use Rattle.data_folder.specs.declared.save_copy.SaveCopy as saves
 use Rattle.data_folder.proofs.Crossing.{host_send}
-use Rattle.data_folders.proofs.place.FolderPlace.TheSendSync as place
+use Rattle.data_folders.proofs.slot.FolderSlot.TheSendSync as slot
 use Rattle.std.specs.contracts.vec.Vec as vec_row
 use Rattle.std.specs.contracts.alloc.Global as global_row
 use Rattle.std.specs.contracts.impls.GlobalAllocator.TheImpl as global_ghosts
-use Rattle.data_folders.specs.contracts.place.FolderPlace as place_row
+use Rattle.data_folders.specs.contracts.slot.FolderSlot as slot_row
 use Rattle.data_folders.specs.contracts.copies.Copies as copies
 use Rattle.data_folders.specs.contracts.host.HostFolders as folders
 
 ruleset parts = (
-  place.the_field_send,
-  place.the_send,
+  slot.the_field_send,
+  slot.the_send,
   stamp.the_field_send,
   stamp.the_send,
   fault.the_field_send,
@@ -36,11 +36,11 @@ ruleset parts = (
   crosses,
 )
 
-places_send : (F : RattleType) → IsSend F → IsSend (vec_row.the_row (place_row.the_row F) global_row.the_row global_ghosts.ghosts)
-places_send F s = vec.the_send (place_row.the_row F) global_row.the_row global_ghosts.ghosts (place.the_send F s) (search (parts, sendable)) (search (parts, sendable))
+slots_send : (F : RattleType) → IsSend F → IsSend (vec_row.the_row (slot_row.the_row F) global_row.the_row global_ghosts.ghosts)
+slots_send F s = vec.the_send (slot_row.the_row F) global_row.the_row global_ghosts.ghosts (slot.the_send F s) (search (parts, sendable)) (search (parts, sendable))
 
 copies_field : (F : RattleType) (g : saves.Ghosts F.Denot) → IsSend F → IsSend (copies.the_field F g).row
-copies_field F g s = struct_send (shape (copies.the_type F g)) (places_send F s, ((search sendable), ((search (parts, sendable) depth 60 fits 20000), ((search (parts, sendable) depth 60 fits 20000), ((search (parts, sendable) depth 60 fits 20000), tt)))))
+copies_field F g s = struct_send (shape (copies.the_type F g)) (slots_send F s, ((search sendable), ((search (parts, sendable) depth 60 fits 20000), ((search (parts, sendable) depth 60 fits 20000), ((search (parts, sendable) depth 60 fits 20000), tt)))))
 
 -- If each folder may.
 pub copies_send : (F : RattleType) (g : saves.Ghosts F.Denot) → IsSend F → IsSend (copies.the_row F g)

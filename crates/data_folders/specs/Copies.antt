@@ -6,7 +6,7 @@ use Rattle.folders.specs.Folders.{is_later_save, IsMajority, IsNewest}
 use Rattle.service.specs.Record.{RecordView}
 use Rattle.data_folder.specs.Found.{SavedText, FindsOnly, FindsOldOr, FindsCopy}
 use Rattle.data_folder.specs.declared.found_copy.FoundCopy.{FoundCopy}
-use Rattle.data_folders.specs.declared.place.FolderPlace.{FolderPlace}
+use Rattle.data_folders.specs.declared.slot.FolderSlot.{FolderSlot}
 
 -- ---- what a later start finds
 
@@ -23,12 +23,12 @@ pub record BeginsWithNewest (reads : List (Option SavedText)) (text : List ℕ) 
   pub is : slice_index_or reads at None ≡ Some (record { stamp = newest.stamp; text = text })
 
 -- the last save succeeded in it
-abbrev pub is_current : {F : Type 0} → FolderPlace F → Bool
-is_current place = not (is_some place.fault)
+abbrev pub is_current : {F : Type 0} → FolderSlot F → Bool
+is_current slot = not (is_some slot.fault)
 
 -- the last save is in more than half of the folders, or there is one folder
-abbrev pub IsClaimed : {F : Type 0} → List (FolderPlace F) → Type 0
-IsClaimed places = (length places ≡ 1) ⊎ IsMajority (count_by is_current places) (length places)
+abbrev pub IsClaimed : {F : Type 0} → List (FolderSlot F) → Type 0
+IsClaimed slots = (length slots ≡ 1) ⊎ IsMajority (count_by is_current slots) (length slots)
 
 module _ {F : Type 0} (may_find : F → Option SavedText → Type 0) where
   -- what its copy may have; and of a folder that was not opened a save that is not after the first of this start
@@ -37,9 +37,9 @@ module _ {F : Type 0} (may_find : F → Option SavedText → Type 0) where
   MayHave first (Some copy) s = may_find copy (Some s)
 
   -- what may be read of a folder: nothing, since each one may be lost; or what it may have
-  abbrev pub MayRead : SaveStamp → FolderPlace F → Option SavedText → Type 0
-  MayRead first place None = ⊤
-  MayRead first place (Some s) = MayHave first place.copy s
+  abbrev pub MayRead : SaveStamp → FolderSlot F → Option SavedText → Type 0
+  MayRead first slot None = ⊤
+  MayRead first slot (Some s) = MayHave first slot.copy s
 
   -- it may have no copy, if it is open
   abbrev pub MayHaveNone : Option F → Type 0
@@ -47,36 +47,36 @@ module _ {F : Type 0} (may_find : F → Option SavedText → Type 0) where
   MayHaveNone (Some copy) = may_find copy None
 
   -- a start that reads what it may begins with this text
-  pub record FindsAmong (first : SaveStamp) (places : List (FolderPlace F)) (text : List ℕ) : Type 0 where
+  pub record FindsAmong (first : SaveStamp) (slots : List (FolderSlot F)) (text : List ℕ) : Type 0 where
     pub reads : List (Option SavedText)
-    pub may : AllZip (MayRead first) places reads
+    pub may : AllZip (MayRead first) slots reads
     pub begins : BeginsWithNewest reads text
 
   -- what a later start may begin with: a text; or nothing, if no folder has a copy
-  abbrev pub MayFindAmong : SaveStamp → List (FolderPlace F) → Option (List ℕ) → Type 0
-  MayFindAmong first places None = AllByRecursion (λ place. MayHaveNone place.copy) places
-  MayFindAmong first places (Some text) = FindsAmong first places text
+  abbrev pub MayFindAmong : SaveStamp → List (FolderSlot F) → Option (List ℕ) → Type 0
+  MayFindAmong first slots None = AllByRecursion (λ slot. MayHaveNone slot.copy) slots
+  MayFindAmong first slots (Some text) = FindsAmong first slots text
 
   -- ---- what a save does
 
   -- its copy, if it is open, has no later save
-  abbrev pub IsBounded : SaveStamp → FolderPlace F → Type 0
-  IsBounded last place = (copy : F) → place.copy ≡ Some copy → (s : SavedText) → may_find copy (Some s) → is_later_save s.stamp last ≡ false
+  abbrev pub IsBounded : SaveStamp → FolderSlot F → Type 0
+  IsBounded last slot = (copy : F) → slot.copy ≡ Some copy → (s : SavedText) → may_find copy (Some s) → is_later_save s.stamp last ≡ false
 
   -- it has a copy, and only this save may be found in it
-  pub record HoldsSave (s : SavedText) (place : FolderPlace F) : Type 0 where
+  pub record HoldsSave (s : SavedText) (slot : FolderSlot F) : Type 0 where
     pub copy : F
-    pub there : place.copy ≡ Some copy
+    pub there : slot.copy ≡ Some copy
     pub only : FindsOnly (may_find copy) s
 
   -- one folder, before a save of this and after it
-  pub record PlaceSaves (s : SavedText) (old new : FolderPlace F) : Type 0 where
+  pub record SlotSaves (s : SavedText) (old new : FolderSlot F) : Type 0 where
     pub same : is_some new.copy ≡ is_some old.copy
     pub saved : is_current new ≡ true → HoldsSave s new
     pub crash : (before copy : F) → old.copy ≡ Some before → new.copy ≡ Some copy → FindsOldOr (may_find before) (may_find copy) s
 
-  abbrev pub AllSave : SavedText → List (FolderPlace F) → List (FolderPlace F) → Type 0
-  AllSave s old new = AllZip (PlaceSaves s) old new
+  abbrev pub AllSave : SavedText → List (FolderSlot F) → List (FolderSlot F) → Type 0
+  AllSave s old new = AllZip (SlotSaves s) old new
 
   -- ---- what a start has opened
 
@@ -85,8 +85,8 @@ module _ {F : Type 0} (may_find : F → Option SavedText → Type 0) where
   IsFoundIn None found = found ≡ None
   IsFoundIn (Some copy) found = FindsCopy (may_find copy) found
 
-  abbrev pub OpensAs : FolderPlace F → Option FoundCopy → Type 0
-  OpensAs place found = IsFoundIn place.copy found
+  abbrev pub OpensAs : FolderSlot F → Option FoundCopy → Type 0
+  OpensAs slot found = IsFoundIn slot.copy found
 
 abbrev pub found_stamp : Option FoundCopy → Option SaveStamp
 found_stamp None = None
@@ -95,7 +95,7 @@ found_stamp (Some found) = Some found.stamp
 abbrev pub stamps_in : List (Option FoundCopy) → List (Option SaveStamp)
 stamps_in finds = map found_stamp finds
 
--- more than half of the folders were read, and the copy at this place is the newest
+-- more than half of the folders were read, and the copy in this slot is the newest
 pub record IsNewestCopy (finds : List (Option FoundCopy)) (at : ℕ) : Type 0 where
   pub majority : IsMajority (count_by is_some (stamps_in finds)) (length (stamps_in finds))
   pub newest : IsNewest (stamps_in finds) at

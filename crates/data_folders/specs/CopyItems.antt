@@ -8,7 +8,7 @@ use Rattle.service.specs.Record.{RecordView}
 use Rattle.data_folder.specs.Found.{SavedText}
 use Rattle.data_folder.specs.Items.{AreStatesTold, TellsState, LeavesRecord, LeavesOldOr, OpensWith}
 use Rattle.data_folder.specs.declared.found_copy.FoundCopy.{FoundCopy}
-use Rattle.data_folders.specs.declared.place.FolderPlace.{FolderPlace}
+use Rattle.data_folders.specs.declared.slot.FolderSlot.{FolderSlot}
 use Rattle.data_folders.specs.Copies.{is_current}
 
 module _ {F : Type 0} (may_leave : F → Trees → Type 0) (has_items : F → StateView → Type 0) where
@@ -22,25 +22,25 @@ module _ {F : Type 0} (may_leave : F → Trees → Type 0) (has_items : F → St
     pub stays : is_made ≡ false → (last : StateView) → has_items before last → has_items copy last
 
   -- One folder, if it is open.
-  pub record PlaceSavesItems (s : SavedText) (state : StateView) (old new : FolderPlace F) : Type 0 where
+  pub record PlaceSavesItems (s : SavedText) (state : StateView) (old new : FolderSlot F) : Type 0 where
     pub each : (before copy : F) → old.copy ≡ Some before → new.copy ≡ Some copy → CopySavesItems s state (is_current new) before copy
 
-  abbrev pub AllSaveItems : SavedText → StateView → List (FolderPlace F) → List (FolderPlace F) → Type 0
+  abbrev pub AllSaveItems : SavedText → StateView → List (FolderSlot F) → List (FolderSlot F) → Type 0
   AllSaveItems s state old new = AllZip (PlaceSavesItems s state) old new
 
   -- a save of this text and this state in each folder; or nothing was saved in any, and the save has failed
-  abbrev pub SavesStored : List ℕ → StateView → Bool → List (FolderPlace F) → List (FolderPlace F) → Type 0
+  abbrev pub SavesStored : List ℕ → StateView → Bool → List (FolderSlot F) → List (FolderSlot F) → Type 0
   SavesStored text state is_saved old new = ((stamp : SaveStamp) × AllSaveItems (record { stamp = stamp; text = text }) state old new) ⊎ ((is_saved ≡ false) × (new ≡ old))
 
   -- A save in each folder of a text of this record, and of the state that the text tells.
-  pub record SavesRecord (r : RecordView) (old new : List (FolderPlace F)) : Type 0 where
+  pub record SavesRecord (r : RecordView) (old new : List (FolderSlot F)) : Type 0 where
     pub saved : SavedText
     pub state : StateView
     pub is : TellsState r saved.text state
     pub all : AllSaveItems saved state old new
 
   -- that; or nothing was saved in any folder, and the save has failed
-  abbrev pub SavesItems : RecordView → Bool → List (FolderPlace F) → List (FolderPlace F) → Type 0
+  abbrev pub SavesItems : RecordView → Bool → List (FolderSlot F) → List (FolderSlot F) → Type 0
   SavesItems r is_saved old new = SavesRecord r old new ⊎ ((is_saved ≡ false) × (new ≡ old))
 
   -- ---- what a start has opened
@@ -50,9 +50,9 @@ module _ {F : Type 0} (may_leave : F → Trees → Type 0) (has_items : F → St
   HasItemsFound None found = ⊤
   HasItemsFound (Some copy) found = OpensWith (may_leave copy) (has_items copy) found
 
-  abbrev pub OpensItems : FolderPlace F → Option FoundCopy → Type 0
-  OpensItems place found = HasItemsFound place.copy found
+  abbrev pub OpensItems : FolderSlot F → Option FoundCopy → Type 0
+  OpensItems slot found = HasItemsFound slot.copy found
 
   -- a start leaves the folders as they were opened, or saves in each the record with which it begins
-  abbrev pub ClaimsItems : RecordView → List (FolderPlace F) → List (FolderPlace F) → Type 0
-  ClaimsItems r opened places = (places ≡ opened) ⊎ SavesRecord r opened places
+  abbrev pub ClaimsItems : RecordView → List (FolderSlot F) → List (FolderSlot F) → Type 0
+  ClaimsItems r opened slots = (slots ≡ opened) ⊎ SavesRecord r opened slots

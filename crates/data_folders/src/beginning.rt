@@ -8,7 +8,7 @@ ghost use Rattle.data_folders.specs.CopyItems.{ClaimsItems};
 use crate::copies::{Copies, fault_of, is_saved, save_each};
 use crate::fault::FoldersFault;
 use crate::opened::Opened;
-use crate::place::FolderPlace;
+use crate::slot::FolderSlot;
 use data_folder::{DataFault, FoundCopy, SaveCopy, StoredRecord};
 use folders::SaveStamp;
 use service::ServiceRecord;
@@ -20,7 +20,7 @@ fn first_after(stamp: SaveStamp) -> Result<SaveStamp, FoldersFault>
     ensures { IfOk result (λ first. is_later_save first stamp ≡ true) }
 {
     match stamp.start.checked_add(1) {
-        Some(start) => Ok(SaveStamp { start, turn: 0 }),
+        Some(start) => Ok(SaveStamp { start, save: 0 }),
         None => Err(FoldersFault::At(0, DataFault::Damaged)),
     }
 }
@@ -31,28 +31,28 @@ fn first_after(stamp: SaveStamp) -> Result<SaveStamp, FoldersFault>
 fn claim<F: SaveCopy + Send, R: Threads + Sync>(
     rt: &R,
     alloc: Global,
-    places: &mut Vec<FolderPlace<F>>,
+    slots: &mut Vec<FolderSlot<F>>,
     first: SaveStamp,
     found: &FoundCopy,
 ) -> Result<(), FoldersFault>
-    requires bounded { All (IsBounded F.may_find found.now.stamp) places.old.items }
+    requires bounded { All (IsBounded F.may_find found.now.stamp) slots.old.items }
     requires later { is_later_save first found.now.stamp ≡ true }
-    ensures bounded { OnOk result (All (IsBounded F.may_find first) places.new.items) }
-    ensures claimed { OnOk result (IsClaimed places.new.items) }
-    ensures items { OnOk result (ClaimsItems F.may_leave F.has_items found.now.service places.old.items places.new.items) }
+    ensures bounded { OnOk result (All (IsBounded F.may_find first) slots.new.items) }
+    ensures claimed { OnOk result (IsClaimed slots.new.items) }
+    ensures items { OnOk result (ClaimsItems F.may_leave F.has_items found.now.service slots.old.items slots.new.items) }
 {
-    if places.len() == 1 {
+    if slots.len() == 1 {
         return Ok(());
     }
     let stored = match StoredRecord::of(alloc, &found.service) {
         Ok(stored) => stored,
         Err(fault) => return Err(FoldersFault::NotSaved(fault)),
     };
-    save_each(rt, alloc, places, found.site, first, &stored);
-    if is_saved(places) {
+    save_each(rt, alloc, slots, found.site, first, &stored);
+    if is_saved(slots) {
         Ok(())
     } else {
-        Err(FoldersFault::NotSaved(fault_of(places)))
+        Err(FoldersFault::NotSaved(fault_of(slots)))
     }
 }
 
@@ -60,33 +60,33 @@ fn claim<F: SaveCopy + Send, R: Threads + Sync>(
 fn begin_with<F: SaveCopy + Send + Drop, R: Threads + Sync>(
     rt: &R,
     alloc: Global,
-    mut places: Vec<FolderPlace<F>>,
+    mut slots: Vec<FolderSlot<F>>,
     found: FoundCopy,
 ) -> Result<(Copies<F>, ServiceRecord), FoldersFault>
-    requires { All (IsBounded F.may_find found.stamp) places.items }
+    requires { All (IsBounded F.may_find found.stamp) slots.items }
     ensures found { IfOk result (λ begun. begun.1 ≡ found.service) }
-    ensures claimed { IfOk result (λ begun. IsClaimed begun.0.places.items) }
-    ensures items { IfOk result (λ begun. ClaimsItems F.may_leave F.has_items begun.1 places.items begun.0.places.items) }
+    ensures claimed { IfOk result (λ begun. IsClaimed begun.0.slots.items) }
+    ensures items { IfOk result (λ begun. ClaimsItems F.may_leave F.has_items begun.1 slots.items begun.0.slots.items) }
 {
     let first = first_after(found.stamp)?;
-    claim(rt, alloc, &mut places, first, &found)?;
+    claim(rt, alloc, &mut slots, first, &found)?;
     let site = found.site;
-    Ok((Copies::new(places, site, first), found.into_service()))
+    Ok((Copies::new(slots, site, first), found.into_service()))
 }
 
 impl<F: SaveCopy + Send + Drop> Opened<F> {
     /// The folders, none of which has a copy.
     fn begin_empty(self) -> Copies<F>
         requires { All (λ found. found ≡ None) self.finds.items }
-        ensures { result.places ≡ self.places }
+        ensures { result.slots ≡ self.slots }
     {
         let site = self.site;
-        let (places, finds) = self.into_parts();
+        let (slots, finds) = self.into_parts();
         drop(finds);
-        Copies::new(places, site, SaveStamp { start: 1, turn: 0 })
+        Copies::new(slots, site, SaveStamp { start: 1, save: 0 })
     }
 
-    /// Begins with the copy at this place, which is the newest.
+    /// Begins with the copy in this slot, which is the newest.
     fn begin_at<R: Threads + Sync>(
         self,
         rt: &R,
@@ -95,22 +95,22 @@ impl<F: SaveCopy + Send + Drop> Opened<F> {
     ) -> Result<(Copies<F>, ServiceRecord), FoldersFault>
         requires { IsNewestCopy self.finds.items at }
         ensures newest { IfOk result (λ begun. IsNewestRecord self.finds.items begun.1) }
-        ensures claimed { IfOk result (λ begun. IsClaimed begun.0.places.items) }
-        ensures items { IfOk result (λ begun. ClaimsItems F.may_leave F.has_items begun.1 self.places.items begun.0.places.items) }
+        ensures claimed { IfOk result (λ begun. IsClaimed begun.0.slots.items) }
+        ensures items { IfOk result (λ begun. ClaimsItems F.may_leave F.has_items begun.1 self.slots.items begun.0.slots.items) }
     {
-        let (places, mut finds) = self.into_parts();
+        let (slots, mut finds) = self.into_parts();
         let found = finds.swap_remove(at);
         drop(finds);
         match found {
-            Some(found) => begin_with(rt, alloc, places, found),
+            Some(found) => begin_with(rt, alloc, slots, found),
             None => {
-                drop(places);
+                drop(slots);
                 Err(FoldersFault::NoMemory)
             }
         }
     }
 
-    /// Whether the copies that were read are of one site, the one with this place's.
+    /// Whether the copies that were read are of one site, that of the one in this slot.
     fn are_of_one_site(&self, at: usize) -> bool {
         match self.finds.get(at) {
             Some(Some(found)) => self.are_of_site(found.site),
@@ -127,9 +127,9 @@ impl<F: SaveCopy + Send + Drop> Opened<F> {
     ) -> Result<(Copies<F>, Option<ServiceRecord>), FoldersFault>
         ensures newest { IfOk result (λ begun. IfSome begun.1 (IsNewestRecord self.finds.items)) }
         ensures nothing { IfOk result (λ begun. IfNone begun.1 (All (λ found. found ≡ None) self.finds.items)) }
-        ensures claimed { IfOk result (λ begun. IfSome begun.1 (λ _. IsClaimed begun.0.places.items)) }
-        ensures items { IfOk result (λ begun. IfSome begun.1 (λ found. ClaimsItems F.may_leave F.has_items found self.places.items begun.0.places.items)) }
-        ensures empty { IfOk result (λ begun. IfNone begun.1 (begun.0.places ≡ self.places)) }
+        ensures claimed { IfOk result (λ begun. IfSome begun.1 (λ _. IsClaimed begun.0.slots.items)) }
+        ensures items { IfOk result (λ begun. IfSome begun.1 (λ found. ClaimsItems F.may_leave F.has_items found self.slots.items begun.0.slots.items)) }
+        ensures empty { IfOk result (λ begun. IfNone begun.1 (begun.0.slots ≡ self.slots)) }
     {
         if self.is_empty() {
             return Ok((self.begin_empty(), None));
@@ -138,7 +138,7 @@ impl<F: SaveCopy + Send + Drop> Opened<F> {
             Ok(Some(at)) => at,
             Ok(None) => return Err(FoldersFault::TooFew {
                 readable: self.readable(),
-                folders: self.places.len(),
+                folders: self.slots.len(),
             }),
             Err(fault) => return Err(fault.into()),
         };

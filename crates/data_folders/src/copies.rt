@@ -8,9 +8,9 @@ ghost use Rattle.data_folder.specs.Text.{TellsService};
 ghost use Rattle.data_folders.specs.Copies.{is_current, MayFindAmong, IsBounded, AllSave};
 ghost use Rattle.data_folders.specs.CopyItems.{AllSaveItems, SavesStored, SavesItems};
 
-use crate::place::FolderPlace;
-use data_folder::{CopyPlace, SaveCopy, StoredRecord};
-use folders::{SaveStamp, a_saved_turn_is_found};
+use crate::slot::FolderSlot;
+use data_folder::{CopyId, SaveCopy, StoredRecord};
+use folders::{SaveStamp, a_finished_save_is_found};
 use server::{SaveFault, SaveFolders};
 use service::ServiceRecord;
 use std::alloc::Global;
@@ -21,7 +21,7 @@ use std::thread::Threads;
 /// of all.
 pub struct Copies<F: SaveCopy> {
     /// At least one.
-    places: Vec<FolderPlace<F>>,
+    slots: Vec<FolderSlot<F>>,
     /// Which site's data it is. 0 if there is one folder.
     site: u64,
     /// The stamp with which this start began. A folder that was not opened has no later save.
@@ -30,14 +30,14 @@ pub struct Copies<F: SaveCopy> {
     stamp: SaveStamp,
     /// Why the last save failed, if it did.
     fault: Option<SaveFault>,
-    ghost bounded: { All (IsBounded F.may_find stamp) places.items },
+    ghost bounded: { All (IsBounded F.may_find stamp) slots.items },
     ghost begun: { is_later_save first stamp ≡ false },
 }
 
 impl<F: SaveCopy + Drop> Drop for Copies<F> {
     fn drop(self) {
         let Copies {
-            places: _,
+            slots: _,
             site: _,
             first: _,
             stamp: _,
@@ -47,22 +47,22 @@ impl<F: SaveCopy + Drop> Drop for Copies<F> {
 }
 
 /// Whether the last save is in more than half of the folders.
-pub fn is_saved<F>(places: &[FolderPlace<F>]) -> bool
-    ensures { IsTrue result → IsMajority (count_by is_current places.now) (length places.now) }
+pub fn is_saved<F>(slots: &[FolderSlot<F>]) -> bool
+    ensures { IsTrue result → IsMajority (count_by is_current slots.now) (length slots.now) }
 {
-    let current = places.iter().filter(|place| place.is_current()).count();
-    places.len() - current < current
+    let current = slots.iter().filter(|slot| slot.is_current()).count();
+    slots.len() - current < current
 }
 
 /// Why a save failed that more than half of the folders do not have.
-pub fn fault_of<F>(places: &[FolderPlace<F>]) -> SaveFault {
-    let usable = places.iter().filter(|place| place.is_usable()).count();
-    if usable <= places.len() - usable {
+pub fn fault_of<F>(slots: &[FolderSlot<F>]) -> SaveFault {
+    let usable = slots.iter().filter(|slot| slot.is_usable()).count();
+    if usable <= slots.len() - usable {
         return SaveFault::Disk;
     }
-    let lacks = |place: &&FolderPlace<F>| place.is_usable() && !place.is_current();
-    match places.iter().find(lacks) {
-        Some(place) => place.fault.unwrap_or(SaveFault::Disk),
+    let lacks = |slot: &&FolderSlot<F>| slot.is_usable() && !slot.is_current();
+    match slots.iter().find(lacks) {
+        Some(slot) => slot.fault.unwrap_or(SaveFault::Disk),
         None => SaveFault::Disk,
     }
 }
@@ -71,27 +71,27 @@ pub fn fault_of<F>(places: &[FolderPlace<F>]) -> SaveFault {
 fn save_all<F: SaveCopy + Send, R: Threads + Sync>(
     rt: &R,
     alloc: Global,
-    places: &mut [FolderPlace<F>],
+    slots: &mut [FolderSlot<F>],
     site: u64,
     stamp: SaveStamp,
     stored: &StoredRecord,
 )
-    ensures saves { AllSave F.may_find (record { stamp = stamp; text = stored.now.text.items }) places.old places.new }
-    ensures items { AllSaveItems F.may_leave F.has_items (record { stamp = stamp; text = stored.now.text.items }) stored.now.state places.old places.new }
+    ensures saves { AllSave F.may_find (record { stamp = stamp; text = stored.now.text.items }) slots.old slots.new }
+    ensures items { AllSaveItems F.may_leave F.has_items (record { stamp = stamp; text = stored.now.text.items }) stored.now.state slots.old slots.new }
 {
-    let folders = u32::try_from(places.len()).unwrap_or(u32::MAX);
-    let threads = places.len().max(1);
+    let folders = u32::try_from(slots.len()).unwrap_or(u32::MAX);
+    let threads = slots.len().max(1);
     thread::for_each_mut(
         rt,
-        places,
+        slots,
         threads,
-        &|at, place| {
-            let place_of = CopyPlace {
+        &|at, slot| {
+            let id = CopyId {
                 site,
                 folder: u32::try_from(at).unwrap_or(u32::MAX),
                 folders,
             };
-            place.save(alloc, place_of, stamp, stored)
+            slot.save(alloc, id, stamp, stored)
         },
     );
 }
@@ -100,21 +100,21 @@ fn save_all<F: SaveCopy + Send, R: Threads + Sync>(
 pub fn save_each<F: SaveCopy + Send, R: Threads + Sync>(
     rt: &R,
     alloc: Global,
-    places: &mut Vec<FolderPlace<F>>,
+    slots: &mut Vec<FolderSlot<F>>,
     site: u64,
     stamp: SaveStamp,
     stored: &StoredRecord,
 )
-    ensures saves { AllSave F.may_find (record { stamp = stamp; text = stored.now.text.items }) places.old.items places.new.items }
-    ensures items { AllSaveItems F.may_leave F.has_items (record { stamp = stamp; text = stored.now.text.items }) stored.now.state places.old.items places.new.items }
+    ensures saves { AllSave F.may_find (record { stamp = stamp; text = stored.now.text.items }) slots.old.items slots.new.items }
+    ensures items { AllSaveItems F.may_leave F.has_items (record { stamp = stamp; text = stored.now.text.items }) stored.now.state slots.old.items slots.new.items }
 {
-    save_all(rt, alloc, places.as_mut_slice(), site, stamp, stored);
+    save_all(rt, alloc, slots.as_mut_slice(), site, stamp, stored);
 }
 
 /// The first folder that does not have the last save, from 0, and why.
-fn first_behind<F>(places: &[FolderPlace<F>]) -> Option<(usize, SaveFault)> {
-    for (at, place) in places.iter().enumerate() {
-        if let Some(fault) = place.fault {
+fn first_behind<F>(slots: &[FolderSlot<F>]) -> Option<(usize, SaveFault)> {
+    for (at, slot) in slots.iter().enumerate() {
+        if let Some(fault) = slot.fault {
             return Some((at, fault));
         }
     }
@@ -125,21 +125,21 @@ fn first_behind<F>(places: &[FolderPlace<F>]) -> Option<(usize, SaveFault)> {
 fn next_stamp(stamp: SaveStamp) -> Option<SaveStamp>
     ensures { IfSome result (λ next. is_later_save next stamp ≡ true) }
 {
-    let turn = stamp.turn.checked_add(1)?;
+    let save = stamp.save.checked_add(1)?;
     Some(SaveStamp {
         start: stamp.start,
-        turn,
+        save,
     })
 }
 
 impl<F: SaveCopy> Copies<F> {
     /// The folders of a start that begins with this stamp. None of them has a later save.
-    pub fn new(places: Vec<FolderPlace<F>>, site: u64, first: SaveStamp) -> Copies<F>
-        requires { All (IsBounded F.may_find first) places.items }
-        ensures { result.places ≡ places }
+    pub fn new(slots: Vec<FolderSlot<F>>, site: u64, first: SaveStamp) -> Copies<F>
+        requires { All (IsBounded F.may_find first) slots.items }
+        ensures { result.slots ≡ slots }
     {
         Copies {
-            places,
+            slots,
             site,
             first,
             stamp: first,
@@ -154,15 +154,11 @@ impl<F: SaveCopy> Copies<F> {
 
     /// In how many folders it is saved.
     pub fn folders(&self) -> SaveFolders {
-        let current = self
-            .places
-            .iter()
-            .filter(|place| place.is_current())
-            .count();
+        let current = self.slots.iter().filter(|slot| slot.is_current()).count();
         SaveFolders {
-            all: self.places.len() as u64,
+            all: self.slots.len() as u64,
             current: current as u64,
-            behind: first_behind(&self.places),
+            behind: first_behind(&self.slots),
         }
     }
 }
@@ -175,22 +171,22 @@ impl<F: SaveCopy + Send> Copies<F> {
         alloc: Global,
         stored: &StoredRecord,
     ) -> Result<(), SaveFault>
-        ensures saved { OnOk result ((found : Option (List ℕ)) → MayFindAmong F.may_find self.new.first self.new.places.items found → ∥ (found ≡ Some stored.now.text.items) ∥₁) }
-        ensures crash { (found : Option (List ℕ)) → MayFindAmong F.may_find self.new.first self.new.places.items found
-            → MayFindAmong F.may_find self.old.first self.old.places.items found ⊎ ∥ (found ≡ Some stored.now.text.items) ∥₁ }
-        ensures most { OnOk result (IsMajority (count_by is_current self.new.places.items) (length self.new.places.items)) }
-        ensures items { SavesStored F.may_leave F.has_items stored.now.text.items stored.now.state (is_ok result) self.old.places.items self.new.places.items }
+        ensures saved { OnOk result ((found : Option (List ℕ)) → MayFindAmong F.may_find self.new.first self.new.slots.items found → ∥ (found ≡ Some stored.now.text.items) ∥₁) }
+        ensures crash { (found : Option (List ℕ)) → MayFindAmong F.may_find self.new.first self.new.slots.items found
+            → MayFindAmong F.may_find self.old.first self.old.slots.items found ⊎ ∥ (found ≡ Some stored.now.text.items) ∥₁ }
+        ensures most { OnOk result (IsMajority (count_by is_current self.new.slots.items) (length self.new.slots.items)) }
+        ensures items { SavesStored F.may_leave F.has_items stored.now.text.items stored.now.state (is_ok result) self.old.slots.items self.new.slots.items }
     {
         let Some(stamp) = next_stamp(self.stamp) else {
             return Err(SaveFault::Unstorable);
         };
-        save_each(rt, alloc, &mut self.places, self.site, stamp, stored);
+        save_each(rt, alloc, &mut self.slots, self.site, stamp, stored);
         self.stamp = stamp;
-        a_saved_turn_is_found();
-        if is_saved(&self.places) {
+        a_finished_save_is_found();
+        if is_saved(&self.slots) {
             Ok(())
         } else {
-            Err(fault_of(&self.places))
+            Err(fault_of(&self.slots))
         }
     }
 
@@ -201,11 +197,11 @@ impl<F: SaveCopy + Send> Copies<F> {
         alloc: Global,
         kept: &ServiceRecord,
     ) -> Result<(), SaveFault>
-        ensures saved { OnOk result ((found : Option (List ℕ)) → MayFindAmong F.may_find self.new.first self.new.places.items found → IsFoundOf TellsService kept.now found) }
-        ensures crash { (found : Option (List ℕ)) → MayFindAmong F.may_find self.new.first self.new.places.items found
-            → MayFindAmong F.may_find self.old.first self.old.places.items found ⊎ IsFoundOf TellsService kept.now found }
-        ensures most { OnOk result (IsMajority (count_by is_current self.new.places.items) (length self.new.places.items)) }
-        ensures items { SavesItems F.may_leave F.has_items kept.now (is_ok result) self.old.places.items self.new.places.items }
+        ensures saved { OnOk result ((found : Option (List ℕ)) → MayFindAmong F.may_find self.new.first self.new.slots.items found → IsFoundOf TellsService kept.now found) }
+        ensures crash { (found : Option (List ℕ)) → MayFindAmong F.may_find self.new.first self.new.slots.items found
+            → MayFindAmong F.may_find self.old.first self.old.slots.items found ⊎ IsFoundOf TellsService kept.now found }
+        ensures most { OnOk result (IsMajority (count_by is_current self.new.slots.items) (length self.new.slots.items)) }
+        ensures items { SavesItems F.may_leave F.has_items kept.now (is_ok result) self.old.slots.items self.new.slots.items }
     {
         match StoredRecord::of(alloc, kept) {
             Ok(stored) => self.save_stored(rt, alloc, &stored),
@@ -215,11 +211,11 @@ impl<F: SaveCopy + Send> Copies<F> {
 
     /// Saves the record in each folder that is open: whether more than half of all have it then.
     pub fn save<R: Threads + Sync>(&mut self, rt: &R, alloc: Global, kept: &ServiceRecord) -> bool
-        ensures saved { IsTrue result → (found : Option (List ℕ)) → MayFindAmong F.may_find self.new.first self.new.places.items found → IsFoundOf TellsService kept.now found }
-        ensures crash { (found : Option (List ℕ)) → MayFindAmong F.may_find self.new.first self.new.places.items found
-            → MayFindAmong F.may_find self.old.first self.old.places.items found ⊎ IsFoundOf TellsService kept.now found }
-        ensures most { IsTrue result → IsMajority (count_by is_current self.new.places.items) (length self.new.places.items) }
-        ensures items { SavesItems F.may_leave F.has_items kept.now result self.old.places.items self.new.places.items }
+        ensures saved { IsTrue result → (found : Option (List ℕ)) → MayFindAmong F.may_find self.new.first self.new.slots.items found → IsFoundOf TellsService kept.now found }
+        ensures crash { (found : Option (List ℕ)) → MayFindAmong F.may_find self.new.first self.new.slots.items found
+            → MayFindAmong F.may_find self.old.first self.old.slots.items found ⊎ IsFoundOf TellsService kept.now found }
+        ensures most { IsTrue result → IsMajority (count_by is_current self.new.slots.items) (length self.new.slots.items) }
+        ensures items { SavesItems F.may_leave F.has_items kept.now result self.old.slots.items self.new.slots.items }
     {
         match self.save_record(rt, alloc, kept) {
             Ok(()) => {
@@ -241,11 +237,11 @@ fn save_lent<F: SaveCopy + Send, R: Threads + Sync>(
     alloc: Global,
     kept: &mut ServiceRecord,
 ) -> bool
-    ensures saved { IsTrue result → (found : Option (List ℕ)) → MayFindAmong F.may_find copies.new.first copies.new.places.items found → IsFoundOf TellsService kept.old found }
-    ensures crash { (found : Option (List ℕ)) → MayFindAmong F.may_find copies.new.first copies.new.places.items found
-        → MayFindAmong F.may_find copies.old.first copies.old.places.items found ⊎ IsFoundOf TellsService kept.old found }
-    ensures most { IsTrue result → IsMajority (count_by is_current copies.new.places.items) (length copies.new.places.items) }
-    ensures items { SavesItems F.may_leave F.has_items kept.old result copies.old.places.items copies.new.places.items }
+    ensures saved { IsTrue result → (found : Option (List ℕ)) → MayFindAmong F.may_find copies.new.first copies.new.slots.items found → IsFoundOf TellsService kept.old found }
+    ensures crash { (found : Option (List ℕ)) → MayFindAmong F.may_find copies.new.first copies.new.slots.items found
+        → MayFindAmong F.may_find copies.old.first copies.old.slots.items found ⊎ IsFoundOf TellsService kept.old found }
+    ensures most { IsTrue result → IsMajority (count_by is_current copies.new.slots.items) (length copies.new.slots.items) }
+    ensures items { SavesItems F.may_leave F.has_items kept.old result copies.old.slots.items copies.new.slots.items }
 {
     copies.save(rt, alloc, kept)
 }
@@ -261,21 +257,21 @@ pub fn save_apart<F: SaveCopy + Send, R: Threads + Sync, W: FnMut()>(
     requires sync { IsSync R.row }
     requires pre { W.pre work.old }
     ensures worked { W.step work.old tt work.new }
-    ensures saved { IsTrue result → (found : Option (List ℕ)) → MayFindAmong F.may_find copies.new.first copies.new.places.items found → IsFoundOf TellsService kept.old found }
-    ensures crash { (found : Option (List ℕ)) → MayFindAmong F.may_find copies.new.first copies.new.places.items found
-        → MayFindAmong F.may_find copies.old.first copies.old.places.items found ⊎ IsFoundOf TellsService kept.old found }
-    ensures most { IsTrue result → IsMajority (count_by is_current copies.new.places.items) (length copies.new.places.items) }
-    ensures items { SavesItems F.may_leave F.has_items kept.old result copies.old.places.items copies.new.places.items }
+    ensures saved { IsTrue result → (found : Option (List ℕ)) → MayFindAmong F.may_find copies.new.first copies.new.slots.items found → IsFoundOf TellsService kept.old found }
+    ensures crash { (found : Option (List ℕ)) → MayFindAmong F.may_find copies.new.first copies.new.slots.items found
+        → MayFindAmong F.may_find copies.old.first copies.old.slots.items found ⊎ IsFoundOf TellsService kept.old found }
+    ensures most { IsTrue result → IsMajority (count_by is_current copies.new.slots.items) (length copies.new.slots.items) }
+    ensures items { SavesItems F.may_leave F.has_items kept.old result copies.old.slots.items copies.new.slots.items }
 {
     let (is_saved, _) = thread::join_mut(
         rt,
         &mut || -> bool
             requires { IsSync R.row }
-            ensures saved { IsTrue result → (found : Option (List ℕ)) → MayFindAmong F.may_find copies.exit.now.first copies.exit.now.places.items found → IsFoundOf TellsService kept.entry.now found }
-            ensures crash { (found : Option (List ℕ)) → MayFindAmong F.may_find copies.exit.now.first copies.exit.now.places.items found
-                → MayFindAmong F.may_find copies.entry.now.first copies.entry.now.places.items found ⊎ IsFoundOf TellsService kept.entry.now found }
-            ensures most { IsTrue result → IsMajority (count_by is_current copies.exit.now.places.items) (length copies.exit.now.places.items) }
-            ensures items { SavesItems F.may_leave F.has_items kept.entry.now result copies.entry.now.places.items copies.exit.now.places.items }
+            ensures saved { IsTrue result → (found : Option (List ℕ)) → MayFindAmong F.may_find copies.exit.now.first copies.exit.now.slots.items found → IsFoundOf TellsService kept.entry.now found }
+            ensures crash { (found : Option (List ℕ)) → MayFindAmong F.may_find copies.exit.now.first copies.exit.now.slots.items found
+                → MayFindAmong F.may_find copies.entry.now.first copies.entry.now.slots.items found ⊎ IsFoundOf TellsService kept.entry.now found }
+            ensures most { IsTrue result → IsMajority (count_by is_current copies.exit.now.slots.items) (length copies.exit.now.slots.items) }
+            ensures items { SavesItems F.may_leave F.has_items kept.entry.now result copies.entry.now.slots.items copies.exit.now.slots.items }
         { save_lent(copies, rt, alloc, kept) },
         work,
     );

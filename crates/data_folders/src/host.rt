@@ -37,9 +37,9 @@ impl HostFolders {
     ) -> Result<(HostFolders, Option<ServiceRecord>), FoldersFault>
         ensures newest { IfOk result (λ begun. IfSome begun.1 (IsNewestRecord opened.finds.items)) }
         ensures nothing { IfOk result (λ begun. IfNone begun.1 (All (λ found. found ≡ None) opened.finds.items)) }
-        ensures claimed { IfOk result (λ begun. IfSome begun.1 (λ _. IsClaimed begun.0.copies.places.items)) }
-        ensures items { IfOk result (λ begun. IfSome begun.1 (λ found. ClaimsItems host_may_leave host_has_items found opened.places.items begun.0.copies.places.items)) }
-        ensures empty { IfOk result (λ begun. IfNone begun.1 (begun.0.copies.places ≡ opened.places)) }
+        ensures claimed { IfOk result (λ begun. IfSome begun.1 (λ _. IsClaimed begun.0.copies.slots.items)) }
+        ensures items { IfOk result (λ begun. IfSome begun.1 (λ found. ClaimsItems host_may_leave host_has_items found opened.slots.items begun.0.copies.slots.items)) }
+        ensures empty { IfOk result (λ begun. IfNone begun.1 (begun.0.copies.slots ≡ opened.slots)) }
     {
         match opened.begin(rt, alloc) {
             Ok((copies, found)) => Ok((HostFolders { copies }, found)),
@@ -54,7 +54,7 @@ impl Save for HostFolders {
     ghost use Rattle.folders.specs.Folders.{IsMajority};
     ghost use Rattle.server.specs.Durable.{IsFoundOf};
 
-    ghost may_find = { λ f found. MayFindAmong host_may_find f.copies.first f.copies.places.items found };
+    ghost may_find = { λ f found. MayFindAmong host_may_find f.copies.first f.copies.slots.items found };
 
     ghost is_text = { TellsService };
 
@@ -69,11 +69,11 @@ impl Save for HostFolders {
     /// Of each folder the clause `items` says which items its file has then, and what a crash leaves meanwhile.
     fn save<R: Threads + Sync>(&mut self, rt: &R, alloc: Global, kept: &ServiceRecord) -> bool
         requires { IsSync R.row }
-        ensures saved { IsTrue result → (found : Option (List ℕ)) → MayFindAmong host_may_find self.new.copies.first self.new.copies.places.items found → IsFoundOf TellsService kept.now found }
-        ensures crash { (found : Option (List ℕ)) → MayFindAmong host_may_find self.new.copies.first self.new.copies.places.items found
-            → MayFindAmong host_may_find self.old.copies.first self.old.copies.places.items found ⊎ IsFoundOf TellsService kept.now found }
-        ensures most { IsTrue result → IsMajority (count_by is_current self.new.copies.places.items) (length self.new.copies.places.items) }
-        ensures items { SavesItems host_may_leave host_has_items kept.now result self.old.copies.places.items self.new.copies.places.items }
+        ensures saved { IsTrue result → (found : Option (List ℕ)) → MayFindAmong host_may_find self.new.copies.first self.new.copies.slots.items found → IsFoundOf TellsService kept.now found }
+        ensures crash { (found : Option (List ℕ)) → MayFindAmong host_may_find self.new.copies.first self.new.copies.slots.items found
+            → MayFindAmong host_may_find self.old.copies.first self.old.copies.slots.items found ⊎ IsFoundOf TellsService kept.now found }
+        ensures most { IsTrue result → IsMajority (count_by is_current self.new.copies.slots.items) (length self.new.copies.slots.items) }
+        ensures items { SavesItems host_may_leave host_has_items kept.now result self.old.copies.slots.items self.new.copies.slots.items }
     {
         self.copies.save(rt, alloc, kept)
     }
@@ -89,11 +89,11 @@ impl Save for HostFolders {
         requires sync { IsSync R.row }
         requires pre { F.pre work.old }
         ensures worked { F.step work.old tt work.new }
-        ensures saved { IsTrue result → (found : Option (List ℕ)) → MayFindAmong host_may_find self.new.copies.first self.new.copies.places.items found → IsFoundOf TellsService kept.old found }
-        ensures crash { (found : Option (List ℕ)) → MayFindAmong host_may_find self.new.copies.first self.new.copies.places.items found
-            → MayFindAmong host_may_find self.old.copies.first self.old.copies.places.items found ⊎ IsFoundOf TellsService kept.old found }
-        ensures most { IsTrue result → IsMajority (count_by is_current self.new.copies.places.items) (length self.new.copies.places.items) }
-        ensures items { SavesItems host_may_leave host_has_items kept.old result self.old.copies.places.items self.new.copies.places.items }
+        ensures saved { IsTrue result → (found : Option (List ℕ)) → MayFindAmong host_may_find self.new.copies.first self.new.copies.slots.items found → IsFoundOf TellsService kept.old found }
+        ensures crash { (found : Option (List ℕ)) → MayFindAmong host_may_find self.new.copies.first self.new.copies.slots.items found
+            → MayFindAmong host_may_find self.old.copies.first self.old.copies.slots.items found ⊎ IsFoundOf TellsService kept.old found }
+        ensures most { IsTrue result → IsMajority (count_by is_current self.new.copies.slots.items) (length self.new.copies.slots.items) }
+        ensures items { SavesItems host_may_leave host_has_items kept.old result self.old.copies.slots.items self.new.copies.slots.items }
     {
         save_apart(&mut self.copies, rt, alloc, kept, work)
     }

@@ -20,11 +20,11 @@ mod fault;
 mod host;
 mod opened;
 mod opening;
-mod place;
+mod slot;
 
 pub use copies::Copies;
 pub use fault::FoldersFault;
 pub use host::HostFolders;
 pub use opened::Opened;
 pub use opening::{FolderTrouble, FoldersOptions, open_folders};
-pub use place::FolderPlace;
+pub use slot::FolderSlot;

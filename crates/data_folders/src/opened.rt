@@ -7,7 +7,7 @@ ghost use Rattle.data_folder.specs.Items.{OpensWith};
 ghost use Rattle.data_folders.specs.Copies.{OpensAs, IsFoundIn, found_stamp, stamps_in, IsNewestCopy};
 ghost use Rattle.data_folders.specs.CopyItems.{OpensItems, HasItemsFound};
 
-use crate::place::FolderPlace;
+use crate::slot::FolderSlot;
 use data_folder::{DataFault, FoundCopy, SaveCopy};
 use folders::{SaveStamp, newest};
 use server::SaveFault;
@@ -15,18 +15,18 @@ use std::alloc::{AllocError, Global};
 
 /// The folders of a start, and what was found in each.
 pub struct Opened<F: SaveCopy> {
-    pub places: Vec<FolderPlace<F>>,
+    pub slots: Vec<FolderSlot<F>>,
     pub finds: Vec<Option<FoundCopy>>,
     /// Which site's data folders without a copy will have.
     pub site: u64,
-    ghost pairs: { ∥ AllZip (OpensAs F.may_find) places.items finds.items ∥₁ },
-    ghost items: { ∥ AllZip (OpensItems F.may_leave F.has_items) places.items finds.items ∥₁ },
+    ghost pairs: { ∥ AllZip (OpensAs F.may_find) slots.items finds.items ∥₁ },
+    ghost items: { ∥ AllZip (OpensItems F.may_leave F.has_items) slots.items finds.items ∥₁ },
 }
 
 impl<F: SaveCopy + Drop> Drop for Opened<F> {
     fn drop(self) {
         let Opened {
-            places: _,
+            slots: _,
             finds: _,
             site: _,
         } = self;
@@ -63,23 +63,23 @@ impl<F: SaveCopy + Drop> Opened<F> {
         ensures { result.finds.items ≡ [] }
     {
         Opened {
-            places: Vec::new(alloc),
+            slots: Vec::new(alloc),
             finds: Vec::new(alloc),
             site,
         }
     }
 
     /// The folders, and what was found in each.
-    pub fn into_parts(self) -> (Vec<FolderPlace<F>>, Vec<Option<FoundCopy>>)
-        ensures places { result.0 ≡ self.places }
+    pub fn into_parts(self) -> (Vec<FolderSlot<F>>, Vec<Option<FoundCopy>>)
+        ensures slots { result.0 ≡ self.slots }
         ensures finds { result.1 ≡ self.finds }
     {
         let Opened {
-            places,
+            slots,
             finds,
             site: _,
         } = self;
-        (places, finds)
+        (slots, finds)
     }
 
     /// One more folder, and what was found in it. `None`: it is not open.
@@ -88,13 +88,13 @@ impl<F: SaveCopy + Drop> Opened<F> {
         requires items { HasItemsFound F.may_leave F.has_items copy found }
         ensures { OnOk result (self.new.finds.items ≡ self.old.finds.items ++ found ∷ []) }
     {
-        self.places.reserve(1)?;
+        self.slots.reserve(1)?;
         self.finds.reserve(1)?;
-        let place = FolderPlace {
+        let slot = FolderSlot {
             copy,
             fault: Some(SaveFault::Disk),
         };
-        self.places.push_reserved(place);
+        self.slots.push_reserved(slot);
         self.finds.push_reserved(found);
         Ok(())
     }
@@ -109,7 +109,7 @@ impl<F: SaveCopy + Drop> Opened<F> {
         ensures { IsTrue result → All (λ found. found ≡ None) self.now.finds.items }
     {
         self.finds.iter().all(|found| found.is_none())
-            && self.places.iter().all(|place| place.copy.is_some())
+            && self.slots.iter().all(|slot| slot.copy.is_some())
     }
 
     /// Which folder has the newest copy, if copies were read in more than half of them.
@@ -131,8 +131,8 @@ impl<F: SaveCopy + Drop> Opened<F> {
         requires items { HasItemsFound F.may_leave F.has_items (Some copy) None }
         ensures { self.new.finds ≡ self.old.finds }
     {
-        if at < self.places.len() && at < self.finds.len() && self.finds[at].is_none() {
-            self.places[at].copy = Some(copy);
+        if at < self.slots.len() && at < self.finds.len() && self.finds[at].is_none() {
+            self.slots[at].copy = Some(copy);
         } else {
             drop(copy);
         }

@@ -48,7 +48,7 @@ fn may_be_lost(fault: DataFault) -> bool {
     }
 }
 
-/// Whether a new file may take the place of what has this fault.
+/// Whether a new file may replace what has this fault.
 fn may_be_renewed(fault: DataFault) -> bool {
     match fault {
         DataFault::NoData | DataFault::Damaged => true,
@@ -97,7 +97,7 @@ fn open_one(
 ) -> Result<(), FoldersFault>
     ensures { OnOk result (length opened.new.finds.items ≡ length opened.old.finds.items + 1) }
 {
-    let at = opened.places.len();
+    let at = opened.slots.len();
     match HostFolder::open(rt, folder, wanted, syncs) {
         Ok((copy, found)) => Ok(opened.push(Some(copy), found)?),
         Err(fault) if 1 < wanted.folders && !wanted.is_new && may_be_lost(fault) => {
@@ -112,7 +112,7 @@ fn open_one(
     }
 }
 
-/// Makes a new file in the folder at this place, which is not open. What was there is set aside.
+/// Makes a new file in the folder of this slot, which is not open. What was there is set aside.
 fn renew_one(
     rt: &HostRuntime,
     folder: &str,

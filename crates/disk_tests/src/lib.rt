@@ -1,7 +1,7 @@
 //! Tests of records on disk, over files in memory: rows of items and back, a crash at each call of the disk with each
 //! content that it may leave, and damage at each byte.
 //!
-//! What has to be there after so many saves is worked out from the saves by plain arrays (`turns::content_after`).
+//! What has to be there after so many saves is worked out from the saves by plain arrays (`saves::content_after`).
 #![tactic(auto)]
 
 #[cfg(test)]
@@ -15,4 +15,4 @@ mod of_rows;
 #[cfg(test)]
 mod samples;
 #[cfg(test)]
-mod turns;
+mod saves;

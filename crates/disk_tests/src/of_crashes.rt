@@ -7,7 +7,7 @@
 ghost use Rattle.std.specs.Prelude.{◌≡◌};
 
 use crate::files::{Image, TestDisk, TestRows, image_of, made, opened};
-use crate::turns::{Content, TURNS, content_after, content_of, save_all};
+use crate::saves::{Content, SAVES, content_after, content_of, save_all};
 use row_store::crash_and_reopen;
 use sqlite_disk::Crash;
 use std::alloc::Global;
@@ -19,7 +19,7 @@ fn is_old_or_new(content: Option<Content>, saved: u8) -> bool {
     content == Some(content_after(saved)) || content == Some(content_after(saved.wrapping_add(1)))
 }
 
-/// Saves turn after turn, stops, and opens again: how many were saved, and what is there.
+/// Makes save after save, stops, and opens again: how many were saved, and what is there.
 fn crashed(alloc: Global, mut rows: TestRows) -> (Option<u8>, Option<Content>)
     requires { rows.tables ≡ 2 }
 {
@@ -30,7 +30,7 @@ fn crashed(alloc: Global, mut rows: TestRows) -> (Option<u8>, Option<Content>)
     }
 }
 
-/// Stops the files at these calls, and opens them again. Whether all turns were saved before.
+/// Stops the files at these calls, and opens them again. Whether all saves were made before.
 fn stopped_at(rt: &impl Abort, alloc: Global, log_calls: u64, db_calls: u64) -> Result<bool, Fail> {
     let Some(rows) = made(alloc, log_calls, db_calls)? else {
         return Ok(false);
@@ -41,7 +41,7 @@ fn stopped_at(rt: &impl Abort, alloc: Global, log_calls: u64, db_calls: u64) -> 
         is_old_or_new(content, saved),
         "{log_calls} {db_calls}: {content:?}"
     );
-    Ok(saved == TURNS)
+    Ok(saved == SAVES)
 }
 
 #[test]
@@ -176,8 +176,8 @@ fn open_each(rt: &impl Abort, alloc: Global, left: &Left) -> Result<usize, Fail>
     Ok(choices)
 }
 
-/// Opens all that the files may have after they stopped at these calls. How many choices there were; `None`: all turns
-/// were saved before.
+/// Opens all that the files may have after they stopped at these calls. How many choices there were; `None`: all saves
+/// were made before.
 fn open_left(
     rt: &impl Abort,
     alloc: Global,
@@ -185,7 +185,7 @@ fn open_left(
     db_calls: u64,
 ) -> Result<Option<usize>, Fail> {
     match left_at(alloc, log_calls, db_calls)? {
-        Some(left) if left.saved == TURNS => Ok(None),
+        Some(left) if left.saved == SAVES => Ok(None),
         Some(left) => Ok(Some(open_each(rt, alloc, &left)?)),
         None => Ok(Some(0)),
     }

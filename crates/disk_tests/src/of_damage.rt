@@ -2,20 +2,20 @@
 //! save made.
 
 use crate::files::{Image, image_of, made, opened};
-use crate::turns::{TURNS, content_of, is_of_a_turn, save_all};
+use crate::saves::{SAVES, content_of, is_of_a_save, save_all};
 use std::alloc::Global;
 use std::process::Abort;
 use std::test::Fail;
 
-/// The log and the file after all turns.
+/// The log and the file after all saves.
 fn written(alloc: Global) -> Result<(Image, Image), Fail> {
     let Some(mut rows) = made(alloc, u64::MAX, u64::MAX)? else {
         return Err("it is not made".into());
     };
     let saved = save_all(alloc, &mut rows);
     let files = rows.into_store().close();
-    if saved != Some(TURNS) {
-        return Err("not all turns are saved".into());
+    if saved != Some(SAVES) {
+        return Err("not all saves succeeded".into());
     }
     Ok((
         short(image_of(alloc, &files.log)?),
@@ -40,7 +40,7 @@ fn is_told(rt: &impl Abort, alloc: Global, log: &Image, db: &Image) -> Result<bo
     };
     match content_of(alloc, &mut rows) {
         Some(content) => {
-            assert!(rt; is_of_a_turn(content, TURNS));
+            assert!(rt; is_of_a_save(content, SAVES));
             Ok(false)
         }
         None => Ok(true),

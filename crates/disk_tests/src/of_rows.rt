@@ -1,7 +1,7 @@
-//! Rows of items: places that another program worked out, rows that are read back, and rows that are none of an item.
+//! Rows of items: row numbers that another program worked out, rows that are read back, and rows that are none of an item.
 
 use crate::samples::{item, item_row, key_of};
-use item_rows::{item_of, place_of, row_of};
+use item_rows::{item_of, row_number_of, row_of};
 use items::Item;
 use proto::{Block, Fault, MOST_BLOCK_BYTES};
 use sqlite_value::row::Row;
@@ -9,8 +9,8 @@ use sqlite_value::value::ValueRef;
 use std::alloc::Global;
 use std::test::Fail;
 
-/// Keys with their places, by Python's `hashlib`.
-const PLACES: [(&[u8], i64); 5] = [
+/// Keys with their row numbers, by Python's `hashlib`.
+const ROW_NUMBERS: [(&[u8], i64); 5] = [
     (b"a", 3_523_305_573_798_186_462),
     (b"key", 2_636_356_688_071_688_995),
     (b"session:17", 5_990_849_833_401_981_321),
@@ -19,10 +19,10 @@ const PLACES: [(&[u8], i64); 5] = [
 ];
 
 #[test]
-fn places_are_pages_and_paths(rt: HostRuntime) -> Result<(), Fail> {
-    for (bytes, place) in PLACES {
+fn row_numbers_are_pages_and_paths(rt: HostRuntime) -> Result<(), Fail> {
+    for (bytes, row_number) in ROW_NUMBERS {
         let key = key_of(rt.alloc(), bytes)?;
-        assert_eq!(rt; place_of(&key), place);
+        assert_eq!(rt; row_number_of(&key), row_number);
     }
     Ok(())
 }

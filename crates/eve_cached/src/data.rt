@@ -1,7 +1,7 @@
 //! The folders in which all that is answered is saved first.
 
 use crate::{DISK_FAILED, IN_USE, NO_DATA, REFUSED};
-use daemon::{DataPlace, NO_TARGET, Settings, Stamped, tell_trouble};
+use daemon::{DataSettings, NO_TARGET, Settings, Stamped, tell_trouble};
 use data_folder::{DataFault, HostFolder};
 use data_folders::{
     FolderTrouble, FoldersFault, FoldersOptions, HostFolders, Opened, open_folders,
@@ -47,7 +47,7 @@ pub enum Data {
 /// Tells why the folders cannot be used. The program's status.
 fn refused<R: Clock + Eprint>(rt: &R, settings: &Settings, fault: FoldersFault) -> u8 {
     let path = match (fault, &settings.data) {
-        (FoldersFault::At(at, _), Some(place)) => place.paths.get(at),
+        (FoldersFault::At(at, _), Some(data)) => data.paths.get(at),
         _ => None,
     };
     match path {
@@ -58,9 +58,9 @@ fn refused<R: Clock + Eprint>(rt: &R, settings: &Settings, fault: FoldersFault) 
 }
 
 /// Tells which folders could not be read as they were.
-fn tell_troubles(rt: &HostRuntime, place: &DataPlace, troubles: &[FolderTrouble]) {
+fn tell_troubles(rt: &HostRuntime, data: &DataSettings, troubles: &[FolderTrouble]) {
     for trouble in troubles {
-        if let Some(path) = place.paths.get(trouble.folder) {
+        if let Some(path) = data.paths.get(trouble.folder) {
             tell_trouble(
                 &Stamped(rt),
                 path.as_str(),
@@ -72,19 +72,19 @@ fn tell_troubles(rt: &HostRuntime, place: &DataPlace, troubles: &[FolderTrouble]
 }
 
 /// Opens the folders. The log tells which cannot be read as they were.
-fn open_places(
+fn open_all(
     rt: &HostRuntime,
     settings: &Settings,
-    place: &DataPlace,
+    data: &DataSettings,
 ) -> Result<Opened<HostFolder>, u8> {
     let options = FoldersOptions {
-        is_new: place.is_new,
+        is_new: data.is_new,
         u: settings.u,
-        syncs: place.syncs,
+        syncs: data.syncs,
     };
     let mut troubles = Vec::new(rt.alloc());
-    let opened = open_folders(rt, place.paths.as_slice(), options, &mut troubles);
-    tell_troubles(rt, place, &troubles);
+    let opened = open_folders(rt, data.paths.as_slice(), options, &mut troubles);
+    tell_troubles(rt, data, &troubles);
     match opened {
         Ok(opened) => Ok(opened),
         Err(fault) => Err(refused(rt, settings, fault)),
@@ -94,7 +94,7 @@ fn open_places(
 /// The folders of the settings, opened, if they have some. If they cannot be used the log tells why.
 pub fn open_data(rt: &HostRuntime, settings: &Settings) -> Result<Option<Opened<HostFolder>>, u8> {
     match &settings.data {
-        Some(place) => Ok(Some(open_places(rt, settings, place)?)),
+        Some(data) => Ok(Some(open_all(rt, settings, data)?)),
         None => Ok(None),
     }
 }

@@ -77,7 +77,7 @@ fn is_other_file<R: Files>(rt: &R, path: &str) -> bool {
     }
 }
 
-/// A listener for clients at this place. The log tells where, or why there is none.
+/// A listener for clients at this address. The log tells where, or why there is none.
 fn listener<R: Net<Listener = TcpListener, Stream = TcpStream> + Clock + Files + Eprint>(
     rt: &R,
     listen: &Listen,
@@ -109,15 +109,15 @@ fn listener<R: Net<Listener = TcpListener, Stream = TcpStream> + Clock + Files +
     }
 }
 
-/// A listener at each place. The log tells where.
+/// A listener at each address. The log tells where.
 fn listeners<R: Net<Listener = TcpListener, Stream = TcpStream> + Clock + Files + Eprint>(
     rt: &R,
     alloc: Global,
-    places: &[Listen],
+    addresses: &[Listen],
 ) -> Result<Vec<Listener>, u8> {
     let mut all = Vec::new(alloc);
-    for place in places {
-        if all.push(listener(rt, place)?).is_err() {
+    for address in addresses {
+        if all.push(listener(rt, address)?).is_err() {
             return Err(REFUSED);
         }
     }

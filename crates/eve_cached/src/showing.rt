@@ -67,7 +67,7 @@ impl Watch for Shown {
     }
 }
 
-/// Answers whoever asks, until it is to end. After a round that failed, as at the limit on descriptors, it rests for a
+/// Answers whoever asks, until it is to end. After a pass that failed, as at the limit on descriptors, it rests for a
 /// second.
 fn answer_until_end<R: Wait + Clock>(rt: &R, server: &mut StatusServer, shown: &Shown) {
     let patience = Duration::from_secs(PATIENCE);
@@ -75,7 +75,7 @@ fn answer_until_end<R: Wait + Clock>(rt: &R, server: &mut StatusServer, shown: &
         if shown.has_ended() {
             return;
         }
-        if server.round(rt, shown, Some(patience)).is_err() {
+        if server.pass(rt, shown, Some(patience)).is_err() {
             thread::sleep(rt, patience);
         }
     }

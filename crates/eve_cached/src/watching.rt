@@ -118,7 +118,7 @@ impl<'a> Known<'a> {
                 item_bytes: settings.max_bytes,
             },
             folders: match &settings.data {
-                Some(place) => place.paths.as_slice(),
+                Some(data) => data.paths.as_slice(),
                 None => &[],
             },
             is_found,

@@ -15,7 +15,7 @@ use Rattle.event_loop.specs.declared.message.Heard.{Heard}
 use Rattle.event_loop.specs.declared.message.TheConstants.{MOST_UNWRITTEN}
 use Rattle.event_loop.specs.Input.{IsEmptied, IsEnd}
 use Rattle.event_loop.specs.Traffic.{Traffic, IsWritten, written, One, IsFailed, IsBlocked}
-use Rattle.event_loop.specs.Socket.{SocketView, SocketWrites, SocketReads, SocketTurns, MayBeRead, MayBeWritten, Tells, IsAbout, bytes_told_by, told_in, written_told_by}
+use Rattle.event_loop.specs.Socket.{SocketView, SocketWrites, SocketReads, SocketVisits, MayBeRead, MayBeWritten, Tells, IsAbout, bytes_told_by, told_in, written_told_by}
 
 module _ {X : Type 0} (P : X → Type 0) where
   pub one_left : (xs ys : List X) → One P xs → One P (xs ++ ys)
@@ -141,7 +141,7 @@ pub writes_tells : (key : ℕ) (a b : SocketView) (x : List Heard) → SocketWri
 writes_tells key a b x p =
     tells_nothing key a b x x refl (ap (λ (s : SocketView). s.told) p.others) (ap (λ (s : SocketView). s.untold) p.others) p.traffic.said (ap (λ (s : SocketView). s.number) p.others) (ap (λ (s : SocketView). s.closes) p.others) p.ended
 
--- a turn that wrote, and then reported or not that all is written
+-- a visit that wrote, and then reported or not that all is written
 module _ (may_read : Bool) (a b : SocketView) (w : SocketWrites a b) (one : MayBeWritten a → length a.traffic.writes < length b.traffic.writes) where
   some_results : MayBeWritten a → 0 < length w.results
   some_results m = omega (arith, one m, ap (λ (l : List (Result ℕ Error)). length l) w.writes, length-append a.traffic.writes w.results)
@@ -158,7 +158,7 @@ module _ (may_read : Bool) (a b : SocketView) (w : SocketWrites a b) (one : MayB
         subst (λ (s : SocketView). MayBeRead (record s { untold = u })) (sym (none (λ m. omega (arith, m.waits, may.is_written))))
         (record { is_readable = may.is_readable; is_done_with = may.is_done_with; is_written = may.is_written; stays = may.stays; is_here = may.is_here })
 
-    unread : (u : ℕ) → (may_read ≡ true → MayBeRead (record b { untold = u }) → MOST_UNWRITTEN ≤ u) → SocketTurns may_read a (record b { untold = u })
+    unread : (u : ℕ) → (may_read ≡ true → MayBeRead (record b { untold = u }) → MOST_UNWRITTEN ≤ u) → SocketVisits may_read a (record b { untold = u })
     unread u kept = record {
       results = w.results;
       writes = w.writes;
@@ -176,12 +176,12 @@ module _ (may_read : Bool) (a b : SocketView) (w : SocketWrites a b) (one : MayB
     }
 
     -- nothing was read, since it could not be
-    pub turn_unread : (c : SocketView) → c ≡ record b { untold = c.untold } → (may_read ≡ true → MayBeRead c → MOST_UNWRITTEN ≤ c.untold) → SocketTurns may_read a c
-    turn_unread c same kept =
-        subst (λ (s : SocketView). SocketTurns may_read a s) (sym same)
+    pub visit_unread : (c : SocketView) → c ≡ record b { untold = c.untold } → (may_read ≡ true → MayBeRead c → MOST_UNWRITTEN ≤ c.untold) → SocketVisits may_read a c
+    visit_unread c same kept =
+        subst (λ (s : SocketView). SocketVisits may_read a s) (sym same)
         (unread c.untold (λ asks may. kept asks (subst (λ (s : SocketView). MayBeRead s) (sym same) may)))
 
-  read_of : (u : ℕ) (d : SocketView) → MayBeRead (record b { untold = u }) → SocketReads (record b { untold = u }) d → SocketTurns may_read a d
+  read_of : (u : ℕ) (d : SocketView) → MayBeRead (record b { untold = u }) → SocketReads (record b { untold = u }) d → SocketVisits may_read a d
   read_of u d may r = record {
     results = w.results;
     writes = r.writes ∙ w.writes;
@@ -202,14 +202,14 @@ module _ (may_read : Bool) (a b : SocketView) (w : SocketWrites a b) (one : MayB
   }
 
   -- one read was made
-  pub turn_read : (c d : SocketView) → c ≡ record b { untold = c.untold } → MayBeRead c → SocketReads c d → SocketTurns may_read a d
-  turn_read c d same may r =
+  pub visit_read : (c d : SocketView) → c ≡ record b { untold = c.untold } → MayBeRead c → SocketReads c d → SocketVisits may_read a d
+  visit_read c d same may r =
       read_of c.untold d (subst (λ (s : SocketView). MayBeRead s) same may) (subst (λ (s : SocketView). SocketReads s d) same r)
 
 -- whether it is listed is no part of it
-pub turn_listed : (may_read : Bool) (s t x : SocketView) (i : Bool) → SocketTurns may_read (record s { is_listed = i }) t → x ≡ record t { is_listed = x.is_listed } → SocketTurns may_read s x
-turn_listed may_read s t x i h same =
-    subst (λ (v : SocketView). SocketTurns may_read s v) (sym same) (record {
+pub visit_listed : (may_read : Bool) (s t x : SocketView) (i : Bool) → SocketVisits may_read (record s { is_listed = i }) t → x ≡ record t { is_listed = x.is_listed } → SocketVisits may_read s x
+visit_listed may_read s t x i h same =
+    subst (λ (v : SocketView). SocketVisits may_read s v) (sym same) (record {
       results = h.results;
       writes = h.writes;
       pieces = h.pieces;

@@ -57,7 +57,7 @@ written_told_by (Bytes k n bytes) = 0
 written_told_by (Written k n count) = count
 written_told_by (Left k n) = 0
 
--- what waited was written up to some place, and nothing else happened
+-- what waited was written up to some byte, and nothing else happened
 pub record SocketWrites (old new : SocketView) : Type 0 where
   pub piece : List ℕ
   pub traffic : IsWritten old.traffic piece new.traffic
@@ -124,7 +124,7 @@ pub record MayBeRead (s : SocketView) : Type 0 where
 
 -- nothing is owed to either side
 pub record IsQuiet (s : SocketView) : Type 0 where
-  pub has_no_turn : s.is_listed ≡ false
+  pub has_no_visit : s.is_listed ≡ false
   pub is_done_with : s.is_outstanding ≡ false
   pub is_written : length s.traffic.waits ≡ 0
   pub stays : s.closes ≡ false
@@ -138,8 +138,8 @@ pub record SocketRests (s : SocketView) : Type 0 where
   -- the service knows that all is written, if it may wait for it
   pub is_told : length s.traffic.waits ≡ 0 → s.untold < MOST_UNWRITTEN
 
--- what a turn did to a socket, which may be read in it or not
-pub record SocketTurns (may_read : Bool) (old new : SocketView) : Type 0 where
+-- what a visit did to a socket, which may be read in it or not
+pub record SocketVisits (may_read : Bool) (old new : SocketView) : Type 0 where
   -- what came of its writes, and what its read gave, if one was made
   pub results : List (Result ℕ Error)
   pub writes : new.traffic.writes ≡ old.traffic.writes ++ results

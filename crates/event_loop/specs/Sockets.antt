@@ -1,4 +1,4 @@
--- The table of sockets: what is said reaches the socket that it is for, and what a turn tells is of the socket that has it.
+-- The table of sockets: what is said reaches the socket that it is for, and what a visit tells is of the socket that is visited.
 use Rattle.std.specs.Prelude.{◌≡◌, ◌≢◌, ◌⊎◌, ◌+◌, ℕ, Bool, ◌<◌, true, false, List, [], ◌∷◌, ◌++◌, length, min, ◌^◌, ◌-◌, Option, Some, None, ◌↔◌, Contains}
 use Rattle.slab.specs.Slab.{Slab, get}
 use Rattle.event_loop.specs.declared.message.Heard.{Heard}
@@ -6,10 +6,10 @@ use Rattle.event_loop.specs.declared.leavers.Leaver.{Leaver}
 use Rattle.event_loop.specs.declared.message.Said.{Said}
 use Rattle.event_loop.specs.declared.socket.Readiness.{Readiness}
 use Rattle.event_loop.specs.Idle.{IdleView, HasBeenIdle}
-use Rattle.event_loop.specs.Socket.{SocketView, Tells, Leaves, SocketRests, IsSocketOver, IsQuiet, SocketTurns}
+use Rattle.event_loop.specs.Socket.{SocketView, Tells, Leaves, SocketRests, IsSocketOver, IsQuiet, SocketVisits}
 
-pub record TurnsView : Type 0 where
-  -- the keys of the sockets that have a turn
+pub record VisitsView : Type 0 where
+  -- the keys of the sockets that are to be visited
   pub keys : List ℕ
   -- memory for one more ran out once
   pub has_lost : Bool
@@ -17,31 +17,31 @@ pub record TurnsView : Type 0 where
 pub record SocketsView : Type 0 where
   -- the sockets that are here, each under its key
   pub all : Slab SocketView
-  pub turns : TurnsView
+  pub visits : VisitsView
   -- the number of the next one
   pub next : ℕ
 
--- a socket that is here has a number that was given. It has a turn, or nothing is to be done for it until an event
+-- a socket that is here has a number that was given. It is to be visited, or nothing is to be done for it until an event
 -- comes or the service says something
-pub record IsPlaced (key : ℕ) (turns : TurnsView) (next : ℕ) (s : SocketView) : Type 0 where
+pub record IsEntry (key : ℕ) (visits : VisitsView) (next : ℕ) (s : SocketView) : Type 0 where
   pub number : s.number < next
-  pub listed : s.is_listed ≡ true → Contains turns.keys key
-  pub rests : turns.has_lost ≡ false → s.is_listed ≡ false → SocketRests s
+  pub listed : s.is_listed ≡ true → Contains visits.keys key
+  pub rests : visits.has_lost ≡ false → s.is_listed ≡ false → SocketRests s
 
 abbrev pub IsSockets : SocketsView → Type 0
-IsSockets v = (key : ℕ) (s : SocketView) → get v.all key ≡ Some s → IsPlaced key v.turns v.next s
+IsSockets v = (key : ℕ) (s : SocketView) → get v.all key ≡ Some s → IsEntry key v.visits v.next s
 
 -- nothing but whether it is listed has changed
 abbrev pub IsSameButListed : SocketView → SocketView → Type 0
 IsSameButListed s t = t ≡ record s { is_listed = t.is_listed }
 
 -- a socket was listed, once, unless memory for that ran out
-pub record Lists (key : ℕ) (turns : TurnsView) (s : SocketView) (more : TurnsView) (t : SocketView) : Type 0 where
+pub record Lists (key : ℕ) (visits : VisitsView) (s : SocketView) (more : VisitsView) (t : SocketView) : Type 0 where
   pub others : IsSameButListed s t
-  pub kept : (k : ℕ) → Contains turns.keys k → Contains more.keys k
-  pub here : (s.is_listed ≡ true → Contains turns.keys key) → t.is_listed ≡ true → Contains more.keys key
+  pub kept : (k : ℕ) → Contains visits.keys k → Contains more.keys k
+  pub here : (s.is_listed ≡ true → Contains visits.keys key) → t.is_listed ≡ true → Contains more.keys key
   pub lost : t.is_listed ≡ false → more.has_lost ≡ true
-  pub before : more.has_lost ≡ false → turns.has_lost ≡ false
+  pub before : more.has_lost ≡ false → visits.has_lost ≡ false
 
 -- a socket took what was said, at the end of what was said before, or it has ended
 pub record SocketHears (old : SocketView) (one : Said) (new : SocketView) : Type 0 where
@@ -77,24 +77,24 @@ pub record IsGiven (old : SocketsView) (said : Said) (new : SocketsView) : Type 
   pub joins : (s : SocketView) → get old.all said.key ≡ Some s → s.number ≡ said.number → (t : SocketView) × (get new.all said.key ≡ Some t) × HearsListed s said t
   pub next : new.next ≡ old.next
 
--- after a turn a socket is here, or it has reported that it is gone
-abbrev pub IsTurned : Bool → ℕ → SocketView → Option SocketView → List Heard → List Heard → Type 0
-IsTurned may_read key s None before after = (t : SocketView) × Leaves key s t before after × IsSocketOver t × SocketTurns may_read s t
-IsTurned may_read key s (Some t) before after = Tells key s t before after × SocketTurns may_read s t
+-- after a visit a socket is here, or it has reported that it is gone
+abbrev pub IsVisited : Bool → ℕ → SocketView → Option SocketView → List Heard → List Heard → Type 0
+IsVisited may_read key s None before after = (t : SocketView) × Leaves key s t before after × IsSocketOver t × SocketVisits may_read s t
+IsVisited may_read key s (Some t) before after = Tells key s t before after × SocketVisits may_read s t
 
--- the first that is listed, if it is here, had its turn, and no other one did
-pub record IsTurnOf (may_read : Bool) (key : ℕ) (old new : SocketsView) (before after : List Heard) : Type 0 where
+-- the first that is listed, if it is here, was visited, and no other one was
+pub record IsVisitOf (may_read : Bool) (key : ℕ) (old new : SocketsView) (before after : List Heard) : Type 0 where
   pub absent : get old.all key ≡ None → after ≡ before
-  pub turned : (s : SocketView) → get old.all key ≡ Some s → IsTurned may_read key s (get new.all key) before after
+  pub visited : (s : SocketView) → get old.all key ≡ Some s → IsVisited may_read key s (get new.all key) before after
   pub others : (other : ℕ) → other ≢ key → get new.all other ≡ get old.all other
   pub next : new.next ≡ old.next
 
-abbrev pub IsTurnOfListed : Bool → List ℕ → SocketsView → SocketsView → List Heard → List Heard → Type 0
-IsTurnOfListed may_read [] old new before after = (new ≡ old) × (after ≡ before)
-IsTurnOfListed may_read (key ∷ keys) old new before after = IsTurnOf may_read key old new before after
+abbrev pub IsVisitOfListed : Bool → List ℕ → SocketsView → SocketsView → List Heard → List Heard → Type 0
+IsVisitOfListed may_read [] old new before after = (new ≡ old) × (after ≡ before)
+IsVisitOfListed may_read (key ∷ keys) old new before after = IsVisitOf may_read key old new before after
 
-abbrev pub IsTurnOfFirst : Bool → SocketsView → SocketsView → List Heard → List Heard → Type 0
-IsTurnOfFirst may_read old new before after = IsTurnOfListed may_read old.turns.keys old new before after
+abbrev pub IsVisitOfFirst : Bool → SocketsView → SocketsView → List Heard → List Heard → Type 0
+IsVisitOfFirst may_read old new before after = IsVisitOfListed may_read old.visits.keys old new before after
 
 -- all of these were given, in order
 abbrev pub AreAllGiven : SocketsView → List Said → SocketsView → Type 0

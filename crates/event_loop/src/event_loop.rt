@@ -1,8 +1,8 @@
-//! The listeners, the sockets, and the turns that they have.
+//! The listeners, the sockets, and the visits of these.
 
 ghost use Rattle.std.specs.Prelude.{◌≡◌, ◌≤◌, ◌↔◌, ◌-◌, ◌+◌, ◌⊎◌, ◌++◌, ◌∷◌, [], ◌<◌, true, length, IsTrue};
 ghost use Rattle.slab.specs.Slab.{slab_len};
-ghost use Rattle.event_loop.specs.Sockets.{AreAllGiven, EndsIdle, IsTurnOfFirst};
+ghost use Rattle.event_loop.specs.Sockets.{AreAllGiven, EndsIdle, IsVisitOfFirst};
 ghost use Rattle.event_loop.specs.declared.message.Heard.TheVariants.{Came};
 
 use crate::counts::{Counts, Shared, plus};
@@ -28,10 +28,10 @@ const WAKER: Token = Token(usize::MAX);
 /// So many events are taken in one wait, at most.
 const MOST_EVENTS: usize = 1024;
 
-/// So many connections of each listener are accepted before the sockets have their turns.
+/// So many connections of each listener are accepted before the sockets are visited.
 const MOST_ACCEPTS: usize = 64;
 
-/// The most bytes of one read. Each connection has one in each round of the service, so a large block that comes while
+/// The most bytes of one read. Each connection has one in each pass of the service, so a large block that comes while
 /// others are carried out must not take many.
 const MOST_PIECE_BYTES: usize = 262144;
 
@@ -81,9 +81,9 @@ pub struct EventLoop {
     /// What is to be reported to the service.
     heard: Vec<Heard>,
     buffer: Vec<u8>,
-    /// A socket had more to write after its last turn.
+    /// A socket had more to write after its last visit.
     is_writing: bool,
-    /// Memory ran out in the last turns, so the next are at the next tick.
+    /// Memory ran out in the last visits, so the next are at the next tick.
     is_short: bool,
     /// The last wait gave as many events as it may, so there may be others.
     has_more_events: bool,
@@ -168,7 +168,7 @@ impl EventLoop {
     }
 
     /// Waits until a socket is ready, a connection comes, another thread wakes it or the time is up. The
-    /// sockets that are ready are listed for a turn.
+    /// sockets that are ready are listed for a visit.
     pub fn wait(&mut self, ready: &mut Ready, limit: Option<Duration>) -> io::Result<()> {
         self.poll.poll(&mut ready.events, limit)?;
         self.has_more_events = MOST_EVENTS <= ready.events.iter().count();
@@ -182,7 +182,7 @@ impl EventLoop {
         Ok(())
     }
 
-    /// Notes what an event tells of the socket of this key. If its other side sends no more, it leaves its place.
+    /// Notes what an event tells of the socket of this key. If its other side sends no more, it makes room for another.
     fn note(&mut self, key: usize, ready: Readiness)
         ensures few { length self.new.leavers ≤ length self.old.leavers + 1 }
         ensures heard { self.new.heard.items ≡ self.old.heard.items }
@@ -198,9 +198,9 @@ impl EventLoop {
     pub fn has_more(&self, may_tell: bool) -> bool
         ensures owed { may_tell ≡ true → 0 < length self.now.heard.items → result ≡ true }
     {
-        let has_turns = self.is_writing || may_tell && 0 < self.sockets.listed_count();
+        let has_visits = self.is_writing || may_tell && 0 < self.sockets.listed_count();
         may_tell && !self.heard.is_empty()
-            || !self.is_short && (has_turns || may_tell && self.listeners.is_any_due())
+            || !self.is_short && (has_visits || may_tell && self.listeners.is_any_due())
     }
 
     /// Whether something waits for a tick.
@@ -256,7 +256,7 @@ impl EventLoop {
         }
     }
 
-    /// Accepts the connections that wait. It comes after the turns: of those whose other side sends no more, who is
+    /// Accepts the connections that wait. It comes after the visits: of those whose other side sends no more, who is
     /// owed nothing is gone by then. It is so late in microseconds of the caller's clock.
     pub fn accept(&mut self, micros: u64) {
         self.end_leavers();
@@ -306,7 +306,7 @@ impl EventLoop {
         }
     }
 
-    /// Whether there is no place for one more connection.
+    /// Whether there is no room for one more connection.
     fn is_full(&self) -> bool
         ensures { IsTrue result ↔ self.now.admission.most ≤ slab_len self.now.sockets.all - length self.now.leavers }
     {
@@ -341,7 +341,7 @@ impl EventLoop {
         }
     }
 
-    /// Takes what the service says. The sockets that it is for are listed for a turn.
+    /// Takes what the service says. The sockets that it is for are listed for a visit.
     pub fn give(&mut self, said: Vec<Said>)
         ensures given { AreAllGiven self.old.sockets said.items self.new.sockets }
         ensures heard { self.new.heard.items ≡ self.old.heard.items }
@@ -349,9 +349,9 @@ impl EventLoop {
         self.sockets.give_all(said);
     }
 
-    /// Gives each listed socket its turn: what waits is written and, if `reads`, the next bytes are read. It is so late in
+    /// Visits each listed socket: what waits is written and, if `reads`, the next bytes are read. It is so late in
     /// microseconds of the caller's clock.
-    pub fn turn(&mut self, micros: u64, reads: bool) {
+    pub fn visit(&mut self, micros: u64, reads: bool) {
         self.is_writing = false;
         let count = self.sockets.listed_count();
         let has_room = self.heard.reserve(count).is_ok();
@@ -359,37 +359,37 @@ impl EventLoop {
             self.is_short = true;
         }
         for _ in 0..count {
-            self.turn_first(micros, reads && has_room);
+            self.visit_first(micros, reads && has_room);
         }
     }
 
-    /// The turn of the socket that was listed first.
-    fn turn_first(&mut self, micros: u64, reads: bool)
-        ensures { IsTurnOfFirst reads self.old.sockets self.new.sockets self.old.heard.items self.new.heard.items }
+    /// The visit of the socket that was listed first.
+    fn visit_first(&mut self, micros: u64, reads: bool)
+        ensures { IsVisitOfFirst reads self.old.sockets self.new.sockets self.old.heard.items self.new.heard.items }
     {
         let buffer = self.buffer.as_mut_slice();
-        let Some(turned) = self
+        let Some(visited) = self
             .sockets
-            .turn_first(self.alloc, micros, reads, buffer, &mut self.heard)
+            .visit_first(self.alloc, micros, reads, buffer, &mut self.heard)
         else {
             return;
         };
-        self.counts.bytes_read = plus(self.counts.bytes_read, turned.moved.read);
-        self.counts.bytes_written = plus(self.counts.bytes_written, turned.moved.written);
-        if let Some(since) = turned.moved.answered {
+        self.counts.bytes_read = plus(self.counts.bytes_read, visited.moved.read);
+        self.counts.bytes_written = plus(self.counts.bytes_written, visited.moved.written);
+        if let Some(since) = visited.moved.answered {
             // If there is no memory for it the time is not counted.
             let _ = self.answered.push(since);
         }
-        self.idle.note(turned.key, micros);
-        match turned.after {
+        self.idle.note(visited.key, micros);
+        match visited.after {
             After::Rest | After::Reads => {}
             After::Writes => self.is_writing = true,
             After::NoMemory => self.is_short = true,
             After::Gone => {
-                if let Some(number) = turned.leaver {
+                if let Some(number) = visited.leaver {
                     self.leavers.remove(number);
                 }
-                self.idle.leave(turned.key);
+                self.idle.leave(visited.key);
                 self.listeners.try_again();
             }
         }

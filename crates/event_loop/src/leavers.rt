@@ -13,7 +13,7 @@ pub struct Leaver {
 }
 
 /// The connections that are here although their other side sends no more, in the order in which this was found.
-/// They get the replies that are owed to them. They hold no place of those that come. Each is
+/// They get the replies that are owed to them. They do not count for the limit of those that come. Each is
 /// here until its last reply is written, it fails, or too many others are here that were found later.
 pub struct Leavers {
     all: Vec<Leaver>,

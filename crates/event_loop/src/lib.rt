@@ -15,11 +15,11 @@
 //! `serve`.
 //!
 //! `Socket` and `Sockets` are generic in their stream, so their contracts say which bytes move. What is said of a
-//! socket is what its reads gave, in order, under its number (`Socket::turn`, `IsSocket`). What is written is a
+//! socket is what its reads gave, in order, under its number (`Socket::visit`, `IsSocket`). What is written is a
 //! beginning of what was said (`Buffered`). A socket that is gone was said to be, unless the service closed it. What is
-//! said joins the socket of its key and number and no other (`Sockets::give_all`). A socket that is here has a turn, or
-//! nothing is to be done for it until an event comes or the service says something (`IsSockets`). What the system does
-//! with a socket no contract says, nor what the loops of the two threads do while they wait.
+//! said joins the socket of its key and number and no other (`Sockets::give_all`). A socket that is here is to be
+//! visited, or nothing is to be done for it until an event comes or the service says something (`IsSockets`). What the
+//! system does with a socket no contract says, nor what the loops of the two threads do while they wait.
 #![tactic(auto)]
 
 mod buffered;
@@ -40,7 +40,7 @@ mod serving;
 mod socket;
 mod sockets;
 mod stream;
-mod turns;
+mod visits;
 
 pub use counts::{Counts, Watch};
 pub use event_loop::Admission;

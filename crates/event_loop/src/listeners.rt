@@ -85,7 +85,7 @@ impl Listeners {
         }
     }
 
-    /// Accepts one connection of the listener at this place.
+    /// Accepts one connection of the listener at this index.
     pub fn accept(&mut self, at: usize) -> Accepted {
         let Some(port) = self.ports.get_mut(at) else {
             return Accepted::Nothing;

@@ -23,7 +23,7 @@ use std::time::{Duration, Instant};
 /// How long a tick is, in milliseconds.
 const TICK: u64 = 100;
 
-/// If no more than so much happened in a round and the service is idle, the event loop's thread answers
+/// If no more than so much happened in a pass and the service is idle, the event loop's thread answers
 /// itself: to wake the other thread takes longer.
 const MOST_IN_PLACE: usize = 2;
 
@@ -36,7 +36,7 @@ pub struct LoopEnds {
     unanswered: usize,
     /// Whether the service wants ticks.
     is_waiting: bool,
-    /// Other threads see the counts of the last round.
+    /// Other threads see the counts of the last pass.
     is_shown: bool,
 }
 
@@ -157,9 +157,9 @@ fn tick<R: Wait + Clock>(
     }
 }
 
-/// Gives the sockets their turns, and counts the times of what was answered in full by them.
-fn turn<R: Clock>(rt: &R, event_loop: &mut EventLoop, moments: Moments, reads: bool) {
-    event_loop.turn(moments.micros(rt), reads);
+/// Visits the sockets, and counts the times of what was answered in full by that.
+fn visit<R: Clock>(rt: &R, event_loop: &mut EventLoop, moments: Moments, reads: bool) {
+    event_loop.visit(moments.micros(rt), reads);
     if event_loop.has_answered() {
         event_loop.count_times(moments.micros(rt));
     }
@@ -189,15 +189,15 @@ fn answer_in_place<R: Threads + Wait + Sync + Clock, S: Serve>(
     let has_work = service.has_work();
     drop(guard);
     event_loop.give(said);
-    turn(rt, event_loop, ends.moments, false);
+    visit(rt, event_loop, ends.moments, false);
     if has_work {
         ends.hand_on(rt, event_loop);
     }
     true
 }
 
-/// One round: waits, gives each socket that is ready its turn, and has answered what happened.
-fn round<R: Threads + Wait + Sync + Clock, S: Serve>(
+/// One pass: waits, visits each socket that is ready, and has answered what happened.
+fn pass<R: Threads + Wait + Sync + Clock, S: Serve>(
     rt: &R,
     service: &Mutex<S>,
     event_loop: &mut EventLoop,
@@ -211,7 +211,7 @@ fn round<R: Threads + Wait + Sync + Clock, S: Serve>(
     ends.take_all(rt, event_loop);
     let reads = ends.has_room();
     // Sockets that are over make room for those that wait to be accepted.
-    turn(rt, event_loop, ends.moments, reads);
+    visit(rt, event_loop, ends.moments, reads);
     if reads {
         event_loop.accept(ends.moments.micros(rt));
     }
@@ -244,7 +244,7 @@ pub fn run_loop<R: Threads + Wait + Sync + Clock, S: Serve>(
     } = side;
     let mut ticks = Ticks { last: None };
     for _ in rt.forever() {
-        if shared.is_stopping() || round(rt, service, event_loop, ready, ends).is_err() {
+        if shared.is_stopping() || pass(rt, service, event_loop, ready, ends).is_err() {
             break;
         }
         ends.is_shown = event_loop.publish(shared);

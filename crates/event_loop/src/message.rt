@@ -50,7 +50,7 @@ pub struct Said {
 /// A message to the service's thread.
 #[derive(Drop)]
 pub enum ToService {
-    /// All that happened in one round of the event loop, in order, which was over at this moment in microseconds since
+    /// All that happened in one pass of the event loop, in order, which was over at this moment in microseconds since
     /// the start of 1970.
     Heard { heard: Vec<Heard>, micros: u64 },
     /// A tenth of a second has passed.

@@ -32,7 +32,7 @@ impl Drop for ServiceEnds {
     }
 }
 
-/// What a round of the service's thread leaves.
+/// What a pass of the service's thread leaves.
 #[derive(Clone, Copy)]
 struct Outcome {
     /// Whether the service goes on.
@@ -84,7 +84,7 @@ fn hand_in_all<R: Wait, S: Serve>(
 }
 
 /// Hands on the first message, and all others that are there, and lets the service work.
-fn round<R: Threads + Wait + Sync + Clock, S: Serve>(
+fn pass<R: Threads + Wait + Sync + Clock, S: Serve>(
     rt: &R,
     service: &mut S,
     ends: &mut ServiceEnds,
@@ -112,7 +112,7 @@ fn round<R: Threads + Wait + Sync + Clock, S: Serve>(
             is_waiting: service.is_waiting(),
             said,
         };
-        // The event loop takes all messages in each of its rounds, so there is room.
+        // The event loop takes all messages in each of its passes, so there is room.
         let _ = ends.outbox.put(rt, message);
     }
     Outcome {
@@ -134,7 +134,7 @@ pub fn run_service<R: Threads + Wait + Sync + Clock, S: Serve>(
     for _ in rt.forever() {
         let first = if has_work { None } else { ends.inbox.take(rt) };
         let mut guard = service.lock(rt);
-        let outcome = round(rt, &mut *guard, ends, first);
+        let outcome = pass(rt, &mut *guard, ends, first);
         drop(guard);
         if !outcome.goes_on {
             return;

@@ -1,7 +1,7 @@
 //! One socket, and what waits to be written to it.
 
 ghost use Rattle.std.specs.Prelude.{◌≡◌, ◌++◌, ◌∷◌, ◌⊎◌, ◌+◌, [], true, false, ◌<◌, ◌≤◌, ◌↔◌, length, IfSome, IsSome, IsTrue, Ok, OnOk, OnErr};
-ghost use Rattle.event_loop.specs.Socket.{SocketWrites, SocketReads, Tells, Leaves, SocketTurns, HasToTell, IsSocketOver, MayBeWritten, MayBeRead, IsQuiet, SocketRests, new_socket, last_told};
+ghost use Rattle.event_loop.specs.Socket.{SocketWrites, SocketReads, Tells, Leaves, SocketVisits, HasToTell, IsSocketOver, MayBeWritten, MayBeRead, IsQuiet, SocketRests, new_socket, last_told};
 ghost use Rattle.event_loop.specs.Sockets.{SocketHears, Notes};
 ghost use Rattle.event_loop.specs.declared.message.Heard.TheVariants.{Bytes, Written, Left};
 ghost use Rattle.event_loop.specs.declared.message.TheConstants.{MOST_UNWRITTEN};
@@ -16,13 +16,13 @@ use std::io::{ErrorKind, Read, Write};
 use std::marker::Model;
 use std::mem;
 
-/// So many writes are made in one turn, at most.
+/// So many writes are made in one visit, at most.
 const MOST_WRITES: usize = 16;
 
-/// What follows a turn.
+/// What follows a visit.
 #[derive(Clone, Copy, PartialEq, Eq)]
 pub enum After {
-    /// The next turn is when an event or the service asks for it.
+    /// The next visit is when an event or the service asks for it.
     Rest,
     /// More can be written at once.
     Writes,
@@ -90,7 +90,7 @@ pub struct Socket<S: Read + Write> {
     closes: bool,
     /// It has failed, or the other side has closed it.
     has_ended: bool,
-    /// It is listed for a turn.
+    /// It is listed for a visit.
     is_listed: bool,
 }
 
@@ -152,14 +152,14 @@ impl<S: Read + Write> Socket<S> {
         moved
     }
 
-    /// Whether it is listed for a turn.
+    /// Whether it is listed for a visit.
     pub fn is_listed(&self) -> bool
         ensures { result ≡ self.now.is_listed }
     {
         self.is_listed
     }
 
-    /// It is listed for a turn, or no longer.
+    /// It is listed for a visit, or no longer.
     pub fn set_listed(&mut self, is_listed: bool)
         ensures { self.new ≡ record self.old { is_listed = is_listed } }
     {
@@ -192,7 +192,7 @@ impl<S: Read + Write> Socket<S> {
         }
     }
 
-    /// Ends the connection: its next turn tells so, and nothing more is written.
+    /// Ends the connection: its next visit tells so, and nothing more is written.
     pub fn end(&mut self)
         ensures { self.new ≡ record self.old { has_ended = true } }
     {
@@ -250,7 +250,7 @@ impl<S: Read + Write> Socket<S> {
         self.has_ended || self.closes && !self.is_behind()
     }
 
-    /// Whether nothing is owed to either side: it has no turn to come, no bytes of it are outstanding, all that was said
+    /// Whether nothing is owed to either side: it has no visit to come, no bytes of it are outstanding, all that was said
     /// to it is written, and it is not to be closed.
     pub fn is_quiet(&self) -> bool
         ensures { IsTrue result ↔ IsQuiet self.now }
@@ -259,8 +259,8 @@ impl<S: Read + Write> Socket<S> {
         !is_owed && !self.closes && !self.has_ended
     }
 
-    /// One turn: writes what waits, reads once if `reads`, and tells what happened.
-    pub fn turn(
+    /// One visit: writes what waits, reads once if `reads`, and tells what happened.
+    pub fn visit(
         &mut self,
         alloc: Global,
         key: usize,
@@ -274,7 +274,7 @@ impl<S: Read + Write> Socket<S> {
         ensures writes { result ≡ After.Writes → MayBeWritten self.new }
         ensures reads { result ≡ After.Reads → MayBeRead self.new }
         ensures no_memory { result ≡ After.NoMemory → HasToTell self.new }
-        ensures turn { SocketTurns reads self.old self.new }
+        ensures visit { SocketVisits reads self.old self.new }
         ensures listed { self.new.is_listed ≡ self.old.is_listed }
     {
         if self.advance(alloc, key, reads, buffer, heard).is_err() {
@@ -301,7 +301,7 @@ impl<S: Read + Write> Socket<S> {
         ensures tells { Tells key self.old self.new heard.old.items heard.new.items }
         ensures told { OnOk result (length self.new.traffic.waits ≡ 0 → self.new.untold < MOST_UNWRITTEN) }
         ensures untold { OnErr result ((length self.new.traffic.waits ≡ 0) × (MOST_UNWRITTEN ≤ self.new.untold)) }
-        ensures turn { SocketTurns reads self.old self.new }
+        ensures visit { SocketVisits reads self.old self.new }
         ensures listed { self.new.is_listed ≡ self.old.is_listed }
     {
         self.write();
@@ -330,7 +330,7 @@ impl<S: Read + Write> Socket<S> {
         }
     }
 
-    /// Writes what waits, until all is written, the socket takes no more or the others have their turns.
+    /// Writes what waits, until all is written, the socket takes no more or it is time to visit the others.
     fn write(&mut self)
         ensures writes { SocketWrites self.old self.new }
         ensures one { MayBeWritten self.old → length self.old.traffic.writes < length self.new.traffic.writes }

@@ -1,21 +1,21 @@
-//! The sockets of an event loop, and those of them that have a turn.
+//! The sockets of an event loop, and those of them that are to be visited.
 
 ghost use Rattle.std.specs.Prelude.{◌≡◌, ◌≢◌, ◌+◌, ℕ, [], true, false, Some, None, IfSome, IfNone, length};
 ghost use Rattle.slab.specs.Slab.{get, slab_len, Updates};
 ghost use Rattle.event_loop.specs.Socket.{IsQuiet, SocketView, new_socket};
-ghost use Rattle.event_loop.specs.Sockets.{IsGiven, AreAllGiven, NotesListed, IsSameButListed, IsTurnOfFirst};
+ghost use Rattle.event_loop.specs.Sockets.{IsGiven, AreAllGiven, NotesListed, IsSameButListed, IsVisitOfFirst};
 
 use crate::message::{Heard, Said};
 use crate::socket::{After, Moved, Readiness, Socket};
-use crate::turns::Turns;
+use crate::visits::Visits;
 use slab::Slab;
 use std::alloc::{AllocError, Global};
 use std::io::{Read, Write};
 use std::marker::Model;
 
-/// What came of the turn of a socket.
+/// What came of the visit of a socket.
 #[derive(Clone, Copy)]
-pub struct Turned {
+pub struct Visited {
     pub key: usize,
     pub after: After,
     pub moved: Moved,
@@ -27,7 +27,7 @@ pub struct Turned {
 pub struct Sockets<S: Read + Write> {
     all: Slab<Socket<S>>,
     /// There is room for all.
-    turns: Turns,
+    visits: Visits,
     /// The number of the next one.
     next: u64,
 }
@@ -36,7 +36,7 @@ impl<S: Read + Write + Drop> Drop for Sockets<S> {
     fn drop(self) {
         let Sockets {
             all: _,
-            turns: _,
+            visits: _,
             next: _,
         } = self;
     }
@@ -47,21 +47,21 @@ impl<S: Read + Write> Model for Sockets<S> {
 
     ghost Value = { SocketsView };
 
-    ghost view = { λ s. record { all = s.all; turns = s.turns; next = s.next } };
+    ghost view = { λ s. record { all = s.all; visits = s.visits; next = s.next } };
 
-    ghost invariant = { λ s. IsSockets (record { all = s.all; turns = s.turns; next = s.next }) };
+    ghost invariant = { λ s. IsSockets (record { all = s.all; visits = s.visits; next = s.next }) };
 }
 
 impl<S: Read + Write + Drop> Sockets<S> {
     /// There is none. The first one is to have this number.
     pub fn new(alloc: Global, first: u64) -> Sockets<S>
         ensures none { (key : ℕ) → get result.all key ≡ None }
-        ensures turns { result.turns ≡ record { keys = []; has_lost = false } }
+        ensures visits { result.visits ≡ record { keys = []; has_lost = false } }
         ensures next { result.next ≡ first }
     {
         Sockets {
             all: Slab::new(alloc),
-            turns: Turns::new(alloc),
+            visits: Visits::new(alloc),
             next: first,
         }
     }
@@ -80,21 +80,21 @@ impl<S: Read + Write + Drop> Sockets<S> {
         self.all.vacant_key()
     }
 
-    /// How many turns there are to be.
+    /// How many visits there are to be.
     pub fn listed_count(&self) -> usize
-        ensures { result ≡ length self.now.turns.keys }
+        ensures { result ≡ length self.now.visits.keys }
     {
-        self.turns.len()
+        self.visits.len()
     }
 
     /// Makes room for one more. The only error is a failed allocation.
     pub fn reserve(&mut self) -> Result<(), AllocError>
         ensures all { self.new.all ≡ record self.old.all { capacity = self.new.all.capacity } }
-        ensures turns { self.new.turns ≡ self.old.turns }
+        ensures visits { self.new.visits ≡ self.old.visits }
         ensures next { self.new.next ≡ self.old.next }
     {
         self.all.reserve(1)?;
-        self.turns.reserve(self.all.len().saturating_add(1))
+        self.visits.reserve(self.all.len().saturating_add(1))
     }
 
     /// One more, under the next key and number: its number. None if memory runs out.
@@ -116,7 +116,7 @@ impl<S: Read + Write + Drop> Sockets<S> {
         Some(number)
     }
 
-    /// Gives what the service says to the socket of this key and number, if it is here. It has a turn then.
+    /// Gives what the service says to the socket of this key and number, if it is here. It is to be visited then.
     pub fn give(&mut self, said: Said)
         ensures { IsGiven self.old said self.new }
     {
@@ -125,7 +125,7 @@ impl<S: Read + Write + Drop> Sockets<S> {
             let is_meant = socket.number() == said.number;
             if is_meant {
                 socket.hear(said);
-                self.turns.list(key, socket);
+                self.visits.list(key, socket);
             }
         }
     }
@@ -139,7 +139,7 @@ impl<S: Read + Write + Drop> Sockets<S> {
         }
     }
 
-    /// Notes what an event tells of the socket of this key, and lists it for a turn. Its number, if the other side
+    /// Notes what an event tells of the socket of this key, and lists it for a visit. Its number, if the other side
     /// sends no more and no event said so before.
     pub fn note(&mut self, key: usize, ready: Readiness) -> Option<u64>
         ensures others { (other : ℕ) → other ≢ key → get self.new.all other ≡ get self.old.all other }
@@ -149,7 +149,7 @@ impl<S: Read + Write + Drop> Sockets<S> {
     {
         let socket = self.all.get_mut(key)?;
         let leaver = socket.note(ready);
-        self.turns.list(key, socket);
+        self.visits.list(key, socket);
         leaver
     }
 
@@ -163,7 +163,7 @@ impl<S: Read + Write + Drop> Sockets<S> {
         }
     }
 
-    /// Ends the connection of this key and number, if it is here. It has a turn then, and tells so.
+    /// Ends the connection of this key and number, if it is here. It is to be visited then, and tells so.
     pub fn end(&mut self, key: usize, number: u64)
         ensures others { (other : ℕ) → other ≢ key → get self.new.all other ≡ get self.old.all other }
         ensures unknown { ((s : SocketView) → get self.old.all key ≡ Some s → s.number ≢ number) → get self.new.all key ≡ get self.old.all key }
@@ -174,28 +174,28 @@ impl<S: Read + Write + Drop> Sockets<S> {
             let is_meant = socket.number() == number;
             if is_meant {
                 socket.end();
-                self.turns.list(key, socket);
+                self.visits.list(key, socket);
             }
         }
     }
 
-    /// The turn of the socket that was listed first: it writes what waits, reads once if `reads`, and tells what happened.
+    /// The visit of the socket that was listed first: it writes what waits, reads once if `reads`, and tells what happened.
     /// None if none is listed, or the socket is gone. It is so late in microseconds of the caller's clock.
-    pub fn turn_first(
+    pub fn visit_first(
         &mut self,
         alloc: Global,
         micros: u64,
         reads: bool,
         buffer: &mut [u8],
         heard: &mut Vec<Heard>,
-    ) -> Option<Turned>
-        ensures { IsTurnOfFirst reads self.old self.new heard.old.items heard.new.items }
+    ) -> Option<Visited>
+        ensures { IsVisitOfFirst reads self.old self.new heard.old.items heard.new.items }
     {
-        let key = self.turns.take_first()?;
+        let key = self.visits.take_first()?;
         let socket = self.all.get_mut(key)?;
         socket.set_listed(false);
-        let after = socket.turn(alloc, key, reads, buffer, heard);
-        let turned = Turned {
+        let after = socket.visit(alloc, key, reads, buffer, heard);
+        let visited = Visited {
             key,
             after,
             moved: socket.take_moved(micros),
@@ -204,8 +204,8 @@ impl<S: Read + Write + Drop> Sockets<S> {
         match after {
             After::Gone => drop(self.all.try_remove(key)),
             After::Rest => {}
-            _ => self.turns.list(key, socket),
+            _ => self.visits.list(key, socket),
         }
-        Some(turned)
+        Some(visited)
     }
 }

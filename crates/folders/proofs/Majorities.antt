@@ -5,7 +5,7 @@ use Rattle.std.proofs.lemmas.List.{get_or-map, length-map}
 use Rattle.std.proofs.lemmas.List.Sums.{sum_by-cons}
 use Rattle.std.proofs.lemmas.Bool.Decides.{nat_tests}
 use Rattle.folders.specs.declared.stamp.SaveStamp.{SaveStamp}
-use Rattle.folders.specs.Folders.{Folder, is_later_save, IsMajority, IsNewest, IsNoLater, HasTurn, found_in, is_saved_in}
+use Rattle.folders.specs.Folders.{Folder, is_later_save, IsMajority, IsNewest, IsNoLater, HasSave, found_in, is_saved_in}
 
 abbrev pub one_if : Bool → ℕ
 one_if b = cond b 1 0
@@ -53,22 +53,22 @@ shared (f ∷ fs) more = by (λ m. shared fs m) (counts f fs more) f.is_saved re
     by lower more false s r e = further f fs (lower (let a : one_if f.is_saved ≡ 0 = ap one_if s in let b : one_if f.is_readable < 2 = at_most_one f.is_readable in omega (arith, more, a, b)))
 
 -- of three, the order goes on
-pub no_later_along : (turn a b : SaveStamp) → is_later_save turn a ≡ false → is_later_save a b ≡ false → is_later_save turn b ≡ false
-no_later_along turn a b x y = grind (arith, nat_tests, x, y)
+pub no_later_along : (save a b : SaveStamp) → is_later_save save a ≡ false → is_later_save a b ≡ false → is_later_save save b ≡ false
+no_later_along save a b x y = grind (arith, nat_tests, x, y)
 
-pub found : (fs : List Folder) (turn : SaveStamp) (at : ℕ)
+pub found : (fs : List Folder) (save : SaveStamp) (at : ℕ)
     → IsMajority (count_by is_saved_in fs) (length fs)
-    → All (HasTurn turn) fs
+    → All (HasSave save) fs
     → IsMajority (count_by is_some (map found_in fs)) (length fs)
     → (newest : IsNewest (map found_in fs) at)
-    → is_later_save turn newest.stamp ≡ false
-found fs turn at saved has read newest =
+    → is_later_save save newest.stamp ≡ false
+found fs save at saved has read newest =
     let s = shared fs (omega (arith, saved, read)) in
     let here : get_or (map found_in fs) s.at None ≡ found_in s.folder = get_or-map found_in fs s.at s.folder None s.within ∙ ap found_in s.is in
     let is : found_in s.folder ≡ Some s.folder.stamp = ap (λ (b : Bool). if b then Some s.folder.stamp else None) s.readable in
-    let old : is_later_save turn s.folder.stamp ≡ false = subst (HasTurn turn) s.is (has s.at s.folder s.within) s.saved in
+    let old : is_later_save save s.folder.stamp ≡ false = subst (HasSave save) s.is (has s.at s.folder s.within) s.saved in
     let new : is_later_save s.folder.stamp newest.stamp ≡ false = subst (IsNoLater newest.stamp) (here ∙ is) (newest.no_later s.at None (within s)) in
-    no_later_along turn s.folder.stamp newest.stamp old new
+    no_later_along save s.folder.stamp newest.stamp old new
   where
     within : (s : IsShared fs) → s.at < length (map found_in fs)
     within s = let w = s.within in simp length-map (w)

@@ -1,4 +1,4 @@
--- The newest one so far, place by place.
+-- The newest one so far, one after the other.
 use Rattle.std.proofs.Common.{◌≡◌, ℕ, suc, ◌+◌, ◌<◌, Bool, true, false, refl, sym, ap, subst, arith, List, [], ◌∷◌, length, Option, Some, None}
 use Rattle.std.specs.Prelude.{get_or, if◌then◌else◌, is_some, count_by}
 use Rattle.std.proofs.lemmas.Bool.Decides.{nat_tests}

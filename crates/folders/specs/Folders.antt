@@ -2,9 +2,9 @@
 use Rattle.std.specs.Prelude.{◌≡◌, ℕ, ◌+◌, ◌<◌, ◌==◌, ◌||◌, ◌&&◌, Bool, true, false, nat_lt, if◌then◌else◌, List, length, slice_index_or, All, Option, Some, None, ⊤}
 use Rattle.folders.specs.declared.stamp.SaveStamp.{SaveStamp}
 
--- the first is of a later start, or of a later turn of the same start
+-- the first is of a later start, or of a later save of the same start
 abbrev pub is_later_save : SaveStamp → SaveStamp → Bool
-is_later_save a b = nat_lt b.start a.start || ((a.start == b.start) && nat_lt b.turn a.turn)
+is_later_save a b = nat_lt b.start a.start || ((a.start == b.start) && nat_lt b.save a.save)
 
 -- so many are more than half of all
 abbrev pub IsMajority : ℕ → ℕ → Type 0
@@ -27,7 +27,7 @@ pub record Folder : Type 0 where
   -- of the record that it has
   pub stamp : SaveStamp
   pub is_readable : Bool
-  -- whether the save of a certain turn was done in it
+  -- whether a certain save was done in it
   pub is_saved : Bool
 
 -- what is read of it at a start
@@ -37,11 +37,11 @@ found_in f = if f.is_readable then Some f.stamp else None
 abbrev pub is_saved_in : Folder → Bool
 is_saved_in f = f.is_saved
 
--- it has this turn, or a later one
-abbrev pub HasTurn : SaveStamp → Folder → Type 0
-HasTurn turn f = f.is_saved ≡ true → is_later_save turn f.stamp ≡ false
+-- it has this save, or a later one
+abbrev pub HasSave : SaveStamp → Folder → Type 0
+HasSave save f = f.is_saved ≡ true → is_later_save save f.stamp ≡ false
 
--- the newest one so far, with its place, after another one, if that was read: the first of equal ones stays
+-- the newest one so far, with its index, after another one, if that was read: the first of equal ones stays
 abbrev pub later_of : Option (ℕ × SaveStamp) → ℕ → Option SaveStamp → Option (ℕ × SaveStamp)
 later_of newest at None = newest
 later_of None at (Some stamp) = Some (at, stamp)
@@ -53,7 +53,7 @@ pub record IsBest (stamps : List (Option SaveStamp)) (n : ℕ) (best : ℕ × Sa
   pub is : slice_index_or stamps best.0 None ≡ Some best.1
   pub no_later : (k : ℕ) → k < n → IsNoLater best.1 (slice_index_or stamps k None)
 
--- of the first n this one is the newest that was read, with its place; or none was read
+-- of the first n this one is the newest that was read, with its index; or none was read
 abbrev pub IsNewestOf : List (Option SaveStamp) → ℕ → Option (ℕ × SaveStamp) → Type 0
 IsNewestOf stamps n None = (k : ℕ) → k < n → slice_index_or stamps k None ≡ None
 IsNewestOf stamps n (Some best) = IsBest stamps n best

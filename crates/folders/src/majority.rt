@@ -3,7 +3,7 @@ ghost use Rattle.folders.specs.Folders.{IsMajority, IsNewest, IsNewestOf, later_
 
 use crate::stamp::SaveStamp;
 
-/// The later of the newest record so far and this one, if it was read, with its place. The first of equal ones stays.
+/// The later of the newest record so far and this one, if it was read, with its index. The first of equal ones stays.
 fn later(
     newest: Option<(usize, SaveStamp)>,
     at: usize,
@@ -18,7 +18,7 @@ fn later(
     }
 }
 
-/// The newest of the records that were read, with its place: the first of equal ones.
+/// The newest of the records that were read, with its index: the first of equal ones.
 fn newest_read(stamps: &[Option<SaveStamp>]) -> Option<(usize, SaveStamp)>
     ensures { IsNewestOf stamps.now (length stamps.now) result }
 {

@@ -4,7 +4,7 @@ use Rattle.std.specs.Prelude.{◌==◌, if◌then◌else◌, IsSome}
 use Rattle.item_rows.specs.Changes.{Rows, ItemChange, with_change, rows_after, or_first, last_change, IsNamed, IsUnnamed}
 
 module _ {X : Type 0} where
-  -- what is at a place: the last change of it, or its row
+  -- what is in a row: the last change of it, or what it was
   abbrev pub or_row : Option (Option X) → Option X → Option X
   or_row None row = row
   or_row (Some v) row = v
@@ -20,7 +20,7 @@ module _ {X : Type 0} where
       by true e = rw e refl
       by false e = rw e refl
 
-  -- what changes say of a place
+  -- what changes say of a row
   pub says : (rows : Rows X) (cs : List (ItemChange X)) (p : ℕ) → rows_after rows cs p ≡ or_row (last_change p cs) (rows p)
   says rows [] p = refl
   says rows (c ∷ cs) p = says (with_change rows c) cs p ∙ changed_row rows c p (last_change p cs)

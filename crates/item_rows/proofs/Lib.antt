@@ -2,5 +2,5 @@ pub mod ChangeLemmas
 pub mod NotedLemmas
 pub mod OrderLemmas
 pub mod NumberLemmas
-pub mod PlaceLemmas
+pub mod RowNumberLemmas
 pub mod ChangedLemmas

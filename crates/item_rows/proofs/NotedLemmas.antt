@@ -1,14 +1,14 @@
--- What is noted of the place at the front, and then of the rest, is noted of all.
+-- What is noted of the row at the front, and then of the rest, is noted of all.
 use Rattle.std.proofs.Common.{◌≡◌, inl, inr, ℕ, suc, ◌+◌, ◌<◌, ◌≤◌, true, false, cond, List, [], ◌∷◌, ◌++◌, take, drop, Option, None, Some, refl, sym, ap, ◌∙◌, subst, arith, append-nil, append_assoc}
 use Rattle.std.specs.Prelude.{◌==◌, if◌then◌else◌, nat_lt}
 use Rattle.std.proofs.lemmas.Bool.Decides.{nat_tests}
 use Rattle.items.specs.declared.item.Item.{Item}
 use Rattle.sqlite_value.specs.Order.{Row}
-use Rattle.item_rows.specs.Row.{place_of}
-use Rattle.item_rows.specs.Placed.{PlacedItems, row_of_items}
+use Rattle.item_rows.specs.Row.{row_number_of}
+use Rattle.item_rows.specs.RowItems.{RowItems, row_of_items}
 use Rattle.item_rows.specs.Changes.{or_first}
 use Rattle.item_rows.specs.Rising.{AllFrom, AreRising}
-use Rattle.item_rows.specs.Changed.{at_place, at_front, place_at_front, lower_place, row_told, IsNotedAt, AreNoted, IsNoteOf}
+use Rattle.item_rows.specs.Changed.{in_row, at_front, row_number_at_front, lower_row_number, row_told, IsNotedAt, AreNoted, IsNoteOf}
 
 abbrev pub Entries : Type 0
 Entries = List (List ℕ × Item)
@@ -34,82 +34,82 @@ lt_true n m h = grind (arith, nat_tests)
 lt_false : (n m : ℕ) → nat_lt n m ≡ false → m ≤ n
 lt_false n m h = grind (arith, nat_tests)
 
-from_lower : (low high : ℕ) (es : Entries) → low ≤ high → AllFrom place_of high es → AllFrom place_of low es
+from_lower : (low high : ℕ) (es : Entries) → low ≤ high → AllFrom row_number_of high es → AllFrom row_number_of low es
 from_lower low high [] h a = tt
 from_lower low high (e ∷ es) h a = (omega (arith, h, a.0), from_lower low high es h a.1)
 
--- nothing is at a place below all
-none_from : (p low : ℕ) (es : Entries) → p < low → AllFrom place_of low es → at_place p es ≡ []
+-- nothing is in a row below all
+none_from : (p low : ℕ) (es : Entries) → p < low → AllFrom row_number_of low es → in_row p es ≡ []
 none_from p low [] h a = refl
-none_from p low (e ∷ es) h a = ap (λ b. cond b (e ∷ at_place p es) (at_place p es)) (eq_above p low (place_of e.0) h a.0) ∙ none_from p low es h a.1
+none_from p low (e ∷ es) h a = ap (λ b. cond b (e ∷ in_row p es) (in_row p es)) (eq_above p low (row_number_of e.0) h a.0) ∙ none_from p low es h a.1
 
--- The first entries, so many, are the group of a place, and the rest is above it.
+-- The first entries, so many, are the group of a row, and the rest is above it.
 record IsFront (p : ℕ) (es : Entries) (n : ℕ) (group : Entries) : Type 0 where
   taken : take n es ≡ group
-  rises : AreRising place_of (drop n es)
-  above : AllFrom place_of (suc p) (drop n es)
-  same : (q : ℕ) → (q == p) ≡ false → at_place q (drop n es) ≡ at_place q es
+  rises : AreRising row_number_of (drop n es)
+  above : AllFrom row_number_of (suc p) (drop n es)
+  same : (q : ℕ) → (q == p) ≡ false → in_row q (drop n es) ≡ in_row q es
 
-front : (p : ℕ) (es : Entries) → AllFrom place_of p es → AreRising place_of es → IsFront p es (at_front p es) (at_place p es)
+front : (p : ℕ) (es : Entries) → AllFrom row_number_of p es → AreRising row_number_of es → IsFront p es (at_front p es) (in_row p es)
 front p [] a r = record { taken = refl; rises = tt; above = tt; same = λ q h. refl }
 front p (e ∷ es) a r =
-    elim (place_of e.0 == p) as (λ b. (place_of e.0 == p) ≡ b → IsFront p (e ∷ es) (if b then suc (at_front p es) else 0) (cond b (e ∷ at_place p es) (at_place p es))) [
+    elim (row_number_of e.0 == p) as (λ b. (row_number_of e.0 == p) ≡ b → IsFront p (e ∷ es) (if b then suc (at_front p es) else 0) (cond b (e ∷ in_row p es) (in_row p es))) [
       | true ↦ λ is. here is (front p es a.1 r.1)
       | false ↦ λ is. none is
     ] refl
   where
-    here : (place_of e.0 == p) ≡ true → IsFront p es (at_front p es) (at_place p es) → IsFront p (e ∷ es) (suc (at_front p es)) (e ∷ at_place p es)
+    here : (row_number_of e.0 == p) ≡ true → IsFront p es (at_front p es) (in_row p es) → IsFront p (e ∷ es) (suc (at_front p es)) (e ∷ in_row p es)
     here is below = record {
       taken = ap (λ xs. e ∷ xs) below.taken;
       rises = below.rises;
       above = below.above;
-      same = λ q h. below.same q h ∙ sym (ap (λ b. cond b (e ∷ at_place q es) (at_place q es)) (eq_other (place_of e.0) p q is h));
+      same = λ q h. below.same q h ∙ sym (ap (λ b. cond b (e ∷ in_row q es) (in_row q es)) (eq_other (row_number_of e.0) p q is h));
     }
 
-    none : (place_of e.0 == p) ≡ false → IsFront p (e ∷ es) 0 (at_place p es)
+    none : (row_number_of e.0 == p) ≡ false → IsFront p (e ∷ es) 0 (in_row p es)
     none is =
-        let lt = strictly (place_of e.0) p a.0 is in
+        let lt = strictly (row_number_of e.0) p a.0 is in
         record {
-          taken = sym (none_from p (place_of e.0) es lt r.0);
+          taken = sym (none_from p (row_number_of e.0) es lt r.0);
           rises = r;
-          above = (lt, from_lower (suc p) (place_of e.0) es lt r.0);
+          above = (lt, from_lower (suc p) (row_number_of e.0) es lt r.0);
           same = λ q h. refl;
         }
 
-some_front : (p : ℕ) (e : List ℕ × Item) (es : Entries) → place_of e.0 ≡ p → 0 < at_front p (e ∷ es)
+some_front : (p : ℕ) (e : List ℕ × Item) (es : Entries) → row_number_of e.0 ≡ p → 0 < at_front p (e ∷ es)
 some_front p e es is = subst (λ b. 0 < (if b then suc (at_front p es) else 0)) (sym (ap (λ n. n == p) is ∙ eq_same p)) (omega arith)
 
-no_front : (p : ℕ) (es : Entries) → at_place p es ≡ [] → at_front p es ≡ 0
+no_front : (p : ℕ) (es : Entries) → in_row p es ≡ [] → at_front p es ≡ 0
 no_front p [] h = refl
 no_front p (e ∷ es) h =
-    elim (place_of e.0 == p) as (λ b. cond b (e ∷ at_place p es) (at_place p es) ≡ [] → (if b then suc (at_front p es) else 0) ≡ 0) [ true ↦ λ is. absurd (cc is) | false ↦ λ is. refl ] h
+    elim (row_number_of e.0 == p) as (λ b. cond b (e ∷ in_row p es) (in_row p es) ≡ [] → (if b then suc (at_front p es) else 0) ≡ 0) [ true ↦ λ is. absurd (cc is) | false ↦ λ is. refl ] h
 
--- No entry is below the next place, and some are there.
+-- No entry is below the next row, and some are there.
 record IsNext (p : ℕ) (old new : Entries) : Type 0 where
-  olds : AllFrom place_of p old
-  news : AllFrom place_of p new
+  olds : AllFrom row_number_of p old
+  news : AllFrom row_number_of p new
   some : 0 < at_front p old + at_front p new
 
-all_first : (p : ℕ) (e : List ℕ × Item) (es : Entries) → p ≤ place_of e.0 → AreRising place_of (e ∷ es) → AllFrom place_of p (e ∷ es)
-all_first p e es h r = (h, from_lower p (place_of e.0) es h r.0)
+all_first : (p : ℕ) (e : List ℕ × Item) (es : Entries) → p ≤ row_number_of e.0 → AreRising row_number_of (e ∷ es) → AllFrom row_number_of p (e ∷ es)
+all_first p e es h r = (h, from_lower p (row_number_of e.0) es h r.0)
 
-next : (p : ℕ) (old new : Entries) → lower_place (place_at_front old) (place_at_front new) ≡ Some p → AreRising place_of old → AreRising place_of new → IsNext p old new
+next : (p : ℕ) (old new : Entries) → lower_row_number (row_number_at_front old) (row_number_at_front new) ≡ Some p → AreRising row_number_of old → AreRising row_number_of new → IsNext p old new
 next p [] [] h r s = absurd (cc h)
 next p [] (f ∷ new) h r s =
-    let is : place_of f.0 ≡ p = cc h in
+    let is : row_number_of f.0 ≡ p = cc h in
     record { olds = tt; news = all_first p f new (omega (arith, is)) s; some = omega (arith, some_front p f new is) }
 next p (e ∷ old) [] h r s =
-    let is : place_of e.0 ≡ p = cc h in
+    let is : row_number_of e.0 ≡ p = cc h in
     record { olds = all_first p e old (omega (arith, is)) r; news = tt; some = omega (arith, some_front p e old is) }
 next p (e ∷ old) (f ∷ new) h r s =
-    elim (nat_lt (place_of f.0) (place_of e.0)) as (λ b. nat_lt (place_of f.0) (place_of e.0) ≡ b → Some (if b then place_of f.0 else place_of e.0) ≡ Some p → IsNext p (e ∷ old) (f ∷ new)) [
-      | true ↦ λ b h. (let is : place_of f.0 ≡ p = cc h in let lt = lt_true (place_of f.0) (place_of e.0) b in
+    elim (nat_lt (row_number_of f.0) (row_number_of e.0)) as (λ b. nat_lt (row_number_of f.0) (row_number_of e.0) ≡ b → Some (if b then row_number_of f.0 else row_number_of e.0) ≡ Some p → IsNext p (e ∷ old) (f ∷ new)) [
+      | true ↦ λ b h. (let is : row_number_of f.0 ≡ p = cc h in let lt = lt_true (row_number_of f.0) (row_number_of e.0) b in
           record { olds = all_first p e old (omega (arith, is, lt)) r; news = all_first p f new (omega (arith, is)) s; some = omega (arith, some_front p f new is) })
-      | false ↦ λ b h. (let is : place_of e.0 ≡ p = cc h in let le = lt_false (place_of f.0) (place_of e.0) b in
+      | false ↦ λ b h. (let is : row_number_of e.0 ≡ p = cc h in let le = lt_false (row_number_of f.0) (row_number_of e.0) b in
           record { olds = all_first p e old (omega (arith, is)) r; news = all_first p f new (omega (arith, is, le)) s; some = omega (arith, some_front p e old is) })
     ] refl h
 
-both_empty : (old new : Entries) → lower_place (place_at_front old) (place_at_front new) ≡ None → (old ≡ []) × (new ≡ [])
+both_empty : (old new : Entries) → lower_row_number (row_number_at_front old) (row_number_at_front new) ≡ None → (old ≡ []) × (new ≡ [])
 both_empty [] [] h = (refl, refl)
 both_empty [] (f ∷ new) h = absurd (cc h)
 both_empty (e ∷ old) [] h = absurd (cc h)
@@ -123,46 +123,46 @@ pub first_of_one : (x : Option (Option Row)) → x ≡ or_first x None
 first_of_one (Some row) = refl
 first_of_one None = refl
 
-module _ (p : ℕ) (old new : Entries) (fo : IsFront p old (at_front p old) (at_place p old)) (fn : IsFront p new (at_front p new) (at_place p new))
-    (rest : List PlacedItems) (noted : AreNoted (drop (at_front p old) old) (drop (at_front p new) new) rest) where
+module _ (p : ℕ) (old new : Entries) (fo : IsFront p old (at_front p old) (in_row p old)) (fn : IsFront p new (at_front p new) (in_row p new))
+    (rest : List RowItems) (noted : AreNoted (drop (at_front p old) old) (drop (at_front p new) new) rest) where
   ends : row_told p rest ≡ None
   ends = unnoted p _ _ (row_told p rest) (none_from p (suc p) (drop (at_front p old) old) (omega arith) fo.above) (none_from p (suc p) (drop (at_front p new) new) (omega arith) fn.above) (noted p)
 
-  elsewhere : (q : ℕ) → (q == p) ≡ false → IsNotedAt q (at_place q old) (at_place q new) (row_told q rest)
+  elsewhere : (q : ℕ) → (q == p) ≡ false → IsNotedAt q (in_row q old) (in_row q new) (row_told q rest)
   elsewhere q is =
-      subst (λ a. IsNotedAt q a (at_place q new) (row_told q rest)) (fo.same q is) (subst (λ b. IsNotedAt q (at_place q (drop (at_front p old) old)) b (row_told q rest)) (fn.same q is) (noted q))
+      subst (λ a. IsNotedAt q a (in_row q new) (row_told q rest)) (fo.same q is) (subst (λ b. IsNotedAt q (in_row q (drop (at_front p old) old)) b (row_told q rest)) (fn.same q is) (noted q))
 
-  -- the place has the same
+  -- the row has the same
   stays : take (at_front p old) old ≡ take (at_front p new) new → AreNoted old new rest
   stays e q =
-      elim (q == p) as (λ b. (q == p) ≡ b → IsNotedAt q (at_place q old) (at_place q new) (row_told q rest)) [
-        | true ↦ λ is. subst (λ r. IsNotedAt r (at_place r old) (at_place r new) (row_told r rest)) (sym (eq_true q p is)) (subst (IsNotedAt p (at_place p old) (at_place p new)) (sym ends) (sym fo.taken ∙ e ∙ fn.taken))
+      elim (q == p) as (λ b. (q == p) ≡ b → IsNotedAt q (in_row q old) (in_row q new) (row_told q rest)) [
+        | true ↦ λ is. subst (λ r. IsNotedAt r (in_row r old) (in_row r new) (row_told r rest)) (sym (eq_true q p is)) (subst (IsNotedAt p (in_row p old) (in_row p new)) (sym ends) (sym fo.taken ∙ e ∙ fn.taken))
         | false ↦ λ is. elsewhere q is
       ] refl
 
   -- it is noted
   changes : 0 < at_front p old + at_front p new → (group : Entries) → take (at_front p new) new ≡ group → AreNoted old new ((p, group) ∷ rest)
   changes lt group e q =
-      elim (q == p) as (λ b. (q == p) ≡ b → IsNotedAt q (at_place q old) (at_place q new) (row_told q ((p, group) ∷ rest))) [
-        | true ↦ λ is. subst (λ r. IsNotedAt r (at_place r old) (at_place r new) (row_told r ((p, group) ∷ rest))) (sym (eq_true q p is)) here
-        | false ↦ λ is. subst (IsNotedAt q (at_place q old) (at_place q new))
+      elim (q == p) as (λ b. (q == p) ≡ b → IsNotedAt q (in_row q old) (in_row q new) (row_told q ((p, group) ∷ rest))) [
+        | true ↦ λ is. subst (λ r. IsNotedAt r (in_row r old) (in_row r new) (row_told r ((p, group) ∷ rest))) (sym (eq_true q p is)) here
+        | false ↦ λ is. subst (IsNotedAt q (in_row q old) (in_row q new))
             (first_of_one (row_told q rest) ∙ ap (λ b. or_first (row_told q rest) (if b then Some (row_of_items p group) else None)) (sym is)) (elsewhere q is)
       ] refl
     where
-      here : IsNotedAt p (at_place p old) (at_place p new) (row_told p ((p, group) ∷ rest))
-      here = subst (IsNotedAt p (at_place p old) (at_place p new)) (sym (λ i. or_first (ends i) (if eq_same p i then Some (row_of_items p group) else None)))
+      here : IsNotedAt p (in_row p old) (in_row p new) (row_told p ((p, group) ∷ rest))
+      here = subst (IsNotedAt p (in_row p old) (in_row p new)) (sym (λ i. or_first (ends i) (if eq_same p i then Some (row_of_items p group) else None)))
           (ap (row_of_items p) (sym e ∙ fn.taken), λ a b. (let x = no_front p old a in let y = no_front p new b in omega (arith, lt, x, y)))
 
 -- what is noted of two lists, if that of the rests follows
-pub record GoesOn (old new old_rest new_rest : Entries) (noted : List PlacedItems) : Type 0 where
-  pub olds : AreRising place_of old_rest
-  pub news : AreRising place_of new_rest
-  pub follow : (rest : List PlacedItems) → AreNoted old_rest new_rest rest → AreNoted old new (noted ++ rest)
+pub record GoesOn (old new old_rest new_rest : Entries) (noted : List RowItems) : Type 0 where
+  pub olds : AreRising row_number_of old_rest
+  pub news : AreRising row_number_of new_rest
+  pub follow : (rest : List RowItems) → AreNoted old_rest new_rest rest → AreNoted old new (noted ++ rest)
 
-pub begins : (old new : Entries) (noted : List PlacedItems) → noted ≡ [] → AreRising place_of old → AreRising place_of new → GoesOn old new old new noted
+pub begins : (old new : Entries) (noted : List RowItems) → noted ≡ [] → AreRising row_number_of old → AreRising row_number_of new → GoesOn old new old new noted
 begins old new noted e r s = record { olds = r; news = s; follow = λ rest is. subst (λ cs. AreNoted old new (cs ++ rest)) (sym e) is }
 
-pub goes_on : (old new o n : Entries) (p : ℕ) (before after : List PlacedItems) → GoesOn old new o n before → lower_place (place_at_front o) (place_at_front n) ≡ Some p
+pub goes_on : (old new o n : Entries) (p : ℕ) (before after : List RowItems) → GoesOn old new o n before → lower_row_number (row_number_at_front o) (row_number_at_front n) ≡ Some p
     → IsNoteOf p (take (at_front p o) o) (take (at_front p n) n) before after → GoesOn old new (drop (at_front p o) o) (drop (at_front p n) n) after
 goes_on old new o n p before after g h note =
     let is = next p o n h g.olds g.news in
@@ -174,20 +174,20 @@ goes_on old new o n p before after g h note =
       follow = λ rest noted. by note rest (stays p o n fo fn rest noted) (changes p o n fo fn rest noted is.some);
     }
   where
-    by : IsNoteOf p (take (at_front p o) o) (take (at_front p n) n) before after → (rest : List PlacedItems) → (take (at_front p o) o ≡ take (at_front p n) n → AreNoted o n rest)
+    by : IsNoteOf p (take (at_front p o) o) (take (at_front p n) n) before after → (rest : List RowItems) → (take (at_front p o) o ≡ take (at_front p n) n → AreNoted o n rest)
         → ((group : Entries) → take (at_front p n) n ≡ group → AreNoted o n ((p, group) ∷ rest)) → AreNoted old new (after ++ rest)
     by (inl same) rest one more = subst (λ cs. AreNoted old new (cs ++ rest)) (sym same.0) (g.follow rest (one same.1))
     by (inr added) rest one more = subst (AreNoted old new)
         (sym (ap (λ cs. cs ++ rest) added ∙ append_assoc before ((p, take (at_front p n) n) ∷ []) rest)) (g.follow ((p, take (at_front p n) n) ∷ rest) (more (take (at_front p n) n) refl))
 
-pub ended : (old new o n : Entries) (noted : List PlacedItems) → GoesOn old new o n noted → lower_place (place_at_front o) (place_at_front n) ≡ None → AreNoted old new noted
+pub ended : (old new o n : Entries) (noted : List RowItems) → GoesOn old new o n noted → lower_row_number (row_number_at_front o) (row_number_at_front n) ≡ None → AreNoted old new noted
 ended old new o n noted g h =
     let both = both_empty o n h in
     let nothing : AreNoted o n [] = subst (λ a. AreNoted a n []) (sym both.0) (subst (λ b. AreNoted [] b []) (sym both.1) (λ p. refl)) in
     subst (AreNoted old new) (append-nil noted) (g.follow [] nothing)
 
 -- the same, of what equals these
-pub goes_on_with : (old new o n : Entries) (p : ℕ) (before after : List PlacedItems) (a b o' n' : Entries) → GoesOn old new o n before → lower_place (place_at_front o) (place_at_front n) ≡ Some p
+pub goes_on_with : (old new o n : Entries) (p : ℕ) (before after : List RowItems) (a b o' n' : Entries) → GoesOn old new o n before → lower_row_number (row_number_at_front o) (row_number_at_front n) ≡ Some p
     → a ≡ take (at_front p o) o → b ≡ take (at_front p n) n → IsNoteOf p a b before after → o' ≡ drop (at_front p o) o → n' ≡ drop (at_front p n) n → GoesOn old new o' n' after
 goes_on_with old new o n p before after a b o' n' g h is_a is_b note is_o is_n =
     subst (λ (x : Entries). GoesOn old new x n' after) (sym is_o)

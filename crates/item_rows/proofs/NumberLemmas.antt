@@ -1,4 +1,4 @@
--- The first bits of the path of a key make the number in its place.
+-- The first bits of the path of a key make the last part of its row number.
 use Rattle.std.proofs.Common.{◌≡◌, ℕ, zero, suc, ◌+◌, ◌*◌, ◌/◌, ◌%◌, ◌^◌, ◌<◌, Bool, cond, List, [], ◌∷◌, ◌++◌, length, take, refl, sym, ap, ◌∙◌, subst, arith}
 use Rattle.std.specs.Prelude.{slice_index, nat_eq, bit_and}
 use Rattle.std.specs.Int.{w32, w64, to_be_bytes, from_be_bytes}
@@ -125,7 +125,7 @@ module _ (key : List ℕ) where
       (λ j. ((((((((front key 0 (omega arith) j * 72057594037927936) + front key 1 (omega arith) j * 281474976710656) + front key 2 (omega arith) j * 1099511627776) + front key 3 (omega arith) j * 4294967296) + front key 4 (omega arith) j * 16777216) + front key 5 (omega arith) j * 65536) + front key 6 (omega arith) j * 256) + front key 7 (omega arith) j) / 512)
       ∙ (whole (at key 0) (at key 1) (at key 2) (at key 3) (at key 4) (at key 5) (at key 6) (at key 7) (is_byte key 6 (omega arith)) (is_byte key 7 (omega arith)))
 
-  -- the number in the place of a key
+  -- the last part of the row number of a key
   pub first_number : bits_behind path_bit 55 0 0 key ≡ from_be_bytes w64 (take 8 (sha256 key)) / 2 ^ 9
   first_number = byte_0 0 ∙ byte_1 _ ∙ byte_2 _ ∙ byte_3 _ ∙ byte_4 _ ∙ byte_5 _ ∙ last _ ∙ sym value
 

@@ -1,5 +1,5 @@
 pub mod Changes
 pub mod Row
-pub mod Placed
+pub mod RowItems
 pub mod Rising
 pub mod Changed

@@ -14,8 +14,8 @@ abbrev pub first_bits : List ℕ → ℕ
 first_bits key = from_be_bytes w64 (take 8 (sha256 key)) / 2 ^ 9
 
 -- the page of the key, and then those bits
-abbrev pub place_of : List ℕ → ℕ
-place_of key = page_number key * 2 ^ 55 + first_bits key
+abbrev pub row_number_of : List ℕ → ℕ
+row_number_of key = page_number key * 2 ^ 55 + first_bits key
 
 -- a number of 64 bits, as a signed one
 abbrev pub number_column : ℕ → Value
@@ -25,13 +25,13 @@ abbrev pub due_column : Option ℕ → Value
 due_column None = Null
 due_column (Some due) = number_column due
 
--- its number, no value for the column of the number, the columns of an item, and what else is at the place
+-- its number, no value for the column of the number, the columns of an item, and what else is in the row
 abbrev pub full_row : ℤ → List ℕ → Item → Value → Row
 full_row number key item more = Int number ∷ Null ∷ Blob key ∷ Int (pos item.flags) ∷ due_column item.due ∷ number_column item.unique ∷ Blob item.block ∷ more ∷ []
 
--- the row of an item whose place no other item has
+-- the row of an item whose row number no other item has
 abbrev pub item_row : List ℕ → Item → Row
-item_row key item = full_row (pos (place_of key)) key item Null
+item_row key item = full_row (pos (row_number_of key)) key item Null
 
 -- the columns of an item
 pub record HasColumns (row : Row) (key : List ℕ) (item : Item) : Type 0 where

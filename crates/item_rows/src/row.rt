@@ -9,7 +9,7 @@ ghost use Rattle.sqlite_value.specs.Value.{owned};
 ghost use Rattle.sqlite_value.specs.declared.value.Value.TheVariants as sql;
 ghost use Rattle.item_rows.specs.Row.{number_column, due_column, full_row, item_row, HasColumns, DueFits, ItemFits};
 
-use crate::place::place_of;
+use crate::row_number::row_number_of;
 use items::Item;
 use proto::{Block, Fault, Key, MOST_BLOCK_BYTES, is_key_text};
 use sqlite_value::row::Row;
@@ -33,18 +33,18 @@ fn push_two(row: &mut Row, first: ValueRef<'_>, second: ValueRef<'_>) -> Result<
     row.push(second)
 }
 
-/// The row of this number, which has an item and, after its columns, what is beside it at its place.
+/// The row of this number, which has an item and, after its columns, what is beside it in the row.
 pub(crate) fn row_with(
     alloc: Global,
-    place: i64,
+    row_number: i64,
     key: &Key,
     item: &Item,
     more: ValueRef<'_>,
 ) -> Result<Row, AllocError>
-    ensures { IfOk result (λ row. row ≡ full_row place key.now item.now (owned more.entry)) }
+    ensures { IfOk result (λ row. row ≡ full_row row_number key.now item.now (owned more.entry)) }
 {
     let mut row = Row::new(alloc);
-    push_two(&mut row, ValueRef::Int(place), ValueRef::Null)?;
+    push_two(&mut row, ValueRef::Int(row_number), ValueRef::Null)?;
     push_two(
         &mut row,
         ValueRef::Blob(key.as_slice()),
@@ -59,11 +59,11 @@ pub(crate) fn row_with(
     Ok(row)
 }
 
-/// The row of an item that is alone at its place. The only error is a failed allocation.
+/// The row of an item that is alone in its row. The only error is a failed allocation.
 pub fn row_of(alloc: Global, key: &Key, item: &Item) -> Result<Row, AllocError>
     ensures { IfOk result (λ row. row ≡ item_row key.now item.now) }
 {
-    row_with(alloc, place_of(key), key, item, ValueRef::Null)
+    row_with(alloc, row_number_of(key), key, item, ValueRef::Null)
 }
 
 fn key_in(alloc: Global, row: &Row) -> Result<Key, Fault>
@@ -137,7 +137,7 @@ pub(crate) fn columns_in(alloc: Global, row: &Row) -> Result<(Key, Item), Fault>
     Ok((key, item))
 }
 
-/// The item of a row that is alone at its place, as `row_of` made it. Anything else is a BadRecord. The only other error
+/// The item of a row that is alone in it, as `row_of` made it. Anything else is a BadRecord. The only other error
 /// is a failed allocation, NoMemory.
 pub fn item_of(alloc: Global, row: &Row) -> Result<(Key, Item), Fault>
     ensures ok { IfOk result (λ read. row.now ≡ item_row read.0 read.1) }

@@ -12,7 +12,7 @@ use std::alloc::Global;
 use std::collections::VecDeque;
 use std::marker::Model;
 
-/// What was said and has not left, in order, each with the turn in which it was said.
+/// What was said and has not left, in order, each with the number of the save that has to succeed before.
 pub struct Outbox<T: Drop> {
     held: VecDeque<(u64, T)>,
 }
@@ -31,12 +31,12 @@ impl<T: Drop> Drop for Outbox<T> {
     }
 }
 
-/// Takes the first one out, if its turn is saved.
+/// Takes the first one out, if its save has succeeded.
 fn take_first<T: Drop>(held: &mut VecDeque<(u64, T)>, saved: u64) -> Option<T>
     ensures { TakesFirst saved held.old.items held.new.items result }
 {
     match held.front() {
-        Some((turn, _)) if *turn <= saved => match held.pop_front() {
+        Some((save, _)) if *save <= saved => match held.pop_front() {
             Some((_, said)) => Some(said),
             None => None,
         },
@@ -46,7 +46,7 @@ fn take_first<T: Drop>(held: &mut VecDeque<(u64, T)>, saved: u64) -> Option<T>
 
 impl<T: Drop> Outbox<T> {
     ghost use Rattle.std.specs.Prelude.{◌≡◌, ◌↔◌, ◌++◌, ◌∷◌, [], IsTrue, OnOk, OnErr, IfErr};
-    ghost use Rattle.outbox.specs.Outbox.{TakesFirst, first_turn};
+    ghost use Rattle.outbox.specs.Outbox.{TakesFirst, first_save};
 
     /// Nothing was said.
     pub fn new(alloc: Global) -> Outbox<T>
@@ -57,13 +57,13 @@ impl<T: Drop> Outbox<T> {
         }
     }
 
-    /// This was said in this turn, after all that was said before. It comes back if there is no memory for it.
-    pub fn hold(&mut self, turn: u64, said: T) -> Result<(), T>
-        ensures ok { OnOk result (self.new ≡ self.old ++ (turn, said) ∷ []) }
+    /// This was said before this save, after all that was said before. It comes back if there is no memory for it.
+    pub fn hold(&mut self, save: u64, said: T) -> Result<(), T>
+        ensures ok { OnOk result (self.new ≡ self.old ++ (save, said) ∷ []) }
         ensures err { OnErr result (self.new ≡ self.old) }
         ensures back { IfErr result (λ back. back ≡ said) }
     {
-        match self.held.push_back((turn, said)) {
+        match self.held.push_back((save, said)) {
             Ok(()) => Ok(()),
             Err(refused) => {
                 let (_, said) = refused.value;
@@ -72,7 +72,7 @@ impl<T: Drop> Outbox<T> {
         }
     }
 
-    /// Takes out what was said first, if its turn is `saved` or an earlier one. If it is not, or if nothing is held,
+    /// Takes out what was said first, if its save is `saved` or an earlier one. If it is not, or if nothing is held,
     /// nothing leaves: what was said later waits too.
     pub fn release(&mut self, saved: u64) -> Option<T>
         ensures { TakesFirst saved self.old self.new result }
@@ -80,12 +80,12 @@ impl<T: Drop> Outbox<T> {
         take_first(&mut self.held, saved)
     }
 
-    /// The turn that has to be saved before the first one leaves, if one is held.
-    pub fn first_turn(&self) -> Option<u64>
-        ensures { result ≡ first_turn self.now }
+    /// The save that has to succeed before the first one leaves, if one is held.
+    pub fn first_save(&self) -> Option<u64>
+        ensures { result ≡ first_save self.now }
     {
         match self.held.front() {
-            Some((turn, _)) => Some(*turn),
+            Some((save, _)) => Some(*save),
             None => None,
         }
     }

@@ -22,7 +22,7 @@ module _ {is_text : RecordView → List ℕ → Type 0} {before may_find : Optio
     ran = ran;
     works = inl runs;
     service = refl;
-    in_line = ap (λ (l : List Said). l ++ (held ++ ran.said)) none;
+    in_order = ap (λ (l : List Said). l ++ (held ++ ran.said)) none;
     releases = inl (record {
       nothing = none;
       found = λ found may. elim (crash found may) [
@@ -40,7 +40,7 @@ module _ {is_text : RecordView → List ℕ → Type 0} {before may_find : Optio
     ran = ran;
     works = inl runs;
     service = service;
-    in_line = ap (λ (l : List Said). held ++ l) (ap (λ (l : List Said). ran.said ++ l) none ∙ append-nil ran.said);
+    in_order = ap (λ (l : List Said). held ++ l) (ap (λ (l : List Said). ran.said ++ l) none ∙ append-nil ran.said);
     releases = inr (inl (record { all = refl; saved = saved_now v kept of_moment saved }));
   }
 
@@ -52,14 +52,14 @@ module _ {is_text : RecordView → List ℕ → Type 0} {before may_find : Optio
       ran = v;
       works = inr refl;
       service = ap (λ (a : AnsweringView). a.service) same;
-      in_line = ap (λ (l : List Said). l ++ (rest ++ now.said)) saved.all ∙ ap (λ (l : List Said). held ++ l) (ap (λ (l : List Said). l ++ now.said) saved.none ∙ ap (λ (a : AnsweringView). a.said) same);
+      in_order = ap (λ (l : List Said). l ++ (rest ++ now.said)) saved.all ∙ ap (λ (l : List Said). held ++ l) (ap (λ (l : List Said). l ++ now.said) saved.none ∙ ap (λ (a : AnsweringView). a.said) same);
       releases = inr (inl (record { all = saved.all; saved = saved.saved }));
     }
     | inr kept ↦ record {
       ran = v;
       works = inr refl;
       service = ap (λ (a : AnsweringView). a.service) same;
-      in_line = ap (λ (l : List Said). l ++ (rest ++ now.said)) kept.nothing ∙ (ap (λ (l : List Said). l ++ now.said) kept.all ∙ ap (λ (a : AnsweringView). held ++ a.said) same);
+      in_order = ap (λ (l : List Said). l ++ (rest ++ now.said)) kept.nothing ∙ (ap (λ (l : List Said). l ++ now.said) kept.all ∙ ap (λ (a : AnsweringView). held ++ a.said) same);
       releases = inl (record {
         nothing = kept.nothing;
         found = λ found may. elim (kept.saved found may) [
@@ -81,14 +81,14 @@ module _ {is_text : RecordView → List ℕ → Type 0} {before may_find : Optio
           ran = ran;
           works = works;
           service = service;
-          in_line = ap (λ (l : List Said). l ++ (rest ++ now.said)) saved.all ∙ (ap (λ (l : List Said). held ++ (l ++ now.said)) saved.none ∙ told);
+          in_order = ap (λ (l : List Said). l ++ (rest ++ now.said)) saved.all ∙ (ap (λ (l : List Said). held ++ (l ++ now.said)) saved.none ∙ told);
           releases = inr (inr saved.saved);
         }
         | inr kept ↦ record {
           ran = ran;
           works = works;
           service = service;
-          in_line = ap (λ (l : List Said). l ++ (rest ++ now.said)) kept.nothing ∙ (ap (λ (l : List Said). l ++ now.said) kept.all ∙ told);
+          in_order = ap (λ (l : List Said). l ++ (rest ++ now.said)) kept.nothing ∙ (ap (λ (l : List Said). l ++ now.said) kept.all ∙ told);
           releases = inl (record {
             nothing = kept.nothing;
             found = λ found may. elim (kept.saved found may) [
@@ -103,10 +103,10 @@ module _ {is_text : RecordView → List ℕ → Type 0} {before may_find : Optio
   pub nothing_leaves : (moment : ℕ) (v ran now : AnsweringView) (held out rest : List Said) → DoesWhatIsDue moment v ran ⊎ (ran ≡ v) → now.service ≡ ran.service
       → rest ++ now.said ≡ held ++ ran.said → out ≡ [] → ((found : Option (List ℕ)) → may_find found → before found)
       → HandsOutSaved is_text before may_find moment v held out now rest
-  nothing_leaves moment v ran now held out rest works service line none same = record {
+  nothing_leaves moment v ran now held out rest works service order none same = record {
     ran = ran;
     works = works;
     service = service;
-    in_line = ap (λ (l : List Said). l ++ (rest ++ now.said)) none ∙ line;
+    in_order = ap (λ (l : List Said). l ++ (rest ++ now.said)) none ∙ order;
     releases = inl (record { nothing = none; found = λ found may. inl (same found may) });
   }

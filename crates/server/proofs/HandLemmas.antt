@@ -6,7 +6,7 @@ use Rattle.std.proofs.lemmas.List.{append-nil, length-append, nil_from_length}
 use Rattle.base.specs.declared.fault.Fault.{Fault}
 use Rattle.connections.specs.declared.said.Said as of_service
 use Rattle.connections.specs.Connections.{HasSameLogs}
-use Rattle.connections.specs.Places.{left_at, is_here}
+use Rattle.connections.specs.Slots.{left_at, is_here}
 use Rattle.connections.specs.Told.{IsToldAt}
 use Rattle.service.specs.Service.{ServiceView, HasSameRequests}
 use Rattle.server.specs.declared.answering.Lost.{Lost}

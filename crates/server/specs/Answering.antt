@@ -8,7 +8,7 @@ use Rattle.connections.specs.declared.said.Said as of_service
 use Rattle.connections.specs.Connections.{HasSameLogs}
 use Rattle.connections.specs.History.{moment_as}
 use Rattle.connections.specs.Connection.{new_connection}
-use Rattle.connections.specs.Places.{place_in, is_here, left_at, written_at, HasSameOthers, IsGrown}
+use Rattle.connections.specs.Slots.{slot_in, is_here, left_at, written_at, HasSameOthers, IsGrown}
 use Rattle.connections.specs.Told.{IsToldAt}
 use Rattle.event_loop.specs.declared.message.Heard.{Heard}
 use Rattle.event_loop.specs.declared.message.Heard.TheVariants.{Came, Bytes, Written, Left}
@@ -69,7 +69,7 @@ pub record SaysNothing (v now : AnsweringView) : Type 0 where
 -- The service is told that a connection comes, and takes it or does not. Each other one is as it was.
 pub record HandsCame (key number : ℕ) (v now : AnsweringView) : Type 0 where
   pub nothing : SaysNothing v now
-  pub becomes : (place_in now.service.connections.table key ≡ Some (new_connection v.service.connections.dialect number)) ⊎ IsGrown v.service.connections.table now.service.connections.table
+  pub becomes : (slot_in now.service.connections.table key ≡ Some (new_connection v.service.connections.dialect number)) ⊎ IsGrown v.service.connections.table now.service.connections.table
   pub others : HasSameOthers key v.service.connections.table now.service.connections.table
 
 pub record AreWritten (key number count : ℕ) (v between now : AnsweringView) : Type 0 where
@@ -82,7 +82,7 @@ pub record AreLost (key number : ℕ) (v between now : AnsweringView) : Type 0 w
   pub is_last : IsLastMessage key number last
   pub says : Says between last now
 
--- The service is told that so much was written. If it has no memory for the place in its line the connection leaves it,
+-- The service is told that so much was written. If it has no memory for one more in its queue the connection leaves it,
 -- and is told that it is closed.
 pub record HandsWritten (key number count : ℕ) (v now : AnsweringView) : Type 0 where
   pub between : AnsweringView

@@ -65,5 +65,5 @@ pub record HandsOutSaved (is_text : RecordView → List ℕ → Type 0) (before 
   pub ran : AnsweringView
   pub works : DoesWhatIsDue moment v ran ⊎ (ran ≡ v)
   pub service : now.service ≡ ran.service
-  pub in_line : out ++ (rest ++ now.said) ≡ held ++ ran.said
+  pub in_order : out ++ (rest ++ now.said) ≡ held ++ ran.said
   pub releases : Releases is_text before may_find v.service held out now.service

@@ -308,14 +308,14 @@ impl Serve for Answering {
     }
 
     fn has_work(&self) -> bool
-        ensures no { result ≡ false → (self.now.service.line ≡ []) ⊎ AllWait self.now.service.waiting }
+        ensures no { result ≡ false → (self.now.service.queue ≡ []) ⊎ AllWait self.now.service.waiting }
         ensures yes { result ≡ true → (proxy : ℕ) × IsFreeIn self.now.service.waiting proxy }
     {
         self.service.is_ready()
     }
 
     fn is_waiting(&self) -> bool
-        ensures service { result ≡ false → (self.now.service.line ≡ []) × NoneWaits self.now.service.waiting }
+        ensures service { result ≡ false → (self.now.service.queue ≡ []) × NoneWaits self.now.service.waiting }
         ensures up { result ≡ false → AreAllUpIn self.now.service.replicas }
         ensures lost { result ≡ false → self.now.lost ≡ [] }
     {

@@ -378,7 +378,7 @@ impl<S: Save> Serve for DurableService<S> {
     }
 
     fn has_work(&self) -> bool
-        ensures no { result ≡ false → (self.now.is_failing ≡ true) ⊎ ((self.now.held.items ≡ []) × (self.now.answering.said ≡ []) × ((self.now.answering.service.line ≡ []) ⊎ AllWait self.now.answering.service.waiting)) }
+        ensures no { result ≡ false → (self.now.is_failing ≡ true) ⊎ ((self.now.held.items ≡ []) × (self.now.answering.said ≡ []) × ((self.now.answering.service.queue ≡ []) ⊎ AllWait self.now.answering.service.waiting)) }
         ensures fine { result ≡ true → self.now.is_failing ≡ false }
         ensures yes { result ≡ true → (self.now.held.items ≢ []) ⊎ ((self.now.answering.said ≢ []) ⊎ ((proxy : ℕ) × IsFreeIn self.now.answering.service.waiting proxy)) }
     {
@@ -390,7 +390,7 @@ impl<S: Save> Serve for DurableService<S> {
         ensures failing { result ≡ false → self.now.is_failing ≡ false }
         ensures held { result ≡ false → self.now.held.items ≡ [] }
         ensures said { result ≡ false → self.now.answering.said ≡ [] }
-        ensures service { result ≡ false → (self.now.answering.service.line ≡ []) × NoneWaits self.now.answering.service.waiting }
+        ensures service { result ≡ false → (self.now.answering.service.queue ≡ []) × NoneWaits self.now.answering.service.waiting }
         ensures up { result ≡ false → AreAllUpIn self.now.answering.service.replicas }
         ensures lost { result ≡ false → self.now.answering.lost ≡ [] }
     {

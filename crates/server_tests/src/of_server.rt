@@ -234,7 +234,7 @@ fn all_get_in<R: Net<Stream = TcpStream>>(
     Some(clients.iter().all(is_served))
 }
 
-/// Those who left have given their places back, though nobody heard their replies.
+/// Those who left have made room, though nobody heard their replies.
 fn leaving<R: Net<Stream = TcpStream> + Clock>(
     rt: &R,
     alloc: Global,
@@ -420,7 +420,7 @@ fn large_values_are_stored_on_many_replicas(rt: HostRuntime) -> Result<(), Fail>
 }
 
 #[test]
-fn who_leaves_gives_its_place_back(rt: HostRuntime) -> Result<(), Fail> {
+fn who_leaves_makes_room(rt: HostRuntime) -> Result<(), Fail> {
     assert!(rt; served(&rt, rt.alloc(), 0, Play::Leaving));
     assert!(rt; served(&rt, rt.alloc(), 1, Play::Leaving));
     Ok(())

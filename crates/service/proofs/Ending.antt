@@ -3,7 +3,7 @@ use Rattle.std.proofs.Common.{◌≡◌, ℕ, List, [], ◌∷◌, ◌++◌, Opt
 use Rattle.std.proofs.lemmas.List.{append-nil}
 use Rattle.connections.specs.Connection.{ConnectionView}
 use Rattle.connections.specs.Connections.{ConnectionsView, IsConnections}
-use Rattle.connections.specs.Places.{place_in}
+use Rattle.connections.specs.Slots.{slot_in}
 use Rattle.ensemble.specs.Ensemble.{EnsembleView, IsEnsemble}
 use Rattle.ensemble.specs.Kept.{ProcessView, process_of}
 use Rattle.ensemble.specs.Process.{reopened_ensemble, ensemble_after, IsEnsembleAfter}
@@ -11,21 +11,21 @@ use Rattle.service.specs.declared.assignment.Assignment.{Assignment}
 use Rattle.service.specs.declared.assignment.Outstanding.{Outstanding}
 use Rattle.service.specs.declared.pause.Pause.{Pause}
 use Rattle.service.specs.Service.{ServiceView, IsAssigned, IsService, HasEnsemble}
-use Rattle.service.specs.Process.{IsWhole, IsServiceAlone, KeptService, kept_of, found_as, found_by, HasAll, NobodyWaits, reopened_service, service_after, HoldsAfter, IsServiceAfter, IsProcess, AreInTurn, AreReopened, next_found, services_after, services_with}
+use Rattle.service.specs.Process.{IsWhole, IsServiceAlone, KeptService, kept_of, found_as, found_by, HasAll, NobodyWaits, reopened_service, service_after, HoldsAfter, IsServiceAfter, IsProcess, AreSuccessive, AreReopened, next_found, services_after, services_with}
 use Rattle.service.proofs.Joining.{joined_whole}
 
 -- a law of `ensemble`
 abbrev pub EnsembleFollows : Type 0
 EnsembleFollows = (found : ProcessView) → IsEnsembleAfter (Some found) (reopened_ensemble found)
 
-nobody : (key : ℕ) (c : ConnectionView) → place_in [] key ≡ Some c → ⊥
+nobody : (key : ℕ) (c : ConnectionView) → slot_in [] key ≡ Some c → ⊥
 nobody key c at = cc at
 
 -- the connections of the process before are gone
 no_connection_left : (v : ConnectionsView) → IsConnections v → IsConnections (record v { table = [] })
 no_connection_left v h = record {
   here = λ key c at. absurd (nobody key c at);
-  one_place = λ i j c d at_i at_j same. absurd (nobody i c at_i);
+  one_key = λ i j c d at_i at_j same. absurd (nobody i c at_i);
   answered = h.answered;
   fresh = h.fresh;
   asked = h.asked;
@@ -41,7 +41,7 @@ abbrev ended : ServiceView → List (Option Outstanding) → List Pause → Serv
 ended v waiting pauses = record v {
   connections = record v.connections { table = [] };
   waiting = waiting;
-  line = [];
+  queue = [];
   replicas = record { ensemble = ensemble_after v.replicas.ensemble (reopened_ensemble (process_of v.replicas.ensemble.nodes)); refused = 0; pauses = pauses };
 }
 
@@ -68,7 +68,7 @@ module _ (v : ServiceView) (waiting : List (Option Outstanding)) (pauses : List 
     ordered = h.ordered;
     in_turn = h.in_turn;
     waits = λ a w. absurd (none a w);
-    placed = λ i a w. absurd (none a (i, w.0, w.1, w.2));
+    in_own_slot = λ i a w. absurd (none a (i, w.0, w.1, w.2));
     unreplied = λ a w. absurd (none a w);
   }
 
@@ -116,7 +116,7 @@ begins_after follows found waiting pauses none before h all is =
       order = sym (append-nil before.order) i;
       assignments = sym (append-nil before.assignments) i;
       waiting = waiting;
-      line = [];
+      queue = [];
       replicas = record { ensemble = ensemble_after before.replicas.ensemble (reopened_ensemble (process_of before.replicas.ensemble.nodes)); refused = 0; pauses = pauses };
     } in
     subst (λ (k : KeptService). IsWhole (service_after before (reopened_service k waiting pauses))) is (subst (λ (x : ServiceView). IsWhole x) same whole)
@@ -148,9 +148,9 @@ pub own_after : (v : ServiceView) → IsServiceAlone v → IsEnsembleAfter v.rep
 own_after v own world = after_found v v.replicas.ensemble.found own world
 
 -- what always holds of a service holds of processes one after the other
-pub all_whole : (v : ServiceView) (later : List ServiceView) → IsWhole v → HasAll v → AreInTurn (Some (kept_of v)) later → IsWhole (services_after v later)
-all_whole v [] h all turns = h
-all_whole v (next ∷ later) h all turns = all_whole (service_after v next) later (turns.0 v h all refl) turns.1 turns.2
+pub all_whole : (v : ServiceView) (later : List ServiceView) → IsWhole v → HasAll v → AreSuccessive (Some (kept_of v)) later → IsWhole (services_after v later)
+all_whole v [] h all follow = h
+all_whole v (next ∷ later) h all follow = all_whole (service_after v next) later (follow.0 v h all refl) follow.1 follow.2
 
 -- each was opened again with what was kept of the one before it, and so is this one
 behind_all : (x : ServiceView) (later : List ServiceView) (v : ServiceView) → IsWhole x → HasAll x → AreReopened (Some (kept_of x)) later → IsProcess v → found_by v ≡ next_found (Some (kept_of x)) later → IsWhole (services_after x (later ++ v ∷ []))

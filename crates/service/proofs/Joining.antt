@@ -12,7 +12,7 @@ use Rattle.session.specs.Taken.{SessionOk}
 use Rattle.session.proofs.TakenLemmas.{session_implies}
 use Rattle.connections.specs.declared.connections.CommandNumber.{CommandNumber}
 use Rattle.connections.specs.Connection.{ConnectionView}
-use Rattle.connections.specs.Places.{place_in}
+use Rattle.connections.specs.Slots.{slot_in}
 use Rattle.connections.specs.Connections.{ConnectionsView, bytes_of_connection, WasReplied, IsAnswered, IsHere, IsConnections}
 use Rattle.connections.specs.History.{Passed, IsHistory, heard_among, given_among, moments_among}
 use Rattle.connections.proofs.HistoryLemmas.{heard_both, given_both, moments_both}
@@ -92,7 +92,7 @@ module _ (b v : ServiceView) (hb : IsWhole b) (own : IsServiceAlone v) (dialect 
       (λ (new : Contains c2.taken e). inr (new, later e.0.connection (two.since e new)))
       (Contains-append_cases c1.taken c2.taken e inside)
 
-  here : (key : ℕ) (c : ConnectionView) → place_in c2.table key ≡ Some c → IsHere joined c
+  here : (key : ℕ) (c : ConnectionView) → slot_in c2.table key ≡ Some c → IsHere joined c
   here key c at =
       let h = two.here key c at in
       let since = h.since in
@@ -145,7 +145,7 @@ module _ (b v : ServiceView) (hb : IsWhole b) (own : IsServiceAlone v) (dialect 
   connections_join : IsConnections joined
   connections_join = record {
     here = here;
-    one_place = two.one_place;
+    one_key = two.one_key;
     answered = answered;
     fresh = λ number above.
         let least = two.least in
@@ -273,8 +273,8 @@ module _ (b v : ServiceView) (hb : IsWhole b) (own : IsServiceAlone v) (dialect 
   in_turn i a at turn from_one below = ⊎_elim
       (λ (old : slice_get b.assignments i ≡ Some a). earlier_first a.connection turn (before_ask i b.order) (before_ask i all.order) (before_same i b.order v.order (asked_below b hb.service i a old)) (hb.service.in_turn i a old turn from_one below))
       (λ (new : (k : ℕ) × (i ≡ length b.assignments + k) × (slice_get v.assignments k ≡ Some a)).
-      let place : i ≡ length (asked_keys b.order) + new.0 = new.1 ∙ ap (λ (n : ℕ). n + new.0) (sym (asked_count b hb.service)) in
-      earlier_second a.connection turn (before_ask new.0 v.order) (before_ask i all.order) (ap (λ (n : ℕ). before_ask n all.order) place ∙ before_later b.order v.order new.0) (own.service.in_turn new.0 a new.2 turn from_one below))
+      let index : i ≡ length (asked_keys b.order) + new.0 = new.1 ∙ ap (λ (n : ℕ). n + new.0) (sym (asked_count b hb.service)) in
+      earlier_second a.connection turn (before_ask new.0 v.order) (before_ask i all.order) (ap (λ (n : ℕ). before_ask n all.order) index ∙ before_later b.order v.order new.0) (own.service.in_turn new.0 a new.2 turn from_one below))
       (get_both b.assignments v.assignments i a at)
 
   service_joins : IsService all
@@ -290,7 +290,7 @@ module _ (b v : ServiceView) (hb : IsWhole b) (own : IsServiceAlone v) (dialect 
     ordered = ordered;
     in_turn = in_turn;
     waits = λ a w. Contains-append_right b.assignments v.assignments a (own.service.waits a w);
-    placed = own.service.placed;
+    in_own_slot = own.service.in_own_slot;
     unreplied = λ a w reply was. ⊎_elim
         (λ (old : Contains c1.replied (record { connection = a.connection; turn = a.turn }, reply)).
         let r = hb.service.replied (record { connection = a.connection; turn = a.turn }, reply) old in

@@ -7,10 +7,10 @@ use Rattle.proto.specs.declared.command.Command.{Command}
 use Rattle.proto.specs.declared.reply.Reply as replies
 use Rattle.sessions.specs.declared.request.Request.{Request}
 use Rattle.connections.specs.declared.connections.CommandNumber.{CommandNumber}
-use Rattle.connections.specs.declared.places.Place.{Place}
+use Rattle.connections.specs.declared.slots.ConnectionId.{ConnectionId}
 use Rattle.connections.specs.declared.said.Said.{Said}
 use Rattle.connections.specs.Connections.{ConnectionsView, WasReplied}
-use Rattle.connections.proofs.PlaceLemmas.{set_get}
+use Rattle.connections.proofs.SlotLemmas.{set_get}
 use Rattle.connections.proofs.TakeLemmas.{get_pushed, contains_at, one_of}
 use Rattle.ensemble.specs.declared.answer.Answer.{Answer}
 use Rattle.ensemble.specs.Nodes.{size_of}
@@ -40,7 +40,7 @@ first_keeps v none none_asked none_ordered none_replied none_waits = record {
   ordered = ap asked_keys none_ordered ∙ sym (ap (map assigned_as) none);
   in_turn = λ i b at_i. let e : ◌≡◌ {A = Option Assignment} None (Some b) = subst (λ (xs : List Assignment). slice_get xs i ≡ Some b) none at_i in absurd (cc e);
   waits = λ a w. absurd (none_waits a w);
-  placed = λ i a w. absurd (none_waits a (i, w.0, w.1, w.2));
+  in_own_slot = λ i a w. absurd (none_waits a (i, w.0, w.1, w.2));
   unreplied = λ a w. absurd (none_waits a w);
 }
   where
@@ -94,13 +94,13 @@ keeps v now ok taken replied asked answered same more none order waits = record 
       let before : before_ask i now.order ≡ before_ask i v.order = ap (before_ask i) order ∙ before_same i v.order more (asked_below v ok i b at) in
       record { assignment = was.assignment; assigned = subst (λ (xs : List Assignment). Contains xs was.assignment) (sym same) was.assigned; of_connection = was.of_connection; of_turn = was.of_turn; answered = subst (λ (o : Order). Contains o ((was.assignment.proxy, was.assignment.number), noted.Answered)) (sym before) was.answered };
   waits = λ a w. subst (λ (xs : List Assignment). Contains xs a) (sym same) (ok.waits a (still_waits v.waiting now.waiting waits a w));
-  placed = λ i a w. ok.placed i a (waits i a w);
+  in_own_slot = λ i a w. ok.in_own_slot i a (waits i a w);
   unreplied = λ a w reply was. ok.unreplied a (still_waits v.waiting now.waiting waits a w) reply (subst (λ (xs : List (CommandNumber × replies.Reply)). WasReplied xs a.connection a.turn reply) replied was);
 }
 
--- another line
-pub lined : (v : ServiceView) (line : List Waiting) → IsService v → IsService (record v { line = line })
-lined v line ok = keeps v (record v { line = line }) ok (λ e i. i) refl refl (λ x i. i) refl [] refl (sym (append-nil v.order)) (λ i a w. w)
+-- another queue
+pub requeued : (v : ServiceView) (queue : List Waiting) → IsService v → IsService (record v { queue = queue })
+requeued v queue ok = keeps v (record v { queue = queue }) ok (λ e i. i) refl refl (λ x i. i) refl [] refl (sym (append-nil v.order)) (λ i a w. w)
 
 -- whatever is seen of the replicas
 pub seen : (v : ServiceView) (replicas : ReplicasView) → IsService v → IsService (record v { replicas = replicas })
@@ -135,9 +135,9 @@ are_logged answers old new order order_now is ordered a i = (
 
 -- ---- a command is asked
 
-module _ (v : ServiceView) (ok : IsService v) (at : Place) (proxy : ℕ) (next : ConnectionsView) (e f : EnsembleView) (same_asked : e.asked ≡ v.asked) (same_answered : e.answered ≡ v.answered) (same_order : e.order ≡ v.order) (a : Assignment) (waiting : List (Option Outstanding)) (line : List Waiting) (is : IsAskedOf at proxy v.connections next e f a) (free : IsFreeIn v.waiting proxy) (adds : AddsWait v.waiting a waiting) where
+module _ (v : ServiceView) (ok : IsService v) (at : ConnectionId) (proxy : ℕ) (next : ConnectionsView) (e f : EnsembleView) (same_asked : e.asked ≡ v.asked) (same_answered : e.answered ≡ v.answered) (same_order : e.order ≡ v.order) (a : Assignment) (waiting : List (Option Outstanding)) (queue : List Waiting) (is : IsAskedOf at proxy v.connections next e f a) (free : IsFreeIn v.waiting proxy) (adds : AddsWait v.waiting a waiting) where
   abbrev pub now : ServiceView
-  now = record { connections = next; asked = f.asked; answered = f.answered; order = f.order; assignments = v.assignments ++ a ∷ []; waiting = waiting; line = line; replicas = none_shown }
+  now = record { connections = next; asked = f.asked; answered = f.answered; order = f.order; assignments = v.assignments ++ a ∷ []; waiting = waiting; queue = queue; replicas = none_shown }
 
   abbrev entry : Request × Bool
   entry = (is.logged.request, is.quiet)
@@ -254,8 +254,8 @@ module _ (v : ServiceView) (ok : IsService v) (at : Place) (proxy : ℕ) (next :
         (λ (old : WaitsAt v.waiting w.0 b). kept b (ok.waits b (w.0, old.0, old.1, old.2)))
         (λ (new : (b ≡ a) × (w.0 ≡ a.proxy - 1)). subst (Contains (v.assignments ++ a ∷ [])) (sym new.0) (Contains-push v.assignments a))
         (adds w.0 b (w.1, w.2, w.3));
-    placed = λ i b w. ⊎_elim
-        (λ (old : WaitsAt v.waiting i b). ok.placed i b old)
+    in_own_slot = λ i b w. ⊎_elim
+        (λ (old : WaitsAt v.waiting i b). ok.in_own_slot i b old)
         (λ (new : (b ≡ a) × (i ≡ a.proxy - 1)).
         let same : b.proxy ≡ a.proxy = ap (λ (x : Assignment). x.proxy) new.0 in
         let here = new.1 in
@@ -274,28 +274,28 @@ module _ (v : ServiceView) (ok : IsService v) (at : Place) (proxy : ℕ) (next :
   }
 
 -- whatever came of it
-pub assign_keeps : (v : ServiceView) (at : Place) (proxy : ℕ) (next : ConnectionsView) (e f : EnsembleView) (asking : Asking) (pool waiting : List (Option Outstanding)) (assignments : List Assignment) (said said_now : List Said) (key : ℕ) (line : List Waiting) → IsService v → e.asked ≡ v.asked → e.answered ≡ v.answered → e.order ≡ v.order → pool ≡ v.waiting → IsFreeIn pool proxy
+pub assign_keeps : (v : ServiceView) (at : ConnectionId) (proxy : ℕ) (next : ConnectionsView) (e f : EnsembleView) (asking : Asking) (pool waiting : List (Option Outstanding)) (assignments : List Assignment) (said said_now : List Said) (key : ℕ) (queue : List Waiting) → IsService v → e.asked ≡ v.asked → e.answered ≡ v.answered → e.order ≡ v.order → pool ≡ v.waiting → IsFreeIn pool proxy
     → AsksFor at proxy v.connections e next f asking → Settles key asking pool waiting v.assignments assignments said said_now
-    → IsService (record { connections = next; asked = f.asked; answered = f.answered; order = f.order; assignments = assignments; waiting = waiting; line = line; replicas = none_shown })
-assign_keeps v at proxy next e f Nothing pool waiting assignments said said_now key line ok a b o same free asks settles =
+    → IsService (record { connections = next; asked = f.asked; answered = f.answered; order = f.order; assignments = assignments; waiting = waiting; queue = queue; replicas = none_shown })
+assign_keeps v at proxy next e f Nothing pool waiting assignments said said_now key queue ok a b o same free asks settles =
     keeps v _ ok asks.0.taken asks.0.replied (ap (λ (x : EnsembleView). x.asked) asks.0.same ∙ a) (λ x i. subst (λ (xs : List ((ℕ × ℕ) × replies.Reply)). Contains xs x) (sym (ap (λ (y : EnsembleView). y.answered) asks.0.same ∙ b)) i) settles.1 [] refl (ap (λ (y : EnsembleView). y.order) asks.0.same ∙ (o ∙ sym (append-nil v.order))) (λ k y w. subst (λ (ws : List (Option Outstanding)). WaitsAt ws k y) (settles.0 ∙ same) w)
-assign_keeps v at proxy next e f (Failed g) pool waiting assignments said said_now key line ok a b o same free asks settles =
+assign_keeps v at proxy next e f (Failed g) pool waiting assignments said said_now key queue ok a b o same free asks settles =
     keeps v _ ok asks.0.taken asks.0.replied (ap (λ (x : EnsembleView). x.asked) asks.0.same ∙ a) (λ x i. subst (λ (xs : List ((ℕ × ℕ) × replies.Reply)). Contains xs x) (sym (ap (λ (y : EnsembleView). y.answered) asks.0.same ∙ b)) i) settles.1 [] refl (ap (λ (y : EnsembleView). y.order) asks.0.same ∙ (o ∙ sym (append-nil v.order))) (λ k y w. subst (λ (ws : List (Option Outstanding)). WaitsAt ws k y) (settles.0 ∙ same) w)
-assign_keeps v at proxy next e f (Asked x) pool waiting assignments said said_now key line ok a b o same free asks settles =
-    subst (λ (xs : List Assignment). IsService (record { connections = next; asked = f.asked; answered = f.answered; order = f.order; assignments = xs; waiting = waiting; line = line; replicas = none_shown })) (sym settles.1) (asked_keeps v ok at proxy next e f a b o x waiting line asks (subst (λ (ws : List (Option Outstanding)). IsFreeIn ws proxy) same free) (subst (λ (ws : List (Option Outstanding)). AddsWait ws x waiting) same settles.0))
+assign_keeps v at proxy next e f (Asked x) pool waiting assignments said said_now key queue ok a b o same free asks settles =
+    subst (λ (xs : List Assignment). IsService (record { connections = next; asked = f.asked; answered = f.answered; order = f.order; assignments = xs; waiting = waiting; queue = queue; replicas = none_shown })) (sym settles.1) (asked_keeps v ok at proxy next e f a b o x waiting queue asks (subst (λ (ws : List (Option Outstanding)). IsFreeIn ws proxy) same free) (subst (λ (ws : List (Option Outstanding)). AddsWait ws x waiting) same settles.0))
 
-pub assign_gives : (at : Place) (proxy : ℕ) (old next : ConnectionsView) (e f : EnsembleView) (asking : Asking) (was waiting : List (Option Outstanding)) (before assignments : List Assignment) (said said_now : List Said) (key : ℕ)
+pub assign_gives : (at : ConnectionId) (proxy : ℕ) (old next : ConnectionsView) (e f : EnsembleView) (asking : Asking) (was waiting : List (Option Outstanding)) (before assignments : List Assignment) (said said_now : List Said) (key : ℕ)
     → AsksFor at proxy old e next f asking → Settles key asking was waiting before assignments said said_now → Gives old said next said_now
 assign_gives at proxy old next e f Nothing was waiting before assignments said said_now key asks settles = ([], settles.2 ∙ sym (append-nil said), asks.1 ∙ sym (append-nil old.given), asks.2 ∙ sym (append-nil old.passed))
 assign_gives at proxy old next e f (Asked x) was waiting before assignments said said_now key asks settles = ([], settles.2 ∙ sym (append-nil said), asks.bytes.given ∙ sym (append-nil old.given), asks.bytes.passed ∙ sym (append-nil old.passed))
 assign_gives at proxy old next e f (Failed g) was waiting before assignments said said_now key asks settles = (g ∷ [], settles.2, asks.1, asks.2)
 
-pub assign_hears : (at : Place) (proxy : ℕ) (old next : ConnectionsView) (e f : EnsembleView) (asking : Asking) → AsksFor at proxy old e next f asking → next.heard ≡ old.heard
+pub assign_hears : (at : ConnectionId) (proxy : ℕ) (old next : ConnectionsView) (e f : EnsembleView) (asking : Asking) → AsksFor at proxy old e next f asking → next.heard ≡ old.heard
 assign_hears at proxy old next e f Nothing asks = asks.0.heard
 assign_hears at proxy old next e f (Asked x) asks = asks.bytes.heard
 assign_hears at proxy old next e f (Failed g) asks = asks.0.heard
 
-pub assign_size : (at : Place) (proxy : ℕ) (old next : ConnectionsView) (e f : EnsembleView) (asking : Asking) → AsksFor at proxy old e next f asking → size_of f.nodes ≡ size_of e.nodes
+pub assign_size : (at : ConnectionId) (proxy : ℕ) (old next : ConnectionsView) (e f : EnsembleView) (asking : Asking) → AsksFor at proxy old e next f asking → size_of f.nodes ≡ size_of e.nodes
 assign_size at proxy old next e f Nothing asks = ap (λ (x : EnsembleView). size_of x.nodes) asks.0.same
 assign_size at proxy old next e f (Asked x) asks = asks.size
 assign_size at proxy old next e f (Failed g) asks = ap (λ (x : EnsembleView). size_of x.nodes) asks.0.same
@@ -323,23 +323,23 @@ replied_keeps v next waiting o proxy number reply said said_now ok logged in_ord
   ordered = ok.ordered;
   in_turn = ok.in_turn;
   waits = λ a w. ok.waits a (was_waiting a w);
-  placed = λ i a w. ok.placed i a (ends.0 i a w);
+  in_own_slot = λ i a w. ok.in_own_slot i a (ends.0 i a w);
   unreplied = none_replied;
 }
   where
     was_waiting : (a : Assignment) → Waits waiting a → Waits v.waiting a
     was_waiting = still_waits v.waiting waiting ends.0
 
-    -- the place of the proxy that waited for the reply is empty now
-    other_place : (a : Assignment) → Waits waiting a → o.assignment.connection ≡ a.connection → o.assignment.turn ≡ a.turn → ⊥
-    other_place a w connection turn =
+    -- the slot of the proxy that waited for the reply is empty now
+    other_slot : (a : Assignment) → Waits waiting a → o.assignment.connection ≡ a.connection → o.assignment.turn ≡ a.turn → ⊥
+    other_slot a w connection turn =
         let first = place_of v.assignments o.assignment (ok.waits o.assignment (back.0, o, back.1, refl)) in
         let second = place_of v.assignments a (ok.waits a (was_waiting a w)) in
         let index : first.0 ≡ second.0 = ok.once first.0 second.0 o.assignment a first.1 second.1 connection turn in
         let both : ◌≡◌ {A = Option Assignment} (Some o.assignment) (Some a) = sym first.1 ∙ (ap (slice_get v.assignments) index ∙ second.1) in
         let same : o.assignment ≡ a = cc both in
-        let one : o.assignment.proxy ≡ suc back.0 = ok.placed back.0 o.assignment (o, back.1, refl) in
-        let other : a.proxy ≡ suc w.0 = ok.placed w.0 a (ends.0 w.0 a (w.1, w.2, w.3)) in
+        let one : o.assignment.proxy ≡ suc back.0 = ok.in_own_slot back.0 o.assignment (o, back.1, refl) in
+        let other : a.proxy ≡ suc w.0 = ok.in_own_slot w.0 a (ends.0 w.0 a (w.1, w.2, w.3)) in
         let proxies : o.assignment.proxy ≡ a.proxy = ap (λ (x : Assignment). x.proxy) same in
         let here : w.0 ≡ back.0 = omega (arith, one, other, proxies) in
         let gone : slice_get waiting back.0 ≡ Some None = ap (λ (xs : List (Option Outstanding)). slice_get xs back.0) back.2 ∙ set_get v.waiting back.0 None (Some o) back.1 in
@@ -353,7 +353,7 @@ replied_keeps v next waiting o proxy number reply said said_now ok logged in_ord
         (λ (before : Contains v.connections.replied (record { connection = a.connection; turn = a.turn }, r)). ok.unreplied a (was_waiting a w) r before)
         (λ (new : Contains ((command_number_of o.assignment, reply) ∷ []) (record { connection = a.connection; turn = a.turn }, r)).
         let same = one_of (command_number_of o.assignment, reply) (record { connection = a.connection; turn = a.turn }, r) new in
-        other_place a w (ap (λ (x : CommandNumber × replies.Reply). x.0.connection) same) (ap (λ (x : CommandNumber × replies.Reply). x.0.turn) same))
+        other_slot a w (ap (λ (x : CommandNumber × replies.Reply). x.0.connection) same) (ap (λ (x : CommandNumber × replies.Reply). x.0.turn) same))
         (Contains-append_cases v.connections.replied ((command_number_of o.assignment, reply) ∷ []) (record { connection = a.connection; turn = a.turn }, r) (subst (λ (xs : List (CommandNumber × replies.Reply)). WasReplied xs a.connection a.turn r) more was)))
         to.replied
 
@@ -398,7 +398,7 @@ pub process_on : (v mid next : ServiceView) → IsSameProcess v mid → IsSamePr
 process_on v mid next a b = record { dialect = b.dialect ∙ a.dialect; first = b.first ∙ a.first; found = b.found ∙ a.found }
 
 -- a command is asked
-pub asks_same : (at : Place) (proxy : ℕ) (v next : ConnectionsView) (e f : EnsembleView) (asking : Asking) → AsksFor at proxy v e next f asking → (next.dialect ≡ v.dialect) × (next.first ≡ v.first) × (f.found ≡ e.found)
+pub asks_same : (at : ConnectionId) (proxy : ℕ) (v next : ConnectionsView) (e f : EnsembleView) (asking : Asking) → AsksFor at proxy v e next f asking → (next.dialect ≡ v.dialect) × (next.first ≡ v.first) × (f.found ≡ e.found)
 asks_same at proxy v next e f Nothing asks = (asks.0.dialect, asks.0.since, ap (λ (x : EnsembleView). x.found) asks.0.same)
 asks_same at proxy v next e f (Asked a) asks = (asks.bytes.dialect, asks.bytes.since, asks.found)
 asks_same at proxy v next e f (Failed given) asks = (asks.0.dialect, asks.0.since, ap (λ (x : EnsembleView). x.found) asks.0.same)

@@ -12,16 +12,16 @@ below_or_not a zero = inr (omega arith)
 below_or_not zero (suc b) = inl (omega arith)
 below_or_not (suc a) (suc b) = ⊎_elim (λ (less : a < b). inl (omega (arith, less))) (λ (more : b ≤ a). inr (omega (arith, more))) (below_or_not a b)
 
--- ---- places
+-- ---- indices
 
 module _ {X : Type 0} where
-  -- what is at a place of both is at that place of the first, or behind it
+  -- what is at an index of both is at that index of the first, or behind it
   pub get_both : (xs ys : List X) (i : ℕ) (x : X) → slice_get (xs ++ ys) i ≡ Some x → (slice_get xs i ≡ Some x) ⊎ ((k : ℕ) × (i ≡ length xs + k) × (slice_get ys k ≡ Some x))
   get_both [] ys i x at = inr (i, omega arith, at)
   get_both (z ∷ xs) ys zero x at = inl at
   get_both (z ∷ xs) ys (suc i) x at = ⊎_elim
       (λ (old : slice_get xs i ≡ Some x). inl old)
-      (λ (new : (k : ℕ) × (i ≡ length xs + k) × (slice_get ys k ≡ Some x)). let place = new.1 in inr (new.0, omega (arith, place), new.2))
+      (λ (new : (k : ℕ) × (i ≡ length xs + k) × (slice_get ys k ≡ Some x)). let index = new.1 in inr (new.0, omega (arith, index), new.2))
       (get_both xs ys i x at)
 
   -- a beginning of both is one of the first, or the first with one of the second

@@ -9,7 +9,7 @@ use Rattle.grammar.specs.declared.reader.Dialect.{Dialect}
 use Rattle.grammar.specs.Asks.{IsAskedIn}
 use Rattle.grammar.proofs.AskLemmas.{asked_stays}
 use Rattle.connections.specs.declared.connections.CommandNumber.{CommandNumber}
-use Rattle.connections.specs.declared.places.Place.{Place}
+use Rattle.connections.specs.declared.slots.ConnectionId.{ConnectionId}
 use Rattle.connections.specs.declared.said.Said.{Said}
 use Rattle.connections.specs.History.{Passed, HistoryView, IsHistory, heard_as, given_as, moment_as, heard_among, given_among, moments_among}
 use Rattle.connections.specs.Connections.{ConnectionsView, bytes_in, bytes_of_connection, WasReplied, IsAnswered, IsConnections}
@@ -267,7 +267,7 @@ answered_moments v now said said_now were dialect order assignments answered giv
     one_passed now.connections.dialect now.order now.assignments now.answered v.connections.passed (passed_entry one.0) kept (subst (λ (p : List Passed). WasMoment now.connections.dialect now.order now.assignments now.answered p []) one.3 is) early late (sym one.3 ∙ split))
     gives
 
-pub assigned_moments : (v now : ServiceView) (at : Place) (proxy : ℕ) (e f : EnsembleView) (asking : Asking) (pool : List (Option Outstanding)) (said said_now : List Said) (key : ℕ) → HasMoments v → e.answered ≡ v.answered → e.order ≡ v.order → now.order ≡ f.order → now.answered ≡ f.answered
+pub assigned_moments : (v now : ServiceView) (at : ConnectionId) (proxy : ℕ) (e f : EnsembleView) (asking : Asking) (pool : List (Option Outstanding)) (said said_now : List Said) (key : ℕ) → HasMoments v → e.answered ≡ v.answered → e.order ≡ v.order → now.order ≡ f.order → now.answered ≡ f.answered
     → AsksFor at proxy v.connections e now.connections f asking → Settles key asking pool now.waiting v.assignments now.assignments said said_now → WasMoment now.connections.dialect now.order now.assignments now.answered now.connections.passed [] → HasMoments now
 assigned_moments v now at proxy e f Nothing pool said said_now key were answered order order_now answered_now asks settles is =
     same_moments v now were asks.0.dialect asks.2 (order_now ∙ (ap (λ (x : EnsembleView). x.order) asks.0.same ∙ order)) settles.1 (answered_now ∙ (ap (λ (x : EnsembleView). x.answered) asks.0.same ∙ answered))
@@ -278,7 +278,7 @@ assigned_moments v now at proxy e f (Failed given) pool said said_now key were a
     answered_moments v now said said_now were asks.0.dialect (order_now ∙ (ap (λ (x : EnsembleView). x.order) asks.0.same ∙ order)) settles.1 (answered_now ∙ (ap (λ (x : EnsembleView). x.answered) asks.0.same ∙ answered)) (inr (given, settles.2, asks.1, asks.2)) is
 
 -- asking hands in no moment
-pub asked_moments : (at : Place) (proxy : ℕ) (v next : ConnectionsView) (e f : EnsembleView) (asking : Asking) → AsksFor at proxy v e next f asking → moments_in f.order ≡ moments_in e.order
+pub asked_moments : (at : ConnectionId) (proxy : ℕ) (v next : ConnectionsView) (e f : EnsembleView) (asking : Asking) → AsksFor at proxy v e next f asking → moments_in f.order ≡ moments_in e.order
 asked_moments at proxy v next e f Nothing asks = ap (λ (x : EnsembleView). moments_in x.order) asks.0.same
 asked_moments at proxy v next e f (Asked a) asks = ap moments_in asks.ordered ∙ (of_order.moments_both e.order (((proxy, a.number), noted.Asked) ∷ []) ∙ append-nil (moments_in e.order))
 asked_moments at proxy v next e f (Failed given) asks = ap (λ (x : EnsembleView). moments_in x.order) asks.0.same

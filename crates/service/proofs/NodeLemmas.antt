@@ -3,7 +3,7 @@ use Rattle.std.proofs.Common.{◌≡◌, ◌⊎◌, inl, inr, ⊎_elim, ℕ, zer
 use Rattle.std.specs.Prelude.{◌≢◌, nat_lt, replicate, if◌then◌else◌}
 use Rattle.std.proofs.lemmas.Bool.{lt-ltb}
 use Rattle.std.proofs.lemmas.List.{length-replicate}
-use Rattle.connections.proofs.PlaceLemmas.{set_get, set_other, same_or_not}
+use Rattle.connections.proofs.SlotLemmas.{set_get, set_other, same_or_not}
 use Rattle.events.specs.declared.event.Replica.{Replica}
 use Rattle.events.specs.declared.event.Replica.TheVariants.{Executor, Verifier}
 use Rattle.hosts.specs.Host.{HostReopens}
@@ -18,14 +18,14 @@ use Rattle.service.specs.Told.{UnlessRefused}
 use Rattle.service.specs.Ticks.{replica_at, is_up_in, HavePauses, pause_after, is_opened, NodeTicksIn, NodeTicks, HavePaused, OthersStay, IsOpenedIf, HasTicked, NodeHasTicked, NodesHaveTicked}
 use Rattle.service.proofs.Lists.{below_or_not}
 
--- ---- places
+-- ---- indices
 
-abbrev place_of_node : ℕ → Replica → ℕ
-place_of_node members (Executor id) = id
-place_of_node members (Verifier id) = members + id
+abbrev index_of_node : ℕ → Replica → ℕ
+index_of_node members (Executor id) = id
+index_of_node members (Verifier id) = members + id
 
-place_back : (members at : ℕ) → place_of_node members (replica_at members at) ≡ at
-place_back members at = by (nat_lt at members) refl
+index_back : (members at : ℕ) → index_of_node members (replica_at members at) ≡ at
+index_back members at = by (nat_lt at members) refl
   where
     not_below : nat_lt at members ≡ false → members ≤ at
     not_below above = ⊎_elim
@@ -33,17 +33,17 @@ place_back members at = by (nat_lt at members) refl
         (λ (more : members ≤ at). more)
         (below_or_not at members)
 
-    by : (b : Bool) → nat_lt at members ≡ b → place_of_node members (if b then Executor at else Verifier (at - members)) ≡ at
+    by : (b : Bool) → nat_lt at members ≡ b → index_of_node members (if b then Executor at else Verifier (at - members)) ≡ at
     by true is = refl
     by false is = let more = not_below is in omega (arith, more)
 
--- nodes at two places are two
+-- nodes of two indices are two
 others_differ : (members at other : ℕ) → other ≢ at → replica_at members other ≢ replica_at members at
-others_differ members at other differs same = differs (sym (place_back members other) ∙ (ap (place_of_node members) same ∙ place_back members at))
+others_differ members at other differs same = differs (sym (index_back members other) ∙ (ap (index_of_node members) same ∙ index_back members at))
 
 -- ---- one node is opened
 
--- what is at another place stays, if at most one place is set
+-- what is at another index stays, if at most one is set
 module _ {X : Type 0} (In : Option X → Type 0) (old now : List X) (id k : ℕ) (differs : k ≢ id) (none : In None → now ≡ old) (some : (x : X) → In (Some x) → (left : X) × (now ≡ slice_set old id left)) where
   at_other : (o : Option X) → In o → slice_get now k ≡ slice_get old k
   at_other None is = ap (λ (xs : List X). slice_get xs k) (none is)
@@ -83,7 +83,7 @@ others_stay at n now size is other differs =
     ap (λ (u : ℕ). is_up_at now (replica_at (2 * u + 1) other)) (same_u n now size)
     ∙ reopened_others n now (replica_at (2 * n.u + 1) at) (replica_at (2 * n.u + 1) other) (others_differ (2 * n.u + 1) at other differs) is
 
--- the node at this place was opened, and is up
+-- the node of this index was opened, and is up
 pub opened_here : (at : ℕ) (replica : Replica) (n now : NodesView) (is_back : Bool) → replica ≡ replica_at (2 * n.u + 1) at → size_of now ≡ size_of n → is_back ≡ is_up_at now replica → is_back ≡ true → is_up_in now at ≡ true
 opened_here at replica n now is_back here size up back =
     ap (λ (u : ℕ). is_up_at now (replica_at (2 * u + 1) at)) (same_u n now size) ∙ (ap (is_up_at now) (sym here) ∙ (sym up ∙ back))
@@ -121,7 +121,7 @@ ticks_keep u members members_now n at is_up due old new h same ticks = record {
     by None t = ap length t.0
     by (Some p) t = ap length t.0 ∙ set_length old at (pause_after is_up p)
 
--- the node at the place that a service looks at
+-- the node of the index that a service looks at
 pub node_here : (u members : ℕ) (n : NodesView) (pauses : List Pause) (at : ℕ) → HavePauses u n members pauses → replica_at members at ≡ replica_at (2 * n.u + 1) at
 node_here u members n pauses at h =
     let is : members ≡ 2 * n.u + 1 = let m = h.members_are in let s = h.same in omega (arith, m, s) in
@@ -129,7 +129,7 @@ node_here u members n pauses at h =
 
 -- ---- all nodes, one after the other
 
--- The nodes at places below this one have ticked, and those from it on have not.
+-- The nodes of indices below this one have ticked, and those from it on have not.
 pub record HaveTickedBelow (at : ℕ) (first now : ReplicasView) : Type 0 where
   pub done : (i : ℕ) (p : Pause) → i < at → slice_get first.pauses i ≡ Some p → NodeHasTicked i p first.refused now
   pub rest : (i : ℕ) → at ≤ i → slice_get now.pauses i ≡ slice_get first.pauses i
@@ -180,7 +180,7 @@ module _ (at : ℕ) (first now next : ReplicasView) (due : Bool) (earlier : firs
   not_due_if_up true p up = refl
   not_due_if_up false p up = absurd (cc up)
 
-  -- the node at this place
+  -- the node of this index
   here : (p : Pause) → slice_get now.pauses at ≡ Some p → NodeHasTicked at p first.refused next
   here p there =
       let t : NodeTicksIn at found now.pauses next.pauses due (Some p) = subst (NodeTicksIn at found now.pauses next.pauses due) there ticks in (

@@ -1,7 +1,7 @@
--- What a tick does, place by place.
+-- What a tick does, slot by slot.
 use Rattle.std.proofs.Common.{◌≡◌, ⊎_elim, ℕ, zero, suc, ◌+◌, ◌≤◌, ◌<◌, Bool, List, [], ◌∷◌, Option, Some, None, refl, sym, ap, ◌∙◌, subst, arith, length, slice_get, slice_set}
 use Rattle.std.specs.Prelude.{◌≢◌}
-use Rattle.connections.proofs.PlaceLemmas.{set_get, set_other, same_or_not}
+use Rattle.connections.proofs.SlotLemmas.{set_get, set_other, same_or_not}
 use Rattle.serving.specs.declared.patience.Patience.{Patience}
 use Rattle.serving.specs.declared.patience.Seen.{Seen}
 use Rattle.serving.specs.declared.patience.Urge.{Urge}
@@ -10,7 +10,7 @@ use Rattle.serving.specs.Patience.{urge_of, after_tick}
 use Rattle.service.specs.declared.assignment.Outstanding.{Outstanding}
 use Rattle.service.specs.Ticks.{sent_again, after_urge, waited_on, with_patience, urge_in, urge_at, SetsPatienceIn, SetsPatience, AllHaveWaited}
 
--- ---- places, one after the other
+-- ---- slots, one after the other
 
 module _ {X : Type 0} where
   get_below : (xs : List X) (i : ℕ) (x : X) → slice_get xs i ≡ Some x → i < length xs
@@ -28,11 +28,11 @@ module _ {X : Type 0} (Becomes : X → X → Type 0) where
   SetsIn at now next None = next ≡ now
   SetsIn at now next (Some x) = (y : X) × Becomes x y × (next ≡ slice_set now at y)
 
-  -- what is at this place, if something is, becomes another
+  -- what is in this slot, if something is, becomes another
   abbrev pub Sets : ℕ → List X → List X → Type 0
   Sets at now next = SetsIn at now next (slice_get now at)
 
-  -- what is at the places below this one became another, and the rest is as it was
+  -- what is in the slots below this one became another, and the rest is as it was
   pub record AreSet (at : ℕ) (first now : List X) : Type 0 where
     pub done : (i : ℕ) (x : X) → i < at → slice_get first i ≡ Some x → (y : X) × Becomes x y × (slice_get now i ≡ Some y)
     pub rest : (i : ℕ) → at ≤ i → slice_get now i ≡ slice_get first i
@@ -70,24 +70,24 @@ module _ {X : Type 0} (Becomes : X → X → Type 0) where
 -- ---- what waits
 
 abbrev pub Waited : ℕ → Seen → Option Outstanding → Option Outstanding → Type 0
-Waited u seen place now = now ≡ with_patience (waited_on u seen) place
+Waited u seen slot now = now ≡ with_patience (waited_on u seen) slot
 
 pub patience_sets : (u : ℕ) (seen : Seen) (at : ℕ) (old new : List (Option Outstanding)) → SetsPatience (waited_on u seen) at old new → Sets (Waited u seen) at old new
 patience_sets u seen at old new = by (slice_get old at)
   where
     by : (o : Option (Option Outstanding)) → SetsPatienceIn (waited_on u seen) at old new o → SetsIn (Waited u seen) at old new o
     by None s = s
-    by (Some place) s = (with_patience (waited_on u seen) place, refl, s)
+    by (Some slot) s = (with_patience (waited_on u seen) slot, refl, s)
 
 pub all_waited : (u : ℕ) (seen : Seen) (at : ℕ) (old new : List (Option Outstanding)) → length old ≤ at → AreSet (Waited u seen) at old new → AllHaveWaited u seen old new
-all_waited u seen at old new all are i place e =
-    let was = all_set (Waited u seen) at old new all are i place e in
+all_waited u seen at old new all are i slot e =
+    let was = all_set (Waited u seen) at old new all are i slot e in
     was.2 ∙ ap (λ (x : Option Outstanding). Some x) was.1
 
 abbrev ticked : ℕ → Seen → Patience → Patience
 ticked u seen p = after_tick u p seen
 
-waits_calm : (u : ℕ) (seen : Seen) (place : Option Outstanding) → urge_in u seen place ≡ Wait → with_patience (ticked u seen) place ≡ with_patience (waited_on u seen) place
+waits_calm : (u : ℕ) (seen : Seen) (slot : Option Outstanding) → urge_in u seen slot ≡ Wait → with_patience (ticked u seen) slot ≡ with_patience (waited_on u seen) slot
 waits_calm u seen None calm = refl
 waits_calm u seen (Some o) calm = ap (λ (g : Urge). Some (record o { patience = after_urge seen g (after_tick u o.patience seen) })) (sym calm)
 
@@ -96,7 +96,7 @@ urged_again seen p Wait differs = absurd (differs refl)
 urged_again seen p Again differs = refl
 urged_again seen p Suspect differs = refl
 
-waits_urged : (u : ℕ) (seen : Seen) (place : Option Outstanding) → urge_in u seen place ≢ Wait → with_patience (sent_again seen) (with_patience (ticked u seen) place) ≡ with_patience (waited_on u seen) place
+waits_urged : (u : ℕ) (seen : Seen) (slot : Option Outstanding) → urge_in u seen slot ≢ Wait → with_patience (sent_again seen) (with_patience (ticked u seen) slot) ≡ with_patience (waited_on u seen) slot
 waits_urged u seen None differs = absurd (differs refl)
 waits_urged u seen (Some o) differs = ap (λ (p : Patience). Some (record o { patience = p })) (urged_again seen (after_tick u o.patience seen) (urge_of u o.patience seen) differs)
 
@@ -106,7 +106,7 @@ calm_waits u seen at old new calm s = by (slice_get old at) calm s
   where
     by : (o : Option (Option Outstanding)) → urge_at u seen o ≡ Wait → SetsPatienceIn (λ p. after_tick u p seen) at old new o → SetsPatienceIn (waited_on u seen) at old new o
     by None calm s = s
-    by (Some place) calm s = s ∙ ap (slice_set old at) (waits_calm u seen place calm)
+    by (Some slot) calm s = s ∙ ap (slice_set old at) (waits_calm u seen slot calm)
 
 -- it is sent again
 pub urged_waits : (u : ℕ) (seen : Seen) (at : ℕ) (old mid new : List (Option Outstanding)) → urge_at u seen (slice_get old at) ≢ Wait → SetsPatience (λ p. after_tick u p seen) at old mid → SetsPatience (sent_again seen) at mid new → SetsPatience (waited_on u seen) at old new
@@ -114,8 +114,8 @@ urged_waits u seen at old mid new due s t = by (slice_get old at) refl due s
   where
     by : (o : Option (Option Outstanding)) → slice_get old at ≡ o → urge_at u seen o ≢ Wait → SetsPatienceIn (λ p. after_tick u p seen) at old mid o → SetsPatienceIn (waited_on u seen) at old new o
     by None e due s = absurd (due refl)
-    by (Some place) e due s =
-        let between : Option Outstanding = with_patience (λ p. after_tick u p seen) place in
-        let there : slice_get mid at ≡ Some between = ap (λ (xs : List (Option Outstanding)). slice_get xs at) s ∙ set_get old at between place e in
+    by (Some slot) e due s =
+        let between : Option Outstanding = with_patience (λ p. after_tick u p seen) slot in
+        let there : slice_get mid at ≡ Some between = ap (λ (xs : List (Option Outstanding)). slice_get xs at) s ∙ set_get old at between slot e in
         let set : new ≡ slice_set mid at (with_patience (sent_again seen) between) = subst (SetsPatienceIn (sent_again seen) at mid new) there t in
-        set ∙ (ap (λ (xs : List (Option Outstanding)). slice_set xs at (with_patience (sent_again seen) between)) s ∙ (set_twice old at between (with_patience (sent_again seen) between) ∙ ap (slice_set old at) (waits_urged u seen place due)))
+        set ∙ (ap (λ (xs : List (Option Outstanding)). slice_set xs at (with_patience (sent_again seen) between)) s ∙ (set_twice old at between (with_patience (sent_again seen) between) ∙ ap (slice_set old at) (waits_urged u seen slot due)))

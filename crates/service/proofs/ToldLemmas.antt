@@ -7,14 +7,14 @@ use Rattle.std.proofs.lemmas.List.Elements.{Contains-push, Contains-append_left,
 use Rattle.proto.specs.declared.reply.Reply as replies
 use Rattle.session.specs.declared.session.Ready.{Ready}
 use Rattle.session.specs.declared.session.Session.{Session}
-use Rattle.connections.specs.declared.places.Place.{Place}
+use Rattle.connections.specs.declared.slots.ConnectionId.{ConnectionId}
 use Rattle.connections.specs.declared.said.Said.{Said}
 use Rattle.connections.specs.Connection.{ConnectionView}
 use Rattle.connections.specs.Connections.{ConnectionsView}
-use Rattle.connections.specs.Places.{is_of_connection, place_in, is_here, left_at, HasSameOthers}
+use Rattle.connections.specs.Slots.{is_of_connection, slot_in, is_here, left_at, HasSameOthers}
 use Rattle.connections.specs.Owed.{IsTakenAt}
 use Rattle.connections.specs.Told.{is_outstanding, is_outstanding_in, IsToldAt}
-use Rattle.connections.proofs.PlaceLemmas.{here_is, same_or_not}
+use Rattle.connections.proofs.SlotLemmas.{here_is, same_or_not}
 use Rattle.connections.proofs.AtLemmas.{left_others}
 use Rattle.connections.proofs.OwedLemmas.{left_own}
 use Rattle.connections.proofs.TakeLemmas.{one_of}
@@ -24,7 +24,7 @@ use Rattle.service.specs.declared.asking.Asking.TheVariants as asking
 use Rattle.service.specs.declared.assignment.Assignment.{Assignment}
 use Rattle.service.specs.declared.assignment.Outstanding.{Outstanding}
 use Rattle.service.specs.declared.note.Waiting.{Waiting}
-use Rattle.service.specs.declared.working.TheConstants.{MOST_ROUNDS}
+use Rattle.service.specs.declared.working.TheConstants.{MOST_PASSES}
 use Rattle.service.specs.Service.{ServiceView}
 use Rattle.service.specs.Steps.{AsksFor, Settles}
 use Rattle.service.specs.Owed.{AllWait}
@@ -36,10 +36,10 @@ Table = List (Option ConnectionView)
 -- ---- who is here
 
 -- the connection at a key
-here_at : (table : Table) (key : ℕ) (c : ConnectionView) → place_in table key ≡ Some c → is_here c.number table key ≡ true
+here_at : (table : Table) (key : ℕ) (c : ConnectionView) → slot_in table key ≡ Some c → is_here c.number table key ≡ true
 here_at table key c e = ap (is_of_connection c.number) e ∙ eq-eqb c.number c.number refl
 
-here_same : (old new : Table) (key number : ℕ) → place_in new key ≡ place_in old key → is_here number old key ≡ true → is_here number new key ≡ true
+here_same : (old new : Table) (key number : ℕ) → slot_in new key ≡ slot_in old key → is_here number old key ≡ true → is_here number new key ≡ true
 here_same old new key number same here = ap (is_of_connection number) same ∙ here
 
 not_here : (b : Bool) → (b ≡ true → ⊥) → b ≡ false
@@ -52,7 +52,7 @@ nothing_is : (s : Said) → Contains [] s → ⊥
 nothing_is s i = let lt = i.1 in absurd (omega (arith, lt))
 
 -- who is at a key was there, with the same outstanding command
-module _ (old new : Table) (was : (key : ℕ) (d : ConnectionView) → place_in new key ≡ Some d → (is_here d.number old key ≡ true) × (is_outstanding_in d.number new key ≡ is_outstanding_in d.number old key)) where
+module _ (old new : Table) (was : (key : ℕ) (d : ConnectionView) → slot_in new key ≡ Some d → (is_here d.number old key ≡ true) × (is_outstanding_in d.number new key ≡ is_outstanding_in d.number old key)) where
   pub silent : AreTold old new []
   silent = record {
     there = λ s i. absurd (nothing_is s i);
@@ -63,10 +63,10 @@ module _ (old new : Table) (was : (key : ℕ) (d : ConnectionView) → place_in 
   }
 
 pub same_told : (old new : Table) → new ≡ old → AreTold old new []
-same_told old new same = silent old new (λ key d e. (here_at old key d (ap (λ (t : Table). place_in t key) (sym same) ∙ e), ap (λ (t : Table). is_outstanding_in d.number t key) same))
+same_told old new same = silent old new (λ key d e. (here_at old key d (ap (λ (t : Table). slot_in t key) (sym same) ∙ e), ap (λ (t : Table). is_outstanding_in d.number t key) same))
 
 pub same_leavers : (old new : Table) (said : List Said) → new ≡ old → LeaversAreTold old new said
-same_leavers old new said same key c e = inl (here_at new key c (ap (λ (t : Table). place_in t key) same ∙ e))
+same_leavers old new said same key c e = inl (here_at new key c (ap (λ (t : Table). slot_in t key) same ∙ e))
 
 pub tells_same : (old new : Table) (refused refused_now : ℕ) (said said_now : List Said) → new ≡ old → said_now ≡ said → TellsIn old refused said new refused_now said_now
 tells_same old new refused refused_now said said_now same same_said = ([], same_said ∙ sym (append-nil said), same_told old new same, λ more few. same_leavers old new [] same)
@@ -76,7 +76,7 @@ tells_same old new refused refused_now said said_now same same_said = ([], same_
 told_one : (x s : Said) → Contains (x ∷ []) s → x ≡ s
 told_one x s i = one_of x s i
 
-module _ (at : Place) (old new : Table) (x : Said) (told : IsToldAt at old new x) where
+module _ (at : ConnectionId) (old new : Table) (x : Said) (told : IsToldAt at old new x) where
   here_x : is_here x.number old x.key ≡ true
   here_x = (λ i. is_here (told.number i) old (told.key i)) ∙ told.was_here
 
@@ -103,15 +103,15 @@ module _ (at : Place) (old new : Table) (x : Said) (told : IsToldAt at old new x
       (λ (one : (x ≡ s) × AreOfOthers s.number []). subst (λ (t : Said). is_here t.number new t.key ≡ true → t.waits ≡ is_outstanding_in t.number new t.key) one.0 (λ here. waits_x (open_x here)))
       last
 
-  untold_x : (key : ℕ) (c : ConnectionView) → place_in new key ≡ Some c → AreOfOthers c.number (x ∷ []) → is_outstanding_in c.number new key ≡ is_outstanding_in c.number old key
+  untold_x : (key : ℕ) (c : ConnectionView) → slot_in new key ≡ Some c → AreOfOthers c.number (x ∷ []) → is_outstanding_in c.number new key ≡ is_outstanding_in c.number old key
   untold_x key c e others = ⊎_elim
-      (λ (same : key ≡ at.key). absurd (others x (Contains-push [] x) (told.number ∙ sym (told.alone c (ap (place_in new) (sym same) ∙ e)))))
+      (λ (same : key ≡ at.key). absurd (others x (Contains-push [] x) (told.number ∙ sym (told.alone c (ap (slot_in new) (sym same) ∙ e)))))
       (λ (differs : key ≢ at.key). ap (is_outstanding c.number) (told.others key differs))
       (same_or_not key at.key)
 
-  comes_x : (key : ℕ) (c : ConnectionView) → place_in new key ≡ Some c → is_here c.number old key ≡ true
+  comes_x : (key : ℕ) (c : ConnectionView) → slot_in new key ≡ Some c → is_here c.number old key ≡ true
   comes_x key c e = ⊎_elim
-      (λ (same : key ≡ at.key). (λ i. is_here ((told.alone c (ap (place_in new) (sym same) ∙ e)) i) old (same i)) ∙ told.was_here)
+      (λ (same : key ≡ at.key). (λ i. is_here ((told.alone c (ap (slot_in new) (sym same) ∙ e)) i) old (same i)) ∙ told.was_here)
       (λ (differs : key ≢ at.key). here_at old key c (sym (told.others key differs) ∙ e))
       (same_or_not key at.key)
 
@@ -125,9 +125,9 @@ module _ (at : Place) (old new : Table) (x : Said) (told : IsToldAt at old new x
   }
 
   -- it is here, or is told to close
-  leaves_x : (c : ConnectionView) → place_in old at.key ≡ Some c → (is_here c.number new at.key ≡ true) ⊎ IsToldToClose at.key c.number (x ∷ [])
+  leaves_x : (c : ConnectionView) → slot_in old at.key ≡ Some c → (is_here c.number new at.key ≡ true) ⊎ IsToldToClose at.key c.number (x ∷ [])
   leaves_x c e =
-      let h = here_is at.number (place_in old at.key) told.was_here in
+      let h = here_is at.number (slot_in old at.key) told.was_here in
       let is : h.0 ≡ c = (let s : ◌≡◌ {A = Option ConnectionView} (Some h.0) (Some c) = sym h.1 ∙ e in cc s) in
       let number : c.number ≡ at.number = ap (λ (d : ConnectionView). d.number) (sym is) ∙ h.2 in
       by x.closes refl number
@@ -138,14 +138,14 @@ module _ (at : Place) (old new : Table) (x : Said) (told : IsToldAt at old new x
 
   pub one_leaves : LeaversAreTold old new (x ∷ [])
   one_leaves key c e = ⊎_elim
-      (λ (same : key ≡ at.key). subst (λ (k : ℕ). (is_here c.number new k ≡ true) ⊎ IsToldToClose k c.number (x ∷ [])) (sym same) (leaves_x c (ap (place_in old) (sym same) ∙ e)))
+      (λ (same : key ≡ at.key). subst (λ (k : ℕ). (is_here c.number new k ≡ true) ⊎ IsToldToClose k c.number (x ∷ [])) (sym same) (leaves_x c (ap (slot_in old) (sym same) ∙ e)))
       (λ (differs : key ≢ at.key). inl (here_at new key c (told.others key differs ∙ e)))
       (same_or_not key at.key)
 
   pub tells_one : (refused refused_now : ℕ) (said said_now : List Said) → said_now ≡ said ++ x ∷ [] → TellsIn old refused said new refused_now said_now
   tells_one refused refused_now said said_now is = (x ∷ [], is, one_told, λ more few. one_leaves)
 
-pub may_tell : (at : Place) (old new : Table) (refused refused_now : ℕ) (said said_now : List Said) → MayTell at old new said said_now → TellsIn old refused said new refused_now said_now
+pub may_tell : (at : ConnectionId) (old new : Table) (refused refused_now : ℕ) (said said_now : List Said) → MayTell at old new said said_now → TellsIn old refused said new refused_now said_now
 may_tell at old new refused refused_now said said_now tells = ⊎_elim
     (λ (none : (new ≡ old) × (said_now ≡ said)). tells_same old new refused refused_now said said_now none.0 none.1)
     (λ (one : (given : Said) × (said_now ≡ said ++ given ∷ []) × IsToldAt at old new given). tells_one at old new one.0 one.2 refused refused_now said said_now one.1)
@@ -171,23 +171,23 @@ module _ (old mid new : Table) (a b : List Said) (first : AreTold old mid a) (se
   -- who is here was here in between
   back_mid : (number key : ℕ) → is_here number new key ≡ true → is_here number mid key ≡ true
   back_mid number key here =
-      let h = here_is number (place_in new key) here in
+      let h = here_is number (slot_in new key) here in
       subst (λ (n : ℕ). is_here n mid key ≡ true) h.2 (second.none_comes key h.0 h.1)
 
   back_old : (number key : ℕ) → is_here number mid key ≡ true → is_here number old key ≡ true
   back_old number key here =
-      let h = here_is number (place_in mid key) here in
+      let h = here_is number (slot_in mid key) here in
       subst (λ (n : ℕ). is_here n old key ≡ true) h.2 (first.none_comes key h.0 h.1)
 
   -- of whom nothing is said
   mid_new : (number key : ℕ) → is_here number new key ≡ true → AreOfOthers number b → is_outstanding_in number new key ≡ is_outstanding_in number mid key
   mid_new number key here others =
-      let h = here_is number (place_in new key) here in
+      let h = here_is number (slot_in new key) here in
       subst (λ (n : ℕ). is_outstanding_in n new key ≡ is_outstanding_in n mid key) h.2 (second.untold key h.0 h.1 (subst (λ (n : ℕ). AreOfOthers n b) (sym h.2) others))
 
   old_mid : (number key : ℕ) → is_here number mid key ≡ true → AreOfOthers number a → is_outstanding_in number mid key ≡ is_outstanding_in number old key
   old_mid number key here others =
-      let h = here_is number (place_in mid key) here in
+      let h = here_is number (slot_in mid key) here in
       subst (λ (n : ℕ). is_outstanding_in n mid key ≡ is_outstanding_in n old key) h.2 (first.untold key h.0 h.1 (subst (λ (n : ℕ). AreOfOthers n a) (sym h.2) others))
 
   there_on : (s : Said) → Contains (a ++ b) s → is_here s.number old s.key ≡ true
@@ -225,7 +225,7 @@ later_closed key number a b t = record { told = t.told; there = Contains-append_
 leavers_on : (old mid new : Table) (a b : List Said) → LeaversAreTold old mid a → LeaversAreTold mid new b → LeaversAreTold old new (a ++ b)
 leavers_on old mid new a b first second key c e = ⊎_elim
     (λ (here : is_here c.number mid key ≡ true).
-    let h = here_is c.number (place_in mid key) here in
+    let h = here_is c.number (slot_in mid key) here in
     ⊎_elim
     (λ (stays : is_here h.0.number new key ≡ true). inl (ap (λ (n : ℕ). is_here n new key) (sym h.2) ∙ stays))
     (λ (told : IsToldToClose key h.0.number b). inr (later_closed key c.number a b (subst (λ (n : ℕ). IsToldToClose key n b) h.2 told)))
@@ -249,10 +249,10 @@ tells_more old new r r_now e said said_now tells = (tells.0, tells.1, tells.2, �
 
 -- ---- a command is taken
 
-pub taken_told : (at : Place) (old new : Table) (ready : Ready) → HasSameOthers at.key old new → IsTakenAt at old new ready → AreTold old new []
+pub taken_told : (at : ConnectionId) (old new : Table) (ready : Ready) → HasSameOthers at.key old new → IsTakenAt at old new ready → AreTold old new []
 taken_told at old new ready others took = silent old new (λ key d e. ⊎_elim
     (λ (same : key ≡ at.key).
-    let is : took.next ≡ d = (let s : ◌≡◌ {A = Option ConnectionView} (Some took.next) (Some d) = sym took.there ∙ (ap (place_in new) (sym same) ∙ e) in cc s) in
+    let is : took.next ≡ d = (let s : ◌≡◌ {A = Option ConnectionView} (Some took.next) (Some d) = sym took.there ∙ (ap (slot_in new) (sym same) ∙ e) in cc s) in
     let number : took.was.number ≡ d.number = sym (ap (λ (x : ConnectionView). x.number) took.is.now_is) ∙ ap (λ (x : ConnectionView). x.number) is in (
       subst (λ (z : ℕ × ℕ). is_here z.0 old z.1 ≡ true) (λ i. (number i, sym same i)) (here_at old at.key took.was took.at_key),
       (λ i. is_outstanding_in d.number new (same i)) ∙ (ap (is_outstanding d.number) took.there ∙ ((ap (λ (x : ConnectionView). is_outstanding d.number (Some x)) took.is.now_is ∙ ap (λ (s : Session). is_outstanding d.number (Some (record { number = took.was.number; session = s; unwritten = took.was.unwritten }))) took.is.of_session.now_is) ∙ (sym (ap (is_outstanding d.number) took.at_key) ∙ (λ i. is_outstanding_in d.number old (sym same i))))),
@@ -260,17 +260,17 @@ taken_told at old new ready others took = silent old new (λ key d e. ⊎_elim
     (λ (differs : key ≢ at.key). (here_at old key d (sym (others key differs) ∙ e), ap (is_outstanding d.number) (others key differs)))
     (same_or_not key at.key))
 
-pub taken_leavers : (at : Place) (old new : Table) (ready : Ready) → HasSameOthers at.key old new → IsTakenAt at old new ready → LeaversAreTold old new []
+pub taken_leavers : (at : ConnectionId) (old new : Table) (ready : Ready) → HasSameOthers at.key old new → IsTakenAt at old new ready → LeaversAreTold old new []
 taken_leavers at old new ready others took key c e = inl (⊎_elim
     (λ (same : key ≡ at.key).
-    let is : took.was ≡ c = (let s : ◌≡◌ {A = Option ConnectionView} (Some took.was) (Some c) = sym took.at_key ∙ (ap (place_in old) (sym same) ∙ e) in cc s) in
+    let is : took.was ≡ c = (let s : ◌≡◌ {A = Option ConnectionView} (Some took.was) (Some c) = sym took.at_key ∙ (ap (slot_in old) (sym same) ∙ e) in cc s) in
     let number : took.next.number ≡ c.number = ap (λ (x : ConnectionView). x.number) took.is.now_is ∙ ap (λ (x : ConnectionView). x.number) is in
     subst (λ (z : ℕ × ℕ). is_here z.0 new z.1 ≡ true) (λ i. (number i, sym same i)) (here_at new at.key took.next took.there))
     (λ (differs : key ≢ at.key). here_at new key c (others key differs ∙ e))
     (same_or_not key at.key))
 
 -- it is told that it is to close, after its command was taken
-pub told_since_taken : (at : Place) (old mid new : Table) (ready : Ready) (said : Said) → IsTakenAt at old mid ready → HasSameOthers at.key old mid → IsToldAt at mid new said → IsToldAt at old new said
+pub told_since_taken : (at : ConnectionId) (old mid new : Table) (ready : Ready) (said : Said) → IsTakenAt at old mid ready → HasSameOthers at.key old mid → IsToldAt at mid new said → IsToldAt at old new said
 told_since_taken at old mid new ready said took others told = record {
   key = told.key;
   number = told.number;
@@ -282,7 +282,7 @@ told_since_taken at old mid new ready said took others told = record {
 }
 
 -- whatever came of it
-pub assign_tells : (at : Place) (proxy : ℕ) (v next : ConnectionsView) (e f : EnsembleView) (asked : Asking) (pool pool_now : List (Option Outstanding)) (before now : List Assignment) (refused refused_now : ℕ) (said said_now : List Said) (key : ℕ)
+pub assign_tells : (at : ConnectionId) (proxy : ℕ) (v next : ConnectionsView) (e f : EnsembleView) (asked : Asking) (pool pool_now : List (Option Outstanding)) (before now : List Assignment) (refused refused_now : ℕ) (said said_now : List Said) (key : ℕ)
     → AsksFor at proxy v e next f asked → IsToldIfFailed at v.table next.table asked → Settles key asked pool pool_now before now said said_now → TellsIn v.table refused said next.table refused_now said_now
 assign_tells at proxy v next e f asking.Nothing pool pool_now before now refused refused_now said said_now key asks told settles =
     tells_same v.table next.table refused refused_now said said_now (ap (λ (x : ConnectionsView). x.table) asks.4) settles.2
@@ -294,18 +294,18 @@ assign_tells at proxy v next e f (asking.Failed given) pool pool_now before now 
 -- ---- a connection leaves, and nothing is said
 
 -- who is there then was there
-left_back : (at : Place) (table : Table) (key : ℕ) (d : ConnectionView) → place_in (left_at at table) key ≡ Some d → place_in table key ≡ Some d
+left_back : (at : ConnectionId) (table : Table) (key : ℕ) (d : ConnectionView) → slot_in (left_at at table) key ≡ Some d → slot_in table key ≡ Some d
 left_back at table key d e = ⊎_elim
-    (λ (same : key ≡ at.key). ap (place_in table) same ∙ (left_own at table d (ap (place_in (left_at at table)) (sym same) ∙ e)).1)
+    (λ (same : key ≡ at.key). ap (slot_in table) same ∙ (left_own at table d (ap (slot_in (left_at at table)) (sym same) ∙ e)).1)
     (λ (differs : key ≢ at.key). sym (left_others at table key differs) ∙ e)
     (same_or_not key at.key)
 
-pub left_tells : (at : Place) (old new : Table) (refused refused_now : ℕ) (said said_now : List Said) → new ≡ left_at at old → said_now ≡ said → (refused < 2 ^ 64 - 1 → refused < refused_now) → TellsIn old refused said new refused_now said_now
+pub left_tells : (at : ConnectionId) (old new : Table) (refused refused_now : ℕ) (said said_now : List Said) → new ≡ left_at at old → said_now ≡ said → (refused < 2 ^ 64 - 1 → refused < refused_now) → TellsIn old refused said new refused_now said_now
 left_tells at old new refused refused_now said said_now left same counted = (
   [],
   same ∙ sym (append-nil said),
   silent old new (λ key d e.
-      let was = left_back at old key d (ap (λ (t : Table). place_in t key) (sym left) ∙ e) in
+      let was = left_back at old key d (ap (λ (t : Table). slot_in t key) (sym left) ∙ e) in
       (here_at old key d was, ap (is_outstanding d.number) (e ∙ sym was))),
   λ again few. let more = counted few in absurd (omega (arith, more, again)),
 )
@@ -333,25 +333,25 @@ tells_all old mid new r0 r1 r2 said same same_refused tells =
     let leavers : UnlessRefused r1 r2 (LeaversAreTold mid new said) = subst (λ (more : List Said). UnlessRefused r1 r2 (LeaversAreTold mid new more)) (sym tells.1) tells.3 in
     (subst (λ (t : Table). AreTold t new said) same told, subst (λ (z : Table × ℕ). UnlessRefused z.1 r2 (LeaversAreTold z.0 new said)) (λ i. (same i, same_refused i)) leavers)
 
--- one leaves the line
+-- one leaves the queue
 pub shorter : (old new : List Waiting) (w : Waiting) → old ≡ w ∷ new → length new < length old
 shorter old new w is = let long : length old ≡ length (w ∷ new) = ap length is in omega (arith, long)
 
 -- what is told as commands are asked, and then as they are answered
-pub round_tells : (t0 t1 t2 t3 : Table) (r0 r1 r2 r3 : ℕ) (s0 s1 s2 : List Said) → r0 ≤ r1 → r1 ≤ r2 → r2 ≤ r3 → t2 ≡ t1 → TellsIn t0 r0 s0 t1 r1 s1 → TellsIn t2 r2 s1 t3 r3 s2 → TellsIn t0 r0 s0 t3 r3 s2
-round_tells t0 t1 t2 t3 r0 r1 r2 r3 s0 s1 s2 le_a le_b le_c same first second =
+pub pass_tells : (t0 t1 t2 t3 : Table) (r0 r1 r2 r3 : ℕ) (s0 s1 s2 : List Said) → r0 ≤ r1 → r1 ≤ r2 → r2 ≤ r3 → t2 ≡ t1 → TellsIn t0 r0 s0 t1 r1 s1 → TellsIn t2 r2 s1 t3 r3 s2 → TellsIn t0 r0 s0 t3 r3 s2
+pass_tells t0 t1 t2 t3 r0 r1 r2 r3 s0 s1 s2 le_a le_b le_c same first second =
     tells_on t0 t2 t3 r0 r2 r3 s0 s1 s2 (omega (arith, le_a, le_b)) le_c (tells_on t0 t1 t2 r0 r1 r2 s0 s1 s1 le_a le_b first (tells_same t1 t2 r1 r2 s1 s1 same refl)) second
 
 -- ---- what waits is asked
 
-pub asks_same : (v now : ServiceView) → now.line ≡ v.line → now.waiting ≡ v.waiting → AsksAll v → AsksAll now
-asks_same v now line waiting asks = ⊎_elim
-    (λ (none : v.line ≡ []). inl (line ∙ none))
+pub asks_same : (v now : ServiceView) → now.queue ≡ v.queue → now.waiting ≡ v.waiting → AsksAll v → AsksAll now
+asks_same v now queue waiting asks = ⊎_elim
+    (λ (none : v.queue ≡ []). inl (queue ∙ none))
     (λ (all : AllWait v.waiting). inr (subst AllWait (sym waiting) all))
     asks
 
 -- nothing was answered
-pub asked_and_rests : (v1 v2 v3 : ServiceView) (r0 r1 r2 r3 : ℕ) → r0 ≤ r1 → r1 ≤ r2 → r2 ≤ r3 → UnlessRefused r0 r1 (AsksAll v1) → (v2.line ≡ v1.line) × (v2.waiting ≡ v1.waiting) → (v3.line ≡ v2.line) × (v3.waiting ≡ v2.waiting) → UnlessRefused r0 r3 (AsksAll v3)
+pub asked_and_rests : (v1 v2 v3 : ServiceView) (r0 r1 r2 r3 : ℕ) → r0 ≤ r1 → r1 ≤ r2 → r2 ≤ r3 → UnlessRefused r0 r1 (AsksAll v1) → (v2.queue ≡ v1.queue) × (v2.waiting ≡ v1.waiting) → (v3.queue ≡ v2.queue) × (v3.waiting ≡ v2.waiting) → UnlessRefused r0 r3 (AsksAll v3)
 asked_and_rests v1 v2 v3 r0 r1 r2 r3 le_a le_b le_c asks same again again_refused few =
     asks_same v2 v3 again.0 again.1 (asks_same v1 v2 same.0 same.1 (asks (omega (arith, le_a, le_b, le_c, again_refused)) few))
 
@@ -362,4 +362,4 @@ more_answers a b v between now first second = omega (arith, first, second)
 -- a call that begins with what is noted
 pub work_asks : (v0 v1 now : ServiceView) → v1.answered ≡ v0.answered → v1.replicas.refused ≡ v0.replicas.refused → UnlessRefused v1.replicas.refused now.replicas.refused (AsksWhatWaits v1 now) → UnlessRefused v0.replicas.refused now.replicas.refused (AsksWhatWaits v0 now)
 work_asks v0 v1 now answered refused asks same few =
-    subst (λ (log : List ((ℕ × ℕ) × replies.Reply)). AsksAll now ⊎ (length log + MOST_ROUNDS ≤ length now.answered)) answered (asks (omega (arith, same, refused)) (omega (arith, few, refused)))
+    subst (λ (log : List ((ℕ × ℕ) × replies.Reply)). AsksAll now ⊎ (length log + MOST_PASSES ≤ length now.answered)) answered (asks (omega (arith, same, refused)) (omega (arith, few, refused)))

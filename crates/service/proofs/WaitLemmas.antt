@@ -1,8 +1,8 @@
--- What proxies wait for, as places are set.
+-- What proxies wait for, as slots are set.
 use Rattle.std.proofs.Common.{◌≡◌, ◌⊎◌, inl, inr, ⊎_elim, ℕ, zero, suc, ◌-◌, Bool, true, false, List, [], ◌∷◌, Option, Some, None, refl, sym, ap, ◌∙◌, subst, length, slice_get, slice_set}
 use Rattle.std.specs.Prelude.{◌≢◌, ◌==◌, ◌&&◌, replicate, if◌then◌else◌}
 use Rattle.std.proofs.lemmas.Bool.{eqb-true}
-use Rattle.connections.proofs.PlaceLemmas.{set_other, same_or_not}
+use Rattle.connections.proofs.SlotLemmas.{set_other, same_or_not}
 use Rattle.service.specs.declared.assignment.Assignment.{Assignment}
 use Rattle.service.specs.declared.assignment.Outstanding.{Outstanding}
 use Rattle.service.specs.Service.{WaitsAt}
@@ -19,7 +19,7 @@ set_length [] i p = refl
 set_length (x ∷ xs) zero p = refl
 set_length (x ∷ xs) (suc i) p = ap suc (set_length xs i p)
 
--- what is at a place after it was set
+-- what is in a slot after it was set
 set_there : (xs : List (Option Outstanding)) (i : ℕ) (p q : Option Outstanding) → slice_get (slice_set xs i p) i ≡ Some q → q ≡ p
 set_there [] i p q e = let s : ◌≡◌ {A = Option (Option Outstanding)} None (Some q) = e in absurd (cc s)
 set_there (x ∷ xs) zero p q e = let s : ◌≡◌ {A = Option (Option Outstanding)} (Some p) (Some q) = e in sym (cc s)
@@ -32,7 +32,7 @@ is_some_of : (p : Option Outstanding) (a : Assignment) → assignment_of p ≡ S
 is_some_of None a e = let s : ◌≡◌ {A = Option Assignment} None (Some a) = e in absurd (cc s)
 is_some_of (Some o) a e = (o, refl, let s : ◌≡◌ {A = Option Assignment} (Some o.assignment) (Some a) = e in cc s)
 
--- who waits at a place after one was set waited there, or was set there
+-- who waits in a slot after one was set waited there, or was set there
 set_waits : (xs : List (Option Outstanding)) (i : ℕ) (p : Option Outstanding) (k : ℕ) (a : Assignment) → WaitsAt (slice_set xs i p) k a → WaitsAt xs k a ⊎ ((k ≡ i) × (assignment_of p ≡ Some a))
 set_waits xs i p k a w = ⊎_elim
     (λ (same : k ≡ i). inr (same, some_is p w.0 a (sym (set_there xs i p (Some w.0) (subst (λ (n : ℕ). slice_get (slice_set xs i p) n ≡ Some (Some w.0)) same w.1))) w.2))
@@ -40,9 +40,9 @@ set_waits xs i p k a w = ⊎_elim
     (same_or_not k i)
 
 pub adds_set : (xs : List (Option Outstanding)) (i : ℕ) (o : Outstanding) → i ≡ o.assignment.proxy - 1 → AddsWait xs o.assignment (slice_set xs i (Some o))
-adds_set xs i o place k a w = ⊎_elim
+adds_set xs i o slot k a w = ⊎_elim
     (λ (old : WaitsAt xs k a). inl old)
-    (λ (new : (k ≡ i) × (assignment_of (Some o) ≡ Some a)). inr ((let s : ◌≡◌ {A = Option Assignment} (Some o.assignment) (Some a) = new.1 in sym (cc s)), new.0 ∙ place))
+    (λ (new : (k ≡ i) × (assignment_of (Some o) ≡ Some a)). inr ((let s : ◌≡◌ {A = Option Assignment} (Some o.assignment) (Some a) = new.1 in sym (cc s)), new.0 ∙ slot))
     (set_waits xs i (Some o) k a w)
 
 abbrev of_owed : Option (ℕ × Assignment) → Option Assignment
@@ -61,9 +61,9 @@ keeps_set xs ys i s = by (slice_get xs i) refl s
   where
     by : (o : Option (Option Outstanding)) → slice_get xs i ≡ o → SetsWaitIn i xs ys o → KeepsWaits xs ys
     by None e s k a w = subst (λ (zs : List (Option Outstanding)). WaitsAt zs k a) s w
-    by (Some place) e s k a w = ⊎_elim
+    by (Some slot) e s k a w = ⊎_elim
         (λ (old : WaitsAt xs k a). old)
-        (λ (new : (k ≡ i) × (assignment_of s.0 ≡ Some a)). let t = is_some_of place a (same_assignment place s.0 (sym s.1) ∙ new.1) in (t.0, ap (slice_get xs) new.0 ∙ (e ∙ ap (λ (p : Option Outstanding). Some p) t.1), t.2))
+        (λ (new : (k ≡ i) × (assignment_of s.0 ≡ Some a)). let t = is_some_of slot a (same_assignment slot s.0 (sym s.1) ∙ new.1) in (t.0, ap (slice_get xs) new.0 ∙ (e ∙ ap (λ (p : Option Outstanding). Some p) t.1), t.2))
         (set_waits xs i s.0 k a (subst (λ (zs : List (Option Outstanding)). WaitsAt zs k a) s.2 w))
 
 both_true : (a b : Bool) → (a && b) ≡ true → (a ≡ true) × (b ≡ true)
@@ -97,10 +97,10 @@ ends_take xs ys i proxy number result t = by (slice_get xs i) refl t
         subst (EndsWait xs proxy number ys) (sym r) (cleared (set ∙ ap (slice_set xs i) n), (i, o, at, refl), eqb-true o.assignment.proxy proxy both.0, eqb-true o.assignment.number number both.1)
     by_some o false now is at r n set = subst (EndsWait xs proxy number ys) (sym r) (unset (Some o) at (set ∙ ap (slice_set xs i) n))
 
-    by_place : (p now : Option Outstanding) → slice_get xs i ≡ Some p → TakesOne proxy number p now result → ys ≡ slice_set xs i now → EndsWait xs proxy number ys result
-    by_place None now at one set = subst (EndsWait xs proxy number ys) (sym one.0) (unset None at (set ∙ ap (slice_set xs i) one.1))
-    by_place (Some o) now at one set = by_some o (is_request_of proxy number (Some o)) now refl at one.0 one.1 set
+    by_slot : (p now : Option Outstanding) → slice_get xs i ≡ Some p → TakesOne proxy number p now result → ys ≡ slice_set xs i now → EndsWait xs proxy number ys result
+    by_slot None now at one set = subst (EndsWait xs proxy number ys) (sym one.0) (unset None at (set ∙ ap (slice_set xs i) one.1))
+    by_slot (Some o) now at one set = by_some o (is_request_of proxy number (Some o)) now refl at one.0 one.1 set
 
     by : (o : Option (Option Outstanding)) → slice_get xs i ≡ o → TakesWaitIn i proxy number xs ys result o → EndsWait xs proxy number ys result
     by None e t = nothing result t.0 t.1
-    by (Some p) e t = by_place p t.0 e t.1 t.2
+    by (Some p) e t = by_slot p t.0 e t.1 t.2

@@ -3,53 +3,53 @@ use Rattle.std.specs.Prelude.{◌≡◌, ◌⊎◌, ℕ, suc, ◌-◌, ◌≤◌
 use Rattle.proto.specs.declared.command.Command.{Command}
 use Rattle.session.specs.declared.session.Awaited.{Awaited}
 use Rattle.connections.specs.declared.connection.TheConstants.{MOST_UNWRITTEN}
-use Rattle.connections.specs.declared.places.Place.{Place}
+use Rattle.connections.specs.declared.slots.ConnectionId.{ConnectionId}
 use Rattle.connections.specs.Connection.{ConnectionView}
-use Rattle.connections.specs.Places.{place_in, is_here, HasSameOthers}
+use Rattle.connections.specs.Slots.{slot_in, is_here, HasSameOthers}
 use Rattle.connections.specs.Owed.{AnswersOn, BecomesAt}
 use Rattle.service.specs.declared.assignment.Assignment.{Assignment}
 use Rattle.service.specs.declared.assignment.Outstanding.{Outstanding}
 use Rattle.service.specs.declared.note.Waiting.{Waiting}
 
--- the connection waits in the line for a proxy
-pub record IsInLine (line : List Waiting) (key number : ℕ) : Type 0 where
+-- the connection waits in the queue for a proxy
+pub record IsInQueue (queue : List Waiting) (key number : ℕ) : Type 0 where
   pub waiting : Waiting
-  pub there : Contains line waiting
+  pub there : Contains queue waiting
   pub key_is : waiting.at.key ≡ key
   pub number_is : waiting.at.number ≡ number
 
 -- a proxy waits for the reply to just this command of the connection
 pub record IsWaitedFor (pool : List (Option Outstanding)) (key number turn : ℕ) : Type 0 where
-  pub place : ℕ
+  pub slot : ℕ
   pub outstanding : Outstanding
-  pub there : slice_get pool place ≡ Some (Some outstanding)
+  pub there : slice_get pool slot ≡ Some (Some outstanding)
   pub key_is : outstanding.key ≡ key
   pub number_is : outstanding.assignment.connection ≡ number
   pub turn_is : outstanding.assignment.turn ≡ turn
 
--- What the connection at this key has outstanding, and whether that was not taken. One that was not taken waits in the line, or for bytes to be written. One that was taken has a proxy that waits for its reply.
+-- What the connection at this key has outstanding, and whether that was not taken. One that was not taken waits in the queue, or for bytes to be written. One that was taken has a proxy that waits for its reply.
 abbrev pub IsRememberedAs : List Waiting → List (Option Outstanding) → ℕ → ConnectionView → Option Awaited → Option Command → Type 0
-IsRememberedAs line pool key c None command = Unit {0}
-IsRememberedAs line pool key c (Some asked) (Some command) = IsInLine line key c.number ⊎ (MOST_UNWRITTEN ≤ c.unwritten)
-IsRememberedAs line pool key c (Some asked) None = IsWaitedFor pool key c.number asked.number
+IsRememberedAs queue pool key c None command = Unit {0}
+IsRememberedAs queue pool key c (Some asked) (Some command) = IsInQueue queue key c.number ⊎ (MOST_UNWRITTEN ≤ c.unwritten)
+IsRememberedAs queue pool key c (Some asked) None = IsWaitedFor pool key c.number asked.number
 
 abbrev pub IsRemembered : List Waiting → List (Option Outstanding) → ℕ → ConnectionView → Type 0
-IsRemembered line pool key c = IsRememberedAs line pool key c c.session.outstanding c.session.command
+IsRemembered queue pool key c = IsRememberedAs queue pool key c c.session.outstanding c.session.command
 
 -- nothing that is outstanding is forgotten
 abbrev pub Remembers : List Waiting → List (Option Outstanding) → List (Option ConnectionView) → Type 0
-Remembers line pool table = (key : ℕ) (c : ConnectionView) → place_in table key ≡ Some c → IsRemembered line pool key c
+Remembers queue pool table = (key : ℕ) (c : ConnectionView) → slot_in table key ≡ Some c → IsRemembered queue pool key c
 
--- so does this line of this table, whatever proxies wait for
+-- so does this queue of this table, whatever proxies wait for
 abbrev pub StillRemembers : List Waiting → List Waiting → List (Option ConnectionView) → List (Option ConnectionView) → Type 0
-StillRemembers line line_now table table_now = (pool : List (Option Outstanding)) → Remembers line pool table → Remembers line_now pool table_now
+StillRemembers queue queue_now table table_now = (pool : List (Option Outstanding)) → Remembers queue pool table → Remembers queue_now pool table_now
 
--- it joins the line, if it is to
-abbrev pub line_with : Bool → List Waiting → Waiting → List Waiting
-line_with is line waiting = if is then line ++ waiting ∷ [] else line
+-- it joins the queue, if it is to
+abbrev pub queue_with : Bool → List Waiting → Waiting → List Waiting
+queue_with is queue waiting = if is then queue ++ waiting ∷ [] else queue
 
--- what becomes of the connection at this place, if it is here, as the reply to its command of this number comes
-abbrev pub RepliesAt : Place → ℕ → List (Option ConnectionView) → List (Option ConnectionView) → Type 0
+-- what becomes of the connection of this id, if it is here, as the reply to its command of this number comes
+abbrev pub RepliesAt : ConnectionId → ℕ → List (Option ConnectionView) → List (Option ConnectionView) → Type 0
 RepliesAt at turn old new = ((new ≡ old) × (is_here at.number old at.key ≡ false)) ⊎ (HasSameOthers at.key old new × BecomesAt (AnswersOn turn) at old new)
 
 -- ---- what proxies wait for

@@ -22,7 +22,7 @@ pub record IsWhole (v : ServiceView) : Type 0 where
   pub moments : HasMoments v
   pub service : IsService v
   pub ensemble : HasEnsemble v
-  pub remembers : Remembers v.line v.waiting v.connections.table
+  pub remembers : Remembers v.queue v.waiting v.connections.table
 
 -- What always holds of a service of itself alone: all but what holds of its replicas.
 pub record IsServiceAlone (v : ServiceView) : Type 0 where
@@ -30,7 +30,7 @@ pub record IsServiceAlone (v : ServiceView) : Type 0 where
   pub history : IsHistory (passed_history v.connections)
   pub moments : HasMoments v
   pub service : IsService v
-  pub remembers : Remembers v.line v.waiting v.connections.table
+  pub remembers : Remembers v.queue v.waiting v.connections.table
   -- requests and replies are those of its replicas
   pub same_asked : v.replicas.ensemble.asked ≡ v.asked
   pub same_answered : v.replicas.ensemble.answered ≡ v.answered
@@ -66,7 +66,7 @@ HasAll v = NoneIsLost v.replicas.ensemble.nodes
 abbrev pub NobodyWaits : List (Option Outstanding) → Type 0
 NobodyWaits waiting = (a : Assignment) → Waits waiting a → ⊥
 
--- the service of a process that begins with this: nothing was asked of it, and it has these places for what proxies wait for
+-- the service of a process that begins with this: nothing was asked of it, and it has these slots for what proxies wait for
 abbrev pub reopened_service : KeptService → List (Option Outstanding) → List Pause → ServiceView
 reopened_service kept waiting pauses = record {
   connections = no_connections_from kept.dialect kept.next;
@@ -75,7 +75,7 @@ reopened_service kept waiting pauses = record {
   order = [];
   assignments = [];
   waiting = waiting;
-  line = [];
+  queue = [];
   replicas = record { ensemble = reopened_ensemble kept.replicas; refused = 0; pauses = pauses };
 }
 
@@ -106,7 +106,7 @@ service_after before v = record {
   order = before.order ++ v.order;
   assignments = before.assignments ++ v.assignments;
   waiting = v.waiting;
-  line = v.line;
+  queue = v.queue;
   replicas = replicas_after before.replicas v.replicas;
 }
 
@@ -124,9 +124,9 @@ abbrev pub IsProcess : ServiceView → Type 0
 IsProcess v = IsServiceAfter (found_by v) v
 
 -- processes one after the other, the first of which began with this: each later one began with what was kept of the one before it
-abbrev pub AreInTurn : Option KeptService → List ServiceView → Type 0
-AreInTurn found [] = Unit {0}
-AreInTurn found (v ∷ later) = IsServiceAfter found v × HasAll v × AreInTurn (Some (kept_of v)) later
+abbrev pub AreSuccessive : Option KeptService → List ServiceView → Type 0
+AreSuccessive found [] = Unit {0}
+AreSuccessive found (v ∷ later) = IsServiceAfter found v × HasAll v × AreSuccessive (Some (kept_of v)) later
 
 -- processes one after the other, the first of which began with this: each later one was opened again with what was kept of the one before it
 abbrev pub AreReopened : Option KeptService → List ServiceView → Type 0

@@ -47,7 +47,7 @@ pub record ServiceView : Type 0 where
   -- what proxies wait for
   pub waiting : List (Option Outstanding)
   -- who waits for a proxy, in order. Some may have left
-  pub line : List Waiting
+  pub queue : List Waiting
   pub replicas : ReplicasView
 
 -- a service is identified by what it has
@@ -55,8 +55,8 @@ abbrev pub service_code : Coded ConnectionsView → Coded Request → Coded (rep
 service_code connections request reply note assignment outstanding waiting ensemble pause =
     code_by (((((((((ConnectionsView × List (Request × Bool)) × List ((ℕ × ℕ) × replies.Reply)) × List ((ℕ × ℕ) × Noted)) × List Assignment) × List (Option Outstanding)) × List Waiting) × EnsembleView) × ℕ) × List Pause)
     (coded× (coded× (coded× (coded× (coded× (coded× (coded× (coded× (coded× connections (coded_list (coded× request coded_bool))) (coded_list (coded× (coded× coded_ℕ coded_ℕ) reply))) (coded_list (coded× (coded× coded_ℕ coded_ℕ) note))) (coded_list assignment)) (coded_list (coded_option outstanding))) (coded_list waiting)) ensemble) coded_ℕ) (coded_list pause))
-    (λ v. (((((((((v.connections, v.asked), v.answered), v.order), v.assignments), v.waiting), v.line), v.replicas.ensemble), v.replicas.refused), v.replicas.pauses))
-    (λ p. record { connections = p.0.0.0.0.0.0.0.0.0; asked = p.0.0.0.0.0.0.0.0.1; answered = p.0.0.0.0.0.0.0.1; order = p.0.0.0.0.0.0.1; assignments = p.0.0.0.0.0.1; waiting = p.0.0.0.0.1; line = p.0.0.0.1; replicas = record { ensemble = p.0.0.1; refused = p.0.1; pauses = p.1 } })
+    (λ v. (((((((((v.connections, v.asked), v.answered), v.order), v.assignments), v.waiting), v.queue), v.replicas.ensemble), v.replicas.refused), v.replicas.pauses))
+    (λ p. record { connections = p.0.0.0.0.0.0.0.0.0; asked = p.0.0.0.0.0.0.0.0.1; answered = p.0.0.0.0.0.0.0.1; order = p.0.0.0.0.0.0.1; assignments = p.0.0.0.0.0.1; waiting = p.0.0.0.0.1; queue = p.0.0.0.1; replicas = record { ensemble = p.0.0.1; refused = p.0.1; pauses = p.1 } })
     (λ _. refl)
 
 -- what is given, by the number of its connection
@@ -84,7 +84,7 @@ asked_keys ((key, noted.Asked) ∷ order) = key ∷ asked_keys order
 asked_keys ((key, noted.Answered) ∷ order) = asked_keys order
 asked_keys ((key, noted.Moment) ∷ order) = asked_keys order
 
--- what had been asked and answered before the request at this place of them was asked
+-- what had been asked and answered before the request at this index of them was asked
 abbrev pub before_ask : ℕ → List ((ℕ × ℕ) × Noted) → List ((ℕ × ℕ) × Noted)
 before_ask i [] = []
 before_ask i ((key, noted.Answered) ∷ order) = (key, noted.Answered) ∷ before_ask i order
@@ -111,7 +111,7 @@ pub record IsAssigned (v : ServiceView) (a : Assignment) : Type 0 where
   pub numbered : request.number ≡ a.number
   pub same : request.command ≡ command
 
--- at this place the reply to this is waited for
+-- in this slot the reply to this is waited for
 abbrev pub WaitsAt : List (Option Outstanding) → ℕ → Assignment → Type 0
 WaitsAt waiting i a = (o : Outstanding) × (slice_get waiting i ≡ Some (Some o)) × (o.assignment ≡ a)
 
@@ -134,7 +134,7 @@ pub record IsService (v : ServiceView) : Type 0 where
   pub in_turn : (i : ℕ) (b : Assignment) → slice_get v.assignments i ≡ Some b → (turn : ℕ) → 1 ≤ turn → turn < b.turn → IsAnsweredEarlier v.assignments b.connection turn (before_ask i v.order)
   pub waits : (a : Assignment) → Waits v.waiting a → Contains v.assignments a
   -- who waits is the proxy that asked. Proxies are numbered from 1
-  pub placed : (i : ℕ) (a : Assignment) → WaitsAt v.waiting i a → a.proxy ≡ suc i
+  pub in_own_slot : (i : ℕ) (a : Assignment) → WaitsAt v.waiting i a → a.proxy ≡ suc i
   -- no reply came back to a command for which a proxy waits
   pub unreplied : (a : Assignment) → Waits v.waiting a → (reply : replies.Reply) → WasReplied v.connections.replied a.connection a.turn reply → ⊥
 

@@ -2,12 +2,12 @@
 use Rattle.std.specs.Prelude.{◌≡◌, ◌⊎◌, ℕ, ◌-◌, ◌≤◌, ◌==◌, ◌&&◌, Bool, false, List, [], ◌∷◌, ◌++◌, Option, Some, None, Contains, slice_get, slice_set, if◌then◌else◌}
 use Rattle.proto.specs.declared.command.Command.{Command}
 use Rattle.connections.specs.declared.connections.CommandNumber.{CommandNumber}
-use Rattle.connections.specs.declared.places.Place.{Place}
+use Rattle.connections.specs.declared.slots.ConnectionId.{ConnectionId}
 use Rattle.connections.specs.declared.said.Said.{Said}
 use Rattle.connections.specs.Connections.{ConnectionsView, AreBefore, AreReplied}
 use Rattle.session.specs.declared.session.Ready.{Ready}
 use Rattle.connections.specs.Owed.{IsTakenAt, HasNoneToTake}
-use Rattle.connections.specs.Places.{is_here, place_in, HasSameOthers}
+use Rattle.connections.specs.Slots.{is_here, slot_in, HasSameOthers}
 use Rattle.ensemble.specs.declared.noted.Noted.TheVariants as noted
 use Rattle.ensemble.specs.Nodes.{size_of}
 use Rattle.ensemble.specs.Ensemble.{EnsembleView, IsLogged}
@@ -25,7 +25,7 @@ abbrev pub is_request_of : ℕ → ℕ → Option Outstanding → Bool
 is_request_of proxy number None = false
 is_request_of proxy number (Some o) = (o.assignment.proxy == proxy) && (o.assignment.number == number)
 
--- ---- one place
+-- ---- one slot
 
 abbrev pub assignment_of : Option Outstanding → Option Assignment
 assignment_of None = None
@@ -38,24 +38,24 @@ owed_of (Some o) = Some (o.key, o.assignment)
 
 -- what is there is taken, if it is this request
 abbrev pub TakesOne : ℕ → ℕ → Option Outstanding → Option Outstanding → Option Outstanding → Type 0
-TakesOne proxy number place now result = (result ≡ (if is_request_of proxy number place then place else None)) × (now ≡ (if is_request_of proxy number place then None else place))
+TakesOne proxy number slot now result = (result ≡ (if is_request_of proxy number slot then slot else None)) × (now ≡ (if is_request_of proxy number slot then None else slot))
 
 abbrev pub TakesWaitIn : ℕ → ℕ → ℕ → List (Option Outstanding) → List (Option Outstanding) → Option Outstanding → Option (Option Outstanding) → Type 0
 TakesWaitIn at proxy number old new result None = (new ≡ old) × (result ≡ None)
-TakesWaitIn at proxy number old new result (Some place) = (now : Option Outstanding) × TakesOne proxy number place now result × (new ≡ slice_set old at now)
+TakesWaitIn at proxy number old new result (Some slot) = (now : Option Outstanding) × TakesOne proxy number slot now result × (new ≡ slice_set old at now)
 
 abbrev pub TakesWaitAt : ℕ → ℕ → ℕ → List (Option Outstanding) → List (Option Outstanding) → Option Outstanding → Type 0
 TakesWaitAt at proxy number old new result = TakesWaitIn at proxy number old new result (slice_get old at)
 
--- the place has the same assignment, of a connection at the same key
+-- the slot has the same assignment, of a connection at the same key
 abbrev pub SetsWaitIn : ℕ → List (Option Outstanding) → List (Option Outstanding) → Option (Option Outstanding) → Type 0
 SetsWaitIn at old new None = new ≡ old
-SetsWaitIn at old new (Some place) = (now : Option Outstanding) × (owed_of now ≡ owed_of place) × (new ≡ slice_set old at now)
+SetsWaitIn at old new (Some slot) = (now : Option Outstanding) × (owed_of now ≡ owed_of slot) × (new ≡ slice_set old at now)
 
 abbrev pub SetsWaitAt : ℕ → List (Option Outstanding) → List (Option Outstanding) → Type 0
 SetsWaitAt at old new = SetsWaitIn at old new (slice_get old at)
 
--- ---- all places
+-- ---- all slots
 
 -- no proxy waits for what it did not wait for
 abbrev pub KeepsWaits : List (Option Outstanding) → List (Option Outstanding) → Type 0
@@ -85,7 +85,7 @@ abbrev pub KeepsTaken : ConnectionsView → ConnectionsView → Type 0
 KeepsTaken v now = (e : CommandNumber × Command) → Contains v.taken e → Contains now.taken e
 
 -- the command of the connection was asked of the proxy
-pub record IsAskedOf (at : Place) (proxy : ℕ) (v now : ConnectionsView) (e f : EnsembleView) (a : Assignment) : Type 0 where
+pub record IsAskedOf (at : ConnectionId) (proxy : ℕ) (v now : ConnectionsView) (e f : EnsembleView) (a : Assignment) : Type 0 where
   pub of_connection : a.connection ≡ at.number
   pub of_proxy : a.proxy ≡ proxy
   pub command : Command
@@ -106,7 +106,7 @@ pub record IsAskedOf (at : Place) (proxy : ℕ) (v now : ConnectionsView) (e f :
   pub others : HasSameOthers at.key v.table now.table
 
 -- no command of the connection was taken, or it is not here any more
-abbrev pub TakesNone : Place → ConnectionsView → ConnectionsView → Type 0
+abbrev pub TakesNone : ConnectionId → ConnectionsView → ConnectionsView → Type 0
 TakesNone at v now = (now.taken ≡ v.taken) ⊎ (is_here at.number now.table at.key ≡ false)
 
 -- nothing was asked
@@ -118,10 +118,10 @@ pub record AsksNothing (v now : ConnectionsView) (e f : EnsembleView) : Type 0 w
   pub heard : now.heard ≡ v.heard
   pub replied : now.replied ≡ v.replied
 
-abbrev pub AsksFor : Place → ℕ → ConnectionsView → EnsembleView → ConnectionsView → EnsembleView → Asking → Type 0
+abbrev pub AsksFor : ConnectionId → ℕ → ConnectionsView → EnsembleView → ConnectionsView → EnsembleView → Asking → Type 0
 AsksFor at proxy v e now f Nothing = AsksNothing v now e f × (now.given ≡ v.given) × (now.passed ≡ v.passed) × TakesNone at v now × (now ≡ v) × HasNoneToTake at v.table
 AsksFor at proxy v e now f (Asked a) = IsAskedOf at proxy v now e f a
-AsksFor at proxy v e now f (Failed said) = AsksNothing v now e f × (now.given ≡ v.given ++ given_entry said ∷ []) × (now.passed ≡ v.passed ++ passed_entry said ∷ []) × HasSameOthers at.key v.table now.table × (place_in now.table at.key ≡ None)
+AsksFor at proxy v e now f (Failed said) = AsksNothing v now e f × (now.given ≡ v.given ++ given_entry said ∷ []) × (now.passed ≡ v.passed ++ passed_entry said ∷ []) × HasSameOthers at.key v.table now.table × (slot_in now.table at.key ≡ None)
 
 -- the connection leaves
 pub record LeavesFor (v now : ConnectionsView) : Type 0 where
@@ -132,8 +132,8 @@ pub record LeavesFor (v now : ConnectionsView) : Type 0 where
   pub replied : now.replied ≡ v.replied
 
 -- what a connection that leaves for want of memory is told
-abbrev pub Fails : Place → ConnectionsView → ConnectionsView → Said → Type 0
-Fails at v now said = LeavesFor v now × (now.given ≡ v.given ++ given_entry said ∷ []) × (now.passed ≡ v.passed ++ passed_entry said ∷ []) × HasSameOthers at.key v.table now.table × (place_in now.table at.key ≡ None)
+abbrev pub Fails : ConnectionId → ConnectionsView → ConnectionsView → Said → Type 0
+Fails at v now said = LeavesFor v now × (now.given ≡ v.given ++ given_entry said ∷ []) × (now.passed ≡ v.passed ++ passed_entry said ∷ []) × HasSameOthers at.key v.table now.table × (slot_in now.table at.key ≡ None)
 
 -- what came of it for the connection at this key is kept: what proxies wait for, which command was asked, and what is given
 abbrev pub Settles : ℕ → Asking → List (Option Outstanding) → List (Option Outstanding) → List Assignment → List Assignment → List Said → List Said → Type 0

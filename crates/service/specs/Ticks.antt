@@ -40,19 +40,19 @@ urge_in u seen (Some o) = urge_of u o.patience seen
 
 abbrev pub SetsPatienceIn : (Patience → Patience) → ℕ → List (Option Outstanding) → List (Option Outstanding) → Option (Option Outstanding) → Type 0
 SetsPatienceIn after at old new None = new ≡ old
-SetsPatienceIn after at old new (Some place) = new ≡ slice_set old at (with_patience after place)
+SetsPatienceIn after at old new (Some slot) = new ≡ slice_set old at (with_patience after slot)
 
--- what waits at this place, if something does, has this patience then
+-- what waits in this slot, if something does, has this patience then
 abbrev pub SetsPatience : (Patience → Patience) → ℕ → List (Option Outstanding) → List (Option Outstanding) → Type 0
 SetsPatience after at old new = SetsPatienceIn after at old new (slice_get old at)
 
 abbrev pub urge_at : ℕ → Seen → Option (Option Outstanding) → Urge
 urge_at u seen None = Wait
-urge_at u seen (Some place) = urge_in u seen place
+urge_at u seen (Some slot) = urge_in u seen slot
 
 -- All proxies that wait have waited one tick longer, with 2u + 1 executors and the server so far.
 abbrev pub AllHaveWaited : ℕ → Seen → List (Option Outstanding) → List (Option Outstanding) → Type 0
-AllHaveWaited u seen old new = (i : ℕ) (place : Option Outstanding) → slice_get old i ≡ Some place → slice_get new i ≡ Some (with_patience (waited_on u seen) place)
+AllHaveWaited u seen old new = (i : ℕ) (slot : Option Outstanding) → slice_get old i ≡ Some slot → slice_get new i ≡ Some (with_patience (waited_on u seen) slot)
 
 -- so they have, however far the server was
 abbrev pub HaveWaited : List (Option Outstanding) → List (Option Outstanding) → Type 0
@@ -60,11 +60,11 @@ HaveWaited old new = (u : ℕ) × (seen : Seen) × AllHaveWaited u seen old new
 
 -- ---- nodes
 
--- the node at this place: executors come first, then as many verifiers
+-- the node of this index: executors come first, then as many verifiers
 abbrev pub replica_at : ℕ → ℕ → Replica
 replica_at members at = if nat_lt at members then Executor at else Verifier (at - members)
 
--- whether the node at this place is up
+-- whether the node of this index is up
 abbrev pub is_up_in : NodesView → ℕ → Bool
 is_up_in n at = is_up_at n (replica_at (2 * n.u + 1) at)
 
@@ -96,7 +96,7 @@ abbrev pub NodeTicksIn : ℕ → Bool → List Pause → List Pause → Bool →
 NodeTicksIn at is_up old new due None = (new ≡ old) × (due ≡ false)
 NodeTicksIn at is_up old new due (Some p) = (new ≡ slice_set old at (pause_after is_up p)) × (due ≡ is_opened is_up p)
 
--- a tick finds the node at this place up or down
+-- a tick finds the node of this index up or down
 abbrev pub NodeTicks : ℕ → Bool → List Pause → List Pause → Bool → Type 0
 NodeTicks at is_up old new due = NodeTicksIn at is_up old new due (slice_get old at)
 
@@ -104,16 +104,16 @@ NodeTicks at is_up old new due = NodeTicksIn at is_up old new due (slice_get old
 abbrev pub HavePaused : List Pause → List Pause → Type 0
 HavePaused old new = (i : ℕ) (p : Pause) → slice_get old i ≡ Some p → (is_up : Bool) × (slice_get new i ≡ Some (pause_after is_up p))
 
--- all nodes but the one at this place are up or down as before
+-- all nodes but the one of this index are up or down as before
 abbrev pub OthersStay : ℕ → NodesView → NodesView → Type 0
 OthersStay at n now = (other : ℕ) → other ≢ at → is_up_in now other ≡ is_up_in n other
 
--- the node at this place is up, unless something was refused, if it was due. Else all nodes are as before
+-- the node of this index is up, unless something was refused, if it was due. Else all nodes are as before
 abbrev pub IsOpenedIf : Bool → ℕ → ReplicasView → ReplicasView → Type 0
 IsOpenedIf true at old new = UnlessRefused old.refused new.refused (is_up_in new.ensemble.nodes at ≡ true)
 IsOpenedIf false at old new = new.ensemble.nodes ≡ old.ensemble.nodes
 
--- A tick found the node at this place up or down, and its pause was this.
+-- A tick found the node of this index up or down, and its pause was this.
 pub record HasTicked (at : ℕ) (is_up : Bool) (p : Pause) (refused : ℕ) (now : ReplicasView) : Type 0 where
   -- one that it found up is up
   pub stays : is_up ≡ true → is_up_in now.ensemble.nodes at ≡ true
@@ -122,7 +122,7 @@ pub record HasTicked (at : ℕ) (is_up : Bool) (p : Pause) (refused : ℕ) (now 
   -- else it is down
   pub rests : is_up ≡ false → is_opened is_up p ≡ false → is_up_in now.ensemble.nodes at ≡ false
 
--- the node at this place has this pause then
+-- the node of this index has this pause then
 abbrev pub NodeHasTicked : ℕ → Pause → ℕ → ReplicasView → Type 0
 NodeHasTicked at p refused now = (is_up : Bool) × (slice_get now.pauses at ≡ Some (pause_after is_up p)) × HasTicked at is_up p refused now
 
@@ -138,5 +138,5 @@ pub record HasSameAsked (v now : ServiceView) : Type 0 where
   pub answered : now.answered ≡ v.answered
   pub order : now.order ≡ v.order
   pub assignments : now.assignments ≡ v.assignments
-  pub line : now.line ≡ v.line
+  pub queue : now.queue ≡ v.queue
   pub found : now.replicas.ensemble.found ≡ v.replicas.ensemble.found

@@ -1,13 +1,13 @@
 -- What connections are told when the service works.
 use Rattle.std.specs.Prelude.{◌≡◌, ◌≢◌, ◌⊎◌, ℕ, ◌-◌, ◌^◌, ◌≤◌, ◌<◌, ◌+◌, length, true, false, List, [], ◌∷◌, ◌++◌, Option, Some, Contains}
-use Rattle.connections.specs.declared.places.Place.{Place}
+use Rattle.connections.specs.declared.slots.ConnectionId.{ConnectionId}
 use Rattle.connections.specs.declared.said.Said.{Said}
 use Rattle.connections.specs.Connection.{ConnectionView}
-use Rattle.connections.specs.Places.{place_in, is_here}
+use Rattle.connections.specs.Slots.{slot_in, is_here}
 use Rattle.connections.specs.Told.{is_outstanding_in, IsToldAt}
 use Rattle.service.specs.declared.asking.Asking.{Asking}
 use Rattle.service.specs.declared.asking.Asking.TheVariants.{Nothing, Asked, Failed}
-use Rattle.service.specs.declared.working.TheConstants.{MOST_ROUNDS}
+use Rattle.service.specs.declared.working.TheConstants.{MOST_PASSES}
 use Rattle.service.specs.Service.{ServiceView}
 use Rattle.service.specs.Owed.{AllWait}
 
@@ -29,9 +29,9 @@ pub record AreTold (old new : List (Option ConnectionView)) (said : List Said) :
   -- who is here was told last whether a command of it is outstanding now
   pub waits : (s : Said) → IsLastTold s said → is_here s.number new s.key ≡ true → s.waits ≡ is_outstanding_in s.number new s.key
   -- of who is told nothing a command is outstanding if one was
-  pub untold : (key : ℕ) (c : ConnectionView) → place_in new key ≡ Some c → AreOfOthers c.number said → is_outstanding_in c.number new key ≡ is_outstanding_in c.number old key
+  pub untold : (key : ℕ) (c : ConnectionView) → slot_in new key ≡ Some c → AreOfOthers c.number said → is_outstanding_in c.number new key ≡ is_outstanding_in c.number old key
   -- who is here was here
-  pub none_comes : (key : ℕ) (c : ConnectionView) → place_in new key ≡ Some c → is_here c.number old key ≡ true
+  pub none_comes : (key : ℕ) (c : ConnectionView) → slot_in new key ≡ Some c → is_here c.number old key ≡ true
 
 -- the connection is told to close
 pub record IsToldToClose (key number : ℕ) (said : List Said) : Type 0 where
@@ -43,7 +43,7 @@ pub record IsToldToClose (key number : ℕ) (said : List Said) : Type 0 where
 
 -- who was here is here, or is told to close
 abbrev pub LeaversAreTold : List (Option ConnectionView) → List (Option ConnectionView) → List Said → Type 0
-LeaversAreTold old new said = (key : ℕ) (c : ConnectionView) → place_in old key ≡ Some c → (is_here c.number new key ≡ true) ⊎ IsToldToClose key c.number said
+LeaversAreTold old new said = (key : ℕ) (c : ConnectionView) → slot_in old key ≡ Some c → (is_here c.number new key ≡ true) ⊎ IsToldToClose key c.number said
 
 -- this holds if nothing more was refused
 abbrev pub UnlessRefused : ℕ → ℕ → Type 0 → Type 0
@@ -57,24 +57,24 @@ TellsIn table refused said table_now refused_now said_now =
 abbrev pub TellsMore : ServiceView → List Said → ServiceView → List Said → Type 0
 TellsMore v said now said_now = TellsIn v.connections.table v.replicas.refused said now.connections.table now.replicas.refused said_now
 
--- the connection at this place is told this, or was not here, and then nothing is said
-abbrev pub MayTell : Place → List (Option ConnectionView) → List (Option ConnectionView) → List Said → List Said → Type 0
+-- the connection of this id is told this, or was not here, and then nothing is said
+abbrev pub MayTell : ConnectionId → List (Option ConnectionView) → List (Option ConnectionView) → List Said → List Said → Type 0
 MayTell at old new said said_now = ((new ≡ old) × (said_now ≡ said)) ⊎ ((given : Said) × (said_now ≡ said ++ given ∷ []) × IsToldAt at old new given)
 
--- no command waits in the line, or each proxy waits for a reply
+-- no command waits in the queue, or each proxy waits for a reply
 abbrev pub AsksAll : ServiceView → Type 0
-AsksAll v = (v.line ≡ []) ⊎ AllWait v.waiting
+AsksAll v = (v.queue ≡ []) ⊎ AllWait v.waiting
 
 -- so many replies or more came back
 abbrev pub HasMoreAnswers : ℕ → ServiceView → ServiceView → Type 0
 HasMoreAnswers count v now = length v.answered + count ≤ length now.answered
 
--- no command waits in the line while a proxy is free, or as many replies came back as there are rounds in one call
+-- no command waits in the queue while a proxy is free, or as many replies came back as there are passes in one call
 abbrev pub AsksWhatWaits : ServiceView → ServiceView → Type 0
-AsksWhatWaits v now = AsksAll now ⊎ HasMoreAnswers MOST_ROUNDS v now
+AsksWhatWaits v now = AsksAll now ⊎ HasMoreAnswers MOST_PASSES v now
 
--- if there was no memory to ask a command of the connection at this place, it is told so
-abbrev pub IsToldIfFailed : Place → List (Option ConnectionView) → List (Option ConnectionView) → Asking → Type 0
+-- if there was no memory to ask a command of the connection of this id, it is told so
+abbrev pub IsToldIfFailed : ConnectionId → List (Option ConnectionView) → List (Option ConnectionView) → Asking → Type 0
 IsToldIfFailed at old new Nothing = Unit {0}
 IsToldIfFailed at old new (Asked a) = Unit {0}
 IsToldIfFailed at old new (Failed said) = IsToldAt at old new said

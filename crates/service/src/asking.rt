@@ -1,7 +1,7 @@
 //! How a command is asked of a proxy.
 
 ghost use Rattle.std.specs.Prelude.{◌≡◌, true};
-ghost use Rattle.connections.specs.Places.{is_here};
+ghost use Rattle.connections.specs.Slots.{is_here};
 ghost use Rattle.ensemble.specs.Nodes.{IsFree};
 ghost use Rattle.connections.specs.Told.{IsToldAt};
 ghost use Rattle.service.specs.Steps.{AsksFor, Fails};
@@ -9,7 +9,7 @@ ghost use Rattle.service.specs.Told.{IsToldIfFailed};
 
 use crate::assignment::Assignment;
 use crate::note::Note;
-use connections::{Connections, Place, Ready, Said};
+use connections::{ConnectionId, Connections, Ready, Said};
 use ensemble::Ensemble;
 use figures::Asked;
 use std::alloc::Global;
@@ -26,7 +26,7 @@ pub enum Asking {
 }
 
 /// The connection, which is here, leaves, since memory ran out for its command: what it is told.
-fn failed(alloc: Global, connections: &mut Connections, at: Place) -> Said
+fn failed(alloc: Global, connections: &mut Connections, at: ConnectionId) -> Said
     requires { is_here at.number connections.old.table at.key ≡ true }
     ensures fails { Fails at connections.old connections.new result }
     ensures told { IsToldAt at connections.old.table connections.new.table result }
@@ -44,7 +44,7 @@ pub fn ask(
     alloc: Global,
     connections: &mut Connections,
     ensemble: &mut Ensemble,
-    at: Place,
+    at: ConnectionId,
     proxy: u16,
     note: &mut Note,
 ) -> Asking

@@ -1,7 +1,7 @@
 //! Which command is which request.
 
 use crate::note::Note;
-use connections::Place;
+use connections::ConnectionId;
 use serving::Patience;
 
 /// A command of a connection, as a request of a client proxy.
@@ -29,11 +29,11 @@ pub struct Outstanding {
 
 impl Outstanding {
     /// The connection that asked.
-    pub fn place(&self) -> Place
+    pub fn connection_id(&self) -> ConnectionId
         ensures key { result.key ≡ self.now.key }
         ensures number { result.number ≡ self.now.assignment.connection }
     {
-        Place {
+        ConnectionId {
             key: self.key,
             number: self.assignment.connection,
         }

@@ -35,7 +35,7 @@ mod ticking;
 mod working;
 
 pub use assignment::Assignment;
-pub use connections::{Dialect, MOST_PLACES, MOST_UNWRITTEN, Said};
+pub use connections::{Dialect, MOST_SLOTS, MOST_UNWRITTEN, Said};
 pub use ensemble::{Config, Replica};
 pub use figures::Figures;
 pub use incidents::Incidents;

@@ -9,7 +9,7 @@ const MICROS_BETWEEN: u64 = 4_000;
 /// A limit for the bytes that the keys and the data of all items have. It decides when these are counted again, and whether
 /// more may be stored.
 ///
-/// What was asked to be stored since they were counted is taken to be stored, also if it took the place of something. So
+/// What was asked to be stored since they were counted is taken to be stored, also if it replaced something. So
 /// nothing more may be stored from a thousandth below the limit on. What connections have sent and no proxy has taken yet
 /// may come on top of it.
 #[derive(Clone, Copy)]

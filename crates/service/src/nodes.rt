@@ -76,7 +76,7 @@ impl Nodes {
         2 * self.members
     }
 
-    /// The node at this place.
+    /// The node of this index.
     pub fn replica(&self, at: u8) -> Replica
         ensures { result ≡ replica_at self.now.members at }
     {
@@ -87,7 +87,7 @@ impl Nodes {
         }
     }
 
-    /// A tick that finds the node at this place up or down: whether it is to be opened now.
+    /// A tick that finds the node of this index up or down: whether it is to be opened now.
     pub fn tick(&mut self, at: u8, is_up: bool) -> bool
         ensures ticks { NodeTicks at is_up self.old.pauses.items self.new.pauses.items result }
         ensures members { self.new.members ≡ self.old.members }

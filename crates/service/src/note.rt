@@ -2,13 +2,13 @@
 
 ghost use Rattle.std.specs.Prelude.{◌≡◌};
 
-use connections::Place;
+use connections::ConnectionId;
 use figures::Asked;
 
 /// A connection whose command waits for a proxy.
 #[derive(Clone, Copy)]
 pub struct Waiting {
-    pub at: Place,
+    pub at: ConnectionId,
     /// When it began to wait, in microseconds of the caller's clock.
     pub since: u64,
 }

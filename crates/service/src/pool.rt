@@ -11,7 +11,7 @@ use serving::{Seen, Urge};
 use std::alloc::{AllocError, Global};
 use std::marker::Model;
 
-/// The proxies, by their numbers from 1. The place of a proxy is its number less 1. Contracts see what they wait
+/// The proxies, by their numbers from 1. The slot of a proxy is its number less 1. Contracts see what they wait
 /// for.
 pub struct Pool {
     waiting: Vec<Option<Outstanding>>,
@@ -34,20 +34,20 @@ impl Model for Pool {
     ghost invariant = { λ p. length p.waiting.items < 2 ^ 16 };
 }
 
-/// The proxy at this place waits for this.
+/// The proxy in this slot waits for this.
 fn wait_at(waiting: &mut Vec<Option<Outstanding>>, at: usize, outstanding: Outstanding)
     ensures { waiting.new.items ≡ slice_set waiting.old.items at (Some outstanding) }
 {
-    if let Some(place) = waiting.get_mut(at) {
-        *place = Some(outstanding);
+    if let Some(slot) = waiting.get_mut(at) {
+        *slot = Some(outstanding);
     }
 }
 
 /// Whether it is the request of this number of the proxy.
-fn is_request(place: &Option<Outstanding>, proxy: u16, number: u64) -> bool
-    ensures { result ≡ is_request_of proxy number place.now }
+fn is_request(slot: &Option<Outstanding>, proxy: u16, number: u64) -> bool
+    ensures { result ≡ is_request_of proxy number slot.now }
 {
-    match place {
+    match slot {
         Some(outstanding) => {
             outstanding.assignment.proxy == proxy && outstanding.assignment.number == number
         }
@@ -56,17 +56,17 @@ fn is_request(place: &Option<Outstanding>, proxy: u16, number: u64) -> bool
 }
 
 /// Takes what is there, if it is the request of this number of the proxy.
-fn take_one(place: &mut Option<Outstanding>, proxy: u16, number: u64) -> Option<Outstanding>
-    ensures { TakesOne proxy number place.old place.new result }
+fn take_one(slot: &mut Option<Outstanding>, proxy: u16, number: u64) -> Option<Outstanding>
+    ensures { TakesOne proxy number slot.old slot.new result }
 {
-    if is_request(place, proxy, number) {
-        place.take()
+    if is_request(slot, proxy, number) {
+        slot.take()
     } else {
         None
     }
 }
 
-/// The request of this number of the proxy at this place, if that waits for it, which it does no longer.
+/// The request of this number of the proxy in this slot, if that waits for it, which it does no longer.
 fn take_at(
     waiting: &mut Vec<Option<Outstanding>>,
     at: usize,
@@ -76,25 +76,25 @@ fn take_at(
     ensures { TakesWaitAt at proxy number waiting.old.items waiting.new.items result }
 {
     match waiting.get_mut(at) {
-        Some(place) => take_one(place, proxy, number),
+        Some(slot) => take_one(slot, proxy, number),
         None => None,
     }
 }
 
 /// One more tick for what is there: what is due.
-fn tick_one(place: &mut Option<Outstanding>, u: u8, seen: Seen) -> Urge
+fn tick_one(slot: &mut Option<Outstanding>, u: u8, seen: Seen) -> Urge
     requires { u < 4 }
-    ensures owed { owed_of place.new ≡ owed_of place.old }
-    ensures after { place.new ≡ with_patience (λ p. after_tick u p seen) place.old }
-    ensures due { result ≡ urge_in u seen place.old }
+    ensures owed { owed_of slot.new ≡ owed_of slot.old }
+    ensures after { slot.new ≡ with_patience (λ p. after_tick u p seen) slot.old }
+    ensures due { result ≡ urge_in u seen slot.old }
 {
-    match place {
+    match slot {
         Some(outstanding) => outstanding.patience.tick(u, seen),
         None => Urge::Wait,
     }
 }
 
-/// One more tick for the proxy at this place: what is due.
+/// One more tick for the proxy in this slot: what is due.
 fn tick_at(waiting: &mut Vec<Option<Outstanding>>, at: usize, u: u8, seen: Seen) -> Urge
     requires { u < 4 }
     ensures sets { SetsWaitAt at waiting.old.items waiting.new.items }
@@ -102,17 +102,17 @@ fn tick_at(waiting: &mut Vec<Option<Outstanding>>, at: usize, u: u8, seen: Seen)
     ensures due { result ≡ urge_at u seen (slice_get waiting.old.items at) }
 {
     match waiting.get_mut(at) {
-        Some(place) => tick_one(place, u, seen),
+        Some(slot) => tick_one(slot, u, seen),
         None => Urge::Wait,
     }
 }
 
 /// What is there is asked again: the number of its proxy.
-fn ask_one(place: &mut Option<Outstanding>, seen: Seen) -> Option<u16>
-    ensures owed { owed_of place.new ≡ owed_of place.old }
-    ensures after { place.new ≡ with_patience (sent_again seen) place.old }
+fn ask_one(slot: &mut Option<Outstanding>, seen: Seen) -> Option<u16>
+    ensures owed { owed_of slot.new ≡ owed_of slot.old }
+    ensures after { slot.new ≡ with_patience (sent_again seen) slot.old }
 {
-    match place {
+    match slot {
         Some(outstanding) => {
             outstanding.patience.ask_again(seen);
             Some(outstanding.assignment.proxy)
@@ -121,25 +121,25 @@ fn ask_one(place: &mut Option<Outstanding>, seen: Seen) -> Option<u16>
     }
 }
 
-/// The proxy at this place asks again: its number.
+/// The proxy in this slot asks again: its number.
 fn ask_at(waiting: &mut Vec<Option<Outstanding>>, at: usize, seen: Seen) -> Option<u16>
     ensures sets { SetsWaitAt at waiting.old.items waiting.new.items }
     ensures after { SetsPatience (sent_again seen) at waiting.old.items waiting.new.items }
 {
     match waiting.get_mut(at) {
-        Some(place) => ask_one(place, seen),
+        Some(slot) => ask_one(slot, seen),
         None => None,
     }
 }
 
-/// The place of the proxy of this number.
-fn place_of(proxy: u16) -> usize
+/// The slot of the proxy of this number.
+fn slot_of(proxy: u16) -> usize
     ensures { result ≡ proxy - 1 }
 {
     usize::from(proxy.saturating_sub(1))
 }
 
-/// The place of the first proxy that waits for nothing.
+/// The slot of the first proxy that waits for nothing.
 fn first_free(waiting: &[Option<Outstanding>]) -> Option<usize>
     ensures some { IfSome result (λ at. slice_get waiting.now at ≡ Some None) }
     ensures none { IfNone result (AllWait waiting.now) }
@@ -197,7 +197,7 @@ impl Pool {
         Some((at + 1) as u16)
     }
 
-    /// The number of the proxy at this place, if it is there and waits for nothing.
+    /// The number of the proxy in this slot, if it is there and waits for nothing.
     pub fn free_at(&self, at: usize) -> Option<u16>
         ensures { IfSome result (λ proxy. IsFreeIn self.now proxy) }
     {
@@ -220,7 +220,7 @@ impl Pool {
         ensures adds { AddsWait self.old outstanding.assignment self.new }
         ensures at { self.new ≡ slice_set self.old (outstanding.assignment.proxy - 1) (Some outstanding) }
     {
-        let at = place_of(outstanding.assignment.proxy);
+        let at = slot_of(outstanding.assignment.proxy);
         wait_at(&mut self.waiting, at, outstanding);
     }
 
@@ -230,10 +230,10 @@ impl Pool {
         ensures ends { EndsWait self.old proxy number self.new result }
         ensures at { TakesWaitAt (proxy - 1) proxy number self.old self.new result }
     {
-        take_at(&mut self.waiting, place_of(proxy), proxy, number)
+        take_at(&mut self.waiting, slot_of(proxy), proxy, number)
     }
 
-    /// One more tick for the proxy at this place, with `2u + 1` executors and the server so far: what is due.
+    /// One more tick for the proxy in this slot, with `2u + 1` executors and the server so far: what is due.
     pub fn tick(&mut self, at: usize, u: u8, seen: Seen) -> Urge
         requires { u < 4 }
         ensures keeps { KeepsWaits self.old self.new }
@@ -244,7 +244,7 @@ impl Pool {
         tick_at(&mut self.waiting, at, u, seen)
     }
 
-    /// The proxy at this place asks again, and the server is so far: its number. `None`: it waits for nothing.
+    /// The proxy in this slot asks again, and the server is so far: its number. `None`: it waits for nothing.
     pub fn ask_again(&mut self, at: usize, seen: Seen) -> Option<u16>
         ensures keeps { KeepsWaits self.old self.new }
         ensures sets { SetsWaitAt at self.old self.new }

@@ -4,7 +4,7 @@ ghost use Rattle.std.specs.Prelude.{◌≡◌, ◌∷◌, List, Option, Some, No
 ghost use Rattle.service.specs.declared.assignment.Outstanding.{Outstanding};
 ghost use Rattle.service.specs.declared.pause.Pause.{Pause};
 ghost use Rattle.service.specs.Service.{ServiceView};
-ghost use Rattle.service.specs.Process.{IsWhole, KeptService, NobodyWaits, reopened_service, found_by, IsServiceAfter, IsProcess, AreInTurn, AreReopened, next_found, services_after, services_with};
+ghost use Rattle.service.specs.Process.{IsWhole, KeptService, NobodyWaits, reopened_service, found_by, IsServiceAfter, IsProcess, AreSuccessive, AreReopened, next_found, services_after, services_with};
 
 use crate::service::Service;
 use ensemble::a_reopened_ensemble_follows;
@@ -29,7 +29,7 @@ pub fn a_reopened_service_follows()
 /// What always holds of a service holds of all that was asked and given in processes one after the other, each of which
 /// began with what was kept of the one before it.
 pub fn services_follow_each_other()
-    ensures { (v : ServiceView) (later : List ServiceView) → AreInTurn None (v ∷ later) → IsWhole (services_after v later) }
+    ensures { (v : ServiceView) (later : List ServiceView) → AreSuccessive None (v ∷ later) → IsWhole (services_after v later) }
 {}
 
 /// So it does if each was opened again with what was kept of the one before it, at a moment of that one, and so was a

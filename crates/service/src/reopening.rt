@@ -67,7 +67,7 @@ impl Service {
         Ok(Service {
             ensemble,
             connections,
-            line: VecDeque::new(alloc),
+            queue: VecDeque::new(alloc),
             pool,
             nodes,
             u,

@@ -6,7 +6,7 @@ use crate::service::Service;
 use ensemble::Replica;
 use figures::{Figures, NodeFigures, one_more};
 
-/// The place of what is shown of a replica, if there is one.
+/// What is shown of a replica, if it is there.
 fn node_of(figures: &mut Figures, replica: Replica) -> Option<&mut NodeFigures> {
     match replica {
         Replica::Executor(id) => figures.replicas.executors.get_mut(usize::from(id)),
@@ -25,7 +25,7 @@ pub fn note_node(figures: &mut Figures, replica: Replica, is_up: bool) {
 }
 
 impl Service {
-    /// Shows the replica at this place.
+    /// Shows the replica of this index.
     fn show_node(&self, figures: &mut Figures, at: u8) {
         let replica = self.nodes.replica(at);
         note_node(figures, replica, self.ensemble.is_up(replica));

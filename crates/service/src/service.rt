@@ -9,7 +9,7 @@ use crate::incidents::Incidents;
 use crate::nodes::Nodes;
 use crate::note::Waiting;
 use crate::pool::Pool;
-use connections::{Connections, Dialect, Place, Said};
+use connections::{ConnectionId, Connections, Dialect, Said};
 use ensemble::{Config, Ensemble};
 use figures::Figures;
 use http_server::Log;
@@ -23,7 +23,7 @@ pub struct Service {
     pub(crate) ensemble: Ensemble,
     pub(crate) connections: Connections,
     /// Those whose command waits for a proxy, in order. Some may have left.
-    pub(crate) line: VecDeque<Waiting>,
+    pub(crate) queue: VecDeque<Waiting>,
     pub(crate) pool: Pool,
     pub(crate) nodes: Nodes,
     pub(crate) u: u8,
@@ -54,19 +54,19 @@ impl Model for Service {
 
     ghost coded = { service_code of_connections.the_row.coded of_request.the_row.coded of_reply.the_row.coded of_noted.the_row.coded of_assignment.the_row.coded of_outstanding.the_row.coded of_waiting.the_row.coded of_ensemble.the_row.coded of_pause.the_row.coded };
 
-    ghost view = { λ s. record { connections = s.connections; asked = s.ensemble.asked; answered = s.ensemble.answered; order = s.ensemble.order; assignments = assigned s.assignments.items; waiting = s.pool; line = s.line.items; replicas = record { ensemble = s.ensemble; refused = s.refused + s.ensemble.refused; pauses = s.nodes.pauses.items } } };
+    ghost view = { λ s. record { connections = s.connections; asked = s.ensemble.asked; answered = s.ensemble.answered; order = s.ensemble.order; assignments = assigned s.assignments.items; waiting = s.pool; queue = s.queue.items; replicas = record { ensemble = s.ensemble; refused = s.refused + s.ensemble.refused; pauses = s.nodes.pauses.items } } };
 
-    ghost invariant = { λ s. IsService (record { connections = s.connections; asked = s.ensemble.asked; answered = s.ensemble.answered; order = s.ensemble.order; assignments = assigned s.assignments.items; waiting = s.pool; line = s.line.items; replicas = none_shown })
-        × HasMoments (record { connections = s.connections; asked = s.ensemble.asked; answered = s.ensemble.answered; order = s.ensemble.order; assignments = assigned s.assignments.items; waiting = s.pool; line = s.line.items; replicas = none_shown }) × HavePauses s.u s.ensemble.nodes s.nodes.members s.nodes.pauses.items × Remembers s.line.items s.pool s.connections.table };
+    ghost invariant = { λ s. IsService (record { connections = s.connections; asked = s.ensemble.asked; answered = s.ensemble.answered; order = s.ensemble.order; assignments = assigned s.assignments.items; waiting = s.pool; queue = s.queue.items; replicas = none_shown })
+        × HasMoments (record { connections = s.connections; asked = s.ensemble.asked; answered = s.ensemble.answered; order = s.ensemble.order; assignments = assigned s.assignments.items; waiting = s.pool; queue = s.queue.items; replicas = none_shown }) × HavePauses s.u s.ensemble.nodes s.nodes.members s.nodes.pauses.items × Remembers s.queue.items s.pool s.connections.table };
 }
 
 impl Service {
     ghost use Rattle.std.specs.Prelude.{◌≡◌, ◌≢◌, ◌<◌, ◌≤◌, ◌+◌, ◌-◌, ◌^◌, ◌++◌, ◌∷◌, ◌⊎◌, ℕ, Bool, [], min, true, false, None, Some, Err, is_some, IfOk, IfErr, OnOk, OnErr};
     ghost use Rattle.grammar.specs.Reads.{with_mark};
     ghost use Rattle.connections.specs.Connection.{new_connection};
-    ghost use Rattle.connections.specs.Places.{place_in, is_here, left_at, written_at, HasSameOthers, IsGrown};
+    ghost use Rattle.connections.specs.Slots.{slot_in, is_here, left_at, written_at, HasSameOthers, IsGrown};
     ghost use Rattle.connections.specs.Connections.{HasSameLogs, no_connections};
-    ghost use Rattle.connections.specs.declared.table.TheConstants.{MOST_PLACES};
+    ghost use Rattle.connections.specs.declared.table.TheConstants.{MOST_SLOTS};
     ghost use Rattle.connections.specs.Told.{IsToldAt};
     ghost use Rattle.service.specs.Service.{HasSameRequests, IsSameProcess, Hears};
     ghost use Rattle.service.specs.Process.{IsServiceAlone, IsProcess};
@@ -96,7 +96,7 @@ impl Service {
         Ok(Service {
             ensemble,
             connections: Connections::new(alloc, dialect),
-            line: VecDeque::new(alloc),
+            queue: VecDeque::new(alloc),
             pool,
             nodes,
             u,
@@ -114,17 +114,17 @@ impl Service {
     /// others, or is 2^64 - 1, or a connection is at the key; Full: the key is 65,536 or more; NoMemory: an allocation
     /// failed.
     pub fn come(&mut self, alloc: Global, key: usize, number: u64) -> Result<(), Fault>
-        ensures here { OnOk result (place_in self.new.connections.table key ≡ Some (new_connection self.old.connections.dialect number)) }
+        ensures here { OnOk result (slot_in self.new.connections.table key ≡ Some (new_connection self.old.connections.dialect number)) }
         ensures same { OnErr result (IsGrown self.old.connections.table self.new.connections.table) }
         ensures same_others { HasSameOthers key self.old.connections.table self.new.connections.table }
-        ensures unfit { result ≡ Err Fault.Unfit → (number < self.old.connections.next) ⊎ (is_some (place_in self.old.connections.table key) ≡ true) ⊎ (number + 1 ≡ 2 ^ 64) }
-        ensures full { result ≡ Err Fault.Full → MOST_PLACES ≤ key }
+        ensures unfit { result ≡ Err Fault.Unfit → (number < self.old.connections.next) ⊎ (is_some (slot_in self.old.connections.table key) ≡ true) ⊎ (number + 1 ≡ 2 ^ 64) }
+        ensures full { result ≡ Err Fault.Full → MOST_SLOTS ≤ key }
         ensures only { IfErr result (λ fault. (fault ≡ Fault.Unfit) ⊎ (fault ≡ Fault.Full) ⊎ (fault ≡ Fault.NoMemory)) }
         ensures logs { HasSameLogs self.old.connections self.new.connections }
         ensures requests { HasSameRequests self.old self.new }
         ensures process { IsSameProcess self.old self.new }
     {
-        self.connections.come(alloc, Place { key, number })
+        self.connections.come(alloc, ConnectionId { key, number })
     }
 
     /// Reads a piece of what comes of a connection: what the connection is given at once, before its command, if
@@ -142,7 +142,7 @@ impl Service {
     ) -> Result<Said, Fault>
         ensures hears { (full : Bool) × Hears key number (with_mark self.old.connections.dialect full piece.items) self.old.connections self.new.connections result }
         ensures leaves { OnErr result (is_here number self.new.connections.table key ≡ false) }
-        ensures closes { IfOk result (λ said. said.closes ≡ true → place_in self.new.connections.table key ≡ None) }
+        ensures closes { IfOk result (λ said. said.closes ≡ true → slot_in self.new.connections.table key ≡ None) }
         ensures told { IfOk result (λ said. IsToldAt (record { key = key; number = number }) self.old.connections.table self.new.connections.table said) }
         ensures same_others { HasSameOthers key self.old.connections.table self.new.connections.table }
         ensures requests { HasSameRequests self.old self.new }
@@ -153,8 +153,8 @@ impl Service {
         let heard = hear_at(
             alloc,
             &mut self.connections,
-            &mut self.line,
-            Place { key, number },
+            &mut self.queue,
+            ConnectionId { key, number },
             piece,
             &mut self.counting.conditions,
             micros,
@@ -167,7 +167,7 @@ impl Service {
     /// So many of the bytes that a connection was given are written. While 256 KB or more are not written its next
     /// command is not asked. If the connection is not here nothing changes.
     ///
-    /// `false`: there is no memory for its place in the line. It has left, and is to be closed.
+    /// `false`: there is no memory for it in the queue. It has left, and is to be closed.
     pub fn written(&mut self, key: usize, number: u64, count: usize) -> bool
         ensures written { result ≡ true → self.new.connections ≡ record self.old.connections { table = written_at (record { key = key; number = number }) count self.old.connections.table } }
         ensures leaves { result ≡ false → is_here number self.new.connections.table key ≡ false }
@@ -176,10 +176,10 @@ impl Service {
         ensures requests { HasSameRequests self.old self.new }
         ensures process { IsSameProcess self.old self.new }
     {
-        let at = Place { key, number };
+        let at = ConnectionId { key, number };
         write_at(
             &mut self.connections,
-            &mut self.line,
+            &mut self.queue,
             at,
             count,
             self.counting.micros(),
@@ -195,23 +195,23 @@ impl Service {
         ensures requests { HasSameRequests self.old self.new }
         ensures process { IsSameProcess self.old self.new }
     {
-        self.connections.leave(Place { key, number });
+        self.connections.leave(ConnectionId { key, number });
     }
 
     /// Whether `work` has something to do at once: a command waits, and a proxy is free.
     pub fn is_ready(&self) -> bool
-        ensures no { result ≡ false → (self.now.line ≡ []) ⊎ AllWait self.now.waiting }
+        ensures no { result ≡ false → (self.now.queue ≡ []) ⊎ AllWait self.now.waiting }
         ensures yes { result ≡ true → (proxy : ℕ) × IsFreeIn self.now.waiting proxy }
     {
-        !self.line.is_empty() && self.pool.free().is_some()
+        !self.queue.is_empty() && self.pool.free().is_some()
     }
 
     /// Whether something waits for a tick: a request is not answered, or a node is down.
     pub fn is_waiting(&self) -> bool
-        ensures no { result ≡ false → (self.now.line ≡ []) × NoneWaits self.now.waiting }
+        ensures no { result ≡ false → (self.now.queue ≡ []) × NoneWaits self.now.waiting }
         ensures up { result ≡ false → AreAllUpIn self.now.replicas }
     {
-        if !self.line.is_empty() {
+        if !self.queue.is_empty() {
             return true;
         }
         if self.pool.is_waiting() {
@@ -293,7 +293,7 @@ impl Service {
         let Service {
             ensemble,
             connections,
-            line,
+            queue,
             pool,
             nodes,
             u: _,
@@ -305,7 +305,7 @@ impl Service {
         drop(counting);
         ensemble.end();
         drop(connections);
-        drop(line);
+        drop(queue);
         drop(pool);
         drop(nodes);
     }

@@ -13,7 +13,7 @@ use ensemble::{Ensemble, Replica};
 use serving::{Seen, Urge};
 use std::alloc::Global;
 
-/// The proxy at this place asks again.
+/// The proxy in this slot asks again.
 fn ask_again(alloc: Global, pool: &mut Pool, ensemble: &mut Ensemble, at: usize, seen: Seen)
     ensures after { SetsPatience (sent_again seen) at pool.old pool.new }
     ensures counted { ensemble.old.refused ≤ ensemble.new.refused }
@@ -30,7 +30,7 @@ fn ask_again(alloc: Global, pool: &mut Pool, ensemble: &mut Ensemble, at: usize,
     }
 }
 
-/// What is due of the proxy at this place: whether the leader is suspected.
+/// What is due of the proxy in this slot: whether the leader is suspected.
 fn tick_at(
     alloc: Global,
     pool: &mut Pool,
@@ -68,7 +68,7 @@ impl Service {
     ghost use Rattle.ensemble.specs.Nodes.{size_of};
     ghost use Rattle.service.specs.Ticks.{waited_on, is_up_in, SetsPatience, HaveWaited, NodeTicks, IsOpenedIf, OthersStay, HavePaused, NodesHaveTicked, HasSameAsked, AreAllUpIn};
 
-    /// Whether the node at this place is up.
+    /// Whether the node of this index is up.
     fn is_node_up(&self, at: u8) -> bool
         ensures { result ≡ is_up_in self.now.replicas.ensemble.nodes at }
     {
@@ -99,7 +99,7 @@ impl Service {
         false
     }
 
-    /// Opens the node at this place again if it is down and its pause has gone by.
+    /// Opens the node of this index again if it is down and its pause has gone by.
     fn tick_node(&mut self, alloc: Global, at: u8)
         ensures connections { self.new.connections ≡ self.old.connections }
         ensures size { size_of self.new.replicas.ensemble.nodes ≡ size_of self.old.replicas.ensemble.nodes }
@@ -132,7 +132,7 @@ impl Service {
         }
     }
 
-    /// Tells the next verifier that the leader is suspected. They take turns, from the second one on.
+    /// Tells the next verifier that the leader is suspected. They are told one after the other, from the second on.
     fn suspect(&mut self, alloc: Global)
         ensures connections { self.new.connections ≡ self.old.connections }
         ensures size { size_of self.new.replicas.ensemble.nodes ≡ size_of self.old.replicas.ensemble.nodes }
@@ -147,7 +147,7 @@ impl Service {
             .suspect(alloc, (self.suspicions % members) as u8);
     }
 
-    /// What is due of the proxy at this place: whether the leader is suspected.
+    /// What is due of the proxy in this slot: whether the leader is suspected.
     fn tick_proxy(&mut self, alloc: Global, at: usize, u: u8, seen: Seen) -> bool
         requires { u < 4 }
         ensures connections { self.new.connections ≡ self.old.connections }
@@ -180,7 +180,7 @@ impl Service {
         is_suspected
     }
 
-    /// The proxy at this place asks again, if it has something outstanding and nobody waits for it: it had asked when the
+    /// The proxy in this slot asks again, if it has something outstanding and nobody waits for it: it had asked when the
     /// process before this one ended.
     fn ask_for_nobody(&mut self, alloc: Global, at: usize)
         ensures connections { self.new.connections ≡ self.old.connections }

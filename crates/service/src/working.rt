@@ -12,7 +12,7 @@ ghost use Rattle.service.specs.Told.{MayTell, TellsIn, UnlessRefused};
 
 use crate::asking::{Asking, ask};
 use crate::assignment::{Assignment, Outstanding};
-use crate::hearing::line_up;
+use crate::hearing::enqueue;
 use crate::note::{Note, Waiting};
 use crate::pool::Pool;
 use crate::service::Service;
@@ -27,16 +27,16 @@ use std::rt::Clock;
 use std::sync::Wait;
 use std::thread::Threads;
 
-/// The most rounds of one call. A connection that asks many commands at once is given the replies so far.
-const MOST_ROUNDS: usize = 4;
+/// The most passes of one call. A connection that asks many commands at once is given the replies so far.
+const MOST_PASSES: usize = 4;
 
-/// Makes room for all that a round with so many proxies gives: one for each that cannot ask, and one for each that is
-/// answered. And for those that line up in it.
-fn has_room(said: &mut Vec<Said>, line: &mut VecDeque<Waiting>, proxies: usize) -> bool
+/// Makes room for all that a pass with so many proxies gives: one for each that cannot ask, and one for each that is
+/// answered. And for those that join the queue in it.
+fn has_room(said: &mut Vec<Said>, queue: &mut VecDeque<Waiting>, proxies: usize) -> bool
     ensures said { said.new.items ≡ said.old.items }
-    ensures line { line.new.items ≡ line.old.items }
+    ensures queue { queue.new.items ≡ queue.old.items }
 {
-    said.reserve(proxies.saturating_mul(2)).is_ok() && line.reserve(proxies).is_ok()
+    said.reserve(proxies.saturating_mul(2)).is_ok() && queue.reserve(proxies).is_ok()
 }
 
 /// One thing more was left undone for want of memory. The count stays at 2^64 - 1.
@@ -47,14 +47,14 @@ fn refuse(refused: &mut u64)
     *refused = refused.saturating_add(1);
 }
 
-/// Makes room for one that is given, and for one that lines up.
-fn has_room_for_one(said: &mut Vec<Said>, line: &mut VecDeque<Waiting>) -> bool
+/// Makes room for one that is given, and for one that joins the queue.
+fn has_room_for_one(said: &mut Vec<Said>, queue: &mut VecDeque<Waiting>) -> bool
     ensures said { said.new.items ≡ said.old.items }
-    ensures line { line.new.items ≡ line.old.items }
+    ensures queue { queue.new.items ≡ queue.old.items }
     ensures room_said { result ≡ true → vec_len said.new < vec_capacity said.new }
-    ensures room_line { result ≡ true → deque_len line.new < deque_capacity line.new }
+    ensures room_queue { result ≡ true → deque_len queue.new < deque_capacity queue.new }
 {
-    said.reserve(1).is_ok() && line.reserve(1).is_ok()
+    said.reserve(1).is_ok() && queue.reserve(1).is_ok()
 }
 
 /// The number of the first proxy that waits for nothing and has nothing outstanding. One that had asked when the process
@@ -102,18 +102,18 @@ fn give_reply(
     ensures table { RepliesAt (record { key = outstanding.now.key; number = outstanding.now.assignment.connection }) outstanding.now.assignment.turn connections.old.table connections.new.table }
     ensures told { MayTell (record { key = outstanding.now.key; number = outstanding.now.assignment.connection }) connections.old.table connections.new.table said.old.items said.new.items }
 {
-    let at = outstanding.place();
+    let at = outstanding.connection_id();
     if let Some(given) = connections.answer(alloc, at, outstanding.assignment.turn, reply) {
         said.push_reserved(given);
     }
 }
 
-/// The connection that asked takes the reply, if it is here, and joins the line with its next command. If there is no
-/// memory for what it is given, or for its place in the line, it leaves.
+/// The connection that asked takes the reply, if it is here, and joins the queue with its next command. If there is no
+/// memory for what it is given, or for it in the queue, it leaves.
 fn answer_to(
     alloc: Global,
     connections: &mut Connections,
-    line: &mut VecDeque<Waiting>,
+    queue: &mut VecDeque<Waiting>,
     outstanding: &Outstanding,
     reply: Reply,
     said: &mut Vec<Said>,
@@ -123,16 +123,16 @@ fn answer_to(
     ensures answers { AnswersTo outstanding.now.assignment reply connections.old connections.new said.old.items said.new.items }
     ensures counted { refused.old ≤ refused.new }
     ensures tells { TellsIn connections.old.table refused.old said.old.items connections.new.table refused.new said.new.items }
-    ensures remembers { (pool pool_now : List (Option OutstandingView)) → EndsWaitAt pool outstanding.now pool_now → Remembers line.old.items pool connections.old.table → Remembers line.new.items pool_now connections.new.table }
+    ensures remembers { (pool pool_now : List (Option OutstandingView)) → EndsWaitAt pool outstanding.now pool_now → Remembers queue.old.items pool connections.old.table → Remembers queue.new.items pool_now connections.new.table }
 {
-    let at = outstanding.place();
-    if !has_room_for_one(said, line) {
+    let at = outstanding.connection_id();
+    if !has_room_for_one(said, queue) {
         connections.leave(at);
         refuse(refused);
         return;
     }
     give_reply(alloc, connections, outstanding, reply, said);
-    line_up(connections, line, at, since);
+    enqueue(connections, queue, at, since);
 }
 
 /// Keeps what came of it that a command was to be asked, of a connection that is at this key.
@@ -174,12 +174,12 @@ impl Service {
     ghost use Rattle.service.specs.Service.{Gives, AreLogged, RestsUnlessRefused, IsPassedNow, IsSameProcess, given_entry, passed_entry};
     ghost use Rattle.service.specs.Told.{AreTold, LeaversAreTold, TellsMore, UnlessRefused, AsksAll, HasMoreAnswers, AsksWhatWaits};
 
-    /// The first of the line asks its command, if a proxy is free: whether there were both.
+    /// The first of the queue asks its command, if a proxy is free: whether there were both.
     fn assign(&mut self, alloc: Global, said: &mut Vec<Said>) -> bool
         ensures given { Gives self.old.connections said.old.items self.new.connections said.new.items }
         ensures tells { TellsMore self.old said.old.items self.new said.new.items }
         ensures stops { result ≡ false → UnlessRefused self.old.replicas.refused self.new.replicas.refused (AsksAll self.new) }
-        ensures goes_on { result ≡ true → length self.new.line < length self.old.line }
+        ensures goes_on { result ≡ true → length self.new.queue < length self.old.queue }
         ensures answered { self.new.answered ≡ self.old.answered }
         ensures heard { self.new.connections.heard ≡ self.old.connections.heard }
         ensures process { IsSameProcess self.old self.new }
@@ -193,7 +193,7 @@ impl Service {
         let Some(proxy) = free_proxy(&self.pool, &self.ensemble, &mut self.refused) else {
             return false;
         };
-        let Some(waiting) = self.line.pop_front() else {
+        let Some(waiting) = self.queue.pop_front() else {
             return false;
         };
         let seen = self.ensemble.seen();
@@ -259,7 +259,7 @@ impl Service {
         answer_to(
             alloc,
             &mut self.connections,
-            &mut self.line,
+            &mut self.queue,
             &outstanding,
             reply,
             said,
@@ -274,7 +274,7 @@ impl Service {
         requires { AreLogged answers.items self.old.answered self.old.order }
         ensures given { Gives self.old.connections said.old.items self.new.connections said.new.items }
         ensures tells { TellsMore self.old said.old.items self.new said.new.items }
-        ensures none { answers.items ≡ [] → (self.new.line ≡ self.old.line) × (self.new.waiting ≡ self.old.waiting) }
+        ensures none { answers.items ≡ [] → (self.new.queue ≡ self.old.queue) × (self.new.waiting ≡ self.old.waiting) }
         ensures answered { self.new.answered ≡ self.old.answered }
         ensures heard { self.new.connections.heard ≡ self.old.connections.heard }
         ensures process { IsSameProcess self.old self.new }
@@ -299,7 +299,7 @@ impl Service {
         ensures answered { self.new.answered ≡ self.old.answered ++ map answer_entry result.items }
         ensures process { IsSameProcess self.old self.new }
         ensures connections { self.new.connections ≡ self.old.connections }
-        ensures same { (self.new.line ≡ self.old.line) × (self.new.waiting ≡ self.old.waiting) }
+        ensures same { (self.new.queue ≡ self.old.queue) × (self.new.waiting ≡ self.old.waiting) }
         ensures counted { self.old.replicas.refused ≤ self.new.replicas.refused }
         ensures size { size_of self.new.replicas.ensemble.nodes ≡ size_of self.old.replicas.ensemble.nodes }
         ensures rest { RestsUnlessRefused self.old.replicas self.new.replicas }
@@ -317,7 +317,7 @@ impl Service {
     }
 
     /// Asks the replicas what waits, and gives what they answer: whether more may be asked at once.
-    fn round<R: Threads + Wait + Sync, C: Clock>(
+    fn pass<R: Threads + Wait + Sync, C: Clock>(
         &mut self,
         rt: &R,
         clock: &C,
@@ -336,7 +336,7 @@ impl Service {
         ensures size { size_of self.new.replicas.ensemble.nodes ≡ size_of self.old.replicas.ensemble.nodes }
         ensures rest { RestsUnlessRefused self.old.replicas self.new.replicas }
     {
-        if !has_room(said, &mut self.line, self.pool.count()) {
+        if !has_room(said, &mut self.queue, self.pool.count()) {
             refuse(&mut self.refused);
             return false;
         }
@@ -344,11 +344,11 @@ impl Service {
         let answers = self.execute(rt, clock, alloc, moment);
         let goes_on = !answers.is_empty();
         self.answer_all(alloc, answers, said);
-        goes_on && !self.line.is_empty()
+        goes_on && !self.queue.is_empty()
     }
 
-    /// Rounds, as long as replies come and commands wait, but not too many.
-    fn rounds<R: Threads + Wait + Sync, C: Clock>(
+    /// Passes, as long as replies come and commands wait, but not too many.
+    fn passes<R: Threads + Wait + Sync, C: Clock>(
         &mut self,
         rt: &R,
         clock: &C,
@@ -366,8 +366,8 @@ impl Service {
         ensures size { size_of self.new.replicas.ensemble.nodes ≡ size_of self.old.replicas.ensemble.nodes }
         ensures rest { RestsUnlessRefused self.old.replicas self.new.replicas }
     {
-        for _ in 0..MOST_ROUNDS {
-            if !self.round(rt, clock, alloc, moment, said) {
+        for _ in 0..MOST_PASSES {
+            if !self.pass(rt, clock, alloc, moment, said) {
                 return;
             }
         }
@@ -415,7 +415,7 @@ impl Service {
     {
         let mut said = Vec::new(alloc);
         self.note(alloc, moment);
-        self.rounds(rt, clock, alloc, moment, &mut said);
+        self.passes(rt, clock, alloc, moment, &mut said);
         self.count_times();
         said
     }

@@ -17,7 +17,7 @@ pub enum Ask {
     Own(Command),
     /// All of its own keys, by one `get`.
     OwnKeys,
-    /// A `get` of a key of another connection: of the client at this place.
+    /// A `get` of a key of another connection: of the client at this index.
     Other { owner: usize, key: usize },
 }
 

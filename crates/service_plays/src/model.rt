@@ -334,7 +334,7 @@ impl Slot {
         is_right
     }
 
-    /// Of these bytes what is behind a text of the key, from this place on.
+    /// Of these bytes what is behind a text of the key, from this text on.
     pub fn seen<'b>(&self, floor: usize, bytes: &'b [u8]) -> Option<(usize, &'b [u8])> {
         for at in floor..self.texts.len() {
             if let Some(text) = self.texts.get(at) {

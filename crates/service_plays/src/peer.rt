@@ -12,7 +12,7 @@ const MOST_COMMANDS: u32 = 4;
 /// A client of the service.
 #[derive(Drop)]
 pub struct Peer {
-    /// Its place among the clients.
+    /// Its index among the clients.
     client: usize,
     /// The number of its connection, or 0 if it has none.
     pub number: u64,

@@ -48,8 +48,8 @@ impl Stage {
         let few = u32::from(self.plan.u) + 1;
         let more = self.words.below(few);
         let count = few.saturating_add(more).min(members);
-        for place in 0..count {
-            let id = first.saturating_add(place) % members;
+        for index in 0..count {
+            let id = first.saturating_add(index) % members;
             self.service.stop(replica_of(is_executor, id));
         }
     }

@@ -9,7 +9,7 @@ use Rattle.row_store.specs.declared.change.RowChange.{RowChange}
 use Rattle.row_store.specs.declared.change.RowChange.TheVariants.{Put, Remove}
 use Rattle.row_store.specs.Saved.{ChangeFits, ChangesFit}
 use Rattle.item_rows.specs.Changes.{ItemChange}
-use Rattle.item_rows.specs.Placed.{PlacedItems}
+use Rattle.item_rows.specs.RowItems.{RowItems}
 use Rattle.shelf.specs.declared.process.SavedProcess.{SavedProcess}
 use Rattle.shelf.specs.declared.reply.ReplyChange.{ReplyChange}
 use Rattle.shelf.specs.Rows.{change_row, process_row, change_in, row_of_change, row_of_reply}
@@ -33,13 +33,13 @@ process_fits : (process : Option SavedProcess) → ChangesFit 5 (process_changes
 process_fits None = All-nil (ChangeFits 5)
 process_fits (Some p) = All-cons (ChangeFits 5) _ [] (omega arith, refl) (All-nil (ChangeFits 5))
 
-rows_fit : (placed : List PlacedItems) → ChangesFit 5 (map (λ c. change_in 0 (row_of_change c)) placed)
-rows_fit placed = subst (ChangesFit 5) (sym (map_twice (change_in 0) row_of_change placed)) (All-from_recursion (ChangeFits 5) _ (all_fit 0 (map row_of_change placed) (omega arith) (numbered placed)))
+rows_fit : (row_items : List RowItems) → ChangesFit 5 (map (λ c. change_in 0 (row_of_change c)) row_items)
+rows_fit row_items = subst (ChangesFit 5) (sym (map_twice (change_in 0) row_of_change row_items)) (All-from_recursion (ChangeFits 5) _ (all_fit 0 (map row_of_change row_items) (omega arith) (numbered row_items)))
 
 replies_fit : (replies : List ReplyChange) → ChangesFit 5 (map (λ r. change_in 3 (row_of_reply r)) replies)
 replies_fit replies = subst (ChangesFit 5) (sym (map_twice (change_in 3) row_of_reply replies)) (All-from_recursion (ChangeFits 5) _ (all_fit 3 (map row_of_reply replies) (omega arith) (numbered_replies replies)))
 
-pub planned_fits : (s : WaitingView) (count : ℕ) (changes : List PlacedItems) (process : Option SavedProcess) (replies : List ReplyChange) → ChangesFit 5 (planned s count changes process replies)
+pub planned_fits : (s : WaitingView) (count : ℕ) (changes : List RowItems) (process : Option SavedProcess) (replies : List ReplyChange) → ChangesFit 5 (planned s count changes process replies)
 planned_fits s count changes process replies =
     let one = Put 1 (change_row s.next changes) in
     let rows = map (λ c. change_in 0 (row_of_change c)) (take count s.pending) in

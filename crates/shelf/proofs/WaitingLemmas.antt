@@ -15,13 +15,13 @@ use Rattle.row_store.specs.declared.change.RowChange.{RowChange}
 use Rattle.row_store.specs.declared.change.RowChange.TheVariants.{Put, Remove}
 use Rattle.row_store.specs.Saved.{after, after_one}
 use Rattle.item_rows.specs.Changes.{Rows, ItemChange, with_change, rows_after, or_first, last_change, IsUnnamed}
-use Rattle.item_rows.specs.Placed.{PlacedItems, placed_row, row_of_items}
+use Rattle.item_rows.specs.RowItems.{RowItems, items_row, row_of_items}
 use Rattle.item_rows.proofs.ChangeLemmas.{or_row, says, last_change-append}
 use Rattle.shelf.specs.declared.process.SavedProcess.{SavedProcess}
 use Rattle.shelf.specs.declared.reply.ReplyChange.{ReplyChange}
 use Rattle.shelf.specs.declared.reply.ReplyChange.TheVariants.{Kept, Gone}
 use Rattle.shelf.specs.Rows.{row_at, change_row, change_rows, process_row, process_rows, row_of_change, row_of_reply, change_in}
-use Rattle.shelf.specs.WaitingView.{all_of, changed_rows, SaysAtPlaces, WaitingView, items_at, HasWaiting, removals, first_after, process_changes, planned, waiting_after, process_after, IsTurn, TurnsOver}
+use Rattle.shelf.specs.WaitingView.{all_of, changed_rows, SaysOfRows, WaitingView, items_at, HasWaiting, removals, first_after, process_changes, planned, waiting_after, process_after, IsAfterSave, Rotates}
 use Rattle.shelf.proofs.RowLemmas.{IsNumbered, all_changes, all_others, after-append}
 use Rattle.shelf.proofs.LogLemmas.{log_put, log_removed, removes_others}
 
@@ -33,21 +33,21 @@ pub map_twice : {X Y Z : Type 0} (f : Y → Z) (g : X → Y) (xs : List X) → m
 map_twice f g [] = refl
 map_twice f g (x ∷ xs) = ap (λ zs. f (g x) ∷ zs) (map_twice f g xs)
 
-pub all_of-append : (xs ys : List (List PlacedItems)) → all_of (xs ++ ys) ≡ all_of xs ++ all_of ys
+pub all_of-append : (xs ys : List (List RowItems)) → all_of (xs ++ ys) ≡ all_of xs ++ all_of ys
 all_of-append [] ys = refl
 all_of-append (x ∷ xs) ys = ap (λ zs. x ++ zs) (all_of-append xs ys) ∙ sym (append_assoc x (all_of xs) (all_of ys))
 
-pub changed_rows-append : (rows : Rows Row) (xs ys : List PlacedItems) (p : ℕ) → changed_rows rows (xs ++ ys) p ≡ changed_rows (changed_rows rows xs) ys p
+pub changed_rows-append : (rows : Rows Row) (xs ys : List RowItems) (p : ℕ) → changed_rows rows (xs ++ ys) p ≡ changed_rows (changed_rows rows xs) ys p
 changed_rows-append rows [] ys p = refl
 changed_rows-append rows (x ∷ xs) ys p = changed_rows-append (with_change rows (row_of_change x)) xs ys p
 
-pub changed_alike : (rows other : Rows Row) → ((p : ℕ) → rows p ≡ other p) → (xs : List PlacedItems) (p : ℕ) → changed_rows rows xs p ≡ changed_rows other xs p
+pub changed_alike : (rows other : Rows Row) → ((p : ℕ) → rows p ≡ other p) → (xs : List RowItems) (p : ℕ) → changed_rows rows xs p ≡ changed_rows other xs p
 changed_alike rows other h xs p = ap (λ (r : Rows Row). changed_rows r xs p) (λ i q. h q i)
 
-pub numbered : (xs : List PlacedItems) → AllByRecursion IsNumbered (map row_of_change xs)
+pub numbered : (xs : List RowItems) → AllByRecursion IsNumbered (map row_of_change xs)
 numbered [] = tt
-numbered ((place, []) ∷ xs) = (tt, numbered xs)
-numbered ((place, e ∷ es) ∷ xs) = (refl, numbered xs)
+numbered ((row_number, []) ∷ xs) = (tt, numbered xs)
+numbered ((row_number, e ∷ es) ∷ xs) = (refl, numbered xs)
 
 pub numbered_replies : (rs : List ReplyChange) → AllByRecursion IsNumbered (map row_of_reply rs)
 numbered_replies [] = tt
@@ -59,7 +59,7 @@ both_none None b h = (refl, h)
 both_none (Some v) b h = cc
 
 -- rows that have the first of the pending changes: the others make of them what all earlier changes make
-pub rest_step : (rows now : Rows Row) (front back earlier : List PlacedItems) → ((p : ℕ) → now p ≡ changed_rows rows front p)
+pub rest_step : (rows now : Rows Row) (front back earlier : List RowItems) → ((p : ℕ) → now p ≡ changed_rows rows front p)
     → ((p : ℕ) → changed_rows rows (front ++ back) p ≡ changed_rows rows earlier p)
     → ((p : ℕ) → IsUnnamed p (map row_of_change earlier) → IsUnnamed p (map row_of_change (front ++ back)))
     → (p : ℕ) → changed_rows now back p ≡ changed_rows now earlier p
@@ -78,14 +78,14 @@ rest_step rows now front back earlier is rest named p = go (last_change p (map r
         first ∙ (says rows (map row_of_change earlier) p ∙ ap (λ (o : Option (Option Row)). or_row o (rows p)) e)
         ∙ (sym stays ∙ sym (says now (map row_of_change earlier) p ∙ ap (λ (o : Option (Option Row)). or_row o (now p)) e))
 
-pub named_step : (front back earlier : List PlacedItems)
+pub named_step : (front back earlier : List RowItems)
     → ((p : ℕ) → IsUnnamed p (map row_of_change earlier) → IsUnnamed p (map row_of_change (front ++ back)))
     → (p : ℕ) → IsUnnamed p (map row_of_change earlier) → IsUnnamed p (map row_of_change back)
 named_step front back earlier named p e =
     (both_none (last_change p (map row_of_change back)) (last_change p (map row_of_change front)) (sym (ap (last_change p) (map_append row_of_change front back) ∙ last_change-append p (map row_of_change front) (map row_of_change back)) ∙ named p e)).0
 
 -- a file that is as memory has it says what memory has
-pub waiting_says : (db : Trees) (s : WaitingView) → HasWaiting db s → SaysAtPlaces db (items_at s (row_at (db 0)))
+pub waiting_says : (db : Trees) (s : WaitingView) → HasWaiting db s → SaysOfRows db (items_at s (row_at (db 0)))
 waiting_says db s h = record {
   first = s.first;
   log = h.earlier ++ h.later;
@@ -108,8 +108,8 @@ process_others : (process : Option SavedProcess) (u : ℕ) (db : Trees) → (u =
 process_others None u db h = refl
 process_others (Some p) u db h = rw h refl
 
-module _ (db : Trees) (s : WaitingView) (count : ℕ) (changes : List PlacedItems) (process : Option SavedProcess) (replies : List ReplyChange) where
-  abbrev front : List PlacedItems
+module _ (db : Trees) (s : WaitingView) (count : ℕ) (changes : List RowItems) (process : Option SavedProcess) (replies : List ReplyChange) where
+  abbrev front : List RowItems
   front = take count s.pending
 
   abbrev logged : Trees
@@ -187,7 +187,7 @@ module _ (db : Trees) (s : WaitingView) (count : ℕ) (changes : List PlacedItem
           ∙ ap (λ xs. changed_rows (row_at (db 0)) xs q) (take-append-drop count s.pending))
 
   module _ (h : HasWaiting db s) where
-    abbrev later : List (List PlacedItems)
+    abbrev later : List (List RowItems)
     later = h.later ++ changes ∷ []
 
     has_new_log : rowed 1 ≡ change_rows s.first (h.earlier ++ later)
@@ -233,8 +233,8 @@ module _ (db : Trees) (s : WaitingView) (count : ℕ) (changes : List PlacedItem
           earlier_are = ap (λ (n : ℕ). n + 0) first ∙ plus;
           later_are = later_are;
           gathered = gathered_are;
-          rest = λ p. ap (λ (xs : List PlacedItems). changed_rows (row_at (new 0)) xs p) (all_written done);
-          named = λ p e. ap (λ (xs : List PlacedItems). last_change p (map row_of_change xs)) (all_written done);
+          rest = λ p. ap (λ (xs : List RowItems). changed_rows (row_at (new 0)) xs p) (all_written done);
+          named = λ p e. ap (λ (xs : List RowItems). last_change p (map row_of_change xs)) (all_written done);
         }
       where
         drop_all : {X : Type 0} (xs ys : List X) → drop (length xs) (xs ++ ys) ≡ ys
@@ -255,8 +255,8 @@ module _ (db : Trees) (s : WaitingView) (count : ℕ) (changes : List PlacedItem
           named = named;
         }
 
-  pub is_turn : ∥ HasWaiting db s ∥₁ → IsTurn db (items_at s (row_at (db 0))) changes process replies new
-  is_turn waiting_view = record {
+  pub is_after_save : ∥ HasWaiting db s ∥₁ → IsAfterSave db (items_at s (row_at (db 0))) changes process replies new
+  is_after_save waiting_view = record {
     items_are = ∥∥₁_map waiting_view (λ h.
         let says_it = waiting_says new (waiting_after s count changes) (still_waiting h (count == length s.pending) refl) in
         record { first = says_it.first; log = says_it.log; has_log = says_it.has_log; is = λ p. sym (sym (items_are p) ∙ sym (says_it.is p)) });
@@ -265,8 +265,8 @@ module _ (db : Trees) (s : WaitingView) (count : ℕ) (changes : List PlacedItem
   }
 
 -- what was gathered is pending now
-pub turned_over : (db : Trees) (old new : WaitingView) → TurnsOver old new → HasWaiting db old → HasWaiting db new
-turned_over db old new t h =
+pub rotated_waits : (db : Trees) (old new : WaitingView) → Rotates old new → HasWaiting db old → HasWaiting db new
+rotated_waits db old new t h =
     let short : length h.earlier ≡ 0 = omega (arith, h.earlier_are, t.all_written) in
     let first : new.first ≡ old.first = ap (λ (s : WaitingView). s.first) t.is in
     let middle : new.middle ≡ old.next = ap (λ (s : WaitingView). s.middle) t.is in
@@ -292,8 +292,8 @@ turned_over db old new t h =
     empty [] e = refl
     empty (x ∷ xs) e = absurd (omega (arith, e))
 
-pub turned_items : (rows : Rows Row) (old new : WaitingView) → TurnsOver old new → (p : ℕ) → items_at new rows p ≡ items_at old rows p
-turned_items rows old new t p =
+pub rotated_items : (rows : Rows Row) (old new : WaitingView) → Rotates old new → (p : ℕ) → items_at new rows p ≡ items_at old rows p
+rotated_items rows old new t p =
     let gathered : new.gathered ≡ [] = ap (λ (s : WaitingView). s.gathered) t.is in
     ap (λ xs. changed_rows (changed_rows rows new.pending) xs p) gathered
     ∙ (says rows (map row_of_change new.pending) p
@@ -301,22 +301,22 @@ turned_items rows old new t p =
     ∙ (sym (says rows (map row_of_change old.gathered) p) ∙ ap (λ xs. changed_rows (changed_rows rows xs) old.gathered p) (sym t.none))))
 
 -- what is in memory after a save is as the file has it
-pub saved_waiting : (db now : Trees) (s noted turned : WaitingView) (count : ℕ) (changes : List PlacedItems) (process : Option SavedProcess) (replies : List ReplyChange)
-    → now ≡ after (planned s count changes process replies) db → noted ≡ waiting_after s count changes → (turned ≡ noted) ⊎ TurnsOver noted turned
-    → HasWaiting db s → HasWaiting now turned
-saved_waiting db now s noted turned count changes process replies is note turn h =
+pub saved_waiting : (db now : Trees) (s noted rotated : WaitingView) (count : ℕ) (changes : List RowItems) (process : Option SavedProcess) (replies : List ReplyChange)
+    → now ≡ after (planned s count changes process replies) db → noted ≡ waiting_after s count changes → (rotated ≡ noted) ⊎ Rotates noted rotated
+    → HasWaiting db s → HasWaiting now rotated
+saved_waiting db now s noted rotated count changes process replies is note rotates h =
     let after_note : HasWaiting now noted =
     subst (λ t. HasWaiting t noted) (sym is)
     (subst (HasWaiting (after (planned s count changes process replies) db)) (sym note) (still_waiting db s count changes process replies h (count == length s.pending) refl)) in
-    elim turn [ inl same ↦ subst (HasWaiting now) (sym same) after_note | inr over ↦ turned_over now noted turned over after_note ]
+    elim rotates [ inl same ↦ subst (HasWaiting now) (sym same) after_note | inr over ↦ rotated_waits now noted rotated over after_note ]
 
-pub saved_items : (db now : Trees) (s noted turned : WaitingView) (count : ℕ) (changes : List PlacedItems) (process : Option SavedProcess) (replies : List ReplyChange)
-    → now ≡ after (planned s count changes process replies) db → noted ≡ waiting_after s count changes → (turned ≡ noted) ⊎ TurnsOver noted turned
-    → (p : ℕ) → items_at turned (row_at (now 0)) p ≡ changed_rows (items_at s (row_at (db 0))) changes p
-saved_items db now s noted turned count changes process replies is note turn p =
+pub saved_items : (db now : Trees) (s noted rotated : WaitingView) (count : ℕ) (changes : List RowItems) (process : Option SavedProcess) (replies : List ReplyChange)
+    → now ≡ after (planned s count changes process replies) db → noted ≡ waiting_after s count changes → (rotated ≡ noted) ⊎ Rotates noted rotated
+    → (p : ℕ) → items_at rotated (row_at (now 0)) p ≡ changed_rows (items_at s (row_at (db 0))) changes p
+saved_items db now s noted rotated count changes process replies is note rotates p =
     let after_note : items_at noted (row_at (now 0)) p ≡ changed_rows (items_at s (row_at (db 0))) changes p =
     ap (λ (t : Trees). items_at noted (row_at (t 0)) p) is ∙ (ap (λ (t : WaitingView). items_at t (row_at (after (planned s count changes process replies) db 0)) p) note ∙ items_are db s count changes process replies p) in
-    elim turn [
+    elim rotates [
       | inl same ↦ ap (λ (t : WaitingView). items_at t (row_at (now 0)) p) same ∙ after_note
-      | inr over ↦ turned_items (row_at (now 0)) noted turned over p ∙ after_note
+      | inr over ↦ rotated_items (row_at (now 0)) noted rotated over p ∙ after_note
     ]

@@ -1,27 +1,27 @@
-//! The rows of changes: what each save made of places.
+//! The rows of changes: what each save made of rows of items.
 
 ghost use Rattle.std.specs.Prelude.{◌≡◌, ◌<◌, ◌+◌, ◌^◌, All, length, IsTrue, IfOk};
 ghost use Rattle.sqlite_trees.specs.Tree.{Trees};
 ghost use Rattle.wire.specs.Field.{list_text};
-ghost use Rattle.item_rows.specs.Placed.{FitsItsPlace, placed_text};
+ghost use Rattle.item_rows.specs.RowItems.{FitsItsRow, row_items_text};
 ghost use Rattle.shelf.specs.InMemory.{waiting_view};
 ghost use Rattle.shelf.specs.Rows.{change_row};
 ghost use Rattle.shelf.specs.WaitingView.{IsLog, HasWaiting};
 
 use crate::waiting::WaitingChanges;
-use item_rows::{PlacedItems, fits_place};
+use item_rows::{RowItems, fits_row};
 use proto::Fault;
 use sqlite_value::row::Row;
 use sqlite_value::value::ValueRef;
 use std::alloc::{AllocError, Global};
 use wire::{Counted, put_list, read};
 
-/// Whether each of them is a place that has a row, with items that can be counted.
-fn each_fits(changes: &[PlacedItems]) -> bool
-    ensures { IsTrue result → All FitsItsPlace changes.now }
+/// Whether each of them is of a number that a row may have, with items that can be counted.
+fn each_fits(changes: &[RowItems]) -> bool
+    ensures { IsTrue result → All FitsItsRow changes.now }
 {
-    for placed in changes {
-        if !fits_place(placed.0, placed.1.as_slice()) {
+    for row_items in changes {
+        if !fits_row(row_items.0, row_items.1.as_slice()) {
             return false;
         }
     }
@@ -29,18 +29,18 @@ fn each_fits(changes: &[PlacedItems]) -> bool
 }
 
 /// Whether they can be a row: there are not too many, and each fits.
-pub fn fit(changes: &[PlacedItems]) -> bool
-    ensures each { IsTrue result → All FitsItsPlace changes.now }
+pub fn fit(changes: &[RowItems]) -> bool
+    ensures each { IsTrue result → All FitsItsRow changes.now }
     ensures few { IsTrue result → length changes.now < 2 ^ 32 }
 {
     changes.len() < 1 << 32 && each_fits(changes)
 }
 
 /// The text of changes.
-fn text_of(alloc: Global, changes: &[PlacedItems]) -> Result<Vec<u8>, AllocError>
-    requires each { All FitsItsPlace changes.now }
+fn text_of(alloc: Global, changes: &[RowItems]) -> Result<Vec<u8>, AllocError>
+    requires each { All FitsItsRow changes.now }
     requires few { length changes.now < 2 ^ 32 }
-    ensures { IfOk result (λ text. text.items ≡ list_text placed_text changes.now) }
+    ensures { IfOk result (λ text. text.items ≡ list_text row_items_text changes.now) }
 {
     let mut text = Vec::new(alloc);
     put_list(changes, &mut text)?;
@@ -48,9 +48,9 @@ fn text_of(alloc: Global, changes: &[PlacedItems]) -> Result<Vec<u8>, AllocError
 }
 
 /// The row of a save with this number. The only error is a failed allocation.
-pub fn change_row(alloc: Global, number: u64, changes: &[PlacedItems]) -> Result<Row, AllocError>
+pub fn change_row(alloc: Global, number: u64, changes: &[RowItems]) -> Result<Row, AllocError>
     requires number { number < 2 ^ 63 }
-    requires each { All FitsItsPlace changes.now }
+    requires each { All FitsItsRow changes.now }
     requires few { length changes.now < 2 ^ 32 }
     ensures { IfOk result (λ row. row ≡ change_row number changes.now) }
 {
@@ -64,13 +64,13 @@ pub fn change_row(alloc: Global, number: u64, changes: &[PlacedItems]) -> Result
 
 /// The changes of the save with this number, as `change_row` made the row. Anything else is a BadRecord. The only other
 /// error is a failed allocation, NoMemory.
-fn changes_of(alloc: Global, number: u64, row: &Row) -> Result<Vec<PlacedItems>, Fault>
+fn changes_of(alloc: Global, number: u64, row: &Row) -> Result<Vec<RowItems>, Fault>
     ensures { IfOk result (λ changes. row.now ≡ change_row number changes.items) }
 {
     let ValueRef::Blob(text) = row.get(2) else {
         return Err(Fault::BadRecord);
     };
-    let changes = read::<Counted<PlacedItems>>(alloc, text)?.into_vec();
+    let changes = read::<Counted<RowItems>>(alloc, text)?.into_vec();
     if number < 1 << 63 && fit(&changes) && change_row(alloc, number, &changes)?.is_same(row) {
         Ok(changes)
     } else {
@@ -89,7 +89,7 @@ fn first_number(rows: &[Row]) -> Result<u64, Fault> {
     }
 }
 
-/// The number of the row at this place.
+/// The number of the row at this index.
 fn number_at(first: u64, index: usize) -> Result<u64, Fault>
     ensures { IfOk result (λ number. number ≡ first + index) }
 {
@@ -101,7 +101,7 @@ fn number_at(first: u64, index: usize) -> Result<u64, Fault>
 
 /// The changes of all rows, which have the numbers from `first` on. Anything else is a BadRecord. The only other error is
 /// a failed allocation, NoMemory.
-fn changes_in(alloc: Global, first: u64, rows: &[Row]) -> Result<Vec<PlacedItems>, Fault>
+fn changes_in(alloc: Global, first: u64, rows: &[Row]) -> Result<Vec<RowItems>, Fault>
     ensures { IfOk result (λ all. ∥ IsLog first rows.now all.items ∥₁) }
 {
     let mut all = Vec::new(alloc);
@@ -121,6 +121,6 @@ pub fn waiting_of(alloc: Global, rows: &[Row]) -> Result<WaitingChanges, Fault>
     let next = number_at(first, rows.len())?;
     let changes = changes_in(alloc, first, rows)?;
     let mut waiting = WaitingChanges::of_file(alloc, first, next, changes);
-    waiting.turn_over(alloc, true);
+    waiting.rotate(alloc, true);
     Ok(waiting)
 }

@@ -5,7 +5,7 @@
 //! was there, or that with all that it saves. What `Shelf::items` reads is what the saves made, one after the other.
 //!
 //! A save writes one row with all items that it changes, and some rows of items that earlier saves changed, in the order
-//! of their places: rows that are neighbours cost less to write than rows at random. A change row goes as soon as all its
+//! of their numbers: rows that are neighbours cost less to write than rows at random. A change row goes as soon as all its
 //! items are in their rows.
 #![tactic(auto)]
 
@@ -20,7 +20,7 @@ mod shelf;
 mod waiting;
 
 pub use comparing::are_all;
-pub use planning::SavedTurn;
+pub use planning::SavedExtras;
 pub use process::SavedProcess;
 pub use reading::FoundItems;
 pub use reply::{LongReply, ReplyChange};

@@ -2,7 +2,7 @@
 
 ghost use Rattle.std.specs.Prelude.{◌≡◌, ◌<◌, ◌≤◌, ◌-◌, ◌^◌, ◌∷◌, ◌++◌, [], pos, All, map, take, length, IfOk, OnOk};
 ghost use Rattle.row_store.specs.Saved.{ChangesFit};
-ghost use Rattle.item_rows.specs.Placed.{FitsItsPlace};
+ghost use Rattle.item_rows.specs.RowItems.{FitsItsRow};
 ghost use Rattle.shelf.specs.Rows.{change_row, change_in, row_of_change, row_of_reply};
 ghost use Rattle.shelf.specs.InMemory.{waiting_view};
 ghost use Rattle.shelf.specs.WaitingView.{removals, process_changes, planned};
@@ -11,7 +11,7 @@ use crate::changes::{change_row, fit};
 use crate::process::{SavedProcess, process_row};
 use crate::reply::{ReplyChange, reply_row};
 use crate::waiting::WaitingChanges;
-use item_rows::{PlacedItems, fits_place, placed_row};
+use item_rows::{RowItems, fits_row, items_row};
 use row_store::RowChange;
 use sqlite_trees::error::StoreError;
 use std::alloc::Global;
@@ -21,7 +21,7 @@ fn plan_changes(
     alloc: Global,
     out: &mut Vec<RowChange>,
     number: u64,
-    changes: &[PlacedItems],
+    changes: &[RowItems],
 ) -> Result<(), StoreError>
     ensures planned { OnOk result (out.new.items ≡ out.old.items ++ RowChange.Put 1 (change_row number changes.now) ∷ []) }
     ensures small { OnOk result (number < 2 ^ 63) }
@@ -36,18 +36,18 @@ fn plan_changes(
     Ok(())
 }
 
-/// The change of the row of a place.
-fn change_of(alloc: Global, placed: &PlacedItems) -> Result<RowChange, StoreError>
-    ensures { IfOk result (λ change. change ≡ change_in 0 (row_of_change placed.now)) }
+/// The change of a row of items.
+fn change_of(alloc: Global, row_items: &RowItems) -> Result<RowChange, StoreError>
+    ensures { IfOk result (λ change. change ≡ change_in 0 (row_of_change row_items.now)) }
 {
-    let (place, items) = placed;
-    if !fits_place(*place, items.as_slice()) {
+    let (row_number, items) = row_items;
+    if !fits_row(*row_number, items.as_slice()) {
         return Err(StoreError::Full);
     }
-    match placed_row(alloc, *place, items.as_slice())? {
+    match items_row(alloc, *row_number, items.as_slice())? {
         None => Ok(RowChange::Remove {
             table: 0,
-            number: *place as i64,
+            number: *row_number as i64,
         }),
         Some(row) => Ok(RowChange::Put { table: 0, row }),
     }
@@ -57,11 +57,11 @@ fn change_of(alloc: Global, placed: &PlacedItems) -> Result<RowChange, StoreErro
 fn plan_rows(
     alloc: Global,
     out: &mut Vec<RowChange>,
-    placed: &[PlacedItems],
+    row_items: &[RowItems],
 ) -> Result<(), StoreError>
-    ensures { OnOk result (out.new.items ≡ out.old.items ++ map (λ c. change_in 0 (row_of_change c)) placed.now) }
+    ensures { OnOk result (out.new.items ≡ out.old.items ++ map (λ c. change_in 0 (row_of_change c)) row_items.now) }
 {
-    for one in placed {
+    for one in row_items {
         out.push(change_of(alloc, one)?)?;
     }
     Ok(())
@@ -148,7 +148,7 @@ fn plan_replies(
 
 /// What is saved beside items.
 #[derive(Drop)]
-pub struct SavedTurn {
+pub struct SavedExtras {
     /// What is known of the process. `None` leaves what the file has of it.
     pub process: Option<SavedProcess>,
     pub replies: Vec<ReplyChange>,
@@ -160,37 +160,37 @@ fn plan_all(
     out: &mut Vec<RowChange>,
     waiting: &WaitingChanges,
     count: usize,
-    turn: &SavedTurn,
-    changes: &[PlacedItems],
+    extras: &SavedExtras,
+    changes: &[RowItems],
 ) -> Result<(), StoreError>
     requires none { out.old.items ≡ [] }
     requires count { count ≤ length (waiting_view waiting.now).pending }
-    ensures planned { OnOk result (out.new.items ≡ planned (waiting_view waiting.now) count changes.now turn.now.process turn.now.replies.items) }
+    ensures planned { OnOk result (out.new.items ≡ planned (waiting_view waiting.now) count changes.now extras.now.process extras.now.replies.items) }
     ensures small { OnOk result (waiting.now.next < 2 ^ 63) }
 {
     plan_changes(alloc, out, waiting.next, changes)?;
     plan_rows(alloc, out, waiting.front(count))?;
     plan_removes(out, waiting.first, waiting.first_after(count))?;
-    plan_process(alloc, out, &turn.process)?;
-    plan_replies(alloc, out, &turn.replies)
+    plan_process(alloc, out, &extras.process)?;
+    plan_replies(alloc, out, &extras.replies)
 }
 
-/// All that a save writes: the changes, the rows of so many pending ones, and the turn. The errors are OutOfMemory, and
-/// Full if there is no number for the save, or a place or the count of its items is out of range.
+/// All that a save writes: the changes, the rows of so many pending ones, and the rest. The errors are OutOfMemory, and
+/// Full if there is no number for the save, or a row number or the count of its items is out of range.
 pub fn plan(
     alloc: Global,
     waiting: &WaitingChanges,
     count: usize,
-    turn: &SavedTurn,
-    changes: &[PlacedItems],
+    extras: &SavedExtras,
+    changes: &[RowItems],
 ) -> Result<Vec<RowChange>, StoreError>
     requires count { count ≤ length (waiting_view waiting.now).pending }
-    ensures planned { IfOk result (λ all. all.items ≡ planned (waiting_view waiting.now) count changes.now turn.now.process turn.now.replies.items) }
+    ensures planned { IfOk result (λ all. all.items ≡ planned (waiting_view waiting.now) count changes.now extras.now.process extras.now.replies.items) }
     ensures fit { IfOk result (λ all. ChangesFit 5 all.items) }
     ensures small { OnOk result (waiting.now.next < 2 ^ 63) }
 {
     let mut out = Vec::new(alloc);
-    match plan_all(alloc, &mut out, waiting, count, turn, changes) {
+    match plan_all(alloc, &mut out, waiting, count, extras, changes) {
         Ok(()) => Ok(out),
         Err(error) => Err(error),
     }

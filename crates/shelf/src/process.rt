@@ -46,7 +46,7 @@ pub fn process_row(alloc: Global, process: &SavedProcess) -> Result<Row, AllocEr
     row.push(ValueRef::Int(1))?;
     row.push(ValueRef::Null)?;
     row.push(ValueRef::Int(process.stamp.start.cast_signed()))?;
-    row.push(ValueRef::Int(process.stamp.turn.cast_signed()))?;
+    row.push(ValueRef::Int(process.stamp.save.cast_signed()))?;
     row.push(ValueRef::Blob(process.site.as_slice()))?;
     row.push(ValueRef::Int(process.folder as i64))?;
     row.push(ValueRef::Int(process.folders as i64))?;
@@ -59,7 +59,7 @@ fn columns_of(alloc: Global, row: &Row) -> Result<SavedProcess, Fault> {
     Ok(SavedProcess {
         stamp: SaveStamp {
             start: number_in(row, 2)?,
-            turn: number_in(row, 3)?,
+            save: number_in(row, 3)?,
         },
         site: bytes_in(alloc, row, 4)?,
         folder: small_in(row, 5)?,

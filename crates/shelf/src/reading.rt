@@ -10,7 +10,7 @@ ghost use Rattle.shelf.specs.Found.{rows_found};
 
 use crate::waiting::WaitingChanges;
 use base::Entry;
-use item_rows::{PlacedItems, placed_of};
+use item_rows::{RowItems, items_of};
 use items::Item;
 use proto::{Fault, Key};
 use sqlite_value::row::Row;
@@ -18,7 +18,7 @@ use std::alloc::{AllocError, Global};
 use std::collections::BTreeMap;
 use wire::Counted;
 
-/// The items of places. A place with none, or that is not here, has no items.
+/// The items of rows. A row with none, or that is not here, has no items.
 pub type FoundItems = BTreeMap<u64, Counted<Entry<Key, Item>>>;
 
 /// The same items, shared.
@@ -35,25 +35,25 @@ fn shared(
     Ok(Counted::new(shared))
 }
 
-/// Notes what is at a place.
-fn note(alloc: Global, found: &mut FoundItems, placed: &PlacedItems) -> Result<(), AllocError>
-    ensures { OnOk result ((p : ℕ) → rows_found found.new p ≡ with_change (rows_found found.old) (row_of_change placed.now) p) }
+/// Notes what is in a row.
+fn note(alloc: Global, found: &mut FoundItems, row_items: &RowItems) -> Result<(), AllocError>
+    ensures { OnOk result ((p : ℕ) → rows_found found.new p ≡ with_change (rows_found found.old) (row_of_change row_items.now) p) }
 {
-    let items = shared(alloc, placed.1.as_slice())?;
-    found.insert(placed.0, items)?;
+    let items = shared(alloc, row_items.1.as_slice())?;
+    found.insert(row_items.0, items)?;
     Ok(())
 }
 
-/// Notes what became of places, in order.
+/// Notes what became of rows, in order.
 fn note_changes(
     alloc: Global,
     found: &mut FoundItems,
-    changes: &[PlacedItems],
+    changes: &[RowItems],
 ) -> Result<(), AllocError>
     ensures { OnOk result ((p : ℕ) → rows_found found.new p ≡ changed_rows (rows_found found.old) changes.now p) }
 {
-    for placed in changes {
-        note(alloc, found, placed)?;
+    for row_items in changes {
+        note(alloc, found, row_items)?;
     }
     Ok(())
 }
@@ -62,8 +62,8 @@ fn note_changes(
 fn note_row(alloc: Global, found: &mut FoundItems, row: &Row) -> Result<(), Fault>
     ensures { OnOk result ((p : ℕ) → rows_found found.new p ≡ (if has_rowid (pos p) row.now then Some row.now else rows_found found.old p)) }
 {
-    let placed = placed_of(alloc, row)?;
-    note(alloc, found, &placed)?;
+    let row_items = items_of(alloc, row)?;
+    note(alloc, found, &row_items)?;
     Ok(())
 }
 

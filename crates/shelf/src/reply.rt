@@ -1,4 +1,4 @@
-//! Replies that are too long to be saved with each turn.
+//! Replies that are too long to be written in each save.
 
 ghost use Rattle.std.specs.Prelude.{◌≡◌, ◌∷◌, [], pos, map, IfOk};
 ghost use Rattle.item_rows.specs.Row.{number_column};
@@ -31,7 +31,7 @@ impl Drop for LongReply {
 /// What becomes of the long reply of a client.
 #[derive(Drop)]
 pub enum ReplyChange {
-    /// This one takes the place of the one before.
+    /// This one replaces the one before.
     Kept(LongReply),
     /// It has none now.
     Gone(u16),

@@ -9,12 +9,12 @@ ghost use Rattle.shelf.specs.Found.{rows_found};
 ghost use Rattle.shelf.specs.WaitingView.{HasWaiting, items_at};
 
 use crate::changes::waiting_of;
-use crate::planning::{SavedTurn, plan};
+use crate::planning::{SavedExtras, plan};
 use crate::process::{SavedProcess, process_in};
 use crate::reading::{FoundItems, read_items};
 use crate::reply::{LongReply, replies_in};
 use crate::waiting::WaitingChanges;
-use item_rows::PlacedItems;
+use item_rows::RowItems;
 use proto::Fault;
 use row_store::RowStore;
 use sqlite_trees::error::StoreError;
@@ -23,7 +23,7 @@ use sqlite_value::row::Row;
 use std::alloc::Global;
 
 /// All that a file has of a process: its items, what is known of it, and its long replies. `save` alone changes them.
-/// What clauses call `items_in` is the row of what is at each place.
+/// What clauses call `items_in` is what each row of items is.
 pub struct Shelf<S: Store> {
     rows: RowStore<S>,
     waiting: WaitingChanges,
@@ -96,7 +96,7 @@ impl<S: Store> Shelf<S> {
     ghost use Rattle.shelf.specs.Rows.{process_rows, reply_row};
     ghost use Rattle.shelf.specs.Found.{rows_found};
     ghost use Rattle.shelf.specs.InMemory.{items_in, IsUnchanged};
-    ghost use Rattle.shelf.specs.WaitingView.{changed_rows, IsTurn, SaysItems};
+    ghost use Rattle.shelf.specs.WaitingView.{changed_rows, IsAfterSave, SaysItems};
 
     /// What the rows say, or the rows and why they cannot be read.
     fn over(alloc: Global, rows: RowStore<S>) -> Result<Shelf<S>, (S, ReadFault)>
@@ -132,7 +132,7 @@ impl<S: Store> Shelf<S> {
         self.rows.is_shut()
     }
 
-    /// What the file says of places are its rows of items with the changes over them that are in memory. It does nothing.
+    /// What the file says of rows of items: those that it has, with the changes over them that are in memory. It does nothing.
     pub fn says(&self)
         ensures { IsClean (S.view self.now.rows.store) → IsTrue (S.view self.now.rows.store).is_open → SaysItems (S.view self.now.rows.store).committed (items_in (S.view self.now.rows.store).committed self.now.waiting) }
     {}
@@ -172,7 +172,7 @@ impl<S: Store> Shelf<S> {
         }
     }
 
-    /// The items at each place, if all rows are as saves made them. An error changes nothing; after one of the disk the
+    /// The items of each row, if all rows are as saves made them. An error changes nothing; after one of the disk the
     /// store may be shut.
     pub fn items(&mut self, alloc: Global) -> Result<FoundItems, ReadFault>
         ensures found { IfOk result (λ found. IsClean (S.view self.new.rows.store) → (p : ℕ) → rows_found found p ≡ items_in (S.view self.old.rows.store).committed self.old.waiting p) }
@@ -186,7 +186,7 @@ impl<S: Store> Shelf<S> {
         }
     }
 
-    /// Saves what became of places, one of each, and the turn: all of it or nothing. If it answers Ok it takes the changes.
+    /// Saves what became of rows, one change of each, and the rest: all of it or nothing. If it answers Ok it takes the changes.
     /// After an error they are as they were, and so is what the file says, unless the store is shut; then the file has to
     /// be opened again, and says what it said or what this save makes of it.
     ///
@@ -195,32 +195,32 @@ impl<S: Store> Shelf<S> {
     ///
     /// A crash, also one during this call, leaves what it could leave before, or what this save makes of it.
     ///
-    /// The error is Full also if a place is from 2^63 on, and Unstorable if the changes are more than 10^9 bytes.
+    /// The error is Full also if a row number is from 2^63 on, and Unstorable if the changes are more than 10^9 bytes.
     pub fn save(
         &mut self,
         alloc: Global,
-        turn: &SavedTurn,
-        changes: &mut Vec<PlacedItems>,
+        extras: &SavedExtras,
+        changes: &mut Vec<RowItems>,
         least: usize,
     ) -> Result<(), StoreError>
-        ensures saved { OnOk result (IsClean (S.view self.new.rows.store) → IsTrue (S.view self.new.rows.store).is_open × IsTurn (S.view self.old.rows.store).committed (items_in (S.view self.old.rows.store).committed self.old.waiting) changes.old.items turn.now.process turn.now.replies.items (S.view self.new.rows.store).committed) }
+        ensures saved { OnOk result (IsClean (S.view self.new.rows.store) → IsTrue (S.view self.new.rows.store).is_open × IsAfterSave (S.view self.old.rows.store).committed (items_in (S.view self.old.rows.store).committed self.old.waiting) changes.old.items extras.now.process extras.now.replies.items (S.view self.new.rows.store).committed) }
         ensures items { OnOk result (IsClean (S.view self.new.rows.store) → (p : ℕ) → items_in (S.view self.new.rows.store).committed self.new.waiting p ≡ changed_rows (items_in (S.view self.old.rows.store).committed self.old.waiting) changes.old.items p) }
         ensures taken { OnOk result (changes.new.items ≡ []) }
         ensures same { OnErr result (IsClean (S.view self.new.rows.store) → IsTrue (S.view self.new.rows.store).is_open → IsUnchanged (S.view self.old.rows.store).committed self.old.waiting (S.view self.new.rows.store).committed self.new.waiting) }
         ensures kept { OnErr result (changes.new.items ≡ changes.old.items) }
         ensures crash { IsClean (S.view self.new.rows.store) → IsTrue (S.view self.old.rows.store).is_open → (db : Trees) → S.recovers self.new.rows.store db
-            → S.recovers self.old.rows.store db ⊎ IsTurn (S.view self.old.rows.store).committed (items_in (S.view self.old.rows.store).committed self.old.waiting) changes.old.items turn.now.process turn.now.replies.items db }
+            → S.recovers self.old.rows.store db ⊎ IsAfterSave (S.view self.old.rows.store).committed (items_in (S.view self.old.rows.store).committed self.old.waiting) changes.old.items extras.now.process extras.now.replies.items db }
         ensures clean { doubt (S.view self.old.rows.store).is_clean ≤ doubt (S.view self.new.rows.store).is_clean }
         ensures counts { S.faults self.old.rows.store ≤ S.faults self.new.rows.store }
         ensures shield { S.is_shielded self.old.rows.store → S.is_shielded self.new.rows.store }
     {
         let count = rows_beside(changes.len(), self.waiting.left());
         self.waiting.reserve(changes.len())?;
-        let planned = plan(alloc, &self.waiting, count, turn, changes)?;
+        let planned = plan(alloc, &self.waiting, count, extras, changes)?;
         self.rows.save(&planned)?;
         self.waiting.note(count, changes);
         let is_due = self.waiting.has_enough(least);
-        self.waiting.turn_over(alloc, is_due);
+        self.waiting.rotate(alloc, is_due);
         Ok(())
     }
 }

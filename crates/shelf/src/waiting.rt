@@ -3,7 +3,7 @@
 ghost use Rattle.std.specs.Prelude.{◌≡◌};
 
 use base::Entry;
-use item_rows::PlacedItems;
+use item_rows::RowItems;
 use items::Item;
 use proto::Key;
 use std::alloc::{AllocError, Global};
@@ -25,33 +25,33 @@ fn bytes_of(entry: &Entry<Key, Item>) -> u64 {
     key.saturating_add(data).saturating_add(HEAD_BYTES) as u64
 }
 
-/// How many bytes the items of a place take in a change row, about.
-fn bytes_at(placed: &PlacedItems) -> u64 {
+/// How many bytes the items of a row take in a change row, about.
+fn bytes_at(row_items: &RowItems) -> u64 {
     let mut bytes = HEAD_BYTES as u64;
-    for entry in placed.1.as_slice() {
+    for entry in row_items.1.as_slice() {
         bytes = bytes.saturating_add(bytes_of(entry));
     }
     bytes
 }
 
 /// How many bytes changes take in their rows, about.
-fn bytes_in(changes: &[PlacedItems]) -> u64 {
+fn bytes_in(changes: &[RowItems]) -> u64 {
     let mut bytes = 0u64;
-    for placed in changes {
-        bytes = bytes.saturating_add(bytes_at(placed));
+    for row_items in changes {
+        bytes = bytes.saturating_add(bytes_at(row_items));
     }
     bytes
 }
 
 /// The changes of a file whose items are not in their rows.
 pub struct WaitingChanges {
-    /// Changes whose items are written to rows next, mostly in the order of places. They are of the saves from `first`
+    /// Changes whose items are written to rows next, mostly in the order of row numbers. They are of the saves from `first`
     /// up to `middle`.
-    pub pending: Vec<PlacedItems>,
+    pub pending: Vec<RowItems>,
     /// So many of them are in their rows.
     pub done: usize,
     /// Later changes, in the order of saves: from `middle` up to `next`.
-    pub gathered: Vec<PlacedItems>,
+    pub gathered: Vec<RowItems>,
     /// How many bytes those take in their rows, about.
     pub bytes: u64,
     pub first: u64,
@@ -77,15 +77,10 @@ impl Drop for WaitingChanges {
 impl WaitingChanges {
     ghost use Rattle.std.specs.Prelude.{◌≡◌, ◌⊎◌, ◌≤◌, ◌<◌, ◌+◌, ◌^◌, [], take, length, OnOk, vec_len, vec_capacity};
     ghost use Rattle.shelf.specs.InMemory.{waiting_view};
-    ghost use Rattle.shelf.specs.WaitingView.{first_after, waiting_after, TurnsOver};
+    ghost use Rattle.shelf.specs.WaitingView.{first_after, waiting_after, Rotates};
 
     /// The changes of a file whose saves have the numbers from `first` up to `next`.
-    pub fn of_file(
-        alloc: Global,
-        first: u64,
-        next: u64,
-        changes: Vec<PlacedItems>,
-    ) -> WaitingChanges
+    pub fn of_file(alloc: Global, first: u64, next: u64, changes: Vec<RowItems>) -> WaitingChanges
         ensures { waiting_view result ≡ record { pending = []; gathered = changes.items; first = first; middle = first; next = next } }
     {
         WaitingChanges {
@@ -100,7 +95,7 @@ impl WaitingChanges {
     }
 
     /// The pending changes.
-    pub fn rest(&self) -> &[PlacedItems]
+    pub fn rest(&self) -> &[RowItems]
         ensures { result.now ≡ (waiting_view self.now).pending }
     {
         match self.pending.get(self.done..) {
@@ -117,7 +112,7 @@ impl WaitingChanges {
     }
 
     /// The next pending changes.
-    pub fn front(&self, count: usize) -> &[PlacedItems]
+    pub fn front(&self, count: usize) -> &[RowItems]
         requires { count ≤ length (waiting_view self.now).pending }
         ensures { result.now ≡ take count (waiting_view self.now).pending }
     {
@@ -144,7 +139,7 @@ impl WaitingChanges {
     }
 
     /// Notes a save of these changes, with which so many of the pending ones came into their rows. The changes are taken.
-    pub fn note(&mut self, count: usize, changes: &mut Vec<PlacedItems>)
+    pub fn note(&mut self, count: usize, changes: &mut Vec<RowItems>)
         requires count { count ≤ length (waiting_view self.old).pending }
         requires room { vec_len self.old.gathered + vec_len changes.old ≤ vec_capacity self.old.gathered }
         requires next { self.old.next < 2 ^ 63 }
@@ -166,13 +161,13 @@ impl WaitingChanges {
     }
 
     /// If it is due and nothing is pending, the gathered changes are pending from now on.
-    pub fn turn_over(&mut self, alloc: Global, is_due: bool)
-        ensures { (waiting_view self.new ≡ waiting_view self.old) ⊎ TurnsOver (waiting_view self.old) (waiting_view self.new) }
+    pub fn rotate(&mut self, alloc: Global, is_due: bool)
+        ensures { (waiting_view self.new ≡ waiting_view self.old) ⊎ Rotates (waiting_view self.old) (waiting_view self.new) }
     {
         if self.left() == 0 && self.first == self.middle && is_due {
             let mut pending = mem::replace(&mut self.gathered, Vec::new(alloc));
             self.bytes = 0;
-            let _ = pending.sort_by_key(|placed: &PlacedItems| placed.0);
+            let _ = pending.sort_by_key(|row_items: &RowItems| row_items.0);
             self.done = 0;
             self.pending = pending;
             self.middle = self.next;

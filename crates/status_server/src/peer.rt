@@ -13,7 +13,7 @@ use std::time::{Duration, Instant};
 /// All that a connection does has to be done in so many seconds.
 const LIMIT: u64 = 5;
 
-/// So many steps are made in one turn, at most.
+/// So many steps are made in one visit, at most.
 const MOST_STEPS: usize = 8;
 
 /// What follows a step.
@@ -55,7 +55,7 @@ impl Peer {
     }
 
     /// Reads and writes as far as the socket goes, but a few steps at most.
-    pub fn turn(&mut self, alloc: Global, seen: &Seen, buffer: &mut [u8]) -> After {
+    pub fn visit(&mut self, alloc: Global, seen: &Seen, buffer: &mut [u8]) -> After {
         for _ in 0..MOST_STEPS {
             let after = self.step(alloc, seen, buffer);
             if after != After::Again {

@@ -15,10 +15,10 @@ use std::{io, thread};
 /// The most connections at once. The oldest makes room for a new one.
 pub const MOST_PEERS: usize = 32;
 
-/// So many connections are accepted in one round, at most.
+/// So many connections are accepted in one pass, at most.
 const MOST_ACCEPTS: usize = 16;
 
-/// So long it rests after each round, in milliseconds.
+/// So long it rests after each pass, in milliseconds.
 const PAUSE: u64 = 5;
 
 /// So long it waits for an event at most while a connection is open, in milliseconds.
@@ -76,7 +76,7 @@ impl StatusServer {
 
     /// Waits until something can be done, does it, and rests for a few milliseconds. With no connection it waits
     /// for the next one at most so long.
-    pub fn round<R: Wait + Clock, W: Watch>(
+    pub fn pass<R: Wait + Clock, W: Watch>(
         &mut self,
         rt: &R,
         watch: &W,
@@ -88,7 +88,7 @@ impl StatusServer {
         self.accept(now);
         self.close_late(now);
         if !self.peers.is_empty() {
-            self.turn_all(&*watch.seen(rt));
+            self.visit_all(&*watch.seen(rt));
         }
         thread::sleep(rt, Duration::from_millis(PAUSE));
         Ok(())
@@ -145,14 +145,14 @@ impl StatusServer {
         self.peers.retain(|peer| !peer.is_late(now));
     }
 
-    /// Gives each connection a turn.
-    fn turn_all(&mut self, seen: &Seen) {
+    /// Visits each connection.
+    fn visit_all(&mut self, seen: &Seen) {
         let mut at = 0;
         for _ in 0..MOST_PEERS {
             if self.peers.len() <= at {
                 return;
             }
-            match self.turn_of(at, seen) {
+            match self.visit_at(at, seen) {
                 After::Rest => at += 1,
                 After::Again => {
                     self.has_more = true;
@@ -170,16 +170,16 @@ impl StatusServer {
         }
     }
 
-    /// The turn of one connection.
-    fn turn_of(&mut self, at: usize, seen: &Seen) -> After {
+    /// The visit of one connection.
+    fn visit_at(&mut self, at: usize, seen: &Seen) -> After {
         match self.peers.get_mut(at) {
-            Some(peer) => peer.turn(self.alloc, seen, self.buffer.as_mut_slice()),
+            Some(peer) => peer.visit(self.alloc, seen, self.buffer.as_mut_slice()),
             None => After::Rest,
         }
     }
 }
 
-/// Serves the status port on the caller's thread, for ever. After a round that failed, as at the limit on
+/// Serves the status port on the caller's thread, for ever. After a pass that failed, as at the limit on
 /// descriptors, it rests for a second.
 ///
 /// It returns only an error at the start: the system gives no descriptor, or memory runs out.
@@ -191,7 +191,7 @@ pub fn serve_status<R: Net + Wait + Clock, W: Watch>(
 ) -> io::Result<()> {
     let mut server = StatusServer::new(rt, alloc, listener)?;
     for _ in rt.forever() {
-        if server.round(rt, watch, None).is_err() {
+        if server.pass(rt, watch, None).is_err() {
             thread::sleep(rt, Duration::from_secs(1));
         }
     }

@@ -41,12 +41,12 @@ fn started<R: Net>(rt: &R, alloc: Global) -> Option<(StatusServer, SocketAddr)> 
     Some((server, address))
 }
 
-/// So many rounds: whether all went well.
-fn rounds<R: Wait + Clock + AllocGlobal>(rt: &R, server: &mut StatusServer, count: usize) -> bool {
+/// So many passes: whether all went well.
+fn passes<R: Wait + Clock + AllocGlobal>(rt: &R, server: &mut StatusServer, count: usize) -> bool {
     let same = with_some_figures(rt.alloc());
     for _ in 0..count {
         if server
-            .round(rt, &same, Some(Duration::from_millis(20)))
+            .pass(rt, &same, Some(Duration::from_millis(20)))
             .is_err()
         {
             return false;
@@ -79,9 +79,9 @@ fn is_given<R: Net<Stream = TcpStream> + Wait + Clock + AllocGlobal>(
         return false;
     };
     says(&stream, parts.0)
-        && rounds(rt, server, 2)
+        && passes(rt, server, 2)
         && says(&stream, parts.1)
-        && rounds(rt, server, 3)
+        && passes(rt, server, 3)
         && hears(&stream, status)
 }
 
@@ -115,7 +115,7 @@ fn answers_in_a_crowd<R: Net<Stream = TcpStream> + Wait + Clock + AllocGlobal>(
         }
     }
     let whole: (&[u8], &[u8]) = (b"GET / HTTP/1.1\r\n", b"\r\n");
-    rounds(rt, &mut server, 6)
+    passes(rt, &mut server, 6)
         && server.peer_count() == MOST_PEERS
         && is_given(rt, &mut server, address, whole, b"HTTP/1.1 200")
         && server.peer_count() <= MOST_PEERS
@@ -133,10 +133,10 @@ fn closes_the_slow<R: Net<Stream = TcpStream> + Wait + Clock + AllocGlobal>(
         return false;
     };
     let is_there = says(&stream, b"GET / HTTP/1.1\r\n")
-        && rounds(rt, &mut server, 3)
+        && passes(rt, &mut server, 3)
         && server.peer_count() == 1;
     thread::sleep(rt, Duration::from_millis(5100));
-    is_there && rounds(rt, &mut server, 2) && server.peer_count() == 0
+    is_there && passes(rt, &mut server, 2) && server.peer_count() == 0
 }
 
 #[test]

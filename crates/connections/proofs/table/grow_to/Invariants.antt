@@ -1,8 +1,8 @@
 use Rattle.std.proofs.Common.{◌+◌, ◌-◌, length}
-use Rattle.connections.specs.Places.{IsGrown}
+use Rattle.connections.specs.Slots.{IsGrown}
 use Rattle.connections.proofs.table.grow_to.Given as goal
 
--- only places were added
+-- only slots were added
 abbrev pub invariant-loop-table : goal.invariant-loop-table
 invariant-loop-table l = IsGrown l.initial.table.items l.table.items
 

@@ -13,14 +13,14 @@ Table = List (Option ConnectionView)
 pub returns-in_err-said-clause-remembers : goal.returns-in_err-said-clause-remembers
 returns-in_err-said-clause-remembers c =
     let same : c.has_room_for.new.connections ≡ c.args.connections.now = search rules in
-    subst (λ (z : List Waiting × Table). StillRemembers c.args.line.now.items z.0 z.1 c.hear.new.self.table) (λ i. (sym c.has_room_for.ensures.line i, (same i).table))
-    (left_remembers c.args.line.now.items c.has_room_for.new.connections.table c.hear.new.self.table c.args.at c.in_err-said.ensures.left)
+    subst (λ (z : List Waiting × Table). StillRemembers c.args.queue.now.items z.0 z.1 c.hear.new.self.table) (λ i. (sym c.has_room_for.ensures.queue i, (same i).table))
+    (left_remembers c.args.queue.now.items c.has_room_for.new.connections.table c.hear.new.self.table c.args.at c.in_err-said.ensures.left)
 
 pub returns-clause-remembers : goal.returns-clause-remembers
 returns-clause-remembers c =
     let same : c.has_room_for.new.connections ≡ c.args.connections.now = search rules in
-    subst (λ (z : List Waiting × List Waiting × Table). StillRemembers z.0 z.1 z.2 c.hear.new.self.table) (λ i. (c.has_room_for.ensures.line i, sym c.line_up.ensures i, (same i).table))
-    (heard_remembers c.has_room_for.new.line.items c.has_room_for.new.connections.table c.hear.new.self.table c.args.at (record { at = c.args.at; since = c.args.micros }) refl c.hear.ensures.same_others c.in_ok-said.ensures.reads)
+    subst (λ (z : List Waiting × List Waiting × Table). StillRemembers z.0 z.1 z.2 c.hear.new.self.table) (λ i. (c.has_room_for.ensures.queue i, sym c.enqueue.ensures i, (same i).table))
+    (heard_remembers c.has_room_for.new.queue.items c.has_room_for.new.connections.table c.hear.new.self.table c.args.at (record { at = c.args.at; since = c.args.micros }) refl c.hear.ensures.same_others c.in_ok-said.ensures.reads)
 
 pub returns-clause-told : goal.returns-clause-told
 returns-clause-told c =

@@ -2,4 +2,4 @@ use Rattle.service.proofs.Ending.{all_whole}
 use Rattle.service.proofs.process_laws.services_follow_each_other.Goals as goal
 
 pub returns : goal.returns
-returns c = λ v later turns. all_whole v later turns.0 turns.1 turns.2
+returns c = λ v later follow. all_whole v later follow.0 follow.1 follow.2

@@ -13,7 +13,7 @@ returns-in-Some-clause-answers c =
       since = c.in-Some.ensures.since;
       heard = c.in-Some.ensures.others.0;
       taken = c.in-Some.ensures.others.1;
-      replied = inr (c.in-Some.ensures.replied ∙ ap (λ (n : ℕ). v.replied ++ (record { connection = n; turn = c.args.outstanding.now.assignment.turn }, c.args.reply) ∷ []) c.place-at.ensures.number);
+      replied = inr (c.in-Some.ensures.replied ∙ ap (λ (n : ℕ). v.replied ++ (record { connection = n; turn = c.args.outstanding.now.assignment.turn }, c.args.reply) ∷ []) c.connection_id-at.ensures.number);
       gives = inr (
         given,
         c.push_reserved.ensures.items,
@@ -27,5 +27,5 @@ returns-in-Some-clause-told c =
     inr (
       c.in-Some.given,
       c.push_reserved.ensures.items,
-      subst (λ (z : ℕ × ℕ). IsToldAt (record { key = z.0; number = z.1 }) c.args.connections.now.table c.answer.new.self.table c.in-Some.given) (λ i. (c.place-at.ensures.key i, c.place-at.ensures.number i)) c.in-Some.ensures.told,
+      subst (λ (z : ℕ × ℕ). IsToldAt (record { key = z.0; number = z.1 }) c.args.connections.now.table c.answer.new.self.table c.in-Some.given) (λ i. (c.connection_id-at.ensures.key i, c.connection_id-at.ensures.number i)) c.in-Some.ensures.told,
     )

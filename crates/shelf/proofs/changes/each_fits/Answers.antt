@@ -1,15 +1,15 @@
 use Rattle.std.proofs.Common.{◌≡◌, List, subst, sym, rules}
 use Rattle.std.specs.Prelude.{All}
 use Rattle.std.proofs.lemmas.List.Elements.{All-more}
-use Rattle.item_rows.specs.Placed.{PlacedItems, FitsItsPlace}
+use Rattle.item_rows.specs.RowItems.{RowItems, FitsItsRow}
 use Rattle.shelf.proofs.OpenLemmas.{take_whole}
 use Rattle.shelf.proofs.changes.each_fits.Goals as goal
 
-pub loop-placed-preserved : goal.loop-placed-preserved
-loop-placed-preserved c =
-    let h : FitsItsPlace (c.placed-item.result.0, c.as_slice.result.now) = c.fits_place.ensures.0 (search rules) in
-    let fits : FitsItsPlace c.placed-item.result = subst (λ items. FitsItsPlace (c.placed-item.result.0, items)) c.as_slice.ensures h in
-    All-more FitsItsPlace c.args.changes.now c.loop-placed.placed-index c.placed-item.result c.loop-placed-test.true c.loop-placed.invariant (subst FitsItsPlace c.placed-item.is fits)
+pub loop-row_items-preserved : goal.loop-row_items-preserved
+loop-row_items-preserved c =
+    let h : FitsItsRow (c.row_items-item.result.0, c.as_slice.result.now) = c.fits_row.ensures.0 (search rules) in
+    let fits : FitsItsRow c.row_items-item.result = subst (λ items. FitsItsRow (c.row_items-item.result.0, items)) c.as_slice.ensures h in
+    All-more FitsItsRow c.args.changes.now c.loop-row_items.row_items-index c.row_items-item.result c.loop-row_items-test.true c.loop-row_items.invariant (subst FitsItsRow c.row_items-item.is fits)
 
 pub returns : goal.returns
-returns c = λ yes. subst (All FitsItsPlace) (take_whole c.args.changes.now c.loop-placed.placed-index c.loop-placed-test.false) c.loop-placed.invariant
+returns c = λ yes. subst (All FitsItsRow) (take_whole c.args.changes.now c.loop-row_items.row_items-index c.loop-row_items-test.false) c.loop-row_items.invariant

@@ -1,5 +1,5 @@
 use Rattle.std.proofs.Common.{rules, ◌≡◌, true, sym, ap, ◌∙◌, subst}
-use Rattle.connections.specs.Places.{is_here}
+use Rattle.connections.specs.Slots.{is_here}
 use Rattle.connections.specs.Connections.{ConnectionsView, IsConnections}
 use Rattle.connections.proofs.AtLemmas.{answered_at_keeps, answer_leaves}
 use Rattle.connections.specs.Owed.{AnswersOn, BecomesAt}

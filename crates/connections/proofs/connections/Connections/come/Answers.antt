@@ -1,8 +1,8 @@
 use Rattle.std.proofs.Common.{rules, ◌≡◌, ◌≤◌, ◌<◌, ◌+◌, ℕ, List, Option, Some, sym, ap, ◌∙◌, subst, length, slice_set}
 use Rattle.connections.specs.Connection.{ConnectionView, new_connection}
-use Rattle.connections.specs.Places.{place_in}
+use Rattle.connections.specs.Slots.{slot_in}
 use Rattle.connections.specs.Connections.{ConnectionsView, IsConnections}
-use Rattle.connections.proofs.PlaceLemmas.{there, set_place}
+use Rattle.connections.proofs.SlotLemmas.{there, set_slot}
 use Rattle.connections.proofs.KeepLemmas.{grown_keeps, came_keeps}
 use Rattle.connections.proofs.connections.Connections.come.Goals as goal
 
@@ -33,5 +33,5 @@ returns-clause-here c =
     let fits : at.key < length table = search rules in
     let t = there table at.key fits in
     let set : c.put.new.table.items ≡ slice_set table at.key (Some (new_connection s.dialect at.number)) = c.put.ensures ∙ ap (λ (x : ConnectionView). slice_set table at.key (Some x)) c.new.ensures in
-    subst (λ (x : ConnectionsView). place_in c.put.new.table.items at.key ≡ Some (new_connection x.dialect at.number)) c.self.view_is
-    (ap (λ (x : List (Option ConnectionView)). place_in x at.key) set ∙ set_place table at.key (Some (new_connection s.dialect at.number)) t.0 t.1)
+    subst (λ (x : ConnectionsView). slot_in c.put.new.table.items at.key ≡ Some (new_connection x.dialect at.number)) c.self.view_is
+    (ap (λ (x : List (Option ConnectionView)). slot_in x at.key) set ∙ set_slot table at.key (Some (new_connection s.dialect at.number)) t.0 t.1)

@@ -1,5 +1,5 @@
 use Rattle.std.proofs.Common.{rules, ◌≡◌, true, ℕ, List, [], ◌∷◌, ◌++◌, sym, ap, ◌∙◌, subst}
-use Rattle.connections.specs.Places.{is_here}
+use Rattle.connections.specs.Slots.{is_here}
 use Rattle.connections.specs.Connections.{ConnectionsView, IsConnections}
 use Rattle.connections.proofs.AtLemmas.{told_at_keeps}
 use Rattle.connections.specs.Told.{IsToldAt}

@@ -1,7 +1,7 @@
 use Rattle.std.proofs.Common.{rules, ◌≡◌, true, false, ℕ, List, [], ◌∷◌, ◌++◌, sym, ap, ◌∙◌, subst}
 use Rattle.std.specs.Prelude.{Result, Ok, Err, OnErr}
 use Rattle.grammar.specs.Reads.{with_mark}
-use Rattle.connections.specs.Places.{is_of_connection, is_here, left_at, HasSameOthers, FeedsAt}
+use Rattle.connections.specs.Slots.{is_of_connection, is_here, left_at, HasSameOthers, FeedsAt}
 use Rattle.connections.specs.Connections.{ConnectionsView, IsConnections}
 use Rattle.connections.proofs.AtLemmas.{comes_so, fed_at_keeps, failed_comes, failed_leaves, closed_leaves, fed_others}
 use Rattle.connections.specs.Owed.{ReadsFurther, BecomesAt}

@@ -1,7 +1,7 @@
 use Rattle.std.proofs.Common.{◌≡◌, false, List, Option, sym, subst}
 use Rattle.connections.specs.Connection.{ConnectionView}
 use Rattle.connections.specs.Connections.{ConnectionsView, IsConnections}
-use Rattle.connections.specs.Places.{is_here, HasSameOthers}
+use Rattle.connections.specs.Slots.{is_here, HasSameOthers}
 use Rattle.connections.proofs.AtLemmas.{left_at_keeps, left_gone, left_others}
 use Rattle.connections.proofs.connections.Connections.leave.Goals as goal
 

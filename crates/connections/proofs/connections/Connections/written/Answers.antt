@@ -1,7 +1,7 @@
 use Rattle.std.proofs.Common.{List, Option, sym, ap, ◌∙◌, subst}
 use Rattle.connections.specs.Connection.{ConnectionView}
 use Rattle.connections.specs.Connections.{ConnectionsView, IsConnections}
-use Rattle.connections.specs.Places.{written_at}
+use Rattle.connections.specs.Slots.{written_at}
 use Rattle.connections.proofs.OwedLemmas.{written_keeps}
 use Rattle.connections.proofs.connections.Connections.written.Goals as goal
 

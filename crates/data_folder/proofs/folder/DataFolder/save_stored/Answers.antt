@@ -11,13 +11,13 @@ returns-in-Ok-clause-items g c =
     (on_ok_weaker c.write.result
     (λ leaves last has told.
     subst (λ (s : StateView). LeavesRecord (CrashLeaves (g.S.Store.view c.write.new.self.shelf.rows.store) (g.S.Store.recovers c.write.new.self.shelf.rows.store)) (HasItemsOf (g.S.Store.view c.write.new.self.shelf.rows.store) c.write.new.self.shelf.waiting c.write.new.self.last) (record { stamp = c.args.stamp; text = c.args.stored.now.text.items }) s) c.in-Ok.ensures.state
-    (leaves (record { stamp = c.args.stamp; text = c.args.stored.now.text.items }) c.in-Ok.ensures.turn last has
+    (leaves (record { stamp = c.args.stamp; text = c.args.stored.now.text.items }) c.in-Ok.ensures.extras last has
     (prepared_lead c.args.self.now.last last c.args.stored.now.state c.in-Ok.prepared.state c.in-Ok.prepared.changes.items has.last_is c.in-Ok.ensures.state c.in-Ok.ensures.changes told)))
     c.write.ensures.items)
 
 pub returns-in-Ok-clause-left : goal.returns-in-Ok-clause-left
 returns-in-Ok-clause-left g c = λ last has told db may.
-    elim (c.write.ensures.left (record { stamp = c.args.stamp; text = c.args.stored.now.text.items }) c.in-Ok.ensures.turn last has
+    elim (c.write.ensures.left (record { stamp = c.args.stamp; text = c.args.stored.now.text.items }) c.in-Ok.ensures.extras last has
     (prepared_lead c.args.self.now.last last c.args.stored.now.state c.in-Ok.prepared.state c.in-Ok.prepared.changes.items has.last_is c.in-Ok.ensures.state c.in-Ok.ensures.changes told) db may) [
       | inl was ↦ inl was
       | inr new ↦ inr (subst (λ (s : StateView). ∥ HoldsRecord db (record { stamp = c.args.stamp; text = c.args.stored.now.text.items }) s ∥₁) c.in-Ok.ensures.state new)

@@ -15,4 +15,4 @@ returns-in-Ok-clause-crash g c = λ found may.
 
 pub returns-in-Ok-clause-items : goal.returns-in-Ok-clause-items
 returns-in-Ok-clause-items g c =
-    record_saved g.F.SaveCopy.may_leave g.F.SaveCopy.has_items c.args.kept.now c.in-Ok.stored.text.items c.in-Ok.stored.state _ c.args.self.now.places.items c.save_stored.new.self.places.items c.in-Ok.ensures.state c.save_stored.ensures.items
+    record_saved g.F.SaveCopy.may_leave g.F.SaveCopy.has_items c.args.kept.now c.in-Ok.stored.text.items c.in-Ok.stored.state _ c.args.self.now.slots.items c.save_stored.new.self.slots.items c.in-Ok.ensures.state c.save_stored.ensures.items

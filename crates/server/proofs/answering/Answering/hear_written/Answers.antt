@@ -1,5 +1,5 @@
 use Rattle.std.proofs.Common.{◌≡◌, inl, inr, ap, subst, refl}
-use Rattle.connections.specs.Places.{left_at, written_at}
+use Rattle.connections.specs.Slots.{left_at, written_at}
 use Rattle.server.specs.Answering.{AnsweringView}
 use Rattle.server.proofs.HandLemmas.{says_nothing}
 use Rattle.server.proofs.answering.Answering.hear_written.Goals as goal

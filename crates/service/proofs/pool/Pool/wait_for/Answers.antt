@@ -6,4 +6,4 @@ use Rattle.service.proofs.pool.Pool.wait_for.Goals as goal
 
 pub returns-clause-adds : goal.returns-clause-adds
 returns-clause-adds c =
-    subst (λ (v : List (Option Outstanding)). AddsWait v c.args.outstanding.assignment c.wait_at.new.waiting.items) c.self.view_is (subst (AddsWait c.self.inside.waiting.items c.args.outstanding.assignment) (sym c.wait_at.ensures) (adds_set c.self.inside.waiting.items c.place_of-at.result c.args.outstanding c.place_of-at.ensures))
+    subst (λ (v : List (Option Outstanding)). AddsWait v c.args.outstanding.assignment c.wait_at.new.waiting.items) c.self.view_is (subst (AddsWait c.self.inside.waiting.items c.args.outstanding.assignment) (sym c.wait_at.ensures) (adds_set c.self.inside.waiting.items c.slot_of-at.result c.args.outstanding c.slot_of-at.ensures))

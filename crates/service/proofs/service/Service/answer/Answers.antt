@@ -6,7 +6,7 @@ use Rattle.service.proofs.MomentLemmas.{same_moments, answered_moments, given_ha
 use Rattle.service.specs.declared.assignment.Outstanding.{Outstanding}
 use Rattle.service.specs.Owed.{Remembers}
 use Rattle.service.proofs.OwedLemmas.{gives_nothing, gives_back}
-use Rattle.service.proofs.KeepLemmas.{tended_keeps, ends_keeps, replied_keeps, gives_one, gives_none, lined}
+use Rattle.service.proofs.KeepLemmas.{tended_keeps, ends_keeps, replied_keeps, gives_one, gives_none, requeued}
 use Rattle.service.specs.Told.{TellsIn}
 use Rattle.service.proofs.ToldLemmas.{tells_more, tells_same}
 use Rattle.service.proofs.service.Service.answer.Goals as goal
@@ -14,20 +14,20 @@ use Rattle.service.proofs.service.Service.answer.Goals as goal
 pub invariant_of-self : goal.invariant_of-self
 invariant_of-self c =
     let s = c.self.inside in
-    let v : ServiceView = record { connections = s.connections; asked = s.ensemble.asked; answered = s.ensemble.answered; order = s.ensemble.order; assignments = assigned s.assignments.items; waiting = s.pool; line = s.line.items; replicas = none_shown } in
+    let v : ServiceView = record { connections = s.connections; asked = s.ensemble.asked; answered = s.ensemble.answered; order = s.ensemble.order; assignments = assigned s.assignments.items; waiting = s.pool; queue = s.queue.items; replicas = none_shown } in
     let none : c.answered.result ≡ None = search rules in
-    (tended_keeps v s.ensemble.asked s.ensemble.answered s.ensemble.order c.answered.new.self c.self.invariant.0 refl refl refl (ends_keeps s.pool c.answered.new.self c.args.answer.proxy c.args.answer.number c.answered.result c.answered.ensures.ends), same_moments v (record v { waiting = c.answered.new.self }) c.self.invariant.1 refl refl refl refl refl, c.self.invariant.2, subst (λ (p : List (Option Outstanding)). Remembers s.line.items p s.connections.table) (sym (gives_nothing _ c.args.answer.proxy c.args.answer.number s.pool c.answered.new.self c.answered.result none c.answered.ensures.at)) c.self.invariant.3)
+    (tended_keeps v s.ensemble.asked s.ensemble.answered s.ensemble.order c.answered.new.self c.self.invariant.0 refl refl refl (ends_keeps s.pool c.answered.new.self c.args.answer.proxy c.args.answer.number c.answered.result c.answered.ensures.ends), same_moments v (record v { waiting = c.answered.new.self }) c.self.invariant.1 refl refl refl refl refl, c.self.invariant.2, subst (λ (p : List (Option Outstanding)). Remembers s.queue.items p s.connections.table) (sym (gives_nothing _ c.args.answer.proxy c.args.answer.number s.pool c.answered.new.self c.answered.result none c.answered.ensures.at)) c.self.invariant.3)
 
 pub invariant_of-self-2 : goal.invariant_of-self-2
 invariant_of-self-2 c =
     let s = c.self.inside in
-    let v : ServiceView = record { connections = s.connections; asked = s.ensemble.asked; answered = s.ensemble.answered; order = s.ensemble.order; assignments = assigned s.assignments.items; waiting = s.pool; line = s.line.items; replicas = none_shown } in
+    let v : ServiceView = record { connections = s.connections; asked = s.ensemble.asked; answered = s.ensemble.answered; order = s.ensemble.order; assignments = assigned s.assignments.items; waiting = s.pool; queue = s.queue.items; replicas = none_shown } in
     let logged : Contains v.answered (answer_entry c.args.answer) = subst (λ (x : ServiceView). Contains x.answered (answer_entry c.args.answer)) (sym c.self.view_is) c.requires.logged in
     let ordered : Contains v.order (order_entry c.args.answer) = subst (λ (x : ServiceView). Contains x.order (order_entry c.args.answer)) (sym c.self.view_is) c.requires.ordered in
-    let now : ServiceView = record v { connections = c.answer_to.new.connections; waiting = c.answered.new.self; line = c.answer_to.new.line.items } in
+    let now : ServiceView = record v { connections = c.answer_to.new.connections; waiting = c.answered.new.self; queue = c.answer_to.new.queue.items } in
     let o = c.in-Some.outstanding in
     let back = gives_back _ c.args.answer.proxy c.args.answer.number s.pool c.answered.new.self o c.in-Some.ensures.at in
-    let ok = lined (record v { connections = c.answer_to.new.connections; waiting = c.answered.new.self }) c.answer_to.new.line.items (replied_keeps v c.answer_to.new.connections c.answered.new.self o c.args.answer.proxy c.args.answer.number c.args.answer.reply _ _ c.self.invariant.0 logged ordered c.in-Some.ensures.ends back c.answer_to.ensures.answers) in
+    let ok = requeued (record v { connections = c.answer_to.new.connections; waiting = c.answered.new.self }) c.answer_to.new.queue.items (replied_keeps v c.answer_to.new.connections c.answered.new.self o c.args.answer.proxy c.args.answer.number c.args.answer.reply _ _ c.self.invariant.0 logged ordered c.in-Some.ensures.ends back c.answer_to.ensures.answers) in
     (ok, answered_moments v now _ _ c.self.invariant.1 c.answer_to.ensures.answers.dialect refl refl refl c.answer_to.ensures.answers.gives (moment_now now ok c.always.ensures.connections c.always.ensures.history (given_handed v v.order c.answer_to.new.connections _ _ c.self.invariant.1 refl (gives_one s.connections c.answer_to.new.connections _ _ c.answer_to.ensures.answers.gives))), c.self.invariant.2, c.answer_to.ensures.remembers s.pool c.answered.new.self back c.self.invariant.3)
 
 pub returns-clause-given : goal.returns-clause-given

@@ -8,7 +8,7 @@ invariant-loop-answer l = record {
   logged : AreLogged l.answers.items l.self.answered l.self.order;
   given : Gives l.initial.self.connections l.initial.said.items l.self.connections l.said.items;
   tells : TellsMore l.initial.self l.initial.said.items l.self l.said.items;
-  none : l.initial.answers.items ≡ [] → (l.answers.items ≡ []) × (l.self.line ≡ l.initial.self.line) × (l.self.waiting ≡ l.initial.self.waiting);
+  none : l.initial.answers.items ≡ [] → (l.answers.items ≡ []) × (l.self.queue ≡ l.initial.self.queue) × (l.self.waiting ≡ l.initial.self.waiting);
   answered : l.self.answered ≡ l.initial.self.answered;
   heard : l.self.connections.heard ≡ l.initial.self.connections.heard;
   process : IsSameProcess l.initial.self l.self;

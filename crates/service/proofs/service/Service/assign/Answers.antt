@@ -8,32 +8,32 @@ use Rattle.connections.specs.declared.said.Said.{Said}
 use Rattle.service.specs.Told.{TellsIn}
 use Rattle.service.proofs.ToldLemmas.{assign_tells, shorter, tells_same}
 use Rattle.service.proofs.MomentLemmas.{assigned_moments, given_handed, asked_moments, moment_now}
-use Rattle.service.proofs.KeepLemmas.{assign_keeps, assign_gives, assign_size, lined, asks_same}
+use Rattle.service.proofs.KeepLemmas.{assign_keeps, assign_gives, assign_size, requeued, asks_same}
 use Rattle.service.proofs.NodeLemmas.{size_keeps}
 use Rattle.service.proofs.OwedLemmas.{assign_remembers}
 use Rattle.service.proofs.service.Service.assign.Goals as goal
 
--- nobody was in the line
+-- nobody was in the queue
 pub invariant_of-self-in_default-pop_front : goal.invariant_of-self-in_default-pop_front
 invariant_of-self-in_default-pop_front c =
     let s = c.self.inside in
-    let v : ServiceView = record { connections = s.connections; asked = s.ensemble.asked; answered = s.ensemble.answered; order = s.ensemble.order; assignments = assigned s.assignments.items; waiting = s.pool; line = s.line.items; replicas = none_shown } in
+    let v : ServiceView = record { connections = s.connections; asked = s.ensemble.asked; answered = s.ensemble.answered; order = s.ensemble.order; assignments = assigned s.assignments.items; waiting = s.pool; queue = s.queue.items; replicas = none_shown } in
     let none : c.pop_front.result ≡ None = search rules in
-    let same : s.line.items ≡ c.pop_front.new.self.items = c.pop_front.ensures.items ∙ ap (λ (w : Option Waiting). option_to_list w ++ c.pop_front.new.self.items) none in
-    (lined v c.pop_front.new.self.items c.self.invariant.0, c.self.invariant.1, c.self.invariant.2, subst (λ (line : List Waiting). Remembers line s.pool s.connections.table) same c.self.invariant.3)
+    let same : s.queue.items ≡ c.pop_front.new.self.items = c.pop_front.ensures.items ∙ ap (λ (w : Option Waiting). option_to_list w ++ c.pop_front.new.self.items) none in
+    (requeued v c.pop_front.new.self.items c.self.invariant.0, c.self.invariant.1, c.self.invariant.2, subst (λ (queue : List Waiting). Remembers queue s.pool s.connections.table) same c.self.invariant.3)
 
 pub invariant_of-self-2 : goal.invariant_of-self-2
 invariant_of-self-2 c =
     let s = c.self.inside in
-    let v : ServiceView = record { connections = s.connections; asked = s.ensemble.asked; answered = s.ensemble.answered; order = s.ensemble.order; assignments = assigned s.assignments.items; waiting = s.pool; line = s.line.items; replicas = none_shown } in
+    let v : ServiceView = record { connections = s.connections; asked = s.ensemble.asked; answered = s.ensemble.answered; order = s.ensemble.order; assignments = assigned s.assignments.items; waiting = s.pool; queue = s.queue.items; replicas = none_shown } in
     let next = c.ask-asking.new.connections in
     let f = c.ask-asking.new.ensemble in
     let w : Waiting = c.in-Some-pop_front.waiting in
-    let line = c.pop_front.new.self.items in
-    let now : ServiceView = record { connections = next; asked = f.asked; answered = f.answered; order = f.order; assignments = assigned c.settle.new.assignments.items; waiting = c.settle.new.pool; line = line; replicas = none_shown } in
-    let popped : s.line.items ≡ w ∷ line = c.in-Some-pop_front.ensures.items in
-    let ok = assign_keeps v _ _ next s.ensemble f c.ask-asking.result s.pool c.settle.new.pool (assigned c.settle.new.assignments.items) _ _ w.at.key line c.self.invariant.0 refl refl refl refl c.in-Some.ensures.pool c.ask-asking.ensures.asks c.settle.ensures in
-    let remembers = assign_remembers line w s.pool c.settle.new.pool s.connections next c.in-Some.proxy s.ensemble f c.ask-asking.result _ _ _ _ c.in-Some.ensures.pool c.ask-asking.ensures.asks c.settle.ensures (subst (λ (l : List Waiting). Remembers l s.pool s.connections.table) popped c.self.invariant.3) in
+    let queue = c.pop_front.new.self.items in
+    let now : ServiceView = record { connections = next; asked = f.asked; answered = f.answered; order = f.order; assignments = assigned c.settle.new.assignments.items; waiting = c.settle.new.pool; queue = queue; replicas = none_shown } in
+    let popped : s.queue.items ≡ w ∷ queue = c.in-Some-pop_front.ensures.items in
+    let ok = assign_keeps v _ _ next s.ensemble f c.ask-asking.result s.pool c.settle.new.pool (assigned c.settle.new.assignments.items) _ _ w.at.key queue c.self.invariant.0 refl refl refl refl c.in-Some.ensures.pool c.ask-asking.ensures.asks c.settle.ensures in
+    let remembers = assign_remembers queue w s.pool c.settle.new.pool s.connections next c.in-Some.proxy s.ensemble f c.ask-asking.result _ _ _ _ c.in-Some.ensures.pool c.ask-asking.ensures.asks c.settle.ensures (subst (λ (l : List Waiting). Remembers l s.pool s.connections.table) popped c.self.invariant.3) in
     (ok, assigned_moments v now _ _ s.ensemble f c.ask-asking.result s.pool _ _ w.at.key c.self.invariant.1 refl refl refl refl c.ask-asking.ensures.asks c.settle.ensures (moment_now now ok c.always.ensures.connections c.always.ensures.history (given_handed v f.order next _ _ c.self.invariant.1 (asked_moments _ _ _ next s.ensemble f c.ask-asking.result c.ask-asking.ensures.asks) (assign_gives _ _ s.connections next s.ensemble f c.ask-asking.result s.pool c.settle.new.pool _ (assigned c.settle.new.assignments.items) _ _ w.at.key c.ask-asking.ensures.asks c.settle.ensures))), size_keeps s.u s.nodes.members s.ensemble.nodes f.nodes s.nodes.pauses.items c.self.invariant.2 (assign_size w.at c.in-Some.proxy s.connections next s.ensemble f c.ask-asking.result c.ask-asking.ensures.asks), remembers)
 
 pub returns-clause-tells : goal.returns-clause-tells
@@ -60,7 +60,7 @@ returns-clause-process c =
 pub returns-clause-goes_on : goal.returns-clause-goes_on
 returns-clause-goes_on c = λ yes.
     let s = c.self.inside in
-    subst (λ (x : ServiceView). length c.pop_front.new.self.items < length x.line) c.self.view_is (shorter s.line.items c.pop_front.new.self.items c.in-Some-pop_front.waiting c.in-Some-pop_front.ensures.items)
+    subst (λ (x : ServiceView). length c.pop_front.new.self.items < length x.queue) c.self.view_is (shorter s.queue.items c.pop_front.new.self.items c.in-Some-pop_front.waiting c.in-Some-pop_front.ensures.items)
 
 pub returns-then-is_err-clause-tells : goal.returns-then-is_err-clause-tells
 returns-then-is_err-clause-tells c =

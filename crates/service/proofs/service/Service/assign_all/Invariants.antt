@@ -15,6 +15,6 @@ invariant-loop-alloc l = record {
   size : size_of l.self.replicas.ensemble.nodes ≡ size_of l.initial.self.replicas.ensemble.nodes;
 }
 
--- each that is asked leaves the line
+-- each that is asked leaves the queue
 abbrev pub decreases-loop-alloc : goal.decreases-loop-alloc
-decreases-loop-alloc l = length l.self.line
+decreases-loop-alloc l = length l.self.queue

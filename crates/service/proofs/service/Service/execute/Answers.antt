@@ -9,7 +9,7 @@ use Rattle.service.proofs.service.Service.execute.Goals as goal
 pub invariant_of-self : goal.invariant_of-self
 invariant_of-self g c =
     let s = c.self.inside in
-    let v : ServiceView = record { connections = s.connections; asked = s.ensemble.asked; answered = s.ensemble.answered; order = s.ensemble.order; assignments = assigned s.assignments.items; waiting = s.pool; line = s.line.items; replicas = none_shown } in
+    let v : ServiceView = record { connections = s.connections; asked = s.ensemble.asked; answered = s.ensemble.answered; order = s.ensemble.order; assignments = assigned s.assignments.items; waiting = s.pool; queue = s.queue.items; replicas = none_shown } in
     let now : IsPassedNow s.connections.passed c.args.moment = subst (λ (x : ServiceView). IsPassedNow x.connections.passed c.args.moment) (sym c.self.view_is) c.requires in (
       worked_keeps v c.work.new.self.asked c.work.new.self.answered c.work.new.self.order c.args.moment c.work.result.items c.self.invariant.0 c.work.ensures.asked c.work.ensures.answered c.work.ensures.order,
       worked_moments v c.work.new.self.asked c.work.new.self.answered c.work.new.self.order c.args.moment c.work.result.items c.self.invariant.1 c.work.ensures.answered c.work.ensures.order now,

@@ -9,8 +9,8 @@ use Rattle.service.proofs.service.Service.is_waiting.Goals as goal
 pub returns : goal.returns
 returns c = record {
   no = λ up.
-      let line = c.self.inside.line in
-      let none : length line.items ≡ 0 = sym line.ok.0 ∙ eqb-true line.len 0 (sym c.is_empty.ensures ∙ c.if-not-is_empty.false) in
-      subst (λ (v : ServiceView). (v.line ≡ []) × NoneWaits v.waiting) c.self.view_is (nil_from_length line.items none, c.is_waiting.ensures.no c.if-is_waiting.false);
+      let queue = c.self.inside.queue in
+      let none : length queue.items ≡ 0 = sym queue.ok.0 ∙ eqb-true queue.len 0 (sym c.is_empty.ensures ∙ c.if-not-is_empty.false) in
+      subst (λ (v : ServiceView). (v.queue ≡ []) × NoneWaits v.waiting) c.self.view_is (nil_from_length queue.items none, c.is_waiting.ensures.no c.if-is_waiting.false);
   up = c.is_any_down.ensures;
 }

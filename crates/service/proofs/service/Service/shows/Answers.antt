@@ -9,7 +9,7 @@ use Rattle.service.proofs.service.Service.shows.Goals as goal
 pub returns : goal.returns
 returns c =
     let s = c.self.inside in
-    let alone : ServiceView = record { connections = s.connections; asked = s.ensemble.asked; answered = s.ensemble.answered; order = s.ensemble.order; assignments = assigned s.assignments.items; waiting = s.pool; line = s.line.items; replicas = none_shown } in
+    let alone : ServiceView = record { connections = s.connections; asked = s.ensemble.asked; answered = s.ensemble.answered; order = s.ensemble.order; assignments = assigned s.assignments.items; waiting = s.pool; queue = s.queue.items; replicas = none_shown } in
     let v : ServiceView = record alone { replicas = record { ensemble = s.ensemble; refused = s.refused + s.ensemble.refused; pauses = s.nodes.pauses.items } } in
     let own : IsServiceAlone v = record {
       connections = c.always.ensures.connections;

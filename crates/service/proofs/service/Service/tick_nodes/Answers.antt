@@ -10,7 +10,7 @@ loop-at-preserved c =
     record {
       connections = is.connections ∙ was.connections;
       size = is.size ∙ was.size;
-      asks = record { asked = is.asks.asked ∙ was.asks.asked; answered = is.asks.answered ∙ was.asks.answered; order = is.asks.order ∙ was.asks.order; assignments = is.asks.assignments ∙ was.asks.assignments; line = is.asks.line ∙ was.asks.line; found = is.asks.found ∙ was.asks.found };
+      asks = record { asked = is.asks.asked ∙ was.asks.asked; answered = is.asks.answered ∙ was.asks.answered; order = is.asks.order ∙ was.asks.order; assignments = is.asks.assignments ∙ was.asks.assignments; queue = is.asks.queue ∙ was.asks.queue; found = is.asks.found ∙ was.asks.found };
       waiting = is.waiting ∙ was.waiting;
       counted = let a = was.counted in let b = is.counted in omega (arith, a, b);
       ticked = one_ticked c.loop-at.at c.args.self.now.replicas c.loop-at.self.replicas c.tick_node.new.self.replicas is.ticks.0 was.counted is.counted is.ticks.1 is.ticks.2 is.others _ refl was.ticked;

@@ -10,7 +10,7 @@ loop-at-preserved c =
     record {
       connections = is.connections ∙ was.connections;
       size = is.size ∙ was.size;
-      asks = record { asked = is.asks.asked ∙ was.asks.asked; answered = is.asks.answered ∙ was.asks.answered; order = is.asks.order ∙ was.asks.order; assignments = is.asks.assignments ∙ was.asks.assignments; line = is.asks.line ∙ was.asks.line; found = is.asks.found ∙ was.asks.found };
+      asks = record { asked = is.asks.asked ∙ was.asks.asked; answered = is.asks.answered ∙ was.asks.answered; order = is.asks.order ∙ was.asks.order; assignments = is.asks.assignments ∙ was.asks.assignments; queue = is.asks.queue ∙ was.asks.queue; found = is.asks.found ∙ was.asks.found };
       paused = is.paused ∙ was.paused;
       counted = let a = was.counted in let b = is.counted in omega (arith, a, b);
       waited = one_set (Waited _ _) c.loop-at.at _ _ _ _ refl was.waited (patience_sets _ _ c.loop-at.at _ _ is.waits);
