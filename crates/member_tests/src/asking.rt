@@ -3,12 +3,12 @@
 ghost use Rattle.std.specs.Prelude.{IfOk};
 ghost use Rattle.memcached_spec.specs.Asked.{HasText};
 
-use connections::{Connections, Place, Ready};
+use connections::{ConnectionId, Connections, Ready};
 use grammar::{Conditions, Dialect};
 use proto::Fault;
 use std::alloc::Global;
 
-const HERE: Place = Place { key: 0, number: 0 };
+const HERE: ConnectionId = ConnectionId { key: 0, number: 0 };
 
 /// The first command that these bytes ask. Unfit: they ask none.
 pub fn asked(alloc: Global, bytes: &[u8]) -> Result<Ready, Fault>
