@@ -251,9 +251,9 @@ const ROWS: [(&str, Row); 4] = [
 ];
 
 fn first_wrong(alloc: Global) -> Option<&'static str> {
-    for (name, row) in ROWS {
-        if is_row(alloc, row).is_err() {
-            return Some(name);
+    for (name, row) in &ROWS {
+        if is_row(alloc, *row).is_err() {
+            return Some(*name);
         }
     }
     None

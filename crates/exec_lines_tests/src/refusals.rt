@@ -242,11 +242,11 @@ const LINES: [Lines; 7] = [
 fn play(alloc: Global, leader: &mut Executor, other: &mut Executor) -> Result<(), Fault> {
     let mut told = none_told();
     let mut said = Vec::new(alloc);
-    for (id, lines) in LINES {
-        if id == LEADER {
-            gives_all(alloc, leader, &mut told, &mut said, lines)?;
+    for (id, lines) in &LINES {
+        if *id == LEADER {
+            gives_all(alloc, leader, &mut told, &mut said, *lines)?;
         } else {
-            gives_all(alloc, other, &mut told, &mut said, lines)?;
+            gives_all(alloc, other, &mut told, &mut said, *lines)?;
         }
     }
     Ok(())

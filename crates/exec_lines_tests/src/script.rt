@@ -260,7 +260,7 @@ pub fn wrong_in(alloc: Global, state: State, script: Script) -> Option<(usize, b
 
 #[test]
 fn each_script_is_played(rt: HostRuntime) -> Result<(), Fail> {
-    for scripts in [
+    for scripts in &[
         crate::adopting::SCRIPTS,
         crate::asked::SCRIPTS,
         crate::chains::SCRIPTS,
@@ -271,7 +271,7 @@ fn each_script_is_played(rt: HostRuntime) -> Result<(), Fail> {
         crate::told::SCRIPTS,
         crate::working::SCRIPTS,
     ] {
-        assert_eq!(rt; wrong_script(rt.alloc(), scripts)?, None);
+        assert_eq!(rt; wrong_script(rt.alloc(), *scripts)?, None);
     }
     Ok(())
 }

@@ -98,7 +98,7 @@ const ROWS: [(Record, Expected); 4] = [
 #[test]
 fn an_executor_goes_on_from_an_old_record(rt: HostRuntime) -> Result<(), Fail> {
     for (place, row) in ROWS.iter().enumerate() {
-        assert_eq!(rt; is_row(rt.alloc(), *row), Ok(true), "row {place}");
+        assert!(rt; is_row(rt.alloc(), *row) == Ok(true), "row {place}");
     }
     Ok(())
 }

@@ -49,12 +49,12 @@ fn add_seventeen(alloc: Global, group: &mut Vec<Task>) -> Result<(), AllocError>
 
 #[test]
 fn a_gate_is_told_of_each_step_and_its_page(rt: HostRuntime) -> Result<(), Fail> {
-    for workers in [1usize, 4] {
+    for workers in &[1usize, 4] {
         let gate = Counts::new();
         let mut group = Vec::new(rt.alloc());
         add_seventeen(rt.alloc(), &mut group)?;
-        let ran = run_through(&rt, rt.alloc(), group, workers, &gate);
-        assert_eq!(rt; (ran, gate.counts()), (Ok(()), (19, 19, 0)));
+        let ran = run_through(&rt, rt.alloc(), group, *workers, &gate);
+        assert!(rt; (ran, gate.counts()) == (Ok(()), (19, 19, 0)));
     }
     Ok(())
 }
@@ -93,8 +93,12 @@ const ROWS: [(&str, [u8; 2], Waits, u64); 3] = [
 
 #[test]
 fn steps_meet(rt: HostRuntime) -> Result<(), Fail> {
-    for (name, keys, waits, met) in ROWS {
-        assert_eq!(rt; meet(&rt, rt.alloc(), keys, waits), Ok(met), "{}", name);
+    for (name, keys, waits, met) in &ROWS {
+        assert!(rt;
+            meet(&rt, rt.alloc(), *keys, *waits) == Ok(*met),
+            "{}",
+            name
+        );
     }
     Ok(())
 }

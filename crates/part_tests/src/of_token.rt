@@ -134,8 +134,8 @@ fn digests_and_records(rt: HostRuntime) -> Result<(), Fail> {
         "an old root"
     );
     assert!(rt; page_digest(&[]) == EMPTY_PAGE, "an empty page");
-    for (form, mark) in [(Form::Old, 1), (Form::Current, 2), (Form::Tree, 3)] {
-        assert!(rt; is_form(rt.alloc(), form, mark)?, "form {mark}");
+    for (form, mark) in &[(Form::Old, 1), (Form::Current, 2), (Form::Tree, 3)] {
+        assert!(rt; is_form(rt.alloc(), *form, *mark)?, "form {mark}");
     }
     assert!(rt;
         is_no_form(rt.alloc(), 0) && is_no_form(rt.alloc(), 4),

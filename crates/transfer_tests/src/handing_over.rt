@@ -245,8 +245,8 @@ fn is_so(alloc: Global, case: &Case) -> Result<bool, Fault> {
 
 #[test]
 fn states_are_handed_over(rt: HostRuntime) -> Result<(), Fail> {
-    for case in CASES {
-        assert_eq!(rt; is_so(rt.alloc(), &case), Ok(true), "{}", case.name);
+    for case in &CASES {
+        assert!(rt; is_so(rt.alloc(), case) == Ok(true), "{}", case.name);
     }
     Ok(())
 }
@@ -267,6 +267,6 @@ fn is_so_over_first(alloc: Global) -> Result<bool, Fault> {
 
 #[test]
 fn a_state_is_handed_over_to_the_first_state(rt: HostRuntime) -> Result<(), Fail> {
-    assert_eq!(rt; is_so_over_first(rt.alloc()), Ok(true));
+    assert!(rt; is_so_over_first(rt.alloc()) == Ok(true));
     Ok(())
 }
