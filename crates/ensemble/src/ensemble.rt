@@ -60,7 +60,7 @@ impl Ensemble {
     ghost use Rattle.std.specs.Prelude.{◌≡◌, ◌<◌, ◌≤◌, ◌-◌, ◌^◌, ◌++◌, ◌∷◌, [], IfOk, IfErr, OnErr, IsTrue, ◌⊎◌, Err, true, false, length};
     ghost use Rattle.verifier.specs.declared.input.Input.TheVariants.{Suspect};
     ghost use Rattle.proto.specs.declared.command.Command.{Command};
-    ghost use Rattle.ensemble.specs.Nodes.{IsFree, VerifierMoves, VerifierGets, size_of};
+    ghost use Rattle.ensemble.specs.Nodes.{IsFree, AsksAgain, VerifierMoves, VerifierGets, size_of};
     ghost use Rattle.ensemble.specs.Shown.{is_free_at, is_up_at, latest_epoch, is_quiet};
     ghost use Rattle.events.specs.declared.event.Replica.TheVariants as replica;
     ghost use Rattle.ensemble.specs.Calls.{RefusedNothing, IsReopened, IsReopenedAndPosts, AllCollected};
@@ -130,8 +130,10 @@ impl Ensemble {
     }
 
     /// What the proxy of this number has outstanding is sent to all executors once more, if it has something
-    /// outstanding. If there is no memory for that it is lost, which is counted (`refused`).
+    /// outstanding. If there is no memory for that it is lost, which is counted (`refused`). All replicas and proxies are
+    /// as they were.
     pub fn again(&mut self, alloc: Global, proxy: u16)
+        ensures asks { AsksAgain self.old.nodes proxy self.new.nodes }
         ensures asked { self.new.asked ≡ self.old.asked }
         ensures found { self.new.found ≡ self.old.found }
         ensures answered { self.new.answered ≡ self.old.answered }

@@ -7,7 +7,14 @@ use Rattle.connections.proofs.PlaceLemmas.{set_get, set_other, same_or_not}
 use Rattle.events.specs.declared.event.Replica.{Replica}
 use Rattle.events.specs.declared.event.Replica.TheVariants.{Executor, Verifier}
 use Rattle.hosts.specs.Host.{HostReopens}
-use Rattle.ensemble.specs.Nodes.{NodesView, size_of, AtHostIn, AtVerifierIn, VerifierOpens}
+use Rattle.decrees.specs.declared.node.Letter.{Letter}
+use Rattle.decrees.specs.declared.ballot.Ballot.{Ballot}
+use Rattle.verifier.specs.declared.input.Input.TheVariants.{Suspect}
+use Rattle.verifier.specs.Verifier.{VerifierView}
+use Rattle.worlds.specs.Slot.{Slot}
+use Rattle.worlds.specs.declared.slot.Slot.TheVariants.{Up, Down, Gone}
+use Rattle.worlds.specs.Slots.{VerifierSettles}
+use Rattle.ensemble.specs.Nodes.{NodesView, size_of, AsksAgain, AtHostIn, AtVerifierIn, VerifierMoves, VerifierGets, VerifierOpens}
 use Rattle.ensemble.specs.First.{AreAllUp}
 use Rattle.ensemble.specs.Shown.{is_host_up, is_place_up, is_up_at}
 use Rattle.ensemble.specs.Calls.{IsReopened}
@@ -15,7 +22,7 @@ use Rattle.service.specs.declared.pause.Pause.{Pause}
 use Rattle.service.specs.Pause.{first_pause}
 use Rattle.service.specs.Service.{ReplicasView}
 use Rattle.service.specs.Told.{UnlessRefused}
-use Rattle.service.specs.Ticks.{replica_at, is_up_in, HavePauses, pause_after, is_opened, NodeTicksIn, NodeTicks, HavePaused, OthersStay, IsOpenedIf, HasTicked, NodeHasTicked, NodesHaveTicked}
+use Rattle.service.specs.Ticks.{replica_at, is_up_in, HavePauses, pause_after, is_opened, NodeTicksIn, NodeTicks, HavePaused, OthersStay, IsOpenedIf, HasTicked, IsFoundAs, AllStay, VerifiersMayStop, NodeHasTicked, NodesHaveTicked}
 use Rattle.service.proofs.Lists.{below_or_not}
 
 -- ---- places
@@ -24,18 +31,18 @@ abbrev place_of_node : ℕ → Replica → ℕ
 place_of_node members (Executor id) = id
 place_of_node members (Verifier id) = members + id
 
+not_below : (members at : ℕ) → nat_lt at members ≡ false → members ≤ at
+not_below members at above = ⊎_elim
+    (λ (less : at < members). let clash : true ≡ false = sym (lt-ltb at members less) ∙ above in absurd (cc clash))
+    (λ (more : members ≤ at). more)
+    (below_or_not at members)
+
 place_back : (members at : ℕ) → place_of_node members (replica_at members at) ≡ at
 place_back members at = by (nat_lt at members) refl
   where
-    not_below : nat_lt at members ≡ false → members ≤ at
-    not_below above = ⊎_elim
-        (λ (less : at < members). let clash : true ≡ false = sym (lt-ltb at members less) ∙ above in absurd (cc clash))
-        (λ (more : members ≤ at). more)
-        (below_or_not at members)
-
     by : (b : Bool) → nat_lt at members ≡ b → place_of_node members (if b then Executor at else Verifier (at - members)) ≡ at
     by true is = refl
-    by false is = let more = not_below is in omega (arith, more)
+    by false is = let more = not_below members at is in omega (arith, more)
 
 -- nodes at two places are two
 others_differ : (members at other : ℕ) → other ≢ at → replica_at members other ≢ replica_at members at
@@ -45,7 +52,7 @@ others_differ members at other differs same = differs (sym (place_back members o
 
 -- what is at another place stays, if at most one place is set
 module _ {X : Type 0} (In : Option X → Type 0) (old now : List X) (id k : ℕ) (differs : k ≢ id) (none : In None → now ≡ old) (some : (x : X) → In (Some x) → (left : X) × (now ≡ slice_set old id left)) where
-  at_other : (o : Option X) → In o → slice_get now k ≡ slice_get old k
+  pub at_other : (o : Option X) → In o → slice_get now k ≡ slice_get old k
   at_other None is = ap (λ (xs : List X). slice_get xs k) (none is)
   at_other (Some x) is = let s = some x is in ap (λ (xs : List X). slice_get xs k) s.1 ∙ set_other old id s.0 k differs
 
@@ -75,7 +82,7 @@ module _ (n now : NodesView) where
       (λ (here : id ≤ 2 * n.u). verifier_opened id r differs here is)
       (below_or_not (2 * n.u) id)
 
-same_u : (n now : NodesView) → size_of now ≡ size_of n → now.u ≡ n.u
+pub same_u : (n now : NodesView) → size_of now ≡ size_of n → now.u ≡ n.u
 same_u n now size = ap (λ (z : ℕ × ℕ × ℕ × ℕ). z.0) size
 
 pub others_stay : (at : ℕ) (n now : NodesView) → size_of now ≡ size_of n → IsReopened (replica_at (2 * n.u + 1) at) n now → OthersStay at n now
@@ -90,6 +97,67 @@ opened_here at replica n now is_back here size up back =
 
 pub same_stay : (at : ℕ) (n now : NodesView) → now ≡ n → OthersStay at n now
 same_stay at n now same other differs = ap (λ (x : NodesView). is_up_in x other) same
+
+-- ---- nodes stay, or a verifier stops
+
+-- a request is asked again: replicas are as they were
+pub again_stays : (n : NodesView) (number : ℕ) (now : NodesView) → AsksAgain n number now → AllStay n now
+again_stays n number now asks at = ⊎_elim (λ posted. ap (λ (x : NodesView). is_up_in x at) posted.2.after) (λ (same : now ≡ n). ap (λ (x : NodesView). is_up_in x at) same) asks
+
+pub stay_on : (n mid now : NodesView) → AllStay n mid → AllStay mid now → AllStay n now
+stay_on n mid now first then at = then at ∙ first at
+
+-- it is found as it was before a call that came before
+pub found_since : (n mid : NodesView) (at : ℕ) (is_up : Bool) → size_of mid ≡ size_of n → IsFoundAs n at (is_up_in mid at) → IsFoundAs mid at is_up → IsFoundAs n at is_up
+found_since n mid at is_up size was is = ⊎_elim
+    (λ (same : is_up ≡ is_up_in mid at). ⊎_elim
+        (λ (before : is_up_in mid at ≡ is_up_in n at). inl (same ∙ before))
+        (λ (stopped : (2 * n.u + 1 ≤ at) × (is_up_in mid at ≡ false)). inr (stopped.0, same ∙ stopped.1))
+        was)
+    (λ (stopped : (2 * mid.u + 1 ≤ at) × (is_up ≡ false)). let u = same_u n mid size in let above = stopped.0 in inr (omega (arith, above, u), stopped.1))
+    is
+
+pub stay_then_stop : (n mid now : NodesView) → AllStay n mid → size_of mid ≡ size_of n → VerifiersMayStop mid now → VerifiersMayStop n now
+stay_then_stop n mid now stay size stops at = found_since n mid at (is_up_in now at) size (inl (stay at)) (stops at)
+
+-- a verifier that is handed something is up or down as before, or is down
+settled_place : (v left : Slot VerifierView) (sent : List (Letter Ballot)) → VerifierSettles v Suspect left sent → (is_place_up (Some left) ≡ is_place_up (Some v)) ⊎ (is_place_up (Some left) ≡ false)
+settled_place (Up v) left sent is = ⊎_elim (λ up. inl (ap (λ (x : Slot VerifierView). is_place_up (Some x)) up.1)) (λ down. inr (ap (λ (x : Slot VerifierView). is_place_up (Some x)) down.1.1)) is
+settled_place (Down kept) left sent is = inl (ap (λ (x : Slot VerifierView). is_place_up (Some x)) is.0)
+settled_place (Gone kept) left sent is = inl (ap (λ (x : Slot VerifierView). is_place_up (Some x)) is.0)
+
+module _ (id : ℕ) (n now : NodesView) (m : VerifierMoves (VerifierGets Suspect) id n now) where
+  -- so is the one at this number
+  told_verifier : (k : ℕ) (o : Option (Slot VerifierView)) → slice_get n.verifiers id ≡ o → AtVerifierIn (VerifierGets Suspect) id n.verifiers m.0 m.1 o → (is_place_up (slice_get m.0 k) ≡ is_place_up (slice_get n.verifiers k)) ⊎ (is_place_up (slice_get m.0 k) ≡ false)
+  told_verifier k None there is = inl (ap (λ (xs : List (Slot VerifierView)). is_place_up (slice_get xs k)) is.0)
+  told_verifier k (Some v) there is = ⊎_elim
+      (λ (same : k ≡ id). subst (λ (j : ℕ). (is_place_up (slice_get m.0 j) ≡ is_place_up (slice_get n.verifiers j)) ⊎ (is_place_up (slice_get m.0 j) ≡ false)) (sym same)
+          (let at = ap (λ (xs : List (Slot VerifierView)). slice_get xs id) is.2 ∙ set_get n.verifiers id is.0 v there in
+          ⊎_elim
+              (λ (up : is_place_up (Some is.0) ≡ is_place_up (Some v)). inl (ap is_place_up at ∙ (up ∙ ap is_place_up (sym there))))
+              (λ (down : is_place_up (Some is.0) ≡ false). inr (ap is_place_up at ∙ down))
+              (settled_place v is.0 m.1 is.1)))
+      (λ (differs : k ≢ id). inl (ap (λ (xs : List (Slot VerifierView)). is_place_up (slice_get xs k)) is.2 ∙ ap is_place_up (set_other n.verifiers id is.0 k differs)))
+      (same_or_not k id)
+
+  told_replica : (members at : ℕ) (b : Bool) → nat_lt at members ≡ b
+      → (is_up_at now (if b then Executor at else Verifier (at - members)) ≡ is_up_at n (if b then Executor at else Verifier (at - members))) ⊎ ((members ≤ at) × (is_up_at now (if b then Executor at else Verifier (at - members)) ≡ false))
+  told_replica members at true below = inl (ap (λ (x : NodesView). is_host_up (slice_get x.executors at)) m.5)
+  told_replica members at false above =
+      let moved = ap (λ (x : NodesView). is_place_up (slice_get x.verifiers (at - members))) m.5 in
+      ⊎_elim
+          (λ (same : is_place_up (slice_get m.0 (at - members)) ≡ is_place_up (slice_get n.verifiers (at - members))). inl (moved ∙ same))
+          (λ (down : is_place_up (slice_get m.0 (at - members)) ≡ false). inr (not_below members at above, moved ∙ down))
+          (told_verifier (at - members) (slice_get n.verifiers id) refl m.3)
+
+  -- a verifier is told of a suspicion
+  pub told_may_stop : size_of now ≡ size_of n → VerifiersMayStop n now
+  told_may_stop size at =
+      let moved : is_up_in now at ≡ is_up_at now (replica_at (2 * n.u + 1) at) = ap (λ (u : ℕ). is_up_at now (replica_at (2 * u + 1) at)) (same_u n now size) in
+      ⊎_elim
+          (λ (same : is_up_at now (replica_at (2 * n.u + 1) at) ≡ is_up_in n at). inl (moved ∙ same))
+          (λ (down : (2 * n.u + 1 ≤ at) × (is_up_at now (replica_at (2 * n.u + 1) at) ≡ false)). inr (down.0, moved ∙ down.1))
+          (told_replica (2 * n.u + 1) at (nat_lt at (2 * n.u + 1)) refl)
 
 -- ---- each node has a pause
 
@@ -131,13 +199,15 @@ node_here u members n pauses at h =
 
 -- The nodes at places below this one have ticked, and those from it on have not.
 pub record HaveTickedBelow (at : ℕ) (first now : ReplicasView) : Type 0 where
-  pub done : (i : ℕ) (p : Pause) → i < at → slice_get first.pauses i ≡ Some p → NodeHasTicked i p first.refused now
+  pub done : (i : ℕ) (p : Pause) → i < at → slice_get first.pauses i ≡ Some p → NodeHasTicked first i p now
   pub rest : (i : ℕ) → at ≤ i → slice_get now.pauses i ≡ slice_get first.pauses i
+  pub same : (i : ℕ) → at ≤ i → is_up_in now.ensemble.nodes i ≡ is_up_in first.ensemble.nodes i
 
 pub none_ticked : (first : ReplicasView) → HaveTickedBelow 0 first first
 none_ticked first = record {
   done = λ i p below at. absurd (omega (arith, below));
   rest = λ i above. refl;
+  same = λ i above. refl;
 }
 
 -- the pause of another node stays
@@ -157,14 +227,15 @@ module _ (at : ℕ) (first now next : ReplicasView) (due : Bool) (earlier : firs
   found = is_up_in now.ensemble.nodes at
 
   -- a node that had ticked is as it was
-  still : (i : ℕ) (p : Pause) → i ≢ at → NodeHasTicked i p first.refused now → NodeHasTicked i p first.refused next
+  still : (i : ℕ) (p : Pause) → i ≢ at → NodeHasTicked first i p now → NodeHasTicked first i p next
   still i p differs was = (
     was.0,
-    other_pauses at i found due now.pauses next.pauses differs ticks ∙ was.1,
+    was.1,
+    other_pauses at i found due now.pauses next.pauses differs ticks ∙ was.2,
     record {
-      stays = λ up. others i differs ∙ was.2.stays up;
-      opens = λ is same below. others i differs ∙ was.2.opens is (refused_none first.refused now.refused next.refused earlier later same).0 below;
-      rests = λ down not_due. others i differs ∙ was.2.rests down not_due;
+      stays = λ up. others i differs ∙ was.3.stays up;
+      opens = λ is same below. others i differs ∙ was.3.opens is (refused_none first.refused now.refused next.refused earlier later same).0 below;
+      rests = λ down not_due. others i differs ∙ was.3.rests down not_due;
     },
   )
 
@@ -181,15 +252,16 @@ module _ (at : ℕ) (first now next : ReplicasView) (due : Bool) (earlier : firs
   not_due_if_up false p up = absurd (cc up)
 
   -- the node at this place
-  here : (p : Pause) → slice_get now.pauses at ≡ Some p → NodeHasTicked at p first.refused next
-  here p there =
+  here : (p : Pause) → found ≡ is_up_in first.ensemble.nodes at → slice_get now.pauses at ≡ Some p → NodeHasTicked first at p next
+  here p same there =
       let t : NodeTicksIn at found now.pauses next.pauses due (Some p) = subst (NodeTicksIn at found now.pauses next.pauses due) there ticks in (
         found,
+        inl same,
         ap (λ (xs : List Pause). slice_get xs at) t.0 ∙ set_get now.pauses at (pause_after found p) p there,
         record {
           stays = λ up. same_nodes due opened (t.1 ∙ not_due_if_up found p up) ∙ up;
-          opens = λ is same below.
-              let none = refused_none first.refused now.refused next.refused earlier later same in
+          opens = λ is unrefused below.
+              let none = refused_none first.refused now.refused next.refused earlier later unrefused in
               opens_here due opened (t.1 ∙ is) none.1 (let first_now = none.0 in omega (arith, below, first_now));
           rests = λ down not_due. same_nodes due opened (t.1 ∙ not_due) ∙ down;
         },
@@ -198,10 +270,11 @@ module _ (at : ℕ) (first now next : ReplicasView) (due : Bool) (earlier : firs
   pub one_ticked : (at_next : ℕ) → at_next ≡ at + 1 → HaveTickedBelow at first now → HaveTickedBelow at_next first next
   one_ticked at_next more are = record {
     done = λ i p below e. ⊎_elim
-        (λ (same : i ≡ at). subst (λ (k : ℕ). NodeHasTicked k p first.refused next) (sym same) (here p (are.rest at (omega arith) ∙ (ap (slice_get first.pauses) (sym same) ∙ e))))
+        (λ (same : i ≡ at). subst (λ (k : ℕ). NodeHasTicked first k p next) (sym same) (here p (are.same at (omega arith)) (are.rest at (omega arith) ∙ (ap (slice_get first.pauses) (sym same) ∙ e))))
         (λ (differs : i ≢ at). still i p differs (are.done i p (omega (arith, below, more, differs)) e))
         (same_or_not i at);
     rest = λ i above. other_pauses at i found due now.pauses next.pauses (λ same. absurd (omega (arith, above, more, same))) ticks ∙ are.rest i (omega (arith, above, more));
+    same = λ i above. others i (λ same. absurd (omega (arith, above, more, same))) ∙ are.same i (omega (arith, above, more));
   }
 
 get_below : (pauses : List Pause) (i : ℕ) (p : Pause) → slice_get pauses i ≡ Some p → i < length pauses
@@ -212,21 +285,22 @@ get_below (q ∷ pauses) (suc i) p e = let below = get_below pauses i p e in ome
 pub all_ticked : (at : ℕ) (first now : ReplicasView) → length first.pauses ≤ at → HaveTickedBelow at first now → NodesHaveTicked first now
 all_ticked at first now all are i p e = let below = get_below first.pauses i p e in are.done i p (omega (arith, below, all)) e
 
--- each tick counts, whatever was refused before it in the call
-pub ticked_since : (old mid now : ReplicasView) → mid.pauses ≡ old.pauses → old.refused ≤ mid.refused → mid.refused ≤ now.refused → NodesHaveTicked mid now → NodesHaveTicked old now
-ticked_since old mid now same earlier later are i p e =
+-- each tick counts, whatever was refused before it in the call, and whichever verifier stopped
+pub ticked_since : (old mid now : ReplicasView) → size_of mid.ensemble.nodes ≡ size_of old.ensemble.nodes → VerifiersMayStop old.ensemble.nodes mid.ensemble.nodes → mid.pauses ≡ old.pauses → old.refused ≤ mid.refused → mid.refused ≤ now.refused → NodesHaveTicked mid now → NodesHaveTicked old now
+ticked_since old mid now size stops same earlier later are i p e =
     let was = are i p (ap (λ (xs : List Pause). slice_get xs i) same ∙ e) in (
       was.0,
-      was.1,
+      found_since old.ensemble.nodes mid.ensemble.nodes i was.0 size (stops i) was.1,
+      was.2,
       record {
-        stays = was.2.stays;
+        stays = was.3.stays;
         opens = λ is unrefused below.
             let none = refused_none old.refused mid.refused now.refused earlier later unrefused in
-            was.2.opens is none.1 (let first_mid = none.0 in omega (arith, below, first_mid));
-        rests = was.2.rests;
+            was.3.opens is none.1 (let first_mid = none.0 in omega (arith, below, first_mid));
+        rests = was.3.rests;
       },
     )
 
 -- the pauses are those after a tick that found each node up or down
 pub ticked_paused : (old now : ReplicasView) → NodesHaveTicked old now → HavePaused old.pauses now.pauses
-ticked_paused old now are i p e = let was = are i p e in (was.0, was.1)
+ticked_paused old now are i p e = let was = are i p e in (was.0, was.2)

@@ -1,5 +1,5 @@
 -- What a tick does of what waits, and of the nodes that stopped.
-use Rattle.std.specs.Prelude.{◌≡◌, ◌≢◌, ℕ, ◌+◌, ◌-◌, ◌*◌, ◌<◌, Bool, true, false, nat_lt, List, Option, Some, None, length, slice_get, slice_set, if◌then◌else◌}
+use Rattle.std.specs.Prelude.{◌≡◌, ◌≢◌, ◌⊎◌, ℕ, ◌+◌, ◌-◌, ◌*◌, ◌<◌, ◌≤◌, Bool, true, false, nat_lt, List, Option, Some, None, length, slice_get, slice_set, if◌then◌else◌}
 use Rattle.events.specs.declared.event.Replica.{Replica}
 use Rattle.events.specs.declared.event.Replica.TheVariants.{Executor, Verifier}
 use Rattle.serving.specs.declared.patience.Patience.{Patience}
@@ -113,6 +113,18 @@ abbrev pub IsOpenedIf : Bool → ℕ → ReplicasView → ReplicasView → Type 
 IsOpenedIf true at old new = UnlessRefused old.refused new.refused (is_up_in new.ensemble.nodes at ≡ true)
 IsOpenedIf false at old new = new.ensemble.nodes ≡ old.ensemble.nodes
 
+-- each node is up or down as before
+abbrev pub AllStay : NodesView → NodesView → Type 0
+AllStay n now = (at : ℕ) → is_up_in now at ≡ is_up_in n at
+
+-- it is found up or down as it was before. A verifier may be found down that was up
+abbrev pub IsFoundAs : NodesView → ℕ → Bool → Type 0
+IsFoundAs n at is_up = (is_up ≡ is_up_in n at) ⊎ ((2 * n.u + 1 ≤ at) × (is_up ≡ false))
+
+-- so is each node
+abbrev pub VerifiersMayStop : NodesView → NodesView → Type 0
+VerifiersMayStop n now = (at : ℕ) → IsFoundAs n at (is_up_in now at)
+
 -- A tick found the node at this place up or down, and its pause was this.
 pub record HasTicked (at : ℕ) (is_up : Bool) (p : Pause) (refused : ℕ) (now : ReplicasView) : Type 0 where
   -- one that it found up is up
@@ -122,13 +134,13 @@ pub record HasTicked (at : ℕ) (is_up : Bool) (p : Pause) (refused : ℕ) (now 
   -- else it is down
   pub rests : is_up ≡ false → is_opened is_up p ≡ false → is_up_in now.ensemble.nodes at ≡ false
 
--- the node at this place has this pause then
-abbrev pub NodeHasTicked : ℕ → Pause → ℕ → ReplicasView → Type 0
-NodeHasTicked at p refused now = (is_up : Bool) × (slice_get now.pauses at ≡ Some (pause_after is_up p)) × HasTicked at is_up p refused now
+-- the node at this place is found as it was, and has this pause then
+abbrev pub NodeHasTicked : ReplicasView → ℕ → Pause → ReplicasView → Type 0
+NodeHasTicked old at p now = (is_up : Bool) × IsFoundAs old.ensemble.nodes at is_up × (slice_get now.pauses at ≡ Some (pause_after is_up p)) × HasTicked at is_up p old.refused now
 
 -- all nodes have
 abbrev pub NodesHaveTicked : ReplicasView → ReplicasView → Type 0
-NodesHaveTicked old now = (at : ℕ) (p : Pause) → slice_get old.pauses at ≡ Some p → NodeHasTicked at p old.refused now
+NodesHaveTicked old now = (at : ℕ) (p : Pause) → slice_get old.pauses at ≡ Some p → NodeHasTicked old at p now
 
 -- ---- all
 

@@ -36,7 +36,8 @@ impl Service {
     /// from here: what was asked, answered and given up to now stays so, and what comes after now never was. So a reply
     /// may leave the process once a record of its moment, or of a later one, is where another process finds it.
     ///
-    /// Nothing changes. Stopped: a replica is lost for good, which no call here leads to; NoMemory: an allocation failed.
+    /// Nothing changes. Stopped: a replica is lost for good. No call here loses one, but no clause says so. NoMemory: an
+    /// allocation failed.
     pub fn record(&self, alloc: Global) -> Result<ServiceRecord, Fault>
         ensures kept { IfOk result (λ r. kept_in self.now.connections.dialect r ≡ kept_of self.now) }
         ensures all { IfOk result (λ r. HasAll self.now) }

@@ -2,7 +2,7 @@
 
 ghost use Rattle.std.specs.Prelude.{◌≡◌, ◌<◌, ◌≤◌};
 ghost use Rattle.ensemble.specs.Nodes.{size_of};
-ghost use Rattle.service.specs.Ticks.{sent_again, waited_on, SetsPatience};
+ghost use Rattle.service.specs.Ticks.{sent_again, waited_on, SetsPatience, AllStay};
 ghost use Rattle.service.specs.Steps.{KeepsWaits};
 ghost use Rattle.service.specs.Owed.{KeepsOwed};
 
@@ -14,6 +14,7 @@ use serving::{Seen, Urge};
 use std::alloc::Global;
 
 /// The proxy at this place asks again.
+#[tactic(auto, using(crate::proofs::NodeLemmas::again_stays))]
 fn ask_again(alloc: Global, pool: &mut Pool, ensemble: &mut Ensemble, at: usize, seen: Seen)
     ensures after { SetsPatience (sent_again seen) at pool.old pool.new }
     ensures counted { ensemble.old.refused ≤ ensemble.new.refused }
@@ -24,6 +25,7 @@ fn ask_again(alloc: Global, pool: &mut Pool, ensemble: &mut Ensemble, at: usize,
     ensures order { ensemble.new.order ≡ ensemble.old.order }
     ensures found { ensemble.new.found ≡ ensemble.old.found }
     ensures size { size_of ensemble.new.nodes ≡ size_of ensemble.old.nodes }
+    ensures stay { AllStay ensemble.old.nodes ensemble.new.nodes }
 {
     if let Some(proxy) = pool.ask_again(at, seen) {
         ensemble.again(alloc, proxy);
@@ -49,6 +51,7 @@ fn tick_at(
     ensures order { ensemble.new.order ≡ ensemble.old.order }
     ensures found { ensemble.new.found ≡ ensemble.old.found }
     ensures size { size_of ensemble.new.nodes ≡ size_of ensemble.old.nodes }
+    ensures stay { AllStay ensemble.old.nodes ensemble.new.nodes }
 {
     match pool.tick(at, u, seen) {
         Urge::Wait => false,
@@ -66,7 +69,7 @@ fn tick_at(
 impl Service {
     ghost use Rattle.std.specs.Prelude.{◌≡◌, ◌<◌, ◌≤◌, Bool, true, false, slice_get};
     ghost use Rattle.ensemble.specs.Nodes.{size_of};
-    ghost use Rattle.service.specs.Ticks.{waited_on, is_up_in, SetsPatience, HaveWaited, NodeTicks, IsOpenedIf, OthersStay, HavePaused, NodesHaveTicked, HasSameAsked, AreAllUpIn};
+    ghost use Rattle.service.specs.Ticks.{waited_on, is_up_in, SetsPatience, HaveWaited, NodeTicks, IsOpenedIf, OthersStay, HavePaused, AllStay, VerifiersMayStop, NodesHaveTicked, HasSameAsked, AreAllUpIn};
 
     /// Whether the node at this place is up.
     fn is_node_up(&self, at: u8) -> bool
@@ -136,6 +139,7 @@ impl Service {
     fn suspect(&mut self, alloc: Global)
         ensures connections { self.new.connections ≡ self.old.connections }
         ensures size { size_of self.new.replicas.ensemble.nodes ≡ size_of self.old.replicas.ensemble.nodes }
+        ensures stops { VerifiersMayStop self.old.replicas.ensemble.nodes self.new.replicas.ensemble.nodes }
         ensures asks { HasSameAsked self.old self.new }
         ensures waiting { self.new.waiting ≡ self.old.waiting }
         ensures paused { self.new.replicas.pauses ≡ self.old.replicas.pauses }
@@ -152,6 +156,7 @@ impl Service {
         requires { u < 4 }
         ensures connections { self.new.connections ≡ self.old.connections }
         ensures size { size_of self.new.replicas.ensemble.nodes ≡ size_of self.old.replicas.ensemble.nodes }
+        ensures stay { AllStay self.old.replicas.ensemble.nodes self.new.replicas.ensemble.nodes }
         ensures asks { HasSameAsked self.old self.new }
         ensures waits { SetsPatience (waited_on u seen) at self.old.waiting self.new.waiting }
         ensures paused { self.new.replicas.pauses ≡ self.old.replicas.pauses }
@@ -164,6 +169,7 @@ impl Service {
     fn tick_proxies(&mut self, alloc: Global) -> bool
         ensures connections { self.new.connections ≡ self.old.connections }
         ensures size { size_of self.new.replicas.ensemble.nodes ≡ size_of self.old.replicas.ensemble.nodes }
+        ensures stay { AllStay self.old.replicas.ensemble.nodes self.new.replicas.ensemble.nodes }
         ensures asks { HasSameAsked self.old self.new }
         ensures waited { HaveWaited self.old.waiting self.new.waiting }
         ensures paused { self.new.replicas.pauses ≡ self.old.replicas.pauses }
@@ -182,9 +188,11 @@ impl Service {
 
     /// The proxy at this place asks again, if it has something outstanding and nobody waits for it: it had asked when the
     /// process before this one ended.
+    #[tactic(auto, using(crate::proofs::NodeLemmas::again_stays))]
     fn ask_for_nobody(&mut self, alloc: Global, at: usize)
         ensures connections { self.new.connections ≡ self.old.connections }
         ensures size { size_of self.new.replicas.ensemble.nodes ≡ size_of self.old.replicas.ensemble.nodes }
+        ensures stay { AllStay self.old.replicas.ensemble.nodes self.new.replicas.ensemble.nodes }
         ensures asks { HasSameAsked self.old self.new }
         ensures waiting { self.new.waiting ≡ self.old.waiting }
         ensures paused { self.new.replicas.pauses ≡ self.old.replicas.pauses }
@@ -201,6 +209,7 @@ impl Service {
     fn ask_for_gone(&mut self, alloc: Global)
         ensures connections { self.new.connections ≡ self.old.connections }
         ensures size { size_of self.new.replicas.ensemble.nodes ≡ size_of self.old.replicas.ensemble.nodes }
+        ensures stay { AllStay self.old.replicas.ensemble.nodes self.new.replicas.ensemble.nodes }
         ensures asks { HasSameAsked self.old self.new }
         ensures waiting { self.new.waiting ≡ self.old.waiting }
         ensures paused { self.new.replicas.pauses ≡ self.old.replicas.pauses }
@@ -216,6 +225,7 @@ impl Service {
     fn tick_gone(&mut self, alloc: Global) -> bool
         ensures connections { self.new.connections ≡ self.old.connections }
         ensures size { size_of self.new.replicas.ensemble.nodes ≡ size_of self.old.replicas.ensemble.nodes }
+        ensures stay { AllStay self.old.replicas.ensemble.nodes self.new.replicas.ensemble.nodes }
         ensures asks { HasSameAsked self.old self.new }
         ensures waiting { self.new.waiting ≡ self.old.waiting }
         ensures paused { self.new.replicas.pauses ≡ self.old.replicas.pauses }
@@ -238,6 +248,7 @@ impl Service {
     fn tick_asked(&mut self, alloc: Global)
         ensures connections { self.new.connections ≡ self.old.connections }
         ensures size { size_of self.new.replicas.ensemble.nodes ≡ size_of self.old.replicas.ensemble.nodes }
+        ensures stops { VerifiersMayStop self.old.replicas.ensemble.nodes self.new.replicas.ensemble.nodes }
         ensures asks { HasSameAsked self.old self.new }
         ensures waited { HaveWaited self.old.waiting self.new.waiting }
         ensures paused { self.new.replicas.pauses ≡ self.old.replicas.pauses }
@@ -252,7 +263,8 @@ impl Service {
     /// A tick, ten of which come in a second while something waits (`is_waiting`), also while requests come: a
     /// proxy that waits for long asks again, and then suspects the leader; a node that it finds down is opened again
     /// once its pause has gone by, and is up then, unless memory was refused, which is counted (`refused`). A node that
-    /// it finds up is up. No new command is asked. `work` is to come after it.
+    /// it finds up is up. It finds each node as it was before the call; but the verifier that is told that the leader is
+    /// suspected may stop for want of memory. No new command is asked. `work` is to come after it.
     pub fn tick(&mut self, alloc: Global)
         ensures connections { self.new.connections ≡ self.old.connections }
         ensures size { size_of self.new.replicas.ensemble.nodes ≡ size_of self.old.replicas.ensemble.nodes }

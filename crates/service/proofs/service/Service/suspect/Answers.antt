@@ -1,8 +1,9 @@
-use Rattle.std.proofs.Common.{refl}
+use Rattle.std.proofs.Common.{refl, subst}
 use Rattle.service.specs.Service.{ServiceView, none_shown, assigned}
 use Rattle.service.proofs.MomentLemmas.{same_moments}
 use Rattle.service.proofs.KeepLemmas.{tended_keeps}
-use Rattle.service.proofs.NodeLemmas.{size_keeps}
+use Rattle.service.specs.Ticks.{VerifiersMayStop}
+use Rattle.service.proofs.NodeLemmas.{size_keeps, told_may_stop}
 use Rattle.service.proofs.service.Service.suspect.Goals as goal
 
 pub invariant_of-self : goal.invariant_of-self
@@ -15,3 +16,7 @@ invariant_of-self c =
       size_keeps s.u s.nodes.members s.ensemble.nodes e.nodes s.nodes.pauses.items c.self.invariant.2 c.suspect.ensures.size,
       c.self.invariant.3,
     )
+
+pub returns-clause-stops : goal.returns-clause-stops
+returns-clause-stops c = subst (λ (v : ServiceView). VerifiersMayStop v.replicas.ensemble.nodes c.suspect.new.self.nodes) c.self.view_is
+    (told_may_stop _ c.self.inside.ensemble.nodes c.suspect.new.self.nodes c.suspect.ensures.told c.suspect.ensures.size)

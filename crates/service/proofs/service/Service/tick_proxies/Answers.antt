@@ -10,6 +10,7 @@ loop-at-preserved c =
     record {
       connections = is.connections ∙ was.connections;
       size = is.size ∙ was.size;
+      stay = λ at. is.stay at ∙ was.stay at;
       asks = record { asked = is.asks.asked ∙ was.asks.asked; answered = is.asks.answered ∙ was.asks.answered; order = is.asks.order ∙ was.asks.order; assignments = is.asks.assignments ∙ was.asks.assignments; line = is.asks.line ∙ was.asks.line; found = is.asks.found ∙ was.asks.found };
       paused = is.paused ∙ was.paused;
       counted = let a = was.counted in let b = is.counted in omega (arith, a, b);

@@ -1,6 +1,6 @@
 use Rattle.std.proofs.Common.{◌≡◌, ◌≤◌}
 use Rattle.ensemble.specs.Nodes.{size_of}
-use Rattle.service.specs.Ticks.{HasSameAsked}
+use Rattle.service.specs.Ticks.{AllStay, HasSameAsked}
 use Rattle.service.proofs.TickLemmas.{Waited, AreSet}
 use Rattle.service.proofs.service.Service.tick_proxies.Given as goal
 
@@ -8,6 +8,7 @@ abbrev pub invariant-loop-at : goal.invariant-loop-at
 invariant-loop-at l = record {
   connections : l.self.connections ≡ l.initial.self.connections;
   size : size_of l.self.replicas.ensemble.nodes ≡ size_of l.initial.self.replicas.ensemble.nodes;
+  stay : AllStay l.initial.self.replicas.ensemble.nodes l.self.replicas.ensemble.nodes;
   asks : HasSameAsked l.initial.self l.self;
   paused : l.self.replicas.pauses ≡ l.initial.self.replicas.pauses;
   counted : l.initial.self.replicas.refused ≤ l.self.replicas.refused;
