@@ -152,6 +152,11 @@ impl<F: SaveCopy> Copies<F> {
         self.fault
     }
 
+    /// The folders.
+    pub fn places(&self) -> &[FolderPlace<F>] {
+        &self.places
+    }
+
     /// In how many folders it is saved.
     pub fn folders(&self) -> SaveFolders {
         let current = self

@@ -90,6 +90,8 @@ impl<F: SaveCopy + Drop> Opened<F> {
         let place = FolderPlace {
             copy,
             fault: Some(SaveFault::Disk),
+            made: 0,
+            failed: 0,
         };
         self.places.push_reserved(place);
         self.finds.push_reserved(found);
