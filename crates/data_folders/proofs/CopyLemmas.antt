@@ -14,6 +14,10 @@ use Rattle.data_folder.specs.declared.found_copy.FoundCopy.{FoundCopy}
 use Rattle.service.specs.Record.{RecordView}
 use Rattle.server.specs.Durable.{IsFoundOf}
 use Rattle.data_folder.specs.Text.{TellsService}
+use Rattle.data_folder.specs.Items.{TellsState}
+use Rattle.sqlite_trees.specs.Tree.{Trees}
+use Rattle.states.specs.State.{StateView}
+use Rattle.data_folders.specs.CopyItems.{SavesStored, SavesItems}
 use Rattle.data_folders.specs.declared.place.FolderPlace.{FolderPlace}
 use Rattle.data_folders.specs.Copies.{stamp_of, is_current, MayHave, MayRead, MayHaveNone, FindsAmong, MayFindAmong, IsBounded, PlaceSaves, AllSave, IsFoundIn, OpensAs, found_stamp, stamps_in, IsNewestCopy}
 
@@ -359,41 +363,41 @@ module _ {F : Type 0} (may : F → Option SavedText → Type 0) where
   -- the same after a save with this stamp
   pub claimed_bounded : (last : SaveStamp) (s : SavedText) → is_later_save s.stamp last ≡ true → (os ns : List (FolderPlace F)) → AllSave may s os ns → All (IsBounded may last) os → All (IsBounded may s.stamp) ns
   claimed_bounded last s later os ns a b = All-from_recursion (IsBounded may s.stamp) ns (all_bounded may last s last later os ns a (recursion_from_All (IsBounded may last) os b))
-
   -- ---- folders that are opened
 
-  zip_push : (places : List (FolderPlace F)) (finds : List (Option FoundCopy)) (p : FolderPlace F) (f : Option FoundCopy) → AllZip (OpensAs may) places finds → OpensAs may p f
-      → AllZip (OpensAs may) (places ++ p ∷ []) (finds ++ f ∷ [])
+module _ {F : Type 0} (R : FolderPlace F → Option FoundCopy → Type 0) where
+  zip_push : (places : List (FolderPlace F)) (finds : List (Option FoundCopy)) (p : FolderPlace F) (f : Option FoundCopy) → AllZip R places finds → R p f
+      → AllZip R (places ++ p ∷ []) (finds ++ f ∷ [])
   zip_push [] [] p f z h = (h, tt)
   zip_push [] (x ∷ finds) p f z h = absurd z
   zip_push (x ∷ places) [] p f z h = absurd z
   zip_push (x ∷ places) (y ∷ finds) p f z h = (z.0, zip_push places finds p f z.1 h)
 
-  pub pairs_push : (places : List (FolderPlace F)) (finds : List (Option FoundCopy)) (p : FolderPlace F) (f : Option FoundCopy) → ∥ AllZip (OpensAs may) places finds ∥₁ → OpensAs may p f
-      → ∥ AllZip (OpensAs may) (places ++ p ∷ []) (finds ++ f ∷ []) ∥₁
+  pub pairs_push : (places : List (FolderPlace F)) (finds : List (Option FoundCopy)) (p : FolderPlace F) (f : Option FoundCopy) → ∥ AllZip R places finds ∥₁ → R p f
+      → ∥ AllZip R (places ++ p ∷ []) (finds ++ f ∷ []) ∥₁
   pairs_push places finds p f pairs h = ∥∥₁_map pairs (λ z. zip_push places finds p f z h)
 
-  zip_set : (places : List (FolderPlace F)) (finds : List (Option FoundCopy)) (at : ℕ) (p : FolderPlace F) → AllZip (OpensAs may) places finds → OpensAs may p (slice_index_or finds at None)
-      → AllZip (OpensAs may) (slice_set places at p) finds
+  zip_set : (places : List (FolderPlace F)) (finds : List (Option FoundCopy)) (at : ℕ) (p : FolderPlace F) → AllZip R places finds → R p (slice_index_or finds at None)
+      → AllZip R (slice_set places at p) finds
   zip_set [] [] at p z h = tt
   zip_set [] (x ∷ finds) at p z h = absurd z
   zip_set (x ∷ places) [] at p z h = absurd z
   zip_set (x ∷ places) (y ∷ finds) zero p z h = (h, z.1)
   zip_set (x ∷ places) (y ∷ finds) (suc at) p z h = (z.0, zip_set places finds at p z.1 h)
 
-  pub pairs_set : (places : List (FolderPlace F)) (finds : List (Option FoundCopy)) (at : ℕ) (p : FolderPlace F) → ∥ AllZip (OpensAs may) places finds ∥₁ → OpensAs may p (slice_index_or finds at None)
-      → ∥ AllZip (OpensAs may) (slice_set places at p) finds ∥₁
+  pub pairs_set : (places : List (FolderPlace F)) (finds : List (Option FoundCopy)) (at : ℕ) (p : FolderPlace F) → ∥ AllZip R places finds ∥₁ → R p (slice_index_or finds at None)
+      → ∥ AllZip R (slice_set places at p) finds ∥₁
   pairs_set places finds at p pairs h = ∥∥₁_map pairs (λ z. zip_set places finds at p z h)
 
 -- ---- threads
 
 -- what each thread does is done in all
-pub all_save : {F : Type 0} (may : F → Option SavedText → Type 0) (s : SavedText) (olds news : List (FolderPlace F)) → length news ≡ length olds
-    → ((i : ℕ) (d : FolderPlace F) → i < length olds → PlaceSaves may s (slice_index_or olds i d) (slice_index_or news i d)) → AllSave may s olds news
-all_save may s [] [] same each = tt
-all_save may s [] (n ∷ news) same each = absurd (let wrong : ⊥ = omega (arith, same) in wrong)
-all_save may s (o ∷ olds) [] same each = absurd (let wrong : ⊥ = omega (arith, same) in wrong)
-all_save may s (o ∷ olds) (n ∷ news) same each = (each 0 o (omega arith), all_save may s olds news (omega (arith, same)) (λ i d l. each (suc i) d (omega (arith, l))))
+pub done_in_all : {A : Type 0} (R : A → A → Type 0) (olds news : List A) → length news ≡ length olds
+    → ((i : ℕ) (d : A) → i < length olds → R (slice_index_or olds i d) (slice_index_or news i d)) → AllZip R olds news
+done_in_all R [] [] same each = tt
+done_in_all R [] (n ∷ news) same each = absurd (let wrong : ⊥ = omega (arith, same) in wrong)
+done_in_all R (o ∷ olds) [] same each = absurd (let wrong : ⊥ = omega (arith, same) in wrong)
+done_in_all R (o ∷ olds) (n ∷ news) same each = (each 0 o (omega arith), done_in_all R olds news (omega (arith, same)) (λ i d l. each (suc i) d (omega (arith, l))))
 
 -- ---- records
 
@@ -401,6 +405,12 @@ all_save may s (o ∷ olds) (n ∷ news) same each = (each 0 o (omega arith), al
 pub text_found : (r : RecordView) (text : List ℕ) → TellsService r text → (found : Option (List ℕ)) → ∥ (found ≡ Some text) ∥₁ → IsFoundOf TellsService r found
 text_found r text tells None h = absurd (impossible h (λ e. absurd (cc e)))
 text_found r text tells (Some t) h = ∥∥₁_elim h (λ x y. squash₁ x y) (λ e. let same : text ≡ t = cc e in subst (TellsService r) same tells)
+
+-- what is saved of a text and a state of a record is saved of the record
+pub record_saved : {F : Type 0} (may_leave : F → Trees → Type 0) (has_items : F → StateView → Type 0) (r : RecordView) (text : List ℕ) (state : StateView) (is_saved : Bool) (old new : List (FolderPlace F))
+    → TellsState r text state → SavesStored may_leave has_items text state is_saved old new → SavesItems may_leave has_items r is_saved old new
+record_saved may_leave has_items r text state is_saved old new tells (inl all) = inl (record { saved = record { stamp = all.0; text = text }; state = state; is = tells; all = all.1 })
+record_saved may_leave has_items r text state is_saved old new tells (inr none) = inr none
 
 -- ---- what is found at a place
 

@@ -1,8 +1,9 @@
 //! How a start begins with what it has opened.
 
-ghost use Rattle.std.specs.Prelude.{◌≡◌, None, IfOk, IfSome, OnOk, All, true};
+ghost use Rattle.std.specs.Prelude.{◌≡◌, None, IfOk, IfSome, IfNone, OnOk, All, true};
 ghost use Rattle.folders.specs.Folders.{is_later_save};
 ghost use Rattle.data_folders.specs.Copies.{IsBounded, IsClaimed, IsNewestCopy, IsNewestRecord};
+ghost use Rattle.data_folders.specs.CopyItems.{ClaimsItems};
 
 use crate::copies::{Copies, fault_of, is_saved, save_each};
 use crate::fault::FoldersFault;
@@ -38,6 +39,7 @@ fn claim<F: SaveCopy + Send, R: Threads + Sync>(
     requires later { is_later_save first found.now.stamp ≡ true }
     ensures bounded { OnOk result (All (IsBounded F.may_find first) places.new.items) }
     ensures claimed { OnOk result (IsClaimed places.new.items) }
+    ensures items { OnOk result (ClaimsItems F.may_leave F.has_items found.now.service places.old.items places.new.items) }
 {
     if places.len() == 1 {
         return Ok(());
@@ -64,6 +66,7 @@ fn begin_with<F: SaveCopy + Send + Drop, R: Threads + Sync>(
     requires { All (IsBounded F.may_find found.stamp) places.items }
     ensures found { IfOk result (λ begun. begun.1 ≡ found.service) }
     ensures claimed { IfOk result (λ begun. IsClaimed begun.0.places.items) }
+    ensures items { IfOk result (λ begun. ClaimsItems F.may_leave F.has_items begun.1 places.items begun.0.places.items) }
 {
     let first = first_after(found.stamp)?;
     claim(rt, alloc, &mut places, first, &found)?;
@@ -75,6 +78,7 @@ impl<F: SaveCopy + Send + Drop> Opened<F> {
     /// The folders, none of which has a copy.
     fn begin_empty(self) -> Copies<F>
         requires { All (λ found. found ≡ None) self.finds.items }
+        ensures { result.places ≡ self.places }
     {
         let site = self.site;
         let (places, finds) = self.into_parts();
@@ -92,6 +96,7 @@ impl<F: SaveCopy + Send + Drop> Opened<F> {
         requires { IsNewestCopy self.finds.items at }
         ensures newest { IfOk result (λ begun. IsNewestRecord self.finds.items begun.1) }
         ensures claimed { IfOk result (λ begun. IsClaimed begun.0.places.items) }
+        ensures items { IfOk result (λ begun. ClaimsItems F.may_leave F.has_items begun.1 self.places.items begun.0.places.items) }
     {
         let (places, mut finds) = self.into_parts();
         let found = finds.swap_remove(at);
@@ -122,6 +127,8 @@ impl<F: SaveCopy + Send + Drop> Opened<F> {
     ) -> Result<(Copies<F>, Option<ServiceRecord>), FoldersFault>
         ensures newest { IfOk result (λ begun. IfSome begun.1 (IsNewestRecord self.finds.items)) }
         ensures claimed { IfOk result (λ begun. IfSome begun.1 (λ _. IsClaimed begun.0.places.items)) }
+        ensures items { IfOk result (λ begun. IfSome begun.1 (λ found. ClaimsItems F.may_leave F.has_items found self.places.items begun.0.places.items)) }
+        ensures empty { IfOk result (λ begun. IfNone begun.1 (begun.0.places ≡ self.places)) }
     {
         if self.is_empty() {
             return Ok((self.begin_empty(), None));

@@ -1,16 +1,17 @@
 //! Copies of a record in several folders, saved together.
 
-ghost use Rattle.std.specs.Prelude.{◌≡◌, ◌⊎◌, ℕ, List, Option, Some, IsTrue, IfSome, OnOk, All, length, count_by, true, false};
+ghost use Rattle.std.specs.Prelude.{◌≡◌, ◌⊎◌, ℕ, List, Option, Some, IsTrue, IfSome, OnOk, All, length, count_by, is_ok, true, false};
 ghost use denote.Param.Send.{IsSync};
 ghost use Rattle.folders.specs.Folders.{is_later_save, IsMajority};
 ghost use Rattle.server.specs.Durable.{IsFoundOf};
 ghost use Rattle.data_folder.specs.Text.{TellsService};
 ghost use Rattle.data_folders.specs.Copies.{is_current, MayFindAmong, IsBounded, AllSave};
+ghost use Rattle.data_folders.specs.CopyItems.{AllSaveItems, SavesStored, SavesItems};
 
 use crate::place::FolderPlace;
 use data_folder::{CopyPlace, SaveCopy, StoredRecord};
 use folders::{SaveStamp, a_saved_turn_is_found};
-use server::{SaveFault, SaveFolders};
+use server::{MOST_FOLDERS, SaveFault, SaveFolder, SaveFolders};
 use service::ServiceRecord;
 use std::alloc::Global;
 use std::thread;
@@ -75,7 +76,8 @@ fn save_all<F: SaveCopy + Send, R: Threads + Sync>(
     stamp: SaveStamp,
     stored: &StoredRecord,
 )
-    ensures { AllSave F.may_find (record { stamp = stamp; text = stored.now.text.items }) places.old places.new }
+    ensures saves { AllSave F.may_find (record { stamp = stamp; text = stored.now.text.items }) places.old places.new }
+    ensures items { AllSaveItems F.may_leave F.has_items (record { stamp = stamp; text = stored.now.text.items }) stored.now.state places.old places.new }
 {
     let folders = u32::try_from(places.len()).unwrap_or(u32::MAX);
     let threads = places.len().max(1);
@@ -103,9 +105,21 @@ pub fn save_each<F: SaveCopy + Send, R: Threads + Sync>(
     stamp: SaveStamp,
     stored: &StoredRecord,
 )
-    ensures { AllSave F.may_find (record { stamp = stamp; text = stored.now.text.items }) places.old.items places.new.items }
+    ensures saves { AllSave F.may_find (record { stamp = stamp; text = stored.now.text.items }) places.old.items places.new.items }
+    ensures items { AllSaveItems F.may_leave F.has_items (record { stamp = stamp; text = stored.now.text.items }) stored.now.state places.old.items places.new.items }
 {
     save_all(rt, alloc, places.as_mut_slice(), site, stamp, stored);
+}
+
+/// What is counted of each folder. There are at most nine.
+fn each_of<F>(places: &[FolderPlace<F>]) -> [SaveFolder; MOST_FOLDERS] {
+    let mut each = [SaveFolder::NONE; MOST_FOLDERS];
+    for at in 0..MOST_FOLDERS {
+        if let Some(place) = places.get(at) {
+            each[at] = place.seen();
+        }
+    }
+    each
 }
 
 /// The first folder that does not have the last save, from 0, and why.
@@ -160,6 +174,7 @@ impl<F: SaveCopy> Copies<F> {
             all: self.places.len() as u64,
             current: current as u64,
             behind: first_behind(&self.places),
+            each: each_of(&self.places),
         }
     }
 }
@@ -175,6 +190,8 @@ impl<F: SaveCopy + Send> Copies<F> {
         ensures saved { OnOk result ((found : Option (List ℕ)) → MayFindAmong F.may_find self.new.first self.new.places.items found → ∥ (found ≡ Some stored.now.text.items) ∥₁) }
         ensures crash { (found : Option (List ℕ)) → MayFindAmong F.may_find self.new.first self.new.places.items found
             → MayFindAmong F.may_find self.old.first self.old.places.items found ⊎ ∥ (found ≡ Some stored.now.text.items) ∥₁ }
+        ensures most { OnOk result (IsMajority (count_by is_current self.new.places.items) (length self.new.places.items)) }
+        ensures items { SavesStored F.may_leave F.has_items stored.now.text.items stored.now.state (is_ok result) self.old.places.items self.new.places.items }
     {
         let Some(stamp) = next_stamp(self.stamp) else {
             return Err(SaveFault::Unstorable);
@@ -199,6 +216,8 @@ impl<F: SaveCopy + Send> Copies<F> {
         ensures saved { OnOk result ((found : Option (List ℕ)) → MayFindAmong F.may_find self.new.first self.new.places.items found → IsFoundOf TellsService kept.now found) }
         ensures crash { (found : Option (List ℕ)) → MayFindAmong F.may_find self.new.first self.new.places.items found
             → MayFindAmong F.may_find self.old.first self.old.places.items found ⊎ IsFoundOf TellsService kept.now found }
+        ensures most { OnOk result (IsMajority (count_by is_current self.new.places.items) (length self.new.places.items)) }
+        ensures items { SavesItems F.may_leave F.has_items kept.now (is_ok result) self.old.places.items self.new.places.items }
     {
         match StoredRecord::of(alloc, kept) {
             Ok(stored) => self.save_stored(rt, alloc, &stored),
@@ -211,6 +230,8 @@ impl<F: SaveCopy + Send> Copies<F> {
         ensures saved { IsTrue result → (found : Option (List ℕ)) → MayFindAmong F.may_find self.new.first self.new.places.items found → IsFoundOf TellsService kept.now found }
         ensures crash { (found : Option (List ℕ)) → MayFindAmong F.may_find self.new.first self.new.places.items found
             → MayFindAmong F.may_find self.old.first self.old.places.items found ⊎ IsFoundOf TellsService kept.now found }
+        ensures most { IsTrue result → IsMajority (count_by is_current self.new.places.items) (length self.new.places.items) }
+        ensures items { SavesItems F.may_leave F.has_items kept.now result self.old.places.items self.new.places.items }
     {
         match self.save_record(rt, alloc, kept) {
             Ok(()) => {
@@ -235,6 +256,8 @@ fn save_lent<F: SaveCopy + Send, R: Threads + Sync>(
     ensures saved { IsTrue result → (found : Option (List ℕ)) → MayFindAmong F.may_find copies.new.first copies.new.places.items found → IsFoundOf TellsService kept.old found }
     ensures crash { (found : Option (List ℕ)) → MayFindAmong F.may_find copies.new.first copies.new.places.items found
         → MayFindAmong F.may_find copies.old.first copies.old.places.items found ⊎ IsFoundOf TellsService kept.old found }
+    ensures most { IsTrue result → IsMajority (count_by is_current copies.new.places.items) (length copies.new.places.items) }
+    ensures items { SavesItems F.may_leave F.has_items kept.old result copies.old.places.items copies.new.places.items }
 {
     copies.save(rt, alloc, kept)
 }
@@ -253,6 +276,8 @@ pub fn save_apart<F: SaveCopy + Send, R: Threads + Sync, W: FnMut()>(
     ensures saved { IsTrue result → (found : Option (List ℕ)) → MayFindAmong F.may_find copies.new.first copies.new.places.items found → IsFoundOf TellsService kept.old found }
     ensures crash { (found : Option (List ℕ)) → MayFindAmong F.may_find copies.new.first copies.new.places.items found
         → MayFindAmong F.may_find copies.old.first copies.old.places.items found ⊎ IsFoundOf TellsService kept.old found }
+    ensures most { IsTrue result → IsMajority (count_by is_current copies.new.places.items) (length copies.new.places.items) }
+    ensures items { SavesItems F.may_leave F.has_items kept.old result copies.old.places.items copies.new.places.items }
 {
     let (is_saved, _) = thread::join_mut(
         rt,
@@ -261,6 +286,8 @@ pub fn save_apart<F: SaveCopy + Send, R: Threads + Sync, W: FnMut()>(
             ensures saved { IsTrue result → (found : Option (List ℕ)) → MayFindAmong F.may_find copies.exit.now.first copies.exit.now.places.items found → IsFoundOf TellsService kept.entry.now found }
             ensures crash { (found : Option (List ℕ)) → MayFindAmong F.may_find copies.exit.now.first copies.exit.now.places.items found
                 → MayFindAmong F.may_find copies.entry.now.first copies.entry.now.places.items found ⊎ IsFoundOf TellsService kept.entry.now found }
+            ensures most { IsTrue result → IsMajority (count_by is_current copies.exit.now.places.items) (length copies.exit.now.places.items) }
+            ensures items { SavesItems F.may_leave F.has_items kept.entry.now result copies.entry.now.places.items copies.exit.now.places.items }
         { save_lent(copies, rt, alloc, kept) },
         work,
     );

@@ -1,9 +1,10 @@
 //! Folders of the host's file system.
 
-ghost use Rattle.std.specs.Prelude.{IfOk, IfSome};
+ghost use Rattle.std.specs.Prelude.{◌≡◌, IfOk, IfSome, IfNone};
 ghost use Rattle.data_folder.specs.Text.{TellsService};
-ghost use Rattle.data_folder.specs.Host.{host_may_find};
-ghost use Rattle.data_folders.specs.Copies.{MayFindAmong, IsClaimed, IsNewestRecord};
+ghost use Rattle.data_folder.specs.Host.{host_may_find, host_may_leave, host_has_items};
+ghost use Rattle.data_folders.specs.Copies.{is_current, MayFindAmong, IsClaimed, IsNewestRecord};
+ghost use Rattle.data_folders.specs.CopyItems.{SavesItems, ClaimsItems};
 
 use crate::copies::{Copies, save_apart};
 use crate::fault::FoldersFault;
@@ -36,6 +37,8 @@ impl HostFolders {
     ) -> Result<(HostFolders, Option<ServiceRecord>), FoldersFault>
         ensures newest { IfOk result (λ begun. IfSome begun.1 (IsNewestRecord opened.finds.items)) }
         ensures claimed { IfOk result (λ begun. IfSome begun.1 (λ _. IsClaimed begun.0.copies.places.items)) }
+        ensures items { IfOk result (λ begun. IfSome begun.1 (λ found. ClaimsItems host_may_leave host_has_items found opened.places.items begun.0.copies.places.items)) }
+        ensures empty { IfOk result (λ begun. IfNone begun.1 (begun.0.copies.places ≡ opened.places)) }
     {
         match opened.begin(rt, alloc) {
             Ok((copies, found)) => Ok((HostFolders { copies }, found)),
@@ -45,6 +48,11 @@ impl HostFolders {
 }
 
 impl Save for HostFolders {
+    ghost use denote.Param.Send.{IsSync};
+    ghost use Rattle.std.specs.Prelude.{◌⊎◌, ℕ, List, Option, IsTrue, length, count_by};
+    ghost use Rattle.folders.specs.Folders.{IsMajority};
+    ghost use Rattle.server.specs.Durable.{IsFoundOf};
+
     ghost may_find = { λ f found. MayFindAmong host_may_find f.copies.first f.copies.places.items found };
 
     ghost is_text = { TellsService };
@@ -56,7 +64,15 @@ impl Save for HostFolders {
 
     /// Saves the record in each folder that is open. If it answers true more than half of all folders have it, and a
     /// later start that reads more than half of them begins with it, until another one is saved.
-    fn save<R: Threads + Sync>(&mut self, rt: &R, alloc: Global, kept: &ServiceRecord) -> bool {
+    ///
+    /// Of each folder the clause `items` says which items its file has then, and what a crash leaves meanwhile.
+    fn save<R: Threads + Sync>(&mut self, rt: &R, alloc: Global, kept: &ServiceRecord) -> bool
+        ensures saved { IsTrue result → (found : Option (List ℕ)) → MayFindAmong host_may_find self.new.copies.first self.new.copies.places.items found → IsFoundOf TellsService kept.now found }
+        ensures crash { (found : Option (List ℕ)) → MayFindAmong host_may_find self.new.copies.first self.new.copies.places.items found
+            → MayFindAmong host_may_find self.old.copies.first self.old.copies.places.items found ⊎ IsFoundOf TellsService kept.now found }
+        ensures most { IsTrue result → IsMajority (count_by is_current self.new.copies.places.items) (length self.new.copies.places.items) }
+        ensures items { SavesItems host_may_leave host_has_items kept.now result self.old.copies.places.items self.new.copies.places.items }
+    {
         self.copies.save(rt, alloc, kept)
     }
 
@@ -67,7 +83,16 @@ impl Save for HostFolders {
         alloc: Global,
         kept: &mut ServiceRecord,
         work: &mut F,
-    ) -> bool {
+    ) -> bool
+        requires sync { IsSync R.row }
+        requires pre { F.pre work.old }
+        ensures worked { F.step work.old tt work.new }
+        ensures saved { IsTrue result → (found : Option (List ℕ)) → MayFindAmong host_may_find self.new.copies.first self.new.copies.places.items found → IsFoundOf TellsService kept.old found }
+        ensures crash { (found : Option (List ℕ)) → MayFindAmong host_may_find self.new.copies.first self.new.copies.places.items found
+            → MayFindAmong host_may_find self.old.copies.first self.old.copies.places.items found ⊎ IsFoundOf TellsService kept.old found }
+        ensures most { IsTrue result → IsMajority (count_by is_current self.new.copies.places.items) (length self.new.copies.places.items) }
+        ensures items { SavesItems host_may_leave host_has_items kept.old result self.old.copies.places.items self.new.copies.places.items }
+    {
         save_apart(&mut self.copies, rt, alloc, kept, work)
     }
 

@@ -3,7 +3,9 @@
 ghost use Rattle.std.specs.Prelude.{◌≡◌, IsTrue, IfSome, IfOk, Some, None, All};
 ghost use Rattle.std.specs.List.{AllZip};
 ghost use Rattle.data_folder.specs.Found.{FindsCopy};
+ghost use Rattle.data_folder.specs.Items.{OpensWith};
 ghost use Rattle.data_folders.specs.Copies.{OpensAs, IsFoundIn, found_stamp, stamps_in, IsNewestCopy};
+ghost use Rattle.data_folders.specs.CopyItems.{OpensItems, HasItemsFound};
 
 use crate::place::FolderPlace;
 use data_folder::{DataFault, FoundCopy, SaveCopy};
@@ -18,6 +20,7 @@ pub struct Opened<F: SaveCopy> {
     /// Which site's data folders without a copy will have.
     pub site: u64,
     ghost pairs: { ∥ AllZip (OpensAs F.may_find) places.items finds.items ∥₁ },
+    ghost items: { ∥ AllZip (OpensItems F.may_leave F.has_items) places.items finds.items ∥₁ },
 }
 
 impl<F: SaveCopy + Drop> Drop for Opened<F> {
@@ -79,13 +82,16 @@ impl<F: SaveCopy + Drop> Opened<F> {
 
     /// One more folder, and what was found in it. `None`: it is not open.
     pub fn push(&mut self, copy: Option<F>, found: Option<FoundCopy>) -> Result<(), AllocError>
-        requires { IsFoundIn F.may_find copy found }
+        requires finds { IsFoundIn F.may_find copy found }
+        requires items { HasItemsFound F.may_leave F.has_items copy found }
     {
         self.places.reserve(1)?;
         self.finds.reserve(1)?;
         let place = FolderPlace {
             copy,
             fault: Some(SaveFault::Disk),
+            made: 0,
+            failed: 0,
         };
         self.places.push_reserved(place);
         self.finds.push_reserved(found);
@@ -120,7 +126,8 @@ impl<F: SaveCopy + Drop> Opened<F> {
 
     /// Uses this folder, which is empty, in place of one that is not open.
     fn renew(&mut self, at: usize, copy: F)
-        requires { IsFoundIn F.may_find (Some copy) None }
+        requires finds { IsFoundIn F.may_find (Some copy) None }
+        requires items { HasItemsFound F.may_leave F.has_items (Some copy) None }
     {
         if at < self.places.len() && at < self.finds.len() && self.finds[at].is_none() {
             self.places[at].copy = Some(copy);
@@ -137,7 +144,8 @@ impl<F: SaveCopy + Drop> Opened<F> {
         copy: F,
         found: Option<FoundCopy>,
     ) -> Result<(), DataFault>
-        requires { FindsCopy (F.may_find copy) found }
+        requires finds { FindsCopy (F.may_find copy) found }
+        requires items { OpensWith (F.may_leave copy) (F.has_items copy) found }
     {
         match found {
             None => {

@@ -10,6 +10,7 @@ use daemon::{
 };
 use libc::net::{SO_KEEPALIVE, SOL_SOCKET, setsockopt};
 use log::{error, warn};
+use metrics::Folders;
 use mio::net::TcpListener as MioTcpListener;
 use server::{
     Listener, Options, Save, SaveFault, ServeFault, Service, ServiceRecord, Watcher, serve_beside,
@@ -161,11 +162,11 @@ fn attend<
         + Sync,
     S: Save,
 >(rt: &R, watcher: &Watcher<'_, S>, status: Option<TcpListener>, known: Known<'_>) {
-    let first = known.figures(rt, watcher);
+    let first = known.look(rt, watcher, &Folders::NONE);
     if known.has_found() {
-        tell_begun(&Stamped(rt), Some(first.memory.items));
+        tell_begun(&Stamped(rt), Some(first.figures.memory.items));
     }
-    let now = Shown::new(rt.alloc(), first);
+    let now = Shown::new(rt.alloc(), first.figures, first.folders);
     let shown = &now;
     thread::scope(thread::scope_env(), rt, |scope| {
         if let Some(listener) = status {

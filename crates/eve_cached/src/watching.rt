@@ -7,11 +7,15 @@ use daemon::{
 };
 use data_folder::FILES;
 use figures::{Figures, Limits, Process};
-use server::{Save, SaveFault, Watcher};
+use metrics::{FolderFigures, Folders};
+use server::{MOST_FOLDERS, Save, SaveFault, SaveFolder, SaveFolders, Watcher};
 use std::rt::{Clock, Files};
 use std::sync::Wait;
 use std::time::{Duration, Instant};
 use std::{fs, thread};
+
+// Each folder of which the server tells is shown.
+const _: () = prove!(MOST_FOLDERS == metrics::MOST_FOLDERS);
 
 /// The bytes of a page of memory.
 const PAGE_BYTES: u64 = 4096;
@@ -46,11 +50,50 @@ fn folder_bytes<R: Files + AllocGlobal>(rt: &R, folder: &str) -> u64 {
     sum
 }
 
-/// The bytes of the files in all folders of data.
-fn data_bytes<R: Files + AllocGlobal>(rt: &R, folders: &[String]) -> u64 {
+/// What is known of a folder now, in this second since 1970, after what was known of it before.
+fn folder_now<R: Files + AllocGlobal>(
+    rt: &R,
+    path: &str,
+    counted: SaveFolder,
+    before: FolderFigures,
+    second: u64,
+) -> FolderFigures {
+    FolderFigures {
+        is_current: counted.is_current,
+        made: counted.made,
+        failed: counted.failed,
+        saved_at: if before.made < counted.made {
+            second
+        } else {
+            before.saved_at
+        },
+        bytes: folder_bytes(rt, path),
+    }
+}
+
+/// What is known of each of these folders now, after what was known before.
+fn folders_now<R: Clock + Files + AllocGlobal>(
+    rt: &R,
+    paths: &[String],
+    counted: &SaveFolders,
+    before: &Folders,
+) -> Folders {
+    let second = seconds(rt);
+    let mut now = Folders::NONE;
+    for at in 0..MOST_FOLDERS {
+        if let Some(path) = paths.get(at) {
+            now.each[at] = folder_now(rt, path.as_str(), counted.each[at], before.each[at], second);
+        }
+    }
+    now.count = u8::try_from(paths.len()).unwrap_or(u8::MAX);
+    now
+}
+
+/// The bytes of the files in all folders.
+fn bytes_in(folders: &Folders) -> u64 {
     let mut sum: u64 = 0;
-    for folder in folders {
-        sum = sum.saturating_add(folder_bytes(rt, folder.as_str()));
+    for folder in folders.there() {
+        sum = sum.saturating_add(folder.bytes);
     }
     sum
 }
@@ -83,6 +126,15 @@ pub fn connections_of<R: Files + Clock + Eprint + AllocGlobal>(rt: &R, settings:
         }
         _ => asked,
     }
+}
+
+/// What is seen of a server.
+#[derive(Clone, Copy)]
+pub struct Look {
+    pub figures: Figures,
+    pub folders: Folders,
+    /// The first folder that does not have the last save, from 0, and why.
+    behind: Option<(usize, SaveFault)>,
 }
 
 /// What this process knows of itself.
@@ -138,19 +190,27 @@ impl<'a> Known<'a> {
         }
     }
 
-    /// What the server has counted, and what this process knows of itself.
-    pub fn figures<R: Wait + Clock + Files + AllocGlobal, S: Save>(
+    /// What the server has counted, and what this process knows of itself and of its folders, after what was known of
+    /// these before.
+    pub fn look<R: Wait + Clock + Files + AllocGlobal, S: Save>(
         &self,
         rt: &R,
         watcher: &Watcher<'_, S>,
-    ) -> Figures {
+        before: &Folders,
+    ) -> Look {
         let mut figures = watcher.figures(rt);
+        let counted = watcher.save_folders(rt);
+        let folders = folders_now(rt, self.folders, &counted, before);
         figures.uptime_seconds = self.uptime(rt);
         figures.process = self.process;
         figures.limits = self.limits;
         figures.memory.resident_bytes = resident_bytes(rt);
-        figures.saves.bytes = data_bytes(rt, self.folders);
-        figures
+        figures.saves.bytes = bytes_in(&folders);
+        Look {
+            figures,
+            folders,
+            behind: counted.behind,
+        }
     }
 }
 
@@ -170,13 +230,12 @@ fn tells_of_saves<R: Wait + Clock + Eprint, S: Save>(
 }
 
 /// Tells if another folder lacks the last save than was told before, which is changed, and if each has it again.
-fn tells_of_folders<R: Wait + Clock + Eprint, S: Save>(
+fn tells_of_folders<R: Clock + Eprint>(
     rt: &R,
-    watcher: &Watcher<'_, S>,
+    behind: Option<(usize, SaveFault)>,
     folders: &[String],
     told: &mut Option<usize>,
 ) {
-    let behind = watcher.save_folders(rt).behind;
     let at = behind.map(|(at, _)| at);
     if at == *told {
         return;
@@ -200,9 +259,10 @@ pub fn watch<R: Wait + Clock + Files + Eprint + AllocGlobal, S: Save>(
     shown: &Shown,
     known: Known<'_>,
 ) {
-    let first = known.figures(rt, watcher);
-    watcher.see(rt, &first);
-    let mut report = Report::new(Totals::of(&first));
+    let first = known.look(rt, watcher, &Folders::NONE);
+    watcher.see(rt, &first.figures);
+    let mut report = Report::new(Totals::of(&first.figures));
+    let mut folders = first.folders;
     let mut saves = SaveWatch::NONE;
     let mut told = None;
     for _ in rt.forever() {
@@ -210,13 +270,14 @@ pub fn watch<R: Wait + Clock + Files + Eprint + AllocGlobal, S: Save>(
         if watcher.has_ended() || tells_of_saves(rt, watcher, &mut saves) {
             return;
         }
-        let figures = known.figures(rt, watcher);
-        if 1 < known.folders.len() && 0 < figures.saves.made {
-            tells_of_folders(rt, watcher, known.folders, &mut told);
+        let look = known.look(rt, watcher, &folders);
+        folders = look.folders;
+        if 1 < known.folders.len() && 0 < look.figures.saves.made {
+            tells_of_folders(rt, look.behind, known.folders, &mut told);
         }
-        watcher.see(rt, &figures);
-        shown.renew(rt, figures);
-        let due = report.due(Totals::of(&figures), seconds(rt));
-        tell(&Stamped(rt), due, &figures);
+        watcher.see(rt, &look.figures);
+        shown.renew(rt, look.figures, look.folders);
+        let due = report.due(Totals::of(&look.figures), seconds(rt));
+        tell(&Stamped(rt), due, &look.figures);
     }
 }

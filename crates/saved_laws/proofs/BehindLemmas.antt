@@ -6,7 +6,8 @@ use Rattle.event_loop.specs.declared.message.Said.{Said}
 use Rattle.service.specs.Record.{RecordView}
 use Rattle.server.specs.Answering.{AnsweringView}
 use Rattle.server.specs.Durable.{IsOfMoment, Releases}
-use Rattle.saved_laws.specs.Behind.{Moment, moment_with, IsOfOne, IsBehind}
+use Rattle.server.specs.Behind.{Moment, moment_with, IsOfOne}
+use Rattle.saved_laws.specs.Behind.{IsBehind}
 
 module _ (is_text : RecordView → List ℕ → Type 0) (begun : Option (List ℕ) → Type 0) where
   one_more : (moments : List Moment) (left : List Said) (now : Moment) (found : Option (List ℕ)) → IsOfOne is_text moments left found → IsOfOne is_text (moments ++ now ∷ []) left found

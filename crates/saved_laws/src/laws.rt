@@ -4,7 +4,8 @@ ghost use Rattle.std.specs.Prelude.{◌∷◌, ◌++◌, [], ℕ, List, Contains
 ghost use Rattle.event_loop.specs.declared.message.Said.{Said};
 ghost use Rattle.server.specs.Answering.{AnsweringView};
 ghost use Rattle.server.specs.Durable.{HandsOutSaved};
-ghost use Rattle.saved_laws.specs.Behind.{Moment, moment_with, IsBehind};
+ghost use Rattle.server.specs.Behind.{Moment, moment_with};
+ghost use Rattle.saved_laws.specs.Behind.{IsBehind};
 
 use server::Save;
 

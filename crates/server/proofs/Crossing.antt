@@ -8,8 +8,10 @@ use Rattle.std.proofs.collections.VecDeque.TheSendSync as deque
 use Rattle.std.proofs.vec.Vec.TheSendSync as vec
 use Rattle.event_loop.proofs.message.Said.TheSendSync as said
 use Rattle.figures.proofs.histogram.Histogram.TheSendSync as histogram
+use Rattle.http_server.proofs.log.Log.TheSendSync as log
 use Rattle.service.proofs.Crossing.{service_send}
 use Rattle.server.proofs.answering.Lost.TheSendSync as lost
+use Rattle.server.specs.declared.save.Save as saves
 use Rattle.server.specs.contracts.answering.Answering as answering
 use Rattle.server.specs.contracts.durable.DurableService as durable
 
@@ -19,6 +21,7 @@ ruleset parts = (
   lost.the_send,
   lost.the_field_send,
   deque.the_send,
+  log.the_send,
   vec.the_send,
   global.the_send,
   global.the_field_send,
@@ -29,5 +32,8 @@ pub answering_send : IsSend answering.the_row
 answering_send = search (parts, sendable) depth 60 fits 20000
 
 -- With where its record is saved, if that may go there, and what is held.
-pub durable_send : (T : RattleType) → IsSend T → IsSend (durable.the_row T)
-durable_send T s = recorded_send _ _ _ (durable.the_type T).to_one (struct_send (shape (durable.the_type T)) (global.the_field_send, (answering_send, (s, ((search (parts, sendable)), ((search (parts, sendable)), ((search (parts, sendable)), ((search (parts, sendable)), ((search (histogram.the_field_send, crosses, sendable)), tt)))))))))
+pub durable_send : (T : RattleType) (g : saves.Ghosts T.Denot) → IsSend T → IsSend (durable.the_row T g)
+durable_send T g s =
+    let left = (search (parts, sendable) depth 60 fits 20000) in
+    let moments = (search (answering_send, parts, sendable) depth 60 fits 20000) in
+    recorded_send _ _ _ (durable.the_type T g).to_one (struct_send (shape (durable.the_type T g)) (global.the_field_send, (answering_send, (s, ((search (parts, sendable)), ((search (parts, sendable)), ((search (parts, sendable)), ((search (parts, sendable)), ((search (histogram.the_field_send, crosses, sendable)), (left, (moments, tt)))))))))))

@@ -1,3 +1,4 @@
 mod Crossing
 mod HandLemmas
 mod DurableLemmas
+mod BehindLemmas

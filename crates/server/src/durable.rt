@@ -3,12 +3,14 @@
 ghost use Rattle.std.specs.Prelude.{◌≡◌, ◌⊎◌, ℕ, List, Option, IsTrue};
 ghost use denote.Param.Send.{IsSync};
 ghost use Rattle.server.specs.Answering.{DoesWhatIsDue};
-ghost use Rattle.server.specs.Durable.{IsFoundOf};
+ghost use Rattle.server.specs.Durable.{IsFoundOf, IsSavedNow, MayBeSavedNow};
+ghost use Rattle.server.specs.Behind.{LeavesBehind, all_left, moments_noted};
 
 use crate::answering::Answering;
 use crate::save::{Save, SaveFault, SaveFolders};
 use event_loop::{Heard, Said, Serve};
 use figures::{Figures, Histogram, Saves, one_more};
+use http_server::Log;
 use service::{Service, ServiceRecord};
 use std::alloc::Global;
 use std::mem;
@@ -28,7 +30,9 @@ const MOST_GATHERED: usize = 512;
 ///
 /// A save is for all that was said until nothing more is to be done. If that is much, it is held and saved while the
 /// service goes on.
-pub struct DurableService<S> {
+///
+/// It always holds that whatever another process may find is of a moment by which all that has left was said (`always`).
+pub struct DurableService<S: Save> {
     alloc: Global,
     answering: Answering,
     saver: S,
@@ -42,6 +46,11 @@ pub struct DurableService<S> {
     failed: u64,
     /// What they took.
     times: Histogram,
+    /// All that has left, in order. It is known to the proof alone, as what follows: a log has no bytes.
+    left: Log<(), Vec<Said>>,
+    /// The moments of which a record was saved, or was to be: the service, and what has left once all that was held then has.
+    moments: Log<Answering, Log<(), Vec<Said>>>,
+    ghost behind: { LeavesBehind S.is_text (S.may_find saver) (moments_noted (λ l. l.items) moments.items) (all_left left.items) },
 }
 
 /// How long it is since this moment, in microseconds. 0: the clock cannot be read.
@@ -51,6 +60,23 @@ fn micros_since<C: Clock>(clock: &C, begun: Option<Instant>) -> u64 {
             now.saturating_duration_since(begun).as_micros(),
         ).unwrap_or(u64::MAX),
         _ => 0,
+    }
+}
+
+/// Saves a record of this moment: whether it is saved.
+fn save_now<S: Save, R: Threads + Sync>(
+    saver: &mut S,
+    rt: &R,
+    alloc: Global,
+    answering: &Answering,
+) -> bool
+    requires { IsSync R.row }
+    ensures saved { IsTrue result → IsSavedNow S.is_text (S.may_find saver.new) answering.now.service }
+    ensures crash { MayBeSavedNow S.is_text (S.may_find saver.old) (S.may_find saver.new) answering.now.service }
+{
+    match answering.record() {
+        Ok(record) => saver.save(rt, alloc, &record),
+        Err(_) => false,
     }
 }
 
@@ -82,8 +108,9 @@ fn save_and_run<S: Save, R: Threads + Wait + Sync, C: Clock>(
 
 impl<S: Save> DurableService<S> {
     ghost use denote.Param.Send.{IsSync};
-    ghost use Rattle.std.specs.Prelude.{◌≡◌, [], true, false, not};
+    ghost use Rattle.std.specs.Prelude.{◌≡◌, ◌++◌, ◌∷◌, [], true, false, not, Contains};
     ghost use Rattle.server.specs.Durable.{IsSavedNow, MayBeSavedNow, ReleasesHeld};
+    ghost use Rattle.server.specs.Behind.{LeavesBehind, moment_with, all_left, moments_noted};
 
     /// Nothing is held.
     pub fn new(alloc: Global, answering: Answering, saver: S) -> DurableService<S>
@@ -91,6 +118,8 @@ impl<S: Save> DurableService<S> {
         ensures saver { result.saver ≡ saver }
         ensures none { result.held.items ≡ [] }
         ensures fine { result.is_failing ≡ false }
+        ensures left { all_left result.left.items ≡ [] }
+        ensures moments { moments_noted (λ l. l.items) result.moments.items ≡ [] }
     {
         DurableService {
             alloc,
@@ -101,8 +130,16 @@ impl<S: Save> DurableService<S> {
             made: 0,
             failed: 0,
             times: Histogram::NONE,
+            left: Log::new(),
+            moments: Log::new(),
         }
     }
+
+    /// Whatever another process may find is of one of the moments that were noted, by which all that has left was said; or
+    /// nothing has left.
+    pub fn always(&self)
+        ensures { LeavesBehind S.is_text (S.may_find self.now.saver) (moments_noted (λ l. l.items) self.now.moments.items) (all_left self.now.left.items) }
+    {}
 
     /// The service itself, and where its record was saved. What is held nobody sees.
     pub fn into_parts(self) -> (Service, S)
@@ -118,6 +155,8 @@ impl<S: Save> DurableService<S> {
             made: _,
             failed: _,
             times: _,
+            left: _,
+            moments: _,
         } = self;
         drop(held);
         (answering.into_service(), saver)
@@ -168,6 +207,8 @@ impl<S: Save> DurableService<S> {
         ensures answering { self.new.answering ≡ self.old.answering }
         ensures saver { self.new.saver ≡ self.old.saver }
         ensures held { self.new.held ≡ self.old.held }
+        ensures left { self.new.left ≡ self.old.left }
+        ensures moments { self.new.moments ≡ self.old.moments }
         ensures failing { self.new.is_failing ≡ not is_saved }
     {
         if is_saved {
@@ -179,24 +220,25 @@ impl<S: Save> DurableService<S> {
         self.is_failing = !is_saved;
     }
 
-    /// Saves a record of this moment: whether it is saved.
+    /// Notes this moment, and saves a record of it: whether it is saved.
     fn save<R: Threads + Sync, C: Clock>(&mut self, rt: &R, clock: &C) -> bool
         requires { IsSync R.row }
         ensures answering { self.new.answering ≡ self.old.answering }
         ensures held { self.new.held ≡ self.old.held }
+        ensures left { self.new.left ≡ self.old.left }
+        ensures moments { moments_noted (λ l. l.items) self.new.moments.items ≡ moments_noted (λ l. l.items) self.old.moments.items ++ moment_with self.old.answering (all_left self.old.left.items) self.old.held.items ∷ [] }
         ensures failing { self.new.is_failing ≡ not result }
         ensures saved { IsTrue result → IsSavedNow S.is_text (S.may_find self.new.saver) self.old.answering.service }
         ensures crash { MayBeSavedNow S.is_text (S.may_find self.old.saver) (S.may_find self.new.saver) self.old.answering.service }
     {
+        let then = self.left.and(&(), &self.held);
+        self.moments = self.moments.and(&self.answering, &then);
         if !self.saver.keeps() {
             self.is_failing = false;
             return true;
         }
         let begun = Instant::now(clock).ok();
-        let is_saved = match self.answering.record() {
-            Ok(record) => self.saver.save(rt, self.alloc, &record),
-            Err(_) => false,
-        };
+        let is_saved = save_now(&mut self.saver, rt, self.alloc, &self.answering);
         self.note(is_saved, micros_since(clock, begun));
         is_saved
     }
@@ -206,6 +248,9 @@ impl<S: Save> DurableService<S> {
         requires { IsSync R.row }
         ensures answering { self.new.answering ≡ self.old.answering }
         ensures releases { ReleasesHeld S.is_text (S.may_find self.old.saver) (S.may_find self.new.saver) self.old.answering.service self.old.held.items result.items self.new.held.items }
+        ensures left { all_left self.new.left.items ≡ all_left self.old.left.items ++ result.items }
+        ensures moments { (moments_noted (λ l. l.items) self.new.moments.items ≡ moments_noted (λ l. l.items) self.old.moments.items)
+            ⊎ (moments_noted (λ l. l.items) self.new.moments.items ≡ moments_noted (λ l. l.items) self.old.moments.items ++ moment_with self.old.answering (all_left self.old.left.items) self.old.held.items ∷ []) }
         ensures failing { self.new.is_failing ≡ true → result.items ≡ [] }
         ensures leaves { self.new.is_failing ≡ false → result.items ≡ self.old.held.items }
     {
@@ -214,6 +259,7 @@ impl<S: Save> DurableService<S> {
             return Vec::new(self.alloc);
         }
         if self.save(rt, clock) {
+            self.left = self.left.and(&(), &self.held);
             mem::replace(&mut self.held, Vec::new(self.alloc))
         } else {
             Vec::new(self.alloc)
@@ -223,10 +269,11 @@ impl<S: Save> DurableService<S> {
 
 impl<S: Save> DurableService<S> {
     ghost use denote.Param.Send.{IsSync};
-    ghost use Rattle.std.specs.Prelude.{◌≡◌, ◌⊎◌, [], true, false};
+    ghost use Rattle.std.specs.Prelude.{◌≡◌, ◌⊎◌, ◌++◌, ◌∷◌, [], true, false};
     ghost use Rattle.service.specs.Process.{kept_of};
     ghost use Rattle.service.specs.Record.{kept_in};
     ghost use Rattle.server.specs.Durable.{HandsOutSaved};
+    ghost use Rattle.server.specs.Behind.{moment_with, all_left, moments_noted};
 
     /// Saves the record, which is of this moment, while the service works. If it is saved what was held leaves, and what
     /// the service says is held. Else both wait.
@@ -242,7 +289,11 @@ impl<S: Save> DurableService<S> {
         ensures saved { HandsOutSaved S.is_text (S.may_find self.old.saver) (S.may_find self.new.saver) seconds self.old.answering self.old.held.items result.items self.new.answering self.new.held.items }
         ensures failing { self.new.is_failing ≡ true → result.items ≡ [] }
         ensures leaves { self.new.is_failing ≡ false → result.items ≡ self.old.held.items }
+        ensures left { all_left self.new.left.items ≡ all_left self.old.left.items ++ result.items }
+        ensures moments { moments_noted (λ l. l.items) self.new.moments.items ≡ moments_noted (λ l. l.items) self.old.moments.items ++ moment_with self.old.answering (all_left self.old.left.items) self.old.held.items ∷ [] }
     {
+        let then = self.left.and(&(), &self.held);
+        self.moments = self.moments.and(&self.answering, &then);
         let begun = Instant::now(clock).ok();
         let is_saved = save_and_run(
             &mut self.saver,
@@ -258,6 +309,7 @@ impl<S: Save> DurableService<S> {
             return Vec::new(self.alloc);
         }
         let said = self.answering.take_said();
+        self.left = self.left.and(&(), &self.held);
         mem::replace(&mut self.held, said)
     }
 
@@ -272,6 +324,8 @@ impl<S: Save> DurableService<S> {
         ensures ran { DoesWhatIsDue seconds self.old.answering self.new.answering ⊎ (self.new.answering ≡ self.old.answering) }
         ensures saver { self.new.saver ≡ self.old.saver }
         ensures held { self.new.held ≡ self.old.held }
+        ensures left { self.new.left ≡ self.old.left }
+        ensures moments { self.new.moments ≡ self.old.moments }
         ensures failing { self.new.is_failing ≡ self.old.is_failing }
     {
         if self.answering.has_said() && !self.answering.has_work() {
@@ -299,6 +353,9 @@ impl<S: Save> DurableService<S> {
         ensures failing { self.new.is_failing ≡ true → result.items ≡ [] }
         ensures leaves { self.new.is_failing ≡ false → result.items ≡ self.old.held.items }
         ensures rests { self.old.is_failing ≡ true → self.new.answering ≡ self.old.answering }
+        ensures left { all_left self.new.left.items ≡ all_left self.old.left.items ++ result.items }
+        ensures moments { (moments_noted (λ l. l.items) self.new.moments.items ≡ moments_noted (λ l. l.items) self.old.moments.items)
+            ⊎ (moments_noted (λ l. l.items) self.new.moments.items ≡ moments_noted (λ l. l.items) self.old.moments.items ++ moment_with self.old.answering (all_left self.old.left.items) self.old.held.items ∷ []) }
     {
         if self.is_failing {
             return self.hand_out(rt, clock);
@@ -315,12 +372,13 @@ impl<S: Save> DurableService<S> {
 
 impl<S: Save> Serve for DurableService<S> {
     ghost use denote.Param.Send.{IsSync};
-    ghost use Rattle.std.specs.Prelude.{◌≡◌, ◌≢◌, ◌⊎◌, ℕ, [], true, false};
+    ghost use Rattle.std.specs.Prelude.{◌≡◌, ◌≢◌, ◌⊎◌, ◌++◌, ℕ, [], true, false};
     ghost use Rattle.service.specs.Steps.{NoneWaits};
     ghost use Rattle.service.specs.Owed.{AllWait, IsFreeIn};
     ghost use Rattle.service.specs.Ticks.{HaveWaited, HavePaused, NodesHaveTicked, HasSameAsked, AreAllUpIn};
     ghost use Rattle.server.specs.Answering.{HandsInAll};
     ghost use Rattle.server.specs.Durable.{HandsOutSaved};
+    ghost use Rattle.server.specs.Behind.{moment_with, all_left, moments_noted, NotesAtMostOne};
 
     fn set_micros(&mut self, micros: u64)
         ensures { self.new ≡ self.old }
@@ -332,6 +390,8 @@ impl<S: Save> Serve for DurableService<S> {
         ensures handed { HandsInAll heard.items self.old.answering self.new.answering }
         ensures saver { self.new.saver ≡ self.old.saver }
         ensures held { self.new.held ≡ self.old.held }
+        ensures left { self.new.left ≡ self.old.left }
+        ensures moments { self.new.moments ≡ self.old.moments }
         ensures failing { self.new.is_failing ≡ self.old.is_failing }
     {
         self.answering.hear(heard);
@@ -348,6 +408,9 @@ impl<S: Save> Serve for DurableService<S> {
         ensures failing { self.new.is_failing ≡ true → result.items ≡ [] }
         ensures leaves { self.new.is_failing ≡ false → (self.old.held.items ≡ []) ⊎ (result.items ≡ self.old.held.items) }
         ensures rests { self.old.is_failing ≡ true → self.new.answering ≡ self.old.answering }
+        ensures left { all_left self.new.left.items ≡ all_left self.old.left.items ++ result.items }
+        ensures moments { NotesAtMostOne (moment_with self.old.answering (all_left self.old.left.items) self.old.held.items) (moment_with self.new.answering (all_left self.new.left.items) self.new.held.items)
+            (moments_noted (λ l. l.items) self.old.moments.items) (moments_noted (λ l. l.items) self.new.moments.items) }
     {
         if self.is_failing || !self.held.is_empty() {
             return self.go_on(rt, clock, seconds);
@@ -372,6 +435,8 @@ impl<S: Save> Serve for DurableService<S> {
         ensures lost { self.new.answering.lost ≡ self.old.answering.lost }
         ensures saver { self.new.saver ≡ self.old.saver }
         ensures held { self.new.held ≡ self.old.held }
+        ensures left { self.new.left ≡ self.old.left }
+        ensures moments { self.new.moments ≡ self.old.moments }
         ensures failing { self.new.is_failing ≡ self.old.is_failing }
     {
         self.answering.tick();

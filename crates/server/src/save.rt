@@ -23,6 +23,29 @@ pub enum SaveFault {
     Disk,
 }
 
+/// So many folders are told of one by one.
+pub const MOST_FOLDERS: usize = 9;
+
+/// What is counted of one folder.
+#[derive(Clone, Copy, Debug, PartialEq, Eq)]
+pub struct SaveFolder {
+    /// Whether its copy is of the last save.
+    pub is_current: bool,
+    /// Saves of this start that were made in it.
+    pub made: u64,
+    /// Saves of this start that were not.
+    pub failed: u64,
+}
+
+impl SaveFolder {
+    /// Nothing was saved in it.
+    pub const NONE: SaveFolder = SaveFolder {
+        is_current: false,
+        made: 0,
+        failed: 0,
+    };
+}
+
 /// How many folders have a copy of what is saved.
 #[derive(Clone, Copy, Debug, PartialEq, Eq)]
 pub struct SaveFolders {
@@ -32,6 +55,8 @@ pub struct SaveFolders {
     pub current: u64,
     /// The first of the others, from 0, and why it is not.
     pub behind: Option<(usize, SaveFault)>,
+    /// The folders, in order. Those from `all` on are not there.
+    pub each: [SaveFolder; MOST_FOLDERS],
 }
 
 /// Where the record of a service is saved, such that another process goes on from it when this one has ended.
@@ -122,6 +147,7 @@ impl Save for NoFolder {
             all: 0,
             current: 0,
             behind: None,
+            each: [SaveFolder::NONE; MOST_FOLDERS],
         }
     }
 }

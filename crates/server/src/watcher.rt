@@ -8,7 +8,7 @@ use std::sync::Wait;
 
 /// What the thread that started a server sees of it.
 #[derive_where(Clone, Copy)]
-pub struct Watcher<'a, S> {
+pub struct Watcher<'a, S: Save> {
     watch: Watch<'a, DurableService<S>>,
 }
 

@@ -234,6 +234,10 @@ fn numbers_of_the_data(rt: HostRuntime) -> Result<(), Fail> {
     assert!(rt; number_at(alloc, "/saves/bytes") == Some(73_728));
     assert!(rt; number_at(alloc, "/saves/folders") == Some(3));
     assert!(rt; number_at(alloc, "/saves/current_folders") == Some(2));
+    assert!(rt; number_at(alloc, "/folders/0/made") == Some(100));
+    assert!(rt; number_at(alloc, "/folders/1/saved_at") == Some(1_764_403_300));
+    assert!(rt; number_at(alloc, "/folders/2/failed") == Some(103));
+    assert!(rt; number_at(alloc, "/folders/3/failed").is_none());
     assert!(rt; number_at(alloc, "/times/reply/counts/1") == Some(1));
     assert!(rt; number_at(alloc, "/times/batch/sum") == Some(1234567));
     assert!(rt; number_at(alloc, "/times/parts/agree/sum") == Some(300));

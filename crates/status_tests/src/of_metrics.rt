@@ -1,9 +1,9 @@
 //! The metrics.
 
 use crate::grammar::is_line;
-use crate::samples::some_figures;
+use crate::samples::{some_figures, some_folders};
 use figures::Figures;
-use metrics::metrics_of;
+use metrics::{Folders, metrics_of};
 use std::alloc::Global;
 use std::test::Fail;
 
@@ -25,27 +25,34 @@ fn has_line(text: &[u8], wanted: &[u8]) -> bool {
     text.split(|b| *b == b'\n').any(|line| line == wanted)
 }
 
-fn are_form(alloc: Global, figures: &Figures, count: usize) -> bool {
-    match metrics_of(alloc, figures) {
+fn are_form(alloc: Global, figures: &Figures, folders: &Folders, count: usize) -> bool {
+    match metrics_of(alloc, figures, folders) {
         Ok(text) => is_form(text.as_slice(), count),
         Err(_) => false,
     }
 }
 
 fn have_line(alloc: Global, wanted: &[u8]) -> bool {
-    match metrics_of(alloc, &some_figures()) {
+    match metrics_of(alloc, &some_figures(), &some_folders()) {
         Ok(text) => has_line(text.as_slice(), wanted),
         Err(_) => false,
     }
 }
 
-/// 43 metrics with two lines each; 32 values, 32 of commands, ten of refused lines, 18 of each of seven histograms. Each
-/// node that is there has a line of two metrics.
+/// 48 metrics with two lines each; 32 values, 32 of commands, ten of refused lines, 18 of each of seven histograms. Each
+/// node that is there has a line of two metrics, and each folder one of five.
 #[test]
 fn each_line_is_of_the_form(rt: HostRuntime) -> Result<(), Fail> {
     let alloc = rt.alloc();
-    assert!(rt; are_form(alloc, &Figures::NONE, 86 + 32 + 32 + 10 + 126));
-    assert!(rt; are_form(alloc, &some_figures(), 86 + 32 + 32 + 10 + 126 + 12));
+    assert!(rt; are_form(alloc, &Figures::NONE, &Folders::NONE, 96 + 32 + 32 + 10 + 126));
+    assert!(rt;
+        are_form(
+            alloc,
+            &some_figures(),
+            &some_folders(),
+            96 + 32 + 32 + 10 + 126 + 12 + 15
+        )
+    );
     Ok(())
 }
 
@@ -94,6 +101,26 @@ fn lines_of_saves(rt: HostRuntime) -> Result<(), Fail> {
     assert!(rt; have_line(alloc, b"eve_folders 3"));
     assert!(rt; have_line(alloc, b"eve_current_folders 2"));
     assert!(rt; have_line(alloc, b"eve_save_seconds_sum 0.000700"));
+    Ok(())
+}
+
+#[test]
+fn lines_of_folders(rt: HostRuntime) -> Result<(), Fail> {
+    let alloc = rt.alloc();
+    assert!(rt; have_line(alloc, b"# TYPE eve_folder_current gauge"));
+    assert!(rt; have_line(alloc, b"eve_folder_current{folder=\"1\"} 1"));
+    assert!(rt; have_line(alloc, b"eve_folder_current{folder=\"2\"} 0"));
+    assert!(rt; have_line(alloc, b"# TYPE eve_folder_saves_total counter"));
+    assert!(rt; have_line(alloc, b"eve_folder_saves_total{folder=\"0\"} 100"));
+    assert!(rt; have_line(alloc, b"eve_folder_save_failures_total{folder=\"1\"} 1"));
+    assert!(rt;
+        have_line(
+            alloc,
+            b"eve_folder_last_save_timestamp_seconds{folder=\"0\"} 1764403300"
+        )
+    );
+    assert!(rt; have_line(alloc, b"eve_folder_bytes{folder=\"0\"} 36864"));
+    assert!(rt; !have_line(alloc, b"eve_folder_bytes{folder=\"3\"} 0"));
     Ok(())
 }
 

@@ -6,4 +6,4 @@ returns-then-len-eq1-clause-bounded g c = later_bounded g.F.SaveCopy.may_find c.
 
 pub returns-then-is_saved-clause-bounded : goal.returns-then-is_saved-clause-bounded
 returns-then-is_saved-clause-bounded g c =
-    claimed_bounded g.F.SaveCopy.may_find c.args.found.now.stamp (record { stamp = c.args.first; text = c.in-Ok.stored.text.items }) c.requires.later c.args.places.now.items c.save_each.new.places.items c.save_each.ensures c.requires.bounded
+    claimed_bounded g.F.SaveCopy.may_find c.args.found.now.stamp (record { stamp = c.args.first; text = c.in-Ok.stored.text.items }) c.requires.later c.args.places.now.items c.save_each.new.places.items c.save_each.ensures.saves c.requires.bounded
