@@ -16,7 +16,7 @@ pub const MOST_CONNECTIONS: u16 = 10000;
 const MOST_IDLE: u32 = 2147483647;
 
 const AFTER: &str =
-    "It serves memcached's text protocol until a signal ends it. Without --data all items are gone then.";
+    "It serves memcached's text protocol until a signal ends it. Without --data all items are gone then.{n}More: man eve_cached (packaging/eve_cached.1 of the source).";
 
 /// What the address of a Unix socket begins with.
 const UNIX: &str = "unix:";
@@ -70,7 +70,7 @@ fn listen_option<'a>(alloc: Global) -> Arg<'a> {
         .value_name("ADDR:PORT|unix:PATH")
         .action(ArgAction::Append)
         .default_value("127.0.0.1:11211")
-        .help("Where clients are served; may be given more than once")
+        .help("Where clients are served;{n}may be given more than once")
 }
 
 /// The option for the replicas.
@@ -81,7 +81,7 @@ fn u_option<'a>(alloc: Global) -> Arg<'a> {
         .value_parser(value_parser!(u8).range(0..=3))
         .default_value("1")
         .help(
-            "2U + 1 executors, which have the items, and 2U + 1 verifiers, which agree; U of each may stop; 0 to 3",
+            "2U + 1 executors, which have the items, and 2U + 1 verifiers,{n}which agree; U of each may stop; 0 to 3",
         )
 }
 
@@ -102,7 +102,7 @@ fn idle_option<'a>(alloc: Global) -> Arg<'a> {
         .value_name("SECONDS")
         .value_parser(value_parser!(u32).range(0..=i64::from(MOST_IDLE)))
         .default_value("0")
-        .help("Closes a connection on which nothing happens for so long; 0: never")
+        .help("Closes a connection on which nothing happens for so long;{n}0: never")
 }
 
 /// The option for the bytes of items.
@@ -110,7 +110,7 @@ fn max_bytes_option<'a>(alloc: Global) -> Arg<'a> {
     Arg::new(alloc, "max-bytes")
         .long("max-bytes")
         .value_name("B")
-        .help("Refuses to store while the items have more bytes; with K, M or G: KiB, MiB, GiB")
+        .help("Refuses to store while the items have more bytes;{n}with K, M or G: KiB, MiB, GiB")
 }
 
 /// The option for the grammar of clients' bytes.
@@ -119,7 +119,7 @@ fn dialect_option<'a>(alloc: Global) -> Arg<'a> {
         .long("dialect")
         .value_name("DIALECT")
         .default_value("memcached")
-        .help("memcached: as memcached reads; profile: only what docs/protocol.md lists")
+        .help("memcached: as memcached reads;{n}profile: fewer forms, as eve_serve reads")
 }
 
 /// The option for the folder in which all is saved.
@@ -129,7 +129,7 @@ fn data_option<'a>(alloc: Global) -> Arg<'a> {
         .value_name("DIR")
         .action(ArgAction::Append)
         .help(
-            "Saves what it answers in this folder before it answers, and goes on from it; given more than once, a copy is in each, and more than half of them have to be there",
+            "Saves what it answers in this folder before it answers,{n}and goes on from it; given more than once, a copy is in each,{n}and more than half of them have to be there",
         )
 }
 
@@ -139,14 +139,14 @@ fn new_option<'a>(alloc: Global) -> Arg<'a> {
         .long("new")
         .action(ArgAction::SetTrue)
         .help(
-            "Begins with empty folders; to be given at the first start with --data, and not later",
+            "Begins with empty folders; to be given at the first start{n}with --data, and not later",
         )
 }
 
 /// The option for what is done after each save.
 fn sync_option<'a>(alloc: Global) -> Arg<'a> {
     Arg::new(alloc, "sync").long("sync").value_name("MODE").help(
-        "turn, or if not given: each save is synced; none: what is saved outlives the process, not the machine",
+        "turn, or if not given: each save is synced;{n}none: what is saved outlives the process, not the machine",
     )
 }
 

@@ -1,7 +1,7 @@
 //! Why a folder cannot be opened, and why a record is not saved.
 
 use proto::Fault;
-use server::SaveFault;
+use service::SaveFault;
 use shelf::ReadFault;
 use sqlite::ErrorCode;
 use sqlite_std_file::OpenError;

@@ -16,7 +16,7 @@ use folders::SaveStamp;
 use item_rows::{RowItems, changes_since};
 use pages::Snapshot;
 use proto::Fault;
-use server::SaveFault;
+use service::SaveFault;
 use shelf::{SavedExtras, SavedProcess, Shelf};
 use sqlite_trees::error::StoreError;
 use sqlite_trees::store::Store;

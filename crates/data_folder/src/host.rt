@@ -12,7 +12,7 @@ use crate::opening::FolderStore;
 use crate::save_copy::{CopyId, SaveCopy};
 use crate::stored_record::StoredRecord;
 use folders::SaveStamp;
-use server::SaveFault;
+use service::SaveFault;
 use std::alloc::Global;
 
 /// A copy of the record of a service in a folder of the host's file system. It is a type without parameters, so that a

@@ -6,8 +6,8 @@
 //!
 //! It is built on `shelf` (the rows of a file, saved together), `item_rows` (where the row of an item is), `process_text`
 //! (the text of a process) and `process_parts` (a record of a process as such a text and one state, and back). The layer
-//! above, `data_folders`, has several of these folders, and uses `SaveCopy` of each. No clause says which items the file
-//! has.
+//! above, `data_folders`, has several of these folders, and uses `SaveCopy` of each: after a save a crash leaves this record,
+//! with its items, and during it this one or what it might leave before.
 //!
 //! A save writes the text of the process and the items that are not as they were in the last save. Those are found by
 //! digests (`item_rows::changes_since`): what has the same digest is not looked at.

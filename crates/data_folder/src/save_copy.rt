@@ -2,7 +2,7 @@
 
 use crate::stored_record::StoredRecord;
 use folders::SaveStamp;
-use server::SaveFault;
+use service::SaveFault;
 use std::alloc::Global;
 
 /// Which of several copies of one site's data a folder has.

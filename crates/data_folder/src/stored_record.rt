@@ -8,8 +8,7 @@ use crate::fault::record_fault;
 use crate::service_text::text_of;
 use process_parts::stored_of;
 use proto::Fault;
-use server::SaveFault;
-use service::ServiceRecord;
+use service::{SaveFault, ServiceRecord};
 use states::State;
 use std::alloc::Global;
 

@@ -10,7 +10,7 @@ use Rattle.std.proofs.alloc.Global.TheSendSync as global
 use Rattle.std.proofs.option.Option.TheSendSync as option
 use Rattle.std.proofs.vec.Vec.TheSendSync as vec
 use Rattle.folders.proofs.stamp.SaveStamp.TheSendSync as stamp
-use Rattle.server.proofs.save.SaveFault.TheSendSync as fault
+use Rattle.service.proofs.save_fault.SaveFault.TheSendSync as fault
 use Rattle.data_folder.specs.declared.save_copy.SaveCopy as saves
 use Rattle.data_folder.proofs.Crossing.{host_send}
 use Rattle.data_folders.proofs.slot.FolderSlot.TheSendSync as slot

@@ -6,10 +6,10 @@ ghost use Rattle.server.specs.Answering.{DoesWhatIsDue};
 ghost use Rattle.server.specs.Durable.{IsFoundOf};
 
 use crate::answering::Answering;
-use crate::save::{Save, SaveFault, SaveFolders};
+use crate::save::{Save, SaveFolders};
 use event_loop::{Heard, Said, Serve};
 use figures::{Figures, Histogram, Saves, one_more};
-use service::{Service, ServiceRecord};
+use service::{SaveFault, Service, ServiceRecord};
 use std::alloc::Global;
 use std::mem;
 use std::rt::Clock;

@@ -17,6 +17,6 @@ mod watcher;
 
 pub use fault::ServeFault;
 pub use life::{Listener, MOST_CONNECTIONS, Options, serve, serve_beside};
-pub use save::{NoFolder, Save, SaveFault, SaveFolders};
-pub use service::{Incidents, Service, ServiceRecord};
+pub use save::{NoFolder, Save, SaveFolders};
+pub use service::{Incidents, SaveFault, Service, ServiceRecord};
 pub use watcher::Watcher;

@@ -1,9 +1,10 @@
 //! What others see of a server while it serves.
 
 use crate::durable::DurableService;
-use crate::save::{Save, SaveFault, SaveFolders};
+use crate::save::{Save, SaveFolders};
 use event_loop::{Counts, Watch};
 use figures::{Connections, Figures};
+use service::SaveFault;
 use std::sync::Wait;
 
 /// What the thread that started a server sees of it.

@@ -28,6 +28,7 @@ mod pool;
 mod process_laws;
 mod reopening;
 mod replicas;
+mod save_fault;
 mod service;
 mod service_record;
 mod stopping;
@@ -45,5 +46,6 @@ pub use process_laws::{
     services_follow_each_other,
 };
 pub use proto::Fault;
+pub use save_fault::SaveFault;
 pub use service::Service;
 pub use service_record::ServiceRecord;

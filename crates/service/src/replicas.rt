@@ -43,8 +43,9 @@ impl Service {
         figures.replicas.number = self.ensemble.number();
         figures.replicas.suspicions = incidents.suspicions;
         figures.batches.cut = self.ensemble.cuts();
-        figures.batches.committed = self.ensemble.number();
-        figures.batches.rolled_back = incidents.rollbacks;
+        // executors that are down show nothing, and a count does not fall
+        figures.batches.committed = figures.batches.committed.max(self.ensemble.number());
+        figures.batches.rolled_back = figures.batches.rolled_back.max(incidents.rollbacks);
         figures.memory.items = self.ensemble.items();
     }
 }

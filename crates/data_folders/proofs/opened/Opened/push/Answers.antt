@@ -1,6 +1,6 @@
 use Rattle.std.proofs.Common.{◌∙◌, List, ◌++◌, [], ◌∷◌, Option, Some, ap, sym, subst}
 use Rattle.std.specs.List.{AllZip}
-use Rattle.server.specs.declared.save.SaveFault.TheVariants as cause
+use Rattle.service.specs.declared.save_fault.SaveFault.TheVariants as cause
 use Rattle.data_folder.specs.declared.found_copy.FoundCopy.{FoundCopy}
 use Rattle.data_folders.specs.declared.slot.FolderSlot.{FolderSlot}
 use Rattle.data_folders.specs.Copies.{OpensAs}
