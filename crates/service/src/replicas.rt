@@ -37,14 +37,15 @@ impl Service {
             self.show_node(figures, at);
         }
         let incidents = self.incidents();
+        // executors that are down show nothing, and a count does not fall
+        let number = figures.replicas.number.max(self.ensemble.number());
         figures.replicas.members = self.nodes.members();
         figures.replicas.epoch = self.ensemble.epoch();
         figures.replicas.view = self.ensemble.view();
-        figures.replicas.number = self.ensemble.number();
+        figures.replicas.number = number;
         figures.replicas.suspicions = incidents.suspicions;
         figures.batches.cut = self.ensemble.cuts();
-        // executors that are down show nothing, and a count does not fall
-        figures.batches.committed = figures.batches.committed.max(self.ensemble.number());
+        figures.batches.committed = number;
         figures.batches.rolled_back = figures.batches.rolled_back.max(incidents.rollbacks);
         figures.memory.items = self.ensemble.items();
     }
