@@ -9,7 +9,7 @@ use itoa::Buffer;
 use schedules::write_printed;
 use std::alloc::{AllocError, Global};
 use world::World;
-use worlds::{ClientPlace, ExecutorPlace, Status, VerifierPlace, VerifierReport};
+use worlds::{ClientSlot, ExecutorSlot, Status, VerifierReport, VerifierSlot};
 
 fn write_number(number: u64, out: &mut Vec<u8>) -> Result<(), AllocError>
     ensures { OnOk result (out.new.items ≡ out.old.items ++ decimal number) }
@@ -29,17 +29,17 @@ fn write_given(given: &[u8], out: &mut Vec<u8>) -> Result<(), AllocError>
     write_printed(given, out)
 }
 
-fn write_client(number: u64, place: &ClientPlace, out: &mut Vec<u8>) -> Result<(), AllocError>
-    ensures { OnOk result (out.new.items ≡ out.old.items ++ spec.client_line number place.now) }
+fn write_client(number: u64, slot: &ClientSlot, out: &mut Vec<u8>) -> Result<(), AllocError>
+    ensures { OnOk result (out.new.items ≡ out.old.items ++ spec.client_line number slot.now) }
 {
     out.extend_from_slice(b"client ".as_slice())?;
     write_number(number, out)?;
-    if place.is_open() {
+    if slot.is_open() {
         out.extend_from_slice(b" open ".as_slice())?;
     } else {
         out.extend_from_slice(b" closed ".as_slice())?;
     }
-    let given = place.given();
+    let given = slot.given();
     write_number(given.len() as u64, out)?;
     write_given(given, out)?;
     out.extend_from_slice(b"\n".as_slice())
@@ -61,12 +61,12 @@ fn write_report(report: &Report, out: &mut Vec<u8>) -> Result<(), AllocError>
     write_field(b" chain ".as_slice(), report.chain as u64, out)
 }
 
-fn write_executor(id: u64, place: &ExecutorPlace, out: &mut Vec<u8>) -> Result<(), AllocError>
-    ensures { OnOk result (out.new.items ≡ out.old.items ++ spec.executor_line id place.now) }
+fn write_executor(id: u64, slot: &ExecutorSlot, out: &mut Vec<u8>) -> Result<(), AllocError>
+    ensures { OnOk result (out.new.items ≡ out.old.items ++ spec.executor_line id slot.now) }
 {
     out.extend_from_slice(b"executor ".as_slice())?;
     write_number(id, out)?;
-    match place.status() {
+    match slot.status() {
         Status::Up(report) => write_report(&report, out)?,
         Status::Down => out.extend_from_slice(b" down".as_slice())?,
         Status::Lost => out.extend_from_slice(b" lost".as_slice())?,
@@ -81,12 +81,12 @@ fn write_verifier_report(report: &VerifierReport, out: &mut Vec<u8>) -> Result<(
     write_field(b" view ".as_slice(), report.view, out)
 }
 
-fn write_verifier(id: u64, place: &VerifierPlace, out: &mut Vec<u8>) -> Result<(), AllocError>
-    ensures { OnOk result (out.new.items ≡ out.old.items ++ spec.verifier_line id place.now) }
+fn write_verifier(id: u64, slot: &VerifierSlot, out: &mut Vec<u8>) -> Result<(), AllocError>
+    ensures { OnOk result (out.new.items ≡ out.old.items ++ spec.verifier_line id slot.now) }
 {
     out.extend_from_slice(b"verifier ".as_slice())?;
     write_number(id, out)?;
-    match place.status() {
+    match slot.status() {
         Status::Up(report) => write_verifier_report(&report, out)?,
         Status::Down => out.extend_from_slice(b" down".as_slice())?,
         Status::Lost => out.extend_from_slice(b" lost".as_slice())?,
@@ -95,7 +95,7 @@ fn write_verifier(id: u64, place: &VerifierPlace, out: &mut Vec<u8>) -> Result<(
 }
 
 #[tactic(auto, using(crate::proofs::PrintedLemmas::wrote_line, crate::proofs::PrintedLemmas::wrote_lines))]
-fn write_clients(clients: &[ClientPlace], out: &mut Vec<u8>) -> Result<(), AllocError>
+fn write_clients(clients: &[ClientSlot], out: &mut Vec<u8>) -> Result<(), AllocError>
     ensures { OnOk result (out.new.items ≡ out.old.items ++ spec.lines_from spec.client_line 1 clients.now) }
 {
     for i in 0..clients.len() {
@@ -105,7 +105,7 @@ fn write_clients(clients: &[ClientPlace], out: &mut Vec<u8>) -> Result<(), Alloc
 }
 
 #[tactic(auto, using(crate::proofs::PrintedLemmas::wrote_line, crate::proofs::PrintedLemmas::wrote_lines))]
-fn write_executors(executors: &[ExecutorPlace], out: &mut Vec<u8>) -> Result<(), AllocError>
+fn write_executors(executors: &[ExecutorSlot], out: &mut Vec<u8>) -> Result<(), AllocError>
     ensures { OnOk result (out.new.items ≡ out.old.items ++ spec.lines_from spec.executor_line 0 executors.now) }
 {
     for i in 0..executors.len() {
@@ -115,7 +115,7 @@ fn write_executors(executors: &[ExecutorPlace], out: &mut Vec<u8>) -> Result<(),
 }
 
 #[tactic(auto, using(crate::proofs::PrintedLemmas::wrote_line, crate::proofs::PrintedLemmas::wrote_lines))]
-fn write_verifiers(verifiers: &[VerifierPlace], out: &mut Vec<u8>) -> Result<(), AllocError>
+fn write_verifiers(verifiers: &[VerifierSlot], out: &mut Vec<u8>) -> Result<(), AllocError>
     ensures { OnOk result (out.new.items ≡ out.old.items ++ spec.lines_from spec.verifier_line 0 verifiers.now) }
 {
     for i in 0..verifiers.len() {

@@ -23,7 +23,7 @@ use Rattle.hosts.specs.Host.{HostView}
 use Rattle.ensemble.specs.Nodes.{AreNumbered}
 use Rattle.ensemble.specs.Calls.{AllCollected}
 use Rattle.ensemble.specs.First.{first_proxies_of, first_host, first_hosts, first_nodes, AreAllUp}
-use Rattle.ensemble.specs.Shown.{is_host_up, is_place_up}
+use Rattle.ensemble.specs.Shown.{is_host_up, is_slot_up}
 use Rattle.ensemble.specs.Ensemble.{IsPast, IsEnsemble, client_of}
 use Rattle.ensemble.proofs.Lists.{in_none}
 use Rattle.ensemble.specs.declared.noted.Noted.TheVariants as noted
@@ -145,5 +145,5 @@ pub first_are_up : (c : ConfigView) → AreAllUp c.u c.clients (first_nodes c)
 first_are_up c = record {
   size = λ i. (c.u, count_of c.clients i, count_hosts c.u (member_count c.u) i, length_all_up (first_verifier c.u) (member_count c.u) i);
   executors = λ id lt. ap is_host_up (host_at c.u (member_count c.u) id lt);
-  verifiers = λ id lt. ap is_place_up (up_at (first_verifier c.u) (member_count c.u) id lt);
+  verifiers = λ id lt. ap is_slot_up (up_at (first_verifier c.u) (member_count c.u) id lt);
 }

@@ -18,7 +18,7 @@ use Rattle.worlds.specs.Status.{node_at}
 use Rattle.hosts.specs.Host.{HostView}
 use Rattle.hosts.specs.Stops.{HostStops}
 use Rattle.ensemble.specs.Nodes.{NodesView, AtHostIn, HostMoves, AtVerifierIn, VerifierMoves}
-use Rattle.ensemble.specs.Shown.{is_host_up, is_place_up, is_up_at}
+use Rattle.ensemble.specs.Shown.{is_host_up, is_slot_up, is_up_at}
 use Rattle.ensemble.specs.Calls.{VerifierCrashes, IsStopped}
 use Rattle.ensemble.specs.Ensemble.{EnsembleView, HasSent, IsEnsemble}
 use Rattle.ensemble.proofs.Lists.{set_get}
@@ -80,9 +80,9 @@ stopped_is_down (replica.Executor id) n now s = ap (λ (v : NodesView). is_up_at
         ∙ (ap (λ (x : HostView). is_host_up (Some x)) did.1.0 ∙ ap is_some (crashed_is_down executor_kept h.slot)))
 stopped_is_down (replica.Verifier id) n now s = ap (λ (v : NodesView). is_up_at v (replica.Verifier id)) s.2 ∙ by (slice_get n.verifiers id) refl s.1
   where
-    by : (o : Option (Slot VerifierView)) → slice_get n.verifiers id ≡ o → AtVerifierIn VerifierCrashes id n.verifiers s.0 [] o → is_place_up (slice_get s.0 id) ≡ false
-    by None at did = ap (λ (vs : List (Slot VerifierView)). is_place_up (slice_get vs id)) did.0 ∙ ap is_place_up at
+    by : (o : Option (Slot VerifierView)) → slice_get n.verifiers id ≡ o → AtVerifierIn VerifierCrashes id n.verifiers s.0 [] o → is_slot_up (slice_get s.0 id) ≡ false
+    by None at did = ap (λ (vs : List (Slot VerifierView)). is_slot_up (slice_get vs id)) did.0 ∙ ap is_slot_up at
     by (Some v) at did =
-        ap (λ (vs : List (Slot VerifierView)). is_place_up (slice_get vs id)) did.2
-        ∙ (ap is_place_up (set_get n.verifiers id v did.0 at)
-        ∙ (ap (λ (x : Slot VerifierView). is_place_up (Some x)) did.1.0 ∙ ap is_some (crashed_is_down verifier_kept v)))
+        ap (λ (vs : List (Slot VerifierView)). is_slot_up (slice_get vs id)) did.2
+        ∙ (ap is_slot_up (set_get n.verifiers id v did.0 at)
+        ∙ (ap (λ (x : Slot VerifierView). is_slot_up (Some x)) did.1.0 ∙ ap is_some (crashed_is_down verifier_kept v)))

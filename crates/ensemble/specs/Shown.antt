@@ -40,14 +40,14 @@ abbrev pub is_host_up : Option HostView → Bool
 is_host_up None = false
 is_host_up (Some h) = is_some (node_at h.slot)
 
-abbrev pub is_place_up : Option (Slot VerifierView) → Bool
-is_place_up None = false
-is_place_up (Some v) = is_some (node_at v)
+abbrev pub is_slot_up : Option (Slot VerifierView) → Bool
+is_slot_up None = false
+is_slot_up (Some v) = is_some (node_at v)
 
 -- the replica is there and up
 abbrev pub is_up_at : NodesView → Replica → Bool
 is_up_at n (Executor id) = is_host_up (slice_get n.executors id)
-is_up_at n (Verifier id) = is_place_up (slice_get n.verifiers id)
+is_up_at n (Verifier id) = is_slot_up (slice_get n.verifiers id)
 
 -- an executor has a batch to run
 abbrev pub has_job : HostView → Bool

@@ -16,7 +16,7 @@ use proto::Reply;
 use proxies::Proxy;
 use std::alloc::Global;
 use verifier::Input;
-use worlds::VerifierPlace;
+use worlds::VerifierSlot;
 
 /// The host of this number gets the letter, if it is there: what its executor sends. An order that cannot be held is
 /// lost, which is counted.
@@ -45,14 +45,14 @@ fn to_executor(
 /// The verifier of this number gets the letter, if it is there: what it sends.
 fn to_verifier(
     alloc: Global,
-    verifiers: &mut Vec<VerifierPlace>,
+    verifiers: &mut Vec<VerifierSlot>,
     id: u8,
     letter: Letter<Ballot>,
 ) -> Vec<Letter<Ballot>>
     ensures { AtVerifier (VerifierGets (verifier_input.Letter letter)) id verifiers.old.items verifiers.new.items result.items }
 {
     match verifiers.get_mut(usize::from(id)) {
-        Some(place) => place.settle(alloc, Input::Letter(letter)),
+        Some(slot) => slot.settle(alloc, Input::Letter(letter)),
         None => Vec::new(alloc),
     }
 }

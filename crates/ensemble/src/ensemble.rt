@@ -252,7 +252,7 @@ impl Ensemble {
         match replica {
             Replica::Executor(id) => self.nodes.is_executor_up(id),
             Replica::Verifier(id) => match self.nodes.verifiers.get(usize::from(id)) {
-                Some(place) => place.node().is_some(),
+                Some(slot) => slot.node().is_some(),
                 None => false,
             },
         }

@@ -9,7 +9,7 @@ use hosts::ExecutorHost;
 use proxies::Proxy;
 use std::collections::VecDeque;
 use std::marker::Model;
-use worlds::VerifierPlace;
+use worlds::VerifierSlot;
 
 /// All replicas, their proxies, and the letters that are under way. It cannot be dropped, since executors
 /// cannot: `end` ends it. Each of its methods is one event at most.
@@ -17,7 +17,7 @@ pub struct Nodes {
     pub u: u8,
     pub proxies: Vec<Proxy>,
     pub executors: Vec<ExecutorHost>,
-    pub verifiers: Vec<VerifierPlace>,
+    pub verifiers: Vec<VerifierSlot>,
     pub mail: VecDeque<Letter<Body>>,
 }
 
@@ -25,7 +25,7 @@ impl Model for Nodes {
     ghost use Rattle.std.specs.Prelude.{◌<◌};
     ghost use Rattle.proxies.specs.contracts.proxy.Proxy as proxy;
     ghost use Rattle.hosts.specs.contracts.executor_host.ExecutorHost as host;
-    ghost use Rattle.worlds.specs.contracts.verifier_place.VerifierPlace as verifier;
+    ghost use Rattle.worlds.specs.contracts.verifier_slot.VerifierSlot as verifier;
     ghost use Rattle.decrees.specs.contracts.node.Letter as letter;
     ghost use Rattle.exec_lines.specs.contracts.body.Body as body;
     ghost use Rattle.ensemble.specs.Nodes.{NodesView, AreNumbered, nodes_code};

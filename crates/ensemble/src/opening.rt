@@ -15,7 +15,7 @@ use proto::Fault;
 use proxies::Proxy;
 use std::alloc::{AllocError, Global};
 use std::collections::VecDeque;
-use worlds::{Config, VerifierPlace};
+use worlds::{Config, VerifierSlot};
 
 /// So many proxies that have asked nothing.
 pub fn first_proxies(alloc: Global, count: u16) -> Result<Vec<Proxy>, AllocError>
@@ -29,31 +29,31 @@ pub fn first_proxies(alloc: Global, count: u16) -> Result<Vec<Proxy>, AllocError
 }
 
 /// A verifier that is opened for the first time. It sends nothing.
-fn opened_verifier(alloc: Global, u: u8, id: u8) -> Result<VerifierPlace, AllocError>
+fn opened_verifier(alloc: Global, u: u8, id: u8) -> Result<VerifierSlot, AllocError>
     requires few { u < 4 }
     requires member { id ≤ 2 * u }
-    ensures { IfOk result (λ place. place ≡ Up (first_verifier u id)) }
+    ensures { IfOk result (λ slot. slot ≡ Up (first_verifier u id)) }
 {
-    let mut place = VerifierPlace::unopened();
-    place.restart(alloc, u, id);
-    if place.node().is_some() {
-        Ok(place)
+    let mut slot = VerifierSlot::unopened();
+    slot.restart(alloc, u, id);
+    if slot.node().is_some() {
+        Ok(slot)
     } else {
         Err(AllocError)
     }
 }
 
 /// The verifiers below this number alike.
-fn opened_verifiers(alloc: Global, u: u8, count: u8) -> Result<Vec<VerifierPlace>, AllocError>
+fn opened_verifiers(alloc: Global, u: u8, count: u8) -> Result<Vec<VerifierSlot>, AllocError>
     requires few { u < 4 }
     requires members { count ≤ 2 * u + 1 }
-    ensures { IfOk result (λ places. places.items ≡ all_up (first_verifier u) count) }
+    ensures { IfOk result (λ slots. slots.items ≡ all_up (first_verifier u) count) }
 {
-    let mut places = Vec::new(alloc);
+    let mut slots = Vec::new(alloc);
     for id in 0..count {
-        places.push(opened_verifier(alloc, u, id)?)?;
+        slots.push(opened_verifier(alloc, u, id)?)?;
     }
-    Ok(places)
+    Ok(slots)
 }
 
 /// An executor that is opened for the first time. It sends nothing.

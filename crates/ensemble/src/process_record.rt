@@ -12,7 +12,7 @@ use proxies::Proxy;
 use std::alloc::{AllocError, Global};
 use std::collections::VecDeque;
 use std::marker::Model;
-use worlds::VerifierPlace;
+use worlds::VerifierSlot;
 
 /// What is kept of the replicas and the proxies of a process, at one moment: what the keeper of each replica has, and what
 /// each proxy asked last. Another process goes on from it.
@@ -63,18 +63,18 @@ fn down_hosts(
     Ok(hosts)
 }
 
-/// The places of verifiers that are down, with these keepers.
+/// The slots of verifiers that are down, with these keepers.
 fn down_verifiers(
     alloc: Global,
     keepers: Vec<MemKeeper<Text>>,
-) -> Result<Vec<VerifierPlace>, AllocError>
-    ensures { IfOk result (λ places. places.items ≡ map down_verifier keepers.items) }
+) -> Result<Vec<VerifierSlot>, AllocError>
+    ensures { IfOk result (λ slots. slots.items ≡ map down_verifier keepers.items) }
 {
-    let mut places = Vec::with_capacity(alloc, keepers.len())?;
+    let mut slots = Vec::with_capacity(alloc, keepers.len())?;
     for keeper in keepers {
-        places.push(VerifierPlace::down(keeper))?;
+        slots.push(VerifierSlot::down(keeper))?;
     }
-    Ok(places)
+    Ok(slots)
 }
 
 impl ProcessRecord {

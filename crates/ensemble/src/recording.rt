@@ -16,7 +16,7 @@ use keeper::MemKeeper;
 use proto::Fault;
 use proxies::Proxy;
 use std::alloc::{AllocError, Global};
-use worlds::VerifierPlace;
+use worlds::VerifierSlot;
 
 /// These proxies once more.
 fn copied(alloc: Global, proxies: &[Proxy]) -> Result<Vec<Proxy>, AllocError>
@@ -46,13 +46,13 @@ fn kept_executors(
 /// What is kept of each of these verifiers.
 fn kept_verifiers(
     alloc: Global,
-    verifiers: &[VerifierPlace],
+    verifiers: &[VerifierSlot],
 ) -> Result<Vec<MemKeeper<Text>>, AllocError>
     ensures { IfOk result (λ kept. kept.items ≡ map kept_of_verifier verifiers.now) }
 {
     let mut kept = Vec::with_capacity(alloc, verifiers.len())?;
-    for place in verifiers {
-        kept.push(place.kept()?)?;
+    for slot in verifiers {
+        kept.push(slot.kept()?)?;
     }
     Ok(kept)
 }
@@ -74,7 +74,7 @@ impl Nodes {
     fn has_lost_verifier(&self) -> bool
         ensures { result ≡ list_any (λ v. is_gone (Some v)) self.now.verifiers }
     {
-        self.verifiers.iter().any(|place| place.is_lost())
+        self.verifiers.iter().any(|slot| slot.is_lost())
     }
 
     /// What is kept if the process ends now.

@@ -37,8 +37,8 @@ impl Ensemble {
     /// The latest view of the verifiers that are up: 0 if none is.
     pub fn view(&self) -> u64 {
         let mut latest = 0u64;
-        for place in &self.nodes.verifiers {
-            if let Some(node) = place.node() {
+        for slot in &self.nodes.verifiers {
+            if let Some(node) = slot.node() {
                 latest = latest.max(node.view());
             }
         }

@@ -8,7 +8,7 @@ ghost use Rattle.ensemble.specs.Calls.{VerifierCrashes};
 use crate::ensemble::Ensemble;
 use crate::nodes::Nodes;
 use hosts::ExecutorHost;
-use worlds::{Replica, VerifierPlace};
+use worlds::{Replica, VerifierSlot};
 
 /// The executor of this number stops, if it is there.
 fn stop_executor(executors: &mut Vec<ExecutorHost>, id: u8)
@@ -20,11 +20,11 @@ fn stop_executor(executors: &mut Vec<ExecutorHost>, id: u8)
 }
 
 /// The verifier of this number stops, if it is there.
-fn stop_verifier(verifiers: &mut Vec<VerifierPlace>, id: u8)
+fn stop_verifier(verifiers: &mut Vec<VerifierSlot>, id: u8)
     ensures { AtVerifier VerifierCrashes id verifiers.old.items verifiers.new.items [] }
 {
-    if let Some(place) = verifiers.get_mut(usize::from(id)) {
-        place.crash();
+    if let Some(slot) = verifiers.get_mut(usize::from(id)) {
+        slot.crash();
     }
 }
 

@@ -16,7 +16,7 @@ use hosts::ExecutorHost;
 use serving::due_trim;
 use std::alloc::Global;
 use verifier::Input;
-use worlds::VerifierPlace;
+use worlds::VerifierSlot;
 
 /// The host of this number, if it is there, hands in the order whose turn has come: whether there was one, and
 /// what is sent.
@@ -74,7 +74,7 @@ fn open_executor(
 fn open_verifier(
     alloc: Global,
     u: u8,
-    verifiers: &mut Vec<VerifierPlace>,
+    verifiers: &mut Vec<VerifierSlot>,
     id: u8,
 ) -> Vec<Letter<Ballot>>
     requires few { u < 4 }
@@ -82,52 +82,47 @@ fn open_verifier(
     ensures { AtVerifier (VerifierOpens u id) id verifiers.old.items verifiers.new.items result.items }
 {
     match verifiers.get_mut(usize::from(id)) {
-        Some(place) => place.restart(alloc, u, id),
+        Some(slot) => slot.restart(alloc, u, id),
         None => Vec::new(alloc),
     }
 }
 
 /// The verifier of this number is told that the leader is suspected, if it is there: what it sends.
-fn suspect(alloc: Global, verifiers: &mut Vec<VerifierPlace>, id: u8) -> Vec<Letter<Ballot>>
+fn suspect(alloc: Global, verifiers: &mut Vec<VerifierSlot>, id: u8) -> Vec<Letter<Ballot>>
     ensures { AtVerifier (VerifierGets verifier_input.Suspect) id verifiers.old.items verifiers.new.items result.items }
 {
     match verifiers.get_mut(usize::from(id)) {
-        Some(place) => place.settle(alloc, Input::Suspect),
+        Some(slot) => slot.settle(alloc, Input::Suspect),
         None => Vec::new(alloc),
     }
 }
 
 /// The place up to which the verifier may forget decrees, if it is up and its log is long.
-fn due(place: &VerifierPlace) -> Option<u64>
-    ensures { result ≡ trim_place place.now }
+fn due(slot: &VerifierSlot) -> Option<u64>
+    ensures { result ≡ trim_place slot.now }
 {
-    let node = place.node()?;
+    let node = slot.node()?;
     due_trim(node.start(), node.known())
 }
 
 /// The verifier forgets old decrees, if its log is long: what it sends.
-fn trim(alloc: Global, place: &mut VerifierPlace) -> Vec<Letter<Ballot>>
-    ensures trims { VerifierTrims place.old place.new result.items }
-    ensures due { VerifierTrimsDue place.old place.new result.items }
+fn trim(alloc: Global, slot: &mut VerifierSlot) -> Vec<Letter<Ballot>>
+    ensures trims { VerifierTrims slot.old slot.new result.items }
+    ensures due { VerifierTrimsDue slot.old slot.new result.items }
 {
-    match due(place) {
-        Some(place_of_trim) => place.settle(
-            alloc,
-            Input::Trim {
-                place: place_of_trim,
-            },
-        ),
+    match due(slot) {
+        Some(place) => slot.settle(alloc, Input::Trim { place }),
         None => Vec::new(alloc),
     }
 }
 
 /// The verifier of this number does so, if it is there.
-fn trim_at(alloc: Global, verifiers: &mut Vec<VerifierPlace>, id: u8) -> Vec<Letter<Ballot>>
+fn trim_at(alloc: Global, verifiers: &mut Vec<VerifierSlot>, id: u8) -> Vec<Letter<Ballot>>
     ensures trims { AtVerifier VerifierTrims id verifiers.old.items verifiers.new.items result.items }
     ensures due { AtVerifier VerifierTrimsDue id verifiers.old.items verifiers.new.items result.items }
 {
     match verifiers.get_mut(usize::from(id)) {
-        Some(place) => trim(alloc, place),
+        Some(slot) => trim(alloc, slot),
         None => Vec::new(alloc),
     }
 }

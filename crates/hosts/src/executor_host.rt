@@ -12,28 +12,28 @@ use std::mem;
 use std::sync::Wait;
 use std::thread::Threads;
 use workers::Workers;
-use worlds::ExecutorPlace;
+use worlds::ExecutorSlot;
 
 /// An executor with the orders that wait for their turn. It cannot be dropped, since an executor cannot:
 /// `end` ends it.
 pub struct ExecutorHost {
-    pub(crate) place: ExecutorPlace,
+    pub(crate) slot: ExecutorSlot,
     pub(crate) held: Vec<Letter<Body>>,
     /// What the last run of a job sent, until it is collected.
     sent: Vec<Letter<Body>>,
 }
 
 impl Model for ExecutorHost {
-    ghost use Rattle.worlds.specs.contracts.executor_place.ExecutorPlace as executor_place;
+    ghost use Rattle.worlds.specs.contracts.executor_slot.ExecutorSlot as executor_slot;
     ghost use Rattle.decrees.specs.contracts.node.Letter as letter;
     ghost use Rattle.exec_lines.specs.contracts.body.Body as body;
     ghost use Rattle.hosts.specs.Host.{HostView, host_code};
 
     ghost Value = { HostView };
 
-    ghost coded = { host_code executor_place.the_row.coded (letter.the_row body.the_row).coded };
+    ghost coded = { host_code executor_slot.the_row.coded (letter.the_row body.the_row).coded };
 
-    ghost view = { λ h. record { slot = h.place; held = h.held.items; sent = h.sent.items } };
+    ghost view = { λ h. record { slot = h.slot; held = h.held.items; sent = h.sent.items } };
 }
 
 impl ExecutorHost {
@@ -50,7 +50,7 @@ impl ExecutorHost {
         ensures { result ≡ record { slot = Down nothing_kept; held = []; sent = [] } }
     {
         ExecutorHost {
-            place: ExecutorPlace::unopened(),
+            slot: ExecutorSlot::unopened(),
             held: Vec::new(alloc),
             sent: Vec::new(alloc),
         }
@@ -61,7 +61,7 @@ impl ExecutorHost {
         ensures { result ≡ record { slot = Down keeper; held = []; sent = [] } }
     {
         ExecutorHost {
-            place: ExecutorPlace::down(keeper),
+            slot: ExecutorSlot::down(keeper),
             held: Vec::new(alloc),
             sent: Vec::new(alloc),
         }
@@ -74,7 +74,7 @@ impl ExecutorHost {
         requires member { id ≤ 2 * u }
         ensures { HostReopens u id self.old self.new result.items }
     {
-        self.place.restart(alloc, u, id)
+        self.slot.restart(alloc, u, id)
     }
 
     /// The executor stops as by a crash, if it is up: it is down with its record. The orders that it holds and what was
@@ -82,7 +82,7 @@ impl ExecutorHost {
     pub fn stop(&mut self)
         ensures { HostStops self.old self.new [] }
     {
-        self.place.crash();
+        self.slot.crash();
     }
 
     /// Gives the executor a letter, or holds it if it is an order: whether that was done, and what the executor
@@ -95,14 +95,14 @@ impl ExecutorHost {
             let is_held = hold(&mut self.held, letter);
             return (is_held, Vec::new(alloc));
         }
-        (true, self.place.settle(alloc, Input::Letter(letter)))
+        (true, self.slot.settle(alloc, Input::Letter(letter)))
     }
 
     /// The executor is to cut a batch, at this moment in seconds; the result is what it sends.
     pub fn cut(&mut self, alloc: Global, moment: u32) -> Vec<Letter<Body>>
         ensures { HostSettles self.old (Cut moment) self.new result.items }
     {
-        self.place.settle(alloc, Input::Cut(moment))
+        self.slot.settle(alloc, Input::Cut(moment))
     }
 
     /// Runs the executor's job, if it has one, on at most so many threads. What it sends is collected by
@@ -110,7 +110,7 @@ impl ExecutorHost {
     pub fn run<R: Threads + Wait + Sync>(&mut self, rt: &R, alloc: Global, workers: Workers)
         ensures { HostRuns self.old self.new }
     {
-        self.sent = self.place.run(rt, alloc, workers);
+        self.sent = self.slot.run(rt, alloc, workers);
     }
 
     /// What the last run sent, once.
@@ -124,13 +124,13 @@ impl ExecutorHost {
     pub fn is_up(&self) -> bool
         ensures { result ≡ is_some (node_at self.now.slot) }
     {
-        self.place.node().is_some()
+        self.slot.node().is_some()
     }
 
     /// Ends it.
     pub fn end(self) {
-        let ExecutorHost { place, held, sent } = self;
-        place.end();
+        let ExecutorHost { slot, held, sent } = self;
+        slot.end();
         drop(held);
         drop(sent);
     }

@@ -16,7 +16,7 @@ impl ExecutorHost {
     pub fn job_len(&self) -> Option<usize>
         ensures { result ≡ job_len_of self.now.slot }
     {
-        let job = self.place.node()?.job()?;
+        let job = self.slot.node()?.job()?;
         Some(job.batch.requests.len())
     }
 
@@ -25,7 +25,7 @@ impl ExecutorHost {
     pub fn steps(&self) -> Option<u64>
         ensures { result ≡ steps_of self.now.slot }
     {
-        let report = self.place.node()?.state().report();
+        let report = self.slot.node()?.state().report();
         Some(report.number.saturating_add(report.epoch))
     }
 
@@ -33,7 +33,7 @@ impl ExecutorHost {
     pub fn epoch(&self) -> Option<u64>
         ensures { result ≡ epoch_of self.now.slot }
     {
-        let report = self.place.node()?.state().report();
+        let report = self.slot.node()?.state().report();
         Some(report.epoch)
     }
 
@@ -41,25 +41,25 @@ impl ExecutorHost {
     pub fn kept(&self) -> Result<MemKeeper<ExecutorRecord>, AllocError>
         ensures { IfOk result (λ keeper. keeper ≡ kept_at executor_kept self.now.slot) }
     {
-        self.place.kept()
+        self.slot.kept()
     }
 
     /// Whether the executor is lost for good.
     pub fn is_lost(&self) -> bool
         ensures { result ≡ is_gone (Some self.now.slot) }
     {
-        self.place.is_lost()
+        self.slot.is_lost()
     }
 
     /// The number of the executor's committed state, if it is up.
     pub fn number(&self) -> Option<u64> {
-        let report = self.place.node()?.state().report();
+        let report = self.slot.node()?.state().report();
         Some(report.number)
     }
 
     /// How many items the executor's committed state has, if it is up.
     pub fn items(&self) -> Option<u64> {
-        let pages = self.place.node()?.state().chain().committed().pages();
+        let pages = self.slot.node()?.state().chain().committed().pages();
         let mut items = 0u64;
         for number in 0..PAGES {
             items = items.saturating_add(pages.len(number));
@@ -69,7 +69,7 @@ impl ExecutorHost {
 
     /// How many bytes the keys and the data have of all items of the executor's committed state, if it is up.
     pub fn item_bytes(&self) -> Option<u64> {
-        let pages = self.place.node()?.state().chain().committed().pages();
+        let pages = self.slot.node()?.state().chain().committed().pages();
         let mut bytes = 0u64;
         for number in 0..PAGES {
             bytes = bytes.saturating_add(pages.bytes(number));

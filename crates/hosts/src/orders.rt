@@ -11,7 +11,7 @@ use decrees::Letter;
 use exec_lines::{Body, Input, State};
 use rollback::MOST_MEMBERS;
 use std::alloc::Global;
-use worlds::ExecutorPlace;
+use worlds::ExecutorSlot;
 
 /// Whether it executes a batch, or its chain has no room.
 fn is_busy(state: &State) -> bool
@@ -22,10 +22,10 @@ fn is_busy(state: &State) -> bool
 
 /// The epoch and the number of the order that the executor could obey now: it is up, it executes nothing, and
 /// its chain has room.
-fn awaited(place: &ExecutorPlace) -> Option<(u64, u64)>
-    ensures { result ≡ awaited_of place.now }
+fn awaited(slot: &ExecutorSlot) -> Option<(u64, u64)>
+    ensures { result ≡ awaited_of slot.now }
 {
-    let state = place.node()?.state();
+    let state = slot.node()?.state();
     if is_busy(state) {
         return None;
     }
@@ -35,14 +35,14 @@ fn awaited(place: &ExecutorPlace) -> Option<(u64, u64)>
 }
 
 /// Takes the order that the executor could obey now, if it is held. Orders whose turn is over are let go.
-fn take_due(place: &ExecutorPlace, held: &mut Vec<Letter<Body>>) -> Option<Letter<Body>>
+fn take_due(slot: &ExecutorSlot, held: &mut Vec<Letter<Body>>) -> Option<Letter<Body>>
     ensures among { LettersAreAmong held.new.items held.old.items }
     ensures taken { IfSome result (λ order. Contains held.old.items order) }
-    ensures due { is_some result ≡ has_due_for (awaited_of place.now) held.old.items }
-    ensures first { result ≡ order_for (awaited_of place.now) held.old.items }
-    ensures later { StayHeld (awaited_of place.now) held.old.items held.new.items }
+    ensures due { is_some result ≡ has_due_for (awaited_of slot.now) held.old.items }
+    ensures first { result ≡ order_for (awaited_of slot.now) held.old.items }
+    ensures later { StayHeld (awaited_of slot.now) held.old.items held.new.items }
 {
-    let (epoch, number) = awaited(place)?;
+    let (epoch, number) = awaited(slot)?;
     take_order(held, epoch, number)
 }
 
@@ -51,7 +51,7 @@ impl ExecutorHost {
     pub fn has_due(&self) -> bool
         ensures { result ≡ due self.now }
     {
-        match awaited(&self.place) {
+        match awaited(&self.slot) {
             Some((epoch, number)) => has_order(self.held.as_slice(), epoch, number),
             None => false,
         }
@@ -66,7 +66,7 @@ impl ExecutorHost {
         ensures turn { MatchOption result (HostTakesDue self.old self.new []) (λ sent. HostTakesDue self.old self.new sent.items) }
         ensures later { StayHeld (awaited_of self.old.slot) self.old.held self.new.held }
     {
-        let order = take_due(&self.place, &mut self.held)?;
-        Some(self.place.settle(alloc, Input::Letter(order)))
+        let order = take_due(&self.slot, &mut self.held)?;
+        Some(self.slot.settle(alloc, Input::Letter(order)))
     }
 }

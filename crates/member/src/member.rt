@@ -120,7 +120,7 @@ impl Member {
         match replica {
             Replica::Executor(id) => self.nodes.is_executor_up(id),
             Replica::Verifier(id) => match self.nodes.verifiers.get(usize::from(id)) {
-                Some(place) => place.node().is_some(),
+                Some(slot) => slot.node().is_some(),
                 None => false,
             },
         }

@@ -13,7 +13,7 @@ use hosts::ExecutorHost;
 use proto::Fault;
 use std::alloc::{AllocError, Global};
 use std::collections::VecDeque;
-use worlds::VerifierPlace;
+use worlds::VerifierSlot;
 
 /// So many executors that were never opened. Room is taken first, since they cannot be dropped.
 fn unopened_executors(alloc: Global, count: u8) -> Result<Vec<ExecutorHost>, AllocError>
@@ -27,14 +27,14 @@ fn unopened_executors(alloc: Global, count: u8) -> Result<Vec<ExecutorHost>, All
 }
 
 /// So many verifiers that were never opened.
-fn unopened_verifiers(alloc: Global, count: u8) -> Result<Vec<VerifierPlace>, AllocError>
-    ensures { IfOk result (λ places. places.items ≡ replicate count (Down nothing_kept)) }
+fn unopened_verifiers(alloc: Global, count: u8) -> Result<Vec<VerifierSlot>, AllocError>
+    ensures { IfOk result (λ slots. slots.items ≡ replicate count (Down nothing_kept)) }
 {
-    let mut places = Vec::with_capacity(alloc, usize::from(count))?;
-    while places.len() < usize::from(count) {
-        places.push_reserved(VerifierPlace::unopened());
+    let mut slots = Vec::with_capacity(alloc, usize::from(count))?;
+    while slots.len() < usize::from(count) {
+        slots.push_reserved(VerifierSlot::unopened());
     }
-    Ok(places)
+    Ok(slots)
 }
 
 /// All nodes of a site, of which none was opened.

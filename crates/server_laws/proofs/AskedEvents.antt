@@ -28,7 +28,7 @@ use Rattle.worlds.specs.Slot.{Slot}
 use Rattle.worlds.specs.declared.slot.Slot.TheVariants.{Up, Down, Gone}
 use Rattle.worlds.specs.Slots.{executor_kept, executor_told, verifier_kept, verifier_told, crashed_slot, lost_slot, told_slot, ExecutorReopens, ClientSlot}
 use Rattle.worlds.specs.World.{WorldView, as_sent, with_executor, with_verifier, ClientAtGiven, ClientGiven, ExecutorAtGiven, VerifierAtGiven, ExecutorAtOpened, VerifierAtOpened, changed_at, ClientReached, VerifierReached, NodeReached, letter_at, IsDelivered, WorldNext}
-use Rattle.worlds.proofs.PlaceLemmas.{get_set}
+use Rattle.worlds.proofs.SlotLemmas.{get_set}
 use Rattle.server_laws.proofs.Inputs.{MayCome}
 use Rattle.server_laws.proofs.Plays.{Held}
 use Rattle.memcached_spec.specs.Fed.{fed_by, fed_to}

@@ -119,7 +119,7 @@ less_calm f = record {
 }
 
 module _ {u : ℕ} {w : WorldView} {m : ExecutorMachine} (before : List ExecutorMachine) (is_reached : Reached u before m) (is : IsOfExecutorMachine u w m) where
-  -- its place is this one now, with what is saved as it was, and nothing is sent
+  -- its slot is this one now, with what is saved as it was, and nothing is sent
   quiet_put : (calm : Bool) (id : ℕ) (slot now : Slot ExecutorView) (new : List (Letter Body)) (d : Durable) → slice_get m.executors id ≡ Some d → IsSameExecutor u id d slot → now ≡ slot → new ≡ [] → Follows calm u m (with_executor w id now new)
   quiet_put calm id slot now new d at same e silent =
       subst (λ (y : Slot ExecutorView). Follows calm u m (with_executor w id y new)) (sym e)

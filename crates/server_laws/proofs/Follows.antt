@@ -18,7 +18,7 @@ use Rattle.worlds.specs.Slots.{ClientSlot}
 use Rattle.worlds.specs.World.{WorldView, with_executor}
 use Rattle.worlds.specs.Ballots.{ballots}
 use Rattle.worlds.proofs.BallotLemmas.{ballots-append}
-use Rattle.worlds.proofs.PlaceLemmas.{get_set, set_get, set_other}
+use Rattle.worlds.proofs.SlotLemmas.{get_set, set_get, set_other}
 use Rattle.server_laws.specs.Saved.{AreLinked, IsSavedIn, IsKeptIn, IsExecutedIn}
 use Rattle.server_laws.specs.Machines.{IsSameExecutor, AreSameExecutors, IsOfExecutorMachine}
 use Rattle.server_laws.proofs.Steps.{Steps, none, more, steps_reached}
@@ -71,7 +71,7 @@ module _ {u : ℕ} {w : WorldView} {m : ExecutorMachine} (before : List Executor
     rounds_from = λ r c. inl c;
   }
 
-  -- an executor's place is another, with what is saved as it was
+  -- an executor's slot is another, with what is saved as it was
   pub put_quiet : (calm : Bool) (id : ℕ) (slot : Slot ExecutorView) (x : Durable) (letters : List (Letter Body)) → slice_get m.executors id ≡ Some x → IsSameExecutor u id x slot → ballots letters ≡ m.letters
       → Follows calm u m (record w { executors = slice_set w.executors id slot; letters = letters })
   put_quiet calm id slot x letters at same e = record {

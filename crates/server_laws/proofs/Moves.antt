@@ -27,7 +27,7 @@ use Rattle.custody_laws.specs.Durable.{Durable, obeyed, durable_stood, executed_
 use Rattle.custody_laws.specs.Machine.{ExecutorMachine, said_of, HaveNoToken, Hear, Complete, Obey, Stand, Take}
 use Rattle.worlds.specs.Ballots.{ballot_of, ballots}
 use Rattle.worlds.proofs.BallotLemmas.{ballots-append}
-use Rattle.worlds.proofs.PlaceLemmas.{set_get}
+use Rattle.worlds.proofs.SlotLemmas.{set_get}
 use Rattle.server_laws.specs.Saved.{HasExecuted}
 use Rattle.server_laws.proofs.Steps.{Steps, none, more, said_below, say_all}
 

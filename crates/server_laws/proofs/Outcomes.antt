@@ -14,7 +14,7 @@ use Rattle.custody_laws.proofs.Kept.{ExecOk}
 use Rattle.custody_laws.proofs.Custody.{reached_ok}
 use Rattle.worlds.specs.declared.slot.Slot.TheVariants.{Up}
 use Rattle.worlds.specs.World.{WorldView}
-use Rattle.worlds.proofs.PlaceLemmas.{set_get}
+use Rattle.worlds.proofs.SlotLemmas.{set_get}
 use Rattle.server_laws.specs.Saved.{saved_of, AreLinked}
 use Rattle.server_laws.specs.Machines.{IsUp}
 use Rattle.server_laws.proofs.Steps.{steps_reached}

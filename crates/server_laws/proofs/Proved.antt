@@ -19,7 +19,7 @@ use Rattle.custody_laws.proofs.Custody.{reached_ok, chosen_is_made, committed_is
 use Rattle.worlds.specs.Slot.{Slot}
 use Rattle.worlds.specs.World.{WorldView}
 use Rattle.worlds.specs.Laws.{is_gone, chosen_list}
-use Rattle.worlds.proofs.PlaceLemmas.{get_within}
+use Rattle.worlds.proofs.SlotLemmas.{get_within}
 use Rattle.server_laws.specs.Saved.{AreLinked, Has, HasOne, IsMet, IsExecuted, DigestsAreDistinct}
 use Rattle.server_laws.specs.Machines.{IsSameExecutor, HasExecutorMachine}
 use Rattle.server_laws.specs.HeldLaws.{SavedIsHad, EachHasOneInWorlds, ChosenIsMadeInWorlds, IsChosenState, CommittedIsChosenInWorlds, ExecutorKeeps, ExecutorsKeepChosen, ExecutorsKeepChosenInWorlds}

@@ -36,7 +36,7 @@ use Rattle.worlds.specs.Slot.{Slot}
 use Rattle.worlds.specs.declared.slot.Slot.TheVariants.{Up, Down, Gone}
 use Rattle.worlds.specs.Slots.{ExecutorSettles, ExecutorReopens, ClientSlot, ClientSettlesWhere}
 use Rattle.worlds.specs.World.{WorldView, as_sent, with_executor, ClientAtGiven, ClientGiven, ExecutorAtGiven, VerifierAtGiven, ExecutorAtOpened, VerifierAtOpened, ClientReached, VerifierReached, NodeReached, letter_at, IsDelivered, WorldNext}
-use Rattle.worlds.proofs.PlaceLemmas.{set_get}
+use Rattle.worlds.proofs.SlotLemmas.{set_get}
 use Rattle.server_laws.proofs.Replies.{AllReplies, all-append, resumed_replies}
 
 -- ---- clients and verifiers reply nothing

@@ -21,7 +21,7 @@ use Rattle.executor.proofs.WorkedLemmas.{done_is_round}
 use Rattle.rollback.specs.Chain.{tip}
 use Rattle.exec_lines.specs.Begun.{begun_at, begin_of, moved_on}
 use Rattle.custody_laws.specs.Durable.{Durable, IsMember}
-use Rattle.worlds.proofs.PlaceLemmas.{get_within}
+use Rattle.worlds.proofs.SlotLemmas.{get_within}
 use Rattle.server_laws.specs.Machines.{IsWorkOver}
 
 -- what work comes to: it goes on, or a member is made over the tip

@@ -9,7 +9,7 @@ use Rattle.events.specs.declared.event.Replica.TheVariants.{Executor, Verifier}
 use Rattle.hosts.specs.Host.{HostReopens}
 use Rattle.ensemble.specs.Nodes.{NodesView, size_of, AtHostIn, AtVerifierIn, VerifierOpens}
 use Rattle.ensemble.specs.First.{AreAllUp}
-use Rattle.ensemble.specs.Shown.{is_host_up, is_place_up, is_up_at}
+use Rattle.ensemble.specs.Shown.{is_host_up, is_slot_up, is_up_at}
 use Rattle.ensemble.specs.Calls.{IsReopened}
 use Rattle.service.specs.declared.pause.Pause.{Pause}
 use Rattle.service.specs.Pause.{first_pause}
@@ -55,14 +55,14 @@ module _ (n now : NodesView) where
       let m = is.here here in
       ap (λ (x : NodesView). is_host_up (slice_get x.executors k)) m.5
       ∙ ap is_host_up (at_other (AtHostIn (λ h left sent. HostReopens n.u id h left sent) id n.executors m.0 m.1) n.executors m.0 id k (λ same. differs (ap (λ (x : ℕ). Executor x) same)) (λ at. at.0) (λ h at. (at.0, at.2)) (slice_get n.executors id) m.3)
-  host_opened id (Verifier k) differs here is = let m = is.here here in ap (λ (x : NodesView). is_place_up (slice_get x.verifiers k)) m.5
+  host_opened id (Verifier k) differs here is = let m = is.here here in ap (λ (x : NodesView). is_slot_up (slice_get x.verifiers k)) m.5
 
   verifier_opened : (id : ℕ) (r : Replica) → r ≢ Verifier id → id ≤ 2 * n.u → IsReopened (Verifier id) n now → is_up_at now r ≡ is_up_at n r
   verifier_opened id (Executor k) differs here is = let m = is.here here in ap (λ (x : NodesView). is_host_up (slice_get x.executors k)) m.5
   verifier_opened id (Verifier k) differs here is =
       let m = is.here here in
-      ap (λ (x : NodesView). is_place_up (slice_get x.verifiers k)) m.5
-      ∙ ap is_place_up (at_other (AtVerifierIn (VerifierOpens n.u id) id n.verifiers m.0 m.1) n.verifiers m.0 id k (λ same. differs (ap (λ (x : ℕ). Verifier x) same)) (λ at. at.0) (λ v at. (at.0, at.2)) (slice_get n.verifiers id) m.3)
+      ap (λ (x : NodesView). is_slot_up (slice_get x.verifiers k)) m.5
+      ∙ ap is_slot_up (at_other (AtVerifierIn (VerifierOpens n.u id) id n.verifiers m.0 m.1) n.verifiers m.0 id k (λ same. differs (ap (λ (x : ℕ). Verifier x) same)) (λ at. at.0) (λ v at. (at.0, at.2)) (slice_get n.verifiers id) m.3)
 
   -- each other one is up or down as before
   reopened_others : (opened r : Replica) → r ≢ opened → IsReopened opened n now → is_up_at now r ≡ is_up_at n r

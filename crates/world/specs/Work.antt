@@ -12,7 +12,7 @@ abbrev pub work_event : ℕ → NextWork → Event
 work_event id (next_work.Step place) = Step id place
 work_event id next_work.Finish = Finish id
 
--- the place, if it is there, has no executor that is up and has work
+-- the slot, if it is there, has no executor that is up and has work
 abbrev pub HasNoWork : Option (Slot ExecutorView) → Type 0
 HasNoWork None = Unit {0}
 HasNoWork (Some slot) = WaitsFor slot None
@@ -24,8 +24,8 @@ IsWorkOf (Some slot) id event = (next : NextWork) × WaitsFor slot (Some next) �
 
 -- what comes next of the work there, if an executor is there that is up and has work
 abbrev pub ComesOf : Option (Slot ExecutorView) → ℕ → Option Event → Type 0
-ComesOf place id None = HasNoWork place
-ComesOf place id (Some event) = IsWorkOf place id event
+ComesOf slot id None = HasNoWork slot
+ComesOf slot id (Some event) = IsWorkOf slot id event
 
 -- the event is what comes next of the work of the lowest executor that is up and has work, if one has
 abbrev pub IsNextWork : List (Slot ExecutorView) → Option Event → Type 0

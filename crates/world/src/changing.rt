@@ -14,16 +14,16 @@ impl World {
     fn crash_executor(&mut self, id: u8)
         ensures { self.new ≡ executor_changed self.old id (crashed_slot executor_kept) }
     {
-        if let Some(place) = self.executors.get_mut(usize::from(id)) {
-            place.crash();
+        if let Some(slot) = self.executors.get_mut(usize::from(id)) {
+            slot.crash();
         }
     }
 
     fn crash_verifier(&mut self, id: u8)
         ensures { self.new ≡ verifier_changed self.old id (crashed_slot verifier_kept) }
     {
-        if let Some(place) = self.verifiers.get_mut(usize::from(id)) {
-            place.crash();
+        if let Some(slot) = self.verifiers.get_mut(usize::from(id)) {
+            slot.crash();
         }
     }
 
@@ -39,16 +39,16 @@ impl World {
     fn lose_executor(&mut self, id: u8)
         ensures { self.new ≡ executor_changed self.old id (lost_slot executor_kept) }
     {
-        if let Some(place) = self.executors.get_mut(usize::from(id)) {
-            place.lose();
+        if let Some(slot) = self.executors.get_mut(usize::from(id)) {
+            slot.lose();
         }
     }
 
     fn lose_verifier(&mut self, id: u8)
         ensures { self.new ≡ verifier_changed self.old id (lost_slot verifier_kept) }
     {
-        if let Some(place) = self.verifiers.get_mut(usize::from(id)) {
-            place.lose();
+        if let Some(slot) = self.verifiers.get_mut(usize::from(id)) {
+            slot.lose();
         }
     }
 
@@ -64,16 +64,16 @@ impl World {
     fn fail_executor(&mut self, id: u8)
         ensures { self.new ≡ executor_changed self.old id (told_slot executor_told) }
     {
-        if let Some(place) = self.executors.get_mut(usize::from(id)) {
-            place.fail_next();
+        if let Some(slot) = self.executors.get_mut(usize::from(id)) {
+            slot.fail_next();
         }
     }
 
     fn fail_verifier(&mut self, id: u8)
         ensures { self.new ≡ verifier_changed self.old id (told_slot verifier_told) }
     {
-        if let Some(place) = self.verifiers.get_mut(usize::from(id)) {
-            place.fail_next();
+        if let Some(slot) = self.verifiers.get_mut(usize::from(id)) {
+            slot.fail_next();
         }
     }
 
@@ -90,10 +90,10 @@ impl World {
         ensures { OnOk result (ExecutorAtOpened self.old id (slice_get self.old.executors id) self.new) }
     {
         let u = self.u;
-        let Some(place) = self.executors.get_mut(usize::from(id)) else {
+        let Some(slot) = self.executors.get_mut(usize::from(id)) else {
             return Ok(());
         };
-        let sent = place.restart(alloc, u, id);
+        let sent = slot.restart(alloc, u, id);
         send(sent, &mut self.letters)
     }
 
@@ -101,10 +101,10 @@ impl World {
         ensures { OnOk result (VerifierAtOpened self.old id (slice_get self.old.verifiers id) self.new) }
     {
         let u = self.u;
-        let Some(place) = self.verifiers.get_mut(usize::from(id)) else {
+        let Some(slot) = self.verifiers.get_mut(usize::from(id)) else {
             return Ok(());
         };
-        let sent = place.restart(alloc, u, id);
+        let sent = slot.restart(alloc, u, id);
         send_ballots(&sent, &mut self.letters)
     }
 

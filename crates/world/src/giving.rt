@@ -21,11 +21,11 @@ impl World {
     ) -> Result<(), AllocError>
         ensures { OnOk result (ExecutorGiven self.old id input self.new) }
     {
-        let Some(place) = self.executors.get_mut(usize::from(id)) else {
+        let Some(slot) = self.executors.get_mut(usize::from(id)) else {
             input.spend();
             return Ok(());
         };
-        let sent = place.settle(alloc, input);
+        let sent = slot.settle(alloc, input);
         send(sent, &mut self.letters)
     }
 
@@ -37,10 +37,10 @@ impl World {
     ) -> Result<(), AllocError>
         ensures { OnOk result (VerifierGiven self.old id input self.new) }
     {
-        let Some(place) = self.verifiers.get_mut(usize::from(id)) else {
+        let Some(slot) = self.verifiers.get_mut(usize::from(id)) else {
             return Ok(());
         };
-        let sent = place.settle(alloc, input);
+        let sent = slot.settle(alloc, input);
         send_ballots(&sent, &mut self.letters)
     }
 
@@ -62,12 +62,12 @@ impl World {
     fn give_client_at(
         &mut self,
         alloc: Global,
-        place: u16,
+        index: u16,
         input: ClientInput,
     ) -> Result<(), AllocError>
-        ensures { OnOk result (ClientAtGiven self.old place input (slice_get self.old.clients place) self.new) }
+        ensures { OnOk result (ClientAtGiven self.old index input (slice_get self.old.clients index) self.new) }
     {
-        let Some(client) = self.clients.get_mut(usize::from(place)) else {
+        let Some(client) = self.clients.get_mut(usize::from(index)) else {
             return Ok(());
         };
         let sent = client.settle(alloc, input)?;

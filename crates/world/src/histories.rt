@@ -7,16 +7,16 @@ ghost use Rattle.world.specs.History.{IsHistoryOfPlay, IsHistoryTo, IsLinearizab
 use crate::world::World;
 use linear_laws::reached_are_linearizable;
 use std::alloc::{AllocError, Global};
-use worlds::{ClientPlace, Config, Event};
+use worlds::{ClientSlot, Config, Event};
 
 /// What the clients had been given, that of number 1 first.
-fn given_now(alloc: Global, clients: &[ClientPlace]) -> Result<Vec<Vec<u8>>, AllocError>
+fn given_now(alloc: Global, clients: &[ClientSlot]) -> Result<Vec<Vec<u8>>, AllocError>
     ensures { IfOk result (λ given. texts_in given.items ≡ map (λ slot. slot.given) clients.now) }
 {
     let mut given = Vec::with_capacity(alloc, clients.len())?;
-    for place in clients {
+    for slot in clients {
         let mut bytes = Vec::new(alloc);
-        bytes.extend_from_slice(place.given())?;
+        bytes.extend_from_slice(slot.given())?;
         given.push(bytes)?;
     }
     Ok(given)

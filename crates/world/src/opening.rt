@@ -7,81 +7,81 @@ ghost use Rattle.worlds.specs.First.{first_executor, first_verifier, all_up};
 
 use crate::world::{World, end_executors};
 use std::alloc::{AllocError, Global};
-use worlds::{ClientPlace, Config, ExecutorPlace, Status, VerifierPlace};
+use worlds::{ClientSlot, Config, ExecutorSlot, Status, VerifierSlot};
 
 /// So many clients, of which nothing came yet.
-fn first_clients(alloc: Global, u: u8, count: u16) -> Result<Vec<ClientPlace>, AllocError>
+fn first_clients(alloc: Global, u: u8, count: u16) -> Result<Vec<ClientSlot>, AllocError>
     requires { u < 4 }
     ensures { IfOk result (λ clients. clients.items ≡ new_clients u count) }
 {
     let mut clients = Vec::new(alloc);
     for i in 0..count {
-        clients.push(ClientPlace::new(alloc, i + 1, u))?;
+        clients.push(ClientSlot::new(alloc, i + 1, u))?;
     }
     Ok(clients)
 }
 
 /// A verifier that is opened for the first time. Without a record it sends nothing.
-fn opened_verifier(alloc: Global, u: u8, id: u8) -> Result<VerifierPlace, AllocError>
+fn opened_verifier(alloc: Global, u: u8, id: u8) -> Result<VerifierSlot, AllocError>
     requires few { u < 4 }
     requires member { id ≤ 2 * u }
-    ensures { IfOk result (λ place. place ≡ Up (first_verifier u id)) }
+    ensures { IfOk result (λ slot. slot ≡ Up (first_verifier u id)) }
 {
-    let mut place = VerifierPlace::unopened();
-    place.restart(alloc, u, id);
-    match place.status() {
-        Status::Up(_) => Ok(place),
+    let mut slot = VerifierSlot::unopened();
+    slot.restart(alloc, u, id);
+    match slot.status() {
+        Status::Up(_) => Ok(slot),
         _ => Err(AllocError),
     }
 }
 
 /// An executor alike.
-fn opened_executor(alloc: Global, u: u8, id: u8) -> Result<ExecutorPlace, AllocError>
+fn opened_executor(alloc: Global, u: u8, id: u8) -> Result<ExecutorSlot, AllocError>
     requires few { u < 4 }
     requires member { id ≤ 2 * u }
-    ensures { IfOk result (λ place. place ≡ Up (first_executor u id)) }
+    ensures { IfOk result (λ slot. slot ≡ Up (first_executor u id)) }
 {
-    let mut place = ExecutorPlace::unopened();
-    place.restart(alloc, u, id);
-    match place.status() {
-        Status::Up(_) => Ok(place),
+    let mut slot = ExecutorSlot::unopened();
+    slot.restart(alloc, u, id);
+    match slot.status() {
+        Status::Up(_) => Ok(slot),
         _ => {
-            place.end();
+            slot.end();
             Err(AllocError)
         }
     }
 }
 
 /// The verifiers below this number, each opened.
-fn first_verifiers(alloc: Global, u: u8, count: u8) -> Result<Vec<VerifierPlace>, AllocError>
+fn first_verifiers(alloc: Global, u: u8, count: u8) -> Result<Vec<VerifierSlot>, AllocError>
     requires few { u < 4 }
     requires members { count ≤ 2 * u + 1 }
-    ensures { IfOk result (λ places. places.items ≡ all_up (first_verifier u) count) }
+    ensures { IfOk result (λ slots. slots.items ≡ all_up (first_verifier u) count) }
 {
-    let mut places = Vec::new(alloc);
+    let mut slots = Vec::new(alloc);
     for id in 0..count {
-        places.push(opened_verifier(alloc, u, id)?)?;
+        slots.push(opened_verifier(alloc, u, id)?)?;
     }
-    Ok(places)
+    Ok(slots)
 }
 
 /// The executors below this number, each opened. Room is taken first, since they cannot be dropped.
-fn first_executors(alloc: Global, u: u8, count: u8) -> Result<Vec<ExecutorPlace>, AllocError>
+fn first_executors(alloc: Global, u: u8, count: u8) -> Result<Vec<ExecutorSlot>, AllocError>
     requires few { u < 4 }
     requires members { count ≤ 2 * u + 1 }
-    ensures { IfOk result (λ places. places.items ≡ all_up (first_executor u) count) }
+    ensures { IfOk result (λ slots. slots.items ≡ all_up (first_executor u) count) }
 {
-    let mut places = Vec::with_capacity(alloc, usize::from(count))?;
+    let mut slots = Vec::with_capacity(alloc, usize::from(count))?;
     for id in 0..count {
         match opened_executor(alloc, u, id) {
-            Ok(place) => places.push_reserved(place),
+            Ok(slot) => slots.push_reserved(slot),
             Err(error) => {
-                end_executors(places);
+                end_executors(slots);
                 return Err(error);
             }
         }
     }
-    Ok(places)
+    Ok(slots)
 }
 
 impl World {

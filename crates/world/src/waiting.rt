@@ -25,8 +25,8 @@ impl World {
     fn work_of(&self, id: u8) -> Option<Event>
         ensures { ComesOf (slice_get self.now.executors id) id result }
     {
-        let place = self.executors.get(usize::from(id))?;
-        let next = place.next_work()?;
+        let slot = self.executors.get(usize::from(id))?;
+        let next = slot.next_work()?;
         Some(event_of(id, next))
     }
 

@@ -5,22 +5,22 @@ ghost use Rattle.std.specs.Prelude.{◌≡◌};
 use decrees::Letter;
 use exec_lines::Body;
 use std::marker::Model;
-use worlds::{ClientPlace, ExecutorPlace, VerifierPlace};
+use worlds::{ClientSlot, ExecutorSlot, VerifierSlot};
 
 /// All nodes of one world, and all letters that were ever sent. It cannot be dropped, since executors
 /// cannot: `end` ends it.
 pub struct World {
     pub(crate) u: u8,
-    pub(crate) clients: Vec<ClientPlace>,
-    pub(crate) executors: Vec<ExecutorPlace>,
-    pub(crate) verifiers: Vec<VerifierPlace>,
+    pub(crate) clients: Vec<ClientSlot>,
+    pub(crate) executors: Vec<ExecutorSlot>,
+    pub(crate) verifiers: Vec<VerifierSlot>,
     pub(crate) letters: Vec<Letter<Body>>,
 }
 
 impl Model for World {
-    ghost use Rattle.worlds.specs.contracts.client_place.ClientPlace as client_place;
-    ghost use Rattle.worlds.specs.contracts.executor_place.ExecutorPlace as executor_place;
-    ghost use Rattle.worlds.specs.contracts.verifier_place.VerifierPlace as verifier_place;
+    ghost use Rattle.worlds.specs.contracts.client_slot.ClientSlot as client_slot;
+    ghost use Rattle.worlds.specs.contracts.executor_slot.ExecutorSlot as executor_slot;
+    ghost use Rattle.worlds.specs.contracts.verifier_slot.VerifierSlot as verifier_slot;
     ghost use Rattle.decrees.specs.contracts.node.Letter as letter;
     ghost use Rattle.exec_lines.specs.contracts.body.Body as body;
     ghost use Rattle.worlds.specs.World.{WorldView};
@@ -28,7 +28,7 @@ impl Model for World {
 
     ghost Value = { WorldView };
 
-    ghost coded = { world_code client_place.the_row.coded executor_place.the_row.coded verifier_place.the_row.coded (letter.the_row body.the_row).coded };
+    ghost coded = { world_code client_slot.the_row.coded executor_slot.the_row.coded verifier_slot.the_row.coded (letter.the_row body.the_row).coded };
 
     ghost view = { λ w. record { u = w.u; clients = w.clients.items; executors = w.executors.items; verifiers = w.verifiers.items; letters = w.letters.items } };
 
@@ -36,9 +36,9 @@ impl Model for World {
 }
 
 /// Ends these executors.
-pub fn end_executors(mut executors: Vec<ExecutorPlace>) {
-    while let Some(place) = executors.pop() {
-        place.end();
+pub fn end_executors(mut executors: Vec<ExecutorSlot>) {
+    while let Some(slot) = executors.pop() {
+        slot.end();
     }
     executors.destroy_empty();
 }
@@ -63,8 +63,8 @@ impl World {
         if client == 0 {
             return None;
         }
-        let place = self.clients.get(usize::from(client - 1))?;
-        Some(place.given())
+        let slot = self.clients.get(usize::from(client - 1))?;
+        Some(slot.given())
     }
 
     /// All letters that were ever sent, in this order: they are numbered from 1.
@@ -74,22 +74,22 @@ impl World {
         &self.letters
     }
 
-    /// The places of its clients, that of client 1 first.
-    pub fn clients(&self) -> &[ClientPlace]
+    /// The slots of its clients, that of client 1 first.
+    pub fn clients(&self) -> &[ClientSlot]
         ensures { result.now ≡ self.now.clients }
     {
         &self.clients
     }
 
-    /// The places of its executors, by number.
-    pub fn executors(&self) -> &[ExecutorPlace]
+    /// The slots of its executors, by number.
+    pub fn executors(&self) -> &[ExecutorSlot]
         ensures { result.now ≡ self.now.executors }
     {
         &self.executors
     }
 
-    /// The places of its verifiers, by number.
-    pub fn verifiers(&self) -> &[VerifierPlace]
+    /// The slots of its verifiers, by number.
+    pub fn verifiers(&self) -> &[VerifierSlot]
         ensures { result.now ≡ self.now.verifiers }
     {
         &self.verifiers

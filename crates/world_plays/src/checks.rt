@@ -43,8 +43,8 @@ impl History {
 
     /// Notes what all executors have committed. False: two committed states of one number differ.
     pub fn note_all(&mut self, world: &World) -> bool {
-        for place in world.executors() {
-            if let Some(node) = place.node() {
+        for slot in world.executors() {
+            if let Some(node) = slot.node() {
                 let committed = node.state().chain().committed();
                 if !self.note(committed.number() as usize, committed.token()) {
                     return false;
@@ -59,8 +59,8 @@ impl History {
         let Some(Some(last)) = self.tokens.last() else {
             return self.tokens.is_empty();
         };
-        for place in world.executors() {
-            if let Some(node) = place.node() {
+        for slot in world.executors() {
+            if let Some(node) = slot.node() {
                 if has(node.state().chain(), self.tokens.len() as u64 - 1, *last) {
                     return true;
                 }
@@ -126,8 +126,8 @@ fn are_new(bytes: &[u8], seen: &mut Vec<bool>, replies: &mut u64) -> bool {
 pub fn replies(world: &World, seen: &mut Vec<bool>) -> Option<u64> {
     let mut replies = 0;
     let mut is_first = true;
-    for place in world.clients() {
-        let given = place.given();
+    for slot in world.clients() {
+        let given = slot.given();
         let numbers = if is_first {
             given.strip_prefix(b"STORED\r\n".as_slice())?
         } else {

@@ -126,8 +126,8 @@ impl Judge {
     }
 
     fn follow_all(&mut self, alloc: Global, world: &World) -> Result<bool, AllocError> {
-        for place in world.executors() {
-            if let Some(node) = place.node() {
+        for slot in world.executors() {
+            if let Some(node) = slot.node() {
                 let chain = node.state().chain();
                 if !self.follow(alloc, chain.committed())? {
                     return Ok(false);

@@ -165,9 +165,9 @@ impl PlainServer {
 
     /// Whether no client was given more than it answered.
     pub fn gave_all(&self, world: &World) -> bool {
-        let mut places = world.clients().iter();
-        self.talks.iter().all(|talk| match places.next() {
-            Some(place) => talk.is_within(place.given()),
+        let mut slots = world.clients().iter();
+        self.talks.iter().all(|talk| match slots.next() {
+            Some(slot) => talk.is_within(slot.given()),
             None => false,
         })
     }
@@ -175,9 +175,9 @@ impl PlainServer {
     /// How many turns the clients were given, if these are whole texts that it answered.
     pub fn turns_given(&self, world: &World) -> Option<u64> {
         let mut turns = 0u64;
-        let mut places = world.clients().iter();
+        let mut slots = world.clients().iter();
         for talk in &self.talks {
-            turns = turns.saturating_add(talk.turns_of(places.next()?.given())?);
+            turns = turns.saturating_add(talk.turns_of(slots.next()?.given())?);
         }
         Some(turns)
     }

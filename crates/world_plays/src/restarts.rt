@@ -45,17 +45,17 @@ fn played(alloc: Global, stage: &mut Stage, row: &Schedule) -> Result<World, All
 /// What each client was given.
 fn given(alloc: Global, world: &World) -> Result<Vec<Vec<u8>>, AllocError> {
     let mut all = Vec::new(alloc);
-    for place in world.clients() {
-        all.push(Vec::from_slice(alloc, place.given())?)?;
+    for slot in world.clients() {
+        all.push(Vec::from_slice(alloc, slot.given())?)?;
     }
     Ok(all)
 }
 
 /// Whether each client was given a beginning of this.
 fn is_beginning(world: &World, whole: &[Vec<u8>]) -> bool {
-    let mut places = world.clients().iter();
-    whole.iter().all(|bytes| match places.next() {
-        Some(place) => bytes.starts_with(place.given()),
+    let mut slots = world.clients().iter();
+    whole.iter().all(|bytes| match slots.next() {
+        Some(slot) => bytes.starts_with(slot.given()),
         None => false,
     })
 }

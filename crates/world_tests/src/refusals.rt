@@ -27,9 +27,9 @@ fn others_are_up(world: &World) -> bool {
     let mut executors = world.executors().iter().take(2);
     let mut verifiers = world.verifiers().iter();
     let mut clients = world.clients().iter();
-    executors.all(|place| matches!(place.status(), Status::Up(_)))
-        && verifiers.all(|place| matches!(place.status(), Status::Up(_)))
-        && clients.all(|place| place.is_open())
+    executors.all(|slot| matches!(slot.status(), Status::Up(_)))
+        && verifiers.all(|slot| matches!(slot.status(), Status::Up(_)))
+        && clients.all(|slot| slot.is_open())
 }
 
 /// Whether the client was given all; or a beginning of it, if another node than executor 2 has stopped.

@@ -19,7 +19,7 @@ use Rattle.worlds.specs.Slots.{ClientSlot}
 use Rattle.worlds.specs.World.{WorldView, as_sent, with_verifier}
 use Rattle.worlds.specs.Ballots.{ballots}
 use Rattle.worlds.specs.Machines.{IsSameVerifier, IsOfMachine}
-use Rattle.worlds.proofs.PlaceLemmas.{get_set, set_get, set_other}
+use Rattle.worlds.proofs.SlotLemmas.{get_set, set_get, set_other}
 use Rattle.worlds.proofs.OwnLetters.{AllFrom}
 use Rattle.worlds.proofs.BallotLemmas.{ballots-append, ballots-sent, ballots-from}
 

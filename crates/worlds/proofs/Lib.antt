@@ -1,4 +1,4 @@
-pub mod PlaceLemmas
+pub mod SlotLemmas
 pub mod OwnLetters
 pub mod BallotLemmas
 pub mod Follows

@@ -23,7 +23,7 @@ use Rattle.events.specs.Config.{ConfigView}
 use Rattle.worlds.specs.World.{WorldView, ReachedWorlds, EndsWith}
 use Rattle.worlds.specs.Machines.{IsSameVerifier, IsOfMachine, HaveMachines}
 use Rattle.worlds.specs.Laws.{IsReached, OneIsChosenInWorlds, ChosenIsBackedInWorlds, verifier_record, is_gone, ChosenStandsInWorlds, ChosenIsKeptInWorlds, chosen_list, ListIsChosenInWorlds, ListsGrow, ListGrowsInWorlds}
-use Rattle.worlds.proofs.PlaceLemmas.{get_within}
+use Rattle.worlds.proofs.SlotLemmas.{get_within}
 use Rattle.worlds.proofs.Projected.{are_of_machines, last_has_machine}
 use Rattle.worlds.proofs.Untrimmed.{whole_machine}
 

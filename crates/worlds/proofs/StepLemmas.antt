@@ -66,7 +66,7 @@ refused_does e now x stays refused same =
       ap (λ (y : ExecutorOutcome). y.letters) (sym o),
     )
 
--- ---- the relations of places
+-- ---- the relations of slots
 
 pub verifier_settles : (v now : VerifierView) (x : of_verifier.Input) (letters : List (Letter Ballot)) → VerifierDoes v x now letters → VerifierSettles (Up v) x (Up now) letters
 verifier_settles v now x letters does = inl (does.0, ap Up does.1, does.2)

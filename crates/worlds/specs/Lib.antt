@@ -4,7 +4,7 @@ pub mod World
 pub mod Ballots
 pub mod Machines
 pub mod Laws
-pub mod Places
+pub mod UpSlots
 pub mod Steps
 pub mod Status
 pub mod First

@@ -1,4 +1,4 @@
--- The place of a replica, whose keeper is in memory.
+-- The slot of a replica, whose keeper is in memory.
 use Rattle.keeper.specs.Kept.{Kept}
 use Rattle.worlds.specs.declared.slot.Slot as of_any
 

@@ -1,4 +1,4 @@
--- What is seen of a place from outside.
+-- What is seen of a slot from outside.
 use Rattle.std.specs.Prelude.{◌≡◌, ◌&&◌, Bool, not, Option, None, Some}
 use Rattle.exec_lines.specs.declared.shown.Report.{Report}
 use Rattle.exec_lines.specs.declared.shown.NextWork.{NextWork}

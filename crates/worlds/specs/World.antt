@@ -51,7 +51,7 @@ with_executor w id slot new = record w { executors = slice_set w.executors id sl
 abbrev pub with_verifier : WorldView → ℕ → Slot VerifierView → List (Letter Ballot) → WorldView
 with_verifier w id slot new = record w { verifiers = slice_set w.verifiers id slot; letters = w.letters ++ map as_sent new }
 
--- the client at this place, if there is one, is given the input
+-- the client in this slot, if there is one, is given the input
 abbrev pub ClientAtGiven : WorldView → ℕ → of_client.Input → Option ClientSlot → WorldView → Type 0
 ClientAtGiven w i x None now = now ≡ w
 ClientAtGiven w i x (Some old) now = (slot : ClientSlot) × (new : List (Letter Body)) × ClientSettles old x slot new × (now ≡ with_client w i slot new)

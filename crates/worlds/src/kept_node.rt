@@ -27,5 +27,5 @@ pub trait KeptNode {
         ensures { IfOk result (λ keeper. keeper ≡ kept self.now) };
 }
 
-/// The place of a replica over a keeper in memory.
+/// The slot of a replica over a keeper in memory.
 pub type KeptSlot<N> = Slot<N, MemKeeper<<N as KeptNode>::Record>>;

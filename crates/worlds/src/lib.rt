@@ -8,22 +8,22 @@
 //! any number of times; and the laws: each is the contract of a function that does nothing.
 #![tactic(auto)]
 
-mod client_place;
+mod client_slot;
 mod copies;
-mod executor_place;
+mod executor_slot;
 mod kept_node;
 mod laws;
-mod places;
 mod running;
 mod sending;
 mod slot;
+mod slots;
 mod status;
-mod verifier_place;
+mod verifier_slot;
 
-pub use client_place::ClientPlace;
+pub use client_slot::ClientSlot;
 pub use copies::letter_copy;
 pub use events::{Config, Event, MOST_CLIENTS, Replica};
-pub use executor_place::ExecutorPlace;
+pub use executor_slot::ExecutorSlot;
 pub use laws::{
     chosen_is_backed_in_worlds, chosen_is_kept_in_worlds, chosen_list_only_grows_in_worlds,
     chosen_stands_in_worlds, one_is_chosen_in_worlds, worlds_are_of_machines,
@@ -32,4 +32,4 @@ pub use running::a_run_is_steps;
 pub use sending::send_ballots;
 pub use slot::Slot;
 pub use status::{Status, VerifierReport};
-pub use verifier_place::VerifierPlace;
+pub use verifier_slot::VerifierSlot;

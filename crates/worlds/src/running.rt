@@ -1,12 +1,12 @@
-//! A job that is run in an executor's place.
+//! A job that is run in an executor's slot.
 
 ghost use Rattle.std.specs.Prelude.{◌≡◌, IfSome, IfNone, OnSome, IsTrue};
 ghost use Rattle.worlds.specs.Slots.{executor_kept};
 ghost use Rattle.worlds.specs.Runs.{ExecutorRan, ExecutorRuns, RunStops, RunIsSteps};
 
-use crate::executor_place::{ExecutorPlace, KeptExecutor};
-use crate::places::crash;
+use crate::executor_slot::{ExecutorSlot, KeptExecutor};
 use crate::slot::Slot;
+use crate::slots::crash;
 use decrees::Letter;
 use exec_lines::Body;
 use exec_node::a_run_is_played;
@@ -36,7 +36,7 @@ fn ran<R: Threads + Wait + Sync>(
     }
 }
 
-impl ExecutorPlace {
+impl ExecutorSlot {
     /// Runs its job, if it is up and has one, on at most so many threads at once; the result is what it
     /// sends. If that meets an error it stops, and is down with its record; then nothing is sent.
     #[tactic(auto, using(crate::proofs::RunLemmas::executor_runs, crate::proofs::RunLemmas::run_stops))]

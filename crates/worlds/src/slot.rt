@@ -1,4 +1,4 @@
-/// A place of a world, with what became of its replica `N`, and the keeper `K` that outlives it.
+/// A slot of a world, with what became of its replica `N`, and the keeper `K` that outlives it.
 #[derive(Drop)]
 pub enum Slot<N, K> {
     /// It is up.

@@ -1,4 +1,4 @@
-//! What is seen of a place from outside.
+//! What is seen of a slot from outside.
 
 ghost use Rattle.std.specs.Prelude.{◌≡◌, IfOk, Some};
 ghost use Rattle.std.specs.Option.{option_map};
@@ -8,11 +8,11 @@ ghost use Rattle.worlds.specs.Laws.{kept_at, is_gone as is_gone_from};
 ghost use Rattle.worlds.specs.Slots.{executor_kept, verifier_kept};
 ghost use Rattle.worlds.specs.Status.{status_of, executor_report, verifier_report, node_at, WaitsFor, is_client_open};
 
-use crate::client_place::ClientPlace;
-use crate::executor_place::{ExecutorPlace, KeptExecutor};
-use crate::places::{is_gone, kept};
+use crate::client_slot::ClientSlot;
+use crate::executor_slot::{ExecutorSlot, KeptExecutor};
 use crate::slot::Slot;
-use crate::verifier_place::{KeptVerifier, VerifierPlace};
+use crate::slots::{is_gone, kept};
+use crate::verifier_slot::{KeptVerifier, VerifierSlot};
 use base::Text;
 use exec_lines::{ExecutorRecord, NextWork, Report};
 use keeper::MemKeeper;
@@ -35,7 +35,7 @@ pub struct VerifierReport {
     pub view: u64,
 }
 
-impl ExecutorPlace {
+impl ExecutorSlot {
     /// The executor, if it is up.
     pub fn node(&self) -> Option<&KeptExecutor>
         ensures { option_map (λ node. node.now) result ≡ node_at self.now }
@@ -82,7 +82,7 @@ impl ExecutorPlace {
     }
 }
 
-impl VerifierPlace {
+impl VerifierSlot {
     /// The verifier, if it is up.
     pub fn node(&self) -> Option<&KeptVerifier>
         ensures { option_map (λ node. node.now) result ≡ node_at self.now }
@@ -122,7 +122,7 @@ impl VerifierPlace {
     }
 }
 
-impl ClientPlace {
+impl ClientSlot {
     /// Whether what its client sends is still taken: it was not closed, its client did not hang up, and it
     /// was not stopped.
     pub fn is_open(&self) -> bool

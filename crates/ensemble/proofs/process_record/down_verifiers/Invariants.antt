@@ -5,5 +5,5 @@ use Rattle.ensemble.proofs.process_record.down_verifiers.Given as goal
 abbrev pub invariant-loop-keeper : goal.invariant-loop-keeper
 invariant-loop-keeper l = record {
   whole : l.yielded ++ l.keeper-iterator.rest.items ≡ l.fn.keepers.items;
-  made : l.places.items ≡ map down_verifier l.yielded;
+  made : l.slots.items ≡ map down_verifier l.yielded;
 }

@@ -2,5 +2,5 @@ use Rattle.std.proofs.Common.{◌≡◌, map, take}
 use Rattle.ensemble.specs.Kept.{kept_of_verifier}
 use Rattle.ensemble.proofs.recording.kept_verifiers.Given as goal
 
-abbrev pub invariant-loop-place : goal.invariant-loop-place
-invariant-loop-place l = l.kept.items ≡ map kept_of_verifier (take l.place-index l.verifiers)
+abbrev pub invariant-loop-slot : goal.invariant-loop-slot
+invariant-loop-slot l = l.kept.items ≡ map kept_of_verifier (take l.slot-index l.verifiers)

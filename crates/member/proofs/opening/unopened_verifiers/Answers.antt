@@ -6,15 +6,15 @@ use Rattle.verifier.specs.Verifier.{VerifierView}
 use Rattle.worlds.specs.Slot.{Slot}
 use Rattle.member.proofs.opening.unopened_verifiers.Goals as goal
 
-pub loop-places-preserved : goal.loop-places-preserved
-loop-places-preserved c =
+pub loop-slots-preserved : goal.loop-slots-preserved
+loop-slots-preserved c =
     let x : Slot VerifierView = Down nothing_kept in
     record {
       made =
           c.push_reserved.ensures.items
-          ∙ ((λ i. c.loop-places.invariant.made i ++ c.unopened.ensures i ∷ [])
-          ∙ (sym (replicate_next (vec_len c.loop-places.places) x)
+          ∙ ((λ i. c.loop-slots.invariant.made i ++ c.unopened.ensures i ∷ [])
+          ∙ (sym (replicate_next (vec_len c.loop-slots.slots) x)
           ∙ ap (λ (k : ℕ). replicate k x) (sym c.push_reserved.ensures.len)));
-      most = omega (arith, c.push_reserved.ensures.len, c.loop-places-test.true);
-      room = omega (arith, c.push_reserved.ensures.capacity, c.loop-places.invariant.room);
+      most = omega (arith, c.push_reserved.ensures.len, c.loop-slots-test.true);
+      room = omega (arith, c.push_reserved.ensures.capacity, c.loop-slots.invariant.room);
     }

@@ -5,12 +5,12 @@ use Rattle.verifier.specs.Verifier.{VerifierView}
 use Rattle.worlds.specs.Slot.{Slot}
 use Rattle.member.proofs.opening.unopened_verifiers.Given as goal
 
-abbrev pub invariant-loop-places : goal.invariant-loop-places
-invariant-loop-places l = record {
-  made : (let x : Slot VerifierView = Down nothing_kept in l.places.items ≡ replicate (vec_len l.places) x);
-  most : vec_len l.places ≤ l.fn.count;
-  room : l.fn.count ≤ vec_capacity l.places;
+abbrev pub invariant-loop-slots : goal.invariant-loop-slots
+invariant-loop-slots l = record {
+  made : (let x : Slot VerifierView = Down nothing_kept in l.slots.items ≡ replicate (vec_len l.slots) x);
+  most : vec_len l.slots ≤ l.fn.count;
+  room : l.fn.count ≤ vec_capacity l.slots;
 }
 
-abbrev pub decreases-loop-places : goal.decreases-loop-places
-decreases-loop-places l = l.fn.count - vec_len l.places
+abbrev pub decreases-loop-slots : goal.decreases-loop-slots
+decreases-loop-slots l = l.fn.count - vec_len l.slots

@@ -4,7 +4,7 @@ use Rattle.world.proofs.opening.first_executors.Given as goal
 
 abbrev pub invariant-loop-id : goal.invariant-loop-id
 invariant-loop-id l = record {
-  made : l.places.items ≡ all_up (first_executor l.u) l.id;
-  count : vec_len l.places ≡ l.id;
-  room : l.fn.count ≤ vec_capacity l.places;
+  made : l.slots.items ≡ all_up (first_executor l.u) l.id;
+  count : vec_len l.slots ≡ l.id;
+  room : l.fn.count ≤ vec_capacity l.slots;
 }

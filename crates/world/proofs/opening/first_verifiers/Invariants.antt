@@ -3,4 +3,4 @@ use Rattle.worlds.specs.First.{first_verifier, all_up}
 use Rattle.world.proofs.opening.first_verifiers.Given as goal
 
 abbrev pub invariant-loop-id : goal.invariant-loop-id
-invariant-loop-id l = l.places.items ≡ all_up (first_verifier l.u) l.id
+invariant-loop-id l = l.slots.items ≡ all_up (first_verifier l.u) l.id

@@ -12,14 +12,14 @@ if_none (Some x) P p = tt
 
 pub returns-in_err-order-clause-none : goal.returns-in_err-order-clause-none
 returns-in_err-order-clause-none c =
-    let left : HostView = record { slot = c.self.inside.place; held = c.take_due.new.held.items; sent = c.self.inside.sent.items } in
+    let left : HostView = record { slot = c.self.inside.slot; held = c.take_due.new.held.items; sent = c.self.inside.sent.items } in
     if_none c.from_residual.result (HostForgets c.args.self.now left)
     (subst (λ (h : HostView). HostForgets h left) c.self.view_is (c.take_due.new.held.items, c.take_due.ensures.among, refl))
 
 pub returns-in_err-order-clause-turn : goal.returns-in_err-order-clause-turn
 returns-in_err-order-clause-turn c =
-    let old : HostView = record { slot = c.self.inside.place; held = c.self.inside.held.items; sent = c.self.inside.sent.items } in
-    let left : HostView = record { slot = c.self.inside.place; held = c.take_due.new.held.items; sent = c.self.inside.sent.items } in
+    let old : HostView = record { slot = c.self.inside.slot; held = c.self.inside.held.items; sent = c.self.inside.sent.items } in
+    let left : HostView = record { slot = c.self.inside.slot; held = c.take_due.new.held.items; sent = c.self.inside.sent.items } in
     let out : c.from_residual.result ≡ None = search rules in
     match_none c.from_residual.result (HostTakesDue c.args.self.now left []) _ out
     (subst (λ (h : HostView). HostTakesDue h left []) c.self.view_is
@@ -38,7 +38,7 @@ returns-clause-some c =
 
 pub returns-clause-turn : goal.returns-clause-turn
 returns-clause-turn c =
-    let old : HostView = record { slot = c.self.inside.place; held = c.self.inside.held.items; sent = c.self.inside.sent.items } in
+    let old : HostView = record { slot = c.self.inside.slot; held = c.self.inside.held.items; sent = c.self.inside.sent.items } in
     let left : HostView = record { slot = c.settle.new.self; held = c.take_due.new.held.items; sent = c.self.inside.sent.items } in
     subst (λ (h : HostView). HostTakesDue h left c.settle.result.items) c.self.view_is
     (takes_first old c.take_due.new.held.items c.take_due.ensures.later c.in_ok-order.order c.settle.new.self c.settle.result.items (sym c.in_ok-order.was ∙ c.take_due.ensures.first) c.settle.ensures)

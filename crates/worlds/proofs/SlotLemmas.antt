@@ -1,4 +1,4 @@
--- Members of a list that was changed at one place.
+-- Members of a list, such as one of slots, that was changed at one index.
 use Rattle.std.proofs.Common.{◌≡◌, ◌≢◌, ℕ, zero, suc, ◌<◌, ◌⊎◌, List, [], ◌∷◌, length, Some, inl, inr, refl, ap, ⊎_elim, arith, slice_get, slice_set}
 
 pub get_set : {X : Type 0} (xs : List X) (v : ℕ) (n : X) (i : ℕ) (s : X) → slice_get (slice_set xs v n) i ≡ Some s → ((i ≡ v) × (s ≡ n)) ⊎ ((i ≢ v) × (slice_get xs i ≡ Some s))

@@ -1,4 +1,4 @@
--- What is always true of a place, and by what it is identified.
+-- What is always true of a slot, and by what it is identified.
 use Rattle.std.specs.Prelude.{◌≡◌, ℕ, Bool, IsTrue, List, Option, ◌⊎◌, refl}
 use Rattle.std.specs.Coded.{Coded, code_by, coded×, coded⊎, coded_ℕ, coded_bool, coded_list, coded_option}
 use Rattle.std.proofs.Common.{inl, inr}
@@ -43,6 +43,6 @@ module _ {N : Type 0} where
   slot_of_parts-slot_parts (Down kept) = refl
   slot_of_parts-slot_parts (Gone kept) = refl
 
-  -- a place is identified by what is there
+  -- a slot is identified by what is there
   abbrev pub slot_code : Coded N → Coded (Slot N)
   slot_code n = code_by (N ⊎ (Kept ⊎ Kept)) (coded⊎ n (coded⊎ kept_code kept_code)) slot_parts slot_of_parts slot_of_parts-slot_parts

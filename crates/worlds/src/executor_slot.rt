@@ -1,13 +1,13 @@
-//! The place of an executor.
+//! The slot of an executor.
 
 ghost use Rattle.std.specs.Prelude.{◌≡◌, ◌<◌, ◌≤◌, ◌*◌, IfSome, IfNone, OnSome, IsTrue};
 ghost use Rattle.worlds.specs.Slots.{executor_kept, ExecutorReopens};
-ghost use Rattle.worlds.specs.Places.{IsUpAt, executor_up};
+ghost use Rattle.worlds.specs.UpSlots.{IsUpAt, executor_up};
 ghost use Rattle.worlds.specs.Steps.{ExecutorDoes, ExecutorStops};
 
 use crate::kept_node::{KeptNode, KeptSlot};
-use crate::places::{crash, end, lose, put, taken};
 use crate::slot::Slot;
+use crate::slots::{crash, end, lose, put, taken};
 use decrees::Letter;
 use exec_lines::{Body, ExecutorRecord, Input};
 use exec_node::{ExecNode, unfit_input_changes_nothing};
@@ -37,17 +37,17 @@ impl KeptNode for ExecNode<MemKeeper<ExecutorRecord>> {
     }
 }
 
-/// The place of an executor: one that is there was never stopped. It cannot be dropped, since an executor
+/// The slot of an executor: one that is there was never stopped. It cannot be dropped, since an executor
 /// cannot: `end` ends it.
-pub struct ExecutorPlace {
+pub struct ExecutorSlot {
     pub(crate) slot: KeptSlot<KeptExecutor>,
 }
 
-impl Model for ExecutorPlace {
+impl Model for ExecutorSlot {
     ghost use Rattle.exec_lines.specs.contracts.state.State as state;
     ghost use Rattle.exec_node.specs.Executor.{ExecutorView, executor_view_code};
     ghost use Rattle.worlds.specs.Slot as of_world;
-    ghost use Rattle.worlds.specs.Places.{IsUpAt, executor_up, slot_code};
+    ghost use Rattle.worlds.specs.UpSlots.{IsUpAt, executor_up, slot_code};
 
     ghost Value = { of_world.Slot ExecutorView };
 
@@ -102,26 +102,26 @@ fn reopened(
     }
 }
 
-impl ExecutorPlace {
+impl ExecutorSlot {
     ghost use Rattle.std.specs.Prelude.{◌≡◌, ◌<◌, ◌≤◌, ◌*◌};
     ghost use Rattle.worlds.specs.declared.slot.Slot.TheVariants.{Down};
     ghost use Rattle.worlds.specs.Slots.{executor_kept, executor_told, crashed_slot, lost_slot, told_slot, ExecutorSettles, ExecutorReopens};
     ghost use Rattle.worlds.specs.World.{nothing_kept};
 
     /// One that was never opened: it is down, and nothing is kept.
-    pub fn unopened() -> ExecutorPlace
+    pub fn unopened() -> ExecutorSlot
         ensures { result ≡ Down nothing_kept }
     {
-        ExecutorPlace {
+        ExecutorSlot {
             slot: Slot::Down(MemKeeper::new()),
         }
     }
 
     /// One that is down, with this keeper.
-    pub fn down(keeper: MemKeeper<ExecutorRecord>) -> ExecutorPlace
+    pub fn down(keeper: MemKeeper<ExecutorRecord>) -> ExecutorSlot
         ensures { result ≡ Down keeper }
     {
-        ExecutorPlace {
+        ExecutorSlot {
             slot: Slot::Down(keeper),
         }
     }
@@ -188,7 +188,7 @@ impl ExecutorPlace {
 
     /// Ends it.
     pub fn end(self) {
-        let ExecutorPlace { slot } = self;
+        let ExecutorSlot { slot } = self;
         end(slot);
     }
 }

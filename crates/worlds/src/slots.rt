@@ -1,9 +1,9 @@
-//! What becomes of a place, whatever replica it is for.
+//! What becomes of a slot, whatever replica it is for.
 
 ghost use Rattle.std.specs.Prelude.{◌≡◌, IfOk, Some};
 ghost use Rattle.worlds.specs.Laws.{kept_at, is_gone as is_gone_from};
 ghost use Rattle.worlds.specs.Slots.{crashed_slot, lost_slot};
-ghost use Rattle.worlds.specs.Places.{IsUpAt};
+ghost use Rattle.worlds.specs.UpSlots.{IsUpAt};
 
 use crate::kept_node::{KeptNode, KeptSlot};
 use crate::slot::Slot;
@@ -20,18 +20,18 @@ pub fn end<N: KeptNode>(slot: KeptSlot<N>) {
     }
 }
 
-/// What is there. The place is left empty, which is down with nothing kept.
-pub fn taken<N, R: ToText>(place: &mut Slot<N, MemKeeper<R>>) -> Slot<N, MemKeeper<R>>
-    ensures { result ≡ place.old }
+/// What is there. The slot is left empty, which is down with nothing kept.
+pub fn taken<N, R: ToText>(slot: &mut Slot<N, MemKeeper<R>>) -> Slot<N, MemKeeper<R>>
+    ensures { result ≡ slot.old }
 {
-    mem::replace(place, Slot::Down(MemKeeper::new()))
+    mem::replace(slot, Slot::Down(MemKeeper::new()))
 }
 
 /// Puts this there, and ends what was there.
-pub fn put<N: KeptNode>(place: &mut KeptSlot<N>, slot: KeptSlot<N>)
-    ensures { place.new ≡ slot }
+pub fn put<N: KeptNode>(slot: &mut KeptSlot<N>, next: KeptSlot<N>)
+    ensures { slot.new ≡ next }
 {
-    end(mem::replace(place, slot));
+    end(mem::replace(slot, next));
 }
 
 fn crashed<N: KeptNode>(slot: KeptSlot<N>) -> KeptSlot<N>
@@ -57,21 +57,21 @@ fn lost<N: KeptNode>(slot: KeptSlot<N>) -> KeptSlot<N>
 }
 
 /// A replica that is up stops; its keeper stays.
-pub fn crash<N: KeptNode>(place: &mut KeptSlot<N>)
-    ensures crashed { place.new ≡ crashed_slot N.kept place.old }
-    ensures up { IsUpAt N.up place.new }
+pub fn crash<N: KeptNode>(slot: &mut KeptSlot<N>)
+    ensures crashed { slot.new ≡ crashed_slot N.kept slot.old }
+    ensures up { IsUpAt N.up slot.new }
 {
-    let old = taken(place);
-    put(place, crashed(old));
+    let old = taken(slot);
+    put(slot, crashed(old));
 }
 
 /// The replica is lost for good, up or down.
-pub fn lose<N: KeptNode>(place: &mut KeptSlot<N>)
-    ensures lost { place.new ≡ lost_slot N.kept place.old }
-    ensures up { IsUpAt N.up place.new }
+pub fn lose<N: KeptNode>(slot: &mut KeptSlot<N>)
+    ensures lost { slot.new ≡ lost_slot N.kept slot.old }
+    ensures up { IsUpAt N.up slot.new }
 {
-    let old = taken(place);
-    put(place, lost(old));
+    let old = taken(slot);
+    put(slot, lost(old));
 }
 
 /// A keeper that has what is kept of the replica, whether it is up, down or lost. The record is shared.

@@ -1,4 +1,4 @@
-//! The place of a client: its part of the server, and what it was given.
+//! The slot of a client: its part of the server, and what it was given.
 
 ghost use Rattle.std.specs.Prelude.{◌≡◌, ◌<◌, ◌≤◌};
 
@@ -9,21 +9,21 @@ use std::alloc::{AllocError, Global};
 use std::marker::Model;
 
 /// A client's part of the server, and the bytes that its client was given so far.
-pub struct ClientPlace {
+pub struct ClientSlot {
     pub(crate) client: Client,
     given: Vec<u8>,
 }
 
-impl Drop for ClientPlace {
+impl Drop for ClientSlot {
     fn drop(self) {
-        let ClientPlace {
+        let ClientSlot {
             client: _,
             given: _,
         } = self;
     }
 }
 
-impl Model for ClientPlace {
+impl Model for ClientSlot {
     ghost use Rattle.worlds.specs.Slots.{ClientSlot};
 
     ghost Value = { ClientSlot };
@@ -31,18 +31,18 @@ impl Model for ClientPlace {
     ghost view = { λ p. record { client = p.client; given = p.given.items } };
 }
 
-impl ClientPlace {
+impl ClientSlot {
     ghost use Rattle.std.specs.Prelude.{◌≡◌, ◌<◌, ◌≤◌, IfOk, true, []};
     ghost use Rattle.client.specs.Talk.{new_talk};
     ghost use Rattle.worlds.specs.Slots.{ClientSettles};
 
     /// Of the client of this number, of which nothing came yet, before `2u + 1` executors.
-    pub fn new(alloc: Global, client: u16, u: u8) -> ClientPlace
+    pub fn new(alloc: Global, client: u16, u: u8) -> ClientSlot
         requires numbered { 1 ≤ client }
         requires few { u < 4 }
         ensures { result ≡ record { client = record { client = client; u = u; talk = new_talk; up = true }; given = [] } }
     {
-        ClientPlace {
+        ClientSlot {
             client: Client::new(alloc, client, u),
             given: Vec::new(alloc),
         }

@@ -4,7 +4,7 @@ use Rattle.exec_lines.specs.declared.body.Body.{Body}
 use Rattle.exec_lines.specs.Step.{fits_a_line, is_refused}
 use Rattle.worlds.specs.Steps.{ExecutorDoes}
 use Rattle.worlds.proofs.StepLemmas.{fault_fits, refused_does}
-use Rattle.worlds.proofs.executor_place.stepped.Goals as goal
+use Rattle.worlds.proofs.executor_slot.stepped.Goals as goal
 
 pub returns-in-Unfit-clause-does : goal.returns-in-Unfit-clause-does
 returns-in-Unfit-clause-does c =

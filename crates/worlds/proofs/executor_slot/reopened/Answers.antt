@@ -4,7 +4,7 @@ use Rattle.worlds.specs.Slot.{Slot}
 use Rattle.worlds.specs.declared.slot.Slot.TheVariants.{Up}
 use Rattle.worlds.specs.Slots.{ExecutorReopens}
 use Rattle.worlds.proofs.StepLemmas.{executor_opens}
-use Rattle.worlds.proofs.executor_place.reopened.Goals as goal
+use Rattle.worlds.proofs.executor_slot.reopened.Goals as goal
 
 pub returns-in-Ok-clause-opens : goal.returns-in-Ok-clause-opens
 returns-in-Ok-clause-opens c =

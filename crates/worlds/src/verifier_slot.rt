@@ -1,14 +1,14 @@
-//! The place of a verifier.
+//! The slot of a verifier.
 
 ghost use Rattle.std.specs.Prelude.{◌≡◌, ◌<◌, ◌≤◌, ◌*◌, IfSome, IfNone, OnSome, IsTrue};
 ghost use Rattle.worlds.specs.declared.slot.Slot.TheVariants.{Down};
 ghost use Rattle.worlds.specs.Slots.{verifier_kept, VerifierReopens};
-ghost use Rattle.worlds.specs.Places.{IsUpAt, verifier_up};
+ghost use Rattle.worlds.specs.UpSlots.{IsUpAt, verifier_up};
 ghost use Rattle.worlds.specs.Steps.{VerifierDoes, VerifierStops};
 
 use crate::kept_node::{KeptNode, KeptSlot};
-use crate::places::{crash, lose, taken};
 use crate::slot::Slot;
+use crate::slots::{crash, lose, taken};
 use base::Text;
 use decrees::{Ballot, Letter};
 use keeper::MemKeeper;
@@ -37,21 +37,21 @@ impl KeptNode for Verifier<MemKeeper<Text>> {
     }
 }
 
-/// The place of a verifier: one that is there was never stopped.
-pub struct VerifierPlace {
+/// The slot of a verifier: one that is there was never stopped.
+pub struct VerifierSlot {
     pub(crate) slot: KeptSlot<KeptVerifier>,
 }
 
-impl Drop for VerifierPlace {
+impl Drop for VerifierSlot {
     fn drop(self) {
-        let VerifierPlace { slot: _ } = self;
+        let VerifierSlot { slot: _ } = self;
     }
 }
 
-impl Model for VerifierPlace {
+impl Model for VerifierSlot {
     ghost use Rattle.verifier.specs.Verifier.{VerifierView};
     ghost use Rattle.worlds.specs.Slot as of_world;
-    ghost use Rattle.worlds.specs.Places.{IsUpAt, verifier_up};
+    ghost use Rattle.worlds.specs.UpSlots.{IsUpAt, verifier_up};
 
     ghost Value = { of_world.Slot VerifierView };
 
@@ -97,26 +97,26 @@ fn reopened(
     }
 }
 
-impl VerifierPlace {
+impl VerifierSlot {
     ghost use Rattle.std.specs.Prelude.{◌≡◌, ◌<◌, ◌≤◌, ◌*◌};
     ghost use Rattle.worlds.specs.declared.slot.Slot.TheVariants.{Down};
     ghost use Rattle.worlds.specs.Slots.{verifier_kept, verifier_told, crashed_slot, lost_slot, told_slot, VerifierSettles, VerifierReopens};
     ghost use Rattle.worlds.specs.World.{nothing_kept};
 
     /// One that was never opened: it is down, and nothing is kept.
-    pub fn unopened() -> VerifierPlace
+    pub fn unopened() -> VerifierSlot
         ensures { result ≡ Down nothing_kept }
     {
-        VerifierPlace {
+        VerifierSlot {
             slot: Slot::Down(MemKeeper::new()),
         }
     }
 
     /// One that is down, with this keeper.
-    pub fn down(keeper: MemKeeper<Text>) -> VerifierPlace
+    pub fn down(keeper: MemKeeper<Text>) -> VerifierSlot
         ensures { result ≡ Down keeper }
     {
-        VerifierPlace {
+        VerifierSlot {
             slot: Slot::Down(keeper),
         }
     }
