@@ -16,6 +16,7 @@
 
 mod beginning;
 mod copies;
+mod counts;
 mod fault;
 mod host;
 mod opened;
@@ -23,6 +24,7 @@ mod opening;
 mod slot;
 
 pub use copies::Copies;
+pub use counts::{FolderCount, FolderCounts};
 pub use fault::FoldersFault;
 pub use host::HostFolders;
 pub use opened::Opened;

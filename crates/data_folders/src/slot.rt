@@ -15,11 +15,20 @@ pub struct FolderSlot<F> {
     pub copy: Option<F>,
     /// Why it does not have the last save. None: it has it.
     pub fault: Option<SaveFault>,
+    /// Saves of this start that were made in it.
+    pub made: u64,
+    /// Saves of this start that were not.
+    pub failed: u64,
 }
 
 impl<F: Drop> Drop for FolderSlot<F> {
     fn drop(self) {
-        let FolderSlot { copy: _, fault: _ } = self;
+        let FolderSlot {
+            copy: _,
+            fault: _,
+            made: _,
+            failed: _,
+        } = self;
     }
 }
 
@@ -47,5 +56,8 @@ impl<F: SaveCopy> FolderSlot<F> {
             Some(copy) => copy.save_copy(alloc, id, stamp, stored).err(),
             None => Some(SaveFault::Disk),
         };
+        let is_made = self.fault.is_none();
+        self.made = self.made.saturating_add(u64::from(is_made));
+        self.failed = self.failed.saturating_add(u64::from(!is_made));
     }
 }

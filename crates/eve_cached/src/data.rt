@@ -4,11 +4,12 @@ use crate::{DISK_FAILED, IN_USE, NO_DATA, REFUSED};
 use daemon::{DataSettings, NO_TARGET, Settings, Stamped, tell_trouble};
 use data_folder::{DataFault, HostFolder};
 use data_folders::{
-    FolderTrouble, FoldersFault, FoldersOptions, HostFolders, Opened, open_folders,
+    FolderCounts, FolderTrouble, FoldersFault, FoldersOptions, HostFolders, Opened, open_folders,
 };
 use log::error;
 use server::{SaveFault, ServiceRecord};
 use std::rt::Clock;
+use std::sync::Arc;
 use std::thread::Threads;
 
 /// The status of a program one of whose folders cannot be used.
@@ -39,6 +40,8 @@ pub enum Data {
     Nowhere,
     In {
         folders: HostFolders,
+        /// What is counted of each of them.
+        counts: Arc<FolderCounts>,
         /// What was saved there last.
         found: Option<ServiceRecord>,
     },
@@ -109,7 +112,14 @@ pub fn begin_data<R: Threads + Clock + Eprint + AllocGlobal + Sync>(
         return Ok(Data::Nowhere);
     };
     match HostFolders::begin(rt, rt.alloc(), opened) {
-        Ok((folders, found)) => Ok(Data::In { folders, found }),
+        Ok((folders, found)) => match folders.counts() {
+            Ok(counts) => Ok(Data::In {
+                folders,
+                counts,
+                found,
+            }),
+            Err(_) => Err(refused(rt, settings, FoldersFault::NoMemory)),
+        },
         Err(fault) => Err(refused(rt, settings, fault)),
     }
 }

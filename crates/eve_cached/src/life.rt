@@ -8,8 +8,10 @@ use crate::{CANNOT, DISK_FAILED, REFUSED};
 use daemon::{
     Listen, NO_TARGET, Settings, Stamped, tell_begun, tell_listening, tell_start, tell_status,
 };
+use data_folders::FolderCounts;
 use libc::net::{SO_KEEPALIVE, SOL_SOCKET, setsockopt};
 use log::{error, warn};
+use metrics::Folders;
 use mio::net::TcpListener as MioTcpListener;
 use server::{
     Listener, Options, Save, SaveFault, ServeFault, Service, ServiceRecord, Watcher, serve_beside,
@@ -161,11 +163,11 @@ fn attend<
         + Sync,
     S: Save,
 >(rt: &R, watcher: &Watcher<'_, S>, status: Option<TcpListener>, known: Known<'_>) {
-    let first = known.figures(rt, watcher);
+    let first = known.look(rt, watcher, &Folders::NONE);
     if known.has_found() {
-        tell_begun(&Stamped(rt), Some(first.memory.items));
+        tell_begun(&Stamped(rt), Some(first.figures.memory.items));
     }
-    let now = Shown::new(rt.alloc(), first);
+    let now = Shown::new(rt.alloc(), first.figures, first.folders);
     let shown = &now;
     thread::scope(thread::scope_env(), rt, |scope| {
         if let Some(listener) = status {
@@ -245,7 +247,7 @@ fn tell_first<R: Clock + Files + Eprint + AllocGlobal>(
     connections_of(rt, settings)
 }
 
-/// Runs a daemon that saves what it answers, and goes on from what was found. The status of the program if it ends by
+/// Runs a daemon that saves what it answers, and goes on from what was found. What is counted of its folders is shown. The status of the program if it ends by
 /// itself.
 pub fn run<
     R: Net<Listener = TcpListener, Stream = TcpStream>
@@ -257,7 +259,13 @@ pub fn run<
         + AllocGlobal
         + Sync,
     S: Save + Drop + Send,
->(rt: &R, settings: Settings, saver: S, found: Option<ServiceRecord>) -> u8 {
+>(
+    rt: &R,
+    settings: Settings,
+    saver: S,
+    found: Option<ServiceRecord>,
+    counts: Option<&FolderCounts>,
+) -> u8 {
     let is_found = found.is_some();
     let connections = tell_first(rt, &settings, is_found);
     let options = options_of(&settings, connections);
@@ -277,7 +285,7 @@ pub fn run<
                 rt,
                 watcher,
                 status,
-                Known::begin(rt, &settings, connections, is_found),
+                Known::begin(rt, &settings, connections, counts, is_found),
             );
         },
     );

@@ -74,8 +74,14 @@ fn main(rt: HostRuntime) -> ExitCode {
         Err(status) => return ExitCode::from(status),
     };
     match begin_data(&rt, &settings, opened) {
-        Ok(Data::Nowhere) => ExitCode::from(run(&rt, settings, NoFolder, None)),
-        Ok(Data::In { folders, found }) => ExitCode::from(run(&rt, settings, folders, found)),
+        Ok(Data::Nowhere) => ExitCode::from(run(&rt, settings, NoFolder, None, None)),
+        Ok(
+            Data::In {
+                folders,
+                counts,
+                found,
+            },
+        ) => ExitCode::from(run(&rt, settings, folders, found, Some(&counts))),
         Err(status) => ExitCode::from(status),
     }
 }

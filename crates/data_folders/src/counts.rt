@@ -1,0 +1,74 @@
+//! What is counted of each folder, for whoever shows it.
+
+use crate::slot::FolderSlot;
+use std::alloc::{AllocError, Global};
+use std::sync::atomic::{AtomicBool, AtomicU64, Ordering};
+
+/// What is counted of one folder.
+#[derive(Clone, Copy, Debug, PartialEq, Eq)]
+pub struct FolderCount {
+    /// Whether its copy is of the last save.
+    pub is_current: bool,
+    /// Saves of this start that were made in it.
+    pub made: u64,
+    /// Saves of this start that were not.
+    pub failed: u64,
+}
+
+impl FolderCount {
+    /// Nothing was saved in it.
+    pub const NONE: FolderCount = FolderCount {
+        is_current: false,
+        made: 0,
+        failed: 0,
+    };
+}
+
+/// The same, for threads that share it.
+#[derive(Drop)]
+struct SharedCount {
+    is_current: AtomicBool,
+    made: AtomicU64,
+    failed: AtomicU64,
+}
+
+/// What is counted of each folder. Other threads look at it while saves are made, and wait for none.
+#[derive(Drop)]
+pub struct FolderCounts {
+    each: Vec<SharedCount>,
+}
+
+impl FolderCounts {
+    /// Of so many folders, in which nothing was saved.
+    pub fn new(alloc: Global, folders: usize) -> Result<FolderCounts, AllocError> {
+        let mut each = Vec::with_capacity(alloc, folders)?;
+        for _ in 0..folders {
+            each.push(SharedCount {
+                is_current: AtomicBool::new(false),
+                made: AtomicU64::new(0),
+                failed: AtomicU64::new(0),
+            })?;
+        }
+        Ok(FolderCounts { each })
+    }
+
+    /// Takes over what is counted of these folders.
+    pub fn note<F>(&self, slots: &[FolderSlot<F>]) {
+        for (count, slot) in self.each.iter().zip(slots) {
+            count.is_current.store(slot.is_current(), Ordering::SeqCst);
+            count.made.store(slot.made, Ordering::SeqCst);
+            count.failed.store(slot.failed, Ordering::SeqCst);
+        }
+    }
+
+    /// What is counted of the folder with this number, from 0, if there is one. It is that of the last save or of the one
+    /// that is under way: no clause says more.
+    pub fn count(&self, at: usize) -> Option<FolderCount> {
+        let count = self.each.get(at)?;
+        Some(FolderCount {
+            is_current: count.is_current.load(Ordering::SeqCst),
+            made: count.made.load(Ordering::SeqCst),
+            failed: count.failed.load(Ordering::SeqCst),
+        })
+    }
+}
