@@ -7,6 +7,8 @@ use std::sync::atomic::{AtomicBool, AtomicU64, Ordering};
 /// What is counted of one folder.
 #[derive(Clone, Copy, Debug, PartialEq, Eq)]
 pub struct FolderCount {
+    /// Whether this start opened it. If not, nothing is saved in it before the next one.
+    pub is_open: bool,
     /// Whether its copy is of the last save.
     pub is_current: bool,
     /// Saves of this start that were made in it.
@@ -16,8 +18,9 @@ pub struct FolderCount {
 }
 
 impl FolderCount {
-    /// Nothing was saved in it.
+    /// It is not open, and nothing was saved in it.
     pub const NONE: FolderCount = FolderCount {
+        is_open: false,
         is_current: false,
         made: 0,
         failed: 0,
@@ -27,6 +30,7 @@ impl FolderCount {
 /// The same, for threads that share it.
 #[derive(Drop)]
 struct SharedCount {
+    is_open: AtomicBool,
     is_current: AtomicBool,
     made: AtomicU64,
     failed: AtomicU64,
@@ -39,11 +43,12 @@ pub struct FolderCounts {
 }
 
 impl FolderCounts {
-    /// Of so many folders, in which nothing was saved.
+    /// Of so many folders, none of which is open yet.
     pub fn new(alloc: Global, folders: usize) -> Result<FolderCounts, AllocError> {
         let mut each = Vec::with_capacity(alloc, folders)?;
         for _ in 0..folders {
             each.push(SharedCount {
+                is_open: AtomicBool::new(false),
                 is_current: AtomicBool::new(false),
                 made: AtomicU64::new(0),
                 failed: AtomicU64::new(0),
@@ -55,17 +60,19 @@ impl FolderCounts {
     /// Takes over what is counted of these folders.
     pub fn note<F>(&self, slots: &[FolderSlot<F>]) {
         for (count, slot) in self.each.iter().zip(slots) {
+            count.is_open.store(slot.copy.is_some(), Ordering::SeqCst);
             count.is_current.store(slot.is_current(), Ordering::SeqCst);
             count.made.store(slot.made, Ordering::SeqCst);
             count.failed.store(slot.failed, Ordering::SeqCst);
         }
     }
 
-    /// What is counted of the folder with this number, from 0, if there is one. It is that of the last save or of the one
-    /// that is under way: no clause says more.
+    /// What is counted of the folder with this number, from 0, if there is one. Each number of it is that after the last
+    /// save, or after the one before while that of the last one is taken over: no clause says so.
     pub fn count(&self, at: usize) -> Option<FolderCount> {
         let count = self.each.get(at)?;
         Some(FolderCount {
+            is_open: count.is_open.load(Ordering::SeqCst),
             is_current: count.is_current.load(Ordering::SeqCst),
             made: count.made.load(Ordering::SeqCst),
             failed: count.failed.load(Ordering::SeqCst),

@@ -53,23 +53,35 @@ fn refused<R: Clock + Eprint>(rt: &R, settings: &Settings, fault: FoldersFault) 
         (FoldersFault::At(at, _), Some(data)) => data.paths.get(at),
         _ => None,
     };
-    match path {
-        Some(path) => error!(Stamped(rt); target: NO_TARGET, "{path}: {fault}"),
-        None => error!(Stamped(rt); target: NO_TARGET, "{fault}"),
+    match (path, fault) {
+        (Some(path), FoldersFault::At(_, DataFault::OtherFolders(1))) =>
+            error!(Stamped(rt); target: NO_TARGET, "{path}: made with 1 folder"),
+        (Some(path), _) => error!(Stamped(rt); target: NO_TARGET, "{path}: {fault}"),
+        (None, _) => error!(Stamped(rt); target: NO_TARGET, "{fault}"),
     }
     status_of(fault)
+}
+
+/// Tells that this folder could not be read as it was. Where others have the data one without needs no `--new`.
+fn tell_of_one(rt: &HostRuntime, path: &str, trouble: &FolderTrouble) {
+    let (fault, is_renewed) = (trouble.fault, trouble.is_renewed);
+    match fault {
+        DataFault::NoData => tell_trouble(&Stamped(rt), path, &"no data", is_renewed),
+        DataFault::CannotOpen => tell_trouble(
+            &Stamped(rt),
+            path,
+            &"missing, or cannot be opened or written",
+            is_renewed,
+        ),
+        _ => tell_trouble(&Stamped(rt), path, &fault, is_renewed),
+    }
 }
 
 /// Tells which folders could not be read as they were.
 fn tell_troubles(rt: &HostRuntime, data: &DataSettings, troubles: &[FolderTrouble]) {
     for trouble in troubles {
         if let Some(path) = data.paths.get(trouble.folder) {
-            tell_trouble(
-                &Stamped(rt),
-                path.as_str(),
-                &trouble.fault,
-                trouble.is_renewed,
-            );
+            tell_of_one(rt, path.as_str(), trouble);
         }
     }
 }

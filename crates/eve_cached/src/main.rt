@@ -81,7 +81,7 @@ fn main(rt: HostRuntime) -> ExitCode {
                 counts,
                 found,
             },
-        ) => ExitCode::from(run(&rt, settings, folders, found, Some(&counts))),
+        ) => ExitCode::from(run(&rt, settings, folders, found, Some(&*counts))),
         Err(status) => ExitCode::from(status),
     }
 }

@@ -110,6 +110,9 @@ fn bytes_in(folders: &Folders) -> u64 {
     sum
 }
 
+/// Why a folder that the start did not open lacks each save.
+const NOT_USED: &str = "it could not be used at the start, and is not used before the next one";
+
 /// So many files are open beside those of connections, at most: some twenty of the process, and 32 connections of the
 /// status port.
 const OTHER_FILES: u64 = 60;
@@ -198,6 +201,18 @@ impl<'a> Known<'a> {
         self.is_found
     }
 
+    /// Tells that the folder with this number does not have the last save, and why.
+    fn tell_lacking<R: Clock + Eprint>(&self, rt: &R, at: usize, fault: SaveFault) {
+        let Some(path) = self.folders.get(at) else {
+            return;
+        };
+        if counted(self.counts, at).is_open {
+            tell_behind(&Stamped(rt), path.as_str(), &fault);
+        } else {
+            tell_behind(&Stamped(rt), path.as_str(), &NOT_USED);
+        }
+    }
+
     /// The seconds since the start, or 0 if the clock cannot be read.
     fn uptime<R: Clock>(&self, rt: &R) -> u64 {
         match (self.start, Instant::now(rt)) {
@@ -249,7 +264,7 @@ fn tells_of_saves<R: Wait + Clock + Eprint, S: Save>(
 fn tells_of_folders<R: Clock + Eprint>(
     rt: &R,
     behind: Option<(usize, SaveFault)>,
-    folders: &[String],
+    known: Known<'_>,
     told: &mut Option<usize>,
 ) {
     let at = behind.map(|(at, _)| at);
@@ -258,11 +273,7 @@ fn tells_of_folders<R: Clock + Eprint>(
     }
     *told = at;
     match behind {
-        Some((at, fault)) => {
-            if let Some(path) = folders.get(at) {
-                tell_behind(&Stamped(rt), path.as_str(), &fault);
-            }
-        }
+        Some((at, fault)) => known.tell_lacking(rt, at, fault),
         None => tell_current(&Stamped(rt)),
     }
 }
@@ -289,7 +300,7 @@ pub fn watch<R: Wait + Clock + Files + Eprint + AllocGlobal, S: Save>(
         let look = known.look(rt, watcher, &folders);
         folders = look.folders;
         if 1 < known.folders.len() && 0 < look.figures.saves.made {
-            tells_of_folders(rt, look.behind, known.folders, &mut told);
+            tells_of_folders(rt, look.behind, known, &mut told);
         }
         watcher.see(rt, &look.figures);
         shown.renew(rt, look.figures, look.folders);

@@ -176,8 +176,8 @@ function show(f) {
     ["Items", short(f.memory.items), "each in every executor"], ["Keys and values", size(f.memory.item_bytes), limit ? "of " + size(limit) : "no limit", limit && limit <= f.memory.item_bytes ? "bad" : ""],
     ["Memory", f.memory.resident_bytes ? size(f.memory.resident_bytes) : "unknown", "of the process"], ["Refused lines", short(refused), "since the start"]]);
   tiles("saves", f.saves.made || f.saves.failed ? [["Saves", short(f.saves.made), "since the start"], ["Saves that failed", whole(f.saves.failed), failing ? "the last one too" : "since the start", failing ? "bad" : ""],
-    ["Waiting for a save", short(f.saves.waiting), "messages to connections"], ["Data on disk", size(f.saves.bytes), "files in all folders"],
-    ["Folders", whole(f.saves.current_folders) + " of " + whole(f.saves.folders), "have the last save", behind > 0 ? "bad" : ""], ["A save takes", time(Math.round(f.times.save.sum / Math.max(1, sum(f.times.save.counts)))), "mean since the start"]] : []);
+    ["Waiting for a save", short(f.saves.waiting), f.saves.waiting === 1 ? "message to a connection" : "messages to connections"], ["Data on disk", size(f.saves.bytes), f.saves.folders === 1 ? "files in the folder" : "files in all folders"],
+    ["Folders", whole(f.saves.current_folders) + " of " + whole(f.saves.folders), f.saves.current_folders === 1 ? "has the last save" : "have the last save", behind > 0 ? "bad" : ""], ["A save takes", time(Math.round(f.times.save.sum / Math.max(1, sum(f.times.save.counts)))), "mean since the start"]] : []);
   charts(rates, counts);
   folders(f.saves.made || f.saves.failed ? f.folders : []);
   nodes("executors", executors);
@@ -186,7 +186,7 @@ function show(f) {
     ["Commits", whole(f.batches.committed)], ["Rollbacks", whole(f.batches.rolled_back)], ["Requests a batch", f.batches.cut ? (f.batches.requests / f.batches.cut).toFixed(1) : "none"]]);
   rows("commands", f.commands.map((list, i) => [names[i], whole(sum(list))]));
   rows("others", [["Accepted", whole(f.connections.accepted)], ["Refused", whole(f.connections.refused)], ["Could not be accepted", whole(f.connections.failed)],
-    ["Closed since idle", f.server.limits.idle_seconds ? whole(f.connections.idle) : "never"], ["Read", size(f.connections.bytes_read)], ["Written", size(f.connections.bytes_written)], ["Memory refused", whole(f.memory.refusals)]]);
+    ["Closed since idle", f.server.limits.idle_seconds ? whole(f.connections.idle) : "--idle is off"], ["Read", size(f.connections.bytes_read)], ["Written", size(f.connections.bytes_written)], ["Memory refused", whole(f.memory.refusals)]]);
   rows("refusals", f.refusals.map((n, i) => [whys[i], whole(n)]));
 }
 async function ask(path) {
