@@ -130,7 +130,11 @@ pub fn begin_data<R: Threads + Clock + Eprint + AllocGlobal + Sync>(
                 counts,
                 found,
             }),
-            Err(_) => Err(refused(rt, settings, FoldersFault::NoMemory)),
+            Err(_) => {
+                drop(folders);
+                drop(found);
+                Err(refused(rt, settings, FoldersFault::NoMemory))
+            }
         },
         Err(fault) => Err(refused(rt, settings, fault)),
     }

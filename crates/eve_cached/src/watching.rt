@@ -88,13 +88,8 @@ fn folders_now<R: Clock + Files + AllocGlobal>(
     let mut now = Folders::NONE;
     for at in 0..MOST_FOLDERS {
         if let Some(path) = paths.get(at) {
-            now.each[at] = folder_now(
-                rt,
-                path.as_str(),
-                counted(counts, at),
-                before.each[at],
-                second,
-            );
+            let was = before.each[at];
+            now.each[at] = folder_now(rt, path.as_str(), counted(counts, at), was, second);
         }
     }
     now.count = u8::try_from(paths.len()).unwrap_or(u8::MAX);
@@ -264,7 +259,7 @@ fn tells_of_saves<R: Wait + Clock + Eprint, S: Save>(
 fn tells_of_folders<R: Clock + Eprint>(
     rt: &R,
     behind: Option<(usize, SaveFault)>,
-    known: Known<'_>,
+    known: &Known<'_>,
     told: &mut Option<usize>,
 ) {
     let at = behind.map(|(at, _)| at);
@@ -300,7 +295,7 @@ pub fn watch<R: Wait + Clock + Files + Eprint + AllocGlobal, S: Save>(
         let look = known.look(rt, watcher, &folders);
         folders = look.folders;
         if 1 < known.folders.len() && 0 < look.figures.saves.made {
-            tells_of_folders(rt, look.behind, known, &mut told);
+            tells_of_folders(rt, look.behind, &known, &mut told);
         }
         watcher.see(rt, &look.figures);
         shown.renew(rt, look.figures, look.folders);
