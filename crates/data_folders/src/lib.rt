@@ -12,6 +12,8 @@
 //! counts if it is made in more than half of all folders, those that are not open among them. What a later start may begin
 //! with is said by `MayFindAmong`: it reads more than half of the folders and takes the newest copy. So `Save` holds of
 //! several folders as of one.
+//!
+//! What is counted of each folder is shared with whoever shows it (`HostFolders::counts`).
 #![tactic(auto)]
 
 mod beginning;

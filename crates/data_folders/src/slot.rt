@@ -1,6 +1,6 @@
 //! One of several folders.
 
-ghost use Rattle.std.specs.Prelude.{◌≡◌};
+ghost use Rattle.std.specs.Prelude.{◌≡◌, true, false};
 ghost use Rattle.data_folders.specs.Copies.{SlotSaves, is_current};
 ghost use Rattle.data_folders.specs.CopyItems.{PlaceSavesItems};
 
@@ -47,10 +47,12 @@ impl<F> FolderSlot<F> {
 }
 
 impl<F: SaveCopy> FolderSlot<F> {
-    /// Saves it in this folder, if the folder is open.
+    /// Saves it in this folder, if the folder is open, and counts whether it was made.
     pub fn save(&mut self, alloc: Global, id: CopyId, stamp: SaveStamp, stored: &StoredRecord)
         ensures saves { SlotSaves F.may_find (record { stamp = stamp; text = stored.now.text.items }) self.old self.new }
         ensures items { PlaceSavesItems F.may_leave F.has_items (record { stamp = stamp; text = stored.now.text.items }) stored.now.state self.old self.new }
+        ensures made { is_current self.new ≡ false → self.new.made ≡ self.old.made }
+        ensures failed { is_current self.new ≡ true → self.new.failed ≡ self.old.failed }
     {
         self.fault = match &mut self.copy {
             Some(copy) => copy.save_copy(alloc, id, stamp, stored).err(),
