@@ -43,6 +43,13 @@ pub struct FolderCounts {
 }
 
 impl FolderCounts {
+    /// Of no folder.
+    pub fn none(alloc: Global) -> FolderCounts {
+        FolderCounts {
+            each: Vec::new(alloc),
+        }
+    }
+
     /// Of so many folders, none of which is open yet.
     pub fn new(alloc: Global, folders: usize) -> Result<FolderCounts, AllocError> {
         let mut each = Vec::with_capacity(alloc, folders)?;

@@ -290,13 +290,7 @@ pub fn run<
         + AllocGlobal
         + Sync,
     S: Save + Drop + Send,
->(
-    rt: &R,
-    settings: Settings,
-    saver: S,
-    found: Option<ServiceRecord>,
-    counts: Option<&FolderCounts>,
-) -> u8 {
+>(rt: &R, settings: Settings, saver: S, found: Option<ServiceRecord>, counts: &FolderCounts) -> u8 {
     let is_found = found.is_some();
     let connections = tell_first(rt, &settings, is_found);
     let options = options_of(&settings, connections);

@@ -23,6 +23,7 @@ use crate::life::run;
 use clap::Error;
 use clap::error::ErrorKind;
 use daemon::{Settings, read_settings};
+use data_folders::FolderCounts;
 use server::NoFolder;
 use std::process::ExitCode;
 use words::{WordsFault, words_of};
@@ -75,14 +76,17 @@ fn main(rt: HostRuntime) -> ExitCode {
         Err(status) => return ExitCode::from(status),
     };
     match begin_data(&rt, &settings, opened) {
-        Ok(Data::Nowhere) => ExitCode::from(run(&rt, settings, NoFolder, None, None)),
+        Ok(Data::Nowhere) => {
+            let counts = FolderCounts::none(rt.alloc());
+            ExitCode::from(run(&rt, settings, NoFolder, None, &counts))
+        }
         Ok(
             Data::In {
                 folders,
                 counts,
                 found,
             },
-        ) => ExitCode::from(run(&rt, settings, folders, found, Some(&*counts))),
+        ) => ExitCode::from(run(&rt, settings, folders, found, &*counts)),
         Err(status) => ExitCode::from(status),
     }
 }

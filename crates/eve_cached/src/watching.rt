@@ -70,18 +70,15 @@ fn folder_now<R: Files + AllocGlobal>(
 }
 
 /// What is counted of the folder with this number.
-fn counted(counts: Option<&FolderCounts>, at: usize) -> FolderCount {
-    match counts {
-        Some(counts) => counts.count(at).unwrap_or(FolderCount::NONE),
-        None => FolderCount::NONE,
-    }
+fn counted(counts: &FolderCounts, at: usize) -> FolderCount {
+    counts.count(at).unwrap_or(FolderCount::NONE)
 }
 
 /// What is known of each of these folders now, after what was known before.
 fn folders_now<R: Clock + Files + AllocGlobal>(
     rt: &R,
     paths: &[String],
-    counts: Option<&FolderCounts>,
+    counts: &FolderCounts,
     before: &Folders,
 ) -> Folders {
     let second = seconds(rt);
@@ -157,7 +154,7 @@ pub struct Known<'a> {
     /// The folders of its data. None if it has none.
     folders: &'a [String],
     /// What is counted of each of them.
-    counts: Option<&'a FolderCounts>,
+    counts: &'a FolderCounts,
     /// Whether it goes on from what was saved.
     is_found: bool,
 }
@@ -168,7 +165,7 @@ impl<'a> Known<'a> {
         rt: &R,
         settings: &'a Settings,
         connections: u16,
-        counts: Option<&'a FolderCounts>,
+        counts: &'a FolderCounts,
         is_found: bool,
     ) -> Known<'a> {
         Known {
