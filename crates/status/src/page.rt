@@ -116,7 +116,7 @@ function folders(list) {
   fill("folders", list.map((folder, number) => {
     const item = element("li", "", folder.current ? "" : "down");
     const saved = folder.saved_at ? "saved " + span(Math.max(0, Math.round(Date.now() / 1e3 - folder.saved_at))) + " ago" : "not saved yet";
-    item.append(element("div", number + (folder.current ? " has the last save" : " lacks the last save")), element("div", saved + ", " + whole(folder.failed) + " failed, " + size(folder.bytes), "soft"));
+    item.append(element("div", number + (folder.current ? " has the last save" : " lacks the last save")), element("div", saved + ", " + whole(folder.failed) + (folder.failed === 1 ? " save failed, " : " saves failed, ") + size(folder.bytes), "soft"));
     return item;
   }));
 }
