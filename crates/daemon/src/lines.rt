@@ -10,17 +10,25 @@ use std::net::SocketAddr;
 /// All lines are of one program, so they name no module.
 pub const NO_TARGET: &str = "";
 
+/// What a word of the log ends with that is of so many things.
+fn ending_of(count: u64) -> &'static str {
+    if count == 1 { "" } else { "s" }
+}
+
 /// Tells what runs, as it begins.
 pub fn tell_start<R: Log>(rt: &R, settings: &Settings) {
     let (u, connections) = (settings.u, settings.connections);
-    info!(rt; target: NO_TARGET, "eve_cached {VERSION} with u {u}: at most {connections} connections");
+    let ending = ending_of(u64::from(connections));
+    info!(rt; target: NO_TARGET, "eve_cached {VERSION} with u {u}: at most {connections} connection{ending}");
     if settings.max_bytes != 0 {
         let bytes = settings.max_bytes;
-        info!(rt; target: NO_TARGET, "nothing more is stored while the items have more than {bytes} bytes");
+        let ending = ending_of(bytes);
+        info!(rt; target: NO_TARGET, "nothing more is stored while the items have more than {bytes} byte{ending}");
     }
     if settings.idle != 0 {
         let seconds = settings.idle;
-        info!(rt; target: NO_TARGET, "a connection on which nothing happens for {seconds} seconds is closed");
+        let ending = ending_of(u64::from(seconds));
+        info!(rt; target: NO_TARGET, "a connection on which nothing happens for {seconds} second{ending} is closed");
     }
     if let Some(data) = &settings.data {
         tell_folders(rt, data);
@@ -64,8 +72,10 @@ pub fn tell_current<R: Log>(rt: &R) {
 /// Tells how many items were saved before it began, or that nothing was.
 pub fn tell_begun<R: Log>(rt: &R, items: Option<u64>) {
     match items {
-        Some(items) =>
-            info!(rt; target: NO_TARGET, "it goes on from what was saved: {items} items"),
+        Some(items) => {
+            let ending = ending_of(items);
+            info!(rt; target: NO_TARGET, "it goes on from what was saved: {items} item{ending}");
+        }
         None => info!(rt; target: NO_TARGET, "nothing was saved before"),
     }
 }
@@ -77,7 +87,8 @@ pub fn tell_unsaved<R: Log, D: Display>(rt: &R, why: &D) {
 
 /// Tells that what is answered is saved again, after so many seconds.
 pub fn tell_saved_again<R: Log>(rt: &R, seconds: u64) {
-    info!(rt; target: NO_TARGET, "it is saved and answered again, after {seconds} seconds");
+    let ending = ending_of(seconds);
+    info!(rt; target: NO_TARGET, "it is saved and answered again, after {seconds} second{ending}");
 }
 
 /// Tells that fewer files may be open than so many connections take, so that fewer of these are served.

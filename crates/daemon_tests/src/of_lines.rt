@@ -131,8 +131,10 @@ fn the_start_is_told(rt: HostRuntime) -> Result<(), Fail> {
     };
     tell_start(&memory, &settings);
     tell_begun(&memory, None);
+    tell_begun(&memory, Some(1));
     tell_begun(&memory, Some(7));
     tell_unsaved(&memory, &"the disk is full");
+    tell_saved_again(&memory, 1);
     tell_saved_again(&memory, 12);
     tell_few_files(&memory, 100, 137, 40);
     tell_status(&memory, address);
@@ -144,8 +146,10 @@ fn the_start_is_told(rt: HostRuntime) -> Result<(), Fail> {
                 "[INFO ] nothing more is stored while the items have more than 1024 bytes",
                 "[INFO ] a connection on which nothing happens for 60 seconds is closed",
                 "[INFO ] nothing was saved before",
+                "[INFO ] it goes on from what was saved: 1 item",
                 "[INFO ] it goes on from what was saved: 7 items",
                 "[WARN ] nothing is answered, since it cannot be saved: the disk is full",
+                "[INFO ] it is saved and answered again, after 1 second",
                 "[INFO ] it is saved and answered again, after 12 seconds",
                 "[WARN ] at most 100 files may be open, and 137 may be needed: at most 40 connections are served; raise LimitNOFILE, or ulimit -n",
                 "[INFO ] figures on http://127.0.0.1:11280/"

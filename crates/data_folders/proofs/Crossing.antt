@@ -13,6 +13,8 @@ use Rattle.folders.proofs.stamp.SaveStamp.TheSendSync as stamp
 use Rattle.service.proofs.save_fault.SaveFault.TheSendSync as fault
 use Rattle.data_folder.specs.declared.save_copy.SaveCopy as saves
 use Rattle.data_folder.proofs.Crossing.{host_send}
+use Rattle.std.proofs.sync.Arc.TheSendSync as arc
+use Rattle.data_folders.proofs.counts.FolderCounts.TheSendSync as counts
 use Rattle.data_folders.proofs.slot.FolderSlot.TheSendSync as slot
 use Rattle.std.specs.contracts.vec.Vec as vec_row
 use Rattle.std.specs.contracts.alloc.Global as global_row
@@ -47,7 +49,7 @@ pub copies_send : (F : RattleType) (g : saves.Ghosts F.Denot) → IsSend F → I
 copies_send F g s = recorded_send _ _ _ (copies.the_type F g).to_one (copies_field F g s)
 
 pub folders_send : IsSend folders.the_row
-folders_send = search (host_send, parts, sendable) depth 60 fits 20000
+folders_send = search (copies_send, host_send, arc.the_send, counts.the_send, counts.the_sync, parts, sendable) depth 60 fits 20000
 
 -- what a closure lends to another thread, if each thing may go there
 pub four_are_lent : (name : Sym) (A B C D : RattleType) → IsSend A → IsSend B → IsSend C → IsSend D → IsSend (TupleAt name (A ∷ B ∷ C ∷ D ∷ []))

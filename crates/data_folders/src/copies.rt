@@ -152,6 +152,11 @@ impl<F: SaveCopy> Copies<F> {
         self.fault
     }
 
+    /// The folders.
+    pub fn slots(&self) -> &[FolderSlot<F>] {
+        &self.slots
+    }
+
     /// In how many folders it is saved.
     pub fn folders(&self) -> SaveFolders {
         let current = self.slots.iter().filter(|slot| slot.is_current()).count();

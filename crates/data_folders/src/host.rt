@@ -7,24 +7,36 @@ ghost use Rattle.data_folders.specs.Copies.{is_current, MayFindAmong, IsClaimed,
 ghost use Rattle.data_folders.specs.CopyItems.{SavesItems, ClaimsItems};
 
 use crate::copies::{Copies, save_apart};
+use crate::counts::FolderCounts;
 use crate::fault::FoldersFault;
 use crate::opened::Opened;
 use data_folder::HostFolder;
 use server::{Save, SaveFault, SaveFolders};
 use service::ServiceRecord;
-use std::alloc::Global;
+use std::alloc::{AllocError, Global};
+use std::sync::Arc;
 use std::thread::Threads;
 
 /// The record of a service in folders of the host's file system, a copy in each. It is a type without parameters, so that
 /// a program that is generic over where it saves need not be proved over all that a file is made of.
 pub struct HostFolders {
     copies: Copies<HostFolder>,
+    /// What is counted of each folder, for whoever shows it.
+    counts: Arc<FolderCounts>,
 }
 
 impl Drop for HostFolders {
     fn drop(self) {
-        let HostFolders { copies: _ } = self;
+        let HostFolders {
+            copies: _,
+            counts: _,
+        } = self;
     }
+}
+
+/// What is counted of so many folders.
+fn counts_of(alloc: Global, folders: usize) -> Result<Arc<FolderCounts>, AllocError> {
+    Ok(Arc::new(alloc, FolderCounts::new(alloc, folders)?)?)
 }
 
 impl HostFolders {
@@ -41,10 +53,25 @@ impl HostFolders {
         ensures items { IfOk result (λ begun. IfSome begun.1 (λ found. ClaimsItems host_may_leave host_has_items found opened.slots.items begun.0.copies.slots.items)) }
         ensures empty { IfOk result (λ begun. IfNone begun.1 (begun.0.copies.slots ≡ opened.slots)) }
     {
+        let counts = match counts_of(alloc, opened.slots.len()) {
+            Ok(counts) => counts,
+            Err(_) => {
+                drop(opened);
+                return Err(FoldersFault::NoMemory);
+            }
+        };
         match opened.begin(rt, alloc) {
-            Ok((copies, found)) => Ok((HostFolders { copies }, found)),
+            Ok((copies, found)) => {
+                counts.note(copies.slots());
+                Ok((HostFolders { copies, counts }, found))
+            }
             Err(fault) => Err(fault),
         }
+    }
+
+    /// What is counted of each folder, also by later saves.
+    pub fn counts(&self) -> Result<Arc<FolderCounts>, AllocError> {
+        self.counts.clone()
     }
 }
 
@@ -75,7 +102,9 @@ impl Save for HostFolders {
         ensures most { IsTrue result → IsMajority (count_by is_current self.new.copies.slots.items) (length self.new.copies.slots.items) }
         ensures items { SavesItems host_may_leave host_has_items kept.now result self.old.copies.slots.items self.new.copies.slots.items }
     {
-        self.copies.save(rt, alloc, kept)
+        let is_saved = self.copies.save(rt, alloc, kept);
+        self.counts.note(self.copies.slots());
+        is_saved
     }
 
     /// Saves it on other threads, if they can be made.
@@ -95,7 +124,9 @@ impl Save for HostFolders {
         ensures most { IsTrue result → IsMajority (count_by is_current self.new.copies.slots.items) (length self.new.copies.slots.items) }
         ensures items { SavesItems host_may_leave host_has_items kept.old result self.old.copies.slots.items self.new.copies.slots.items }
     {
-        save_apart(&mut self.copies, rt, alloc, kept, work)
+        let is_saved = save_apart(&mut self.copies, rt, alloc, kept, work);
+        self.counts.note(self.copies.slots());
+        is_saved
     }
 
     fn fault(&self) -> Option<SaveFault> {

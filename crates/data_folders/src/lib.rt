@@ -12,10 +12,13 @@
 //! counts if it is made in more than half of all folders, those that are not open among them. What a later start may begin
 //! with is said by `MayFindAmong`: it reads more than half of the folders and takes the newest copy. So `Save` holds of
 //! several folders as of one.
+//!
+//! What is counted of each folder is shared with whoever shows it (`HostFolders::counts`).
 #![tactic(auto)]
 
 mod beginning;
 mod copies;
+mod counts;
 mod fault;
 mod host;
 mod opened;
@@ -23,6 +26,7 @@ mod opening;
 mod slot;
 
 pub use copies::Copies;
+pub use counts::{FolderCount, FolderCounts};
 pub use fault::FoldersFault;
 pub use host::HostFolders;
 pub use opened::Opened;

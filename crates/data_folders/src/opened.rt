@@ -93,6 +93,8 @@ impl<F: SaveCopy + Drop> Opened<F> {
         let slot = FolderSlot {
             copy,
             fault: Some(SaveFault::Disk),
+            made: 0,
+            failed: 0,
         };
         self.slots.push_reserved(slot);
         self.finds.push_reserved(found);

@@ -23,6 +23,7 @@ pub struct FoldersOptions {
 #[derive(Clone, Copy, Debug, PartialEq, Eq)]
 pub struct FolderTrouble {
     pub folder: usize,
+    /// Why it could not be read; if it has no data and no file could be made in it either, why not.
     pub fault: DataFault,
     /// It is made anew: a damaged file was set aside, and the first save writes all. Else it is not used in this start.
     pub is_renewed: bool,
@@ -130,6 +131,15 @@ fn renew_one(
     }
 }
 
+/// Notes that a new file was made, or why not where there was none.
+fn note_renewal(trouble: &mut FolderTrouble, made: Result<(), DataFault>) {
+    match made {
+        Ok(()) => trouble.is_renewed = true,
+        Err(fault) if trouble.fault == DataFault::NoData => trouble.fault = fault,
+        Err(_) => {}
+    }
+}
+
 /// Makes new files where none can be read, which are saved first of all. A folder in which that fails is not used.
 fn renew_each(
     rt: &HostRuntime,
@@ -158,7 +168,7 @@ fn renew_each(
                 opened,
                 trouble.folder,
             );
-            trouble.is_renewed = made.is_ok();
+            note_renewal(trouble, made);
         }
     }
 }

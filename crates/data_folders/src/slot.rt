@@ -1,6 +1,6 @@
 //! One of several folders.
 
-ghost use Rattle.std.specs.Prelude.{◌≡◌};
+ghost use Rattle.std.specs.Prelude.{◌≡◌, true, false};
 ghost use Rattle.data_folders.specs.Copies.{SlotSaves, is_current};
 ghost use Rattle.data_folders.specs.CopyItems.{PlaceSavesItems};
 
@@ -15,11 +15,20 @@ pub struct FolderSlot<F> {
     pub copy: Option<F>,
     /// Why it does not have the last save. None: it has it.
     pub fault: Option<SaveFault>,
+    /// Saves of this start that were made in it.
+    pub made: u64,
+    /// Saves of this start that were not.
+    pub failed: u64,
 }
 
 impl<F: Drop> Drop for FolderSlot<F> {
     fn drop(self) {
-        let FolderSlot { copy: _, fault: _ } = self;
+        let FolderSlot {
+            copy: _,
+            fault: _,
+            made: _,
+            failed: _,
+        } = self;
     }
 }
 
@@ -38,14 +47,19 @@ impl<F> FolderSlot<F> {
 }
 
 impl<F: SaveCopy> FolderSlot<F> {
-    /// Saves it in this folder, if the folder is open.
+    /// Saves it in this folder, if the folder is open, and counts whether it was made.
     pub fn save(&mut self, alloc: Global, id: CopyId, stamp: SaveStamp, stored: &StoredRecord)
         ensures saves { SlotSaves F.may_find (record { stamp = stamp; text = stored.now.text.items }) self.old self.new }
         ensures items { PlaceSavesItems F.may_leave F.has_items (record { stamp = stamp; text = stored.now.text.items }) stored.now.state self.old self.new }
+        ensures made { is_current self.new ≡ false → self.new.made ≡ self.old.made }
+        ensures failed { is_current self.new ≡ true → self.new.failed ≡ self.old.failed }
     {
         self.fault = match &mut self.copy {
             Some(copy) => copy.save_copy(alloc, id, stamp, stored).err(),
             None => Some(SaveFault::Disk),
         };
+        let is_made = self.fault.is_none();
+        self.made = self.made.saturating_add(u64::from(is_made));
+        self.failed = self.failed.saturating_add(u64::from(!is_made));
     }
 }

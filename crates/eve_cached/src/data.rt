@@ -4,11 +4,12 @@ use crate::{DISK_FAILED, IN_USE, NO_DATA, REFUSED};
 use daemon::{DataSettings, NO_TARGET, Settings, Stamped, tell_trouble};
 use data_folder::{DataFault, HostFolder};
 use data_folders::{
-    FolderTrouble, FoldersFault, FoldersOptions, HostFolders, Opened, open_folders,
+    FolderCounts, FolderTrouble, FoldersFault, FoldersOptions, HostFolders, Opened, open_folders,
 };
 use log::error;
 use server::{SaveFault, ServiceRecord};
 use std::rt::Clock;
+use std::sync::Arc;
 use std::thread::Threads;
 
 /// The status of a program one of whose folders cannot be used.
@@ -39,6 +40,8 @@ pub enum Data {
     Nowhere,
     In {
         folders: HostFolders,
+        /// What is counted of each of them.
+        counts: Arc<FolderCounts>,
         /// What was saved there last.
         found: Option<ServiceRecord>,
     },
@@ -50,23 +53,35 @@ fn refused<R: Clock + Eprint>(rt: &R, settings: &Settings, fault: FoldersFault) 
         (FoldersFault::At(at, _), Some(data)) => data.paths.get(at),
         _ => None,
     };
-    match path {
-        Some(path) => error!(Stamped(rt); target: NO_TARGET, "{path}: {fault}"),
-        None => error!(Stamped(rt); target: NO_TARGET, "{fault}"),
+    match (path, fault) {
+        (Some(path), FoldersFault::At(_, DataFault::OtherFolders(1))) =>
+            error!(Stamped(rt); target: NO_TARGET, "{path}: made with 1 folder"),
+        (Some(path), _) => error!(Stamped(rt); target: NO_TARGET, "{path}: {fault}"),
+        (None, _) => error!(Stamped(rt); target: NO_TARGET, "{fault}"),
     }
     status_of(fault)
+}
+
+/// Tells that this folder could not be read as it was. Where others have the data one without needs no `--new`.
+fn tell_of_one(rt: &HostRuntime, path: &str, trouble: &FolderTrouble) {
+    let (fault, is_renewed) = (trouble.fault, trouble.is_renewed);
+    match fault {
+        DataFault::NoData => tell_trouble(&Stamped(rt), path, &"no data", is_renewed),
+        DataFault::CannotOpen => tell_trouble(
+            &Stamped(rt),
+            path,
+            &"missing, or cannot be opened or written",
+            is_renewed,
+        ),
+        _ => tell_trouble(&Stamped(rt), path, &fault, is_renewed),
+    }
 }
 
 /// Tells which folders could not be read as they were.
 fn tell_troubles(rt: &HostRuntime, data: &DataSettings, troubles: &[FolderTrouble]) {
     for trouble in troubles {
         if let Some(path) = data.paths.get(trouble.folder) {
-            tell_trouble(
-                &Stamped(rt),
-                path.as_str(),
-                &trouble.fault,
-                trouble.is_renewed,
-            );
+            tell_of_one(rt, path.as_str(), trouble);
         }
     }
 }
@@ -109,7 +124,18 @@ pub fn begin_data<R: Threads + Clock + Eprint + AllocGlobal + Sync>(
         return Ok(Data::Nowhere);
     };
     match HostFolders::begin(rt, rt.alloc(), opened) {
-        Ok((folders, found)) => Ok(Data::In { folders, found }),
+        Ok((folders, found)) => match folders.counts() {
+            Ok(counts) => Ok(Data::In {
+                folders,
+                counts,
+                found,
+            }),
+            Err(_) => {
+                drop(folders);
+                drop(found);
+                Err(refused(rt, settings, FoldersFault::NoMemory))
+            }
+        },
         Err(fault) => Err(refused(rt, settings, fault)),
     }
 }

@@ -8,8 +8,10 @@ use crate::{CANNOT, DISK_FAILED, REFUSED};
 use daemon::{
     Listen, NO_TARGET, Settings, Stamped, tell_begun, tell_listening, tell_start, tell_status,
 };
+use data_folders::FolderCounts;
 use libc::net::{SO_KEEPALIVE, SOL_SOCKET, setsockopt};
 use log::{error, warn};
+use metrics::Folders;
 use mio::net::TcpListener as MioTcpListener;
 use server::{
     Listener, Options, Save, SaveFault, ServeFault, Service, ServiceRecord, Watcher, serve_beside,
@@ -32,6 +34,8 @@ const TOO_MANY: &[u8] = b"SERVER_ERROR too many open connections\r\n";
 #[derive(Drop)]
 struct Ports {
     clients: Vec<Listener>,
+    /// The address of each of them. None: it is a Unix socket, or the system does not tell.
+    addresses: Vec<Option<SocketAddr>>,
     status: Option<TcpListener>,
 }
 
@@ -77,7 +81,7 @@ fn is_other_file<R: Files>(rt: &R, path: &str) -> bool {
     }
 }
 
-/// A listener for clients at this address. The log tells where, or why there is none.
+/// A listener for clients at this address. If there is none, the log tells why.
 fn listener<R: Net<Listener = TcpListener, Stream = TcpStream> + Clock + Files + Eprint>(
     rt: &R,
     listen: &Listen,
@@ -88,15 +92,10 @@ fn listener<R: Net<Listener = TcpListener, Stream = TcpStream> + Clock + Files +
             if !keep_alive(&listener) {
                 warn!(Stamped(rt); target: NO_TARGET, "clients that vanish are not noticed: no keepalive on {address}");
             }
-            let at = listener.local_addr().unwrap_or(*address);
-            tell_listening(&Stamped(rt), &Listen::Tcp(at));
             Ok(Listener::Tcp(listener))
         }
         Listen::Unix(path) => match bound_socket(rt, path.as_str()) {
-            Ok(listener) => {
-                tell_listening(&Stamped(rt), listen);
-                Ok(Listener::Unix(listener))
-            }
+            Ok(listener) => Ok(Listener::Unix(listener)),
             Err(_) if is_other_file(rt, path.as_str()) => {
                 error!(Stamped(rt); target: NO_TARGET, "cannot listen on unix:{path}: a file is there that is no socket");
                 Err(CANNOT)
@@ -109,7 +108,7 @@ fn listener<R: Net<Listener = TcpListener, Stream = TcpStream> + Clock + Files +
     }
 }
 
-/// A listener at each address. The log tells where.
+/// A listener at each address.
 fn listeners<R: Net<Listener = TcpListener, Stream = TcpStream> + Clock + Files + Eprint>(
     rt: &R,
     alloc: Global,
@@ -122,6 +121,35 @@ fn listeners<R: Net<Listener = TcpListener, Stream = TcpStream> + Clock + Files 
         }
     }
     Ok(all)
+}
+
+/// Where the listener is, if it is one of the network.
+fn address_of(listener: &Listener) -> Option<SocketAddr> {
+    match listener {
+        Listener::Tcp(listener) => listener.local_addr().ok(),
+        Listener::Unix(_) => None,
+    }
+}
+
+/// Where each listener is. The system has chosen the port if the settings name none.
+fn addresses_of(alloc: Global, listeners: &[Listener]) -> Result<Vec<Option<SocketAddr>>, u8> {
+    let mut all = Vec::new(alloc);
+    for listener in listeners {
+        if all.push(address_of(listener)).is_err() {
+            return Err(REFUSED);
+        }
+    }
+    Ok(all)
+}
+
+/// Tells where clients are served. An address that the system does not tell is that of the settings.
+fn tell_served<R: Clock + Eprint>(rt: &R, listens: &[Listen], addresses: &[Option<SocketAddr>]) {
+    for (listen, address) in listens.iter().zip(addresses) {
+        match address {
+            Some(address) => tell_listening(&Stamped(rt), &Listen::Tcp(*address)),
+            None => tell_listening(&Stamped(rt), listen),
+        }
+    }
 }
 
 /// A listener for the figures. The log tells where.
@@ -145,7 +173,12 @@ fn open_ports<R: Net<Listener = TcpListener, Stream = TcpStream> + Clock + Files
         None => None,
     };
     let clients = listeners(rt, alloc, settings.listen.as_slice())?;
-    Ok(Ports { clients, status })
+    let addresses = addresses_of(alloc, clients.as_slice())?;
+    Ok(Ports {
+        clients,
+        addresses,
+        status,
+    })
 }
 
 /// Shows the figures, if it has a listener for that, and tells what happens, until the server ends by itself or
@@ -161,11 +194,11 @@ fn attend<
         + Sync,
     S: Save,
 >(rt: &R, watcher: &Watcher<'_, S>, status: Option<TcpListener>, known: Known<'_>) {
-    let first = known.figures(rt, watcher);
+    let first = known.look(rt, watcher, &Folders::NONE);
     if known.has_found() {
-        tell_begun(&Stamped(rt), Some(first.memory.items));
+        tell_begun(&Stamped(rt), Some(first.figures.memory.items));
     }
-    let now = Shown::new(rt.alloc(), first);
+    let now = Shown::new(rt.alloc(), first.figures, first.folders);
     let shown = &now;
     thread::scope(thread::scope_env(), rt, |scope| {
         if let Some(listener) = status {
@@ -245,8 +278,8 @@ fn tell_first<R: Clock + Files + Eprint + AllocGlobal>(
     connections_of(rt, settings)
 }
 
-/// Runs a daemon that saves what it answers, and goes on from what was found. The status of the program if it ends by
-/// itself.
+/// Runs a daemon that saves what it answers, and goes on from what was found. It shows what is counted of its folders, and
+/// tells where it listens once clients are served. The status of the program if it ends by itself.
 pub fn run<
     R: Net<Listener = TcpListener, Stream = TcpStream>
         + Threads
@@ -257,11 +290,15 @@ pub fn run<
         + AllocGlobal
         + Sync,
     S: Save + Drop + Send,
->(rt: &R, settings: Settings, saver: S, found: Option<ServiceRecord>) -> u8 {
+>(rt: &R, settings: Settings, saver: S, found: Option<ServiceRecord>, counts: &FolderCounts) -> u8 {
     let is_found = found.is_some();
     let connections = tell_first(rt, &settings, is_found);
     let options = options_of(&settings, connections);
-    let Ports { clients, status } = match open_ports(rt, rt.alloc(), &settings) {
+    let Ports {
+        clients,
+        addresses,
+        status,
+    } = match open_ports(rt, rt.alloc(), &settings) {
         Ok(ports) => ports,
         Err(status) => return status,
     };
@@ -273,11 +310,12 @@ pub fn run<
         saver,
         found,
         move |watcher| {
+            tell_served(rt, settings.listen.as_slice(), addresses.as_slice());
             attend(
                 rt,
                 watcher,
                 status,
-                Known::begin(rt, &settings, connections, is_found),
+                Known::begin(rt, &settings, connections, counts, is_found),
             );
         },
     );

@@ -4,7 +4,8 @@
 //!         --max-bytes B --data DIR --data DIR .. --new --sync MODE --status ADDR:PORT
 //!
 //! It is built on `server` (`serve_beside`), `data_folders` (the folders of `--data`), `daemon` (its words and its log),
-//! `status_server` (the status port) and `service_laws`, whose laws it calls at its end.
+//! `status_server` (the status port), `metrics` (what is shown of each folder) and `service_laws`, whose laws it calls at its
+//! end.
 //!
 //! It serves until a signal ends it, and tells on standard error what an operator wants to know. Status 0 for `--help`
 //! and `--version`, 1 if memory ran out before it served, 2 for other words, 3 if it cannot listen or cannot start, or
@@ -22,6 +23,7 @@ use crate::life::run;
 use clap::Error;
 use clap::error::ErrorKind;
 use daemon::{Settings, read_settings};
+use data_folders::FolderCounts;
 use server::NoFolder;
 use std::process::ExitCode;
 use words::{WordsFault, words_of};
@@ -74,8 +76,17 @@ fn main(rt: HostRuntime) -> ExitCode {
         Err(status) => return ExitCode::from(status),
     };
     match begin_data(&rt, &settings, opened) {
-        Ok(Data::Nowhere) => ExitCode::from(run(&rt, settings, NoFolder, None)),
-        Ok(Data::In { folders, found }) => ExitCode::from(run(&rt, settings, folders, found)),
+        Ok(Data::Nowhere) => {
+            let counts = FolderCounts::none(rt.alloc());
+            ExitCode::from(run(&rt, settings, NoFolder, None, &counts))
+        }
+        Ok(
+            Data::In {
+                folders,
+                counts,
+                found,
+            },
+        ) => ExitCode::from(run(&rt, settings, folders, found, &*counts)),
         Err(status) => ExitCode::from(status),
     }
 }

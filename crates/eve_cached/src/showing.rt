@@ -1,6 +1,7 @@
 //! The status port.
 
 use figures::Figures;
+use metrics::Folders;
 use mio::net::TcpListener as Listener;
 use status::{History, Seen};
 use status_server::{StatusServer, Watch};
@@ -32,21 +33,26 @@ impl Drop for Shown {
 
 impl Shown {
     /// These are shown.
-    pub fn new(alloc: Global, figures: Figures) -> Shown {
+    pub fn new(alloc: Global, figures: Figures, folders: Folders) -> Shown {
         let mut history = History::new(alloc);
         // Without memory for it the page lacks a sample.
         let _ = history.keep(&figures);
         Shown {
-            seen: Mutex::new(Seen { figures, history }),
+            seen: Mutex::new(Seen {
+                figures,
+                folders,
+                history,
+            }),
             has_ended: AtomicBool::new(false),
         }
     }
 
     /// These are shown from now on, and kept in the history if a sample is due.
-    pub fn renew<R: Wait>(&self, rt: &R, figures: Figures) {
+    pub fn renew<R: Wait>(&self, rt: &R, figures: Figures, folders: Folders) {
         let mut guard = self.seen.lock(rt);
         let seen = &mut *guard;
         seen.figures = figures;
+        seen.folders = folders;
         let _ = seen.history.keep(&figures);
     }
 

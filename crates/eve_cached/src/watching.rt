@@ -6,7 +6,9 @@ use daemon::{
     seconds, tell, tell_behind, tell_current, tell_few_files, tell_saved_again, tell_unsaved,
 };
 use data_folder::FILES;
+use data_folders::{FolderCount, FolderCounts};
 use figures::{Figures, Limits, Process};
+use metrics::{FolderFigures, Folders, MOST_FOLDERS};
 use server::{Save, SaveFault, Watcher};
 use std::rt::{Clock, Files};
 use std::sync::Wait;
@@ -46,14 +48,62 @@ fn folder_bytes<R: Files + AllocGlobal>(rt: &R, folder: &str) -> u64 {
     sum
 }
 
-/// The bytes of the files in all folders of data.
-fn data_bytes<R: Files + AllocGlobal>(rt: &R, folders: &[String]) -> u64 {
+/// What is known of a folder now, in this second since 1970, after what was known of it before.
+fn folder_now<R: Files + AllocGlobal>(
+    rt: &R,
+    path: &str,
+    counted: FolderCount,
+    before: FolderFigures,
+    second: u64,
+) -> FolderFigures {
+    FolderFigures {
+        is_current: counted.is_current,
+        made: counted.made,
+        failed: counted.failed,
+        saved_at: if before.made < counted.made {
+            second
+        } else {
+            before.saved_at
+        },
+        bytes: folder_bytes(rt, path),
+    }
+}
+
+/// What is counted of the folder with this number.
+fn counted(counts: &FolderCounts, at: usize) -> FolderCount {
+    counts.count(at).unwrap_or(FolderCount::NONE)
+}
+
+/// What is known of each of these folders now, after what was known before.
+fn folders_now<R: Clock + Files + AllocGlobal>(
+    rt: &R,
+    paths: &[String],
+    counts: &FolderCounts,
+    before: &Folders,
+) -> Folders {
+    let second = seconds(rt);
+    let mut now = Folders::NONE;
+    for at in 0..MOST_FOLDERS {
+        if let Some(path) = paths.get(at) {
+            let was = before.each[at];
+            now.each[at] = folder_now(rt, path.as_str(), counted(counts, at), was, second);
+        }
+    }
+    now.count = u8::try_from(paths.len()).unwrap_or(u8::MAX);
+    now
+}
+
+/// The bytes of the files in all folders.
+fn bytes_in(folders: &Folders) -> u64 {
     let mut sum: u64 = 0;
-    for folder in folders {
-        sum = sum.saturating_add(folder_bytes(rt, folder.as_str()));
+    for folder in folders.there() {
+        sum = sum.saturating_add(folder.bytes);
     }
     sum
 }
+
+/// Why a folder that the start did not open lacks each save.
+const NOT_USED: &str = "it could not be used at the start, and is not used before the next one";
 
 /// So many files are open beside those of connections, at most: some twenty of the process, and 32 connections of the
 /// status port.
@@ -85,6 +135,15 @@ pub fn connections_of<R: Files + Clock + Eprint + AllocGlobal>(rt: &R, settings:
     }
 }
 
+/// What is seen of a server.
+#[derive(Clone, Copy)]
+pub struct Look {
+    pub figures: Figures,
+    pub folders: Folders,
+    /// The first folder that does not have the last save, from 0, and why.
+    behind: Option<(usize, SaveFault)>,
+}
+
 /// What this process knows of itself.
 #[derive(Clone, Copy)]
 pub struct Known<'a> {
@@ -94,6 +153,8 @@ pub struct Known<'a> {
     limits: Limits,
     /// The folders of its data. None if it has none.
     folders: &'a [String],
+    /// What is counted of each of them.
+    counts: &'a FolderCounts,
     /// Whether it goes on from what was saved.
     is_found: bool,
 }
@@ -104,6 +165,7 @@ impl<'a> Known<'a> {
         rt: &R,
         settings: &'a Settings,
         connections: u16,
+        counts: &'a FolderCounts,
         is_found: bool,
     ) -> Known<'a> {
         Known {
@@ -121,6 +183,7 @@ impl<'a> Known<'a> {
                 Some(data) => data.paths.as_slice(),
                 None => &[],
             },
+            counts,
             is_found,
         }
     }
@@ -128,6 +191,18 @@ impl<'a> Known<'a> {
     /// Whether it goes on from what was saved.
     pub fn has_found(&self) -> bool {
         self.is_found
+    }
+
+    /// Tells that the folder with this number does not have the last save, and why.
+    fn tell_lacking<R: Clock + Eprint>(&self, rt: &R, at: usize, fault: SaveFault) {
+        let Some(path) = self.folders.get(at) else {
+            return;
+        };
+        if counted(self.counts, at).is_open {
+            tell_behind(&Stamped(rt), path.as_str(), &fault);
+        } else {
+            tell_behind(&Stamped(rt), path.as_str(), &NOT_USED);
+        }
     }
 
     /// The seconds since the start, or 0 if the clock cannot be read.
@@ -138,19 +213,27 @@ impl<'a> Known<'a> {
         }
     }
 
-    /// What the server has counted, and what this process knows of itself.
-    pub fn figures<R: Wait + Clock + Files + AllocGlobal, S: Save>(
+    /// What the server has counted, and what this process knows of itself and of its folders, after what was known of
+    /// these before.
+    pub fn look<R: Wait + Clock + Files + AllocGlobal, S: Save>(
         &self,
         rt: &R,
         watcher: &Watcher<'_, S>,
-    ) -> Figures {
+        before: &Folders,
+    ) -> Look {
         let mut figures = watcher.figures(rt);
+        let behind = watcher.save_folders(rt).behind;
+        let folders = folders_now(rt, self.folders, self.counts, before);
         figures.uptime_seconds = self.uptime(rt);
         figures.process = self.process;
         figures.limits = self.limits;
         figures.memory.resident_bytes = resident_bytes(rt);
-        figures.saves.bytes = data_bytes(rt, self.folders);
-        figures
+        figures.saves.bytes = bytes_in(&folders);
+        Look {
+            figures,
+            folders,
+            behind,
+        }
     }
 }
 
@@ -170,24 +253,19 @@ fn tells_of_saves<R: Wait + Clock + Eprint, S: Save>(
 }
 
 /// Tells if another folder lacks the last save than was told before, which is changed, and if each has it again.
-fn tells_of_folders<R: Wait + Clock + Eprint, S: Save>(
+fn tells_of_folders<R: Clock + Eprint>(
     rt: &R,
-    watcher: &Watcher<'_, S>,
-    folders: &[String],
+    behind: Option<(usize, SaveFault)>,
+    known: &Known<'_>,
     told: &mut Option<usize>,
 ) {
-    let behind = watcher.save_folders(rt).behind;
     let at = behind.map(|(at, _)| at);
     if at == *told {
         return;
     }
     *told = at;
     match behind {
-        Some((at, fault)) => {
-            if let Some(path) = folders.get(at) {
-                tell_behind(&Stamped(rt), path.as_str(), &fault);
-            }
-        }
+        Some((at, fault)) => known.tell_lacking(rt, at, fault),
         None => tell_current(&Stamped(rt)),
     }
 }
@@ -200,9 +278,10 @@ pub fn watch<R: Wait + Clock + Files + Eprint + AllocGlobal, S: Save>(
     shown: &Shown,
     known: Known<'_>,
 ) {
-    let first = known.figures(rt, watcher);
-    watcher.see(rt, &first);
-    let mut report = Report::new(Totals::of(&first));
+    let first = known.look(rt, watcher, &Folders::NONE);
+    watcher.see(rt, &first.figures);
+    let mut report = Report::new(Totals::of(&first.figures));
+    let mut folders = first.folders;
     let mut saves = SaveWatch::NONE;
     let mut told = None;
     for _ in rt.forever() {
@@ -210,13 +289,14 @@ pub fn watch<R: Wait + Clock + Files + Eprint + AllocGlobal, S: Save>(
         if watcher.has_ended() || tells_of_saves(rt, watcher, &mut saves) {
             return;
         }
-        let figures = known.figures(rt, watcher);
-        if 1 < known.folders.len() && 0 < figures.saves.made {
-            tells_of_folders(rt, watcher, known.folders, &mut told);
+        let look = known.look(rt, watcher, &folders);
+        folders = look.folders;
+        if 1 < known.folders.len() && 0 < look.figures.saves.made {
+            tells_of_folders(rt, look.behind, &known, &mut told);
         }
-        watcher.see(rt, &figures);
-        shown.renew(rt, figures);
-        let due = report.due(Totals::of(&figures), seconds(rt));
-        tell(&Stamped(rt), due, &figures);
+        watcher.see(rt, &look.figures);
+        shown.renew(rt, look.figures, look.folders);
+        let due = report.due(Totals::of(&look.figures), seconds(rt));
+        tell(&Stamped(rt), due, &look.figures);
     }
 }

@@ -17,6 +17,8 @@ use Rattle.figures.specs.Kind.{kind_has}
 use Rattle.figures.specs.Refusal.{refusal_count}
 use Rattle.figures.specs.Commands.{kind_count}
 use Rattle.figures.specs.Count.{sum_of}
+use Rattle.metrics.specs.declared.folder.FolderFigures.{FolderFigures}
+use Rattle.metrics.specs.declared.folder.Folders.{Folders}
 use Rattle.metrics.specs.declared.metric.Metric.{Metric}
 use Rattle.metrics.specs.declared.metric.Metric.TheVariants as metric
 use Rattle.metrics.specs.declared.metric.TheConstants.{ALL_METRICS}
@@ -81,6 +83,21 @@ nodes_text m role id (node ∷ nodes) = whole_sample_text m (labels.Node role id
 abbrev pub all_nodes_text : Metric → Replicas → List ℕ
 all_nodes_text m r = nodes_text m Executor 0 (take r.members r.executors) ++ nodes_text m Verifier 0 (take r.members r.verifiers)
 
+abbrev pub folder_value : Metric → FolderFigures → ℕ
+folder_value metric.FolderCurrent folder = bucket_bit folder.is_current
+folder_value metric.FolderSaves folder = folder.made
+folder_value metric.FolderFailures folder = folder.failed
+folder_value metric.FolderSaved folder = folder.saved_at
+folder_value _ folder = folder.bytes
+
+-- the lines of these folders, of which the first has this number
+abbrev pub folders_text : Metric → ℕ → List FolderFigures → List ℕ
+folders_text m number [] = []
+folders_text m number (folder ∷ folders) = whole_sample_text m (labels.Folder number) (folder_value m folder) ++ folders_text m (number + 1) folders
+
+abbrev pub all_folders_text : Metric → Folders → List ℕ
+all_folders_text m f = folders_text m 0 (take f.count f.each)
+
 abbrev pub bound_of : List ℕ → Option ℕ
 bound_of [] = None
 bound_of (bound ∷ _) = Some bound
@@ -108,23 +125,29 @@ histogram_text m h =
     ++ sample_text (record { metric = m; suffix = suffix.Sum; labels = labels.None; number = Micros h.sum })
     ++ sample_text (record { metric = m; suffix = suffix.Count; labels = labels.None; number = Whole (total_from 0 h.counts) })
 
-abbrev pub samples_text : Figures → Metric → List ℕ
-samples_text f (metric.Plain p) = whole_sample_text (metric.Plain p) labels.None (plain_value f p)
-samples_text f metric.Commands = all_commands_text f.commands
-samples_text f metric.LinesRefused = all_refusals_text f.refusals
-samples_text f metric.NodeUp = all_nodes_text metric.NodeUp f.replicas
-samples_text f metric.NodeStops = all_nodes_text metric.NodeStops f.replicas
-samples_text f metric.ReplySeconds = histogram_text metric.ReplySeconds f.reply_times
-samples_text f metric.BatchSeconds = histogram_text metric.BatchSeconds f.batch_times
-samples_text f metric.BatchWaitSeconds = histogram_text metric.BatchWaitSeconds f.batch_parts.wait
-samples_text f metric.BatchExecuteSeconds = histogram_text metric.BatchExecuteSeconds f.batch_parts.execute
-samples_text f metric.BatchAgreeSeconds = histogram_text metric.BatchAgreeSeconds f.batch_parts.agree
-samples_text f metric.BatchCommitSeconds = histogram_text metric.BatchCommitSeconds f.batch_parts.commit
-samples_text f metric.SaveSeconds = histogram_text metric.SaveSeconds f.saves.times
+-- the lines of a metric: of the figures, or of the folders
+abbrev pub samples_text : Figures → Folders → Metric → List ℕ
+samples_text f folders (metric.Plain p) = whole_sample_text (metric.Plain p) labels.None (plain_value f p)
+samples_text f folders metric.Commands = all_commands_text f.commands
+samples_text f folders metric.LinesRefused = all_refusals_text f.refusals
+samples_text f folders metric.NodeUp = all_nodes_text metric.NodeUp f.replicas
+samples_text f folders metric.NodeStops = all_nodes_text metric.NodeStops f.replicas
+samples_text f folders metric.FolderCurrent = all_folders_text metric.FolderCurrent folders
+samples_text f folders metric.FolderSaves = all_folders_text metric.FolderSaves folders
+samples_text f folders metric.FolderFailures = all_folders_text metric.FolderFailures folders
+samples_text f folders metric.FolderSaved = all_folders_text metric.FolderSaved folders
+samples_text f folders metric.FolderBytes = all_folders_text metric.FolderBytes folders
+samples_text f folders metric.ReplySeconds = histogram_text metric.ReplySeconds f.reply_times
+samples_text f folders metric.BatchSeconds = histogram_text metric.BatchSeconds f.batch_times
+samples_text f folders metric.BatchWaitSeconds = histogram_text metric.BatchWaitSeconds f.batch_parts.wait
+samples_text f folders metric.BatchExecuteSeconds = histogram_text metric.BatchExecuteSeconds f.batch_parts.execute
+samples_text f folders metric.BatchAgreeSeconds = histogram_text metric.BatchAgreeSeconds f.batch_parts.agree
+samples_text f folders metric.BatchCommitSeconds = histogram_text metric.BatchCommitSeconds f.batch_parts.commit
+samples_text f folders metric.SaveSeconds = histogram_text metric.SaveSeconds f.saves.times
 
-abbrev pub family_text : Figures → Metric → List ℕ
-family_text f m = metric_head m ++ samples_text f m
+abbrev pub family_text : Figures → Folders → Metric → List ℕ
+family_text f folders m = metric_head m ++ samples_text f folders m
 
--- all that /metrics shows of these figures
-unfoldable pub metrics_text : Figures → List ℕ
-metrics_text f = flat_map (family_text f) ALL_METRICS
+-- all that /metrics shows of these figures and folders
+unfoldable pub metrics_text : Figures → Folders → List ℕ
+metrics_text f folders = flat_map (family_text f folders) ALL_METRICS

@@ -34,6 +34,7 @@ labels_text labels.None = []
 labels_text (labels.Command k o) = codes "{command=\"" ++ kind_name k ++ codes "\",outcome=\"" ++ outcome_name o ++ codes "\"}"
 labels_text (labels.Why refusal) = codes "{why=\"" ++ refusal_name refusal ++ codes "\"}"
 labels_text (labels.Node role id) = codes "{role=\"" ++ role_name role ++ codes "\",id=\"" ++ decimal id ++ codes "\"}"
+labels_text (labels.Folder number) = codes "{folder=\"" ++ decimal number ++ codes "\"}"
 labels_text (labels.Bucket bound) = codes "{le=\"" ++ bound_text bound ++ codes "\"}"
 
 abbrev pub number_text : Number → List ℕ

@@ -1,9 +1,11 @@
 //! The lines of each metric.
 
 ghost use Rattle.std.specs.Prelude.{◌≡◌, ◌++◌, ◌+◌, ◌≤◌, OnOk, IfOk, flat_map, length, take};
-ghost use Rattle.metrics.specs.Families.{metric_head, whole_sample_text, outcome_text, outcomes_text, command_text, commands_text, all_commands_text, refusals_text, all_refusals_text, node_value, nodes_text, all_nodes_text, bucket_text, buckets_text, bound_of, bounds_after, total_from, histogram_text, samples_text, family_text, metrics_text};
+ghost use Rattle.metrics.specs.Families.{metric_head, whole_sample_text, outcome_text, outcomes_text, command_text, commands_text, all_commands_text, refusals_text, all_refusals_text, node_value, nodes_text, all_nodes_text, folder_value, folders_text, all_folders_text, bucket_text, buckets_text, bound_of, bounds_after, total_from, histogram_text, samples_text, family_text, metrics_text};
 ghost use Rattle.figures.specs.declared.node.TheConstants.{MOST_NODES};
+ghost use Rattle.metrics.specs.declared.folder.TheConstants.{MOST_FOLDERS};
 
+use crate::folder::{FolderFigures, Folders};
 use crate::metric::{ALL_METRICS, Metric};
 use crate::sample::{Labels, Number, Role, Sample, Suffix, write_sample};
 use figures::{
@@ -183,6 +185,49 @@ fn write_all_nodes(metric: Metric, replicas: &Replicas, out: &mut Vec<u8>) -> Re
     write_nodes(metric, Role::Verifier, 0, verifiers, out)
 }
 
+/// The value of a folder's line.
+fn folder_number(metric: Metric, folder: &FolderFigures) -> u64
+    ensures { result ≡ folder_value metric folder.now }
+{
+    match metric {
+        Metric::FolderCurrent => u64::from(folder.is_current),
+        Metric::FolderSaves => folder.made,
+        Metric::FolderFailures => folder.failed,
+        Metric::FolderSaved => folder.saved_at,
+        _ => folder.bytes,
+    }
+}
+
+/// The lines of these folders, of which the first has this number.
+fn write_folders(
+    metric: Metric,
+    number: u64,
+    folders: &[FolderFigures],
+    out: &mut Vec<u8>,
+) -> Result<(), AllocError>
+    requires { number + length folders.now ≤ MOST_FOLDERS }
+    ensures { OnOk result (out.new.items ≡ out.old.items ++ folders_text metric number folders.now) }
+{
+    match folders {
+        [] => Ok(()),
+        [folder, others @ ..] => {
+            write_whole(
+                metric,
+                Labels::Folder(number),
+                folder_number(metric, folder),
+                out,
+            )?;
+            write_folders(metric, number + 1, others, out)
+        }
+    }
+}
+
+fn write_all_folders(metric: Metric, folders: &Folders, out: &mut Vec<u8>) -> Result<(), AllocError>
+    ensures { OnOk result (out.new.items ≡ out.old.items ++ all_folders_text metric folders.now) }
+{
+    write_folders(metric, 0, folders.there(), out)
+}
+
 /// The first of the bounds, if there is one.
 fn first_bound(bounds: &[u64]) -> Option<u64>
     ensures { result ≡ bound_of bounds.now }
@@ -276,14 +321,24 @@ fn write_histogram(
     )
 }
 
-fn write_samples(metric: Metric, figures: &Figures, out: &mut Vec<u8>) -> Result<(), AllocError>
-    ensures { OnOk result (out.new.items ≡ out.old.items ++ samples_text figures.now metric) }
+fn write_samples(
+    metric: Metric,
+    figures: &Figures,
+    folders: &Folders,
+    out: &mut Vec<u8>,
+) -> Result<(), AllocError>
+    ensures { OnOk result (out.new.items ≡ out.old.items ++ samples_text figures.now folders.now metric) }
 {
     match metric {
         Metric::Plain(plain) => write_whole(metric, Labels::None, plain.value(figures), out),
         Metric::Commands => write_all_commands(&figures.commands, out),
         Metric::LinesRefused => write_all_refusals(&figures.refusals, out),
         Metric::NodeUp | Metric::NodeStops => write_all_nodes(metric, &figures.replicas, out),
+        Metric::FolderCurrent
+        | Metric::FolderSaves
+        | Metric::FolderFailures
+        | Metric::FolderSaved
+        | Metric::FolderBytes => write_all_folders(metric, folders, out),
         Metric::ReplySeconds => write_histogram(metric, &figures.reply_times, out),
         Metric::BatchSeconds => write_histogram(metric, &figures.batch_times, out),
         Metric::BatchWaitSeconds => write_histogram(metric, &figures.batch_parts.wait, out),
@@ -295,34 +350,44 @@ fn write_samples(metric: Metric, figures: &Figures, out: &mut Vec<u8>) -> Result
 }
 
 /// All lines of one metric.
-fn write_family(metric: Metric, figures: &Figures, out: &mut Vec<u8>) -> Result<(), AllocError>
-    ensures { OnOk result (out.new.items ≡ out.old.items ++ family_text figures.now metric) }
+fn write_family(
+    metric: Metric,
+    figures: &Figures,
+    folders: &Folders,
+    out: &mut Vec<u8>,
+) -> Result<(), AllocError>
+    ensures { OnOk result (out.new.items ≡ out.old.items ++ family_text figures.now folders.now metric) }
 {
     write_head(metric, out)?;
-    write_samples(metric, figures, out)
+    write_samples(metric, figures, folders, out)
 }
 
 fn write_families(
     metrics: &[Metric],
     figures: &Figures,
+    folders: &Folders,
     out: &mut Vec<u8>,
 ) -> Result<(), AllocError>
-    ensures { OnOk result (out.new.items ≡ out.old.items ++ flat_map (family_text figures.now) metrics.now) }
+    ensures { OnOk result (out.new.items ≡ out.old.items ++ flat_map (family_text figures.now folders.now) metrics.now) }
 {
     for metric in metrics {
-        write_family(*metric, figures, out)?;
+        write_family(*metric, figures, folders, out)?;
     }
     Ok(())
 }
 
-/// The figures in Prometheus' text form, version 0.0.4. Some 18 KB.
+/// The figures and what is known of each folder in Prometheus' text form, version 0.0.4. Some 19 KB.
 ///
 /// It fails if an allocation fails.
 #[tactic(auto, unfolding(crate::specs::Families::metrics_text))]
-pub fn metrics_of(alloc: Global, figures: &Figures) -> Result<Vec<u8>, AllocError>
-    ensures { IfOk result (λ text. text.items ≡ metrics_text figures.now) }
+pub fn metrics_of(
+    alloc: Global,
+    figures: &Figures,
+    folders: &Folders,
+) -> Result<Vec<u8>, AllocError>
+    ensures { IfOk result (λ text. text.items ≡ metrics_text figures.now folders.now) }
 {
     let mut out = Vec::with_capacity(alloc, 16384)?;
-    write_families(ALL_METRICS.as_slice(), figures, &mut out)?;
+    write_families(ALL_METRICS.as_slice(), figures, folders, &mut out)?;
     Ok(out)
 }

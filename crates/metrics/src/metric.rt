@@ -7,7 +7,7 @@ use crate::metric_type::MetricType;
 use crate::plain::Plain;
 
 /// How many metrics there are.
-pub const METRICS: usize = 43;
+pub const METRICS: usize = 48;
 
 /// A metric: one value, or one for each of its labels.
 #[derive(Clone, Copy, Debug, PartialEq, Eq)]
@@ -17,6 +17,11 @@ pub enum Metric {
     LinesRefused,
     NodeUp,
     NodeStops,
+    FolderCurrent,
+    FolderSaves,
+    FolderFailures,
+    FolderSaved,
+    FolderBytes,
     ReplySeconds,
     BatchSeconds,
     BatchWaitSeconds,
@@ -59,6 +64,11 @@ pub const ALL_METRICS: [Metric; METRICS] = [
     Metric::Plain(Plain::DataBytes),
     Metric::Plain(Plain::Folders),
     Metric::Plain(Plain::CurrentFolders),
+    Metric::FolderCurrent,
+    Metric::FolderSaves,
+    Metric::FolderFailures,
+    Metric::FolderSaved,
+    Metric::FolderBytes,
     Metric::Plain(Plain::Items),
     Metric::Plain(Plain::ItemBytes),
     Metric::Plain(Plain::ItemBytesLimit),
@@ -84,6 +94,11 @@ impl Metric {
             Metric::LinesRefused => "eve_lines_refused_total",
             Metric::NodeUp => "eve_node_up",
             Metric::NodeStops => "eve_node_stops_total",
+            Metric::FolderCurrent => "eve_folder_current",
+            Metric::FolderSaves => "eve_folder_saves_total",
+            Metric::FolderFailures => "eve_folder_save_failures_total",
+            Metric::FolderSaved => "eve_folder_last_save_timestamp_seconds",
+            Metric::FolderBytes => "eve_folder_bytes",
             Metric::ReplySeconds => "eve_reply_seconds",
             Metric::BatchSeconds => "eve_batch_seconds",
             Metric::BatchWaitSeconds => "eve_batch_wait_seconds",
@@ -105,6 +120,12 @@ impl Metric {
                 "Lines that were answered by an error or closed the connection, by why.",
             Metric::NodeUp => "Whether the executor or verifier is up.",
             Metric::NodeStops => "Times that the executor or verifier was found down.",
+            Metric::FolderCurrent => "Whether the copy in the folder is of the last save.",
+            Metric::FolderSaves => "Saves that were made in the folder.",
+            Metric::FolderFailures => "Saves that were not made in the folder.",
+            Metric::FolderSaved =>
+                "The moment of the last save in the folder in seconds since 1970, 0 if none was seen.",
+            Metric::FolderBytes => "Bytes of the files in the folder.",
             Metric::ReplySeconds =>
                 "Time from when bytes were read to when their replies were written.",
             Metric::BatchSeconds => "Time of a round of the service that answered commands.",
@@ -126,6 +147,11 @@ impl Metric {
             Metric::LinesRefused => MetricType::Counter,
             Metric::NodeUp => MetricType::Gauge,
             Metric::NodeStops => MetricType::Counter,
+            Metric::FolderCurrent => MetricType::Gauge,
+            Metric::FolderSaves => MetricType::Counter,
+            Metric::FolderFailures => MetricType::Counter,
+            Metric::FolderSaved => MetricType::Gauge,
+            Metric::FolderBytes => MetricType::Gauge,
             Metric::ReplySeconds => MetricType::Histogram,
             Metric::BatchSeconds => MetricType::Histogram,
             Metric::BatchWaitSeconds => MetricType::Histogram,

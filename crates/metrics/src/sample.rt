@@ -23,6 +23,8 @@ pub enum Labels {
     /// Why a line was refused.
     Why(Refusal),
     Node(Role, u64),
+    /// The number of a folder, from 0.
+    Folder(u64),
     /// The upper bound of a bucket in microseconds, if it has one.
     Bucket(Option<u64>),
 }
@@ -115,6 +117,14 @@ fn write_node(role: Role, id: u64, out: &mut Vec<u8>) -> Result<(), AllocError>
     out.extend_from_slice(b"\"}".as_slice())
 }
 
+fn write_folder(number: u64, out: &mut Vec<u8>) -> Result<(), AllocError>
+    ensures { OnOk result (out.new.items ≡ out.old.items ++ labels_text (Labels.Folder number)) }
+{
+    out.extend_from_slice(b"{folder=\"".as_slice())?;
+    write_decimal(number, out)?;
+    out.extend_from_slice(b"\"}".as_slice())
+}
+
 fn write_bound(bound: Option<u64>, out: &mut Vec<u8>) -> Result<(), AllocError>
     ensures { OnOk result (out.new.items ≡ out.old.items ++ bound_text bound) }
 {
@@ -140,6 +150,7 @@ fn write_labels(labels: Labels, out: &mut Vec<u8>) -> Result<(), AllocError>
         Labels::Command(kind, outcome) => write_command(kind, outcome, out),
         Labels::Why(refusal) => write_why(refusal, out),
         Labels::Node(role, id) => write_node(role, id, out),
+        Labels::Folder(number) => write_folder(number, out),
         Labels::Bucket(bound) => write_bucket(bound, out),
     }
 }

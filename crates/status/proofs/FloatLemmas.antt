@@ -1,5 +1,5 @@
 -- The figures as JSON have no float.
-use Rattle.std.proofs.Common.{◌≡◌, ℕ, List, [], ◌∷◌, map, false, refl}
+use Rattle.std.proofs.Common.{◌≡◌, ℕ, List, [], ◌∷◌, map, take, false, refl}
 use Rattle.figures.specs.declared.figures.Figures.{Figures}
 use Rattle.figures.specs.declared.figures.BatchParts.{BatchParts}
 use Rattle.figures.specs.declared.figures.Replicas.{Replicas}
@@ -10,7 +10,9 @@ use Rattle.figures.specs.declared.kind.TheConstants.{ALL_KINDS}
 use Rattle.figures.specs.declared.node.NodeFigures.{NodeFigures}
 use Rattle.serde_json.specs.Written.{has_float, items_have_float}
 use Rattle.serde_json.specs.View.{items_of}
-use Rattle.status.specs.Data.{whole, outcomes_data, all_commands_data, connections_data, limits_data, server_data, times_data, refusals_data, keys_data, batches_data, memory_data, saves_data, node_data, histogram_data, batch_parts_data, replicas_data, figures_data, sample_data, history_data}
+use Rattle.metrics.specs.declared.folder.FolderFigures.{FolderFigures}
+use Rattle.metrics.specs.declared.folder.Folders.{Folders}
+use Rattle.status.specs.Data.{whole, folder_data, all_folders_data, outcomes_data, all_commands_data, connections_data, limits_data, server_data, times_data, refusals_data, keys_data, batches_data, memory_data, saves_data, node_data, histogram_data, batch_parts_data, replicas_data, figures_data, sample_data, history_data}
 use Rattle.status.specs.declared.history.Sample.{Sample}
 
 no_float_in_wholes : (counts : List ℕ) → items_have_float (items_of (map whole counts)) ≡ false
@@ -54,12 +56,22 @@ no_float_in_times f =
     (rw (no_float_in_batch_parts f.batch_parts)
     (rw (no_float_in_histogram f.saves.times) refl)))
 
-pub no_float : (f : Figures) → has_float (figures_data f) ≡ false
+no_float_in_folders : (folders : List FolderFigures) → items_have_float (items_of (map folder_data folders)) ≡ false
+unfolding folder_data
+no_float_in_folders [] = refl
+no_float_in_folders (_ ∷ folders) = no_float_in_folders folders
+
+no_float_in_all_folders : (x : Folders) → has_float (all_folders_data x) ≡ false
+unfolding all_folders_data
+no_float_in_all_folders x = no_float_in_folders (take x.count x.each)
+
+pub no_float : (f : Figures) (folders : Folders) → has_float (figures_data f folders) ≡ false
 unfolding figures_data connections_data limits_data server_data refusals_data keys_data batches_data memory_data saves_data all_commands_data
-no_float f =
+no_float f folders =
     rw (no_float_in_commands f.commands ALL_KINDS)
+    (rw (no_float_in_all_folders folders)
     (rw (no_float_in_replicas f.replicas)
-    (rw (no_float_in_times f) refl))
+    (rw (no_float_in_times f) refl)))
 
 no_float_in_sample : (s : Sample) → has_float (sample_data s) ≡ false
 unfolding sample_data keys_data

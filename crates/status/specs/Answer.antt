@@ -18,9 +18,9 @@ use Rattle.status.specs.declared.wanted.Wanted.TheVariants.{Page, Data, History,
 -- the body with what is wanted of what is shown
 abbrev pub body_text : Seen → Wanted → List ℕ
 body_text s Page = PAGE.now
-body_text s Data = compact_text (figures_data s.figures)
+body_text s Data = compact_text (figures_data s.figures s.folders)
 body_text s History = compact_text (history_data s.history.samples)
-body_text s Metrics = metrics_text s.figures
+body_text s Metrics = metrics_text s.figures s.folders
 body_text s wanted = note_text wanted
 
 -- more than half of these nodes are up

@@ -1,5 +1,5 @@
 -- The figures as JSON.
-use Rattle.std.specs.Prelude.{ℕ, List, codes, map}
+use Rattle.std.specs.Prelude.{ℕ, List, codes, map, take}
 use Rattle.serde_json.specs.Data.{Data, number, unsigned, boolean, array, object, member, no_members, string}
 use Rattle.serde_json.specs.View.{items_of}
 use Rattle.figures.specs.declared.figures.Figures.{Figures}
@@ -22,6 +22,8 @@ use Rattle.figures.specs.declared.refusal.Refusals.{Refusals}
 use Rattle.figures.specs.declared.refusal.TheConstants.{ALL_REFUSALS}
 use Rattle.figures.specs.Commands.{kind_count}
 use Rattle.figures.specs.Refusal.{refusal_count}
+use Rattle.metrics.specs.declared.folder.FolderFigures.{FolderFigures}
+use Rattle.metrics.specs.declared.folder.Folders.{Folders}
 use Rattle.status.specs.declared.history.Sample.{Sample}
 
 -- a count
@@ -76,6 +78,20 @@ saves_data x = object (member (codes "bytes") (whole x.bytes)
     (member (codes "made") (whole x.made)
     (member (codes "waiting") (whole x.waiting) no_members)))))))
 
+unfoldable pub folder_data : FolderFigures → Data
+folder_data x = object (member (codes "bytes") (whole x.bytes)
+    (member (codes "current") (boolean x.is_current)
+    (member (codes "failed") (whole x.failed)
+    (member (codes "made") (whole x.made)
+    (member (codes "saved_at") (whole x.saved_at) no_members)))))
+
+abbrev pub folders_data : List FolderFigures → Data
+folders_data folders = array (items_of (map folder_data folders))
+
+-- those that are there
+unfoldable pub all_folders_data : Folders → Data
+all_folders_data x = folders_data (take x.count x.each)
+
 -- how many lines were refused, in the order of ALL_REFUSALS
 unfoldable pub refusals_data : Refusals → Data
 refusals_data refusals = wholes_data (map (refusal_count refusals) ALL_REFUSALS)
@@ -123,11 +139,12 @@ times_data f = object (member (codes "batch") (histogram_data f.batch_times)
     (member (codes "reply") (histogram_data f.reply_times)
     (member (codes "save") (histogram_data f.saves.times) no_members))))
 
--- all figures
-unfoldable pub figures_data : Figures → Data
-figures_data f = object (member (codes "batches") (batches_data f.batches)
+-- all figures, and what is known of each folder
+unfoldable pub figures_data : Figures → Folders → Data
+figures_data f folders = object (member (codes "batches") (batches_data f.batches)
     (member (codes "commands") (all_commands_data f.commands)
     (member (codes "connections") (connections_data f.connections)
+    (member (codes "folders") (all_folders_data folders)
     (member (codes "keys") (keys_data f.keys)
     (member (codes "memory") (memory_data f.memory)
     (member (codes "refusals") (refusals_data f.refusals)
@@ -135,7 +152,7 @@ figures_data f = object (member (codes "batches") (batches_data f.batches)
     (member (codes "saves") (saves_data f.saves)
     (member (codes "server") (server_data f.limits)
     (member (codes "times") (times_data f)
-    (member (codes "uptime_seconds") (whole f.uptime_seconds) no_members)))))))))))
+    (member (codes "uptime_seconds") (whole f.uptime_seconds) no_members))))))))))))
 
 -- what the page draws of one moment
 unfoldable pub sample_data : Sample → Data

@@ -63,13 +63,21 @@ fn shown(alloc: Global, asked: Asked, seen: &Seen) -> Result<Vec<u8>, AllocError
 {
     match asked.wanted {
         Wanted::Page => response_of(alloc, asked, page_bytes()),
-        Wanted::Data => response_of(alloc, asked, data_of(alloc, &seen.figures)?.as_bytes()),
+        Wanted::Data => response_of(
+            alloc,
+            asked,
+            data_of(alloc, &seen.figures, &seen.folders)?.as_bytes(),
+        ),
         Wanted::History => response_of(
             alloc,
             asked,
             history_of(alloc, seen.history.samples())?.as_bytes(),
         ),
-        Wanted::Metrics => response_of(alloc, asked, metrics_of(alloc, &seen.figures)?.as_slice()),
+        Wanted::Metrics => response_of(
+            alloc,
+            asked,
+            metrics_of(alloc, &seen.figures, &seen.folders)?.as_slice(),
+        ),
         Wanted::Health
         | Wanted::TooFew
         | Wanted::Unsaved

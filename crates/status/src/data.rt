@@ -10,6 +10,7 @@ use figures::{
     ALL_KINDS, BatchParts, Batches, Commands, Connections, Figures, Histogram, Keys, Kind, Limits,
     Memory, NodeFigures, Outcome, Refusal, Refusals, Replicas, Saves, VERSION,
 };
+use metrics::{FolderFigures, Folders};
 use serde_json::{Value, json};
 use std::alloc::{AllocError, Global};
 
@@ -61,6 +62,31 @@ fn saves_json(alloc: Global, saves: &Saves) -> Result<Value, AllocError>
     ensures { IfOk result (λ v. view v ≡ spec.saves_data saves.now) }
 {
     json!(in alloc; {"made": saves.made, "failed": saves.failed, "waiting": saves.waiting, "failing": saves.failing, "bytes": saves.bytes, "folders": saves.folders, "current_folders": saves.current_folders})
+}
+
+#[tactic(auto, unfolding(crate::specs::Data::folder_data))]
+fn folder_json(alloc: Global, folder: &FolderFigures) -> Result<Value, AllocError>
+    ensures { IfOk result (λ v. view v ≡ spec.folder_data folder.now) }
+{
+    json!(in alloc; {"current": folder.is_current, "made": folder.made, "failed": folder.failed, "saved_at": folder.saved_at, "bytes": folder.bytes})
+}
+
+fn folders_json(alloc: Global, folders: &[FolderFigures]) -> Result<Value, AllocError>
+    ensures { IfOk result (λ v. view v ≡ spec.folders_data folders.now) }
+{
+    let mut values = Vec::new(alloc);
+    for folder in folders {
+        values.push(folder_json(alloc, folder)?)?;
+    }
+    Ok(Value::Array(values))
+}
+
+/// Those that are there.
+#[tactic(auto, unfolding(crate::specs::Data::all_folders_data))]
+fn all_folders_json(alloc: Global, folders: &Folders) -> Result<Value, AllocError>
+    ensures { IfOk result (λ v. view v ≡ spec.all_folders_data folders.now) }
+{
+    folders_json(alloc, folders.there())
 }
 
 /// How many lines were refused, by why.
@@ -166,10 +192,10 @@ fn times_json(alloc: Global, figures: &Figures) -> Result<Value, AllocError>
     })
 }
 
-/// All figures.
+/// All figures, and what is known of each folder.
 #[tactic(auto, unfolding(crate::specs::Data::figures_data))]
-fn figures_json(alloc: Global, figures: &Figures) -> Result<Value, AllocError>
-    ensures { IfOk result (λ v. view v ≡ spec.figures_data figures.now) }
+fn figures_json(alloc: Global, figures: &Figures, folders: &Folders) -> Result<Value, AllocError>
+    ensures { IfOk result (λ v. view v ≡ spec.figures_data figures.now folders.now) }
 {
     json!(in alloc; {
         "server": server_json(alloc, &figures.limits)?,
@@ -182,17 +208,18 @@ fn figures_json(alloc: Global, figures: &Figures) -> Result<Value, AllocError>
         "replicas": replicas_json(alloc, &figures.replicas)?,
         "memory": memory_json(alloc, &figures.memory)?,
         "saves": saves_json(alloc, &figures.saves)?,
+        "folders": all_folders_json(alloc, folders)?,
         "times": times_json(alloc, figures)?
     })
 }
 
-/// The text of all figures as JSON. Some 2 KB.
+/// The text of all figures, and of what is known of each folder, as JSON. Some 2 KB.
 ///
 /// It fails if an allocation fails.
-pub fn data_of(alloc: Global, figures: &Figures) -> Result<String, AllocError>
-    ensures { IfOk result (λ text. string_bytes text ≡ compact_text (spec.figures_data figures.now)) }
+pub fn data_of(alloc: Global, figures: &Figures, folders: &Folders) -> Result<String, AllocError>
+    ensures { IfOk result (λ text. string_bytes text ≡ compact_text (spec.figures_data figures.now folders.now)) }
 {
-    figures_json(alloc, figures)?.to_string(alloc)
+    figures_json(alloc, figures, folders)?.to_string(alloc)
 }
 
 #[tactic(auto, unfolding(crate::specs::Data::sample_data))]

@@ -4,6 +4,7 @@ ghost use Rattle.std.specs.Prelude.{◌≡◌};
 ghost use Rattle.status.specs.History.{sample_of};
 
 use figures::{BUCKETS, Figures, Keys, plus};
+use metrics::Folders;
 use std::alloc::{AllocError, Global};
 use std::marker::Model;
 
@@ -105,6 +106,8 @@ impl History {
 /// What the status port shows.
 pub struct Seen {
     pub figures: Figures,
+    /// The folders in which it is saved.
+    pub folders: Folders,
     pub history: History,
 }
 
@@ -112,6 +115,7 @@ impl Drop for Seen {
     fn drop(self) {
         let Seen {
             figures: _,
+            folders: _,
             history: _,
         } = self;
     }

@@ -32,6 +32,8 @@ h2 { font-size: 15px; margin: 0 0 10px; }
 .nodes { display: grid; gap: 8px; grid-template-columns: repeat(auto-fill, minmax(128px, 1fr)); margin: 0; padding: 0; list-style: none; }
 .nodes li { border: 1px solid var(--line); border-left: 5px solid var(--good); border-radius: 6px; padding: 6px 9px; }
 .nodes li.down { border-left-color: var(--bad); }
+#copies { margin-bottom: 12px; }
+#folders { grid-template-columns: repeat(auto-fill, minmax(220px, 1fr)); }
 table { border-collapse: collapse; width: 100%; font-variant-numeric: tabular-nums; }
 th { text-align: left; font-weight: 400; color: var(--soft); }
 td { text-align: right; }
@@ -47,6 +49,7 @@ rect { fill: var(--bar); }
 <header><h1>eve_cached <span id="version"></span></h1><span id="state">waiting for figures</span><span id="uptime" class="soft"></span></header>
 <div class="grid" id="tiles"></div>
 <div class="grid" id="saves"></div>
+<section class="card" id="copies" hidden><h2>Folders</h2><ul class="nodes" id="folders"></ul></section>
 <div class="wide">
 <section class="card"><h2>Executors</h2><ul class="nodes" id="executors"></ul></section>
 <section class="card"><h2>Verifiers</h2><ul class="nodes" id="verifiers"></ul></section>
@@ -108,6 +111,15 @@ function nodes(id, list) {
     return item;
   }));
 }
+function folders(list) {
+  at("copies").hidden = list.length < 2;
+  fill("folders", list.map((folder, number) => {
+    const item = element("li", "", folder.current ? "" : "down");
+    const saved = folder.saved_at ? "saved " + span(Math.max(0, Math.round(Date.now() / 1e3 - folder.saved_at))) + " ago" : "not saved yet";
+    item.append(element("div", number + (folder.current ? " has the last save" : " lacks the last save")), element("div", saved + ", " + whole(folder.failed) + (folder.failed === 1 ? " save failed, " : " saves failed, ") + size(folder.bytes), "soft"));
+    return item;
+  }));
+}
 function quantile(counts, part) {
   const all = sum(counts);
   let seen = 0;
@@ -164,16 +176,17 @@ function show(f) {
     ["Items", short(f.memory.items), "each in every executor"], ["Keys and values", size(f.memory.item_bytes), limit ? "of " + size(limit) : "no limit", limit && limit <= f.memory.item_bytes ? "bad" : ""],
     ["Memory", f.memory.resident_bytes ? size(f.memory.resident_bytes) : "unknown", "of the process"], ["Refused lines", short(refused), "since the start"]]);
   tiles("saves", f.saves.made || f.saves.failed ? [["Saves", short(f.saves.made), "since the start"], ["Saves that failed", whole(f.saves.failed), failing ? "the last one too" : "since the start", failing ? "bad" : ""],
-    ["Waiting for a save", short(f.saves.waiting), "messages to connections"], ["Data on disk", size(f.saves.bytes), "files in all folders"],
-    ["Folders", whole(f.saves.current_folders) + " of " + whole(f.saves.folders), "have the last save", behind > 0 ? "bad" : ""], ["A save takes", time(Math.round(f.times.save.sum / Math.max(1, sum(f.times.save.counts)))), "mean since the start"]] : []);
+    ["Waiting for a save", short(f.saves.waiting), f.saves.waiting === 1 ? "message to a connection" : "messages to connections"], ["Data on disk", size(f.saves.bytes), f.saves.folders === 1 ? "files in the folder" : "files in all folders"],
+    ["Folders", whole(f.saves.current_folders) + " of " + whole(f.saves.folders), f.saves.current_folders === 1 ? "has the last save" : "have the last save", behind > 0 ? "bad" : ""], ["A save takes", time(Math.round(f.times.save.sum / Math.max(1, sum(f.times.save.counts)))), "mean since the start"]] : []);
   charts(rates, counts);
+  folders(f.saves.made || f.saves.failed ? f.folders : []);
   nodes("executors", executors);
   nodes("verifiers", verifiers);
   rows("replicas", [["Epoch", whole(f.replicas.epoch)], ["View", whole(f.replicas.view)], ["State", whole(f.replicas.number)], ["Suspicions", whole(f.replicas.suspicions)],
     ["Commits", whole(f.batches.committed)], ["Rollbacks", whole(f.batches.rolled_back)], ["Requests a batch", f.batches.cut ? (f.batches.requests / f.batches.cut).toFixed(1) : "none"]]);
   rows("commands", f.commands.map((list, i) => [names[i], whole(sum(list))]));
   rows("others", [["Accepted", whole(f.connections.accepted)], ["Refused", whole(f.connections.refused)], ["Could not be accepted", whole(f.connections.failed)],
-    ["Closed since idle", f.server.limits.idle_seconds ? whole(f.connections.idle) : "never"], ["Read", size(f.connections.bytes_read)], ["Written", size(f.connections.bytes_written)], ["Memory refused", whole(f.memory.refusals)]]);
+    ["Closed since idle", f.server.limits.idle_seconds ? whole(f.connections.idle) : "--idle is off"], ["Read", size(f.connections.bytes_read)], ["Written", size(f.connections.bytes_written)], ["Memory refused", whole(f.memory.refusals)]]);
   rows("refusals", f.refusals.map((n, i) => [whys[i], whole(n)]));
 }
 async function ask(path) {

@@ -238,7 +238,7 @@ fn number_of(alloc: Global, request: &[u8], path: &str) -> Option<u64> {
 /// A path, and the number there.
 type Number = (&'static str, Option<u64>);
 
-const NUMBERS_OF_THE_DATA: [Number; 17] = [
+const NUMBERS_OF_THE_DATA: [Number; 21] = [
     ("/uptime_seconds", Some(7)),
     ("/connections/accepted", Some(12)),
     ("/server/limits/connections", Some(1024)),
@@ -252,6 +252,10 @@ const NUMBERS_OF_THE_DATA: [Number; 17] = [
     ("/saves/bytes", Some(73_728)),
     ("/saves/folders", Some(3)),
     ("/saves/current_folders", Some(2)),
+    ("/folders/0/made", Some(100)),
+    ("/folders/1/saved_at", Some(1_764_403_300)),
+    ("/folders/2/failed", Some(103)),
+    ("/folders/3/failed", None),
     ("/times/reply/counts/1", Some(1)),
     ("/times/batch/sum", Some(1234567)),
     ("/times/parts/agree/sum", Some(300)),

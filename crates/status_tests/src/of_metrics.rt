@@ -1,9 +1,9 @@
 //! The metrics.
 
 use crate::grammar::is_line;
-use crate::samples::some_figures;
+use crate::samples::{some_figures, some_folders};
 use figures::Figures;
-use metrics::metrics_of;
+use metrics::{Folders, metrics_of};
 use std::alloc::Global;
 use std::test::Fail;
 
@@ -25,8 +25,8 @@ fn has_line(text: &[u8], wanted: &[u8]) -> bool {
     text.split(|b| *b == b'\n').any(|line| line == wanted)
 }
 
-fn are_form(alloc: Global, figures: &Figures, count: usize) -> bool {
-    match metrics_of(alloc, figures) {
+fn are_form(alloc: Global, figures: &Figures, folders: &Folders, count: usize) -> bool {
+    match metrics_of(alloc, figures, folders) {
         Ok(text) => is_form(text.as_slice(), count),
         Err(_) => false,
     }
@@ -42,21 +42,35 @@ fn missing_in(text: &[u8], lines: &[&[u8]]) -> Option<usize> {
     None
 }
 
-/// The same in the metrics of some figures.
+/// The same in the metrics of some figures and folders.
 fn missing(alloc: Global, lines: &[&[u8]]) -> Option<usize> {
-    match metrics_of(alloc, &some_figures()) {
+    match metrics_of(alloc, &some_figures(), &some_folders()) {
         Ok(text) => missing_in(text.as_slice(), lines),
         Err(_) => Some(lines.len()),
     }
 }
 
-/// 43 metrics with two lines each; 32 values, 32 of commands, ten of refused lines, 18 of each of seven histograms. Each
-/// node that is there has a line of two metrics.
+/// 48 metrics with two lines each; 32 values, 32 of commands, ten of refused lines, 18 of each of seven histograms. Each
+/// node that is there has a line of two metrics, and each folder one of five.
 #[test]
 fn each_line_is_of_the_form(rt: HostRuntime) -> Result<(), Fail> {
     let alloc = rt.alloc();
-    assert!(rt; are_form(alloc, &Figures::NONE, 86 + 32 + 32 + 10 + 126));
-    assert!(rt; are_form(alloc, &some_figures(), 86 + 32 + 32 + 10 + 126 + 12));
+    assert!(rt;
+        are_form(
+            alloc,
+            &Figures::NONE,
+            &Folders::NONE,
+            96 + 32 + 32 + 10 + 126
+        )
+    );
+    assert!(rt;
+        are_form(
+            alloc,
+            &some_figures(),
+            &some_folders(),
+            96 + 32 + 32 + 10 + 126 + 12 + 15
+        )
+    );
     Ok(())
 }
 
@@ -107,10 +121,22 @@ const LINES_OF_HISTOGRAMS: &[&[u8]] = &[
     b"eve_batch_commit_seconds_sum 0.004000",
 ];
 
+const LINES_OF_FOLDERS: &[&[u8]] = &[
+    b"# TYPE eve_folder_current gauge",
+    b"eve_folder_current{folder=\"1\"} 1",
+    b"eve_folder_current{folder=\"2\"} 0",
+    b"# TYPE eve_folder_saves_total counter",
+    b"eve_folder_saves_total{folder=\"0\"} 100",
+    b"eve_folder_save_failures_total{folder=\"1\"} 1",
+    b"eve_folder_last_save_timestamp_seconds{folder=\"0\"} 1764403300",
+    b"eve_folder_bytes{folder=\"0\"} 36864",
+];
+
 /// Lines of some figures, by what they tell.
-const LINES: [(&str, &[&[u8]]); 3] = [
+const LINES: [(&str, &[&[u8]]); 4] = [
     ("lines_of_values", LINES_OF_VALUES),
     ("lines_of_saves", LINES_OF_SAVES),
+    ("lines_of_folders", LINES_OF_FOLDERS),
     ("lines_of_histograms", LINES_OF_HISTOGRAMS),
 ];
 

@@ -1,6 +1,7 @@
 //! Figures that are not all zero.
 
 use figures::{Asked, Figures, Histogram, Kind, NodeFigures, Refusal, Saves};
+use metrics::{FolderFigures, Folders};
 use proto::Reply;
 use status::{History, Seen};
 use std::alloc::Global;
@@ -47,10 +48,31 @@ pub fn some_figures() -> Figures {
     figures
 }
 
+/// Three folders: two have the last save, the third one has none.
+pub fn some_folders() -> Folders {
+    let mut folders = Folders::NONE;
+    folders.count = 3;
+    for at in 0..2usize {
+        folders.each[at] = FolderFigures {
+            is_current: true,
+            made: 100,
+            failed: at as u64,
+            saved_at: 1_764_403_300,
+            bytes: 36_864,
+        };
+    }
+    folders.each[2].failed = 103;
+    folders
+}
+
 /// These figures, and a history that has nothing but a sample of them.
 pub fn seen_with(alloc: Global, figures: Figures) -> Seen {
     let mut history = History::new(alloc);
     // Without memory there is no sample.
     let _ = history.keep(&figures);
-    Seen { figures, history }
+    Seen {
+        figures,
+        folders: some_folders(),
+        history,
+    }
 }

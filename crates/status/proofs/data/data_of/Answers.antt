@@ -5,5 +5,5 @@ use Rattle.status.proofs.data.data_of.Goals as goal
 pub returns : goal.returns
 returns c =
     let same = c.in_ok-figures_json.ensures in
-    let none = no_float c.args.figures.now in
+    let none = no_float c.args.figures.now c.args.folders.now in
     grind (arith, c.to_string.ensures.text, same, none)

@@ -10,7 +10,7 @@ use Rattle.data_folders.proofs.opened.Opened.push.Goals as goal
 
 pub invariant_of-self-2 : goal.invariant_of-self-2
 invariant_of-self-2 g c =
-    let slot : FolderSlot g.row.F.Denot = record { copy = c.args.copy; fault = Some cause.Disk } in
+    let slot : FolderSlot g.row.F.Denot = record { copy = c.args.copy; fault = Some cause.Disk; made = 0; failed = 0 } in
     let slots = c.push_reserved.ensures.items ∙ ap (λ (l : List (FolderSlot g.row.F.Denot)). l ++ slot ∷ []) c.in_ok-reserve.ensures.items in
     let finds = c.push_reserved-2.ensures.items ∙ ap (λ (l : List (Option FoundCopy)). l ++ c.args.found ∷ []) c.in_ok-reserve-2.ensures.items in
     record {
