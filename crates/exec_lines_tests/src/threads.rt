@@ -74,6 +74,21 @@ const AFTER_A_STEP: Run = (
 /// Nothing runs if nothing was begun.
 const NO_WORK: Run = (NOTHING, b".", NOTHING);
 
+/// Two workers run the work, which leaves this to be done.
+fn run_by_two<R: Threads + Wait + Sync>(
+    rt: &R,
+    alloc: Global,
+    told: &mut Told,
+    state: &mut State,
+    expected: &[u8],
+) -> Result<(), Fault> {
+    let Some(two) = Workers::new(2) else {
+        return Err(Fault::Unfit);
+    };
+    let outcome = state.run(rt, alloc, U, LEADER, two, &NoGate)?;
+    shows(told, &outcome, expected)
+}
+
 fn runs<R: Threads + Wait + Sync>(
     rt: &R,
     alloc: Global,
@@ -81,12 +96,8 @@ fn runs<R: Threads + Wait + Sync>(
     state: &mut State,
     (before, expected, after): Run,
 ) -> Result<(), Fault> {
-    let Some(two) = Workers::new(2) else {
-        return Err(Fault::Unfit);
-    };
     holds(wrong_row(alloc, U, told, state, before).is_none())?;
-    let outcome = state.run(rt, alloc, U, LEADER, two, &NoGate)?;
-    shows(told, &outcome, expected)?;
+    run_by_two(rt, alloc, told, state, expected)?;
     holds(wrong_row(alloc, U, told, state, after).is_none())
 }
 
