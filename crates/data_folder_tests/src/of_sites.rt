@@ -1,0 +1,131 @@
+//! Copies in three folders, some of them of another site, or of an earlier save.
+
+use crate::commands::SMALL_ITEMS;
+use crate::files::{ALL, TestStore, USUAL};
+use crate::saves::{TestFolder, is_record, new_folder, save};
+use crate::services::{Moment, moments_of};
+use data_folder::{CopyId, DataFault, DataFolder, Wanted};
+use data_folders::{FoldersFault, Opened};
+use service::ServiceRecord;
+use std::alloc::Global;
+use std::process::Abort;
+use std::test::Fail;
+use std::thread::Threads;
+
+/// What is asked of each of three folders.
+const OF_THREE: Wanted = Wanted {
+    is_new: false,
+    u: 0,
+    folders: 3,
+};
+
+/// Of three folders the site and the save of each, and what a start answers that opens them: the save that it goes on from,
+/// or a fault.
+type Row = ([(u64, usize); 3], Result<usize, FoldersFault>);
+
+const ROWS: [Row; 5] = [
+    ([(7, 1), (7, 1), (7, 1)], Ok(1)),
+    ([(7, 1), (7, 2), (7, 1)], Ok(2)),
+    ([(7, 2), (7, 1), (7, 2)], Ok(2)),
+    (
+        [(7, 2), (8, 1), (7, 1)],
+        Err(FoldersFault::At(0, DataFault::OtherSite)),
+    ),
+    (
+        [(7, 1), (7, 1), (8, 2)],
+        Err(FoldersFault::At(2, DataFault::OtherSite)),
+    ),
+];
+
+/// The store of a folder after the save of this number.
+fn saved(
+    alloc: Global,
+    at: usize,
+    site: u64,
+    number: usize,
+    moments: &[Moment],
+) -> Result<TestStore, Fail> {
+    let id = CopyId {
+        site,
+        folder: u32::try_from(at).unwrap_or(0),
+        folders: 3,
+    };
+    let moment = moments.get(number.wrapping_sub(1)).ok_or("no moment")?;
+    let mut folder = new_folder(alloc, USUAL, ALL)?.ok_or("it is not made")?;
+    save(alloc, &mut folder, id, number, moment)?;
+    Ok(folder.into_store())
+}
+
+/// Opens one more folder.
+fn push(alloc: Global, opened: &mut Opened<TestFolder>, store: TestStore) -> Result<(), Fail> {
+    match DataFolder::over(alloc, store, OF_THREE) {
+        Ok((folder, found)) => Ok(opened.push(Some(folder), found)?),
+        Err(fault) => Err(fault.into()),
+    }
+}
+
+/// Opens each folder.
+fn push_each(
+    alloc: Global,
+    opened: &mut Opened<TestFolder>,
+    folders: &[(u64, usize)],
+    moments: &[Moment],
+) -> Result<(), Fail> {
+    for (at, (site, number)) in folders.iter().enumerate() {
+        let store = saved(alloc, at, *site, *number, moments)?;
+        push(alloc, opened, store)?;
+    }
+    Ok(())
+}
+
+/// Of which save this record is. 0: of none.
+fn save_of(alloc: Global, record: &Option<ServiceRecord>, moments: &[Moment]) -> usize {
+    let Some(record) = record else {
+        return 0;
+    };
+    for (at, moment) in moments.iter().enumerate() {
+        if is_record(alloc, record, moment) {
+            return at.wrapping_add(1);
+        }
+    }
+    0
+}
+
+/// From which save a start goes on that opened these folders.
+fn begun<R: Threads + Sync>(
+    rt: &R,
+    alloc: Global,
+    opened: Opened<TestFolder>,
+    moments: &[Moment],
+) -> Result<usize, FoldersFault> {
+    match opened.begin(rt, alloc) {
+        Ok((copies, record)) => {
+            drop(copies);
+            Ok(save_of(alloc, &record, moments))
+        }
+        Err(fault) => Err(fault),
+    }
+}
+
+fn check_row<R: Threads + Sync + Abort>(
+    rt: &R,
+    alloc: Global,
+    moments: &[Moment],
+    row: &Row,
+) -> Result<(), Fail> {
+    let (folders, expected) = *row;
+    let mut opened = Opened::new(alloc, 7);
+    push_each(alloc, &mut opened, &folders, moments)?;
+    let begun = begun(rt, alloc, opened, moments);
+    assert!(rt; begun == expected, "{folders:?}: {begun:?}");
+    Ok(())
+}
+
+#[test]
+fn a_start_goes_on_from_the_newest_save_of_one_site(rt: HostRuntime) -> Result<(), Fail> {
+    let moments = moments_of(&rt, rt.alloc(), 0, &SMALL_ITEMS[..2])?;
+    for row in &ROWS {
+        check_row(&rt, rt.alloc(), &moments, row)?;
+    }
+    Ok(())
+}
