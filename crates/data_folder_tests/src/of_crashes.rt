@@ -4,10 +4,9 @@
 //! else it may leave). After the first call that fails a folder makes no more. So each row stops one of the two files at the
 //! call of one number, and looks at what is there afterwards: what the last save that answered Ok has made, or the next one.
 
-use crate::commands::{LARGE_ITEMS, SMALL_ITEMS};
 use crate::files::{ALL, Calls, Layout, SMALL, USUAL};
 use crate::saves::{is_old_or_new, new_folder, save_all, saves_after_crash};
-use crate::services::{Moment, moments_of};
+use crate::services::{Moment, large_moments, small_moments};
 use std::alloc::Global;
 use std::process::Abort;
 use std::test::Fail;
@@ -72,7 +71,7 @@ fn stop_at_each(
 #[test]
 fn a_crash_at_each_call_leaves_the_last_save_or_the_next(rt: HostRuntime) -> Result<(), Fail> {
     let alloc = rt.alloc();
-    let moments = moments_of(&rt, alloc, 0, &SMALL_ITEMS)?;
+    let moments = small_moments(&rt, alloc, 0, 16)?;
     let of_log = stop_at_each(&rt, alloc, &moments, SMALL, Stopped::Log, 1)?;
     let of_db = stop_at_each(&rt, alloc, &moments, SMALL, Stopped::Db, 1)?;
     assert!(rt; of_log > 200 && of_db > 100, "{of_log} {of_db}");
@@ -83,7 +82,7 @@ fn a_crash_at_each_call_leaves_the_last_save_or_the_next(rt: HostRuntime) -> Res
 #[test]
 fn a_crash_while_items_come_into_their_rows(rt: HostRuntime) -> Result<(), Fail> {
     let alloc = rt.alloc();
-    let moments = moments_of(&rt, alloc, 0, &LARGE_ITEMS)?;
+    let moments = large_moments(&rt, alloc)?;
     let of_log = stop_at_each(&rt, alloc, &moments, USUAL, Stopped::Log, 701)?;
     let of_db = stop_at_each(&rt, alloc, &moments, USUAL, Stopped::Db, 701)?;
     assert!(rt; of_log > 2 && of_db > 1, "{of_log} {of_db}");

@@ -1,12 +1,11 @@
 //! A byte changed in one of the files of a folder: it is reported when they are opened or read, or the record of the last
 //! save is found, or that of the one before.
 
-use crate::commands::SMALL_ITEMS;
-use crate::files::{ALL, Image, LOGGED, TestStore, image_of, opened, short};
+use crate::files::{Image, LOGGED, TestStore, image_of, opened, short};
 use crate::saves::{
-    ALONE, TestFolder, WANTED, found_in, is_old_or_new, new_folder, save, save_all, saves_in,
+    ALONE, TestFolder, WANTED, found_in, good_folder, is_old_or_new, save, save_all, saves_in,
 };
-use crate::services::{Moment, moments_of};
+use crate::services::{Moment, small_moments};
 use data_folder::DataFolder;
 use sqlite_disk::Files;
 use std::alloc::Global;
@@ -32,7 +31,7 @@ enum Damaged {
 
 /// A folder after these saves, with an empty log.
 fn settled(alloc: Global, moments: &[Moment]) -> Result<TestStore, Fail> {
-    let mut folder = new_folder(alloc, LOGGED, ALL)?.ok_or("it is not made")?;
+    let mut folder = good_folder(alloc, LOGGED)?;
     let saved = save_all(alloc, &mut folder, moments);
     let mut store = folder.into_store();
     store.checkpoint()?;
@@ -144,7 +143,7 @@ fn a_damaged_byte_of_the_log_leaves_the_last_save_or_the_one_before(
     rt: HostRuntime,
 ) -> Result<(), Fail> {
     let alloc = rt.alloc();
-    let moments = moments_of(&rt, alloc, 0, &SMALL_ITEMS)?;
+    let moments = small_moments(&rt, alloc, 0, 16)?;
     let mut saved = saved_files(alloc, &moments)?;
     let (told, untold) = damage_each(&rt, alloc, &moments, &mut saved, Damaged::Log)?;
     assert!(rt; untold > 50, "{told} {untold}");
@@ -157,7 +156,7 @@ fn a_damaged_byte_of_the_database_is_told_or_leaves_the_last_save(
     rt: HostRuntime,
 ) -> Result<(), Fail> {
     let alloc = rt.alloc();
-    let moments = moments_of(&rt, alloc, 0, &SMALL_ITEMS)?;
+    let moments = small_moments(&rt, alloc, 0, 16)?;
     let mut saved = saved_files(alloc, &moments)?;
     let (told, untold) = damage_each(&rt, alloc, &moments, &mut saved, Damaged::Db)?;
     assert!(rt; told > 50, "{told} {untold}");

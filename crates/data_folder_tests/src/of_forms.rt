@@ -1,11 +1,11 @@
 //! States of each size, and what goes on from them. After each save there is a crash, and the folder is opened again for
 //! the next one.
 
-use crate::commands::{FEW_ITEMS, SMALL_ITEMS};
-use crate::files::{ALL, TestStore, USUAL};
-use crate::saves::{ALONE, TestFolder, WANTED, found_in, new_folder, save, save_all, saves_found};
+use crate::files::{TestStore, USUAL};
+use crate::saves::{ALONE, TestFolder, WANTED, found_in, good_folder, save, save_all, saves_found};
 use crate::services::{
-    Moment, answer_of, moments_before, moments_behind, moments_of, moments_shrinking,
+    Moment, answer_of, few_moments, moments_before, moments_behind, moments_shrinking,
+    small_moments,
 };
 use data_folder::{DataFolder, Wanted};
 use sqlite_trees::store::Reopen;
@@ -70,7 +70,7 @@ fn check_each(
     moments: &[Moment],
     wanted: Wanted,
 ) -> Result<(), Fail> {
-    let mut folder = new_folder(alloc, USUAL, ALL)?.ok_or("it is not made")?;
+    let mut folder = good_folder(alloc, USUAL)?;
     for (at, moment) in moments.iter().enumerate() {
         let row = (at.wrapping_add(1), moment);
         folder = after_save(rt, alloc, folder, moments, row, wanted)?;
@@ -87,19 +87,19 @@ fn a_service_that_was_asked_nothing_is_found(rt: HostRuntime) -> Result<(), Fail
 
 #[test]
 fn no_items_and_one_are_found(rt: HostRuntime) -> Result<(), Fail> {
-    let moments = moments_of(&rt, rt.alloc(), 0, &FEW_ITEMS)?;
+    let moments = few_moments(&rt, rt.alloc())?;
     check_each(&rt, rt.alloc(), &moments, WANTED)
 }
 
 #[test]
 fn each_save_is_found(rt: HostRuntime) -> Result<(), Fail> {
-    let moments = moments_of(&rt, rt.alloc(), 0, &SMALL_ITEMS)?;
+    let moments = small_moments(&rt, rt.alloc(), 0, 16)?;
     check_each(&rt, rt.alloc(), &moments, WANTED)
 }
 
 #[test]
 fn each_save_of_three_executors_is_found(rt: HostRuntime) -> Result<(), Fail> {
-    let moments = moments_of(&rt, rt.alloc(), 1, &SMALL_ITEMS)?;
+    let moments = small_moments(&rt, rt.alloc(), 1, 16)?;
     check_each(&rt, rt.alloc(), &moments, OF_THREE)
 }
 
@@ -118,7 +118,7 @@ fn a_state_that_shrinks_from_1025_items_is_found(rt: HostRuntime) -> Result<(), 
 
 /// The store after all saves.
 fn saved(alloc: Global, moments: &[Moment]) -> Result<TestStore, Fail> {
-    let mut folder = new_folder(alloc, USUAL, ALL)?.ok_or("it is not made")?;
+    let mut folder = good_folder(alloc, USUAL)?;
     let count = save_all(alloc, &mut folder, moments);
     let store = folder.into_store();
     if count == moments.len() {
@@ -133,7 +133,7 @@ fn saved(alloc: Global, moments: &[Moment]) -> Result<TestStore, Fail> {
 #[test]
 fn a_service_goes_on_from_what_is_found(rt: HostRuntime) -> Result<(), Fail> {
     let alloc = rt.alloc();
-    let moments = moments_of(&rt, alloc, 0, &SMALL_ITEMS)?;
+    let moments = small_moments(&rt, alloc, 0, 16)?;
     let store = saved(alloc, &moments)?;
     let found = found_in(alloc, store, WANTED)?.ok_or("it is not found")?;
     let answer = answer_of(&rt, alloc, found.into_service(), b"get b c d\r\n")?;

@@ -1,9 +1,8 @@
 //! All that a crash may leave: of what was written since the last sync of a file, any blocks may be on the disk.
 
-use crate::commands::SMALL_ITEMS;
 use crate::files::{ALL, Calls, Image, SMALL, TestDisk, image_of, opened};
 use crate::saves::{TestFolder, is_old_or_new, new_folder, save_all, saves_of};
-use crate::services::{Moment, moments_of};
+use crate::services::{Moment, small_moments};
 use sqlite_disk::{Crash, Files};
 use std::alloc::{AllocError, Global};
 use std::process::Abort;
@@ -209,7 +208,7 @@ fn open_all_left(rt: &impl Abort, alloc: Global, moments: &[Moment]) -> Result<u
 #[test]
 fn a_crash_leaves_any_blocks_that_were_not_synced(rt: HostRuntime) -> Result<(), Fail> {
     let alloc = rt.alloc();
-    let moments = moments_of(&rt, alloc, 0, &SMALL_ITEMS[..SAVES])?;
+    let moments = small_moments(&rt, alloc, 0, SAVES)?;
     let choices = open_all_left(&rt, alloc, &moments)?;
     assert!(rt; choices > 500, "{choices}");
     Ok(())

@@ -1,11 +1,10 @@
 //! Each call that allocates: with ample memory it succeeds, and if an allocation fails the folder has the last save that
 //! answered Ok. `scripts/refusals` has each allocation fail in turn.
 
-use crate::commands::SMALL_ITEMS;
 use crate::contents::content_of;
-use crate::files::{ALL, Image, TestDisk, USUAL, image_of, opened};
-use crate::saves::{ALONE, TestFolder, WANTED, found_in, new_folder, save, saves_found};
-use crate::services::{Moment, moments_of};
+use crate::files::{Image, TestDisk, USUAL, image_of, opened};
+use crate::saves::{ALONE, TestFolder, WANTED, found_in, good_folder, save, saves_found};
+use crate::services::{Moment, small_moments};
 use server::SaveFault;
 use sqlite_disk::Files;
 use std::alloc::{AllocError, Global};
@@ -78,7 +77,7 @@ fn saves_again(alloc: Global, left: &Left, moments: &[Moment]) -> Option<usize> 
 
 /// Whether all that is found after all saves may be found. `None`: an allocation failed before the folder was there.
 fn finds_a_save(alloc: Global, moments: &[Moment]) -> Option<bool> {
-    let mut folder = new_folder(alloc, USUAL, ALL).ok()??;
+    let mut folder = good_folder(alloc, USUAL).ok()?;
     let (old, new) = save_each(alloc, &mut folder, moments);
     let left = left_of(alloc, folder).ok()?;
     let found = saves_again(alloc, &left, moments);
@@ -87,7 +86,7 @@ fn finds_a_save(alloc: Global, moments: &[Moment]) -> Option<bool> {
 
 /// Whether each save succeeds, and is found.
 fn saves_each(alloc: Global, moments: &[Moment]) -> Option<bool> {
-    let mut folder = new_folder(alloc, USUAL, ALL).ok()??;
+    let mut folder = good_folder(alloc, USUAL).ok()?;
     let saved = save_each(alloc, &mut folder, moments);
     let is_open = !folder.is_shut();
     let found = found_in(alloc, folder.into_store(), WANTED).ok()?;
@@ -97,7 +96,7 @@ fn saves_each(alloc: Global, moments: &[Moment]) -> Option<bool> {
 
 #[test]
 fn each_call_succeeds_with_ample_memory(rt: HostRuntime) -> Result<(), Fail> {
-    let moments = moments_of(&rt, rt.alloc(), 0, &SMALL_ITEMS[..2])?;
+    let moments = small_moments(&rt, rt.alloc(), 0, 2)?;
     assert!(rt; moments.len() == 2 && are_as_commanded(rt.alloc(), &moments));
     assert!(rt; saves_each(rt.alloc(), &moments) == Some(true));
     assert!(rt; finds_a_save(rt.alloc(), &moments) == Some(true));
@@ -106,7 +105,7 @@ fn each_call_succeeds_with_ample_memory(rt: HostRuntime) -> Result<(), Fail> {
 
 #[test]
 fn a_refused_growth_leaves_the_last_save(rt: HostRuntime) -> Result<(), Fail> {
-    let Ok(moments) = moments_of(&rt, rt.alloc(), 0, &SMALL_ITEMS[..2]) else {
+    let Ok(moments) = small_moments(&rt, rt.alloc(), 0, 2) else {
         return Ok(());
     };
     if are_as_commanded(rt.alloc(), &moments) {

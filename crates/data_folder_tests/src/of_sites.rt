@@ -1,9 +1,8 @@
 //! Copies in three folders, some of them of another site, or of an earlier save.
 
-use crate::commands::SMALL_ITEMS;
-use crate::files::{ALL, TestStore, USUAL};
-use crate::saves::{TestFolder, is_record, new_folder, save};
-use crate::services::{Moment, moments_of};
+use crate::files::{TestStore, USUAL};
+use crate::saves::{TestFolder, good_folder, is_record, save};
+use crate::services::{Moment, small_moments};
 use data_folder::{CopyId, DataFault, DataFolder, Wanted};
 use data_folders::{FoldersFault, Opened};
 use service::ServiceRecord;
@@ -51,7 +50,7 @@ fn saved(
         folders: 3,
     };
     let moment = moments.get(number.wrapping_sub(1)).ok_or("no moment")?;
-    let mut folder = new_folder(alloc, USUAL, ALL)?.ok_or("it is not made")?;
+    let mut folder = good_folder(alloc, USUAL)?;
     save(alloc, &mut folder, id, number, moment)?;
     Ok(folder.into_store())
 }
@@ -123,7 +122,7 @@ fn check_row<R: Threads + Sync + Abort>(
 
 #[test]
 fn a_start_goes_on_from_the_newest_save_of_one_site(rt: HostRuntime) -> Result<(), Fail> {
-    let moments = moments_of(&rt, rt.alloc(), 0, &SMALL_ITEMS[..2])?;
+    let moments = small_moments(&rt, rt.alloc(), 0, 2)?;
     for row in &ROWS {
         check_row(&rt, rt.alloc(), &moments, row)?;
     }

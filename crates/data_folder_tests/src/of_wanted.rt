@@ -1,9 +1,8 @@
 //! What is asked of a folder, and what it has.
 
-use crate::commands::SMALL_ITEMS;
 use crate::files::{ALL, TestStore, USUAL, made};
-use crate::saves::{ALONE, NEW, WANTED, new_folder, save, stamp_of};
-use crate::services::{Moment, moments_of};
+use crate::saves::{ALONE, NEW, WANTED, good_folder, save, stamp_of};
+use crate::services::{Moment, small_moments};
 use data_folder::{CopyId, DataFault, DataFolder, FoundCopy, HostFolder, Wanted};
 use std::alloc::Global;
 use std::process::Abort;
@@ -36,7 +35,7 @@ const ROWS: [Row; 8] = [
 
 /// The store after one save.
 fn saved(alloc: Global, id: CopyId, moment: &Moment) -> Result<TestStore, Fail> {
-    let mut folder = new_folder(alloc, USUAL, ALL)?.ok_or("it is not made")?;
+    let mut folder = good_folder(alloc, USUAL)?;
     save(alloc, &mut folder, id, 1, moment)?;
     Ok(folder.into_store())
 }
@@ -50,7 +49,7 @@ fn site_of(found: Option<FoundCopy>) -> Result<u64, DataFault> {
 }
 
 /// What an open of the store answers.
-fn answer_of(alloc: Global, store: TestStore, wanted: Wanted) -> Result<u64, DataFault> {
+fn opening_of(alloc: Global, store: TestStore, wanted: Wanted) -> Result<u64, DataFault> {
     match DataFolder::over(alloc, store, wanted) {
         Ok((folder, found)) => {
             drop(folder);
@@ -63,7 +62,7 @@ fn answer_of(alloc: Global, store: TestStore, wanted: Wanted) -> Result<u64, Dat
 fn check_row(rt: &impl Abort, alloc: Global, moment: &Moment, row: &Row) -> Result<(), Fail> {
     let (id, (is_new, u, folders), expected) = *row;
     let store = saved(alloc, id, moment)?;
-    let answer = answer_of(alloc, store, wanted(is_new, u, folders));
+    let answer = opening_of(alloc, store, wanted(is_new, u, folders));
     assert!(rt;
         answer == expected,
         "{id:?} {is_new} {u} {folders}: {answer:?}"
@@ -74,7 +73,7 @@ fn check_row(rt: &impl Abort, alloc: Global, moment: &Moment, row: &Row) -> Resu
 #[test]
 fn each_folder_that_is_not_as_wanted_has_its_fault(rt: HostRuntime) -> Result<(), Fail> {
     let alloc = rt.alloc();
-    let moments = moments_of(&rt, alloc, 0, &SMALL_ITEMS[..1])?;
+    let moments = small_moments(&rt, alloc, 0, 1)?;
     let first = moments.first().ok_or("no moment")?;
     for row in &ROWS {
         check_row(&rt, alloc, first, row)?;
@@ -87,7 +86,7 @@ fn each_folder_that_is_not_as_wanted_has_its_fault(rt: HostRuntime) -> Result<()
 fn a_folder_in_which_nothing_was_saved_has_nothing(rt: HostRuntime) -> Result<(), Fail> {
     for row in [NEW, WANTED, wanted(false, 3, 5), wanted(true, 3, 5)] {
         let store = made(rt.alloc(), USUAL, ALL)?.ok_or("it is not made")?;
-        let answer = answer_of(rt.alloc(), store, row);
+        let answer = opening_of(rt.alloc(), store, row);
         assert!(rt; answer == Err(DataFault::NoData), "{row:?}: {answer:?}");
     }
     Ok(())

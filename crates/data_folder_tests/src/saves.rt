@@ -1,7 +1,7 @@
 //! Saves in a folder, and which of them it is found with.
 
 use crate::contents::content_of;
-use crate::files::{Calls, Layout, TestStore, made};
+use crate::files::{ALL, Calls, Layout, TestStore, made};
 use crate::services::Moment;
 use data_folder::{CopyId, DataFault, DataFolder, FoundCopy, SaveCopy, StoredRecord, Wanted};
 use folders::SaveStamp;
@@ -58,6 +58,11 @@ pub fn new_folder(
         }
         Err(_) => Ok(None),
     }
+}
+
+/// A folder without data, whose files do not stop.
+pub fn good_folder(alloc: Global, layout: Layout) -> Result<TestFolder, DataFault> {
+    new_folder(alloc, layout, ALL)?.ok_or(DataFault::Disk)
 }
 
 /// Makes the save of this number.

@@ -1,9 +1,9 @@
 //! Services that are asked commands, and what is saved of them.
 
-use crate::commands::Command;
+use crate::commands::{Command, FEW_ITEMS, LARGE_ITEMS, SMALL_ITEMS};
 use crate::contents::Content;
 use data_folder::StoredRecord;
-use service::{Config, Dialect, Fault, Replica, Service, ServiceRecord};
+use service::{Config, Dialect, Fault, Replica, Said, Service, ServiceRecord};
 use std::alloc::{AllocError, Global};
 use std::rt::Clock;
 use std::sync::Wait;
@@ -35,6 +35,11 @@ fn piece_of(alloc: Global, command: &Command) -> Result<Vec<u8>, AllocError> {
     Ok(piece)
 }
 
+/// What the one connection of a service was given is written: else it is not asked for more.
+fn write(service: &mut Service, said: &Said) {
+    let _ = service.written(0, 1, said.bytes.len());
+}
+
 /// The one connection of a service asks this, and the replicas work.
 fn ask<R: Threads + Wait + Sync + Clock>(
     rt: &R,
@@ -44,9 +49,10 @@ fn ask<R: Threads + Wait + Sync + Clock>(
     piece: Vec<u8>,
 ) -> Result<(), Fault> {
     let said = service.hear(alloc, 0, 1, piece)?;
-    drop(said);
-    let given = service.work(rt, rt, alloc, moment);
-    drop(given);
+    write(service, &said);
+    for said in service.work(rt, rt, alloc, moment) {
+        write(service, &said);
+    }
     Ok(())
 }
 
@@ -99,7 +105,7 @@ fn push_each<R: Threads + Wait + Sync + Clock>(
 /// A service of `2u + 1` executors.
 fn service_of(alloc: Global, u: u8) -> Result<Service, Fault> {
     let config = Config::new(u, PROXIES)?;
-    Ok(Service::open(alloc, &config, Dialect::Profile)?)
+    Service::open(alloc, &config, Dialect::Profile)
 }
 
 fn play<R: Threads + Wait + Sync + Clock>(
@@ -114,7 +120,7 @@ fn play<R: Threads + Wait + Sync + Clock>(
 }
 
 /// What a service of `2u + 1` executors has after each command.
-pub fn moments_of<R: Threads + Wait + Sync + Clock>(
+fn moments_of<R: Threads + Wait + Sync + Clock>(
     rt: &R,
     alloc: Global,
     u: u8,
@@ -128,6 +134,32 @@ pub fn moments_of<R: Threads + Wait + Sync + Clock>(
     Ok(moments)
 }
 
+/// What a service of `2u + 1` executors has after each of the first so many commands of `SMALL_ITEMS`.
+pub fn small_moments<R: Threads + Wait + Sync + Clock>(
+    rt: &R,
+    alloc: Global,
+    u: u8,
+    count: usize,
+) -> Result<Vec<Moment>, Fault> {
+    moments_of(rt, alloc, u, &SMALL_ITEMS[..count.min(SMALL_ITEMS.len())])
+}
+
+/// What a service of one executor has after each of `LARGE_ITEMS`.
+pub fn large_moments<R: Threads + Wait + Sync + Clock>(
+    rt: &R,
+    alloc: Global,
+) -> Result<Vec<Moment>, Fault> {
+    moments_of(rt, alloc, 0, &LARGE_ITEMS)
+}
+
+/// What a service of one executor has after each of `FEW_ITEMS`.
+pub fn few_moments<R: Threads + Wait + Sync + Clock>(
+    rt: &R,
+    alloc: Global,
+) -> Result<Vec<Moment>, Fault> {
+    moments_of(rt, alloc, 0, &FEW_ITEMS)
+}
+
 /// What a service of one executor has that was asked nothing.
 pub fn moments_before(alloc: Global) -> Result<Vec<Moment>, Fault> {
     let mut moments = Vec::with_capacity(alloc, 1)?;
@@ -138,7 +170,8 @@ pub fn moments_before(alloc: Global) -> Result<Vec<Moment>, Fault> {
     };
     let first = moment_of(alloc, &service, content);
     service.end();
-    moments.push(first?)?;
+    let first = first?;
+    moments.push(first)?;
     Ok(moments)
 }
 
