@@ -128,3 +128,101 @@ fn a_start_goes_on_from_the_newest_save_of_one_site(rt: HostRuntime) -> Result<(
     }
     Ok(())
 }
+
+/// What one of three folders has.
+#[derive(Clone, Copy, Debug)]
+enum Has {
+    /// It cannot be opened.
+    NotOpen,
+    /// It is open, and nothing was saved in it.
+    Nothing,
+    Save(usize),
+}
+
+const CHOICES: [Has; 4] = [Has::NotOpen, Has::Nothing, Has::Save(1), Has::Save(2)];
+
+/// Opens one more folder, which has this.
+fn push_choice(
+    alloc: Global,
+    opened: &mut Opened<TestFolder>,
+    at: usize,
+    has: Has,
+    moments: &[Moment],
+) -> Result<(), Fail> {
+    match has {
+        Has::NotOpen => Ok(opened.push(None, None)?),
+        Has::Nothing => push(alloc, opened, good_folder(alloc, USUAL)?.into_store()),
+        Has::Save(number) => push(alloc, opened, saved(alloc, at, 7, number, moments)?),
+    }
+}
+
+/// Opens each folder.
+fn push_choices(
+    alloc: Global,
+    opened: &mut Opened<TestFolder>,
+    row: &[Has],
+    moments: &[Moment],
+) -> Result<(), Fail> {
+    for (at, has) in row.iter().enumerate() {
+        push_choice(alloc, opened, at, *has, moments)?;
+    }
+    Ok(())
+}
+
+/// In how many folders nothing was saved, in how many something was, and the last save in any of them.
+fn counts_of(row: &[Has]) -> (usize, usize, usize) {
+    let (mut empty, mut readable, mut last) = (0usize, 0usize, 0usize);
+    for has in row {
+        match has {
+            Has::NotOpen => {}
+            Has::Nothing => empty = empty.wrapping_add(1),
+            Has::Save(number) => {
+                readable = readable.wrapping_add(1);
+                last = last.max(*number);
+            }
+        }
+    }
+    (empty, readable, last)
+}
+
+/// Two of three have to be read, or all three are empty. The last save that is read is the one.
+fn expected_of(row: &[Has]) -> Result<usize, FoldersFault> {
+    let (empty, readable, last) = counts_of(row);
+    if empty == 3 {
+        Ok(0)
+    } else if readable < 2 {
+        Err(FoldersFault::TooFew {
+            readable,
+            folders: 3,
+        })
+    } else {
+        Ok(last)
+    }
+}
+
+fn check_choices<R: Threads + Sync + Abort>(
+    rt: &R,
+    alloc: Global,
+    moments: &[Moment],
+    row: [Has; 3],
+) -> Result<(), Fail> {
+    let mut opened = Opened::new(alloc, 7);
+    push_choices(alloc, &mut opened, &row, moments)?;
+    let begun = begun(rt, alloc, opened, moments);
+    assert!(rt; begun == expected_of(&row), "{row:?}: {begun:?}");
+    Ok(())
+}
+
+#[test]
+fn a_start_needs_two_of_three_folders(rt: HostRuntime) -> Result<(), Fail> {
+    let moments = small_moments(&rt, rt.alloc(), 0, 2)?;
+    for row in 0..64usize {
+        let choices = [
+            CHOICES[row % 4],
+            CHOICES[row / 4 % 4],
+            CHOICES[row / 16 % 4],
+        ];
+        check_choices(&rt, rt.alloc(), &moments, choices)?;
+    }
+    Ok(())
+}
