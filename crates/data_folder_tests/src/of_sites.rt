@@ -78,12 +78,12 @@ fn push_each(
 }
 
 /// Of which save this record is. 0: of none.
-fn save_of(alloc: Global, record: &Option<ServiceRecord>, moments: &[Moment]) -> usize {
-    let Some(record) = record else {
+fn save_of(alloc: Global, kept: &Option<ServiceRecord>, moments: &[Moment]) -> usize {
+    let Some(kept) = kept else {
         return 0;
     };
     for (at, moment) in moments.iter().enumerate() {
-        if is_record(alloc, record, moment) {
+        if is_record(alloc, kept, moment) {
             return at.wrapping_add(1);
         }
     }

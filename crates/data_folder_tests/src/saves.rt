@@ -106,8 +106,8 @@ pub fn found_in<S: Store + Drop>(
 
 /// Whether this record is the one that was saved: it has the text, and the items that the commands left. False also if an
 /// allocation fails.
-pub fn is_record(alloc: Global, record: &ServiceRecord, moment: &Moment) -> bool {
-    let Ok(again) = StoredRecord::of(alloc, record) else {
+pub fn is_record(alloc: Global, kept: &ServiceRecord, moment: &Moment) -> bool {
+    let Ok(again) = StoredRecord::of(alloc, kept) else {
         return false;
     };
     let is_text = again.text.as_slice() == moment.stored.text.as_slice();

@@ -300,11 +300,11 @@ fn answer_to<R: Threads + Wait + Sync + Clock>(
 pub fn answer_of<R: Threads + Wait + Sync + Clock>(
     rt: &R,
     alloc: Global,
-    record: ServiceRecord,
+    kept: ServiceRecord,
     bytes: &[u8],
 ) -> Result<Vec<u8>, Fault> {
-    let number = record.next();
-    let mut service = Service::reopen(alloc, record, Dialect::Profile)?;
+    let number = kept.next();
+    let mut service = Service::reopen(alloc, kept, Dialect::Profile)?;
     let answer = answer_to(rt, alloc, &mut service, number, bytes);
     service.end();
     answer
