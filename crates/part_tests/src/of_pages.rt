@@ -553,7 +553,7 @@ fn step_with_undo(
 fn first_chain(alloc: Global) -> Result<Vec<Made>, AllocError> {
     let state = new_state(alloc, Layout::Sorted)?;
     let digests = digests_of(&state.0);
-    vec![in alloc; (state, digests)]
+    Ok(vec![in alloc; (state, digests)]?)
 }
 
 /// The first of 1,000 steps that is not right, and what of it is.
