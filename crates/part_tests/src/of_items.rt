@@ -201,19 +201,13 @@ fn sets_twenty(alloc: Global, store: &mut PlainStore) -> Result<bool, AllocError
     Ok(true)
 }
 
-/// Whether the twenty are set, and then counted and dropped as they are due.
-fn is_right_of_twenty(alloc: Global, store: &mut PlainStore) -> Result<bool, AllocError> {
-    let is_same = sets_twenty(alloc, store)?;
-    let counts = counted_again(store)?;
-    let looks = store.drop_due_counted(1022)?;
-    Ok(is_same && counts == (13, 3, 10) && looks == 6)
-}
-
 /// With `--fail-alloc N` one allocation of it fails, for each N.
 #[test]
 fn a_refused_put_changes_nothing(rt: HostRuntime) -> Result<(), Fail> {
     let mut store = PlainStore::new(rt.alloc());
-    let is_right = is_right_of_twenty(rt.alloc(), &mut store)?;
-    assert!(rt; is_right);
+    let is_same = sets_twenty(rt.alloc(), &mut store)?;
+    let counts = counted_again(&store)?;
+    let looks = store.drop_due_counted(1022)?;
+    assert!(rt; is_same && counts == (13, 3, 10) && looks == 6);
     Ok(())
 }

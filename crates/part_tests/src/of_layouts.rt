@@ -206,24 +206,17 @@ fn tell_one_item(alloc: Global, kept: &Snapshot) -> Result<bool, AllocError> {
     Ok(tells_one_item(alloc, kept, Layout::Sorted)? && tells_one_item(alloc, kept, Layout::Tree)?)
 }
 
-/// Whether sorted pages go there and back, and whether one item more is told of them.
-fn of_sorted(alloc: Global) -> Result<[bool; 2], AllocError> {
-    let sorted = afresh(alloc, Layout::Sorted, 1)?;
-    let are_same = go_there_and_back(alloc, &sorted)?;
-    Ok([are_same, tell_one_item(alloc, &sorted)?])
-}
-
-fn of_trees(alloc: Global) -> Result<bool, AllocError> {
-    let trees = afresh(alloc, Layout::Tree, 1)?;
-    tell_one_item(alloc, &trees)
-}
-
 #[test]
 fn sorted_pages_become_trees_and_sorted_again(rt: HostRuntime) -> Result<(), Fail> {
-    let of_sorted = of_sorted(rt.alloc())?;
-    assert!(rt; of_sorted[0], "there and back");
-    assert!(rt; of_sorted[1], "one item more is told of sorted pages");
-    assert!(rt; of_trees(rt.alloc())?, "one item more is told of trees");
+    let sorted = afresh(rt.alloc(), Layout::Sorted, 1)?;
+    let are_same = go_there_and_back(rt.alloc(), &sorted)?;
+    let of_sorted = tell_one_item(rt.alloc(), &sorted)?;
+    let of_trees = tell_one_item(rt.alloc(), &afresh(rt.alloc(), Layout::Tree, 1)?)?;
+    assert!(rt; are_same, "there and back");
+    assert!(rt;
+        of_sorted && of_trees,
+        "one item more is told: {of_sorted} {of_trees}"
+    );
     Ok(())
 }
 

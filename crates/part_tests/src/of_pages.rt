@@ -303,20 +303,14 @@ fn has_sizes(text: &Text, sizes: &[usize]) -> bool {
 fn shares_large_data(alloc: Global, kept: &Snapshot) -> Result<bool, AllocError> {
     let mut bytes = Vec::new(alloc);
     kept.put_text(LARGE, &mut bytes)?;
-    Ok(has_digest_of(alloc, kept, &bytes)? && is_in_pieces(alloc, kept, &bytes)?)
-}
-
-/// Whether the page's digest is that of this text, and the one from scratch.
-fn has_digest_of(alloc: Global, kept: &Snapshot, bytes: &[u8]) -> Result<bool, AllocError> {
-    let entries = kept.entries(alloc, LARGE)?;
-    let scratch = digest_of(entries.as_slice(), LARGE, PAGES - 1);
-    Ok(kept.digest(LARGE) == Sha256::digest(bytes) && kept.digest(LARGE) == scratch)
-}
-
-/// Whether the page has this text in pieces of the right sizes.
-fn is_in_pieces(alloc: Global, kept: &Snapshot, bytes: &[u8]) -> Result<bool, AllocError> {
     let text = text_of(alloc, kept, LARGE)?;
-    Ok(has_sizes(&text, &SIZES) && text.joined(alloc)?.as_slice() == bytes)
+    let entries = kept.entries(alloc, LARGE)?;
+    Ok(
+        has_sizes(&text, &SIZES)
+            && kept.digest(LARGE) == Sha256::digest(bytes.as_slice())
+            && kept.digest(LARGE) == digest_of(entries.as_slice(), LARGE, PAGES - 1)
+            && text.joined(alloc)?.as_slice() == bytes.as_slice(),
+    )
 }
 
 /// Which of the pages 97 to 101 are in the set.
@@ -419,44 +413,31 @@ fn hold_of_none(alloc: Global) -> Result<[bool; 2], AllocError> {
     Ok([is_right, only_these_differ(alloc, &none)?])
 }
 
-fn old_pages_have_roots(alloc: Global) -> Result<bool, AllocError> {
-    let mut state = new_state(alloc, Layout::Sorted)?;
-    grow(alloc, &mut state)
-}
-
-fn texts_share_large_data(alloc: Global) -> Result<bool, AllocError> {
-    let kept = with_five_sizes(alloc)?;
-    shares_large_data(alloc, &kept)
-}
-
-fn parted_pages_are_stores(alloc: Global) -> Result<bool, AllocError> {
-    let mut pages = Pages::new(alloc)?.part()?;
-    are_stores(alloc, &mut pages)
-}
-
-#[test]
-fn keys_are_on_their_pages(rt: HostRuntime) -> Result<(), Fail> {
-    for row in &PAGES_OF_KEYS {
-        assert!(rt; is_on(rt.alloc(), row)?, "{}", row.1);
-    }
-    Ok(())
-}
-
 #[test]
 fn digests_texts_and_sets_of_pages(rt: HostRuntime) -> Result<(), Fail> {
     let alloc = rt.alloc();
-    let hold = hold_of_none(alloc)?;
-    let shown = [
-        ("roots of old pages", old_pages_have_roots(alloc)?),
-        ("texts share large data", texts_share_large_data(alloc)?),
-        ("parted pages", parted_pages_are_stores(alloc)?),
-        ("a page of 1000 items", has_1000(alloc, Pages::new(alloc)?)?),
-        ("digests and texts", hold[0]),
-        ("pages that may differ", hold[1]),
-    ];
-    for (name, is_so) in &shown {
-        assert!(rt; *is_so, "{name}");
+    for row in &PAGES_OF_KEYS {
+        assert!(rt; is_on(alloc, row)?, "{}", row.1);
     }
+    assert!(rt;
+        grow(alloc, &mut new_state(alloc, Layout::Sorted)?)?,
+        "roots of old pages"
+    );
+    assert!(rt;
+        shares_large_data(alloc, &with_five_sizes(alloc)?)?,
+        "texts share large data"
+    );
+    assert!(rt;
+        are_stores(alloc, &mut Pages::new(alloc)?.part()?)?,
+        "parted pages"
+    );
+    assert!(rt;
+        has_1000(alloc, Pages::new(alloc)?)?,
+        "a page of 1000 items"
+    );
+    let hold = hold_of_none(alloc)?;
+    assert!(rt; hold[0], "digests and texts");
+    assert!(rt; hold[1], "pages that may differ");
     Ok(())
 }
 
@@ -507,25 +488,16 @@ fn undo(chain: &mut Vec<Made>, steps: usize) -> bool {
 fn put_and_undo(alloc: Global, made: &Made) -> Result<bool, AllocError> {
     let kept = &made.0.0;
     let put = with_five(alloc, kept, Some(7))?;
-    let differ = put.root() != kept.root() && put.digest(97) != kept.digest(97);
-    Ok(is_undone(alloc, made, &put)? && differ)
-}
-
-/// Whether it has them again after that.
-fn is_undone(alloc: Global, made: &Made, put: &Snapshot) -> Result<bool, AllocError> {
-    let undone = without_it(alloc, put)?;
-    Ok(digests_of(&undone) == made.1 && has_page_of(alloc, &undone, &made.0.0)?)
-}
-
-fn without_it(alloc: Global, put: &Snapshot) -> Result<Snapshot, AllocError> {
     let mut pages = put.open()?;
     pages.remove(&key(alloc, b"a")?)?;
-    pages.seal(Layout::Sorted)
-}
-
-/// Whether page 97 is the same in both, and has the same text.
-fn has_page_of(alloc: Global, pages: &Snapshot, kept: &Snapshot) -> Result<bool, AllocError> {
-    Ok(pages.is_same_page(alloc, kept, 97)? && has_text_of(alloc, pages, kept)?)
+    let undone = pages.seal(Layout::Sorted)?;
+    Ok(
+        put.root() != kept.root()
+            && put.digest(97) != kept.digest(97)
+            && digests_of(&undone) == made.1
+            && undone.is_same_page(alloc, kept, 97)?
+            && has_text_of(alloc, &undone, kept)?,
+    )
 }
 
 /// Whether page 97 has the same text in both.
@@ -550,35 +522,16 @@ fn step_with_undo(
     Ok([is_right, is_undone, is_back])
 }
 
-fn first_chain(alloc: Global) -> Result<Vec<Made>, AllocError> {
-    let state = new_state(alloc, Layout::Sorted)?;
-    let digests = digests_of(&state.0);
-    Ok(vec![in alloc; (state, digests)]?)
-}
-
-/// The first of 1,000 steps that is not right, and what of it is.
-fn first_wrong(
-    alloc: Global,
-    chain: &mut Vec<Made>,
-) -> Result<Option<(u32, [bool; 3])>, AllocError> {
-    let mut words = Lcg64Xsh32::seed_from_u64(20);
-    for steps in 0..1000u32 {
-        let is_right = step_with_undo(alloc, &mut words, chain)?;
-        if is_right != [true; 3] {
-            return Ok(Some((steps, is_right)));
-        }
-    }
-    Ok(None)
-}
-
-fn first_wrong_of_a_chain(alloc: Global) -> Result<Option<(u32, [bool; 3])>, AllocError> {
-    let mut chain = first_chain(alloc)?;
-    first_wrong(alloc, &mut chain)
-}
-
 /// 1,000 random steps, each looked at, some of which are taken back.
 #[test]
 fn random_steps_with_undo(rt: HostRuntime) -> Result<(), Fail> {
-    assert_eq!(rt; first_wrong_of_a_chain(rt.alloc())?, None);
+    let mut words = Lcg64Xsh32::seed_from_u64(20);
+    let state = new_state(rt.alloc(), Layout::Sorted)?;
+    let digests = digests_of(&state.0);
+    let mut chain = vec![in rt.alloc(); (state, digests)]?;
+    for steps in 0..1000u32 {
+        let is_right = step_with_undo(rt.alloc(), &mut words, &mut chain)?;
+        assert!(rt; is_right == [true; 3], "{steps}: {is_right:?}");
+    }
     Ok(())
 }

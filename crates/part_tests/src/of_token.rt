@@ -121,46 +121,26 @@ fn is_no_form(alloc: Global, mark: u8) -> bool {
     read::<Form>(alloc, &[mark]) == Err(Fault::BadRecord)
 }
 
-fn token_of_a_state() -> Token {
-    let (parent, items) = (Token([0x11; 32]), [0x22; 32]);
-    Token::new(&parent, 5, 3, 1000, &items, &[0x33; 32], &[0x44; 32])
-}
-
-fn is_root() -> bool {
-    root(&numbered::<PAGES>(), HEIGHT) == ROOT
-}
-
-fn is_old_root() -> bool {
-    root(&numbered::<OLD_PAGES>(), OLD_HEIGHT) == OLD_ROOT
-}
-
-#[test]
-fn forms_have_marks(rt: HostRuntime) -> Result<(), Fail> {
-    for (form, mark) in &[(Form::Old, 1), (Form::Current, 2), (Form::Tree, 3)] {
-        assert!(rt; is_form(rt.alloc(), *form, *mark)?, "form {mark}");
-    }
-    Ok(())
-}
-
 #[test]
 fn digests_and_records(rt: HostRuntime) -> Result<(), Fail> {
-    let alloc = rt.alloc();
-    let token = token_of_a_state();
-    let shown = [
-        ("abc", is_abc()),
-        ("the token of a state", token == Token(OF_A_STATE)),
-        ("its record", is_record(alloc, &token, &OF_A_STATE)?),
-        ("a root", is_root()),
-        ("an old root", is_old_root()),
-        ("an empty page", page_digest(&[]) == EMPTY_PAGE),
-        (
-            "marks of no form",
-            is_no_form(alloc, 0) && is_no_form(alloc, 4),
-        ),
-        ("no sessions", are_digested_anew(alloc)?),
-    ];
-    for (name, is_so) in &shown {
-        assert!(rt; *is_so, "{name}");
+    let (parent, items) = (Token([0x11; 32]), [0x22; 32]);
+    let token = Token::new(&parent, 5, 3, 1000, &items, &[0x33; 32], &[0x44; 32]);
+    assert!(rt; is_abc(), "abc");
+    assert!(rt; token == Token(OF_A_STATE), "the token of a state");
+    assert!(rt; is_record(rt.alloc(), &token, &OF_A_STATE)?, "its record");
+    assert!(rt; root(&numbered::<PAGES>(), HEIGHT) == ROOT, "a root");
+    assert!(rt;
+        root(&numbered::<OLD_PAGES>(), OLD_HEIGHT) == OLD_ROOT,
+        "an old root"
+    );
+    assert!(rt; page_digest(&[]) == EMPTY_PAGE, "an empty page");
+    for (form, mark) in [(Form::Old, 1), (Form::Current, 2), (Form::Tree, 3)] {
+        assert!(rt; is_form(rt.alloc(), form, mark)?, "form {mark}");
     }
+    assert!(rt;
+        is_no_form(rt.alloc(), 0) && is_no_form(rt.alloc(), 4),
+        "marks of no form"
+    );
+    assert!(rt; are_digested_anew(rt.alloc())?, "no sessions");
     Ok(())
 }

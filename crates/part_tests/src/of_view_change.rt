@@ -70,9 +70,9 @@ fn choices(rt: HostRuntime) -> Result<(), Fail> {
         (VIEWS, 3, 2, Choice::Must(commit(1))),
         (VIEWS, 2, 2, Choice::Wait),
     ];
-    for (added, known, u, wanted) in &rows {
-        let found = choice(rt.alloc(), *added, *known, *u)?;
-        assert!(rt; found == *wanted, "{} {known} {u}", added.len());
+    for (added, known, u, wanted) in rows {
+        let found = choice(rt.alloc(), added, known, u)?;
+        assert!(rt; found == wanted, "{} {known} {u}", added.len());
     }
     Ok(())
 }
