@@ -159,68 +159,51 @@ fn the_start_is_told(rt: HostRuntime) -> Result<(), Fail> {
     Ok(())
 }
 
-/// Texts of /proc/self/statm, and the pages that they say.
-const PAGES: [(&str, Option<u64>); 4] = [
-    ("5000 1234 99 3 0 7 0\n", Some(1234)),
-    ("5000", None),
-    ("", None),
-    ("5000 x", None),
-];
-
 #[test]
 fn resident_pages_are_the_second_number(rt: HostRuntime) -> Result<(), Fail> {
-    for (text, pages) in &PAGES {
-        assert!(rt; resident_pages(*text) == *pages, "{text}");
-    }
+    assert_eq!(rt; resident_pages("5000 1234 99 3 0 7 0\n"), Some(1234));
+    assert_eq!(rt; resident_pages("5000"), None);
+    assert_eq!(rt; resident_pages(""), None);
+    assert_eq!(rt; resident_pages("5000 x"), None);
     Ok(())
 }
-
-/// Texts of /proc/self/limits, and the open files that they allow.
-const FILES: [(&str, Option<u64>); 4] = [
-    (
-        "Limit                     Soft Limit           Hard Limit           Units     \n",
-        None,
-    ),
-    (
-        "Max processes   63427    63427    processes \nMax open files            1024                 1048576              files     \nMax locked memory         8388608  8388608  bytes \n",
-        Some(1024),
-    ),
-    (
-        "Max open files            unlimited            unlimited            files     \n",
-        None,
-    ),
-    ("", None),
-];
 
 #[test]
 fn open_files_are_those_that_the_process_may_have(rt: HostRuntime) -> Result<(), Fail> {
-    for (text, files) in &FILES {
-        assert!(rt; open_files(*text) == *files, "{text}");
-    }
+    let head = "Limit                     Soft Limit           Hard Limit           Units     \n";
+    assert_eq!(rt; open_files(head), None);
+    let some =
+        "Max processes   63427    63427    processes \nMax open files            1024                 1048576              files     \nMax locked memory         8388608  8388608  bytes \n";
+    assert_eq!(rt; open_files(some), Some(1024));
+    assert_eq!(rt;
+        open_files(
+            "Max open files            unlimited            unlimited            files     \n"
+        ),
+        None
+    );
+    assert_eq!(rt; open_files(""), None);
     Ok(())
 }
-
-/// Seconds, whether it is failing then, and what is told.
-const WATCHED: [(u64, bool, SaveLine); 12] = [
-    (999, false, SaveLine::Nothing),
-    (1_000, true, SaveLine::Fails),
-    (1_001, true, SaveLine::Nothing),
-    (1_059, true, SaveLine::Nothing),
-    (1_060, true, SaveLine::Fails),
-    (1_119, true, SaveLine::Nothing),
-    (1_120, false, SaveLine::Again(120)),
-    (1_121, false, SaveLine::Nothing),
-    (1_122, true, SaveLine::Fails),
-    (900, true, SaveLine::Fails),
-    (959, true, SaveLine::Nothing),
-    (960, false, SaveLine::Again(0)),
-];
 
 #[test]
 fn a_line_of_unsaved_answers_comes_once_a_minute(rt: HostRuntime) -> Result<(), Fail> {
     let mut saves = SaveWatch::NONE;
-    for (second, is_failing, line) in &WATCHED {
-        assert!(rt; saves.look(*is_failing, *second) == *line, "{second}");
+    let rows = [
+        (999, false, SaveLine::Nothing),
+        (1_000, true, SaveLine::Fails),
+        (1_001, true, SaveLine::Nothing),
+        (1_059, true, SaveLine::Nothing),
+        (1_060, true, SaveLine::Fails),
+        (1_119, true, SaveLine::Nothing),
+        (1_120, false, SaveLine::Again(120)),
+        (1_121, false, SaveLine::Nothing),
+        (1_122, true, SaveLine::Fails),
+        (900, true, SaveLine::Fails),
+        (959, true, SaveLine::Nothing),
+        (960, false, SaveLine::Again(0)),
+    ];
+    for (second, is_failing, line) in rows {
+        assert_eq!(rt; saves.look(is_failing, second), line, "{second}");
     }
     Ok(())
 }

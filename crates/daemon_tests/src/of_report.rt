@@ -28,36 +28,26 @@ const NO_LINE: Due = Due {
     memory: None,
 };
 
-/// How many were refused by this second, and the line that is due then.
-const REFUSED: [(u64, u64, Option<u64>); 8] = [
-    (0, 10, None),
-    (3, 10, Some(3)),
-    (5, 10, None),
-    (5, 11, Some(2)),
-    (5, 12, None),
-    (6, 12, Some(1)),
-    (9, 12, None),
-    (9, 20, Some(3)),
-];
-
-/// Whether just this line is due.
-fn is_due(report: &mut Report, refused: u64, second: u64, line: Option<u64>) -> bool {
-    let totals = Totals { refused, ..NOTHING };
-    let due = Due {
-        refused: line,
-        ..NO_LINE
-    };
-    report.due(totals, second) == due
-}
-
 #[test]
 fn a_kind_has_one_line_a_second_with_all_that_came(rt: HostRuntime) -> Result<(), Fail> {
     let mut report = Report::new(NOTHING);
-    for (refused, second, line) in &REFUSED {
-        assert!(rt;
-            is_due(&mut report, *refused, *second, *line),
-            "{refused} {second}"
-        );
+    assert_eq!(rt; report.due(NOTHING, 10), NO_LINE);
+    let rows = [
+        (3, 10, Some(3)),
+        (5, 10, None),
+        (5, 11, Some(2)),
+        (5, 12, None),
+        (6, 12, Some(1)),
+        (9, 12, None),
+        (9, 20, Some(3)),
+    ];
+    for (refused, second, line) in rows {
+        let totals = Totals { refused, ..NOTHING };
+        let due = Due {
+            refused: line,
+            ..NO_LINE
+        };
+        assert_eq!(rt; report.due(totals, second), due, "{refused} {second}");
     }
     Ok(())
 }
@@ -82,8 +72,8 @@ fn kinds_do_not_wait_for_one_another(rt: HostRuntime) -> Result<(), Fail> {
         failed: Some(7),
         ..NO_LINE
     };
-    assert!(rt; report.due(first, 10) == one);
-    assert!(rt; report.due(second, 10) == other);
+    assert_eq!(rt; report.due(first, 10), one);
+    assert_eq!(rt; report.due(second, 10), other);
     Ok(())
 }
 
@@ -96,9 +86,9 @@ fn lines_are_counted_over_all_reasons(rt: HostRuntime) -> Result<(), Fail> {
     figures.connections.idle = 5;
     figures.memory.refusals = 2;
     let totals = Totals::of(&figures);
-    assert!(rt; totals.lines == 3);
-    assert!(rt; totals.idle == 5);
-    assert!(rt; totals.memory == 2);
+    assert_eq!(rt; totals.lines, 3);
+    assert_eq!(rt; totals.idle, 5);
+    assert_eq!(rt; totals.memory, 2);
     Ok(())
 }
 
@@ -110,7 +100,7 @@ fn nodes_are_counted_over_both_kinds(rt: HostRuntime) -> Result<(), Fail> {
     figures.replicas.executors[6].stops = 1;
     figures.replicas.verifiers[2].stops = 2;
     let totals = Totals::of(&figures);
-    assert!(rt; totals.stops == 6);
-    assert!(rt; totals.returns == 4, "two are down");
+    assert_eq!(rt; totals.stops, 6);
+    assert_eq!(rt; totals.returns, 4, "two are down");
     Ok(())
 }

@@ -152,78 +152,75 @@ fn limit(alloc: Global, words: &str) -> Option<u64> {
     }
 }
 
-const LIMITS: [(&str, u64); 6] = [
-    ("--max-bytes 1", 1),
-    ("--max-bytes 1000000", 1_000_000),
-    ("--max-bytes 3K", 3_072),
-    ("--max-bytes 64M", 67_108_864),
-    ("--max-bytes 4G", 4_294_967_296),
-    ("--max-bytes 17179869183G", 18_446_744_072_635_809_792),
-];
-
 #[test]
 fn a_limit_of_bytes_has_a_unit(rt: HostRuntime) -> Result<(), Fail> {
-    for (words, bytes) in &LIMITS {
-        assert!(rt; limit(rt.alloc(), *words) == Some(*bytes), "{words}");
+    let rows = [
+        ("--max-bytes 1", 1),
+        ("--max-bytes 1000000", 1_000_000),
+        ("--max-bytes 3K", 3_072),
+        ("--max-bytes 64M", 67_108_864),
+        ("--max-bytes 4G", 4_294_967_296),
+        ("--max-bytes 17179869183G", 18_446_744_072_635_809_792),
+    ];
+    for (words, bytes) in rows {
+        assert_eq!(rt; limit(rt.alloc(), words), Some(bytes), "{words}");
     }
     Ok(())
 }
-
-const HELP: [(&str, ErrorKind); 3] = [
-    ("--help", ErrorKind::DisplayHelp),
-    ("-h", ErrorKind::DisplayHelp),
-    ("--version", ErrorKind::DisplayVersion),
-];
 
 #[test]
 fn help_and_version_are_no_mistake(rt: HostRuntime) -> Result<(), Fail> {
-    for (words, kind) in &HELP {
-        assert!(rt; refusal(rt.alloc(), *words) == Some((*kind, 0)), "{words}");
+    let rows = [
+        ("--help", ErrorKind::DisplayHelp),
+        ("-h", ErrorKind::DisplayHelp),
+        ("--version", ErrorKind::DisplayVersion),
+    ];
+    for (words, kind) in rows {
+        assert_eq!(rt; refusal(rt.alloc(), words), Some((kind, 0)), "{words}");
     }
     Ok(())
 }
 
-const OTHERS: [(&str, ErrorKind); 28] = [
-    ("--u 4", ErrorKind::ValueValidation),
-    ("--u -1", ErrorKind::UnknownArgument),
-    ("--u x", ErrorKind::ValueValidation),
-    ("--u 1 --u 1", ErrorKind::ArgumentConflict),
-    ("--connections 0", ErrorKind::ValueValidation),
-    ("--connections 10001", ErrorKind::ValueValidation),
-    ("--dialect meta", ErrorKind::InvalidValue),
-    ("--idle x", ErrorKind::ValueValidation),
-    ("--idle 2147483648", ErrorKind::ValueValidation),
-    ("--max-bytes 0", ErrorKind::ValueValidation),
-    ("--max-bytes K", ErrorKind::ValueValidation),
-    (
-        "--max-bytes 1K --dialect profile",
-        ErrorKind::ArgumentConflict,
-    ),
-    ("--new", ErrorKind::MissingRequiredArgument),
-    ("--sync none", ErrorKind::MissingRequiredArgument),
-    ("--data a --sync some", ErrorKind::InvalidValue),
-    ("--data=", ErrorKind::ValueValidation),
-    ("--data", ErrorKind::InvalidValue),
-    ("--data a --data b --data a", ErrorKind::ArgumentConflict),
-    (
-        "--data a --data b --data c --data d --data e --data f --data g --data h --data i --data j",
-        ErrorKind::ValueValidation,
-    ),
-    ("--max-bytes 1k", ErrorKind::ValueValidation),
-    ("--max-bytes 17179869184G", ErrorKind::ValueValidation),
-    ("--listen 127.0.0.1", ErrorKind::ValueValidation),
-    ("--listen localhost:1", ErrorKind::ValueValidation),
-    ("--listen unix:", ErrorKind::ValueValidation),
-    ("--listen", ErrorKind::InvalidValue),
-    ("--status :80", ErrorKind::ValueValidation),
-    ("--port 11211", ErrorKind::UnknownArgument),
-    ("serve", ErrorKind::UnknownArgument),
-];
-
 #[test]
 fn other_words_are_refused(rt: HostRuntime) -> Result<(), Fail> {
-    for (words, kind) in &OTHERS {
-        assert!(rt; refusal(rt.alloc(), *words) == Some((*kind, 2)), "{words}");
+    let rows = [
+        ("--u 4", ErrorKind::ValueValidation),
+        ("--u -1", ErrorKind::UnknownArgument),
+        ("--u x", ErrorKind::ValueValidation),
+        ("--u 1 --u 1", ErrorKind::ArgumentConflict),
+        ("--connections 0", ErrorKind::ValueValidation),
+        ("--connections 10001", ErrorKind::ValueValidation),
+        ("--dialect meta", ErrorKind::InvalidValue),
+        ("--idle x", ErrorKind::ValueValidation),
+        ("--idle 2147483648", ErrorKind::ValueValidation),
+        ("--max-bytes 0", ErrorKind::ValueValidation),
+        ("--max-bytes K", ErrorKind::ValueValidation),
+        (
+            "--max-bytes 1K --dialect profile",
+            ErrorKind::ArgumentConflict,
+        ),
+        ("--new", ErrorKind::MissingRequiredArgument),
+        ("--sync none", ErrorKind::MissingRequiredArgument),
+        ("--data a --sync some", ErrorKind::InvalidValue),
+        ("--data=", ErrorKind::ValueValidation),
+        ("--data", ErrorKind::InvalidValue),
+        ("--data a --data b --data a", ErrorKind::ArgumentConflict),
+        (
+            "--data a --data b --data c --data d --data e --data f --data g --data h --data i --data j",
+            ErrorKind::ValueValidation,
+        ),
+        ("--max-bytes 1k", ErrorKind::ValueValidation),
+        ("--max-bytes 17179869184G", ErrorKind::ValueValidation),
+        ("--listen 127.0.0.1", ErrorKind::ValueValidation),
+        ("--listen localhost:1", ErrorKind::ValueValidation),
+        ("--listen unix:", ErrorKind::ValueValidation),
+        ("--listen", ErrorKind::InvalidValue),
+        ("--status :80", ErrorKind::ValueValidation),
+        ("--port 11211", ErrorKind::UnknownArgument),
+        ("serve", ErrorKind::UnknownArgument),
+    ];
+    for (words, kind) in rows {
+        assert_eq!(rt; refusal(rt.alloc(), words), Some((kind, 2)), "{words}");
     }
     Ok(())
 }

@@ -1,17 +1,15 @@
 //! How a database over files in memory is made and opened.
 
-ghost use Rattle.std.specs.Prelude.{◌≡◌, IsTrue, IfOk};
-ghost use Rattle.row_store.specs.Saved.{ChangesFit};
+ghost use Rattle.std.specs.Prelude.{◌≡◌, IsTrue, IfOk, IfSome};
 ghost use Rattle.sqlite_disk.specs.Memory.{memory_is_usable};
 ghost use Rattle.sqlite_store.specs.Unopened.{AreUsable};
 
-use row_store::{RowChange, RowStore, crash_and_reopen};
+use row_store::RowStore;
 use sqlite_disk::{Disk, Files, Fuse, Memory};
 use sqlite_pager::{Options, Pager};
 use sqlite_store::{FileStore, Unopened};
 use sqlite_trees::schema::Object;
-use sqlite_trees::store::{Reopen, Shape, Store};
-use sqlite_value::row::Row;
+use sqlite_trees::store::Shape;
 use sqlite_wal::PageSize;
 use std::alloc::Global;
 use std::test::Fail;
@@ -20,76 +18,11 @@ use std::test::Fail;
 pub type TestDisk = Fuse<Memory>;
 
 /// The rows of a database over two such files.
-pub type TestRows = Tables<FileStore<TestDisk>>;
-
-/// The rows of two tables: the items, and the last save.
-pub struct Tables<S: Store> {
-    rows: RowStore<S>,
-    ghost two: { rows.tables ≡ 2 },
-}
-
-impl<S: Store + Drop> Drop for Tables<S> {
-    fn drop(self) {
-        let Tables { rows: _ } = self;
-    }
-}
-
-impl<S: Store> Tables<S> {
-    /// Whether the changes are saved.
-    pub fn save(&mut self, changes: &[RowChange]) -> bool
-        requires { ChangesFit 2 changes.now }
-    {
-        self.rows.save(changes).is_ok()
-    }
-
-    /// The rows of the items. `None`: they cannot be read.
-    pub fn items(&mut self, alloc: Global) -> Option<Vec<Row>> {
-        self.rows.rows(alloc, 0).ok()
-    }
-
-    /// The rows of the second table. `None`: they cannot be read.
-    pub fn last(&mut self, alloc: Global) -> Option<Vec<Row>> {
-        self.rows.rows(alloc, 1).ok()
-    }
-
-    fn into_rows(self) -> RowStore<S>
-        ensures { result.tables ≡ 2 }
-    {
-        let Tables { rows } = self;
-        rows
-    }
-
-    pub fn into_store(self) -> S {
-        self.into_rows().into_store()
-    }
-}
-
-/// The rows of the two tables. `None`: the store is shut, or these are no tables.
-fn tables_of<S: Store + Drop>(store: S) -> Option<Tables<S>> {
-    match RowStore::over(store, 2) {
-        Ok(rows) => Some(Tables { rows }),
-        Err(store) => {
-            drop(store);
-            None
-        }
-    }
-}
-
-/// What a crash leaves, opened again. `None`: it does not open.
-pub fn reopened<S: Reopen + Drop>(tables: Tables<S>) -> Option<Tables<S>> {
-    match crash_and_reopen(tables.into_rows()) {
-        Ok(rows) => Some(Tables { rows }),
-        Err(store) => {
-            drop(store);
-            None
-        }
-    }
-}
+pub type TestRows = RowStore<FileStore<TestDisk>>;
 
 /// Two tables, `item` and `process`, in files that pass so many calls on.
-fn unopened(
+pub fn unopened(
     alloc: Global,
-    size: PageSize,
     log: Memory,
     db: Memory,
     log_calls: u64,
@@ -99,6 +32,7 @@ fn unopened(
     requires db { IsTrue (memory_is_usable db) }
     ensures { IfOk result AreUsable }
 {
+    let size = PageSize::new(512).ok_or("a page size")?;
     let files = Files {
         log: Fuse::new(log, log_calls),
         db: Fuse::new(db, db_calls),
@@ -119,10 +53,6 @@ fn unopened(
     Ok(Unopened::with_sums(alloc, pager, &[item, process], true)?)
 }
 
-fn page_size() -> Result<PageSize, Fail> {
-    Ok(PageSize::new(512).ok_or("a page size")?)
-}
-
 fn table(name: &'static str, sql: &'static str) -> Object<'static> {
     Object {
         shape: Shape::Table,
@@ -134,43 +64,44 @@ fn table(name: &'static str, sql: &'static str) -> Object<'static> {
     }
 }
 
-fn created(unopened: Unopened<TestDisk>) -> Option<TestRows>
-    requires { AreUsable unopened }
+/// The rows of the two tables. `None`: the store is shut, or these are no tables.
+fn rows_of(store: FileStore<TestDisk>) -> Option<TestRows>
+    ensures { IfSome result (λ rows. rows.tables ≡ 2) }
 {
-    match unopened.create() {
-        Ok(store) => tables_of(store),
-        Err((_, unopened)) => {
-            drop(unopened);
+    match RowStore::over(store, 2) {
+        Ok(rows) => Some(rows),
+        Err(store) => {
+            drop(store);
             None
         }
     }
 }
 
 /// An empty database. `None`: the disk failed before it was made.
-pub fn made(alloc: Global, log_calls: u64, db_calls: u64) -> Result<Option<TestRows>, Fail> {
-    let size = page_size()?;
-    let (log, db) = (Memory::new(alloc), Memory::new(alloc));
-    Ok(created(unopened(alloc, size, log, db, log_calls, db_calls)?))
+pub fn made(alloc: Global, log_calls: u64, db_calls: u64) -> Result<Option<TestRows>, Fail>
+    ensures { IfOk result (λ made. IfSome made (λ rows. rows.tables ≡ 2)) }
+{
+    let unopened = unopened(
+        alloc,
+        Memory::new(alloc),
+        Memory::new(alloc),
+        log_calls,
+        db_calls,
+    )?;
+    match unopened.create() {
+        Ok(store) => Ok(rows_of(store)),
+        Err((_, unopened)) => {
+            drop(unopened);
+            Ok(None)
+        }
+    }
 }
 
 /// What a file has: bytes, and then zeros up to its length.
+#[derive(Drop)]
 pub struct Image {
     pub bytes: Vec<u8>,
     pub len: usize,
-}
-
-impl Drop for Image {
-    fn drop(self) {
-        let Image { bytes: _, len: _ } = self;
-    }
-}
-
-impl Image {
-    /// The file with at most 4,096 zeros at its end: an open of it takes less time.
-    pub fn short(&mut self) {
-        let used = self.bytes.len();
-        self.len = self.len.min(used.saturating_add(4096 - used % 4096));
-    }
 }
 
 /// How many bytes there are up to the last that is not zero.
@@ -205,28 +136,22 @@ fn file_of(alloc: Global, image: &Image) -> Result<Memory, Fail>
     Ok(file)
 }
 
-fn opened_of(unopened: Unopened<TestDisk>) -> Option<TestRows>
-    requires { AreUsable unopened }
+/// The database in a log and a file with this content. `None`: the open is refused.
+pub fn opened(alloc: Global, log: &Image, db: &Image) -> Result<Option<TestRows>, Fail>
+    ensures { IfOk result (λ opened. IfSome opened (λ rows. rows.tables ≡ 2)) }
 {
+    let unopened = unopened(
+        alloc,
+        file_of(alloc, log)?,
+        file_of(alloc, db)?,
+        u64::MAX,
+        u64::MAX,
+    )?;
     match unopened.open() {
-        Ok(store) => tables_of(store),
+        Ok(store) => Ok(rows_of(store)),
         Err((_, unopened)) => {
             drop(unopened);
-            None
+            Ok(None)
         }
     }
-}
-
-/// The database in this file, and in a log with this content. `None`: the open is refused.
-fn opened_with(alloc: Global, log: &Image, db: Memory) -> Result<Option<TestRows>, Fail>
-    requires { IsTrue (memory_is_usable db) }
-{
-    let size = page_size()?;
-    let log = file_of(alloc, log)?;
-    Ok(opened_of(unopened(alloc, size, log, db, u64::MAX, u64::MAX)?))
-}
-
-/// The database in a log and a file with this content. `None`: the open is refused.
-pub fn opened(alloc: Global, log: &Image, db: &Image) -> Result<Option<TestRows>, Fail> {
-    opened_with(alloc, log, file_of(alloc, db)?)
 }

@@ -4,10 +4,12 @@
 //! row of tests stops one of the two files, or both, at the call of each number, and looks at what is there afterwards:
 //! what the saves that answered Ok have made, or that and the next one.
 
-use crate::files::{Image, Tables, TestDisk, TestRows, image_of, made, opened, reopened};
+ghost use Rattle.std.specs.Prelude.{◌≡◌};
+
+use crate::files::{Image, TestDisk, TestRows, image_of, made, opened};
 use crate::saves::{Content, SAVES, content_after, content_of, save_all};
-use sqlite_disk::{Crash, Files};
-use sqlite_trees::store::Reopen;
+use row_store::crash_and_reopen;
+use sqlite_disk::Crash;
 use std::alloc::Global;
 use std::process::Abort;
 use std::test::Fail;
@@ -18,14 +20,13 @@ fn is_old_or_new(content: Option<Content>, saved: u8) -> bool {
 }
 
 /// Makes save after save, stops, and opens again: how many were saved, and what is there.
-fn crashed<S: Reopen + Drop>(
-    alloc: Global,
-    mut tables: Tables<S>,
-) -> (Option<u8>, Option<Content>) {
-    let saved = save_all(alloc, &mut tables);
-    match reopened(tables) {
-        Some(mut again) => (saved, content_of(alloc, &mut again)),
-        None => (saved, None),
+fn crashed(alloc: Global, mut rows: TestRows) -> (Option<u8>, Option<Content>)
+    requires { rows.tables ≡ 2 }
+{
+    let saved = save_all(alloc, &mut rows);
+    match crash_and_reopen(rows) {
+        Ok(mut again) => (saved, content_of(alloc, &mut again)),
+        Err(_) => (saved, None),
     }
 }
 
@@ -79,25 +80,17 @@ fn is_written(blocks: Blocks, block: usize) -> bool {
 }
 
 /// What a machine that stopped left of a file: as it was synced last, and as it was written.
+#[derive(Drop)]
 struct Both {
     synced: Image,
     written: Image,
 }
 
-impl Drop for Both {
-    fn drop(self) {
-        let Both {
-            synced: _,
-            written: _,
-        } = self;
-    }
-}
-
-fn both_of(alloc: Global, disk: &mut TestDisk) -> Result<Both, Fail> {
-    let written = image_of(alloc, disk)?;
+fn both_of(alloc: Global, mut disk: TestDisk) -> Result<Both, Fail> {
+    let written = image_of(alloc, &disk)?;
     disk.crash();
     Ok(Both {
-        synced: image_of(alloc, disk)?,
+        synced: image_of(alloc, &disk)?,
         written,
     })
 }
@@ -125,11 +118,12 @@ fn differs(both: &Both, block: usize) -> bool {
 fn mixed(alloc: Global, both: &Both, blocks: Blocks) -> Result<Image, Fail> {
     let mut bytes = Vec::new(alloc);
     for at in 0..span(both) {
-        bytes.push(if is_written(blocks, at / 512) {
-            byte_at(&both.written, at)
+        let from = if is_written(blocks, at / 512) {
+            &both.written
         } else {
-            byte_at(&both.synced, at)
-        })?;
+            &both.synced
+        };
+        bytes.push(byte_at(from, at))?;
     }
     Ok(Image {
         bytes,
@@ -138,60 +132,31 @@ fn mixed(alloc: Global, both: &Both, blocks: Blocks) -> Result<Image, Fail> {
 }
 
 /// What a machine that stopped left, after so many saves.
+#[derive(Drop)]
 struct Left {
     saved: u8,
     log: Both,
     db: Both,
 }
 
-impl Drop for Left {
-    fn drop(self) {
-        let Left {
-            saved: _,
-            log: _,
-            db: _,
-        } = self;
-    }
-}
-
-fn left_in(alloc: Global, files: &mut Files<TestDisk>, saved: u8) -> Result<Left, Fail> {
-    Ok(Left {
-        saved,
-        log: both_of(alloc, &mut files.log)?,
-        db: both_of(alloc, &mut files.db)?,
-    })
-}
-
-/// Makes save after save, and stops.
-fn left_by(alloc: Global, mut rows: TestRows) -> Result<Left, Fail> {
-    let saved = save_all(alloc, &mut rows);
-    let mut files = rows.into_store().close();
-    match saved {
-        Some(saved) => left_in(alloc, &mut files, saved),
-        None => Err("no memory".into()),
-    }
-}
-
 fn left_at(alloc: Global, log_calls: u64, db_calls: u64) -> Result<Option<Left>, Fail> {
-    match made(alloc, log_calls, db_calls)? {
-        Some(rows) => Ok(Some(left_by(alloc, rows)?)),
-        None => Ok(None),
-    }
-}
-
-/// Whether what so many saves leave, or those and the next one, is there. `None`: it does not open.
-fn is_right(alloc: Global, log: &Image, db: &Image, saved: u8) -> Result<Option<bool>, Fail> {
-    match opened(alloc, log, db)? {
-        Some(mut rows) => Ok(Some(is_old_or_new(content_of(alloc, &mut rows), saved))),
-        None => Ok(None),
-    }
+    let Some(mut rows) = made(alloc, log_calls, db_calls)? else {
+        return Ok(None);
+    };
+    let saved = save_all(alloc, &mut rows);
+    let files = rows.into_store().close();
+    Ok(Some(Left {
+        saved: saved.ok_or("no memory")?,
+        log: both_of(alloc, files.log)?,
+        db: both_of(alloc, files.db)?,
+    }))
 }
 
 fn open_mixed(rt: &impl Abort, alloc: Global, left: &Left, blocks: Blocks) -> Result<(), Fail> {
     let log = mixed(alloc, &left.log, blocks)?;
     let db = mixed(alloc, &left.db, blocks)?;
-    match is_right(alloc, &log, &db, left.saved)? {
-        Some(is_right) => assert!(rt; is_right),
+    match opened(alloc, &log, &db)? {
+        Some(mut rows) => assert!(rt; is_old_or_new(content_of(alloc, &mut rows), left.saved)),
         None => panic!(rt; "it does not open again"),
     }
     Ok(())

@@ -1,52 +1,44 @@
 //! Damage at each byte of both files: it is reported when they are opened or read, or what is read is what some
 //! save made.
 
-use crate::files::{Image, TestDisk, TestRows, image_of, made, opened};
-use crate::saves::{Content, SAVES, content_of, is_of_a_save, save_all};
-use sqlite_disk::Files;
+use crate::files::{Image, image_of, made, opened};
+use crate::saves::{SAVES, content_of, is_of_a_save, save_all};
 use std::alloc::Global;
 use std::process::Abort;
 use std::test::Fail;
 
-fn short(alloc: Global, disk: &TestDisk) -> Result<Image, Fail> {
-    let mut image = image_of(alloc, disk)?;
-    image.short();
-    Ok(image)
-}
-
-fn images_of(alloc: Global, files: &Files<TestDisk>) -> Result<(Image, Image), Fail> {
-    Ok((short(alloc, &files.log)?, short(alloc, &files.db)?))
-}
-
 /// The log and the file after all saves.
-fn written_to(alloc: Global, mut rows: TestRows) -> Result<(Image, Image), Fail> {
+fn written(alloc: Global) -> Result<(Image, Image), Fail> {
+    let Some(mut rows) = made(alloc, u64::MAX, u64::MAX)? else {
+        return Err("it is not made".into());
+    };
     let saved = save_all(alloc, &mut rows);
     let files = rows.into_store().close();
-    if saved == Some(SAVES) {
-        images_of(alloc, &files)
-    } else {
-        Err("not all saves succeeded".into())
+    if saved != Some(SAVES) {
+        return Err("not all saves succeeded".into());
     }
+    Ok((
+        short(image_of(alloc, &files.log)?),
+        short(image_of(alloc, &files.db)?),
+    ))
 }
 
-fn written(alloc: Global) -> Result<(Image, Image), Fail> {
-    match made(alloc, u64::MAX, u64::MAX)? {
-        Some(rows) => written_to(alloc, rows),
-        None => Err("it is not made".into()),
-    }
-}
-
-/// What is there. `None`: damage was told.
-fn content_at(alloc: Global, log: &Image, db: &Image) -> Result<Option<Content>, Fail> {
-    match opened(alloc, log, db)? {
-        Some(mut rows) => Ok(content_of(alloc, &mut rows)),
-        None => Ok(None),
+/// The file with at most 4,096 zeros at its end: an open of it takes less time.
+fn short(image: Image) -> Image {
+    let Image { bytes, len } = image;
+    let used = bytes.len();
+    Image {
+        bytes,
+        len: len.min(used.saturating_add(4096 - used % 4096)),
     }
 }
 
 /// Whether damage was reported.
 fn is_told(rt: &impl Abort, alloc: Global, log: &Image, db: &Image) -> Result<bool, Fail> {
-    match content_at(alloc, log, db)? {
+    let Some(mut rows) = opened(alloc, log, db)? else {
+        return Ok(true);
+    };
+    match content_of(alloc, &mut rows) {
         Some(content) => {
             assert!(rt; is_of_a_save(content, SAVES));
             Ok(false)

@@ -3,10 +3,10 @@
 use crate::samples::{item, item_row, key_of};
 use item_rows::{item_of, row_number_of, row_of};
 use items::Item;
-use proto::{Block, Fault, Key, MOST_BLOCK_BYTES};
+use proto::{Block, Fault, MOST_BLOCK_BYTES};
 use sqlite_value::row::Row;
 use sqlite_value::value::ValueRef;
-use std::alloc::{AllocError, Global};
+use std::alloc::Global;
 use std::test::Fail;
 
 /// Keys with their row numbers, by Python's `hashlib`.
@@ -18,45 +18,31 @@ const ROW_NUMBERS: [(&[u8], i64); 5] = [
     (&[255; 250], 224_975_852_680_095_647),
 ];
 
-fn is_at(alloc: Global, bytes: &[u8], row_number: i64) -> Result<bool, AllocError> {
-    Ok(row_number_of(&key_of(alloc, bytes)?) == row_number)
-}
-
 #[test]
 fn row_numbers_are_pages_and_paths(rt: HostRuntime) -> Result<(), Fail> {
-    for (bytes, row_number) in &ROW_NUMBERS {
-        assert!(rt; is_at(rt.alloc(), *bytes, *row_number)?, "{row_number}");
+    for (bytes, row_number) in ROW_NUMBERS {
+        let key = key_of(rt.alloc(), bytes)?;
+        assert_eq!(rt; row_number_of(&key), row_number);
     }
     Ok(())
 }
 
-fn is_same(item: &Item, other: &Item) -> bool {
-    item.block.as_slice() == other.block.as_slice()
-        && item.flags == other.flags
-        && item.due == other.due
-        && item.unique == other.unique
-}
-
-/// Whether the row is read as this item, under this key.
-fn is_read(alloc: Global, row: &Row, key: &Key, item: &Item) -> bool {
-    match item_of(alloc, row) {
-        Ok((again, same)) => again == *key && is_same(&same, item),
-        Err(_) => false,
-    }
-}
-
 /// Whether the item, under this key, is read back from its row.
-fn is_kept(alloc: Global, key: &Key, item: &Item) -> Result<bool, AllocError> {
-    let row = row_of(alloc, key, item)?;
-    Ok(is_read(alloc, &row, key, item))
-}
-
-fn is_read_back(alloc: Global, bytes: &[u8], item: &Item) -> Result<bool, AllocError> {
-    is_kept(alloc, &key_of(alloc, bytes)?, item)
+fn is_read_back(alloc: Global, bytes: &[u8], item: Item) -> Result<bool, Fail> {
+    let key = key_of(alloc, bytes)?;
+    let row = row_of(alloc, &key, &item)?;
+    let (again, same) = item_of(alloc, &row)?;
+    Ok(
+        again == key
+            && same.block.as_slice() == item.block.as_slice()
+            && same.flags == item.flags
+            && same.due == item.due
+            && same.unique == item.unique,
+    )
 }
 
 /// An item of a block of so many bytes.
-fn sized(alloc: Global, len: usize, due: Option<u64>, unique: u64) -> Result<Item, AllocError> {
+fn sized(alloc: Global, len: usize, due: Option<u64>, unique: u64) -> Result<Item, Fail> {
     Ok(Item {
         block: Block::new(vec![in alloc; 7; len.min(MOST_BLOCK_BYTES)]?)?,
         flags: u32::MAX,
@@ -65,37 +51,20 @@ fn sized(alloc: Global, len: usize, due: Option<u64>, unique: u64) -> Result<Ite
     })
 }
 
-/// The keys of items, and what they have: the length of the block, the due time and the unique.
-const SIZES: [(&[u8], usize, Option<u64>, u64); 3] = [
-    (b"empty", 0, None, 0),
-    (b"due", 1, Some(0), 1 << 63),
-    (b"large", MOST_BLOCK_BYTES, Some(1 << 63), u64::MAX),
-];
-
 #[test]
 fn items_are_read_back(rt: HostRuntime) -> Result<(), Fail> {
     let alloc = rt.alloc();
-    assert!(rt; is_read_back(alloc, b"k", &item(alloc, 0)?)?, "the first");
-    assert!(rt;
-        is_read_back(alloc, &[255; 250], &item(alloc, 255)?)?,
-        "the last"
-    );
-    for (bytes, len, due, unique) in &SIZES {
-        assert!(rt;
-            is_read_back(alloc, *bytes, &sized(alloc, *len, *due, *unique)?)?,
-            "{len}"
-        );
-    }
+    assert!(rt; is_read_back(alloc, b"k", item(alloc, 0)?)?);
+    assert!(rt; is_read_back(alloc, &[255; 250], item(alloc, 255)?)?);
+    assert!(rt; is_read_back(alloc, b"empty", sized(alloc, 0, None, 0)?)?);
+    assert!(rt; is_read_back(alloc, b"due", sized(alloc, 1, Some(0), 1 << 63)?)?);
+    let most = sized(alloc, MOST_BLOCK_BYTES, Some(1 << 63), u64::MAX)?;
+    assert!(rt; is_read_back(alloc, b"large", most)?);
     Ok(())
 }
 
 /// The row with another value in one column, or one column more.
-fn with_column(
-    alloc: Global,
-    row: &Row,
-    column: usize,
-    value: ValueRef<'_>,
-) -> Result<Row, AllocError> {
+fn with_column(alloc: Global, row: &Row, column: usize, value: ValueRef<'_>) -> Result<Row, Fail> {
     let mut made = Row::new(alloc);
     for at in 0..row.len().max(column.saturating_add(1)) {
         made.push(if at == column { value } else { row.get(at) })?;
@@ -122,36 +91,26 @@ const WRONG: [(usize, ValueRef<'static>); 15] = [
     (8, ValueRef::Null),
 ];
 
-fn is_none(alloc: Global, row: &Row) -> bool {
-    matches!(item_of(alloc, row), Err(Fault::BadRecord))
-}
-
-fn is_refused_with(
-    alloc: Global,
-    row: &Row,
-    column: usize,
-    value: ValueRef<'_>,
-) -> Result<bool, AllocError> {
-    let wrong = with_column(alloc, row, column, value)?;
-    Ok(is_none(alloc, &wrong))
-}
-
-fn is_refused(alloc: Global, column: usize, value: ValueRef<'_>) -> Result<bool, AllocError> {
+fn is_refused(alloc: Global, column: usize, value: ValueRef<'_>) -> Result<bool, Fail> {
     let row = item_row(alloc, 0, 1)?;
-    is_refused_with(alloc, &row, column, value)
+    let wrong = with_column(alloc, &row, column, value)?;
+    match item_of(alloc, &wrong) {
+        Err(Fault::BadRecord) => Ok(true),
+        _ => Ok(false),
+    }
 }
 
 /// Whether a row with a block of one byte too many is refused.
-fn is_too_long_refused(alloc: Global) -> Result<bool, AllocError> {
+fn is_too_long_refused(alloc: Global) -> Result<bool, Fail> {
     let long = vec![in alloc; 7; MOST_BLOCK_BYTES + 1]?;
     is_refused(alloc, 6, ValueRef::Blob(&long))
 }
 
 #[test]
 fn other_rows_are_refused(rt: HostRuntime) -> Result<(), Fail> {
-    for (place, (column, value)) in WRONG.iter().enumerate() {
-        assert!(rt; is_refused(rt.alloc(), *column, *value)?, "row {place}");
+    for (column, value) in WRONG {
+        assert!(rt; is_refused(rt.alloc(), column, value)?);
     }
-    assert!(rt; is_too_long_refused(rt.alloc())?, "too long");
+    assert!(rt; is_too_long_refused(rt.alloc())?);
     Ok(())
 }

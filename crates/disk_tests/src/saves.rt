@@ -1,16 +1,13 @@
 //! What each save writes, and what has to be there after it.
 
-ghost use Rattle.std.specs.Prelude.{IfOk, IsTrue};
+ghost use Rattle.std.specs.Prelude.{◌≡◌, IfOk, IsTrue};
 ghost use Rattle.sqlite_trees.specs.Tree.{rowid};
 ghost use Rattle.sqlite_trees.specs.View.{is_int};
 ghost use Rattle.row_store.specs.Saved.{ChangesFit};
 
-use crate::files::Tables;
 use crate::samples::{item_row, key};
 use item_rows::{item_of, row_number_of};
-use items::Item;
-use proto::Key;
-use row_store::RowChange;
+use row_store::{RowChange, RowStore};
 use sqlite_trees::store::Store;
 use sqlite_value::row::Row;
 use sqlite_value::value::ValueRef;
@@ -69,17 +66,23 @@ fn changes(alloc: Global, number: u8) -> Result<[RowChange; 3], AllocError>
 }
 
 /// Makes the save of this number, from 0: whether it succeeded. `None`: there was no memory for it.
-fn save<S: Store>(alloc: Global, tables: &mut Tables<S>, number: u8) -> Option<bool> {
+fn save<S: Store>(alloc: Global, rows: &mut RowStore<S>, number: u8) -> Option<bool>
+    requires { rows.old.tables ≡ 2 }
+    ensures { rows.new.tables ≡ 2 }
+{
     match changes(alloc, number) {
-        Ok(changes) => Some(tables.save(&changes)),
+        Ok(changes) => Some(rows.save(&changes).is_ok()),
         Err(_) => None,
     }
 }
 
 /// Makes save after save, until one fails: how many succeeded. `None`: there was no memory for one.
-pub fn save_all<S: Store>(alloc: Global, tables: &mut Tables<S>) -> Option<u8> {
+pub fn save_all<S: Store>(alloc: Global, rows: &mut RowStore<S>) -> Option<u8>
+    requires { rows.old.tables ≡ 2 }
+    ensures { rows.new.tables ≡ 2 }
+{
     for number in 0..SAVES {
-        match save(alloc, tables, number) {
+        match save(alloc, rows, number) {
             Some(true) => {}
             Some(false) => return Some(number),
             None => return None,
@@ -88,29 +91,16 @@ pub fn save_all<S: Store>(alloc: Global, tables: &mut Tables<S>) -> Option<u8> {
     Some(SAVES)
 }
 
-/// The number of the item and its value, by the first bytes of the key and the data.
-fn told(key: &Key, item: &Item) -> Option<(u8, u8)> {
-    let name = *key.as_slice().first()?;
-    let value = *item.block.as_slice().first()?;
-    Some((name.checked_sub(b'a')?, value))
-}
-
-/// Whether this is the row of the item of this number, with this value.
-fn is_row_of(alloc: Global, (number, value): (u8, u8), row: &Row) -> bool {
-    match item_row(alloc, number, value) {
-        Ok(same) => same.is_same(row),
-        Err(_) => false,
-    }
-}
-
 /// The number of the item and its value, if the row has no other item.
 fn read(alloc: Global, row: &Row) -> Option<(u8, u8)> {
-    let told = match item_of(alloc, row) {
-        Ok((key, item)) => told(&key, &item),
-        Err(_) => None,
+    let Ok((key, item)) = item_of(alloc, row) else {
+        return None;
     };
-    match told {
-        Some(told) if is_row_of(alloc, told, row) => Some(told),
+    let name = *key.as_slice().first()?;
+    let number = name.checked_sub(b'a')?;
+    let value = *item.block.as_slice().first()?;
+    match item_row(alloc, number, value) {
+        Ok(same) if same.is_same(row) => Some((number, value)),
         _ => None,
     }
 }
@@ -140,26 +130,18 @@ fn save_in(rows: &[Row]) -> Option<u8> {
     }
 }
 
-/// What these rows of the two tables are. `None`: nothing that was saved.
-fn content_in(alloc: Global, items: &[Row], last: &[Row]) -> Option<Content> {
-    let mut content = [0; 6];
-    content[5] = save_in(last)?;
-    note(alloc, &mut content, items).then_some(content)
-}
-
-/// What is there, beside these items.
-fn content_with<S: Store>(alloc: Global, tables: &mut Tables<S>, items: &[Row]) -> Option<Content> {
-    match tables.last(alloc) {
-        Some(last) => content_in(alloc, items, &last),
-        None => None,
-    }
-}
-
 /// What is there. `None`: it cannot be read, or is nothing that was saved.
-pub fn content_of<S: Store>(alloc: Global, tables: &mut Tables<S>) -> Option<Content> {
-    match tables.items(alloc) {
-        Some(items) => content_with(alloc, tables, &items),
-        None => None,
+pub fn content_of<S: Store>(alloc: Global, rows: &mut RowStore<S>) -> Option<Content>
+    requires { rows.old.tables ≡ 2 }
+{
+    let items = rows.rows(alloc, 0).ok()?;
+    let last = rows.rows(alloc, 1).ok()?;
+    let mut content = [0; 6];
+    content[5] = save_in(&last)?;
+    if note(alloc, &mut content, &items) {
+        Some(content)
+    } else {
+        None
     }
 }
 

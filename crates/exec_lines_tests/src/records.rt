@@ -181,7 +181,6 @@ fn wrong_from(
 fn one_whose_counter_is_at_its_limit_is_stopped(rt: HostRuntime) -> Result<(), Fail> {
     let all = wrong_from(rt.alloc(), u64::MAX, Standing::first(), ASKS_NO_MORE)?;
     let last = wrong_from(rt.alloc(), 0, LAST, TURNS_NO_MORE)?;
-    assert!(rt; all.is_none(), "all decrees");
-    assert!(rt; last.is_none(), "the last epoch");
+    assert_eq!(rt; (all, last), (None, None));
     Ok(())
 }

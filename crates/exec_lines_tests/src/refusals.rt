@@ -239,27 +239,17 @@ const LINES: [Lines; 7] = [
     ),
 ];
 
-fn play_all(
-    alloc: Global,
-    leader: &mut Executor,
-    other: &mut Executor,
-    told: &mut Told,
-    said: &mut Letters,
-) -> Result<(), Fault> {
-    for (id, lines) in &LINES {
-        if *id == LEADER {
-            gives_all(alloc, leader, told, said, *lines)?;
-        } else {
-            gives_all(alloc, other, told, said, *lines)?;
-        }
-    }
-    Ok(())
-}
-
 fn play(alloc: Global, leader: &mut Executor, other: &mut Executor) -> Result<(), Fault> {
     let mut told = none_told();
     let mut said = Vec::new(alloc);
-    play_all(alloc, leader, other, &mut told, &mut said)
+    for (id, lines) in LINES {
+        if id == LEADER {
+            gives_all(alloc, leader, &mut told, &mut said, lines)?;
+        } else {
+            gives_all(alloc, other, &mut told, &mut said, lines)?;
+        }
+    }
+    Ok(())
 }
 
 /// Plays the lines with another one.

@@ -44,13 +44,13 @@ fn play<R: Threads + Wait + Sync, G: Gate + Sync>(
     alloc: Global,
     leader: &mut Executor,
     told: &mut Told,
-    said: &mut Letters,
     gate: &G,
 ) -> Result<(), Fault> {
-    gives_all(alloc, leader, told, said, BEGUN)?;
-    *said = run(rt, alloc, leader, gate)?;
+    let mut said = Vec::new(alloc);
+    gives_all(alloc, leader, told, &mut said, BEGUN)?;
+    said = run(rt, alloc, leader, gate)?;
     learn(told, said.as_slice());
-    gives_all(alloc, leader, told, said, COMMITTED)?;
+    gives_all(alloc, leader, told, &mut said, COMMITTED)?;
     holds(leader.job().is_none())
 }
 
@@ -62,8 +62,7 @@ pub fn row<R: Threads + Wait + Sync, G: Gate + Sync>(
 ) -> Result<(), Fault> {
     let mut leader = opens(alloc, LEADER, MemKeeper::new(), Some(b">"))?;
     let mut told = none_told();
-    let mut said = Vec::new(alloc);
-    let played = play(rt, alloc, &mut leader, &mut told, &mut said, gate);
+    let played = play(rt, alloc, &mut leader, &mut told, gate);
     drop(leader.end());
     played
 }

@@ -74,21 +74,6 @@ const AFTER_A_STEP: Run = (
 /// Nothing runs if nothing was begun.
 const NO_WORK: Run = (NOTHING, b".", NOTHING);
 
-/// Two workers run the work, which leaves this to be done.
-fn run_by_two<R: Threads + Wait + Sync>(
-    rt: &R,
-    alloc: Global,
-    told: &mut Told,
-    state: &mut State,
-    expected: &[u8],
-) -> Result<(), Fault> {
-    let Some(two) = Workers::new(2) else {
-        return Err(Fault::Unfit);
-    };
-    let outcome = state.run(rt, alloc, U, LEADER, two, &NoGate)?;
-    shows(told, &outcome, expected)
-}
-
 fn runs<R: Threads + Wait + Sync>(
     rt: &R,
     alloc: Global,
@@ -96,8 +81,12 @@ fn runs<R: Threads + Wait + Sync>(
     state: &mut State,
     (before, expected, after): Run,
 ) -> Result<(), Fault> {
+    let Some(two) = Workers::new(2) else {
+        return Err(Fault::Unfit);
+    };
     holds(wrong_row(alloc, U, told, state, before).is_none())?;
-    run_by_two(rt, alloc, told, state, expected)?;
+    let outcome = state.run(rt, alloc, U, LEADER, two, &NoGate)?;
+    shows(told, &outcome, expected)?;
     holds(wrong_row(alloc, U, told, state, after).is_none())
 }
 

@@ -55,43 +55,28 @@ enum Expected {
     AnswersAgain,
 }
 
-/// Whether the commit of this token is answered.
-fn answers_to(alloc: Global, executor: &mut Executor, token: [u8; 32]) -> Result<bool, Fault> {
-    Ok(is_stored(commit(alloc, executor, token)?.as_slice()))
-}
-
-fn is_silent_to(alloc: Global, executor: &mut Executor, token: [u8; 32]) -> Result<bool, Fault> {
-    Ok(commit(alloc, executor, token)?.is_empty())
-}
-
-/// Whether client 1 is answered if it asks again.
-fn answers_again(alloc: Global, executor: &mut Executor) -> Result<bool, Fault> {
-    Ok(is_stored(want(alloc, executor, 1)?.as_slice()))
-}
-
-/// Whether the batch of the request that waits is told over the old token.
-fn tells_the_next(alloc: Global, executor: &mut Executor) -> Result<bool, Fault> {
-    Ok(says(execute(alloc, executor)?.as_slice(), &[TELL_NEXT]))
-}
-
 fn is_so(alloc: Global, executor: &mut Executor, expected: Expected) -> Result<bool, Fault> {
     match expected {
         Expected::IsCommitted => Ok(
-            answers_to(alloc, executor, TOKEN)?
+            is_stored(commit(alloc, executor, TOKEN)?.as_slice())
                 && has(alloc, executor, COMMITTED)?
-                && answers_again(alloc, executor)?,
+                && is_stored(want(alloc, executor, 1)?.as_slice()),
         ),
         Expected::IsUndone => Ok(
-            is_silent_to(alloc, executor, TOKEN_OF_TODAY)? && is_silent_to(alloc, executor, TOKEN)?,
+            commit(alloc, executor, TOKEN_OF_TODAY)?.is_empty()
+                && commit(alloc, executor, TOKEN)?.is_empty(),
         ),
         Expected::GoesOn => {
             drop(commit(alloc, executor, TOKEN)?);
             drop(want(alloc, executor, 2)?);
-            Ok(tells_the_next(alloc, executor)? && has(alloc, executor, NEXT)?)
+            Ok(
+                says(execute(alloc, executor)?.as_slice(), &[TELL_NEXT])
+                    && has(alloc, executor, NEXT)?,
+            )
         }
-        Expected::AnswersAgain => {
-            Ok(answers_again(alloc, executor)? && has(alloc, executor, COMMITTED)?)
-        }
+        Expected::AnswersAgain => Ok(
+            is_stored(want(alloc, executor, 1)?.as_slice()) && has(alloc, executor, COMMITTED)?,
+        ),
     }
 }
 
@@ -113,7 +98,7 @@ const ROWS: [(Record, Expected); 4] = [
 #[test]
 fn an_executor_goes_on_from_an_old_record(rt: HostRuntime) -> Result<(), Fail> {
     for (place, row) in ROWS.iter().enumerate() {
-        assert!(rt; is_row(rt.alloc(), *row) == Ok(true), "row {place}");
+        assert_eq!(rt; is_row(rt.alloc(), *row), Ok(true), "row {place}");
     }
     Ok(())
 }

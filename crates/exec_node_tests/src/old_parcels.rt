@@ -81,23 +81,14 @@ fn answers(alloc: Global, needs: &mut Executor) -> Result<bool, Fault> {
     Ok(is_stored(letters.as_slice()))
 }
 
-/// What the one that needs the state asks for once it hears that it is committed.
-fn need_of(alloc: Global, needs: &mut Executor) -> Result<Body, Fault> {
-    last_body(hears_of_the_commit(alloc, NEEDS, needs)?, 2)
-}
-
-/// What the one that has the state answers to that.
-fn parcel_for(alloc: Global, has: &mut Executor, need: Body) -> Result<Body, Fault> {
-    last_body(gets(alloc, HAS, has, Node::Executor(NEEDS), need)?, NEEDS)
-}
-
-/// Whether the one that needs the state says nothing to that.
-fn takes(alloc: Global, needs: &mut Executor, parcel: Body) -> Result<bool, Fault> {
-    Ok(gets(alloc, NEEDS, needs, Node::Executor(HAS), parcel)?.is_empty())
-}
-
-/// Whether it has the record of the one that has the state.
-fn has_its_record(alloc: Global, needs: &mut Executor) -> Result<bool, Fault> {
+/// Whether the one that needs the state takes the parcel of the one that has it, and then has its
+/// record and answers of it.
+fn is_handed_over(alloc: Global, has: &mut Executor, needs: &mut Executor) -> Result<bool, Fault> {
+    drop(hears_of_the_commit(alloc, HAS, has)?);
+    let need = last_body(hears_of_the_commit(alloc, NEEDS, needs)?, 2)?;
+    let letters = gets(alloc, HAS, has, Node::Executor(NEEDS), need)?;
+    let parcel = last_body(letters, NEEDS)?;
+    let taken = gets(alloc, NEEDS, needs, Node::Executor(HAS), parcel)?;
     let of = Written {
         version: 2,
         u: 1,
@@ -105,16 +96,8 @@ fn has_its_record(alloc: Global, needs: &mut Executor) -> Result<bool, Fault> {
     };
     let expected = spelled(alloc, of, COMMITTED)?;
     let keeper: &Kept = needs.keeper();
-    Ok(record(alloc, keeper)? == expected)
-}
-
-/// Whether the one that needs the state takes the parcel of the one that has it, and then has its
-/// record and answers of it.
-fn is_handed_over(alloc: Global, has: &mut Executor, needs: &mut Executor) -> Result<bool, Fault> {
-    drop(hears_of_the_commit(alloc, HAS, has)?);
-    let need = need_of(alloc, needs)?;
-    let parcel = parcel_for(alloc, has, need)?;
-    Ok(takes(alloc, needs, parcel)? && has_its_record(alloc, needs)? && answers(alloc, needs)?)
+    let kept = record(alloc, keeper)?;
+    Ok(taken.is_empty() && kept == expected && answers(alloc, needs)?)
 }
 
 fn is_handed_over_by(alloc: Global, has: &mut Executor) -> Result<bool, Fault> {

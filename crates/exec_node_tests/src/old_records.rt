@@ -51,8 +51,8 @@ fn is_row(
 
 #[test]
 fn a_record_becomes_that_of_today_and_then_stays(rt: HostRuntime) -> Result<(), Fail> {
-    for row in &RENEWED {
-        assert!(rt; is_row(rt.alloc(), *row) == Ok(true), "of {} bytes", row.2);
+    for row in RENEWED {
+        assert_eq!(rt; is_row(rt.alloc(), row), Ok(true), "of {} bytes", row.2);
     }
     Ok(())
 }
@@ -78,8 +78,8 @@ fn fronts_of(alloc: Global, (record, of): (Record, Written)) -> Result<u32, Faul
 
 #[test]
 fn no_proper_front_of_a_record_is_one(rt: HostRuntime) -> Result<(), Fail> {
-    for (place, row) in CHANGED.iter().enumerate() {
-        assert!(rt; fronts_of(rt.alloc(), *row) == Ok(0), "row {place}");
+    for row in CHANGED {
+        assert_eq!(rt; fronts_of(rt.alloc(), row), Ok(0));
     }
     Ok(())
 }
@@ -129,8 +129,8 @@ fn changes_of(alloc: Global, (record, of): (Record, Written)) -> Result<u32, Fau
 /// before and after them is fixed.
 #[test]
 fn only_what_decrees_came_to_may_be_another(rt: HostRuntime) -> Result<(), Fail> {
-    for (place, row) in CHANGED.iter().enumerate() {
-        assert!(rt; changes_of(rt.alloc(), *row) == Ok(64), "row {place}");
+    for row in CHANGED {
+        assert_eq!(rt; changes_of(rt.alloc(), row), Ok(64));
     }
     Ok(())
 }
@@ -160,8 +160,8 @@ fn is_refused_as(
 
 #[test]
 fn a_record_of_one_version_is_none_of_another(rt: HostRuntime) -> Result<(), Fail> {
-    for (place, row) in OTHER_VERSIONS.iter().enumerate() {
-        assert!(rt; is_refused_as(rt.alloc(), *row) == Ok(true), "row {place}");
+    for row in OTHER_VERSIONS {
+        assert_eq!(rt; is_refused_as(rt.alloc(), row), Ok(true));
     }
     Ok(())
 }
@@ -204,6 +204,6 @@ fn failures_leave_records(alloc: Global) -> Result<bool, Fault> {
 /// A failed save leaves the old record. A record of today is not saved again.
 #[test]
 fn a_failed_save_leaves_the_record(rt: HostRuntime) -> Result<(), Fail> {
-    assert!(rt; failures_leave_records(rt.alloc()) == Ok(true));
+    assert_eq!(rt; failures_leave_records(rt.alloc()), Ok(true));
     Ok(())
 }

@@ -75,7 +75,7 @@ fn new_one_goes_on(alloc: Global) -> Result<bool, Fault> {
 
 #[test]
 fn a_new_executor_has_a_record_and_goes_on_from_it(rt: HostRuntime) -> Result<(), Fail> {
-    assert!(rt; new_one_goes_on(rt.alloc()) == Ok(true));
+    assert_eq!(rt; new_one_goes_on(rt.alloc()), Ok(true));
     Ok(())
 }
 
@@ -92,7 +92,7 @@ fn refused(alloc: Global) -> Result<Option<Fault>, Fault> {
 
 #[test]
 fn the_record_of_another_is_refused(rt: HostRuntime) -> Result<(), Fail> {
-    assert!(rt; refused(rt.alloc()) == Ok(Some(Fault::BadRecord)));
+    assert_eq!(rt; refused(rt.alloc()), Ok(Some(Fault::BadRecord)));
     Ok(())
 }
 
@@ -227,14 +227,10 @@ fn made(alloc: Global) -> Result<Tentative, Fault> {
     made_over(alloc, &base, read::<Batch>(alloc, &FIRST_BATCH)?)
 }
 
-fn refuses(alloc: Global, executor: &mut Executor) -> Result<bool, Fault> {
-    let early = executor.handle(alloc, Input::Adopt(made(alloc)?));
-    Ok(matches!(early, Err(Fault::Unfit)) && executor.is_up())
-}
-
 /// Whether a tentative state is refused if nothing is executed, and then taken for its batch.
 fn adopts(alloc: Global, executor: &mut Executor) -> Result<bool, Fault> {
-    let refused = refuses(alloc, executor)?;
+    let early = executor.handle(alloc, Input::Adopt(made(alloc)?));
+    let refused = matches!(early, Err(Fault::Unfit)) && executor.is_up();
     wants(alloc, executor)?;
     drop(executor.handle(alloc, Input::Cut(1000))?);
     let letters = executor.handle(alloc, Input::Adopt(made(alloc)?))?;
@@ -260,18 +256,12 @@ fn does(alloc: Global, row: Row) -> Result<bool, Fault> {
     does
 }
 
-const ROWS: [(&str, Row); 3] = [
-    ("serves", Row::Serves),
-    ("stops", Row::Stops),
-    ("adopts", Row::Adopts),
-];
-
 /// A request is answered when its state is decided, a failed save stops the executor, and it adopts what was made
 /// of its work.
 #[test]
 fn an_executor_serves_and_stops_and_adopts(rt: HostRuntime) -> Result<(), Fail> {
-    for (name, row) in &ROWS {
-        assert!(rt; does(rt.alloc(), *row) == Ok(true), "{name}");
-    }
+    assert_eq!(rt; does(rt.alloc(), Row::Serves), Ok(true));
+    assert_eq!(rt; does(rt.alloc(), Row::Stops), Ok(true));
+    assert_eq!(rt; does(rt.alloc(), Row::Adopts), Ok(true));
     Ok(())
 }

@@ -30,21 +30,13 @@ fn lines(alloc: Global, block: &[u8]) -> Result<Vec<u8>, AllocError> {
     Ok(text)
 }
 
-/// Whether the schedule of this block shows these lines.
-fn shows(alloc: Global, schedule: &[u8], wanted: &[u8]) -> bool {
-    let end = played(alloc, schedule);
-    end.status == SHOWN && end.out.as_slice() == wanted
-}
-
-fn is_shown(alloc: Global, block: &[u8]) -> Result<bool, AllocError> {
-    let schedule = schedule(alloc, block)?;
-    let wanted = lines(alloc, block)?;
-    Ok(shows(alloc, schedule.as_slice(), wanted.as_slice()))
-}
-
 #[test]
 fn of_a_mebibyte(rt: HostRuntime) -> Result<(), Fail> {
     let block = vec![in rt.alloc(); b'x'; 1048576]?;
-    assert!(rt; is_shown(rt.alloc(), block.as_slice())?);
+    let schedule = schedule(rt.alloc(), block.as_slice())?;
+    let wanted = lines(rt.alloc(), block.as_slice())?;
+    let end = played(rt.alloc(), schedule.as_slice());
+    assert_eq!(rt; end.status, SHOWN);
+    assert!(rt; end.out.as_slice() == wanted.as_slice());
     Ok(())
 }

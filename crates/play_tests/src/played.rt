@@ -4,20 +4,11 @@ use app::{Untold, play_text};
 use std::alloc::Global;
 
 /// How it ended, and what was written.
+#[derive(Drop)]
 pub struct Ending {
     pub status: u8,
     pub out: Vec<u8>,
     pub err: Vec<u8>,
-}
-
-impl Drop for Ending {
-    fn drop(self) {
-        let Ending {
-            status: _,
-            out: _,
-            err: _,
-        } = self;
-    }
 }
 
 /// The schedule of this text.
@@ -34,10 +25,4 @@ pub fn played(alloc: Global, schedule: &[u8]) -> Ending {
         &mut Untold,
     );
     Ending { status, out, err }
-}
-
-/// Whether the schedule of this text ends so, and writes just this.
-pub fn is_played(alloc: Global, schedule: &[u8], status: u8, out: &[u8], err: &[u8]) -> bool {
-    let end = played(alloc, schedule);
-    end.status == status && end.out.as_slice() == out && end.err.as_slice() == err
 }

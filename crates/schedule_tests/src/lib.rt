@@ -5,13 +5,19 @@
 #![tactic(auto)]
 
 #[cfg(test)]
+mod configs;
+#[cfg(test)]
 mod escapes;
 #[cfg(test)]
 mod files;
 #[cfg(test)]
+mod large;
+#[cfg(test)]
 mod lines;
 #[cfg(test)]
 mod made;
+#[cfg(test)]
+mod numbers;
 #[cfg(test)]
 mod refusals;
 #[cfg(test)]

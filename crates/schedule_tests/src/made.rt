@@ -1,39 +1,10 @@
-//! How large a world may be, and events made at random.
+//! Events made at random.
 
 use crate::seen::add_event;
 use events::{Config, Event, Replica};
 use makers::Maker;
-use proto::Fault;
 use std::alloc::{AllocError, Global};
 use std::test::Fail;
-
-/// Sizes of worlds, and whether there is one.
-const CONFIGS: [(u8, u16, bool); 7] = [
-    (0, 1, true),
-    (3, 64, true),
-    (4, 1, false),
-    (255, 1, false),
-    (0, 0, false),
-    (3, 65, false),
-    (3, 65535, false),
-];
-
-/// Whether there is such a world, of this size, or else a bad schedule.
-fn is_so_of_config(u: u8, clients: u16, is_world: bool) -> bool {
-    match Config::new(u, clients) {
-        Ok(config) => is_world && config.u() == u && config.clients() == clients,
-        Err(fault) => !is_world && fault == Fault::BadSchedule,
-    }
-}
-
-fn a_world_has_limits() -> bool {
-    for (u, clients, is_world) in &CONFIGS {
-        if !is_so_of_config(*u, *clients, *is_world) {
-            return false;
-        }
-    }
-    true
-}
 
 /// How many events are made of a seed.
 const MADE: u32 = 1000;
@@ -137,110 +108,64 @@ fn next_words(
     Ok(words)
 }
 
-/// Sizes of worlds: how many replicas of each kind may fail, and how many clients there are.
-const SIZES: [(u8, u16); 4] = [(0, 1), (1, 2), (2, 8), (3, 64)];
-
-/// Whether each line of the table is made in each world, and all but one if no letter was sent.
-fn each_line_of_the_table_is_made() -> bool {
-    for (u, clients) in &SIZES {
-        if kinds_made(1, *u, *clients, 10) != 4095 || kinds_made(1, *u, *clients, 0) != 4094 {
-            return false;
-        }
+#[test]
+fn each_line_of_the_table_is_made(rt: HostRuntime) -> Result<(), Fail> {
+    for (u, clients) in [(0u8, 1u16), (1, 2), (2, 8), (3, 64)] {
+        assert!(rt; kinds_made(1, u, clients, 10) == 4095);
+        assert!(rt; kinds_made(1, u, clients, 0) == 4094);
     }
-    true
-}
-
-fn what_is_named_is_there() -> bool {
-    for (u, clients) in &SIZES {
-        let are_there = all_are_there(2, *u, *clients, 1)
-            && all_are_there(3, *u, *clients, 1_000_000_000_000)
-            && all_are_there(u64::MAX, *u, *clients, u64::MAX);
-        if !are_there {
-            return false;
-        }
-    }
-    true
-}
-
-/// Whether the next events are these.
-fn comes(
-    alloc: Global,
-    maker: &mut Maker,
-    sent: u64,
-    count: u32,
-    words: &str,
-) -> Result<bool, AllocError> {
-    Ok(next_words(alloc, maker, sent, count)?.as_str() == words)
-}
-
-/// What the kit's generator gives for seed 1, in a world of `u` 1 and 2 clients with 10 letters.
-const OF_SEED_1: [&str; 2] = [
-    " Deliver 5; Deliver 6; Step 1 of 20; Step 1 of 20; Deliver 1; Deliver 3;",
-    " Deliver 6; FailSave verifier 0; FailSave executor 1; Deliver 6; Again 2; FailSave executor 2;",
-];
-
-fn a_seed_makes_these_events(alloc: Global) -> Result<bool, AllocError> {
-    let mut maker = Maker::new(1);
-    Ok(
-        comes(alloc, &mut maker, 10, 6, OF_SEED_1[0])?
-            && comes(alloc, &mut maker, 10, 6, OF_SEED_1[1])?,
-    )
-}
-
-fn one_seed_makes_one_list_of_events(alloc: Global) -> Result<bool, AllocError> {
-    let first = next_words(alloc, &mut Maker::new(7), 10, MADE)?;
-    Ok(
-        comes(alloc, &mut Maker::new(7), 10, MADE, first.as_str())?
-            && !comes(alloc, &mut Maker::new(8), 10, MADE, first.as_str())?,
-    )
-}
-
-/// Whether both makers make the same events, of which this one has made some.
-fn is_the_same(
-    alloc: Global,
-    maker: &mut Maker,
-    sent: u64,
-    other: &mut Maker,
-) -> Result<bool, AllocError> {
-    let words = next_words(alloc, maker, sent, 100)?;
-    comes(alloc, other, 10, 100, words.as_str())
-}
-
-/// Three words are taken for an event, also if there is none.
-fn what_was_sent_before_changes_nothing(alloc: Global) -> Result<bool, AllocError> {
-    let mut some = Maker::new(9);
-    let mut none = Maker::new(9);
-    Ok(
-        !is_the_same(alloc, &mut none, 0, &mut some)?
-            && is_the_same(alloc, &mut none, 10, &mut some)?,
-    )
+    Ok(())
 }
 
 #[test]
-fn events_are_made_so(rt: HostRuntime) -> Result<(), Fail> {
-    let alloc = rt.alloc();
-    let shown = [
-        ("a_world_has_limits", a_world_has_limits()),
-        (
-            "each_line_of_the_table_is_made",
-            each_line_of_the_table_is_made(),
-        ),
-        ("what_is_named_is_there", what_is_named_is_there()),
-        (
-            "a_seed_makes_these_events",
-            a_seed_makes_these_events(alloc)?,
-        ),
-        (
-            "one_seed_makes_one_list_of_events",
-            one_seed_makes_one_list_of_events(alloc)?,
-        ),
-        (
-            "what_was_sent_before_changes_nothing",
-            what_was_sent_before_changes_nothing(alloc)?,
-        ),
-    ];
-    for (name, is_so) in &shown {
-        assert!(rt; *is_so, "{name}");
+fn what_is_named_is_there(rt: HostRuntime) -> Result<(), Fail> {
+    for (u, clients) in [(0u8, 1u16), (1, 2), (2, 8), (3, 64)] {
+        assert!(rt; all_are_there(2, u, clients, 1));
+        assert!(rt; all_are_there(3, u, clients, 1_000_000_000_000));
+        assert!(rt; all_are_there(u64::MAX, u, clients, u64::MAX));
     }
+    Ok(())
+}
+
+/// What the kit's generator gives for seed 1, in a world of `u` 1 and 2 clients with 10 letters.
+#[test]
+fn a_seed_makes_these_events(rt: HostRuntime) -> Result<(), Fail> {
+    let mut maker = Maker::new(1);
+    let first = next_words(rt.alloc(), &mut maker, 10, 6)?;
+    assert!(rt;
+        first.as_str()
+            == " Deliver 5; Deliver 6; Step 1 of 20; Step 1 of 20; Deliver 1; Deliver 3;",
+        "{first}"
+    );
+    let next = next_words(rt.alloc(), &mut maker, 10, 6)?;
+    assert!(rt;
+        next.as_str()
+            == " Deliver 6; FailSave verifier 0; FailSave executor 1; Deliver 6; Again 2; FailSave executor 2;",
+        "{next}"
+    );
+    Ok(())
+}
+
+#[test]
+fn one_seed_makes_one_list_of_events(rt: HostRuntime) -> Result<(), Fail> {
+    let first = next_words(rt.alloc(), &mut Maker::new(7), 10, MADE)?;
+    let second = next_words(rt.alloc(), &mut Maker::new(7), 10, MADE)?;
+    let other = next_words(rt.alloc(), &mut Maker::new(8), 10, MADE)?;
+    assert!(rt; first.as_str() == second.as_str());
+    assert!(rt; first.as_str() != other.as_str());
+    Ok(())
+}
+
+/// Three words are taken for an event, also if there is none.
+#[test]
+fn what_was_sent_before_changes_nothing(rt: HostRuntime) -> Result<(), Fail> {
+    let mut some = Maker::new(9);
+    let mut none = Maker::new(9);
+    let before = next_words(rt.alloc(), &mut some, 10, 100)?;
+    let nothing = next_words(rt.alloc(), &mut none, 0, 100)?;
+    assert!(rt; before.as_str() != nothing.as_str());
+    let after = next_words(rt.alloc(), &mut some, 10, 100)?;
+    let same = next_words(rt.alloc(), &mut none, 10, 100)?;
+    assert!(rt; after.as_str() == same.as_str());
     Ok(())
 }

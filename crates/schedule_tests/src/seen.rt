@@ -5,7 +5,7 @@ use schedules::{Schedule, ScheduleFault, ScheduleLine};
 use std::alloc::{AllocError, Global};
 
 /// A text, and what is read of it.
-pub type Row = (&'static [u8], &'static str);
+pub type Row<'a> = (&'a [u8], &'a str);
 
 fn add_replica(words: &mut String, replica: Replica) -> Result<(), AllocError> {
     match replica {

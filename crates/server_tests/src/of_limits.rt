@@ -93,84 +93,66 @@ fn millis_until_room(store: &mut Store) -> Option<u64> {
     None
 }
 
-fn without_a_limit_nothing_is_counted() -> bool {
+#[test]
+fn without_a_limit_nothing_is_counted(rt: HostRuntime) -> Result<(), Fail> {
     let limit = Limit::new(0);
-    !limit.is_set() && !limit.is_reached(u64::MAX) && !limit.is_due(u64::MAX, u64::MAX)
-}
-
-fn nothing_is_stored_before_the_items_are_counted() -> bool {
-    let mut limit = Limit::new(LIMIT);
-    let is_full = limit.is_due(0, 0) && limit.is_reached(0);
-    limit.found(0, 0, 0);
-    is_full && !limit.is_due(0, 0) && !limit.is_reached(0)
-}
-
-fn what_was_asked_since_they_were_counted_counts() -> bool {
-    let mut limit = Limit::new(LIMIT);
-    limit.found(LIMIT - 700, 5_000, 0);
-    !limit.is_reached(5_700) && limit.is_reached(5_701)
-}
-
-fn they_are_counted_as_more_is_asked() -> bool {
-    let mut limit = Limit::new(LIMIT);
-    limit.found(0, 0, 0);
-    let mut store = Store::of(0);
-    !limit.is_due(9_999, 1_000_000)
-        && limit.is_due(10_000, 0)
-        && has_room_throughout(&mut store, 5_000)
-        && store.looks == 500
-}
-
-fn it_is_full_just_below_the_limit() -> bool {
-    let count = filled(&mut Store::of(0));
-    10_230 <= count && count <= 10_241
-}
-
-fn items_in_place_of_others_do_not_fill_it() -> bool {
-    has_room_throughout(&mut Store::of(LIMIT - 20_000), 50_000)
-}
-
-fn there_is_room_within_some_milliseconds() -> bool {
-    let mut store = Store::of(0);
-    let is_filled = filled(&mut store) != 0;
-    store.bytes = LIMIT / 2;
-    is_filled && matches!(millis_until_room(&mut store), Some(millis) if millis < 10)
+    assert!(rt; !limit.is_set());
+    assert!(rt; !limit.is_reached(u64::MAX));
+    assert!(rt; !limit.is_due(u64::MAX, u64::MAX));
+    Ok(())
 }
 
 #[test]
-fn limits(rt: HostRuntime) -> Result<(), Fail> {
-    let shown = [
-        (
-            "without_a_limit_nothing_is_counted",
-            without_a_limit_nothing_is_counted(),
-        ),
-        (
-            "nothing_is_stored_before_the_items_are_counted",
-            nothing_is_stored_before_the_items_are_counted(),
-        ),
-        (
-            "what_was_asked_since_they_were_counted_counts",
-            what_was_asked_since_they_were_counted_counts(),
-        ),
-        (
-            "they_are_counted_as_more_is_asked",
-            they_are_counted_as_more_is_asked(),
-        ),
-        (
-            "it_is_full_just_below_the_limit",
-            it_is_full_just_below_the_limit(),
-        ),
-        (
-            "items_in_place_of_others_do_not_fill_it",
-            items_in_place_of_others_do_not_fill_it(),
-        ),
-        (
-            "there_is_room_within_some_milliseconds",
-            there_is_room_within_some_milliseconds(),
-        ),
-    ];
-    for (name, is_so) in &shown {
-        assert!(rt; *is_so, "{name}");
-    }
+fn nothing_is_stored_before_the_items_are_counted(rt: HostRuntime) -> Result<(), Fail> {
+    let mut limit = Limit::new(LIMIT);
+    assert!(rt; limit.is_due(0, 0) && limit.is_reached(0));
+    limit.found(0, 0, 0);
+    assert!(rt; !limit.is_due(0, 0) && !limit.is_reached(0));
+    Ok(())
+}
+
+#[test]
+fn what_was_asked_since_they_were_counted_counts(rt: HostRuntime) -> Result<(), Fail> {
+    let mut limit = Limit::new(LIMIT);
+    limit.found(LIMIT - 700, 5_000, 0);
+    assert!(rt; !limit.is_reached(5_700));
+    assert!(rt; limit.is_reached(5_701));
+    Ok(())
+}
+
+#[test]
+fn they_are_counted_as_more_is_asked(rt: HostRuntime) -> Result<(), Fail> {
+    let mut limit = Limit::new(LIMIT);
+    limit.found(0, 0, 0);
+    assert!(rt; !limit.is_due(9_999, 1_000_000));
+    assert!(rt; limit.is_due(10_000, 0));
+    let mut store = Store::of(0);
+    assert!(rt; has_room_throughout(&mut store, 5_000));
+    assert_eq!(rt; store.looks, 500);
+    Ok(())
+}
+
+#[test]
+fn it_is_full_just_below_the_limit(rt: HostRuntime) -> Result<(), Fail> {
+    let mut store = Store::of(0);
+    let count = filled(&mut store);
+    assert!(rt; 10_230 <= count && count <= 10_241);
+    Ok(())
+}
+
+#[test]
+fn items_in_place_of_others_do_not_fill_it(rt: HostRuntime) -> Result<(), Fail> {
+    let mut store = Store::of(LIMIT - 20_000);
+    assert!(rt; has_room_throughout(&mut store, 50_000));
+    Ok(())
+}
+
+#[test]
+fn there_is_room_within_some_milliseconds(rt: HostRuntime) -> Result<(), Fail> {
+    let mut store = Store::of(0);
+    assert!(rt; filled(&mut store) != 0);
+    store.bytes = LIMIT / 2;
+    let millis = millis_until_room(&mut store);
+    assert!(rt; matches!(millis, Some(millis) if millis < 10));
     Ok(())
 }

@@ -3,59 +3,37 @@
 use serving::{Patience, Seen, Urge};
 use std::test::Fail;
 
-/// How far a server has come, after so many rests and steps, and what is decided then. `None`: it asks again.
-type Row = (u32, u64, Option<Urge>);
-
 /// How far a server has come, after so many rests and steps.
 fn seen(rests: u32, steps: u64) -> Seen {
     Seen { rests, steps }
 }
 
-/// The first of the rows at which something else is decided.
-fn first_wrong(rows: &[Row]) -> Option<usize> {
-    let mut patience = Patience::new(seen(7, 100));
-    for (at, (rests, steps, urge)) in rows.iter().enumerate() {
-        match urge {
-            Some(urge) => {
-                if patience.tick(1, seen(*rests, *steps)) != *urge {
-                    return Some(at);
-                }
-            }
-            None => patience.ask_again(seen(*rests, *steps)),
-        }
-    }
-    None
-}
-
-/// After the second question there is a pause of one tick.
-const WAITS: [Row; 9] = [
-    (7, 100, Some(Urge::Wait)),
-    (7, 123, Some(Urge::Wait)),
-    (8, 123, Some(Urge::Again)),
-    (8, 123, None),
-    (8, 123, Some(Urge::Wait)),
-    (9, 123, Some(Urge::Suspect)),
-    (9, 123, None),
-    (10, 123, Some(Urge::Wait)),
-    (10, 123, Some(Urge::Suspect)),
-];
-
 #[test]
 fn who_waits_asks_again_at_the_next_rest_and_then_suspects(rt: HostRuntime) -> Result<(), Fail> {
-    assert_eq!(rt; first_wrong(&WAITS), None);
+    let mut patience = Patience::new(seen(7, 100));
+    assert_eq!(rt; patience.tick(1, seen(7, 100)), Urge::Wait);
+    assert_eq!(rt; patience.tick(1, seen(7, 123)), Urge::Wait);
+    assert_eq!(rt; patience.tick(1, seen(8, 123)), Urge::Again);
+    patience.ask_again(seen(8, 123));
+    assert_eq!(rt; patience.tick(1, seen(8, 123)), Urge::Wait);
+    assert_eq!(rt; patience.tick(1, seen(9, 123)), Urge::Suspect);
+    patience.ask_again(seen(9, 123));
+    assert_eq!(rt;
+        patience.tick(1, seen(10, 123)),
+        Urge::Wait,
+        "a pause of one tick"
+    );
+    assert_eq!(rt; patience.tick(1, seen(10, 123)), Urge::Suspect);
     Ok(())
 }
 
-const LEFT_BEHIND: [Row; 4] = [
-    (7, 124, Some(Urge::Again)),
-    (7, 124, None),
-    (7, 147, Some(Urge::Wait)),
-    (7, 148, Some(Urge::Again)),
-];
-
 #[test]
 fn who_is_left_behind_asks_again_and_does_not_suspect(rt: HostRuntime) -> Result<(), Fail> {
-    assert_eq!(rt; first_wrong(&LEFT_BEHIND), None);
+    let mut patience = Patience::new(seen(7, 100));
+    assert_eq!(rt; patience.tick(1, seen(7, 124)), Urge::Again);
+    patience.ask_again(seen(7, 124));
+    assert_eq!(rt; patience.tick(1, seen(7, 147)), Urge::Wait);
+    assert_eq!(rt; patience.tick(1, seen(7, 148)), Urge::Again);
     Ok(())
 }
 
@@ -73,8 +51,8 @@ fn ticks_to_suspicion(patience: &mut Patience) -> usize {
 fn the_pause_between_suspicions_doubles(rt: HostRuntime) -> Result<(), Fail> {
     let mut patience = Patience::new(seen(0, 0));
     patience.ask_again(seen(0, 0));
-    for ticks in &[1, 2, 3, 5, 9, 17, 17usize] {
-        assert!(rt; ticks_to_suspicion(&mut patience) == *ticks, "{ticks}");
+    for ticks in [1, 2, 3, 5, 9, 17, 17usize] {
+        assert_eq!(rt; ticks_to_suspicion(&mut patience), ticks);
     }
     Ok(())
 }

@@ -7,20 +7,11 @@ use std::test::Fail;
 use streams::{Ending, Listener, read_session, write_session};
 
 /// A reader that gives three bytes at a time, and whose reads fail from one on. It counts its reads.
+#[derive(Drop)]
 struct Failing<'a> {
     rest: &'a [u8],
     before: usize,
     reads: usize,
-}
-
-impl Drop for Failing<'_> {
-    fn drop(self) {
-        let Failing {
-            rest: _,
-            before: _,
-            reads: _,
-        } = self;
-    }
 }
 
 impl Read for Failing<'_> {
@@ -36,20 +27,11 @@ impl Read for Failing<'_> {
 }
 
 /// A writer that takes two bytes at a time, and whose writes fail from one on. It counts its writes.
+#[derive(Drop)]
 struct Stuck {
     taken: Vec<u8>,
     before: usize,
     writes: usize,
-}
-
-impl Drop for Stuck {
-    fn drop(self) {
-        let Stuck {
-            taken: _,
-            before: _,
-            writes: _,
-        } = self;
-    }
 }
 
 impl Write for Stuck {
@@ -69,20 +51,11 @@ impl Write for Stuck {
 }
 
 /// Keeps what it hears, and how often it heard a hangup.
+#[derive(Drop)]
 struct Notes {
     heard: Vec<u8>,
     hangups: u8,
     most: usize,
-}
-
-impl Drop for Notes {
-    fn drop(self) {
-        let Notes {
-            heard: _,
-            hangups: _,
-            most: _,
-        } = self;
-    }
 }
 
 impl Listener for Notes {
@@ -107,79 +80,59 @@ fn new_notes(alloc: Global, most: usize) -> Notes {
     }
 }
 
-/// Ten bytes, of which a reader gives three at a time and a writer takes two.
-const TEXT: &[u8; 10] = b"0123456789";
-
-/// Whether a listener hears what comes before the read that fails, the one after so many, and then a hangup.
-fn is_heard(alloc: Global, before: usize) -> bool {
-    let mut input = Failing {
-        rest: TEXT,
-        before,
-        reads: 0,
-    };
-    let mut notes = new_notes(alloc, 100);
-    let ending = read_session(&mut input, &mut notes);
-    let all = if before < 4 { 3 * before } else { 10 };
-    let expected = if before < 5 {
-        Ending::Failed
-    } else {
-        Ending::AtEnd
-    };
-    // Four pieces and the end, or a fault: no read comes after it.
-    let reads = if before < 5 { before + 1 } else { 5 };
-    notes.heard.as_slice() == &TEXT[..all]
-        && notes.hangups == 1
-        && ending == expected
-        && input.reads == reads
-}
-
 #[test]
 fn each_read_fails_once(rt: HostRuntime) -> Result<(), Fail> {
+    let text = b"0123456789";
     for k in 0..6usize {
-        assert!(rt; is_heard(rt.alloc(), k), "{k}");
+        let mut input = Failing {
+            rest: text,
+            before: k,
+            reads: 0,
+        };
+        let mut notes = new_notes(rt.alloc(), 100);
+        let ending = read_session(&mut input, &mut notes);
+        let all = if k < 4 { 3 * k } else { 10 };
+        assert_eq!(rt; notes.heard.as_slice(), &text[..all], "{k}");
+        assert_eq!(rt; notes.hangups, 1, "{k}");
+        let expected = if k < 5 { Ending::Failed } else { Ending::AtEnd };
+        assert_eq!(rt; ending, expected, "{k}");
+        // Four pieces and the end, or a fault: no read comes after it.
+        assert_eq!(rt; input.reads, if k < 5 { k + 1 } else { 5 }, "{k}");
     }
     Ok(())
 }
 
-/// Whether one that has enough after two pieces hears no more.
-fn has_enough(alloc: Global) -> bool {
+#[test]
+fn a_listener_that_has_enough_hears_no_more(rt: HostRuntime) -> Result<(), Fail> {
     let mut input = Failing {
-        rest: TEXT,
+        rest: b"0123456789",
         before: 9,
         reads: 0,
     };
-    let mut notes = new_notes(alloc, 5);
+    let mut notes = new_notes(rt.alloc(), 5);
     let ending = read_session(&mut input, &mut notes);
-    notes.heard.as_slice() == b"012345".as_slice()
-        && notes.hangups == 0
-        && ending == Ending::Enough
-        && input.reads == 2
-}
-
-#[test]
-fn a_listener_that_has_enough_hears_no_more(rt: HostRuntime) -> Result<(), Fail> {
-    assert!(rt; has_enough(rt.alloc()));
+    assert_eq!(rt; notes.heard.as_slice(), b"012345".as_slice());
+    assert_eq!(rt; notes.hangups, 0);
+    assert_eq!(rt; ending, Ending::Enough);
+    assert_eq!(rt; input.reads, 2);
     Ok(())
-}
-
-/// Whether just what comes before the write that fails is written, the one after so many.
-fn is_written(alloc: Global, before: usize) -> bool {
-    let mut output = Stuck {
-        taken: Vec::new(alloc),
-        before,
-        writes: 0,
-    };
-    let ended = write_session(&mut output, TEXT);
-    let expected = if before < 5 { Err(2 * before) } else { Ok(()) };
-    let all = if before < 5 { 2 * before } else { 10 };
-    let writes = if before < 5 { before + 1 } else { 5 };
-    ended == expected && output.taken.as_slice() == &TEXT[..all] && output.writes == writes
 }
 
 #[test]
 fn each_write_fails_once(rt: HostRuntime) -> Result<(), Fail> {
+    let text = b"0123456789";
     for k in 0..7usize {
-        assert!(rt; is_written(rt.alloc(), k), "{k}");
+        let mut output = Stuck {
+            taken: Vec::new(rt.alloc()),
+            before: k,
+            writes: 0,
+        };
+        let ended = write_session(&mut output, text);
+        let expected = if k < 5 { Err(2 * k) } else { Ok(()) };
+        assert_eq!(rt; ended, expected, "{k}");
+        let all = if k < 5 { 2 * k } else { 10 };
+        assert_eq!(rt; output.taken.as_slice(), &text[..all], "{k}");
+        assert_eq!(rt; output.writes, if k < 5 { k + 1 } else { 5 }, "{k}");
     }
     Ok(())
 }

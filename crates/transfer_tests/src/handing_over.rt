@@ -4,10 +4,10 @@ use crate::rows::*;
 use pages::Layout;
 use proto::Fault;
 use states::State;
-use std::alloc::Global;
+use std::alloc::{AllocError, Global};
 use std::test::Fail;
 use transfer::Parcel;
-use wire::read;
+use wire::{read, write};
 
 /// What is to hold of a state and one that has more.
 #[derive(Clone, Copy)]
@@ -33,15 +33,21 @@ fn is_handed_over(alloc: Global, own: &State, more: &State) -> Result<bool, Faul
 /// How many bytes the record of a parcel without pages has: 85 of fields, 16 of sessions, and a count.
 const WITHOUT_PAGES: usize = 105;
 
-/// The record of the answer.
-fn answered_bytes(alloc: Global, own: &State, more: &State) -> Result<Vec<u8>, Fault> {
+fn bytes_of(alloc: Global, parcel: &Parcel) -> Result<Vec<u8>, AllocError> {
+    parcel.is_parcel();
+    let mut bytes = Vec::new(alloc);
+    write(alloc, parcel, &mut bytes)?;
+    Ok(bytes)
+}
+
+fn count_bytes(alloc: Global, own: &State, more: &State) -> Result<usize, Fault> {
     let parcel = answered(alloc, own, more)?;
-    Ok(parcel_bytes(alloc, &parcel)?)
+    let bytes = bytes_of(alloc, &parcel)?;
+    Ok(bytes.len())
 }
 
 fn has_no_pages(alloc: Global, own: &State, more: &State) -> Result<bool, Fault> {
-    let count = answered_bytes(alloc, own, more)?.len();
-    Ok(count == WITHOUT_PAGES && is_handed_over(alloc, own, more)?)
+    Ok(count_bytes(alloc, own, more)? == WITHOUT_PAGES && is_handed_over(alloc, own, more)?)
 }
 
 /// The parcel of these bytes without its one page.
@@ -54,7 +60,8 @@ fn cut(alloc: Global, bytes: Vec<u8>) -> Result<Parcel, Fault> {
 
 /// The answer without its one page.
 fn part(alloc: Global, own: &State, more: &State) -> Result<Parcel, Fault> {
-    cut(alloc, answered_bytes(alloc, own, more)?)
+    let parcel = answered(alloc, own, more)?;
+    cut(alloc, bytes_of(alloc, &parcel)?)
 }
 
 fn is_part_refused(alloc: Global, own: &State, more: &State) -> Result<bool, Fault> {
@@ -238,8 +245,8 @@ fn is_so(alloc: Global, case: &Case) -> Result<bool, Fault> {
 
 #[test]
 fn states_are_handed_over(rt: HostRuntime) -> Result<(), Fail> {
-    for case in &CASES {
-        assert!(rt; is_so(rt.alloc(), case) == Ok(true), "{}", case.name);
+    for case in CASES {
+        assert_eq!(rt; is_so(rt.alloc(), &case), Ok(true), "{}", case.name);
     }
     Ok(())
 }
@@ -260,6 +267,6 @@ fn is_so_over_first(alloc: Global) -> Result<bool, Fault> {
 
 #[test]
 fn a_state_is_handed_over_to_the_first_state(rt: HostRuntime) -> Result<(), Fail> {
-    assert!(rt; is_so_over_first(rt.alloc()) == Ok(true));
+    assert_eq!(rt; is_so_over_first(rt.alloc()), Ok(true));
     Ok(())
 }

@@ -104,6 +104,13 @@ fn add_parcel(bytes: &mut Vec<u8>, layout: Layout) -> Result<(), AllocError> {
     bytes.extend_from_slice(empty)
 }
 
+fn parcel_bytes(alloc: Global, parcel: &Parcel) -> Result<Vec<u8>, AllocError> {
+    parcel.is_parcel();
+    let mut bytes = Vec::new(alloc);
+    write(alloc, parcel, &mut bytes)?;
+    Ok(bytes)
+}
+
 fn parcel_has_bytes(alloc: Global, parcel: &Parcel, expected: &[u8]) -> Result<bool, Fault> {
     let bytes = parcel_bytes(alloc, parcel)?;
     Ok(bytes.as_slice() == expected)

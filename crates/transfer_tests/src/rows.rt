@@ -12,7 +12,7 @@ use states::{Origin, Parts, State};
 use std::alloc::{AllocError, Global};
 use token::{Form, HashedSessions, Token};
 use transfer::{Need, Parcel, answer, take};
-use wire::{read, write};
+use wire::read;
 
 /// The key of this byte, or else `k`.
 fn key(alloc: Global, byte: u8) -> Result<Key, AllocError> {
@@ -108,14 +108,6 @@ fn answer_to(alloc: Global, need: &Need, more: &State) -> Result<Parcel, Fault> 
 pub fn answered(alloc: Global, own: &State, more: &State) -> Result<Parcel, Fault> {
     let need = Need::of_state(alloc, own)?;
     answer_to(alloc, &need, more)
-}
-
-/// The bytes of the record of a parcel.
-pub fn parcel_bytes(alloc: Global, parcel: &Parcel) -> Result<Vec<u8>, AllocError> {
-    parcel.is_parcel();
-    let mut bytes = Vec::new(alloc);
-    write(alloc, parcel, &mut bytes)?;
-    Ok(bytes)
 }
 
 /// Whether two states are of one number and token and of the same root over their pages.

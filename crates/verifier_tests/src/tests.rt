@@ -28,8 +28,8 @@ const WRONG: [(&str, usize); 6] = [
 
 #[test]
 fn a_wrong_line_is_found(rt: HostRuntime) -> Result<(), Fail> {
-    for (text, line) in &WRONG {
-        assert_eq!(rt; play::first_wrong(rt.alloc(), *text), Some(*line), "{text}");
+    for (text, line) in WRONG {
+        assert_eq!(rt; play::first_wrong(rt.alloc(), text), Some(line), "{text}");
     }
     Ok(())
 }

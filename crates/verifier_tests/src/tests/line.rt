@@ -185,9 +185,9 @@ fn said(form: Form, [a, b, c, d, e]: [u64; 5]) -> Option<Ballot> {
 
 /// What a letter says.
 pub fn ballot(words: &[&str]) -> Option<Ballot> {
-    for (form, text) in &FORMS {
-        if let Some(numbers) = numbers(words, *text) {
-            return said(*form, numbers);
+    for (form, text) in FORMS {
+        if let Some(numbers) = numbers(words, text) {
+            return said(form, numbers);
         }
     }
     None

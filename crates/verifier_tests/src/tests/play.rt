@@ -78,6 +78,7 @@ impl Player {
 }
 
 /// The verifiers, what the latest input was answered with, and how many of its letters were said.
+#[derive(Drop)]
 struct Play {
     alloc: Global,
     u: u8,
@@ -85,19 +86,6 @@ struct Play {
     letters: Vec<Letter<Ballot>>,
     said: usize,
     fault: Option<Fault>,
-}
-
-impl Drop for Play {
-    fn drop(self) {
-        let Play {
-            alloc: _,
-            u: _,
-            players: _,
-            letters: _,
-            said: _,
-            fault: _,
-        } = self;
-    }
 }
 
 impl Play {
