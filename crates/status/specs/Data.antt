@@ -69,15 +69,6 @@ memory_data x = object (member (codes "item_bytes") (whole x.item_bytes)
     (member (codes "refusals") (whole x.refusals)
     (member (codes "resident_bytes") (whole x.resident_bytes) no_members))))
 
-unfoldable pub saves_data : Saves → Data
-saves_data x = object (member (codes "bytes") (whole x.bytes)
-    (member (codes "current_folders") (whole x.current_folders)
-    (member (codes "failed") (whole x.failed)
-    (member (codes "failing") (whole x.failing)
-    (member (codes "folders") (whole x.folders)
-    (member (codes "made") (whole x.made)
-    (member (codes "waiting") (whole x.waiting) no_members)))))))
-
 unfoldable pub folder_data : FolderFigures → Data
 folder_data x = object (member (codes "bytes") (whole x.bytes)
     (member (codes "current") (boolean x.is_current)
@@ -91,6 +82,17 @@ folders_data folders = array (items_of (map folder_data folders))
 -- those that are there
 unfoldable pub all_folders_data : Folders → Data
 all_folders_data x = folders_data (take x.count x.each)
+
+-- saves, and what is known of each folder
+unfoldable pub saves_data : Saves → Folders → Data
+saves_data x folders = object (member (codes "bytes") (whole x.bytes)
+    (member (codes "current_folders") (whole x.current_folders)
+    (member (codes "each_folder") (all_folders_data folders)
+    (member (codes "failed") (whole x.failed)
+    (member (codes "failing") (whole x.failing)
+    (member (codes "folders") (whole x.folders)
+    (member (codes "made") (whole x.made)
+    (member (codes "waiting") (whole x.waiting) no_members))))))))
 
 -- how many lines were refused, in the order of ALL_REFUSALS
 unfoldable pub refusals_data : Refusals → Data
@@ -144,15 +146,14 @@ unfoldable pub figures_data : Figures → Folders → Data
 figures_data f folders = object (member (codes "batches") (batches_data f.batches)
     (member (codes "commands") (all_commands_data f.commands)
     (member (codes "connections") (connections_data f.connections)
-    (member (codes "folders") (all_folders_data folders)
     (member (codes "keys") (keys_data f.keys)
     (member (codes "memory") (memory_data f.memory)
     (member (codes "refusals") (refusals_data f.refusals)
     (member (codes "replicas") (replicas_data f.replicas)
-    (member (codes "saves") (saves_data f.saves)
+    (member (codes "saves") (saves_data f.saves folders)
     (member (codes "server") (server_data f.limits)
     (member (codes "times") (times_data f)
-    (member (codes "uptime_seconds") (whole f.uptime_seconds) no_members))))))))))))
+    (member (codes "uptime_seconds") (whole f.uptime_seconds) no_members)))))))))))
 
 -- what the page draws of one moment
 unfoldable pub sample_data : Sample → Data

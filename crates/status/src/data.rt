@@ -57,13 +57,6 @@ fn memory_json(alloc: Global, memory: &Memory) -> Result<Value, AllocError>
     json!(in alloc; {"items": memory.items, "item_bytes": memory.item_bytes, "resident_bytes": memory.resident_bytes, "refusals": memory.refusals})
 }
 
-#[tactic(auto, unfolding(crate::specs::Data::saves_data))]
-fn saves_json(alloc: Global, saves: &Saves) -> Result<Value, AllocError>
-    ensures { IfOk result (λ v. view v ≡ spec.saves_data saves.now) }
-{
-    json!(in alloc; {"made": saves.made, "failed": saves.failed, "waiting": saves.waiting, "failing": saves.failing, "bytes": saves.bytes, "folders": saves.folders, "current_folders": saves.current_folders})
-}
-
 #[tactic(auto, unfolding(crate::specs::Data::folder_data))]
 fn folder_json(alloc: Global, folder: &FolderFigures) -> Result<Value, AllocError>
     ensures { IfOk result (λ v. view v ≡ spec.folder_data folder.now) }
@@ -87,6 +80,14 @@ fn all_folders_json(alloc: Global, folders: &Folders) -> Result<Value, AllocErro
     ensures { IfOk result (λ v. view v ≡ spec.all_folders_data folders.now) }
 {
     folders_json(alloc, folders.there())
+}
+
+/// Saves, and what is known of each folder.
+#[tactic(auto, unfolding(crate::specs::Data::saves_data))]
+fn saves_json(alloc: Global, saves: &Saves, folders: &Folders) -> Result<Value, AllocError>
+    ensures { IfOk result (λ v. view v ≡ spec.saves_data saves.now folders.now) }
+{
+    json!(in alloc; {"made": saves.made, "failed": saves.failed, "waiting": saves.waiting, "failing": saves.failing, "bytes": saves.bytes, "folders": saves.folders, "current_folders": saves.current_folders, "each_folder": all_folders_json(alloc, folders)?})
 }
 
 /// How many lines were refused, by why.
@@ -207,8 +208,7 @@ fn figures_json(alloc: Global, figures: &Figures, folders: &Folders) -> Result<V
         "batches": batches_json(alloc, &figures.batches)?,
         "replicas": replicas_json(alloc, &figures.replicas)?,
         "memory": memory_json(alloc, &figures.memory)?,
-        "saves": saves_json(alloc, &figures.saves)?,
-        "folders": all_folders_json(alloc, folders)?,
+        "saves": saves_json(alloc, &figures.saves, folders)?,
         "times": times_json(alloc, figures)?
     })
 }

@@ -179,7 +179,7 @@ function show(f) {
     ["Waiting for a save", short(f.saves.waiting), f.saves.waiting === 1 ? "message to a connection" : "messages to connections"], ["Data on disk", size(f.saves.bytes), f.saves.folders === 1 ? "files in the folder" : "files in all folders"],
     ["Folders", whole(f.saves.current_folders) + " of " + whole(f.saves.folders), f.saves.current_folders === 1 ? "has the last save" : "have the last save", behind > 0 ? "bad" : ""], ["A save takes", time(Math.round(f.times.save.sum / Math.max(1, sum(f.times.save.counts)))), "mean since the start"]] : []);
   charts(rates, counts);
-  folders(f.saves.made || f.saves.failed ? f.folders : []);
+  folders(f.saves.made || f.saves.failed ? f.saves.each_folder : []);
   nodes("executors", executors);
   nodes("verifiers", verifiers);
   rows("replicas", [["Epoch", whole(f.replicas.epoch)], ["View", whole(f.replicas.view)], ["State", whole(f.replicas.number)], ["Suspicions", whole(f.replicas.suspicions)],
