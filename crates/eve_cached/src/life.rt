@@ -281,6 +281,7 @@ fn tell_first<R: Clock + Files + Eprint + AllocGlobal>(
 /// Runs a daemon that saves what it answers, and goes on from what was found. It shows what is counted of its folders, and
 /// tells where it listens once clients are served. The status of the program if it ends by itself.
 pub fn run<
+    'a,
     R: Net<Listener = TcpListener, Stream = TcpStream>
         + Threads
         + Wait
@@ -290,7 +291,13 @@ pub fn run<
         + AllocGlobal
         + Sync,
     S: Save + Drop + Send,
->(rt: &R, settings: Settings, saver: S, found: Option<ServiceRecord>, counts: &FolderCounts) -> u8 {
+>(
+    rt: &'a R,
+    settings: Settings,
+    saver: S,
+    found: Option<ServiceRecord>,
+    counts: &'a FolderCounts,
+) -> u8 {
     let is_found = found.is_some();
     let connections = tell_first(rt, &settings, is_found);
     let options = options_of(&settings, connections);
