@@ -37,7 +37,10 @@ fn status_of(fault: FoldersFault) -> u8 {
 /// Where what is answered is saved.
 #[derive(Drop)]
 pub enum Data {
-    Nowhere,
+    Nowhere {
+        /// What is counted of no folder.
+        counts: Arc<FolderCounts>,
+    },
     In {
         folders: HostFolders,
         /// What is counted of each of them.
@@ -114,6 +117,14 @@ pub fn open_data(rt: &HostRuntime, settings: &Settings) -> Result<Option<Opened<
     }
 }
 
+/// There is no folder. If there is no memory to say so the log tells it.
+fn nowhere<R: Clock + Eprint + AllocGlobal>(rt: &R, settings: &Settings) -> Result<Data, u8> {
+    match Arc::new(rt.alloc(), FolderCounts::none(rt.alloc())) {
+        Ok(counts) => Ok(Data::Nowhere { counts }),
+        Err(_) => Err(refused(rt, settings, FoldersFault::NoMemory)),
+    }
+}
+
 /// Begins with what was opened. If that cannot be done the log tells why.
 pub fn begin_data<R: Threads + Clock + Eprint + AllocGlobal + Sync>(
     rt: &R,
@@ -121,7 +132,7 @@ pub fn begin_data<R: Threads + Clock + Eprint + AllocGlobal + Sync>(
     opened: Option<Opened<HostFolder>>,
 ) -> Result<Data, u8> {
     let Some(opened) = opened else {
-        return Ok(Data::Nowhere);
+        return nowhere(rt, settings);
     };
     match HostFolders::begin(rt, rt.alloc(), opened) {
         Ok((folders, found)) => match folders.counts() {

@@ -23,7 +23,7 @@ use std::os::fd::AsRawFd;
 use std::os::unix::fs::FileTypeExt;
 use std::os::unix::net::{UnixListener, UnixStream};
 use std::rt::{Clock, Files};
-use std::sync::Wait;
+use std::sync::{Arc, Wait};
 use std::thread::Threads;
 use std::{fs, io, thread};
 
@@ -281,7 +281,6 @@ fn tell_first<R: Clock + Files + Eprint + AllocGlobal>(
 /// Runs a daemon that saves what it answers, and goes on from what was found. It shows what is counted of its folders, and
 /// tells where it listens once clients are served. The status of the program if it ends by itself.
 pub fn run<
-    'a,
     R: Net<Listener = TcpListener, Stream = TcpStream>
         + Threads
         + Wait
@@ -292,11 +291,11 @@ pub fn run<
         + Sync,
     S: Save + Drop + Send,
 >(
-    rt: &'a R,
+    rt: &R,
     settings: Settings,
     saver: S,
     found: Option<ServiceRecord>,
-    counts: &'a FolderCounts,
+    counts: Arc<FolderCounts>,
 ) -> u8 {
     let is_found = found.is_some();
     let connections = tell_first(rt, &settings, is_found);
@@ -322,7 +321,7 @@ pub fn run<
                 rt,
                 watcher,
                 status,
-                Known::begin(rt, &settings, connections, counts, is_found),
+                Known::begin(rt, &settings, connections, &*counts, is_found),
             );
         },
     );

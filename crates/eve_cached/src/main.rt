@@ -23,7 +23,6 @@ use crate::life::run;
 use clap::Error;
 use clap::error::ErrorKind;
 use daemon::{Settings, read_settings};
-use data_folders::FolderCounts;
 use server::NoFolder;
 use std::process::ExitCode;
 use words::{WordsFault, words_of};
@@ -76,9 +75,8 @@ fn main(rt: HostRuntime) -> ExitCode {
         Err(status) => return ExitCode::from(status),
     };
     match begin_data(&rt, &settings, opened) {
-        Ok(Data::Nowhere) => {
-            let counts = FolderCounts::none(rt.alloc());
-            ExitCode::from(run(&rt, settings, NoFolder, None, &counts))
+        Ok(Data::Nowhere { counts }) => {
+            ExitCode::from(run(&rt, settings, NoFolder, None, counts))
         }
         Ok(
             Data::In {
@@ -86,7 +84,7 @@ fn main(rt: HostRuntime) -> ExitCode {
                 counts,
                 found,
             },
-        ) => ExitCode::from(run(&rt, settings, folders, found, &*counts)),
+        ) => ExitCode::from(run(&rt, settings, folders, found, counts)),
         Err(status) => ExitCode::from(status),
     }
 }
