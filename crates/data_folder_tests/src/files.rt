@@ -30,24 +30,31 @@ pub struct Layout {
     pub log_pages: usize,
 }
 
-/// Small pages, few of them in memory. Each save is copied into the file.
+/// Small pages, few of them in memory. Some saves are copied into the file together.
 pub const SMALL: Layout = Layout {
     page_bytes: 512,
     pages: 8,
-    log_pages: 6,
+    log_pages: 60,
 };
 
-/// Small pages. No save is copied into the file.
+/// The same, and almost each save is copied into the file.
+pub const COPIED: Layout = Layout {
+    page_bytes: 512,
+    pages: 8,
+    log_pages: 12,
+};
+
+/// The same, and no save is copied into the file.
 pub const LOGGED: Layout = Layout {
     page_bytes: 512,
-    pages: 2000,
+    pages: 8,
     log_pages: 100_000,
 };
 
-/// As in a folder.
+/// As in a folder, with fewer pages in memory: to make room for them takes time at each open.
 pub const USUAL: Layout = Layout {
     page_bytes: 4096,
-    pages: 2000,
+    pages: 16,
     log_pages: 1000,
 };
 

@@ -13,7 +13,7 @@ use std::process::Abort;
 use std::test::Fail;
 
 /// So many bytes lie from one byte that is changed to the next.
-const STEP: usize = 31;
+const STEP: usize = 127;
 
 /// The files after all saves. The last one is in the log alone, and all others are in the database alone.
 #[derive(Drop)]
@@ -146,7 +146,7 @@ fn a_damaged_byte_of_the_log_leaves_the_last_save_or_the_one_before(
     let moments = small_moments(&rt, alloc, 0, 16)?;
     let mut saved = saved_files(alloc, &moments)?;
     let (told, untold) = damage_each(&rt, alloc, &moments, &mut saved, Damaged::Log)?;
-    assert!(rt; untold > 50, "{told} {untold}");
+    assert!(rt; untold > 20, "{told} {untold}");
     Ok(())
 }
 
