@@ -1,8 +1,8 @@
 //! Some of the pages of a store, shared together.
 
-ghost use Rattle.std.specs.Prelude.{◌≡◌, ◌≤◌, ◌<◌, ◌+◌, ◌⊎◌, ℕ, length, slice_index_or, [], map as map_list, IfOk, OnOk, OnErr};
+ghost use Rattle.std.specs.Prelude.{◌≡◌, ◌<◌, ℕ, length, slice_index_or, [], map as map_list, IfOk, OnOk, OnErr};
 ghost use Rattle.std.specs.FinMap as map;
-ghost use Rattle.pages.specs.Page.{PageState, page_count, sealed_in};
+ghost use Rattle.pages.specs.Page.{PageState, sealed_in};
 ghost use Rattle.pages.specs.Layout.{digest_in};
 ghost use Rattle.pages.specs.Group.{page_at, IsEditAt};
 ghost use Rattle.pages.specs.declared.group.TheConstants.{GROUP_PAGES};
@@ -14,7 +14,6 @@ use proto::Key;
 use std::alloc::{AllocError, Global};
 use std::marker::Model;
 use std::sync::Arc;
-use token::PAGES;
 
 /// How many groups the pages of a store are in.
 pub(crate) const GROUPS: usize = 16;
@@ -103,16 +102,15 @@ impl GroupPages {
             .fold(0usize, |sum, page| sum.saturating_add(page.weight()))
     }
 
-    fn put_digests(&self, first: usize, digests: &mut [[u8; 32]; PAGES])
-        requires { first + GROUP_PAGES ≤ page_count }
-        ensures own { (i : ℕ) → i < GROUP_PAGES → slice_index_or digests.new (first + i) []
-            ≡ digest_in (page_at self.now i).layout (page_at self.now i).items }
-        ensures others { (k : ℕ) → (k < first) ⊎ (first + GROUP_PAGES ≤ k) → slice_index_or digests.new k [] ≡ slice_index_or digests.old k [] }
+    fn digests(&self) -> [[u8; 32]; GROUP_PAGES]
+        ensures { (i : ℕ) → i < GROUP_PAGES → slice_index_or result i [] ≡ digest_in (page_at self.now i).layout (page_at self.now i).items }
     {
         let _ = &self.pages;
+        let mut digests = [[0u8; 32]; GROUP_PAGES];
         for index in 0..GROUP_PAGES {
-            digests[first + index] = self.page(index).digest();
+            digests[index] = self.page(index).digest();
         }
+        digests
     }
 }
 
@@ -207,14 +205,11 @@ impl Group {
         self.pages.weight()
     }
 
-    /// Sets the digests of the pages, the first of which has this number.
-    pub(crate) fn put_digests(&self, first: usize, digests: &mut [[u8; 32]; PAGES])
-        requires { first + GROUP_PAGES ≤ page_count }
-        ensures own { (i : ℕ) → i < GROUP_PAGES → slice_index_or digests.new (first + i) []
-            ≡ digest_in (page_at self.now i).layout (page_at self.now i).items }
-        ensures others { (k : ℕ) → (k < first) ⊎ (first + GROUP_PAGES ≤ k) → slice_index_or digests.new k [] ≡ slice_index_or digests.old k [] }
+    /// The digests of the pages, in the order of their places.
+    pub(crate) fn digests(&self) -> [[u8; 32]; GROUP_PAGES]
+        ensures { (i : ℕ) → i < GROUP_PAGES → slice_index_or result i [] ≡ digest_in (page_at self.now i).layout (page_at self.now i).items }
     {
-        self.pages.put_digests(first, digests);
+        self.pages.digests()
     }
 }
 

@@ -2,6 +2,7 @@
 
 ghost use Rattle.std.specs.Prelude.{◌≡◌, ◌≢◌, ◌<◌, ℕ, length, false, slice_index_or, [], IfOk, OnOk, OnErr};
 ghost use Rattle.std.specs.FinMap as map;
+ghost use Rattle.std.specs.Arc.{arc_value};
 ghost use Rattle.items.specs.Map.{alive};
 ghost use Rattle.pages.specs.Page.{page_count};
 ghost use Rattle.pages.specs.Group.{page_at, page_in_group, pages_in, AreGroups, IsEditAt, IsKeptPage, AreUnwrittenKept};
@@ -13,10 +14,12 @@ use crate::group::{GROUP_PAGES, GROUPS, Group};
 use crate::layout::Layout;
 use crate::page::Page;
 use crate::page_set::PageSet;
+use crate::tree::Tree;
 use items::Item;
 use proto::Key;
 use std::alloc::{AllocError, Global};
 use std::marker::Model;
+use std::sync::Arc;
 use token::PAGES;
 
 /// `PAGES` pages in groups, which are shared with clones: page `p` is in group `p / GROUP_PAGES`.
@@ -101,24 +104,20 @@ impl Groups {
         Ok(())
     }
 
-    /// Brings each page of a group into this layout, makes its digest, and sets it. The only error is a failed
-    /// allocation.
-    fn seal(
-        &mut self,
-        group: usize,
-        layout: Layout,
-        digests: &mut [[u8; 32]; PAGES],
-    ) -> Result<(), AllocError>
+    /// Brings each page of a group into this layout, and renews the tree over the digests of all pages. The only error
+    /// is a failed allocation.
+    fn seal(&mut self, group: usize, layout: Layout, tree: &mut Tree) -> Result<(), AllocError>
         requires { group < GROUPS }
         ensures sealed { OnOk result ((i : ℕ) → i < GROUP_PAGES
-            → IsKeptPage layout (page_at self.new (page_in_group group i)) (slice_index_or digests.new (page_in_group group i) [])) }
+            → IsKeptPage layout (page_at self.new (page_in_group group i)) (slice_index_or tree.new (page_in_group group i) [])) }
         ensures others { OnOk result ((g i : ℕ) → g ≢ group → i < GROUP_PAGES
-            → (page_at self.new (page_in_group g i) ≡ page_at self.old (page_in_group g i)) × (slice_index_or digests.new (page_in_group g i) [] ≡ slice_index_or digests.old (page_in_group g i) [])) }
+            → (page_at self.new (page_in_group g i) ≡ page_at self.old (page_in_group g i)) × (slice_index_or tree.new (page_in_group g i) [] ≡ slice_index_or tree.old (page_in_group g i) [])) }
         ensures items { OnOk result (items_of self.new ≡ items_of self.old) }
+        ensures count { OnOk result (length tree.new ≡ page_count) }
     {
         let written = &mut self.groups[group];
         written.seal(layout)?;
-        written.put_digests(group * GROUP_PAGES, digests);
+        tree.renew_group(group, &written.digests())?;
         Ok(())
     }
 
@@ -128,11 +127,11 @@ impl Groups {
         group: usize,
         layout: Layout,
         written: &mut [bool; GROUPS],
-        digests: &mut [[u8; 32]; PAGES],
+        tree: &mut Tree,
     ) -> Result<(), AllocError>
         requires within { group < GROUPS }
-        requires kept { AreUnwrittenKept layout self.old digests.old written.old }
-        ensures kept { OnOk result (AreUnwrittenKept layout self.new digests.new written.new) }
+        requires kept { AreUnwrittenKept layout self.old tree.old written.old }
+        ensures kept { OnOk result (AreUnwrittenKept layout self.new tree.new written.new) }
         ensures done { OnOk result (slice_index_or written.new group false ≡ false) }
         ensures others { OnOk result ((g : ℕ) → g ≢ group → slice_index_or written.new g false ≡ slice_index_or written.old g false) }
         ensures items { OnOk result (items_of self.new ≡ items_of self.old) }
@@ -140,29 +139,42 @@ impl Groups {
         if !written[group] {
             return Ok(());
         }
-        self.seal(group, layout, digests)?;
+        self.seal(group, layout, tree)?;
         written[group] = false;
         Ok(())
     }
 
-    /// Seals each group that was written in this layout, in which the others are sealed: the result has the digests of
-    /// all pages, of which these are those of the other groups. The only error is a failed allocation.
+    /// Seals each group that was written, in a tree that is not shared.
+    fn seal_each(
+        &mut self,
+        layout: Layout,
+        written: [bool; GROUPS],
+        tree: &mut Tree,
+    ) -> Result<(), AllocError>
+        requires { AreUnwrittenKept layout self.old tree.old written }
+        ensures kept { OnOk result (AreUnwrittenKept layout self.new tree.new []) }
+        ensures items { OnOk result (items_of self.new ≡ items_of self.old) }
+    {
+        let mut left = written;
+        for group in 0..GROUPS {
+            self.seal_one(group, layout, &mut left, tree)?;
+        }
+        Ok(())
+    }
+
+    /// Seals each group that was written in this layout, in which the others are sealed, and renews the tree over the
+    /// digests of all pages, which has those of the other groups. The only error is a failed allocation.
     pub(crate) fn seal_written(
         &mut self,
         layout: Layout,
         written: [bool; GROUPS],
-        digests: [[u8; 32]; PAGES],
-    ) -> Result<[[u8; 32]; PAGES], AllocError>
-        requires { AreUnwrittenKept layout self.old digests written }
-        ensures kept { IfOk result (λ all. AreUnwrittenKept layout self.new all []) }
+        tree: &mut Arc<Tree, Global>,
+    ) -> Result<(), AllocError>
+        requires { AreUnwrittenKept layout self.old (arc_value tree.old) written }
+        ensures kept { OnOk result (AreUnwrittenKept layout self.new (arc_value tree.new) []) }
         ensures items { OnOk result (items_of self.new ≡ items_of self.old) }
     {
-        let mut left = written;
-        let mut all = digests;
-        for group in 0..GROUPS {
-            self.seal_one(group, layout, &mut left, &mut all)?;
-        }
-        Ok(all)
+        self.seal_each(layout, written, Arc::make_mut(tree)?)
     }
 
     /// What it costs to make the digests of a group's pages that are not kept, in entries.

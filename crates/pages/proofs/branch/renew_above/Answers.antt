@@ -1,9 +1,9 @@
 use Rattle.std.proofs.Common.{◌≡◌, ◌+◌, ◌-◌, refl, arith, subst}
-use Rattle.pages.proofs.TreeLemmas.{IsRenewed, renewed-made, renewed-same}
-use Rattle.pages.proofs.tree.renew_above.Goals as goal
+use Rattle.pages.proofs.NodeLemmas.{IsRenewed, renewed-made, renewed-same}
+use Rattle.pages.proofs.branch.renew_above.Goals as goal
 
 pub loop-node-init : goal.loop-node-init
-loop-node-init c = record { count = c.requires.count; marks = c.told-changed; kept = refl; done = λ j low from high. absurd (omega (arith, from, high)); left = c.requires.above }
+loop-node-init c = record { count = c.told-nodes; marks = c.told-changed; kept = refl; done = λ j low from high. absurd (omega (arith, from, high)); left = c.requires }
 
 pub loop-node-preserved-in-loop-node : goal.loop-node-preserved-in-loop-node
 loop-node-preserved-in-loop-node c =

@@ -1,5 +1,5 @@
-use Rattle.pages.proofs.TreeLemmas.{IsRenewed}
-use Rattle.pages.proofs.tree.renew_above.Given as goal
+use Rattle.pages.proofs.NodeLemmas.{IsRenewed}
+use Rattle.pages.proofs.branch.renew_above.Given as goal
 
 -- the inner nodes from this one on are renewed
 abbrev pub invariant-loop-node : goal.invariant-loop-node

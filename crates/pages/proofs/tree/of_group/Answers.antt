@@ -1,0 +1,1 @@
+use Rattle.pages.proofs.tree.of_group.Goals as goal
