@@ -1,6 +1,6 @@
 use Rattle.std.proofs.Common.{ap, ◌∙◌}
 use Rattle.pages.specs.Tree.{branch_root}
-use Rattle.pages.proofs.NodeLemmas.{root-of_nodes}
+use Rattle.pages.proofs.NodeLemmas.{read-root}
 use Rattle.pages.proofs.branch.Nodes.root.Goals as goal
 
 pub returns : goal.returns
