@@ -1,6 +1,4 @@
-use Rattle.std.proofs.Common.{◌≡◌, ◌≤◌, List, ℕ, sym, ◌∙◌, ap, take, subst, arith}
-use Rattle.std.proofs.lemmas.List.{take_all}
-use Rattle.pages.specs.declared.group.TheConstants.{GROUPS}
+use Rattle.std.proofs.Common.{◌+◌, List, ℕ, sym, ◌∙◌, subst}
 use Rattle.pages.proofs.TreeLemmas.{AreMade, made-none, made-next}
 use Rattle.pages.proofs.tree.branches_over.Goals as goal
 

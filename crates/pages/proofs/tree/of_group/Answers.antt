@@ -1,1 +1,0 @@
-use Rattle.pages.proofs.tree.of_group.Goals as goal
