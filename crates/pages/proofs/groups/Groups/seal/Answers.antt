@@ -8,12 +8,12 @@ use Rattle.pages.proofs.groups.Groups.seal.Goals.{In_ok-renew_group}
 use Rattle.pages.proofs.groups.Groups.seal.Goals as goal
 
 whole : (c : In_ok-renew_group)
-    → IsGroupSealed c.args.layout c.args.group (pages_in c.self.inside.groups.items) (pages_in (set c.self.inside.groups.items c.args.group c.seal.new.self)) c.args.tree.now c.renew_group.new.tree
+    → IsGroupSealed c.args.layout c.args.group (pages_in c.self.inside.groups.items) (pages_in (set c.self.inside.groups.items c.args.group c.seal.new.self)) c.args.tree.now c.renew_group.new.self
 whole c =
     let gs = c.self.inside.groups.items in
     let within : c.args.group < length c.self.inside.groups.items = omega (arith, c.requires, c.self.invariant.count) in
     let before = c.index_mut-written.ensures.value ∙ get_or_default gs c.args.group c.index_mut-written.result.now [] within in
-    group-sealed c.args.layout gs c.args.group c.seal.new.self c.args.tree.now c.renew_group.new.tree c.self.invariant c.requires
+    group-sealed c.args.layout gs c.args.group c.seal.new.self c.args.tree.now c.renew_group.new.self c.self.invariant c.requires
     (c.in_ok-seal.ensures.ok ∙ ap (map (sealed_in c.args.layout)) before)
     (λ i l. c.in_ok-renew_group.ensures.own i l ∙ c.digests.ensures i l) c.in_ok-renew_group.ensures.others
 
