@@ -72,6 +72,12 @@ page-of gs n d are l =
     let at = place-of n l in
     sym (member-in gs (n / GROUP_PAGES) (n % GROUP_PAGES) d are.each at.2) ∙ ap (λ (k : ℕ). get_or (pages_in gs) k d) at.0
 
+-- a page of a group that was read
+pub page-read : (gs : List (List PageState)) (group i : ℕ) (x : List PageState) → AreGroups gs → group < GROUPS → i < GROUP_PAGES → x ≡ get_or gs group x
+    → page_at x i ≡ page_at (pages_in gs) (page_in_group group i)
+page-read gs group i x are few l read =
+    ap (λ (ps : List PageState). get_or ps i no_page) (read ∙ get_or_default gs group x [] (omega (arith, few, are.count))) ∙ sym (member-in gs group i no_page are.each l)
+
 -- after a write the group is marked
 pub kept-written : (layout : Layout) (pages new : List PageState) (digests : List (List ℕ)) (written : List Bool) (n : ℕ) → AreUnwrittenKept layout pages digests written → length written ≡ GROUPS
     → n < page_count → IsEditAt n pages new → ArePages (items_of new) → AreUnwrittenKept layout new digests (set written (n / GROUP_PAGES) true)

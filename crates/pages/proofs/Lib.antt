@@ -3,6 +3,7 @@ pub mod JoinedLemmas
 pub mod PartLemmas
 pub mod StateLemmas
 mod LongLemmas
+mod StillLemmas
 mod GroupLemmas
 pub mod PageLemmas
 pub mod CountLemmas

@@ -4,10 +4,10 @@ ghost use Rattle.std.specs.Prelude.{◌≡◌, ◌≢◌, ◌<◌, ℕ, length, 
 ghost use Rattle.std.specs.FinMap as map;
 ghost use Rattle.std.specs.Arc.{arc_value};
 ghost use Rattle.items.specs.Map.{alive};
-ghost use Rattle.pages.specs.Page.{page_count};
-ghost use Rattle.pages.specs.Group.{page_at, page_in_group, pages_in, AreGroups, IsEditAt, IsKeptPage, AreUnwrittenKept};
+ghost use Rattle.pages.specs.Page.{page_count, item_count};
+ghost use Rattle.pages.specs.Group.{page_at, page_in_group, pages_in, AreGroups, IsEditAt, IsKeptPage, IsStill, AreUnwrittenKept};
 ghost use Rattle.pages.specs.Joined.{ArePages, joined_pages, items_of};
-ghost use Rattle.pages.specs.Others.{AreSameBeside};
+ghost use Rattle.pages.specs.Others.{has_page, AreSameBeside, AreWithin};
 ghost use Rattle.pages.specs.declared.group.TheConstants.{GROUPS, GROUP_PAGES};
 
 use crate::group::{GROUP_PAGES, GROUPS, Group};
@@ -189,25 +189,37 @@ impl Groups {
         requires { ArePages (items_of self.now) }
         ensures { result ≡ length (map.entries (joined_pages (items_of self.now))) }
     {
-        let mut len = 0;
-        for number in 0..PAGES {
-            len += self.page(number).len();
-        }
-        len
+        count_in(&self.groups)
     }
 
-    /// The pages in which something is due at the moment or before it.
+    /// Adds the pages of a group in which something is due.
+    fn add_due(&self, group: usize, moment: u32, due: &mut PageSet)
+        requires { group < GROUPS }
+        ensures within { AreWithin due.old due.new }
+        ensures own { (i : ℕ) → i < GROUP_PAGES → has_page due.new (page_in_group group i) ≡ false → IsStill moment (page_at self.now (page_in_group group i)) }
+    {
+        self.groups[group].add_due(group * GROUP_PAGES, moment, due);
+    }
+
+    /// The pages in which something is due at the moment or before it. It looks at pages of groups alone in which
+    /// something is due, or of which that is not known.
     pub(crate) fn due(&self, moment: u32) -> PageSet
         requires { ArePages (items_of self.now) }
         ensures { AreSameBeside result (joined_pages (items_of self.now)) (alive (joined_pages (items_of self.now)) moment) }
     {
         let mut due = PageSet::new();
-        for number in 0..PAGES {
-            if self.page(number).has_due(moment) {
-                due.add(number);
-            }
+        for group in 0..GROUPS {
+            self.add_due(group, moment, &mut due);
         }
         due
+    }
+
+    /// Whether something is due in one of the pages of a group.
+    fn has_due_in(&self, group: usize, moment: u32) -> bool
+        requires { group < GROUPS }
+        ensures { result ≡ false → (i : ℕ) → i < GROUP_PAGES → IsStill moment (page_at self.now (page_in_group group i)) }
+    {
+        self.groups[group].has_due(moment)
     }
 
     /// Whether something is due in one of the pages at the moment or before it.
@@ -215,13 +227,25 @@ impl Groups {
         requires { ArePages (items_of self.now) }
         ensures { result ≡ false → alive (joined_pages (items_of self.now)) moment ≡ joined_pages (items_of self.now) }
     {
-        for number in 0..PAGES {
-            if self.page(number).has_due(moment) {
+        for group in 0..GROUPS {
+            if self.has_due_in(group, moment) {
                 return true;
             }
         }
         false
     }
+}
+
+/// How many items the pages of all groups have.
+fn count_in(groups: &Vec<Group>) -> u64
+    requires { length groups.now.items ≡ GROUPS }
+    ensures { result ≡ item_count (items_of (pages_in groups.now.items)) }
+{
+    let mut count = 0;
+    for group in 0..GROUPS {
+        count += groups[group].len();
+    }
+    count
 }
 
 /// These pages, which are as many as a store has, in groups. The only error is a failed allocation.
