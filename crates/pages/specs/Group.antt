@@ -47,7 +47,7 @@ abbrev pub AreStill : ℕ → List PageState → Type 0
 AreStill moment pages = (i : ℕ) → i < GROUP_PAGES → IsStill moment (page_at pages i)
 
 -- What is known of the pages of a group: how many items they have, and a time before which nothing of them is due.
-pub record IsKnown (pages : List PageState) (len first_due : ℕ) : Type 0 where
+pub record IsKnownGroup (pages : List PageState) (len first_due : ℕ) : Type 0 where
   pub counted : len ≡ item_count (items_of pages)
   pub few : len ≤ 2 ^ 36
   pub still : (moment : ℕ) → moment < first_due → AreStill moment pages

@@ -239,7 +239,7 @@ impl Model for Group {
     ghost use Rattle.std.specs.Coded.{coded_list};
     ghost use Rattle.pages.specs.Page.{PageState};
     ghost use Rattle.pages.specs.contracts.page.Page as page;
-    ghost use Rattle.pages.specs.Group.{IsKnown};
+    ghost use Rattle.pages.specs.Group.{IsKnownGroup};
 
     ghost Value = { List PageState };
 
@@ -247,7 +247,7 @@ impl Model for Group {
 
     ghost view = { λ a. arc_value a.pages };
 
-    ghost invariant = { λ a. a.is_known ≡ true → IsKnown (arc_value a.pages) a.known_len a.first_due };
+    ghost invariant = { λ a. a.is_known ≡ true → IsKnownGroup (arc_value a.pages) a.known_len a.first_due };
 }
 
 impl Group {
