@@ -12,7 +12,8 @@ use Rattle.items.proofs.AliveLemmas.{get-alive}
 use Rattle.pages.specs.Page.{PageState, page_count, item_count}
 use Rattle.pages.specs.Joined.{items_of}
 use Rattle.pages.specs.Others.{has_page, AreWithin}
-use Rattle.pages.specs.Group.{pages_in, page_at, page_in_group, no_page, IsStill, AreStill}
+use Rattle.pages.specs.Group.{pages_in, page_at, page_in_group, no_page}
+use Rattle.pages.specs.Known.{IsStill, AreStill}
 use Rattle.pages.specs.declared.group.TheConstants.{GROUPS, GROUP_PAGES}
 use Rattle.pages.proofs.KeyLemmas.{all_keys}
 use Rattle.pages.proofs.JoinedLemmas.{no_items}

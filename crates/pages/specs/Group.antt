@@ -1,9 +1,8 @@
 -- Groups of pages, and pages of which some groups were written.
-use Rattle.std.specs.Prelude.{◌≡◌, ℕ, ◌<◌, ◌≤◌, ◌+◌, ◌*◌, ◌^◌, List, [], Bool, true, false, length, slice_index_or, slice_set}
+use Rattle.std.specs.Prelude.{◌≡◌, ℕ, ◌<◌, ◌+◌, ◌*◌, List, [], Bool, true, false, length, slice_index_or, slice_set}
 use Rattle.std.specs.List.{flat_map, AllByRecursion}
 use Rattle.std.specs.FinMap.{empty}
-use Rattle.items.specs.Map.{alive}
-use Rattle.pages.specs.Page.{PageState, page_count, item_count}
+use Rattle.pages.specs.Page.{PageState, page_count}
 use Rattle.pages.specs.Layout.{digest_in}
 use Rattle.pages.specs.Joined.{ArePages, items_of}
 use Rattle.pages.specs.declared.layout.Layout.{Layout}
@@ -37,20 +36,6 @@ page_in_group g i = GROUP_PAGES * g + i
 -- no page but page k differs
 abbrev pub IsEditAt : ℕ → List PageState → List PageState → Type 0
 IsEditAt k old new = new ≡ slice_set old k (page_at new k)
-
--- nothing of the page is due at the moment or before it
-abbrev pub IsStill : ℕ → PageState → Type 0
-IsStill moment page = alive page.items moment ≡ page.items
-
--- nothing of the pages of a group
-abbrev pub AreStill : ℕ → List PageState → Type 0
-AreStill moment pages = (i : ℕ) → i < GROUP_PAGES → IsStill moment (page_at pages i)
-
--- What is known of the pages of a group: how many items they have, and a time before which nothing of them is due.
-pub record IsKnownGroup (pages : List PageState) (len first_due : ℕ) : Type 0 where
-  pub counted : len ≡ item_count (items_of pages)
-  pub few : len ≤ 2 ^ 36
-  pub still : (moment : ℕ) → moment < first_due → AreStill moment pages
 
 -- a page in this layout whose digest is kept, and is this one
 abbrev pub IsKeptPage : Layout → PageState → List ℕ → Type 0

@@ -6,7 +6,8 @@ ghost use Rattle.pages.specs.Page.{PageState, page_count, item_count, sealed_in}
 ghost use Rattle.pages.specs.Layout.{digest_in};
 ghost use Rattle.pages.specs.Joined.{items_of};
 ghost use Rattle.pages.specs.Others.{has_page, AreWithin};
-ghost use Rattle.pages.specs.Group.{page_at, IsEditAt, IsStill, AreStill};
+ghost use Rattle.pages.specs.Group.{page_at, IsEditAt};
+ghost use Rattle.pages.specs.Known.{IsStill, AreStill};
 ghost use Rattle.pages.specs.declared.group.TheConstants.{GROUP_PAGES};
 
 use crate::layout::Layout;
@@ -239,7 +240,7 @@ impl Model for Group {
     ghost use Rattle.std.specs.Coded.{coded_list};
     ghost use Rattle.pages.specs.Page.{PageState};
     ghost use Rattle.pages.specs.contracts.page.Page as page;
-    ghost use Rattle.pages.specs.Group.{IsKnownGroup};
+    ghost use Rattle.pages.specs.Known.{IsKnownGroup};
 
     ghost Value = { List PageState };
 

@@ -1,5 +1,6 @@
 use Rattle.std.proofs.Common.{ℕ, ◌<◌}
-use Rattle.pages.specs.Group.{page_at, IsStill}
+use Rattle.pages.specs.Group.{page_at}
+use Rattle.pages.specs.Known.{IsStill}
 use Rattle.pages.proofs.group.GroupPages.has_due.Given as goal
 
 -- nothing is due in the pages so far

@@ -1,5 +1,5 @@
 use Rattle.std.proofs.Common.{ℕ, ◌<◌, ◌≤◌, ◌-◌}
-use Rattle.pages.specs.Group.{AreStill}
+use Rattle.pages.specs.Known.{AreStill}
 use Rattle.pages.proofs.group.GroupPages.search_due.Given as goal
 
 -- nothing is due before the lower one

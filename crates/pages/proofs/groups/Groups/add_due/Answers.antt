@@ -1,7 +1,8 @@
 use Rattle.std.proofs.Common.{◌≡◌, ◌+◌, ◌*◌, ℕ, List, ap, ◌∙◌, subst, sym, arith}
 use Rattle.pages.specs.Page.{PageState}
 use Rattle.pages.specs.Others.{has_page}
-use Rattle.pages.specs.Group.{page_at, page_in_group, IsStill}
+use Rattle.pages.specs.Group.{page_at, page_in_group}
+use Rattle.pages.specs.Known.{IsStill}
 use Rattle.pages.proofs.GroupLemmas.{page-read}
 use Rattle.pages.proofs.groups.Groups.add_due.Goals as goal
 

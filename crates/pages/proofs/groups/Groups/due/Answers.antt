@@ -3,7 +3,8 @@ use Rattle.std.proofs.lemmas.List.{get_or_default}
 use Rattle.pages.specs.Page.{page_count}
 use Rattle.pages.specs.Joined.{joined_pages, items_of}
 use Rattle.pages.specs.Others.{has_page}
-use Rattle.pages.specs.Group.{page_at, no_page, IsStill}
+use Rattle.pages.specs.Group.{page_at, no_page}
+use Rattle.pages.specs.Known.{IsStill}
 use Rattle.pages.proofs.LongLemmas.{place-of}
 use Rattle.pages.proofs.StateLemmas.{part-at, length-states}
 use Rattle.pages.proofs.OtherLemmas.{alive-elsewhere}

@@ -1,6 +1,7 @@
 use Rattle.std.proofs.Common.{◌≡◌, ℕ, ◌<◌, false}
 use Rattle.pages.specs.Others.{has_page}
-use Rattle.pages.specs.Group.{page_at, page_in_group, IsStill}
+use Rattle.pages.specs.Group.{page_at, page_in_group}
+use Rattle.pages.specs.Known.{IsStill}
 use Rattle.pages.specs.declared.group.TheConstants.{GROUP_PAGES}
 use Rattle.pages.proofs.groups.Groups.due.Given as goal
 

@@ -14,7 +14,7 @@ pub loop-group-preserved : goal.loop-group-preserved
 loop-group-preserved c = groups-still-next c.args.self.now c.args.moment c.loop-group.group c.loop-group.invariant (c.has_due_in.ensures c.if-has_due_in.false)
 
 pub returns : goal.returns
-returns c none =
+returns c quiet =
     let pages = c.args.self.now in
     let xs = items_of c.args.self.now in
     let many = length-states pages c.requires in

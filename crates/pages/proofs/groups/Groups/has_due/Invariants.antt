@@ -1,5 +1,6 @@
 use Rattle.std.proofs.Common.{ℕ, ◌<◌}
-use Rattle.pages.specs.Group.{page_at, page_in_group, IsStill}
+use Rattle.pages.specs.Group.{page_at, page_in_group}
+use Rattle.pages.specs.Known.{IsStill}
 use Rattle.pages.specs.declared.group.TheConstants.{GROUP_PAGES}
 use Rattle.pages.proofs.groups.Groups.has_due.Given as goal
 
