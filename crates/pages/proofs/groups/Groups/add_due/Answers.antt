@@ -1,4 +1,4 @@
-use Rattle.std.proofs.Common.{◌≡◌, ◌+◌, ◌*◌, ℕ, List, ap, ◌∙◌, subst, sym, arith}
+use Rattle.std.proofs.Common.{◌≡◌, ◌+◌, ◌*◌, ℕ, List, ap, ◌∙◌, subst, arith}
 use Rattle.pages.specs.Page.{PageState}
 use Rattle.pages.specs.Others.{has_page}
 use Rattle.pages.specs.Group.{page_at, page_in_group}

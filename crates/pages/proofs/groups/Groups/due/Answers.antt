@@ -1,6 +1,5 @@
-use Rattle.std.proofs.Common.{◌≡◌, ℕ, ◌<◌, false, length, ap, ◌∙◌, subst, arith}
+use Rattle.std.proofs.Common.{ℕ, false, ap, ◌∙◌, subst, arith}
 use Rattle.std.proofs.lemmas.List.{get_or_default}
-use Rattle.pages.specs.Page.{page_count}
 use Rattle.pages.specs.Joined.{joined_pages, items_of}
 use Rattle.pages.specs.Others.{has_page}
 use Rattle.pages.specs.Group.{page_at, no_page}
