@@ -95,11 +95,20 @@ impl<R: Clock> Gate for Meeting<'_, R> {
 /// place, or outside before it was inside.
 ///
 /// The requests at the places 0 to 15 are on the pages from 48 on, that at place 16 on page 97.
-#[derive(Drop)]
 pub struct Counts {
     inside: AtomicU64,
     outside: AtomicU64,
     wrong: AtomicU64,
+}
+
+impl Drop for Counts {
+    fn drop(self) {
+        let Counts {
+            inside: _,
+            outside: _,
+            wrong: _,
+        } = self;
+    }
 }
 
 /// Whether the request at the place is on the page.

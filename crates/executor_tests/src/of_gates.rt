@@ -49,17 +49,24 @@ fn add_seventeen(alloc: Global, group: &mut Vec<Task>) -> Result<(), AllocError>
 
 #[test]
 fn a_gate_is_told_of_each_step_and_its_page(rt: HostRuntime) -> Result<(), Fail> {
-    for workers in [1usize, 4] {
+    for workers in &[1usize, 4] {
         let gate = Counts::new();
         let mut group = Vec::new(rt.alloc());
         add_seventeen(rt.alloc(), &mut group)?;
-        let ran = run_through(&rt, rt.alloc(), group, workers, &gate);
-        assert_eq!(rt; (ran, gate.counts()), (Ok(()), (19, 19, 0)));
+        let ran = run_through(&rt, rt.alloc(), group, *workers, &gate);
+        assert!(rt; ran == Ok(()), "{workers}");
+        assert!(rt; gate.counts() == (19, 19, 0), "{workers}");
     }
     Ok(())
 }
 
-/// How many of two requests, each of which sets one of the keys, meet another one by two workers.
+/// Two requests, each of which sets one of the keys.
+fn add_two(alloc: Global, group: &mut Vec<Task>, keys: [u8; 2]) -> Result<(), AllocError> {
+    add(alloc, group, 0, &[(Does::Set(b'1'), &keys[..1])])?;
+    add(alloc, group, 1, &[(Does::Set(b'1'), &keys[1..])])
+}
+
+/// How many of the two meet another one by two workers.
 fn meet<R: Threads + Wait + Sync + Clock>(
     rt: &R,
     alloc: Global,
@@ -68,8 +75,7 @@ fn meet<R: Threads + Wait + Sync + Clock>(
 ) -> Result<u64, Fault> {
     let gate = Meeting::new(rt, waits);
     let mut group = Vec::new(alloc);
-    add(alloc, &mut group, 0, &[(Does::Set(b'1'), &keys[..1])])?;
-    add(alloc, &mut group, 1, &[(Does::Set(b'1'), &keys[1..])])?;
+    add_two(alloc, &mut group, keys)?;
     run_through(rt, alloc, group, 2, &gate)?;
     Ok(gate.met())
 }
@@ -93,8 +99,12 @@ const ROWS: [(&str, [u8; 2], Waits, u64); 3] = [
 
 #[test]
 fn steps_meet(rt: HostRuntime) -> Result<(), Fail> {
-    for (name, keys, waits, met) in ROWS {
-        assert_eq!(rt; meet(&rt, rt.alloc(), keys, waits), Ok(met), "{}", name);
+    for (name, keys, waits, met) in &ROWS {
+        assert!(rt;
+            meet(&rt, rt.alloc(), *keys, *waits) == Ok(*met),
+            "{}",
+            name
+        );
     }
     Ok(())
 }

@@ -105,10 +105,15 @@ fn is_replay(
 }
 
 /// The same items, on pages and on the plain store.
-#[derive(Drop)]
 struct Both {
     pages: Pages,
     plain: PlainStore,
+}
+
+impl Drop for Both {
+    fn drop(self) {
+        let Both { pages: _, plain: _ } = self;
+    }
 }
 
 /// Runs the group on the pages by that many workers. The order that the gate saw goes to `order`.
@@ -382,9 +387,8 @@ fn replayed<R: Threads + Wait + Sync>(rt: &R, alloc: Global, row: &Row) -> Resul
 #[test]
 fn orders_of_rounds_replay(rt: HostRuntime) -> Result<(), Fail> {
     for row in &ROWS {
-        assert_eq!(rt;
-            replayed(&rt, rt.alloc(), row),
-            Ok(row.plays),
+        assert!(rt;
+            replayed(&rt, rt.alloc(), row) == Ok(row.plays),
             "{}",
             row.name
         );
@@ -487,12 +491,11 @@ const DIGESTS: [(u16, usize); 6] = [(3, 1), (3, 3), (3, 16), (1025, 1), (1025, 2
 
 #[test]
 fn workers_make_the_digests_of_one_thread(rt: HostRuntime) -> Result<(), Fail> {
-    for (end, workers) in DIGESTS {
-        let current = make_the_same_below(&rt, rt.alloc(), end, Form::Current, workers);
-        let tree = make_the_same_below(&rt, rt.alloc(), end, Form::Tree, workers);
-        assert_eq!(rt;
-            (current, tree),
-            (Ok(true), Ok(true)),
+    for (end, workers) in &DIGESTS {
+        let current = make_the_same_below(&rt, rt.alloc(), *end, Form::Current, *workers);
+        let tree = make_the_same_below(&rt, rt.alloc(), *end, Form::Tree, *workers);
+        assert!(rt;
+            (current, tree) == (Ok(true), Ok(true)),
             "{} {}",
             end,
             workers
@@ -503,8 +506,8 @@ fn workers_make_the_digests_of_one_thread(rt: HostRuntime) -> Result<(), Fail> {
 
 #[test]
 fn there_are_1_to_16_workers(rt: HostRuntime) -> Result<(), Fail> {
-    for (count, is_fit) in [(0usize, false), (1, true), (16, true), (17, false)] {
-        assert_eq!(rt; Workers::new(count).is_some(), is_fit, "{}", count);
+    for (count, is_fit) in &[(0usize, false), (1, true), (16, true), (17, false)] {
+        assert!(rt; Workers::new(*count).is_some() == *is_fit, "{}", count);
     }
     Ok(())
 }
@@ -533,6 +536,6 @@ fn run_unfit<R: Threads + Wait + Sync>(
 #[test]
 fn unfit_groups_are_refused(rt: HostRuntime) -> Result<(), Fail> {
     let two = Workers::new(2).unwrap();
-    assert_eq!(rt; run_unfit(&rt, rt.alloc(), two), Err(Fault::Unfit));
+    assert!(rt; run_unfit(&rt, rt.alloc(), two) == Err(Fault::Unfit));
     Ok(())
 }

@@ -1,38 +1,23 @@
 -- Pages in groups: where a page is, an edit of one, and what is kept of groups that were not written.
-use Rattle.std.proofs.Common.{◌≡◌, ◌≢◌, ℕ, zero, suc, ◌+◌, ◌*◌, ◌<◌, ◌≤◌, ◌/◌, ◌%◌, Bool, true, false, List, [], ◌∷◌, ◌++◌, map, length, take, drop, get_or, set, Result, Ok, Err, OnOk, OnErr, refl, sym, ap, ◌∙◌, arith, subst, true≢false, ◌⊎◌, inl, inr, ⊎_elim, length-append}
-use Rattle.std.specs.Prelude.{All, ◌-◌, nat_lt}
-use Rattle.std.specs.List.{AllByRecursion}
+use Rattle.std.proofs.Common.{◌≡◌, ◌≢◌, ℕ, zero, suc, ◌+◌, ◌*◌, ◌<◌, ◌/◌, ◌%◌, Bool, true, false, List, [], ◌∷◌, ◌++◌, map, length, take, drop, get_or, set, Result, Ok, Err, OnOk, OnErr, refl, sym, ap, ◌∙◌, arith, subst, true≢false, ◌⊎◌, inl, inr}
+use Rattle.std.specs.Prelude.{All, ◌-◌}
 use Rattle.std.proofs.Math.Seq.{drop-nil}
-use Rattle.std.proofs.lemmas.List.{get_or-set_same, get_or-set_other, get_or_append_left, get_or-append-add, get_or_default, set-append_left, set-append_right, set-get_or, get_or-map, length-set, length-map, length-drop, length-take-le, drop-take, take-append-drop, take_all}
+use Rattle.std.proofs.lemmas.List.{get_or-set_same, get_or-set_other, get_or_default, set-append_left, set-append_right, set-get_or, get_or-map, length-set, length-map, length-drop, length-take-le, drop-take, take-append-drop, take_all}
 use Rattle.std.proofs.Math.ListN.{drop_of_length-le}
-use Rattle.std.proofs.lemmas.List.FromFn.{fill_by_all, get_or-map-range_with_len}
-use Rattle.std.proofs.lemmas.Bool.{cases_Bool, ltb-true, ltb-false}
+use Rattle.std.proofs.lemmas.List.FromFn.{fill_by_all, get_or-map-range_with_len, length-map-range_with_len}
 use Rattle.items.specs.Map.{Items}
 use Rattle.pages.specs.Page.{PageState, page_count, page_digest_in, sealed_in}
 use Rattle.pages.specs.Layout.{digest_in}
 use Rattle.pages.specs.Joined.{ArePages, IsSnapshot, joined_pages, items_of}
-use Rattle.pages.specs.Group.{pages_in, page_at, page_in_group, no_page, AreGroups, IsEditAt, IsKeptPage, AreUnwrittenKept}
+use Rattle.pages.specs.Group.{pages_in, page_at, page_in_group, no_page, AreLong, AreGroups, IsEditAt, IsKeptPage, AreUnwrittenKept}
 use Rattle.pages.specs.declared.layout.Layout.{Layout}
 use Rattle.pages.specs.declared.group.TheConstants.{GROUPS, GROUP_PAGES}
+use Rattle.pages.proofs.LongLemmas.{place-of, same_or_other, member-in, long-at, long-set, long-all}
 use Rattle.pages.proofs.JoinedLemmas.{no_items}
 use Rattle.pages.proofs.StateLemmas.{length-states, part-at, items-read, items-set, items-sealed}
 
 abbrev no_pages : List PageState
 no_pages = []
-
--- each group has as many pages
-abbrev pub AreLong : List (List PageState) → Type 0
-AreLong gs = AllByRecursion (λ group. length group ≡ GROUP_PAGES) gs
-
--- page i of group g, as one of all pages
-pub page-in : (gs : List (List PageState)) (g i : ℕ) (d : PageState) → AreLong gs → i < GROUP_PAGES → get_or (pages_in gs) (page_in_group g i) d ≡ get_or (get_or gs g []) i d
-page-in [] g i d long l = refl
-page-in (x ∷ gs) zero i d long l =
-    let same : page_in_group 0 i ≡ i = omega arith in
-    ap (λ (k : ℕ). get_or (x ++ pages_in gs) k d) same ∙ get_or_append_left x (pages_in gs) d i (omega (arith, l, long.0))
-page-in (x ∷ gs) (suc g) i d long l =
-    let same : page_in_group (suc g) i ≡ length x + page_in_group g i = omega (arith, long.0) in
-    ap (λ (k : ℕ). get_or (x ++ pages_in gs) k d) same ∙ get_or-append-add x (pages_in gs) (page_in_group g i) d ∙ page-in gs g i d long.1 l
 
 -- an edit of page i of group g
 pub set-in : (gs : List (List PageState)) (g i : ℕ) (page : PageState) → AreLong gs → i < GROUP_PAGES → pages_in (set gs g (set (get_or gs g []) i page)) ≡ set (pages_in gs) (page_in_group g i) page
@@ -45,22 +30,8 @@ set-in (x ∷ gs) (suc g) i page long l =
     ap (λ (ps : List PageState). x ++ ps) (set-in gs g i page long.1 l)
     ∙ sym (set-append_right x (pages_in gs) GROUP_PAGES (page_in_group (suc g) i) page long.0 (omega arith) ∙ ap (λ (k : ℕ). x ++ set (pages_in gs) k page) past)
 
-pub long-at : (gs : List (List PageState)) (g : ℕ) → AreLong gs → g < length gs → length (get_or gs g []) ≡ GROUP_PAGES
-long-at [] g long l = absurd (omega arith)
-long-at (x ∷ gs) zero long l = long.0
-long-at (x ∷ gs) (suc g) long l = long-at gs g long.1 (omega (arith, l))
-
-long-set : (gs : List (List PageState)) (g : ℕ) (x : List PageState) → AreLong gs → length x ≡ GROUP_PAGES → AreLong (set gs g x)
-long-set [] g x long one = long
-long-set (y ∷ gs) zero x long one = (one, long.1)
-long-set (y ∷ gs) (suc g) x long one = (long.0, long-set gs g x long.1 one)
-
 pub groups-set : (gs : List (List PageState)) (g : ℕ) (x : List PageState) → AreGroups gs → length x ≡ GROUP_PAGES → AreGroups (set gs g x)
 groups-set gs g x are one = record { count = length-set gs g x ∙ are.count; each = long-set gs g x are.each one }
-
-long-all : (gs : List (List PageState)) → AreLong gs → length (pages_in gs) ≡ GROUP_PAGES * length gs
-long-all [] long = refl
-long-all (x ∷ gs) long = omega (arith, length-append x (pages_in gs), long.0, long-all gs long.1)
 
 -- groups have as many pages as a store
 pub length-in : (gs : List (List PageState)) → AreGroups gs → length (pages_in gs) ≡ page_count
@@ -86,10 +57,6 @@ edit-of old new k page l is =
     let here : page_at new k ≡ page = ap (λ (ps : List PageState). get_or ps k no_page) is ∙ get_or-set_same old k page no_page l in
     (is ∙ ap (set old k) (sym here), here)
 
--- the place of a page
-pub place-of : (n : ℕ) → n < page_count → (page_in_group (n / GROUP_PAGES) (n % GROUP_PAGES) ≡ n) × (n / GROUP_PAGES < GROUPS) × (n % GROUP_PAGES < GROUP_PAGES)
-place-of n l = (omega arith, omega arith, omega arith)
-
 -- a group of which one page was set
 pub group-edited : (gs : List (List PageState)) (n : ℕ) (x : List PageState) → AreGroups gs → n < page_count → IsEditAt (n % GROUP_PAGES) (get_or gs (n / GROUP_PAGES) []) x
     → IsEditAt n (pages_in gs) (pages_in (set gs (n / GROUP_PAGES) x)) × (page_at (pages_in (set gs (n / GROUP_PAGES) x)) n ≡ page_at x (n % GROUP_PAGES))
@@ -103,12 +70,18 @@ group-edited gs n x are l edit =
 pub page-of : (gs : List (List PageState)) (n : ℕ) (d : PageState) → AreGroups gs → n < page_count → get_or (get_or gs (n / GROUP_PAGES) []) (n % GROUP_PAGES) d ≡ get_or (pages_in gs) n d
 page-of gs n d are l =
     let at = place-of n l in
-    sym (page-in gs (n / GROUP_PAGES) (n % GROUP_PAGES) d are.each at.2) ∙ ap (λ (k : ℕ). get_or (pages_in gs) k d) at.0
+    sym (member-in gs (n / GROUP_PAGES) (n % GROUP_PAGES) d are.each at.2) ∙ ap (λ (k : ℕ). get_or (pages_in gs) k d) at.0
+
+-- a page of a group that was read
+pub page-read : (gs : List (List PageState)) (group i : ℕ) (x : List PageState) → AreGroups gs → group < GROUPS → i < GROUP_PAGES → x ≡ get_or gs group x
+    → page_at x i ≡ page_at (pages_in gs) (page_in_group group i)
+page-read gs group i x are few l read =
+    ap (λ (ps : List PageState). get_or ps i no_page) (read ∙ get_or_default gs group x [] (omega (arith, few, are.count))) ∙ sym (member-in gs group i no_page are.each l)
 
 -- after a write the group is marked
 pub kept-written : (layout : Layout) (pages new : List PageState) (digests : List (List ℕ)) (written : List Bool) (n : ℕ) → AreUnwrittenKept layout pages digests written → length written ≡ GROUPS
     → n < page_count → IsEditAt n pages new → ArePages (items_of new) → AreUnwrittenKept layout new digests (set written (n / GROUP_PAGES) true)
-kept-written layout pages new digests written n kept many l edit are = record { are = are; same = same }
+kept-written layout pages new digests written n kept many l edit are = record { are = are; count = kept.count; same = same }
   where
     at : (page_in_group (n / GROUP_PAGES) (n % GROUP_PAGES) ≡ n) × (n / GROUP_PAGES < GROUPS) × (n % GROUP_PAGES < GROUP_PAGES)
     at = place-of n l
@@ -122,18 +95,12 @@ kept-written layout pages new digests written n kept many l edit are = record { 
         ap (λ (ps : List PageState). get_or ps (page_in_group g i) no_page) edit ∙ get_or-set_other pages n (page_in_group g i) (page_at new n) no_page other in
         subst (λ (page : PageState). IsKeptPage layout page (get_or digests (page_in_group g i) [])) (sym still) was
 
-pub same_or_other : (m n : ℕ) → (m ≡ n) ⊎ (m ≢ n)
-same_or_other zero zero = inl refl
-same_or_other zero (suc n) = inr (λ e. omega (arith, e))
-same_or_other (suc m) zero = inr (λ e. omega (arith, e))
-same_or_other (suc m) (suc n) = ⊎_elim (λ e. inl (ap suc e)) (λ other. inr (λ e. other (omega (arith, e)))) (same_or_other m n)
-
 -- after a group was sealed it is no longer marked
 pub kept-sealed : (layout : Layout) (pages new : List PageState) (digests all : List (List ℕ)) (written : List Bool) (group : ℕ) → AreUnwrittenKept layout pages digests written
     → ((i : ℕ) → i < GROUP_PAGES → IsKeptPage layout (page_at new (page_in_group group i)) (get_or all (page_in_group group i) []))
     → ((g i : ℕ) → g ≢ group → i < GROUP_PAGES → (page_at new (page_in_group g i) ≡ page_at pages (page_in_group g i)) × (get_or all (page_in_group g i) [] ≡ get_or digests (page_in_group g i) []))
-    → items_of new ≡ items_of pages → AreUnwrittenKept layout new all (set written group false)
-kept-sealed layout pages new digests all written group kept sealed others items = record { are = subst ArePages (sym items) kept.are; same = same }
+    → items_of new ≡ items_of pages → length all ≡ page_count → AreUnwrittenKept layout new all (set written group false)
+kept-sealed layout pages new digests all written group kept sealed others items many = record { are = subst ArePages (sym items) kept.are; count = many; same = same }
   where
     same : (g i : ℕ) → g < GROUPS → i < GROUP_PAGES → get_or (set written group false) g false ≡ false → IsKeptPage layout (page_at new (page_in_group g i)) (get_or all (page_in_group g i) [])
     same g i few within not = by (same_or_other g group)
@@ -148,10 +115,10 @@ kept-sealed layout pages new digests all written group kept sealed others items 
 -- no group is marked
 pub kept-all : (layout : Layout) (pages : List PageState) (digests : List (List ℕ)) (written : List Bool) → AreUnwrittenKept layout pages digests written
     → ((g : ℕ) → g < GROUPS → get_or written g false ≡ false) → AreUnwrittenKept layout pages digests []
-kept-all layout pages digests written kept none = record { are = kept.are; same = λ g i few within not. kept.same g i few within (none g few) }
+kept-all layout pages digests written kept none = record { are = kept.are; count = kept.count; same = λ g i few within not. kept.same g i few within (none g few) }
 
 pub kept-none : (layout : Layout) (pages : List PageState) (digests : List (List ℕ)) (written : List Bool) → AreUnwrittenKept layout pages digests [] → AreUnwrittenKept layout pages digests written
-kept-none layout pages digests written kept = record { are = kept.are; same = λ g i few within not. kept.same g i few within refl }
+kept-none layout pages digests written kept = record { are = kept.are; count = kept.count; same = λ g i few within not. kept.same g i few within refl }
 
 -- a page of those of which no group is marked
 kept-at : (layout : Layout) (pages : List PageState) (digests : List (List ℕ)) → AreUnwrittenKept layout pages digests [] → (k : ℕ) → k < page_count → IsKeptPage layout (page_at pages k) (get_or digests k [])
@@ -160,10 +127,10 @@ kept-at layout pages digests kept k l =
     subst (λ (n : ℕ). IsKeptPage layout (page_at pages n) (get_or digests n [])) at.0 (kept.same (k / GROUP_PAGES) (k % GROUP_PAGES) at.1 at.2 refl)
 
 -- pages of which no group is marked are those of a snapshot
-pub snapshot-from_kept : (layout : Layout) (pages : List PageState) (digests : List (List ℕ)) → AreUnwrittenKept layout pages digests [] → length digests ≡ page_count → IsSnapshot layout pages digests
-snapshot-from_kept layout pages digests kept many = record {
+pub snapshot-from_kept : (layout : Layout) (pages : List PageState) (digests : List (List ℕ)) → AreUnwrittenKept layout pages digests [] → IsSnapshot layout pages digests
+snapshot-from_kept layout pages digests kept = record {
   sealed = record { are = kept.are; laid = laid; digests = told };
-  told = fill_by_all (page_digest_in layout (joined_pages (items_of pages))) digests page_count [] many
+  told = fill_by_all (page_digest_in layout (joined_pages (items_of pages))) digests page_count [] kept.count
       (λ k l. (kept-at layout pages digests kept k l).2 ∙ ap (digest_in layout) (part-at pages k (page_at pages k) kept.are l (read k l)));
 }
   where
@@ -181,7 +148,11 @@ snapshot-from_kept layout pages digests kept many = record {
 
 -- and the other way round
 pub kept-from_snapshot : (layout : Layout) (pages : List PageState) (digests : List (List ℕ)) → IsSnapshot layout pages digests → AreUnwrittenKept layout pages digests []
-kept-from_snapshot layout pages digests snapshot = record { are = snapshot.sealed.are; same = same }
+kept-from_snapshot layout pages digests snapshot = record {
+  are = snapshot.sealed.are;
+  count = ap length snapshot.told ∙ length-map-range_with_len (page_digest_in layout (joined_pages (items_of pages))) 0 page_count;
+  same = same;
+}
   where
     count : length pages ≡ page_count
     count = length-states pages snapshot.sealed.are
@@ -197,51 +168,18 @@ kept-from_snapshot layout pages digests snapshot = record { are = snapshot.seale
               ∙ ap (digest_in layout) (sym (part-at pages k (page_at pages k) snapshot.sealed.are l read)),
         )
 
--- The digests of the first pages of a group are set, and no others.
-pub record ArePut (pages : List PageState) (first count : ℕ) (before digests : List (List ℕ)) : Type 0 where
-  pub many : length digests ≡ page_count
-  pub own : (i : ℕ) → i < count → get_or digests (first + i) [] ≡ digest_in (page_at pages i).layout (page_at pages i).items
-  pub others : (k : ℕ) → (k < first) ⊎ (first + GROUP_PAGES ≤ k) → get_or digests k [] ≡ get_or before k []
-
--- one more
-pub put-next : (pages : List PageState) (first count : ℕ) (before digests : List (List ℕ)) (page : PageState) (d : List ℕ) → ArePut pages first count before digests
-    → length pages ≡ GROUP_PAGES → count < GROUP_PAGES → first + GROUP_PAGES ≤ page_count → page ≡ get_or pages count page → d ≡ digest_in page.layout page.items
-    → ArePut pages first (count + 1) before (set digests (first + count) d)
-put-next pages first count before digests page d so_far long few within read is = record {
-  many = length-set digests (first + count) d ∙ so_far.many;
-  own = own;
-  others = λ k out. get_or-set_other digests (first + count) k d [] (apart k out) ∙ so_far.others k out;
-}
-  where
-    apart : (k : ℕ) → (k < first) ⊎ (first + GROUP_PAGES ≤ k) → k ≢ first + count
-    apart k (inl before) e = omega (arith, before, e)
-    apart k (inr after) e = omega (arith, after, e, few)
-
-    here : page ≡ page_at pages count
-    here = read ∙ get_or_default pages count page no_page (omega (arith, few, long))
-
-    own : (i : ℕ) → i < count + 1 → get_or (set digests (first + count) d) (first + i) [] ≡ digest_in (page_at pages i).layout (page_at pages i).items
-    own i l = by (same_or_other i count)
-      where
-        by : (i ≡ count) ⊎ (i ≢ count) → get_or (set digests (first + count) d) (first + i) [] ≡ digest_in (page_at pages i).layout (page_at pages i).items
-        by (inl e) =
-            ap (λ (k : ℕ). get_or (set digests (first + count) d) (first + k) []) e ∙ get_or-set_same digests (first + count) d [] (omega (arith, few, within, so_far.many)) ∙ is
-            ∙ ap (λ (p : PageState). digest_in p.layout p.items) here ∙ ap (λ (k : ℕ). digest_in (page_at pages k).layout (page_at pages k).items) (sym e)
-        by (inr other) =
-            get_or-set_other digests (first + count) (first + i) d [] (λ e. other (omega (arith, e))) ∙ so_far.own i (omega (arith, l, other))
-
 -- A group was brought into a layout, and its digests are set: each of its pages is kept, and all others are as they were.
 pub record IsGroupSealed (layout : Layout) (group : ℕ) (old new : List PageState) (before after : List (List ℕ)) : Type 0 where
   pub sealed : (i : ℕ) → i < GROUP_PAGES → IsKeptPage layout (page_at new (page_in_group group i)) (get_or after (page_in_group group i) [])
   pub others : (g i : ℕ) → g ≢ group → i < GROUP_PAGES → (page_at new (page_in_group g i) ≡ page_at old (page_in_group g i)) × (get_or after (page_in_group g i) [] ≡ get_or before (page_in_group g i) [])
   pub items : items_of new ≡ items_of old
 
-pub group-sealed : (layout : Layout) (gs : List (List PageState)) (group first : ℕ) (x : List PageState) (before after : List (List ℕ)) → AreGroups gs → group < GROUPS
-    → x ≡ map (sealed_in layout) (get_or gs group []) → first ≡ GROUP_PAGES * group
-    → ((i : ℕ) → i < GROUP_PAGES → get_or after (first + i) [] ≡ digest_in (page_at x i).layout (page_at x i).items)
-    → ((k : ℕ) → (k < first) ⊎ (first + GROUP_PAGES ≤ k) → get_or after k [] ≡ get_or before k [])
+pub group-sealed : (layout : Layout) (gs : List (List PageState)) (group : ℕ) (x : List PageState) (before after : List (List ℕ)) → AreGroups gs → group < GROUPS
+    → x ≡ map (sealed_in layout) (get_or gs group [])
+    → ((i : ℕ) → i < GROUP_PAGES → get_or after (page_in_group group i) [] ≡ digest_in (page_at x i).layout (page_at x i).items)
+    → ((g i : ℕ) → g ≢ group → i < GROUP_PAGES → get_or after (page_in_group g i) [] ≡ get_or before (page_in_group g i) [])
     → IsGroupSealed layout group (pages_in gs) (pages_in (set gs group x)) before after
-group-sealed layout gs group first x before after are few is at own apart = record {
+group-sealed layout gs group x before after are few is own apart = record {
   sealed = sealed;
   others = others;
   items = items-in-set gs group x (ap items_of is ∙ items-sealed layout (get_or gs group []));
@@ -254,33 +192,25 @@ group-sealed layout gs group first x before after are few is at own apart = reco
     are_new = groups-set gs group x are (ap length is ∙ length-map (get_or gs group []) (sealed_in layout) ∙ long)
 
     in_place : (i : ℕ) → i < GROUP_PAGES → page_at (pages_in (set gs group x)) (page_in_group group i) ≡ page_at x i
-    in_place i l = page-in (set gs group x) group i no_page are_new.each l ∙ ap (λ (ps : List PageState). get_or ps i no_page) (get_or-set_same gs group x [] (omega (arith, few, are.count)))
+    in_place i l = member-in (set gs group x) group i no_page are_new.each l ∙ ap (λ (ps : List PageState). get_or ps i no_page) (get_or-set_same gs group x [] (omega (arith, few, are.count)))
 
     is_sealed : (i : ℕ) → i < GROUP_PAGES → page_at x i ≡ sealed_in layout (page_at (get_or gs group []) i)
     is_sealed i l = ap (λ (ps : List PageState). get_or ps i no_page) is ∙ get_or-map (sealed_in layout) (get_or gs group []) i no_page no_page (omega (arith, l, long))
 
     sealed : (i : ℕ) → i < GROUP_PAGES → IsKeptPage layout (page_at (pages_in (set gs group x)) (page_in_group group i)) (get_or after (page_in_group group i) [])
     sealed i l =
-        let there : page_in_group group i ≡ first + i = omega (arith, at) in
         let whole = in_place i l ∙ is_sealed i l in (
           ap (λ (p : PageState). p.layout) whole,
           ap (λ (p : PageState). p.sealed) whole,
-          ap (λ (k : ℕ). get_or after k []) there ∙ own i l ∙ ap (λ (kind : Layout). digest_in kind (page_at x i).items) (ap (λ (p : PageState). p.layout) (is_sealed i l))
+          own i l ∙ ap (λ (kind : Layout). digest_in kind (page_at x i).items) (ap (λ (p : PageState). p.layout) (is_sealed i l))
               ∙ ap (λ (p : PageState). digest_in layout p.items) (sym (in_place i l)),
         )
-
-    outside : (g i : ℕ) → g ≢ group → i < GROUP_PAGES → (page_in_group g i < first) ⊎ (first + GROUP_PAGES ≤ page_in_group g i)
-    outside g i other l = by (cases_Bool (nat_lt g group))
-      where
-        by : (nat_lt g group ≡ true) ⊎ (nat_lt g group ≡ false) → (page_in_group g i < first) ⊎ (first + GROUP_PAGES ≤ page_in_group g i)
-        by (inl t) = inl (omega (arith, ltb-true g group t, l, at))
-        by (inr u) = inr (omega (arith, ltb-false g group u, other, at))
 
     others : (g i : ℕ) → g ≢ group → i < GROUP_PAGES
         → (page_at (pages_in (set gs group x)) (page_in_group g i) ≡ page_at (pages_in gs) (page_in_group g i)) × (get_or after (page_in_group g i) [] ≡ get_or before (page_in_group g i) [])
     others g i other l = (
-      page-in (set gs group x) g i no_page are_new.each l ∙ ap (λ (ps : List PageState). get_or ps i no_page) (get_or-set_other gs group g x [] other) ∙ sym (page-in gs g i no_page are.each l),
-      apart (page_in_group g i) (outside g i other l),
+      member-in (set gs group x) g i no_page are_new.each l ∙ ap (λ (ps : List PageState). get_or ps i no_page) (get_or-set_other gs group g x [] other) ∙ sym (member-in gs g i no_page are.each l),
+      apart g i other l,
     )
 
 -- the last pages become one group more

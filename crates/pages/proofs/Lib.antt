@@ -2,6 +2,8 @@ pub mod KeyLemmas
 pub mod JoinedLemmas
 pub mod PartLemmas
 pub mod StateLemmas
+mod LongLemmas
+mod StillLemmas
 mod GroupLemmas
 pub mod PageLemmas
 pub mod CountLemmas
@@ -9,6 +11,7 @@ mod DueLemmas
 pub mod OwnLemmas
 pub mod EffectLemmas
 pub mod OtherLemmas
+mod NodeLemmas
 mod TreeLemmas
 pub mod FormLemmas
 pub mod OldLemmas

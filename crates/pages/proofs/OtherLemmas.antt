@@ -137,19 +137,3 @@ alive-elsewhere m p moment page is none = same_page m (alive m moment) p at
         let own : (page_number q == p) ≡ true = grind (arith, nat_tests) in
         let stands : get page q ≡ get m q = ap (λ (x : Items). get x q) is ∙ get-page_items m p q ∙ ap (λ b. cond b (get m q) None) own in
         sym stands ∙ ap (λ (x : Items). get x q) (sym none) ∙ get-alive page moment q ∙ ap (option_filter (is_alive moment)) stands ∙ sym (get-alive m moment q)
-
--- one page more that is in the set, or of which nothing is due
-pub due-next : (m : Items) (moment n : ℕ) (old new : List Bool)
-    → ((p : ℕ) → p < n → has_page old p ≡ false → page_entries m p ≡ page_entries (alive m moment) p)
-    → (has_page new n ≡ false → page_entries m n ≡ page_entries (alive m moment) n)
-    → ((p : ℕ) → p ≢ n → has_page new p ≡ has_page old p)
-    → (p : ℕ) → p < n + 1 → has_page new p ≡ false → page_entries m p ≡ page_entries (alive m moment) p
-due-next m moment n old new so_far here others p l out = by (p == n) refl
-  where
-    by : (b : Bool) → (p == n) ≡ b → page_entries m p ≡ page_entries (alive m moment) p
-    by true e =
-        let same : n ≡ p = grind (arith, nat_tests) in
-        subst (λ k. page_entries m k ≡ page_entries (alive m moment) k) same (here (ap (has_page new) same ∙ out))
-    by false e =
-        let other : p ≢ n = grind (arith, nat_tests) in
-        so_far p (omega (arith, l, other)) (sym (others p other) ∙ out)

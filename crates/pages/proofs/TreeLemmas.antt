@@ -1,131 +1,121 @@
--- The root of a tree over the digests of the pages, and how it is renewed.
-use Rattle.std.proofs.Common.{◌≡◌, ◌≢◌, ℕ, zero, suc, ◌+◌, ◌*◌, ◌<◌, ◌≤◌, Bool, true, false, List, [], ◌∷◌, length, drop, get_or, set, refl, sym, ap, ◌∙◌, arith, subst, inl, inr}
-use Rattle.std.proofs.Math.Nat.{eq-or-lt_of_le}
-use Rattle.std.proofs.lemmas.List.{ext_get_or, length-drop, get_or-drop, drop_more, drop-set-lt, get_or_default, get_or-set_same, get_or-set_other, length-set}
+-- A tree in branches: its root is that over all leaves, and how it is made and renewed.
+use Rattle.std.proofs.Common.{◌≡◌, ◌≢◌, ℕ, zero, suc, ◌+◌, ◌*◌, ◌<◌, ◌/◌, ◌%◌, List, [], ◌∷◌, ◌++◌, map, length, take, drop, get_or, set, refl, sym, ap, ◌∙◌, arith}
+use Rattle.std.specs.Prelude.{◌^◌}
+use Rattle.std.proofs.Math.Nat.{pow-succ'}
+use Rattle.std.proofs.lemmas.List.{ext_get_or, length-set, map-set, get_or-set_same, get_or-set_other, length-take-le, length-drop, take-take, drop-take, take-append-drop, get_or-take, get_or-drop, flat_map_more, length_push}
 use Rattle.wire.specs.Token.{inner_text}
 use Rattle.token.specs.declared.tree.TheConstants.{HEIGHT}
 use Rattle.token.specs.Digest.{digest, level, levels, only, root_of}
 use Rattle.pages.specs.Page.{page_count}
-use Rattle.pages.specs.Tree.{leaves, IsAbove, IsTree, IsAboveSame}
+use Rattle.pages.specs.Group.{page_in_group, AreLong}
+use Rattle.pages.specs.Tree.{leaves_of, branch_height, branch_root, AreBranches}
+use Rattle.pages.specs.declared.group.TheConstants.{GROUPS, GROUP_PAGES}
+use Rattle.pages.proofs.LongLemmas.{place-of, member-in, long-set, long-push, long-all}
 
--- so many nodes from node a on
-abbrev nodes_from : List (List ℕ) → ℕ → ℕ → List (List ℕ)
-nodes_from nodes a zero = []
-nodes_from nodes a (suc n) = get_or nodes a [] ∷ nodes_from nodes (a + 1) n
+-- ---- the root
 
-drop-is : (nodes : List (List ℕ)) (a n : ℕ) → length nodes ≡ a + n → drop a nodes ≡ nodes_from nodes a n
-drop-is nodes a zero e = drop-end nodes a (omega arith)
+-- twice as many digests, and others after them
+level-append : (m : ℕ) (xs ys : List (List ℕ)) → length xs ≡ 2 * m → level (xs ++ ys) ≡ level xs ++ level ys
+level-append m [] ys e = refl
+level-append m (x ∷ []) ys e = absurd (omega arith)
+level-append zero (x ∷ y ∷ xs) ys e = absurd (omega arith)
+level-append (suc m) (x ∷ y ∷ xs) ys e = ap (λ (t : List (List ℕ)). digest (inner_text (record { left = x; right = y })) ∷ t) (level-append m xs ys (omega arith))
+
+length-level : (m : ℕ) (xs : List (List ℕ)) → length xs ≡ 2 * m → length (level xs) ≡ m
+length-level zero [] e = refl
+length-level (suc m) [] e = absurd (omega arith)
+length-level m (x ∷ []) e = absurd (omega arith)
+length-level zero (x ∷ y ∷ xs) e = absurd (omega arith)
+length-level (suc m) (x ∷ y ∷ xs) e = ap suc (length-level m xs (omega arith))
+
+levels-append : (n : ℕ) (xs ys : List (List ℕ)) → length xs ≡ 2 ^ n → levels n (xs ++ ys) ≡ levels n xs ++ levels n ys
+levels-append zero xs ys e = refl
+levels-append (suc n) xs ys e =
+    let twice : length xs ≡ 2 * 2 ^ n = e ∙ pow-succ' 2 n in
+    ap (levels n) (level-append (2 ^ n) xs ys twice) ∙ levels-append n (level xs) (level ys) (length-level (2 ^ n) xs twice)
+
+length-levels : (n : ℕ) (xs : List (List ℕ)) → length xs ≡ 2 ^ n → length (levels n xs) ≡ 1
+length-levels zero xs e = e
+length-levels (suc n) xs e =
+    let twice : length xs ≡ 2 * 2 ^ n = e ∙ pow-succ' 2 n in
+    length-levels n (level xs) (length-level (2 ^ n) xs twice)
+
+the_only : (xs : List (List ℕ)) → length xs ≡ 1 → xs ≡ only xs ∷ []
+the_only [] e = absurd (omega arith)
+the_only (x ∷ []) e = refl
+the_only (x ∷ y ∷ xs) e = absurd (omega arith)
+
+-- what is left of all leaves so many levels up are the roots of the branches
+levels-of_branches : (branches : List (List (List ℕ))) → AreLong branches → levels branch_height (leaves_of branches) ≡ map branch_root branches
+unfolding root_of
+levels-of_branches [] long = refl
+levels-of_branches (branch ∷ branches) long =
+    levels-append 4 branch (leaves_of branches) long.0
+    ∙ (λ i. the_only (levels 4 branch) (length-levels 4 branch long.0) i ++ levels-of_branches branches long.1 i)
+
+-- so the root over all leaves is the one over those roots
+pub root-of_branches : (branches : List (List (List ℕ))) → AreLong branches → root_of HEIGHT (leaves_of branches) ≡ branch_root (map branch_root branches)
+unfolding root_of
+root-of_branches branches long = ap (λ (roots : List (List ℕ)). only (levels 4 roots)) (levels-of_branches branches long)
+
+-- ---- making
+
+-- the digests of one group more
+take-add : (a b : ℕ) (xs : List (List ℕ)) → take a xs ++ take b (drop a xs) ≡ take (a + b) xs
+take-add a b xs = (λ i. sym (take-take a (a + b) xs (omega arith)) i ++ sym (drop-take a b xs) i) ∙ take-append-drop a (take (a + b) xs)
+
+-- The branches of the first groups are made.
+pub record AreMade (digests : List (List ℕ)) (branches : List (List (List ℕ))) (n : ℕ) : Type 0 where
+  pub so_far : leaves_of branches ≡ take (GROUP_PAGES * n) digests
+  pub count : length branches ≡ n
+  pub long : AreLong branches
+
+pub made-none : (digests : List (List ℕ)) → AreMade digests [] 0
+made-none digests = record { so_far = refl; count = refl; long = tt }
+
+pub made-next : (digests : List (List ℕ)) (branches : List (List (List ℕ))) (n : ℕ) (branch : List (List ℕ)) → AreMade digests branches n → n < GROUPS → length digests ≡ page_count
+    → branch ≡ take GROUP_PAGES (drop (GROUP_PAGES * n) digests) → AreMade digests (branches ++ branch ∷ []) (n + 1)
+made-next digests branches n branch made few many is = record {
+  so_far = sym (flat_map_more (λ (b : List (List ℕ)). b) [] branches branch) ∙ (λ i. made.so_far i ++ is i) ∙ take-add (GROUP_PAGES * n) GROUP_PAGES digests ∙ ap (λ (k : ℕ). take k digests) next;
+  count = length_push branches branch ∙ ap (λ (k : ℕ). k + 1) made.count;
+  long = long-push branches branch made.long (ap length is ∙ length-take-le GROUP_PAGES (drop (GROUP_PAGES * n) digests) (omega (arith, few, many, length-drop (GROUP_PAGES * n) digests)));
+}
   where
-    drop-end : (nodes : List (List ℕ)) (a : ℕ) → length nodes ≤ a → drop a nodes ≡ []
-    drop-end [] zero l = refl
-    drop-end [] (suc a) l = refl
-    drop-end (x ∷ nodes) zero l = absurd (omega arith)
-    drop-end (x ∷ nodes) (suc a) l = drop-end nodes a (omega arith)
-drop-is nodes a (suc n) e = drop_more nodes a [] (omega arith) ∙ ap (λ (rest : List (List ℕ)). get_or nodes a [] ∷ rest) (drop-is nodes (a + 1) n (omega arith))
+    next : GROUP_PAGES * n + GROUP_PAGES ≡ GROUP_PAGES * (n + 1)
+    next = omega arith
 
--- one level up
-level-from : (nodes : List (List ℕ)) (a n : ℕ) → ((k : ℕ) → a ≤ k → k < a + n → IsAbove nodes k) → level (nodes_from nodes (2 * a) (2 * n)) ≡ nodes_from nodes a n
-level-from nodes a zero above = refl
-level-from nodes a (suc n) above =
-    let here : digest (inner_text (record { left = get_or nodes (2 * a) []; right = get_or nodes (2 * a + 1) [] })) ≡ get_or nodes a [] = sym (above a (omega arith) (omega arith)) in
-    let twice : 2 * suc n ≡ suc (suc (2 * n)) = omega arith in
-    let next : 2 * a + 1 + 1 ≡ 2 * (a + 1) = omega arith in
-    ap (λ m. level (nodes_from nodes (2 * a) m)) twice
-    ∙ (λ i. here i ∷ level (nodes_from nodes (next i) (2 * n)))
-    ∙ ap (λ (rest : List (List ℕ)). get_or nodes a [] ∷ rest) (level-from nodes (a + 1) n (λ k from below. above k (omega arith) (omega arith)))
+-- ---- other digests of one group
 
--- The inner nodes from k on are renewed, and those below k where nothing under them is marked.
-pub record IsRenewed (old nodes : List (List ℕ)) (changed : List Bool) (k : ℕ) : Type 0 where
-  pub count : length nodes ≡ 2 * page_count
-  pub marks : length changed ≡ 2 * page_count
-  pub kept : leaves nodes ≡ leaves old
-  pub done : (j : ℕ) → 0 < j → k ≤ j → j < page_count → IsAbove nodes j
-  pub left : (j : ℕ) → 0 < j → j < k → IsAboveSame nodes changed j
-
-module _ (nodes : List (List ℕ)) (tree : IsTree nodes) where
-  level-up : (n : ℕ) → 0 < n → n + n ≤ page_count → level (nodes_from nodes (2 * n) (2 * n)) ≡ nodes_from nodes n n
-  level-up n some few = level-from nodes n n (λ k from below. tree.above k (omega (arith, some, from)) (omega (arith, below, few)))
-
-  -- node 1 is what is left eight levels up
-  pub root-of_tree : root_of HEIGHT (leaves nodes) ≡ get_or nodes 1 []
-  unfolding root_of
-  root-of_tree = ap only
-      (ap (levels 8) (drop-is nodes page_count page_count (omega (arith, tree.count)))
-      ∙ ap (levels 7) (level-up 128 (omega arith) (omega arith)) ∙ ap (levels 6) (level-up 64 (omega arith) (omega arith))
-      ∙ ap (levels 5) (level-up 32 (omega arith) (omega arith)) ∙ ap (levels 4) (level-up 16 (omega arith) (omega arith))
-      ∙ ap (levels 3) (level-up 8 (omega arith) (omega arith)) ∙ ap (levels 2) (level-up 4 (omega arith) (omega arith))
-      ∙ ap (levels 1) (level-up 2 (omega arith) (omega arith)) ∙ level-up 1 (omega arith) (omega arith))
-
-  -- the root that was read
-  pub read-root : (root : List ℕ) → root ≡ get_or nodes 1 root → root ≡ root_of HEIGHT (leaves nodes)
-  read-root root read = read ∙ get_or_default nodes 1 root [] (omega (arith, tree.count)) ∙ sym root-of_tree
-
-module _ (nodes : List (List ℕ)) (m : ℕ) (d : List ℕ) where
-  -- a node is still above the two below it if none of the three was set
-  above-set : (j : ℕ) → j ≢ m → 2 * j ≢ m → 2 * j + 1 ≢ m → IsAbove nodes j → IsAbove (set nodes m d) j
-  above-set j here left right above =
-      get_or-set_other nodes m j d [] here ∙ above
-      ∙ (λ i. digest (inner_text (record { left = sym (get_or-set_other nodes m (2 * j) d [] left) i; right = sym (get_or-set_other nodes m (2 * j + 1) d [] right) i })))
-
-  -- a node that was made of the two below it
-  above-made : 0 < m → m < length nodes → d ≡ digest (inner_text (record { left = get_or nodes (2 * m) []; right = get_or nodes (2 * m + 1) [] })) → IsAbove (set nodes m d) m
-  above-made some within made =
-      let left : 2 * m ≢ m = λ e. omega (arith, e, some) in
-      let right : 2 * m + 1 ≢ m = λ e. omega (arith, e) in
-      get_or-set_same nodes m d [] within ∙ made
-      ∙ (λ i. digest (inner_text (record { left = sym (get_or-set_other nodes m (2 * m) d [] left) i; right = sym (get_or-set_other nodes m (2 * m + 1) d [] right) i })))
-
--- a mark that is not set after one was: it is another, and was not set before
-unmarked : (changed : List Bool) (m i : ℕ) → m < length changed → get_or (set changed m true) i false ≡ false → (i ≢ m) × (get_or changed i false ≡ false)
-unmarked changed m i within not = (apart, sym (get_or-set_other changed m i true false apart) ∙ not)
-  where
-    apart : i ≢ m
-    apart e = absurd (let yes : true ≡ false = sym (get_or-set_same changed m true false within) ∙ ap (λ (n : ℕ). get_or (set changed m true) n false) (sym e) ∙ not in cc)
-
-module _ (old nodes : List (List ℕ)) (changed : List Bool) (m : ℕ) (so_far : IsRenewed old nodes changed (m + 1)) (some : 0 < m) (few : m < page_count) where
-  -- a node that is above a changed one is recomputed, and marked
-  pub renewed-made : (d : List ℕ) → d ≡ digest (inner_text (record { left = get_or nodes (2 * m) []; right = get_or nodes (2 * m + 1) [] }))
-      → IsRenewed old (set nodes m d) (set changed m true) m
-  renewed-made d made = record {
-    count = length-set nodes m d ∙ so_far.count;
-    marks = length-set changed m true ∙ so_far.marks;
-    kept = drop-set-lt page_count nodes m d few ∙ so_far.kept;
-    done = done;
-    left = λ j low high left right.
-        let l = unmarked changed m (2 * j) within left in
-        let r = unmarked changed m (2 * j + 1) within right in
-        above-set nodes m d j (λ e. omega (arith, e, high)) l.0 r.0 (so_far.left j low (omega (arith, high)) l.1 r.1);
+module _ (branches : List (List (List ℕ))) (top digests : List (List ℕ)) (group : ℕ) (are : AreBranches branches top) (long : length digests ≡ GROUP_PAGES) where
+  pub renewed-are : (new : List (List ℕ)) (root : List ℕ) → root ≡ branch_root digests → new ≡ set top group root → AreBranches (set branches group digests) new
+  renewed-are new root is made = record {
+    count = length-set branches group digests ∙ are.count;
+    each = long-set branches group digests are.each long;
+    over = made ∙ (λ i. set (are.over i) group (is i)) ∙ sym (map-set branch_root branches group digests);
   }
-    where
-      within : m < length changed
-      within = omega (arith, few, so_far.marks)
 
-      done : (j : ℕ) → 0 < j → m ≤ j → j < page_count → IsAbove (set nodes m d) j
-      done j low from high = elim (eq-or-lt_of_le from) [
-        | inl e ↦ subst (IsAbove (set nodes m d)) e (above-made nodes m d some (omega (arith, few, so_far.count)) made)
-        | inr h ↦ above-set nodes m d j (λ e. omega (arith, e, h)) (λ e. omega (arith, e, h)) (λ e. omega (arith, e, h)) (so_far.done j low (omega (arith, h)) high)
-      ]
+  pub renewed-count : length (leaves_of (set branches group digests)) ≡ page_count
+  renewed-count = omega (arith, long-all (set branches group digests) (long-set branches group digests are.each long), length-set branches group digests, are.count)
 
-  -- any other stays
-  pub renewed-same : get_or changed (2 * m) false ≡ false → get_or changed (2 * m + 1) false ≡ false → IsRenewed old nodes changed m
-  renewed-same left right = record { count = so_far.count; marks = so_far.marks; kept = so_far.kept; done = done; left = λ j low high. so_far.left j low (omega (arith, high)) }
-    where
-      done : (j : ℕ) → 0 < j → m ≤ j → j < page_count → IsAbove nodes j
-      done j low from high = elim (eq-or-lt_of_le from) [
-        | inl e ↦ subst (IsAbove nodes) e (so_far.left m some (omega arith) left right)
-        | inr h ↦ so_far.done j low (omega (arith, h)) high
-      ]
+  pub renewed-own : (i : ℕ) → group < GROUPS → i < GROUP_PAGES → get_or (leaves_of (set branches group digests)) (page_in_group group i) [] ≡ get_or digests i []
+  renewed-own i few l =
+      member-in (set branches group digests) group i [] (long-set branches group digests are.each long) l
+      ∙ ap (λ (ds : List (List ℕ)). get_or ds i []) (get_or-set_same branches group digests [] (omega (arith, few, are.count)))
 
--- The first leaves are set, and each node that differs from the one before is a marked leaf.
-pub record AreSet (old digests nodes : List (List ℕ)) (changed : List Bool) (n : ℕ) : Type 0 where
-  pub count : length nodes ≡ 2 * page_count
-  pub marks : length changed ≡ 2 * page_count
-  pub leaves_are : (k : ℕ) → k < n → get_or nodes (page_count + k) [] ≡ get_or digests k []
-  pub inner : (k : ℕ) → k < page_count → get_or changed k false ≡ false
-  pub same : (k : ℕ) → get_or changed k false ≡ false → get_or nodes k [] ≡ get_or old k []
+  pub renewed-others : (g i : ℕ) → g ≢ group → i < GROUP_PAGES → get_or (leaves_of (set branches group digests)) (page_in_group g i) [] ≡ get_or (leaves_of branches) (page_in_group g i) []
+  renewed-others g i other l =
+      member-in (set branches group digests) g i [] (long-set branches group digests are.each long) l
+      ∙ ap (λ (ds : List (List ℕ)). get_or ds i []) (get_or-set_other branches group g digests [] other) ∙ sym (member-in branches g i [] are.each l)
 
--- once all are set they are the digests
-pub set-all : (old digests nodes : List (List ℕ)) (changed : List Bool) (n : ℕ) → AreSet old digests nodes changed n → page_count ≤ n → length digests ≡ page_count → leaves nodes ≡ digests
-set-all old digests nodes changed n done all many =
-    let long : length (leaves nodes) ≡ page_count = length-drop page_count nodes ∙ omega (arith, done.count) in
-    ext_get_or [] (leaves nodes) digests (long ∙ sym many) (λ k within. get_or-drop page_count nodes k [] ∙ done.leaves_are k (omega (arith, within, long, all)))
+-- a digest of one group, as one of all
+pub digest-in : (digests own : List (List ℕ)) (group i : ℕ) → own ≡ take GROUP_PAGES (drop (GROUP_PAGES * group) digests) → i < GROUP_PAGES
+    → get_or own i [] ≡ get_or digests (page_in_group group i) []
+digest-in digests own group i is l =
+    ap (λ (ds : List (List ℕ)). get_or ds i []) is ∙ get_or-take GROUP_PAGES (drop (GROUP_PAGES * group) digests) i [] l ∙ get_or-drop (GROUP_PAGES * group) digests i []
+
+-- digests that are the same in each group are the same
+pub same-each : (digests others : List (List ℕ)) → length digests ≡ page_count → length others ≡ page_count
+    → ((g i : ℕ) → g < GROUPS → i < GROUP_PAGES → get_or digests (page_in_group g i) [] ≡ get_or others (page_in_group g i) []) → digests ≡ others
+same-each digests others many count same = ext_get_or [] digests others (many ∙ sym count) (λ k within.
+    let at = place-of k (omega (arith, within, many)) in
+    ap (λ (n : ℕ). get_or digests n []) (sym at.0) ∙ same (k / GROUP_PAGES) (k % GROUP_PAGES) at.1 at.2 ∙ ap (λ (n : ℕ). get_or others n []) at.0)

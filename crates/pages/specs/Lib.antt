@@ -6,6 +6,7 @@ pub mod LayoutLaws
 pub mod Form
 pub mod Joined
 pub mod Group
+pub mod Known
 pub mod Tree
 pub mod Step
 pub mod Others

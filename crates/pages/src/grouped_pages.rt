@@ -13,7 +13,7 @@ use crate::layout::Layout;
 use crate::number::page_of;
 use crate::own_pages::OwnPages;
 use crate::snapshot::Snapshot;
-use crate::tree::{Tree, renewed};
+use crate::tree::Tree;
 use items::{Item, Store};
 use proto::Key;
 use std::alloc::{AllocError, Global};
@@ -132,11 +132,11 @@ impl GroupedPages {
             alloc,
             mut groups,
             layout: _,
-            tree,
+            mut tree,
             written,
         } = self;
-        let digests = groups.seal_written(layout, written, tree.leaves())?;
-        Snapshot::of_groups(alloc, groups, layout, renewed(tree, &digests)?)
+        groups.seal_written(layout, written, &mut tree)?;
+        Snapshot::of_groups(alloc, groups, layout, tree)
     }
 
     /// The item of a key.

@@ -2,21 +2,25 @@
 
 ghost use Rattle.std.specs.Prelude.{◌≡◌, ◌≢◌, ◌<◌, ℕ, length, false, slice_index_or, [], IfOk, OnOk, OnErr};
 ghost use Rattle.std.specs.FinMap as map;
+ghost use Rattle.std.specs.Arc.{arc_value};
 ghost use Rattle.items.specs.Map.{alive};
-ghost use Rattle.pages.specs.Page.{page_count};
+ghost use Rattle.pages.specs.Page.{page_count, item_count};
 ghost use Rattle.pages.specs.Group.{page_at, page_in_group, pages_in, AreGroups, IsEditAt, IsKeptPage, AreUnwrittenKept};
+ghost use Rattle.pages.specs.Known.{IsStill};
 ghost use Rattle.pages.specs.Joined.{ArePages, joined_pages, items_of};
-ghost use Rattle.pages.specs.Others.{AreSameBeside};
+ghost use Rattle.pages.specs.Others.{has_page, AreSameBeside, AreWithin};
 ghost use Rattle.pages.specs.declared.group.TheConstants.{GROUPS, GROUP_PAGES};
 
 use crate::group::{GROUP_PAGES, GROUPS, Group};
 use crate::layout::Layout;
 use crate::page::Page;
 use crate::page_set::PageSet;
+use crate::tree::Tree;
 use items::Item;
 use proto::Key;
 use std::alloc::{AllocError, Global};
 use std::marker::Model;
+use std::sync::Arc;
 use token::PAGES;
 
 /// `PAGES` pages in groups, which are shared with clones: page `p` is in group `p / GROUP_PAGES`.
@@ -101,24 +105,20 @@ impl Groups {
         Ok(())
     }
 
-    /// Brings each page of a group into this layout, makes its digest, and sets it. The only error is a failed
-    /// allocation.
-    fn seal(
-        &mut self,
-        group: usize,
-        layout: Layout,
-        digests: &mut [[u8; 32]; PAGES],
-    ) -> Result<(), AllocError>
+    /// Brings each page of a group into this layout, and renews the tree over the digests of all pages. The only error
+    /// is a failed allocation.
+    fn seal(&mut self, group: usize, layout: Layout, tree: &mut Tree) -> Result<(), AllocError>
         requires { group < GROUPS }
         ensures sealed { OnOk result ((i : ℕ) → i < GROUP_PAGES
-            → IsKeptPage layout (page_at self.new (page_in_group group i)) (slice_index_or digests.new (page_in_group group i) [])) }
+            → IsKeptPage layout (page_at self.new (page_in_group group i)) (slice_index_or tree.new (page_in_group group i) [])) }
         ensures others { OnOk result ((g i : ℕ) → g ≢ group → i < GROUP_PAGES
-            → (page_at self.new (page_in_group g i) ≡ page_at self.old (page_in_group g i)) × (slice_index_or digests.new (page_in_group g i) [] ≡ slice_index_or digests.old (page_in_group g i) [])) }
+            → (page_at self.new (page_in_group g i) ≡ page_at self.old (page_in_group g i)) × (slice_index_or tree.new (page_in_group g i) [] ≡ slice_index_or tree.old (page_in_group g i) [])) }
         ensures items { OnOk result (items_of self.new ≡ items_of self.old) }
+        ensures count { OnOk result (length tree.new ≡ page_count) }
     {
         let written = &mut self.groups[group];
         written.seal(layout)?;
-        written.put_digests(group * GROUP_PAGES, digests);
+        tree.renew_group(group, &written.digests())?;
         Ok(())
     }
 
@@ -128,11 +128,11 @@ impl Groups {
         group: usize,
         layout: Layout,
         written: &mut [bool; GROUPS],
-        digests: &mut [[u8; 32]; PAGES],
+        tree: &mut Tree,
     ) -> Result<(), AllocError>
         requires within { group < GROUPS }
-        requires kept { AreUnwrittenKept layout self.old digests.old written.old }
-        ensures kept { OnOk result (AreUnwrittenKept layout self.new digests.new written.new) }
+        requires kept { AreUnwrittenKept layout self.old tree.old written.old }
+        ensures kept { OnOk result (AreUnwrittenKept layout self.new tree.new written.new) }
         ensures done { OnOk result (slice_index_or written.new group false ≡ false) }
         ensures others { OnOk result ((g : ℕ) → g ≢ group → slice_index_or written.new g false ≡ slice_index_or written.old g false) }
         ensures items { OnOk result (items_of self.new ≡ items_of self.old) }
@@ -140,29 +140,42 @@ impl Groups {
         if !written[group] {
             return Ok(());
         }
-        self.seal(group, layout, digests)?;
+        self.seal(group, layout, tree)?;
         written[group] = false;
         Ok(())
     }
 
-    /// Seals each group that was written in this layout, in which the others are sealed: the result has the digests of
-    /// all pages, of which these are those of the other groups. The only error is a failed allocation.
+    /// Seals each group that was written, in a tree that is not shared.
+    fn seal_each(
+        &mut self,
+        layout: Layout,
+        written: [bool; GROUPS],
+        tree: &mut Tree,
+    ) -> Result<(), AllocError>
+        requires { AreUnwrittenKept layout self.old tree.old written }
+        ensures kept { OnOk result (AreUnwrittenKept layout self.new tree.new []) }
+        ensures items { OnOk result (items_of self.new ≡ items_of self.old) }
+    {
+        let mut left = written;
+        for group in 0..GROUPS {
+            self.seal_one(group, layout, &mut left, tree)?;
+        }
+        Ok(())
+    }
+
+    /// Seals each group that was written in this layout, in which the others are sealed, and renews the tree over the
+    /// digests of all pages, which has those of the other groups. The only error is a failed allocation.
     pub(crate) fn seal_written(
         &mut self,
         layout: Layout,
         written: [bool; GROUPS],
-        digests: [[u8; 32]; PAGES],
-    ) -> Result<[[u8; 32]; PAGES], AllocError>
-        requires { AreUnwrittenKept layout self.old digests written }
-        ensures kept { IfOk result (λ all. AreUnwrittenKept layout self.new all []) }
+        tree: &mut Arc<Tree, Global>,
+    ) -> Result<(), AllocError>
+        requires { AreUnwrittenKept layout self.old (arc_value tree.old) written }
+        ensures kept { OnOk result (AreUnwrittenKept layout self.new (arc_value tree.new) []) }
         ensures items { OnOk result (items_of self.new ≡ items_of self.old) }
     {
-        let mut left = written;
-        let mut all = digests;
-        for group in 0..GROUPS {
-            self.seal_one(group, layout, &mut left, &mut all)?;
-        }
-        Ok(all)
+        self.seal_each(layout, written, Arc::make_mut(tree)?)
     }
 
     /// What it costs to make the digests of a group's pages that are not kept, in entries.
@@ -177,25 +190,37 @@ impl Groups {
         requires { ArePages (items_of self.now) }
         ensures { result ≡ length (map.entries (joined_pages (items_of self.now))) }
     {
-        let mut len = 0;
-        for number in 0..PAGES {
-            len += self.page(number).len();
-        }
-        len
+        count_in(&self.groups)
     }
 
-    /// The pages in which something is due at the moment or before it.
+    /// Adds the pages of a group in which something is due.
+    fn add_due(&self, group: usize, moment: u32, due: &mut PageSet)
+        requires { group < GROUPS }
+        ensures within { AreWithin due.old due.new }
+        ensures own { (i : ℕ) → i < GROUP_PAGES → has_page due.new (page_in_group group i) ≡ false → IsStill moment (page_at self.now (page_in_group group i)) }
+    {
+        self.groups[group].add_due(group * GROUP_PAGES, moment, due);
+    }
+
+    /// The pages in which something is due at the moment or before it. It looks at pages of groups alone in which
+    /// something is due, or of which that is not known.
     pub(crate) fn due(&self, moment: u32) -> PageSet
         requires { ArePages (items_of self.now) }
         ensures { AreSameBeside result (joined_pages (items_of self.now)) (alive (joined_pages (items_of self.now)) moment) }
     {
         let mut due = PageSet::new();
-        for number in 0..PAGES {
-            if self.page(number).has_due(moment) {
-                due.add(number);
-            }
+        for group in 0..GROUPS {
+            self.add_due(group, moment, &mut due);
         }
         due
+    }
+
+    /// Whether something is due in one of the pages of a group.
+    fn has_due_in(&self, group: usize, moment: u32) -> bool
+        requires { group < GROUPS }
+        ensures { result ≡ false → (i : ℕ) → i < GROUP_PAGES → IsStill moment (page_at self.now (page_in_group group i)) }
+    {
+        self.groups[group].has_due(moment)
     }
 
     /// Whether something is due in one of the pages at the moment or before it.
@@ -203,13 +228,25 @@ impl Groups {
         requires { ArePages (items_of self.now) }
         ensures { result ≡ false → alive (joined_pages (items_of self.now)) moment ≡ joined_pages (items_of self.now) }
     {
-        for number in 0..PAGES {
-            if self.page(number).has_due(moment) {
+        for group in 0..GROUPS {
+            if self.has_due_in(group, moment) {
                 return true;
             }
         }
         false
     }
+}
+
+/// How many items the pages of all groups have.
+fn count_in(groups: &Vec<Group>) -> u64
+    requires { length groups.now.items ≡ GROUPS }
+    ensures { result ≡ item_count (items_of (pages_in groups.now.items)) }
+{
+    let mut count = 0;
+    for group in 0..GROUPS {
+        count += groups[group].len();
+    }
+    count
 }
 
 /// These pages, which are as many as a store has, in groups. The only error is a failed allocation.

@@ -5,8 +5,8 @@
 //! their clones: a write copies what it changes. A snapshot has its pages in groups, which it shares with the
 //! `Pages` that are opened of it: a write copies the handles of one group, and a seal in the same layout leaves the
 //! groups that were not written as they are. A write forgets what it changed of the digest, and
-//! `Pages::seal` makes that new, in the layout that it is given; of the tree over the digests of all pages it
-//! makes new just the nodes above those that changed.
+//! `Pages::seal` makes that new, in the layout that it is given. The tree over the digests of all pages has a branch for
+//! each group, which is shared, too: a seal makes new just the nodes above the digests that changed.
 //!
 //! It is built on `base` (entries, texts), on `items` and `item_tree`, whose stores hold the items of one page,
 //! on `wire` and `token`, which say what a page's digest is, and on `item_steps` for a law alone. The
@@ -17,6 +17,7 @@
 //! that commands update.
 #![tactic(auto)]
 
+mod branch;
 mod group;
 mod grouped_pages;
 mod groups;

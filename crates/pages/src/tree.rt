@@ -1,75 +1,82 @@
-ghost use Rattle.std.specs.Prelude.{◌≡◌, ℕ, ◌*◌, ◌<◌, length, false, slice_index_or, [], IfOk};
+ghost use Rattle.std.specs.Prelude.{◌≡◌, ◌≢◌, ◌*◌, ◌<◌, ℕ, length, map as map_list, take, drop, slice_index_or, [], IfOk, OnOk, OnErr};
 ghost use Rattle.std.specs.Arc.{arc_value};
 ghost use Rattle.token.specs.declared.tree.TheConstants.{HEIGHT};
 ghost use Rattle.token.specs.Digest.{root_of};
 ghost use Rattle.pages.specs.Page.{page_count};
-ghost use Rattle.pages.specs.Tree.{leaves, IsTree, IsAboveSame};
+ghost use Rattle.pages.specs.Group.{page_in_group, AreLong};
+ghost use Rattle.pages.specs.Tree.{leaves_of, branch_root, AreBranches};
+ghost use Rattle.pages.specs.declared.group.TheConstants.{GROUPS, GROUP_PAGES};
 
+use crate::branch::{Branch, Nodes};
+use crate::group::{GROUP_PAGES, GROUPS};
 use std::alloc::{AllocError, Global};
 use std::marker::Model;
 use std::sync::Arc;
-use token::{PAGES, inner_digest};
+use token::PAGES;
 
-/// The places of a tree over the digests of all pages. Place 0 is not used.
-const NODES: usize = 2 * PAGES;
-
-/// The tree over the digests of all pages, kept, so that other digests renew only what is above
-/// those that differ.
+/// The tree over the digests of all pages, kept, so that other digests renew only what is above those that differ.
 ///
-/// Node 1 is the root, and the nodes below node `n` are `2n` and `2n + 1`. The leaves are the last
-/// `PAGES`.
+/// It has a branch over the digests of each group of pages, and a top over the roots of the branches. Branches are shared
+/// with clones: digests of one group renew one branch and the top.
 pub(crate) struct Tree {
-    nodes: Vec<[u8; 32]>,
+    branches: Vec<Branch>,
+    top: Nodes,
 }
 
 impl Drop for Tree {
     fn drop(self) {
-        let Tree { nodes: _ } = self;
+        let Tree {
+            branches: _,
+            top: _,
+        } = self;
     }
 }
 
 impl Model for Tree {
     ghost use Rattle.std.specs.Prelude.{ℕ, List};
-    ghost use Rattle.pages.specs.Tree.{leaves, IsTree};
+    ghost use Rattle.pages.specs.Tree.{leaves_of, AreBranches};
 
     ghost Value = { List (List ℕ) };
 
-    ghost view = { λ a. leaves a.nodes.items };
+    ghost view = { λ a. leaves_of a.branches.items };
 
-    ghost invariant = { λ a. IsTree a.nodes.items };
+    ghost invariant = { λ a. AreBranches a.branches.items a.top };
 }
 
-/// Sets the leaves. The result marks those that differ from the ones before.
-fn set_leaves(nodes: &mut [[u8; 32]], digests: &[[u8; 32]; PAGES]) -> [bool; NODES]
-    requires { length nodes.old ≡ 2 * page_count }
-    ensures count { length nodes.new ≡ 2 * page_count }
-    ensures leaves { leaves nodes.new ≡ digests.now }
-    ensures inner { (k : ℕ) → k < page_count → slice_index_or result k false ≡ false }
-    ensures same { (k : ℕ) → slice_index_or result k false ≡ false → slice_index_or nodes.new k [] ≡ slice_index_or nodes.old k [] }
+/// Of the digests of all pages those of one group.
+fn of_group(digests: &[[u8; 32]; PAGES], group: usize) -> [[u8; 32]; GROUP_PAGES]
+    requires { group < GROUPS }
+    ensures { result ≡ take GROUP_PAGES (drop (GROUP_PAGES * group) digests.now) }
 {
-    let mut changed = [false; NODES];
-    for number in 0..PAGES {
-        if nodes[PAGES + number] != digests[number] {
-            nodes[PAGES + number] = digests[number];
-            changed[PAGES + number] = true;
-        }
-    }
-    changed
+    let first = group * GROUP_PAGES;
+    let mut own = [[0u8; 32]; GROUP_PAGES];
+    own.copy_from_slice(&digests[first..first + GROUP_PAGES]);
+    own
 }
 
-/// Makes each inner node new that is above a changed one.
-fn renew_above(nodes: &mut [[u8; 32]], changed: &mut [bool; NODES])
-    requires count { length nodes.old ≡ 2 * page_count }
-    requires above { (k : ℕ) → 0 < k → k < page_count → IsAboveSame nodes.old changed.old k }
-    ensures tree { IsTree nodes.new }
-    ensures leaves { leaves nodes.new ≡ leaves nodes.old }
+/// The branches over these digests. The only error is a failed allocation.
+fn branches_over(alloc: Global, digests: &[[u8; 32]; PAGES]) -> Result<Vec<Branch>, AllocError>
+    ensures leaves { IfOk result (λ branches. leaves_of branches.items ≡ digests.now) }
+    ensures count { IfOk result (λ branches. length branches.items ≡ GROUPS) }
+    ensures long { IfOk result (λ branches. AreLong branches.items) }
 {
-    for node in (1..PAGES).rev() {
-        if changed[2 * node] || changed[2 * node + 1] {
-            nodes[node] = inner_digest(&nodes[2 * node], &nodes[2 * node + 1]);
-            changed[node] = true;
-        }
+    let mut branches = Vec::with_capacity(alloc, GROUPS)?;
+    for group in 0..GROUPS {
+        branches.push(Branch::new(alloc, &of_group(digests, group))?)?;
     }
+    Ok(branches)
+}
+
+/// The roots of all branches.
+fn roots_of(branches: &Vec<Branch>) -> [[u8; 32]; GROUPS]
+    requires { length branches.now.items ≡ GROUPS }
+    ensures { result ≡ map_list branch_root branches.now.items }
+{
+    let mut roots = [[0u8; 32]; GROUPS];
+    for group in 0..GROUPS {
+        roots[group] = branches[group].root();
+    }
+    roots
 }
 
 impl Tree {
@@ -77,44 +84,61 @@ impl Tree {
     pub(crate) fn new(alloc: Global, digests: &[[u8; 32]; PAGES]) -> Result<Tree, AllocError>
         ensures { IfOk result (λ tree. tree ≡ digests.now) }
     {
-        let mut nodes = vec![in alloc; [0u8; 32]; NODES]?;
-        set_leaves(&mut nodes, digests);
-        renew_above(&mut nodes, &mut [true; NODES]);
-        Ok(Tree { nodes })
+        let branches = branches_over(alloc, digests)?;
+        let top = Nodes::new(&roots_of(&branches));
+        Ok(Tree { branches, top })
     }
 
-    /// Makes it the tree over these digests. Of the nodes above the leaves just those are recomputed
-    /// that are above a leaf that differs. This takes no memory.
-    pub(crate) fn renew(&mut self, digests: &[[u8; 32]; PAGES])
-        ensures { self.new ≡ digests.now }
+    /// Makes it the tree over these digests of one group, and over the others as they are. Of the nodes just those are
+    /// recomputed that are above a digest that differs, and of a tree that is shared with clones nothing is copied but
+    /// the branch of the group. The only error is a failed allocation, and then nothing has changed.
+    pub(crate) fn renew_group(
+        &mut self,
+        group: usize,
+        digests: &[[u8; 32]; GROUP_PAGES],
+    ) -> Result<(), AllocError>
+        requires { group < GROUPS }
+        ensures count { OnOk result (length self.new ≡ page_count) }
+        ensures own { OnOk result ((i : ℕ) → i < GROUP_PAGES → slice_index_or self.new (page_in_group group i) [] ≡ slice_index_or digests.now i []) }
+        ensures others { OnOk result ((g i : ℕ) → g ≢ group → i < GROUP_PAGES
+            → slice_index_or self.new (page_in_group g i) [] ≡ slice_index_or self.old (page_in_group g i) []) }
+        ensures err { OnErr result (self.new ≡ self.old) }
     {
-        let mut changed = set_leaves(&mut self.nodes, digests);
-        renew_above(&mut self.nodes, &mut changed);
+        let branch = &mut self.branches[group];
+        branch.renew(digests)?;
+        let root = branch.root();
+        let mut roots = self.top.leaves();
+        roots[group] = root;
+        self.top.renew(&roots);
+        Ok(())
     }
 
-    /// The digests that it is over.
-    pub(crate) fn leaves(&self) -> [[u8; 32]; PAGES]
-        ensures { result ≡ self.now }
+    /// Makes it the tree over these digests, group by group. The only error is a failed allocation.
+    fn renew(&mut self, digests: &[[u8; 32]; PAGES]) -> Result<(), AllocError>
+        ensures { OnOk result (self.new ≡ digests.now) }
     {
-        let mut digests = [[0u8; 32]; PAGES];
-        digests.copy_from_slice(&self.nodes[PAGES..]);
-        digests
+        for group in 0..GROUPS {
+            self.renew_group(group, &of_group(digests, group))?;
+        }
+        Ok(())
     }
 
     /// The root.
     pub(crate) fn root(&self) -> [u8; 32]
         ensures { result ≡ root_of HEIGHT self.now }
     {
-        self.nodes[1]
+        self.top.root()
     }
 }
 
 impl Clone for Tree {
     ghost is_clone = { λ tree copy. copy ≡ tree };
 
+    /// The same tree. Branches are shared.
     fn clone(&self) -> Result<Tree, AllocError> {
         Ok(Tree {
-            nodes: Vec::from_slice(*self.nodes.allocator(), self.nodes.as_slice())?,
+            branches: self.branches.clone()?,
+            top: self.top.clone()?,
         })
     }
 }
@@ -125,10 +149,9 @@ pub(crate) fn renewed(
     tree: Arc<Tree, Global>,
     digests: &[[u8; 32]; PAGES],
 ) -> Result<Arc<Tree, Global>, AllocError>
-    ensures tree { IfOk result (λ tree. arc_value tree ≡ digests.now) }
-    ensures count { IfOk result (λ _. length digests.now ≡ page_count) }
+    ensures { IfOk result (λ tree. arc_value tree ≡ digests.now) }
 {
     let mut tree = tree;
-    Arc::make_mut(&mut tree)?.renew(digests);
+    Arc::make_mut(&mut tree)?.renew(digests)?;
     Ok(tree)
 }

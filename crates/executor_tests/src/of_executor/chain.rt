@@ -131,7 +131,11 @@ fn is_read_back(alloc: Global, chain: &Chain) -> Result<bool, Fault> {
     let mut record = record_of(alloc, chain)?;
     let len = record.len();
     record.extend_from_slice(b"rest")?;
-    let (whole, longer) = (record.get(..len).unwrap_or(&[]), record.as_slice());
+    is_read_from(alloc, record.get(..len).unwrap_or(&[]), record.as_slice())
+}
+
+/// The same of its record, and of that with a rest of four bytes.
+fn is_read_from(alloc: Global, whole: &[u8], longer: &[u8]) -> Result<bool, Fault> {
     Ok(
         is_taken(alloc, whole, whole, 0)?
             && is_taken(alloc, longer, whole, 4)?
@@ -284,10 +288,10 @@ fn played(alloc: Global, steps: &[Step]) -> Result<(usize, u64), Fault> {
 
 #[test]
 fn chains_go_so(rt: HostRuntime) -> Result<(), Fail> {
-    for (name, steps, end) in ROWS {
+    for (name, steps, end) in &ROWS {
         assert_eq!(rt;
-            played(rt.alloc(), steps),
-            Ok((steps.len(), end)),
+            played(rt.alloc(), *steps),
+            Ok((steps.len(), *end)),
             "{}",
             name
         );

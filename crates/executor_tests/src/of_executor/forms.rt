@@ -257,6 +257,7 @@ fn the_form_is_that_of_the_items_when_the_batch_begins(rt: HostRuntime) -> Resul
     let mut state = filled(rt.alloc())?;
     let token = state.state().token();
     let holding = holding(rt.alloc(), &mut state);
-    assert_eq!(rt; (token, holding), (Token(FILLED), Ok(6)));
+    assert!(rt; token == Token(FILLED), "of the filled state");
+    assert_eq!(rt; holding, Ok(6));
     Ok(())
 }

@@ -94,9 +94,6 @@ fn migrated(alloc: Global, bytes: &[u8]) -> Result<(Form, usize, bool), Fault> {
 fn an_old_state_of_2000_items_is_followed_by_one_of_form_3(rt: HostRuntime) -> Result<(), Fail> {
     let mut bytes = Vec::new(rt.alloc());
     add_chain(&mut bytes)?;
-    assert_eq!(rt;
-        migrated(rt.alloc(), bytes.as_slice()),
-        Ok((Form::Old, 0, true))
-    );
+    assert!(rt; migrated(rt.alloc(), bytes.as_slice()) == Ok((Form::Old, 0, true)));
     Ok(())
 }

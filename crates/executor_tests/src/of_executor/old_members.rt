@@ -195,7 +195,7 @@ fn taken_of(alloc: Global, row: &Row) -> Result<Option<(Token, usize)>, Fault> {
 #[test]
 fn members_are_read_so(rt: HostRuntime) -> Result<(), Fail> {
     for row in &ROWS {
-        assert_eq!(rt; taken_of(rt.alloc(), row), Ok(row.taken), "{}", row.name);
+        assert!(rt; taken_of(rt.alloc(), row) == Ok(row.taken), "{}", row.name);
     }
     Ok(())
 }
@@ -225,7 +225,8 @@ fn an_old_member_that_is_cut_or_changed_is_refused(rt: HostRuntime) -> Result<()
     let base = Base::first(rt.alloc())?;
     let bytes = bytes_of(rt.alloc(), &[OLD_MEMBER, AFTER_1, OLD_PAGES])?;
     let sealed = sealed(rt.alloc(), &base, bytes.as_slice());
-    assert_eq!(rt; (bytes.len(), sealed), (272, Ok(272)));
+    assert!(rt; bytes.len() == 272, "its record");
+    assert!(rt; sealed == Ok(272), "cut or changed");
     Ok(())
 }
 
@@ -244,7 +245,8 @@ fn a_chain_of_old_members_becomes_one_of_today(rt: HostRuntime) -> Result<(), Fa
     let now = bytes_of(rt.alloc(), &CHAIN)?;
     let of_old = is_renewed(rt.alloc(), Version::First, old.as_slice(), now.as_slice());
     let of_now = is_renewed(rt.alloc(), Version::Second, now.as_slice(), now.as_slice());
-    let expected = (1017, 2344, Ok(true), Ok(true));
-    assert_eq!(rt; (old.len(), now.len(), of_old, of_now), expected);
+    assert!(rt; (old.len(), now.len()) == (1017, 2344), "their lengths");
+    assert!(rt; of_old == Ok(true), "of old members");
+    assert!(rt; of_now == Ok(true), "of today's");
     Ok(())
 }

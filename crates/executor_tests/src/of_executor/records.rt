@@ -66,7 +66,8 @@ fn state_is_written_so(
 fn the_records_of_the_first_state_and_after_one_set(rt: HostRuntime) -> Result<(), Fail> {
     let first = state_is_written_so(rt.alloc(), &[], &[FIRST]);
     let after_one_set = state_is_written_so(rt.alloc(), &[ONE_SET], &[HEAD, PAGES]);
-    assert_eq!(rt; (first, after_one_set), (Ok(true), Ok(true)));
+    assert!(rt; first == Ok(true), "the first state");
+    assert!(rt; after_one_set == Ok(true), "after one set");
     Ok(())
 }
 
@@ -120,10 +121,10 @@ const SPELLINGS: [(&[Part], bool); 4] = [
 
 #[test]
 fn a_page_that_is_the_same_has_one_spelling(rt: HostRuntime) -> Result<(), Fail> {
-    for (first_page, is_right) in SPELLINGS {
-        let bytes = bytes_of(rt.alloc(), &[BATCH_1, HEAD, first_page, MEMBER])?;
+    for (first_page, is_right) in &SPELLINGS {
+        let bytes = bytes_of(rt.alloc(), &[BATCH_1, HEAD, *first_page, MEMBER])?;
         let is_read = is_member_after(rt.alloc(), &[], bytes.as_slice());
-        assert_eq!(rt; is_read, Ok(is_right), "{}", bytes.len());
+        assert!(rt; is_read == Ok(*is_right), "{}", bytes.len());
     }
     Ok(())
 }
@@ -153,7 +154,8 @@ fn a_member_that_is_cut_or_changed_is_refused(rt: HostRuntime) -> Result<(), Fai
     let own = member_after(rt.alloc(), &[], ONE_SET)?;
     let base = Base::first(rt.alloc())?;
     let sealed = sealed(rt.alloc(), &base, own.as_slice());
-    assert_eq!(rt; (own == expected, sealed), (true, Ok(expected.len())));
+    assert!(rt; own == expected, "its record");
+    assert!(rt; sealed == Ok(expected.len()), "cut or changed");
     Ok(())
 }
 
@@ -163,9 +165,9 @@ const BASES: [(&[&[u8]], bool); 3] = [(&[ONE_SET], true), (&[SET_OF_B], false), 
 #[test]
 fn a_member_is_refused_over_another_base(rt: HostRuntime) -> Result<(), Fail> {
     let bytes = member_after(rt.alloc(), &[ONE_SET], SET_AT_AN_EARLIER_MOMENT)?;
-    for (before, is_right) in BASES {
-        let is_read = is_member_after(rt.alloc(), before, bytes.as_slice());
-        assert_eq!(rt; is_read, Ok(is_right));
+    for (place, (before, is_right)) in BASES.iter().enumerate() {
+        let is_read = is_member_after(rt.alloc(), *before, bytes.as_slice());
+        assert!(rt; is_read == Ok(*is_right), "row {place}");
     }
     Ok(())
 }

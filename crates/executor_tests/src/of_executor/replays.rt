@@ -175,14 +175,37 @@ fn add_order(order: &[u32], line: &mut String) -> Result<(), AllocError> {
 }
 
 /// A committed state, and the same items on a plain store.
-#[derive(Drop)]
 struct Both {
     committed: Committed,
     plain: PlainStore,
 }
 
-/// Whether the order in which 16 workers made the steps of the next batch of those that wait gives the same
-/// replies; the line says which it was.
+impl Drop for Both {
+    fn drop(self) {
+        let Both {
+            committed: _,
+            plain: _,
+        } = self;
+    }
+}
+
+/// Whether the order in which 16 workers make the steps of the batch gives the same replies; the line says
+/// which it was.
+fn is_replayed<R: Threads + Wait + Sync>(
+    rt: &R,
+    alloc: Global,
+    both: &mut Both,
+    batch: &Batch,
+    order: &mut Vec<u32>,
+    line: &mut String,
+) -> Result<bool, Fault> {
+    both.committed = run_batch(rt, alloc, both.committed.as_base(), batch.clone()?, order)?;
+    add_order(order.as_slice(), line)?;
+    let replies = both.committed.replies();
+    Ok(agree(alloc, &mut both.plain, batch, order.as_slice(), replies)?)
+}
+
+/// The same of the next batch of those that wait.
 fn is_next_replayed<R: Threads + Wait + Sync>(
     rt: &R,
     alloc: Global,
@@ -192,16 +215,7 @@ fn is_next_replayed<R: Threads + Wait + Sync>(
 ) -> Result<bool, Fault> {
     let batch = cut_next(alloc, both.committed.as_base(), gather)?;
     let mut order = Vec::new(alloc);
-    both.committed = run_batch(
-        rt,
-        alloc,
-        both.committed.as_base(),
-        batch.clone()?,
-        &mut order,
-    )?;
-    add_order(order.as_slice(), line)?;
-    let replies = both.committed.replies();
-    Ok(agree(alloc, &mut both.plain, &batch, order.as_slice(), replies)?)
+    is_replayed(rt, alloc, both, &batch, &mut order, line)
 }
 
 /// Whether both batches of a round are replayed. Prints the round's number and its orders.

@@ -212,7 +212,11 @@ fn shown<R: Threads + Wait + Sync>(rt: &R, alloc: Global, row: &Row) -> Result<[
 #[test]
 fn batches_are_answered_so(rt: HostRuntime) -> Result<(), Fail> {
     for row in &ROWS {
-        assert_eq!(rt; shown(&rt, rt.alloc(), row), Ok(*row.shown), "{}", row.name);
+        assert!(rt;
+            shown(&rt, rt.alloc(), row) == Ok(*row.shown),
+            "{}",
+            row.name
+        );
     }
     Ok(())
 }
@@ -299,6 +303,7 @@ fn each_way_leads_to_the_state_of_one_thread(rt: HostRuntime) -> Result<(), Fail
     let of_full = agreeing(&rt, rt.alloc(), &[], full.as_slice(), &ALL, 1);
     let ways = [Way::Backwards];
     let of_gat = agreeing(&rt, rt.alloc(), &[SET_OF_C], GAT_AND_GET_OF_C, &ways, 1);
-    assert_eq!(rt; (of_full, of_gat), (Ok(5), Ok(1)));
+    assert!(rt; of_full == Ok(5), "of a full batch");
+    assert!(rt; of_gat == Ok(1), "of gat and get");
     Ok(())
 }

@@ -1,24 +1,25 @@
-use Rattle.std.proofs.Common.{true≢false, sym, ap, ◌∙◌, arith}
+use Rattle.std.proofs.Common.{ℕ, false, ap, ◌∙◌, subst, arith}
+use Rattle.std.proofs.lemmas.List.{get_or_default}
 use Rattle.pages.specs.Joined.{joined_pages, items_of}
 use Rattle.pages.specs.Others.{has_page}
-use Rattle.pages.proofs.PartLemmas.{page-items}
-use Rattle.pages.proofs.StateLemmas.{items-at, length-states}
-use Rattle.pages.proofs.OtherLemmas.{alive-elsewhere, due-next}
-use Rattle.pages.proofs.groups.Groups.due.Goals.{then-has_due, else-has_due}
+use Rattle.pages.specs.Group.{page_at, no_page}
+use Rattle.pages.specs.Known.{IsStill}
+use Rattle.pages.proofs.LongLemmas.{place-of}
+use Rattle.pages.proofs.StateLemmas.{part-at, length-states}
+use Rattle.pages.proofs.OtherLemmas.{alive-elsewhere}
+use Rattle.pages.proofs.StillLemmas.{groups-added-next}
 use Rattle.pages.proofs.groups.Groups.due.Goals as goal
 
-pub loop-number-preserved : goal.loop-number-preserved
-loop-number-preserved c =
+pub loop-group-preserved : goal.loop-group-preserved
+loop-group-preserved c =
+    groups-added-next c.args.self.now c.args.moment c.loop-group.group c.loop-group.due c.add_due.new.due c.loop-group.invariant c.add_due.ensures.within c.add_due.ensures.own
+
+pub returns : goal.returns
+returns c p l out =
     let pages = c.args.self.now in
-    let m = joined_pages (items_of c.args.self.now) in
-    let n = c.loop-number.number in
-    elim c.if-has_due.branch [
-      | then-has_due w ↦ due-next m c.args.moment n c.loop-number.due c.if-has_due.due c.loop-number.invariant
-          (λ out. absurd (true≢false (sym w.add.ensures.has ∙ ap (λ s. has_page s n) (sym w.due-is) ∙ out)))
-          (λ p other. ap (λ s. has_page s p) w.due-is ∙ w.add.ensures.others p other)
-      | else-has_due w ↦ due-next m c.args.moment n c.loop-number.due c.if-has_due.due c.loop-number.invariant
-          (λ out. alive-elsewhere m n c.args.moment c.page.result.now.items
-          (items-at pages n c.page.result.now (omega (arith, c.loop-number-test.true, length-states pages c.requires)) c.page.ensures ∙ page-items (items_of pages) n c.requires)
-          (c.has_due.ensures.none w.if-has_due.false))
-          (λ p other. ap (λ s. has_page s p) w.due-is)
-    ]
+    let at = place-of p l in
+    let page = page_at c.args.self.now p in
+    let read = get_or_default pages p no_page page (omega (arith, l, length-states pages c.requires)) in
+    alive-elsewhere (joined_pages (items_of pages)) p c.args.moment page.items (part-at pages p page c.requires l read)
+    (subst (λ (k : ℕ). IsStill c.args.moment (page_at pages k)) at.0
+    (c.loop-group.invariant _ _ (omega (arith, at.1, c.loop-group-test.false)) at.2 (ap (λ (k : ℕ). has_page c.loop-group.due k) at.0 ∙ out)))

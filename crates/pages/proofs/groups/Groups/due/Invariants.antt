@@ -1,10 +1,10 @@
 use Rattle.std.proofs.Common.{◌≡◌, ℕ, ◌<◌, false}
-use Rattle.items.specs.Map.{alive}
-use Rattle.pages.specs.Page.{page_entries}
-use Rattle.pages.specs.Joined.{joined_pages, items_of}
 use Rattle.pages.specs.Others.{has_page}
+use Rattle.pages.specs.Group.{page_at, page_in_group}
+use Rattle.pages.specs.Known.{IsStill}
+use Rattle.pages.specs.declared.group.TheConstants.{GROUP_PAGES}
 use Rattle.pages.proofs.groups.Groups.due.Given as goal
 
--- nothing is due in the pages so far that are not in the set
-abbrev pub invariant-loop-number : goal.invariant-loop-number
-invariant-loop-number l = (p : ℕ) → p < l.number → has_page l.due p ≡ false → page_entries (joined_pages (items_of l.self)) p ≡ page_entries (alive (joined_pages (items_of l.self)) l.moment) p
+-- nothing is due in the pages of the groups so far that are not in the set
+abbrev pub invariant-loop-group : goal.invariant-loop-group
+invariant-loop-group l = (g i : ℕ) → g < l.group → i < GROUP_PAGES → has_page l.due (page_in_group g i) ≡ false → IsStill l.moment (page_at l.self (page_in_group g i))

@@ -1,19 +1,9 @@
-use Rattle.std.proofs.Common.{◌≡◌, ◌≢◌, ℕ, ◌<◌, ◌+◌, ◌⊎◌, inl, inr, false, get_or, refl, ap, ◌∙◌, arith}
-use Rattle.pages.proofs.GroupLemmas.{kept-all, same_or_other}
+use Rattle.std.proofs.Common.{◌≡◌, List, ℕ, ⊎_elim, sym, subst}
+use Rattle.std.specs.Arc.{arc_value}
+use Rattle.pages.specs.Group.{AreUnwrittenKept}
 use Rattle.pages.proofs.groups.Groups.seal_written.Goals as goal
 
-pub loop-group-init : goal.loop-group-init
-loop-group-init c = (c.requires, λ g l. absurd (omega (arith, l)), refl)
-
-pub loop-group-preserved : goal.loop-group-preserved
-loop-group-preserved c = (c.in_ok-seal_one.ensures.kept, λ g l. by g l (same_or_other g c.loop-group.group), c.in_ok-seal_one.ensures.items ∙ c.loop-group.invariant.2)
-  where
-    by : (g : ℕ) → g < c.loop-group.group + 1 → (g ≡ c.loop-group.group) ⊎ (g ≢ c.loop-group.group) → get_or c.seal_one.new.written g false ≡ false
-    by g l (inl e) = ap (λ (k : ℕ). get_or c.seal_one.new.written k false) e ∙ c.in_ok-seal_one.ensures.done
-    by g l (inr other) = c.in_ok-seal_one.ensures.others g other ∙ c.loop-group.invariant.1 g (omega (arith, l, other))
-
-pub returns-clause-kept : goal.returns-clause-kept
-returns-clause-kept c = kept-all c.args.layout c.loop-group.self c.loop-group.all c.loop-group.left c.loop-group.invariant.0 (λ g l. c.loop-group.invariant.1 g (omega (arith, l, c.loop-group-test.false)))
-
-pub returns-clause-items : goal.returns-clause-items
-returns-clause-items c = c.loop-group.invariant.2
+pub seal_each-requires : goal.seal_each-requires
+seal_each-requires c =
+    let same : c.in_ok-make_mut.field-0.now ≡ arc_value c.args.tree.now = ⊎_elim (λ e. e) (λ e. e) c.in_ok-make_mut.ensures.value in
+    subst (λ (ds : List (List ℕ)). AreUnwrittenKept c.args.layout c.args.self.now ds c.args.written) (sym same) c.requires

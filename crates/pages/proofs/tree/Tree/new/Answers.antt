@@ -1,8 +1,5 @@
-use Rattle.std.proofs.Common.{◌≡◌, ◌*◌, true, false, sym, ◌∙◌, arith}
-use Rattle.std.proofs.lemmas.List.{get_or-replicate}
-use Rattle.pages.specs.Page.{page_count}
+use Rattle.std.proofs.Common.{◌∙◌}
 use Rattle.pages.proofs.tree.Tree.new.Goals as goal
 
-pub renew_above-requires-clause-above : goal.renew_above-requires-clause-above
-renew_above-requires-clause-above c = λ k some few left right.
-    absurd (let both : true ≡ false = sym (get_or-replicate (2 * page_count) (2 * k) true false (omega (arith, few))) ∙ left in cc)
+pub invariant_of-result : goal.invariant_of-result
+invariant_of-result c = record { count = c.in_ok-branches.ensures.count; each = c.in_ok-branches.ensures.long; over = c.new-top.ensures ∙ c.roots_of.ensures }
