@@ -1,5 +1,5 @@
 -- What is between the event loop and the service: what it hands in, and what it hands out.
-use Rattle.std.specs.Prelude.{◌≡◌, ◌⊎◌, ℕ, Bool, List, [], ◌∷◌, ◌++◌, true, false, map, Some, Result, Ok, Err, refl}
+use Rattle.std.specs.Prelude.{◌≡◌, ◌≤◌, ◌⊎◌, ℕ, Bool, List, [], ◌∷◌, ◌++◌, true, false, map, Some, Result, Ok, Err, refl}
 use Rattle.std.specs.List.{AllZip}
 use Rattle.std.specs.Coded.{Coded, code_by, coded×, coded_list}
 use Rattle.base.specs.declared.fault.Fault.{Fault}
@@ -13,7 +13,7 @@ use Rattle.connections.specs.Told.{IsToldAt}
 use Rattle.event_loop.specs.declared.message.Heard.{Heard}
 use Rattle.event_loop.specs.declared.message.Heard.TheVariants.{Came, Bytes, Written, Left}
 use Rattle.event_loop.specs.declared.message.Said.{Said}
-use Rattle.service.specs.Service.{ServiceView, HasSameRequests, Hears, given_entry, passed_entry}
+use Rattle.service.specs.Service.{ServiceView, HasSameRequests, HasSameSize, IsSameProcess, RestsUnlessRefused, Hears, given_entry, passed_entry}
 use Rattle.service.specs.Told.{AreTold, LeaversAreTold, UnlessRefused, AsksWhatWaits}
 use Rattle.server.specs.declared.answering.Lost.{Lost}
 
@@ -146,7 +146,7 @@ SaysEach v (one ∷ more) now = (between : AnsweringView) × Says v one between 
 abbrev pub Closings : AnsweringView → AnsweringView → Type 0
 Closings v now = (closings : List Said) × AllZip (λ of said. IsLastMessage of.key of.number said) v.lost closings × SaysEach v closings now
 
--- The service works at this moment, and this is what it gives: each thing at the key of its connection, which is here afterwards unless it is told to close. Unless something was refused it asks what waits.
+-- The service works at this moment, and this is what it gives: each thing at the key of its connection, which is here afterwards unless it is told to close. Its process, `u` and the number of its nodes stay. Unless something was refused it asks what waits, and then its replicas are at rest.
 pub record ServiceWorks (moment : ℕ) (v : ServiceView) (given : List of_service.Said) (now : ServiceView) : Type 0 where
   pub given_is : now.connections.given ≡ v.connections.given ++ map given_entry given
   pub passed : now.connections.passed ≡ (v.connections.passed ++ moment_as moment ∷ []) ++ map passed_entry given
@@ -154,6 +154,10 @@ pub record ServiceWorks (moment : ℕ) (v : ServiceView) (given : List of_servic
   pub told : AreTold v.connections.table now.connections.table given
   pub leavers : UnlessRefused v.replicas.refused now.replicas.refused (LeaversAreTold v.connections.table now.connections.table given)
   pub asks : UnlessRefused v.replicas.refused now.replicas.refused (AsksWhatWaits v now)
+  pub process : IsSameProcess v now
+  pub counted : v.replicas.refused ≤ now.replicas.refused
+  pub size : HasSameSize v.replicas now.replicas
+  pub rest : RestsUnlessRefused v.replicas now.replicas
 
 -- Connections that were lost are told that they are closed. Then the service works at this moment, and each thing that it gives is said once, in order.
 pub record DoesWhatIsDue (moment : ℕ) (v : AnsweringView) (now : AnsweringView) : Type 0 where

@@ -14,6 +14,7 @@ use Rattle.base.specs.declared.fault.Fault.{Fault}
 use Rattle.ensemble.specs.declared.answer.Answer.{Answer}
 use Rattle.ensemble.specs.declared.noted.Noted.{Noted}
 use Rattle.ensemble.specs.declared.noted.Noted.TheVariants as noted
+use Rattle.ensemble.specs.Nodes.{size_of}
 use Rattle.ensemble.specs.Served.{IsAtRest}
 use Rattle.ensemble.specs.Moments.{moments_in, latest_of, IsSince}
 use Rattle.ensemble.specs.Ensemble.{EnsembleView, IsEnsemble, answer_entry, order_entry}
@@ -210,6 +211,10 @@ pub record IsSameProcess (v now : ServiceView) : Type 0 where
   pub dialect : now.connections.dialect ≡ v.connections.dialect
   pub first : now.connections.first ≡ v.connections.first
   pub found : now.replicas.ensemble.found ≡ v.replicas.ensemble.found
+
+-- `u` and the number of executors, verifiers and proxies stay
+abbrev pub HasSameSize : ReplicasView → ReplicasView → Type 0
+HasSameSize old new = size_of new.ensemble.nodes ≡ size_of old.ensemble.nodes
 
 -- if nothing more was refused the replicas can do nothing more at once
 abbrev pub RestsUnlessRefused : ReplicasView → ReplicasView → Type 0

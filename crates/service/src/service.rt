@@ -79,7 +79,7 @@ impl Service {
     /// A service to which no connection came, over `2u + 1` executors, as many verifiers, and as many proxies as
     /// the config has clients. What connections send is read in this grammar.
     ///
-    /// NoMemory: an allocation failed. Any other error is that of a node that does not open.
+    /// The only error is NoMemory: an allocation failed.
     pub fn open(alloc: Global, config: &Config, dialect: Dialect) -> Result<Service, Fault>
         ensures connections { IfOk result (λ s. s.connections ≡ no_connections dialect) }
         ensures asked { IfOk result (λ s. s.asked ≡ []) }
@@ -87,6 +87,7 @@ impl Service {
         ensures order { IfOk result (λ s. s.order ≡ []) }
         ensures up { IfOk result (λ s. AreAllUp config.now.u config.now.clients s.replicas.ensemble.nodes) }
         ensures found { IfOk result (λ s. s.replicas.ensemble.found ≡ None) }
+        ensures only { IfErr result (λ fault. fault ≡ Fault.NoMemory) }
     {
         let u = config.u();
         let pool = Pool::new(alloc, config.clients())?;
