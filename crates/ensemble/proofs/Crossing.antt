@@ -19,6 +19,7 @@ use Rattle.token.proofs.form.Form.TheSendSync as form
 use Rattle.token.proofs.hashed_sessions.HashedSessions.TheSendSync as hashed
 use Rattle.pages.proofs.layout.Layout.TheSendSync as layout
 use Rattle.pages.proofs.page_set.PageSet.TheSendSync as page_set
+use Rattle.pages.proofs.tree.Tree.TheSendSync as roots
 use Rattle.pages.proofs.Crossing.{page_send, page_sync}
 use Rattle.states.proofs.origin.Origin.TheSendSync as origin
 use Rattle.executor.proofs.answered.Answered.TheSendSync as answered
@@ -56,6 +57,8 @@ use Rattle.ensemble.specs.contracts.ensemble.Ensemble as ensemble
 ruleset parts = (
   page_send,
   page_sync,
+  roots.the_send,
+  roots.the_sync,
   text.the_send,
   reply.the_field_send,
   reply.the_send,
