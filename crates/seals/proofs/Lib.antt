@@ -1,0 +1,4 @@
+mod FrameLemmas
+mod TakingLemmas
+mod OpeningLemmas
+mod LawLemmas
