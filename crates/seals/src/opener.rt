@@ -1,6 +1,6 @@
 //! Bytes that come.
 
-ghost use Rattle.std.specs.Prelude.{◌≡◌, ◌≤◌, ◌<◌, ◌+◌, ◌^◌, ◌++◌, ℕ, List, [], length, Some, None, IfOk, OnOk, IfErr, MatchOption, MatchResult};
+ghost use Rattle.std.specs.Prelude.{◌≡◌, ◌≤◌, ◌<◌, ◌+◌, ◌^◌, ◌++◌, ℕ, List, [], length, Some, None, IfOk, OnOk, IfErr, MatchResult};
 ghost use Rattle.seals.specs.Frame.{frame, said_length, IsPartOfFrame, HasLongPiece, HasWholeFrame, IsEndFor};
 ghost use Rattle.seals.specs.Opening.{HasOpened, OpensMore};
 ghost use Rattle.seals.specs.Taking.{StepTakes, TakesAll};
@@ -20,12 +20,16 @@ pub struct Coming {
     pub bytes: Vec<u8>,
 }
 
-/// The length that a frame begins with, if it is there.
-fn length_in(bytes: &[u8]) -> Option<usize>
-    ensures { MatchOption result (length bytes.now < LENGTH_BYTES) (λ size. (LENGTH_BYTES ≤ length bytes.now) × (size ≡ said_length bytes.now) × (size < 2 ^ 32)) }
+/// The length that a frame begins with.
+fn length_of(bytes: &[u8]) -> usize
+    requires { LENGTH_BYTES ≤ length bytes.now }
+    ensures is { result ≡ said_length bytes.now }
+    ensures fits { result < 2 ^ 32 }
 {
-    let (front, _) = bytes.split_first_chunk::<4>()?;
-    Some(u32::from_be_bytes(*front) as usize)
+    match bytes.split_first_chunk::<4>() {
+        Some((front, _)) => u32::from_be_bytes(*front) as usize,
+        None => unreachable!(),
+    }
 }
 
 /// How many bytes are missing of the length or, if that is there, of the frame.
@@ -35,22 +39,22 @@ fn missing_in(bytes: &[u8]) -> usize
     ensures to_length { length bytes.now < LENGTH_BYTES → length bytes.now + result ≡ LENGTH_BYTES }
     ensures to_end { LENGTH_BYTES ≤ length bytes.now → length bytes.now + result ≡ LENGTH_BYTES + said_length bytes.now + TAG_BYTES }
 {
-    match length_in(bytes) {
-        None => LENGTH_BYTES - bytes.len(),
-        Some(size) => LENGTH_BYTES + size + TAG_BYTES - bytes.len(),
+    if bytes.len() < LENGTH_BYTES {
+        return LENGTH_BYTES - bytes.len();
     }
+    LENGTH_BYTES + length_of(bytes) + TAG_BYTES - bytes.len()
 }
 
-/// Whether the length, which is there, is that of a piece.
+/// Refuses a length that no piece has.
 fn check_length(bytes: &[u8]) -> Result<(), SealFault>
     requires { LENGTH_BYTES ≤ length bytes.now }
     ensures ok { OnOk result (said_length bytes.now ≤ MOST_PIECE_BYTES) }
     ensures err { IfErr result (λ fault. (fault ≡ SealFault.TooLong) × HasLongPiece bytes.now) }
 {
-    match length_in(bytes) {
-        Some(size) if size > MOST_PIECE_BYTES => Err(SealFault::TooLong),
-        _ => Ok(()),
+    if length_of(bytes) > MOST_PIECE_BYTES {
+        return Err(SealFault::TooLong);
     }
+    Ok(())
 }
 
 /// The piece of a frame that is whole.

@@ -7,11 +7,11 @@ fn differences(left: &[u8], right: &[u8]) -> u8
     requires { length left.now ≡ length right.now }
     ensures { (result ≡ 0) ↔ (left.now ≡ right.now) }
 {
-    let mut differences = 0;
+    let mut bits = 0;
     for (x, y) in left.iter().zip(right) {
-        differences |= *x ^ *y;
+        bits |= *x ^ *y;
     }
-    differences
+    bits
 }
 
 /// Whether two tags are the same. It looks at all bytes of both, wherever they differ, so that its time does not help
