@@ -9,7 +9,7 @@ use Rattle.seals.specs.declared.fault.SealFault.{SealFault}
 use Rattle.seals.specs.declared.fault.SealFault.TheVariants.{TooLong, WrongTag, Stopped, NoMemory}
 use Rattle.seals.specs.declared.frame.TheConstants.{MOST_PIECE_BYTES, LENGTH_BYTES, TAG_BYTES}
 use Rattle.seals.specs.Frame.{with_length, tag_behind, frame, frames, said_length, IsPartOfFrame, IsEndFor}
-use Rattle.seals.specs.Opening.{Opening, StandsAt, HasOpened}
+use Rattle.seals.specs.Opening.{OpenerView, StandsBehind, HasOpened}
 use Rattle.seals.specs.Keys.{handshake_text}
 use Rattle.seals.specs.Laws.{AreFirstOf, HadMemory, TakenIsTold, IsUnforged, TakenIsSent, SentIsTaken, PieceIsTold, HandshakeIsTold}
 use Rattle.seals.proofs.FrameLemmas.{same_fronts, length-tag_behind, length-with_length, length-frame, said_length-piece}
@@ -62,7 +62,7 @@ none_at_end WrongTag key number bytes ne h piece after within numbered e =
 none_at_end Stopped key number bytes ne h piece after within numbered e = absurd (omega (arith, h, numbered))
 none_at_end NoMemory key number bytes ne h piece after within numbered e = ne refl
 
-none_behind : (end : Option SealFault) (key : List ℕ) (count : ℕ) (rest : List ℕ) (number : ℕ) (kept : List ℕ) → end ≢ Some NoMemory → StandsAt end key count rest number kept → HasNoFrame key count rest
+none_behind : (end : Option SealFault) (key : List ℕ) (count : ℕ) (rest : List ℕ) (number : ℕ) (kept : List ℕ) → end ≢ Some NoMemory → StandsBehind end key count rest number kept → HasNoFrame key count rest
 none_behind None key count rest number kept memory h = none_in_part key count rest h.2
 none_behind (Some fault) key count rest number kept memory h = none_at_end fault key count rest (λ e. memory (ap Some e)) h
 
@@ -82,7 +82,7 @@ first_of_row key number (p ∷ ps) (q ∷ qs) r s short_p short_q numbered none 
     (tails.0, (λ i. heads.0 i ∷ tails.1 i))
 
 -- what one took is a beginning of what these bytes are the frames of, and of something behind
-taken_first : (key all : List ℕ) (pieces others : List (List ℕ)) (rest : List ℕ) (o : Opening) → HasOpened key all pieces o → HadMemory o → All IsWithinLimit others → length others < 2 ^ 64 → all ≡ frames key 0 others ++ rest → AreFirstOf others pieces
+taken_first : (key all : List ℕ) (pieces others : List (List ℕ)) (rest : List ℕ) (o : OpenerView) → HasOpened key all pieces o → HadMemory o → All IsWithinLimit others → length others < 2 ^ 64 → all ≡ frames key 0 others ++ rest → AreFirstOf others pieces
 taken_first key all pieces others rest o h memory short numbered e =
     let none = none_behind o.end key (length pieces) h.rest o.number o.kept memory h.stands in
     let same : length pieces ≡ 0 + length pieces = omega arith in
@@ -126,7 +126,7 @@ same_from_firsts ps qs f g =
     sym (f.1 ∙ (ap (λ xs. ps ++ xs) nothing ∙ append-nil ps))
 
 -- no bytes are no reason to end
-open_at_none : (end : Option SealFault) (key : List ℕ) (count : ℕ) (rest : List ℕ) (number : ℕ) (kept : List ℕ) → end ≢ Some NoMemory → count + 1 < 2 ^ 64 → StandsAt end key count rest number kept → rest ≡ [] → end ≡ None
+open_at_none : (end : Option SealFault) (key : List ℕ) (count : ℕ) (rest : List ℕ) (number : ℕ) (kept : List ℕ) → end ≢ Some NoMemory → count + 1 < 2 ^ 64 → StandsBehind end key count rest number kept → rest ≡ [] → end ≡ None
 open_at_none None key count rest number kept memory numbered h e = refl
 open_at_none (Some TooLong) key count rest number kept memory numbered h e = absurd (omega (arith, h.0, ap length e))
 open_at_none (Some WrongTag) key count rest number kept memory numbered h e =

@@ -5,16 +5,16 @@ use Rattle.std.proofs.lemmas.List.Elements.{All-nil, All-append}
 use Rattle.seals.specs.declared.fault.SealFault.{SealFault}
 use Rattle.seals.specs.declared.frame.TheConstants.{MOST_PIECE_BYTES, LENGTH_BYTES, TAG_BYTES}
 use Rattle.seals.specs.Frame.{frames, said_length, IsPartOfFrame, IsEndFor}
-use Rattle.seals.specs.Opening.{Opening, StandsAt, IsPartIf, BeginsWithFrames, HasOpened, OpensMore}
+use Rattle.seals.specs.Opening.{OpenerView, StandsBehind, IsPartIf, BeginsWithFrames, HasOpened, OpensMore}
 use Rattle.seals.specs.Taking.{TakesAll}
 use Rattle.seals.proofs.FrameLemmas.{IsEndFor-append, frames-append}
 
 -- of no bytes nothing was taken
-pub begun : (o : Opening) → o.number ≡ 0 → o.kept ≡ [] → o.end ≡ None → HasOpened o.key [] [] o
+pub begun : (o : OpenerView) → o.number ≡ 0 → o.kept ≡ [] → o.end ≡ None → HasOpened o.key [] [] o
 begun o number kept open' = record {
   rest = [];
   front = record { split = refl; within = All-nil (λ (piece : List ℕ). length piece ≤ MOST_PIECE_BYTES) };
-  stands = subst (λ e. StandsAt e o.key 0 [] o.number o.kept) (sym open') (number, kept, λ there. absurd (omega (arith, there)));
+  stands = subst (λ e. StandsBehind e o.key 0 [] o.number o.kept) (sym open') (number, kept, λ there. absurd (omega (arith, there)));
   numbered = omega arith;
   key_is = refl;
 }
@@ -33,10 +33,10 @@ begins-append key all more before pieces kept rest f g = record {
 }
 
 -- more bytes come to one that may take more
-pub goes_on : (key all bytes : List ℕ) (before old new : List (List ℕ)) (o p : Opening) (end : Option SealFault) (next : ℕ) (kept : List ℕ) → HasOpened key all before o → o.end ≡ None → (t : TakesAll o.key o.number (o.kept ++ bytes) old new end next kept)
-    → p.key ≡ o.key → ((k : List ℕ) (count : ℕ) → StandsAt end k count t.rest next kept → StandsAt p.end k count t.rest p.number p.kept) → OpensMore key (all ++ bytes) before old new p
+pub goes_on : (key all bytes : List ℕ) (before old new : List (List ℕ)) (o p : OpenerView) (end : Option SealFault) (next : ℕ) (kept : List ℕ) → HasOpened key all before o → o.end ≡ None → (t : TakesAll o.key o.number (o.kept ++ bytes) old new end next kept)
+    → p.key ≡ o.key → ((k : List ℕ) (count : ℕ) → StandsBehind end k count t.rest next kept → StandsBehind p.end k count t.rest p.number p.kept) → OpensMore key (all ++ bytes) before old new p
 goes_on key all bytes before old new o p end next kept h is_open t same_key stands =
-    let now = subst (λ e. StandsAt e key (length before) h.rest o.number o.kept) is_open h.stands in
+    let now = subst (λ e. StandsBehind e key (length before) h.rest o.number o.kept) is_open h.stands in
     let front : BeginsWithFrames key (length before) (h.rest ++ bytes) t.more t.rest =
     subst (λ xs. BeginsWithFrames key (length before) (xs ++ bytes) t.more t.rest) now.1 (subst (λ n. BeginsWithFrames key n (o.kept ++ bytes) t.more t.rest) now.0 (subst (λ k. BeginsWithFrames k o.number (o.kept ++ bytes) t.more t.rest) h.key_is t.front)) in
     let count : o.number + length t.more ≡ length (before ++ t.more) = omega (arith, now.0, length-append before t.more) in (
@@ -45,16 +45,16 @@ goes_on key all bytes before old new o p end next kept h is_open t same_key stan
       record {
         rest = t.rest;
         front = begins-append key all bytes before t.more h.rest t.rest h.front front;
-        stands = stands key (length (before ++ t.more)) (subst (λ n. StandsAt end key n t.rest next kept) count (subst (λ k. StandsAt end k (o.number + length t.more) t.rest next kept) h.key_is t.stands));
+        stands = stands key (length (before ++ t.more)) (subst (λ n. StandsBehind end key n t.rest next kept) count (subst (λ k. StandsBehind end k (o.number + length t.more) t.rest next kept) h.key_is t.stands));
         numbered = subst (λ n. n < 2 ^ 64) count t.numbered;
         key_is = same_key ∙ h.key_is;
       },
     )
 
 -- more bytes come to one that has ended
-pub stays_ended : (key all bytes : List ℕ) (before old : List (List ℕ)) (o : Opening) (fault : SealFault) → HasOpened key all before o → o.end ≡ Some fault → OpensMore key (all ++ bytes) before old old o
+pub stays_ended : (key all bytes : List ℕ) (before old : List (List ℕ)) (o : OpenerView) (fault : SealFault) → HasOpened key all before o → o.end ≡ Some fault → OpensMore key (all ++ bytes) before old old o
 stays_ended key all bytes before old o fault h has_ended =
-    let ends = subst (λ e. StandsAt e key (length before) h.rest o.number o.kept) has_ended h.stands in (
+    let ends = subst (λ e. StandsBehind e key (length before) h.rest o.number o.kept) has_ended h.stands in (
       [],
       sym (append-nil old),
       subst (λ pieces. HasOpened key (all ++ bytes) pieces o) (sym (append-nil before)) (record {
@@ -63,7 +63,7 @@ stays_ended key all bytes before old o fault h has_ended =
           split = ap (λ xs. xs ++ bytes) h.front.split ∙ append_assoc (frames key 0 before) h.rest bytes;
           within = h.front.within;
         };
-        stands = subst (λ e. StandsAt e key (length before) (h.rest ++ bytes) o.number o.kept) (sym has_ended) (IsEndFor-append fault key (length before) h.rest bytes ends);
+        stands = subst (λ e. StandsBehind e key (length before) (h.rest ++ bytes) o.number o.kept) (sym has_ended) (IsEndFor-append fault key (length before) h.rest bytes ends);
         numbered = h.numbered;
         key_is = h.key_is;
       }),

@@ -6,20 +6,20 @@ use Rattle.seals.specs.declared.fault.SealFault.TheVariants.{NoMemory}
 use Rattle.seals.specs.declared.frame.TheConstants.{MOST_PIECE_BYTES}
 use Rattle.seals.specs.Frame.{with_length, frame, frames}
 use Rattle.seals.specs.Keys.{handshake_text}
-use Rattle.seals.specs.Opening.{Opening, HasOpened}
+use Rattle.seals.specs.Opening.{OpenerView, HasOpened}
 
 -- the others begin with these
 abbrev pub AreFirstOf : List (List ℕ) → List (List ℕ) → Type 0
 AreFirstOf pieces others = (later : List (List ℕ)) × (others ≡ pieces ++ later)
 
 -- it did not end for want of memory
-abbrev pub HadMemory : Opening → Type 0
+abbrev pub HadMemory : OpenerView → Type 0
 HadMemory o = o.end ≢ Some NoMemory
 
 -- If the same bytes came to two openers of one key, what one took is a beginning of what the other took that had memory.
 abbrev pub TakenIsTold : Type 0
 TakenIsTold =
-    (key all : List ℕ) (pieces others : List (List ℕ)) (o p : Opening) → HasOpened key all pieces o → HasOpened key all others p → HadMemory p
+    (key all : List ℕ) (pieces others : List (List ℕ)) (o p : OpenerView) → HasOpened key all pieces o → HasOpened key all others p → HadMemory p
     → AreFirstOf pieces others
 
 -- No tag is forged: a piece that came, wherever it was in the bytes, with the tag of a number was sealed with that number.
@@ -31,13 +31,13 @@ IsUnforged key sent all =
 -- If no tag is forged, what is taken is a beginning of what was sent, that is of the pieces that were sealed, in order.
 abbrev pub TakenIsSent : Type 0
 TakenIsSent =
-    (key all : List ℕ) (pieces sent : List (List ℕ)) (o : Opening) → HasOpened key all pieces o → IsUnforged key sent all
+    (key all : List ℕ) (pieces sent : List (List ℕ)) (o : OpenerView) → HasOpened key all pieces o → IsUnforged key sent all
     → AreFirstOf pieces sent
 
 -- If the frames of what was sent came, and nothing else, all of it is taken, and more may come.
 abbrev pub SentIsTaken : Type 0
 SentIsTaken =
-    (key : List ℕ) (pieces sent : List (List ℕ)) (o : Opening) → All (λ (piece : List ℕ). length piece ≤ MOST_PIECE_BYTES) sent → length sent + 1 < 2 ^ 64
+    (key : List ℕ) (pieces sent : List (List ℕ)) (o : OpenerView) → All (λ (piece : List ℕ). length piece ≤ MOST_PIECE_BYTES) sent → length sent + 1 < 2 ^ 64
     → HasOpened key (frames key 0 sent) pieces o → HadMemory o
     → (pieces ≡ sent) × (o.end ≡ None)
 

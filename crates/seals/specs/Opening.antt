@@ -5,7 +5,7 @@ use Rattle.seals.specs.declared.frame.TheConstants.{MOST_PIECE_BYTES}
 use Rattle.seals.specs.Frame.{frames, IsPartOfFrame, IsEndFor}
 
 -- an opener as contracts see it
-pub record Opening : Type 0 where
+pub record OpenerView : Type 0 where
   pub key : List ℕ
   -- the number of the next piece
   pub number : ℕ
@@ -25,18 +25,18 @@ pub record BeginsWithFrames (key : List ℕ) (number : ℕ) (bytes : List ℕ) (
   pub within : All (λ (piece : List ℕ). length piece ≤ MOST_PIECE_BYTES) pieces
 
 -- The rest, behind as many pieces as this number says, is kept, since it is part of a frame; or no frame begins it.
-abbrev pub StandsAt : Option SealFault → List ℕ → ℕ → List ℕ → ℕ → List ℕ → Type 0
-StandsAt None key count rest number kept = (number ≡ count) × (kept ≡ rest) × IsPartOfFrame rest
-StandsAt (Some fault) key count rest number kept = IsEndFor fault key count rest
+abbrev pub StandsBehind : Option SealFault → List ℕ → ℕ → List ℕ → ℕ → List ℕ → Type 0
+StandsBehind None key count rest number kept = (number ≡ count) × (kept ≡ rest) × IsPartOfFrame rest
+StandsBehind (Some fault) key count rest number kept = IsEndFor fault key count rest
 
 -- All these bytes came, under this key, and these pieces were taken of them: those whose frames, numbered from 0, the bytes begin with.
-pub record HasOpened (key all : List ℕ) (pieces : List (List ℕ)) (o : Opening) : Type 0 where
+pub record HasOpened (key all : List ℕ) (pieces : List (List ℕ)) (o : OpenerView) : Type 0 where
   pub rest : List ℕ
   pub front : BeginsWithFrames key 0 all pieces rest
-  pub stands : StandsAt o.end key (length pieces) rest o.number o.kept
+  pub stands : StandsBehind o.end key (length pieces) rest o.number o.kept
   pub numbered : length pieces < 2 ^ 64
   pub key_is : o.key ≡ key
 
 -- more pieces were taken, after these, and stand behind others
-abbrev pub OpensMore : List ℕ → List ℕ → List (List ℕ) → List (List ℕ) → List (List ℕ) → Opening → Type 0
+abbrev pub OpensMore : List ℕ → List ℕ → List (List ℕ) → List (List ℕ) → List (List ℕ) → OpenerView → Type 0
 OpensMore key all before old new o = (more : List (List ℕ)) × (new ≡ old ++ more) × HasOpened key all (before ++ more) o

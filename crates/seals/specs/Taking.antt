@@ -3,7 +3,7 @@ use Rattle.std.specs.Prelude.{◌≡◌, ℕ, ◌+◌, ◌^◌, ◌<◌, ◌≤�
 use Rattle.seals.specs.declared.fault.SealFault.{SealFault}
 use Rattle.seals.specs.declared.frame.TheConstants.{MOST_PIECE_BYTES}
 use Rattle.seals.specs.Frame.{frame, IsPartOfFrame}
-use Rattle.seals.specs.Opening.{BeginsWithFrames, StandsAt}
+use Rattle.seals.specs.Opening.{BeginsWithFrames, StandsBehind}
 
 -- n bytes were taken, and no frame is whole
 pub record TakesPart (number : ℕ) (kept unread : List ℕ) (n next : ℕ) (now : List ℕ) : Type 0 where
@@ -42,5 +42,5 @@ pub record TakesAll (key : List ℕ) (number : ℕ) (all : List ℕ) (old new : 
   pub rest : List ℕ
   pub new_is : new ≡ old ++ more
   pub front : BeginsWithFrames key number all more rest
-  pub stands : StandsAt end key (number + length more) rest next kept
+  pub stands : StandsBehind end key (number + length more) rest next kept
   pub numbered : number + length more < 2 ^ 64

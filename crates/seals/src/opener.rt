@@ -23,7 +23,7 @@ pub struct Coming {
 /// The length that a frame begins with.
 fn length_of(bytes: &[u8]) -> usize
     requires { LENGTH_BYTES ≤ length bytes.now }
-    ensures is { result ≡ said_length bytes.now }
+    ensures said { result ≡ said_length bytes.now }
     ensures fits { result < 2 ^ 32 }
 {
     match bytes.split_first_chunk::<4>() {
@@ -164,9 +164,9 @@ impl Drop for Opener {
 }
 
 impl Model for Opener {
-    ghost use Rattle.seals.specs.Opening.{Opening, IsPartIf};
+    ghost use Rattle.seals.specs.Opening.{OpenerView, IsPartIf};
 
-    ghost Value = { Opening };
+    ghost Value = { OpenerView };
 
     ghost view = { λ o. record { key = o.key; number = o.coming.number; kept = o.coming.bytes.items; end = o.end } };
 
