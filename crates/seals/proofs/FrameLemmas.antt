@@ -84,7 +84,6 @@ module _ (bytes : List ℕ) (are_bytes : (i : ℕ) → get_or bytes i 0 < 256) (
   pub right_tag : (key : List ℕ) (number : ℕ) → tag_behind key number (take (length bytes - TAG_BYTES) bytes) ≡ drop (length bytes - TAG_BYTES) bytes
       → bytes ≡ frame key number (drop LENGTH_BYTES (take (length bytes - TAG_BYTES) bytes))
   right_tag key number e =
-      let counted : List ℕ = take (length bytes - TAG_BYTES) bytes in
       sym (take-append-drop (length bytes - TAG_BYTES) bytes)
       ∙ (ap (λ tag. take (length bytes - TAG_BYTES) bytes ++ tag) (sym e)
       ∙ ap (λ xs. xs ++ tag_behind key number xs) (sym front_of_whole))

@@ -5,6 +5,7 @@ use Rattle.std.specs.Int.{w32, w64, from_be_bytes, to_be_bytes}
 use Rattle.std.proofs.lemmas.Nat.{from_be_bytes-to_be_bytes_4, from_be_bytes-to_be_bytes_8}
 use Rattle.std.proofs.lemmas.List.{append_assoc, append-nil, append_cancel_left, length-append, nil_from_length}
 use Rattle.std.proofs.lemmas.List.Elements.{All-head, All-tail}
+use Rattle.std.proofs.lemmas.Option.{none-some}
 use Rattle.seals.specs.declared.fault.SealFault.{SealFault}
 use Rattle.seals.specs.declared.fault.SealFault.TheVariants.{TooLong, WrongTag, Stopped, NoMemory}
 use Rattle.seals.specs.declared.frame.TheConstants.{MOST_PIECE_BYTES, LENGTH_BYTES, TAG_BYTES}
@@ -71,7 +72,8 @@ first_of_row : (key : List ℕ) (number : ℕ) (ps qs : List (List ℕ)) (r s : 
     → frames key number ps ++ r ≡ frames key number qs ++ s → AreFirstOf qs ps
 first_of_row key number ps [] r s short_p short_q numbered none e = (ps, refl)
 first_of_row key number [] (q ∷ qs) r s short_p short_q numbered none e =
-    let here : HasNoFrame key number r = subst (λ n. HasNoFrame key n r) (omega arith) none in
+    let same : number + 0 ≡ number = omega arith in
+    let here : HasNoFrame key number r = subst (λ n. HasNoFrame key n r) same none in
     absurd (here q (frames key (number + 1) qs ++ s) (All-head IsWithinLimit q qs short_q) (omega (arith, numbered)) (e ∙ append_assoc (frame key number q) (frames key (number + 1) qs) s))
 first_of_row key number (p ∷ ps) (q ∷ qs) r s short_p short_q numbered none e =
     let regrouped : frame key number p ++ (frames key (number + 1) ps ++ r) ≡ frame key number q ++ (frames key (number + 1) qs ++ s) =
@@ -95,7 +97,7 @@ taken_is_told key all pieces others o p h g memory = taken_first key all others 
 
 -- a list of which the element behind these is known
 goes_on_with : (done left : List (List ℕ)) (piece : List ℕ) → slice_get (done ++ left) (length done) ≡ Some piece → (later : List (List ℕ)) × (left ≡ piece ∷ later)
-goes_on_with [] [] piece e = absurd (let f : None ≡ Some piece = e in cc)
+goes_on_with [] [] piece e = absurd (none-some piece e)
 goes_on_with [] (x ∷ xs) piece e = (xs, (let same : x ≡ piece = cc in ap (λ y. y ∷ xs) same))
 goes_on_with (x ∷ done) left piece e = goes_on_with done left piece e
 

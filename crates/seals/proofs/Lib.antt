@@ -2,3 +2,4 @@ mod FrameLemmas
 mod TakingLemmas
 mod OpeningLemmas
 mod LawLemmas
+mod TagLemmas
