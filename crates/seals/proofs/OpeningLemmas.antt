@@ -23,12 +23,12 @@ begins-append : (key : List ℕ) (all more : List ℕ) (before pieces : List (Li
     → BeginsWithFrames key 0 (all ++ more) (before ++ pieces) rest
 begins-append key all more before pieces kept rest f g = record {
   split =
-    let same : 0 + length before ≡ length before = omega arith in
-    ap (λ xs. xs ++ more) f.split
-    ∙ (append_assoc (frames key 0 before) kept more
-    ∙ (ap (λ xs. frames key 0 before ++ xs) g.split
-    ∙ (sym (append_assoc (frames key 0 before) (frames key (length before) pieces) rest)
-    ∙ ap (λ xs. xs ++ rest) (sym (frames-append key 0 before pieces ∙ ap (λ n. frames key 0 before ++ frames key n pieces) same)))));
+      let same : 0 + length before ≡ length before = omega arith in
+      ap (λ xs. xs ++ more) f.split
+      ∙ (append_assoc (frames key 0 before) kept more
+      ∙ (ap (λ xs. frames key 0 before ++ xs) g.split
+      ∙ (sym (append_assoc (frames key 0 before) (frames key (length before) pieces) rest)
+      ∙ ap (λ xs. xs ++ rest) (sym (frames-append key 0 before pieces ∙ ap (λ n. frames key 0 before ++ frames key n pieces) same)))));
   within = All-append (λ (piece : List ℕ). length piece ≤ MOST_PIECE_BYTES) before pieces f.within g.within;
 }
 

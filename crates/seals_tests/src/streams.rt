@@ -126,7 +126,10 @@ fn is_refused(alloc: Global, at: usize, bit: u8) -> Result<bool, AllocError> {
 #[test]
 fn a_changed_byte_is_refused(rt: HostRuntime) -> Result<(), Fail> {
     for at in 0..24usize {
-        assert!(rt; is_refused(rt.alloc(), at, 1)? && is_refused(rt.alloc(), at, 0x80)?, "{at}");
+        assert!(rt;
+            is_refused(rt.alloc(), at, 1)? && is_refused(rt.alloc(), at, 0x80)?,
+            "{at}"
+        );
     }
     Ok(())
 }
@@ -147,9 +150,11 @@ fn is_limited(alloc: Global) -> Result<bool, SealFault> {
     piece.push(b'x')?;
     let refused = sealer.seal(alloc, piece.as_slice()) == Err(SealFault::TooLong);
     let (at_limit, _) = piece.as_slice().split_at(MOST_PIECE_BYTES);
-    Ok(refused
-        && are_taken(&come(alloc, KEY, bytes.as_slice(), 1), &[at_limit])
-        && are_taken(&come(alloc, KEY, bytes.as_slice(), 70_000), &[at_limit]))
+    Ok(
+        refused
+            && are_taken(&come(alloc, KEY, bytes.as_slice(), 1), &[at_limit])
+            && are_taken(&come(alloc, KEY, bytes.as_slice(), 70_000), &[at_limit]),
+    )
 }
 
 #[test]
