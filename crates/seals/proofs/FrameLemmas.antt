@@ -101,6 +101,36 @@ module _ (bytes : List ℕ) (are_bytes : (i : ℕ) → get_or bytes i 0 < 256) (
     other = λ e. ne (sym (e ∙ ap (tag_behind key number) front_of_whole));
   }
 
+-- ---- bytes that come behind a part of a frame
+
+module _ (kept front : List ℕ) (missing : ℕ) (part : IsPartOfFrame kept) (to_length : length kept < LENGTH_BYTES → length kept + missing ≡ LENGTH_BYTES)
+    (to_end : LENGTH_BYTES ≤ length kept → length kept + missing ≡ LENGTH_BYTES + said_length kept + TAG_BYTES) where
+  -- some of those that are missing
+  pub part_more : length front < missing → IsPartOfFrame (kept ++ front)
+  part_more few = λ there.
+      elim (cases_lt (length kept) LENGTH_BYTES) [
+        | inl lt ↦ absurd (omega (arith, to_length lt, length-append kept front, there, few))
+        | inr le ↦
+            let same : said_length (kept ++ front) ≡ said_length kept = said_length-append kept front le in
+            let inside = part le in
+            (omega (arith, same, inside.0), omega (arith, same, to_end le, length-append kept front, few))
+      ]
+
+  -- all of those that are missing of the frame
+  pub whole_more : length front ≡ missing → (length (kept ++ front) ≡ LENGTH_BYTES → ⊥) → HasWholeFrame (kept ++ front)
+  whole_more all more =
+      elim (cases_lt (length kept) LENGTH_BYTES) [
+        | inl lt ↦ absurd (more (omega (arith, to_length lt, length-append kept front, all)))
+        | inr le ↦
+            let same : said_length (kept ++ front) ≡ said_length kept = said_length-append kept front le in
+            let inside = part le in
+            record {
+              there = omega (arith, le, length-append kept front);
+              within = omega (arith, same, inside.0);
+              whole = omega (arith, same, to_end le, length-append kept front, all);
+            }
+      ]
+
 -- ---- what ends
 
 -- what ends with these bytes ends with more behind them

@@ -74,5 +74,5 @@ pub held_within : (end : Option SealFault) (kept : List ℕ) → IsPartIf end ke
 held_within None kept part = by (length kept) (said_length kept) part
   where
     by : (n size : ℕ) → (LENGTH_BYTES ≤ n → (size ≤ MOST_PIECE_BYTES) × (n < LENGTH_BYTES + size + TAG_BYTES)) → n < LENGTH_BYTES + MOST_PIECE_BYTES + TAG_BYTES
-    by n size h = omega (arith, h)
+    by n size h = grind (arith, h)
 held_within (Some fault) kept empty = omega (arith, ap length empty)
