@@ -164,3 +164,23 @@ fn a_piece_has_a_limit(rt: HostRuntime) -> Result<(), Fail> {
     assert!(rt; came.end == Some(SealFault::TooLong) && are_taken(&came, &[]));
     Ok(())
 }
+
+/// Whether all is taken, or an opener that was refused memory has taken a beginning.
+fn is_taken_or_refused(alloc: Global) -> bool {
+    let Ok(bytes) = bytes_of(alloc, &[0, 1, 2]) else {
+        return true;
+    };
+    let came = come(alloc, KEY, bytes.as_slice(), 7);
+    let (taken, _) = PIECES.split_at(came.pieces.len().min(PIECES.len()));
+    let is_right = match came.end {
+        None => came.pieces.len() == PIECES.len(),
+        Some(fault) => fault == SealFault::NoMemory,
+    };
+    is_right && are_taken(&came, taken)
+}
+
+/// `scripts/refusals` has each of its allocations fail in turn.
+#[test]
+fn a_refused_growth_ends_an_opener(rt: HostRuntime) {
+    assert!(rt; is_taken_or_refused(rt.alloc()));
+}
