@@ -1,0 +1,5 @@
+mod FrameLemmas
+mod TakingLemmas
+mod OpeningLemmas
+mod LawLemmas
+mod TagLemmas

@@ -1,0 +1,5 @@
+pub mod Frame
+pub mod Keys
+pub mod Laws
+pub mod Opening
+pub mod Taking
