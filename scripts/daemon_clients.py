@@ -21,9 +21,10 @@ class Silent(Exception):
 
 
 class Daemon:
-    """A daemon on free ports, which is ended by a signal."""
+    """A daemon on free ports, which is ended by a signal. `env` has further variables of its environment: to set them in
+    this process would also give them to daemons that other threads start, or break their start."""
 
-    def __init__(self, program, *words, listeners=1, status=False, files=None):
+    def __init__(self, program, *words, listeners=1, status=False, files=None, env=None):
         self.err = b""
         self.ports = []
         given = list(words)
@@ -36,7 +37,7 @@ class Daemon:
                 self.status = taken.getsockname()[1]
             given += ["--status", f"127.0.0.1:{self.status}"]
         limit = ["prlimit", f"--nofile={files}"] if files else []
-        self.process = subprocess.Popen([*limit, program, *given], stdin=subprocess.DEVNULL,
+        self.process = subprocess.Popen([*limit, program, *given], env={**os.environ, **(env or {})}, stdin=subprocess.DEVNULL,
                                         stdout=subprocess.PIPE, stderr=subprocess.PIPE)
         self.reader = threading.Thread(target=self.read, daemon=True)
         self.reader.start()
