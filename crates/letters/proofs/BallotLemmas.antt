@@ -14,7 +14,6 @@ use Rattle.token.specs.declared.Token.{Token}
 use Rattle.token.specs.Token.{token_bytes}
 use Rattle.token.specs.TokenLaws.{token_prefix_free}
 use Rattle.decrees.specs.declared.decree.Decree.{Decree}
-use Rattle.decrees.specs.declared.start.Start.{Start}
 use Rattle.decrees.specs.declared.ballot.Ballot.{Ballot}
 use Rattle.decrees.specs.declared.ballot.Ballot.TheVariants as ballot
 use Rattle.decrees.specs.Record.{decree_text, start_text}
@@ -141,20 +140,6 @@ decided_here bytes _ rest f h e none = absurd h
 
 pub no_decided : (bytes : List ℕ) (e : Fault) → Refused e (NoPrefix DecidedFits decided_row bytes) → Refused e (NoPrefix Always ballot_text (3 ∷ bytes))
 no_decided bytes = none_behind ballot_text ballot_mark ballot_begins Always DecidedFits decided_row 3 bytes (decided_here bytes)
-
-ask_here : (bytes : List ℕ) (b : Ballot) (rest : List ℕ) → Always b → Passes (nat_eq (ballot_mark b) 4) → 4 ∷ bytes ≡ ballot_text b ++ rest → NoPrefix Always (num w64) bytes → ⊥
-ask_here bytes (ballot.Ask place) rest f h e none = none.none place rest tt (tail_of 4 4 _ _ e)
-ask_here bytes _ rest f h e none = absurd h
-
-pub no_ask : (bytes : List ℕ) (e : Fault) → Refused e (NoPrefix Always (num w64) bytes) → Refused e (NoPrefix Always ballot_text (4 ∷ bytes))
-no_ask bytes = none_behind ballot_text ballot_mark ballot_begins Always Always (num w64) 4 bytes (ask_here bytes)
-
-change_here : (bytes : List ℕ) (b : Ballot) (rest : List ℕ) → Always b → Passes (nat_eq (ballot_mark b) 5) → 5 ∷ bytes ≡ ballot_text b ++ rest → NoPrefix Always (num w64) bytes → ⊥
-change_here bytes (ballot.Change view) rest f h e none = none.none view rest tt (tail_of 5 5 _ _ e)
-change_here bytes _ rest f h e none = absurd h
-
-pub no_change : (bytes : List ℕ) (e : Fault) → Refused e (NoPrefix Always (num w64) bytes) → Refused e (NoPrefix Always ballot_text (5 ∷ bytes))
-no_change bytes = none_behind ballot_text ballot_mark ballot_begins Always Always (num w64) 5 bytes (change_here bytes)
 
 promise_here : (bytes : List ℕ) (b : Ballot) (rest : List ℕ) → Always b → Passes (nat_eq (ballot_mark b) 6) → 6 ∷ bytes ≡ ballot_text b ++ rest → NoPrefix PromiseFits promise_row bytes → ⊥
 promise_here bytes (ballot.Promise view known accepted) rest f h e none = none.none ((view, known), accepted) rest ((tt, tt), some_fits (λ p. (tt, tt)) accepted) (tail_of 6 6 _ _ e)

@@ -1,6 +1,6 @@
 -- How long the texts of what nodes say are at most.
-use Rattle.std.proofs.Common.{◌≡◌, ℕ, ◌≤◌, ℤ, Bool, true, false, List, ◌∷◌, ◌++◌, length, Option, refl, sym, ◌∙◌, ap, arith}
-use Rattle.std.specs.Prelude.{◌&&◌, nat_le}
+use Rattle.std.proofs.Common.{◌≡◌, ℕ, ◌+◌, ◌<◌, ◌≤◌, Bool, true, false, List, ◌∷◌, ◌++◌, length, get_or, Option, refl, sym, ◌∙◌, ap, arith}
+use Rattle.std.specs.Prelude.{nat_le}
 use Rattle.std.specs.List.{list_all}
 use Rattle.std.specs.Int.{w8, w16, w32, w64}
 use Rattle.std.proofs.lemmas.Bool.{leb-true, le-ltb}
@@ -12,11 +12,8 @@ use Rattle.proto.specs.declared.command.Update.{Update}
 use Rattle.proto.specs.declared.command.Update.TheVariants.{Store, Cas, Delete, Touch, Incr, Decr}
 use Rattle.proto.specs.declared.command.Command.{Command}
 use Rattle.proto.specs.declared.command.Command.TheVariants as command
-use Rattle.proto.specs.declared.reply.Found.{Found}
 use Rattle.proto.specs.declared.reply.Reply.{Reply}
 use Rattle.proto.specs.declared.reply.Reply.TheVariants as reply
-use Rattle.sessions.specs.declared.request.Request.{Request}
-use Rattle.batches.specs.declared.batch.Batch.{Batch}
 use Rattle.wire.specs.Number.{only_if, num, num_signed, fixed, as_unsigned, is_byte}
 use Rattle.wire.specs.NumberLaws.{num-byte}
 use Rattle.wire.specs.Field.{option_text, list_text}
@@ -28,7 +25,6 @@ use Rattle.wire.specs.Command.{verb_mark, update_text, command_text, request_tex
 use Rattle.wire.specs.CommandLaws.{store_row, cas_row, touch_row, count_row, timed_keys_row, request_row}
 use Rattle.wire.specs.Reply.{found_text, values_text, are_few, reply_record}
 use Rattle.wire.specs.Batch.{batch_text}
-use Rattle.wire.specs.BatchLaws.{batch_row}
 use Rattle.token.specs.declared.Token.{Token}
 use Rattle.token.specs.Token.{token_bytes}
 use Rattle.decrees.specs.declared.node.Node.{Node}
@@ -41,7 +37,6 @@ use Rattle.decrees.specs.declared.standing.Standing.{Standing}
 use Rattle.decrees.specs.declared.ballot.Ballot.{Ballot}
 use Rattle.decrees.specs.declared.ballot.Ballot.TheVariants as ballot
 use Rattle.decrees.specs.Record.{commit_text, decree_text, standing_text, start_text}
-use Rattle.verifier.specs.Record.{accepted_text}
 use Rattle.transfer.specs.declared.need.Need.{Need}
 use Rattle.transfer.specs.Need.{IsNeed, need_text}
 use Rattle.exec_lines.specs.declared.body.Body.{Body}
@@ -50,7 +45,7 @@ use Rattle.letters.specs.Letter.{node_text, ballot_text, letter_body_text, lette
 use Rattle.letters.specs.Size.{has_parcel}
 use Rattle.letters.specs.Laws.{IsOfBytes, is_short_kind, LettersAreBounded, ShortKindsAreQuick}
 use Rattle.letters.proofs.BallotLemmas.{token_row, vote_row, decided_row, promise_row}
-use Rattle.letters.proofs.Lengths.{HasAtMost, both_bytes, bytes_behind, has_bytes, u8_short, u16_short, u32_short, u64_short, count_long, fixed_short, followed_short, option_short, list_short}
+use Rattle.letters.proofs.Lengths.{HasAtMost, both_bytes, bytes_behind, list_of_bytes, has_bytes, u8_short, u16_short, u32_short, u64_short, count_long, fixed_short, followed_short, option_short, list_short}
 
 -- data, keys and numbers
 
@@ -141,10 +136,10 @@ batch_short = record {
       let stamp = num w64 batch.epoch ++ num w64 batch.n ++ num w32 batch.moment in
       let both = both_bytes stamp (list_text request_text batch.requests) (bytes_behind 4 (stamp ++ list_text request_text batch.requests) h) in
       omega (
-          arith,
-          stamp_short.short ((batch.epoch, batch.n), batch.moment) both.0,
-          list_short request_short 64 batch.requests batch.few both.1,
-          length-append stamp (list_text request_text batch.requests),
+        arith,
+        stamp_short.short ((batch.epoch, batch.n), batch.moment) both.0,
+        list_short request_short 64 batch.requests batch.few both.1,
+        length-append stamp (list_text request_text batch.requests),
       );
 }
 
@@ -284,6 +279,12 @@ pub letters_bounded : LettersAreBounded
 letters_bounded letter fits h p =
     let of = of_body letter h in
     omega (arith, of.1, body_short letter.body p fits of.0)
+
+-- bytes that are the text of a letter which has no parcel
+pub bytes_bounded : (bytes : List ℕ) (letter : Letter Body) → ((i : ℕ) → get_or bytes i 0 < 256) → bytes ≡ letter_text letter → LetterFits letter → has_parcel letter.body ≡ false → length bytes ≤ 71303168
+bytes_bounded bytes letter are_bytes whole fits p =
+    let bound = letters_bounded letter fits (ap (list_all is_byte) (sym whole) ∙ list_of_bytes bytes are_bytes) p in
+    omega (arith, bound, ap length whole)
 
 short_length : (letter : Letter Body) → LetterFits letter → IsOfBytes (letter_text letter) → is_short_kind letter.body ≡ true → length (letter_text letter) ≤ 65536
 short_length letter fits h k =

@@ -1,5 +1,5 @@
 -- No letter's text is the start of another one's. If one of its parts is not there, no letter is.
-use Rattle.std.proofs.Common.{◌≡◌, ℕ, List, ◌++◌, Result, Ok, Err, inl, inr, refl, sym, ◌∙◌, ap, append_assoc}
+use Rattle.std.proofs.Common.{◌≡◌, ℕ, List, ◌++◌, Ok, Err, inl, inr, refl, sym, ◌∙◌, ap, append_assoc}
 use Rattle.base.specs.declared.fault.Fault.{Fault}
 use Rattle.base.specs.declared.fault.Fault.TheVariants.{NoMemory, Stopped, BadRecord, Unfit, Full, BadSchedule, NotOpen}
 use Rattle.wire.specs.Record.{Always, IsPrefixFree, NoPrefix, Refused}

@@ -1,8 +1,10 @@
 //! A letter as text: from whom, to whom, and what is said.
 
-ghost use Rattle.std.specs.Prelude.{◌≡◌, IfOk, OnOk};
+ghost use Rattle.std.specs.Prelude.{◌≡◌, ◌≤◌, false, length, IfOk, OnOk};
 ghost use Rattle.wire.specs.Record.{Puts, Reads, Takes};
 ghost use Rattle.letters.specs.Letter.{LetterFits, letter_text};
+ghost use Rattle.letters.specs.Size.{has_parcel};
+ghost use Rattle.letters.specs.declared.size.TheConstants.{MOST_BULK_BYTES};
 
 use crate::body::{put_body, take_body};
 use crate::node::{put_node, take_node};
@@ -55,10 +57,11 @@ fn take_letter(alloc: Global, bytes: &[u8]) -> Result<(Letter<Body>, &[u8]), Fau
 
 /// The letter whose text all of the bytes are. `BadRecord`: they are the text of no letter, as if a byte was changed, lost
 /// or added. `NoMemory` is the only other error: memory is asked for as the parts of a letter are found, and never for as
-/// many as the bytes say are still to come. Nothing is said of whether the nodes exist: a member compares them with the
-/// peer that sent the bytes.
+/// many as the bytes say are still to come. Bytes longer than `MOST_BULK_BYTES` can only be a parcel. Nothing is said of
+/// whether the nodes exist: a member compares them with the peer that sent the bytes.
 pub fn read(alloc: Global, bytes: &[u8]) -> Result<Letter<Body>, Fault>
-    ensures { Reads LetterFits letter_text bytes.now result }
+    ensures letter { Reads LetterFits letter_text bytes.now result }
+    ensures bound { IfOk result (λ letter. has_parcel letter.body ≡ false → length bytes.now ≤ MOST_BULK_BYTES) }
 {
     let (letter, rest) = take_letter(alloc, bytes)?;
     if rest.is_empty() {

@@ -66,11 +66,16 @@ fn is_told_apart(alloc: Global, bytes: &mut [u8], at: usize) -> Result<bool, Fau
     Ok(true)
 }
 
-/// Whether no letter is left if the text is cut at each of its bytes, and each changed bit is told apart.
-fn are_told_apart(alloc: Global, bytes: &mut [u8]) -> Result<bool, Fault> {
+/// Whether no letter is left if the text is cut at this byte, and each of its bits is told apart.
+fn is_sealed_at(alloc: Global, bytes: &mut [u8], at: usize) -> Result<bool, Fault> {
+    let front = read_again(alloc, bytes.get(..at).unwrap_or(&[]))?;
+    Ok(front.is_none() && is_told_apart(alloc, bytes, at)?)
+}
+
+/// Whether that is so at each of its bytes. Of a text of more than 256 bytes, it is each of these and then one in 200.
+fn is_sealed(alloc: Global, bytes: &mut [u8]) -> Result<bool, Fault> {
     for at in 0..bytes.len() {
-        let front = read_again(alloc, bytes.get(..at).unwrap_or(&[]))?;
-        if front.is_some() || !is_told_apart(alloc, bytes, at)? {
+        if (at < 256 || at % 200 == 0) && !is_sealed_at(alloc, bytes, at)? {
             return Ok(false);
         }
     }
@@ -90,6 +95,6 @@ pub fn is_strict(alloc: Global, parts: &[Part]) -> Result<bool, Fault> {
     Ok(
         read_again(alloc, bytes.as_slice())? == Some(true)
             && ends(alloc, bytes.as_slice())?
-            && are_told_apart(alloc, bytes.as_mut_slice())?,
+            && is_sealed(alloc, bytes.as_mut_slice())?,
     )
 }

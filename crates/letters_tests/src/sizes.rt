@@ -1,6 +1,6 @@
 //! Which letters are bulk, and the longest letters that are no parcels.
 
-use crate::rows::{Part, bytes_of, has_text};
+use crate::rows::{Part, bytes_of};
 use letters::{MOST_BULK_BYTES, MOST_QUICK_BYTES, is_bulk, read};
 use proto::Fault;
 use std::alloc::{AllocError, Global};
@@ -123,19 +123,11 @@ fn longest(alloc: Global, head: &[Part], each: &[Part]) -> Result<Vec<u8>, Alloc
     Ok(bytes)
 }
 
-/// Whether the bytes are the text of a bulk letter.
-fn is_bulk_letter(alloc: Global, bytes: &[u8]) -> Result<bool, Fault> {
-    match read(alloc, bytes) {
-        Ok(letter) => Ok(is_bulk(&letter) && has_text(alloc, &letter, bytes)?),
-        Err(fault) => Err(fault),
-    }
-}
-
 /// Whether the letter with 64 of these is bulk, and has no more bytes than such a letter may have.
 fn is_within(alloc: Global, head: &[Part], each: &[Part]) -> Result<bool, Fault> {
     let bytes = longest(alloc, head, each)?;
     let is_long = MOST_QUICK_BYTES < bytes.len() && bytes.len() <= MOST_BULK_BYTES;
-    Ok(is_long && is_bulk_letter(alloc, bytes.as_slice())?)
+    Ok(is_long && is_bulk_text(alloc, bytes.as_slice())?)
 }
 
 #[test]
