@@ -1,5 +1,5 @@
 -- Frames at the front of bytes.
-use Rattle.std.proofs.Common.{◌≡◌, ℕ, suc, ◌+◌, ◌-◌, ◌^◌, ◌<◌, ◌≤◌, List, [], ◌∷◌, ◌++◌, length, get_or, take, drop, inl, inr, refl, sym, ap, ◌∙◌, arith}
+use Rattle.std.proofs.Common.{◌≡◌, ℕ, suc, ◌+◌, ◌-◌, ◌<◌, ◌≤◌, List, [], ◌∷◌, ◌++◌, length, get_or, take, drop, inl, inr, refl, sym, ap, ◌∙◌, arith}
 use Rattle.std.specs.Int.{w32, w64, from_be_bytes, to_be_bytes}
 use Rattle.std.proofs.lemmas.Bool.{cases_lt}
 use Rattle.std.proofs.lemmas.Nat.{be_bytes_4, from_be_bytes-to_be_bytes_4}
@@ -10,7 +10,7 @@ use Rattle.mac.specs.Hmac.{hmac_sha256, inner_pad, outer_pad}
 use Rattle.seals.specs.declared.fault.SealFault.{SealFault}
 use Rattle.seals.specs.declared.fault.SealFault.TheVariants.{TooLong, WrongTag, Stopped, NoMemory}
 use Rattle.seals.specs.declared.frame.TheConstants.{MOST_PIECE_BYTES, LENGTH_BYTES, TAG_BYTES}
-use Rattle.seals.specs.Frame.{with_length, tag_behind, frame, frames, said_length, IsPartOfFrame, HasWholeFrame, HasLongPiece, HasWrongTag, IsEndFor}
+use Rattle.seals.specs.Frame.{with_length, tag_behind, frame, frames, said_length, IsPartOfFrame, HasWholeFrame, HasWrongTag, IsEndFor}
 
 -- lists of one length at the front of one text are one list
 pub same_fronts : {X : Type 0} (xs ys r s : List X) → length xs ≡ length ys → xs ++ r ≡ ys ++ s → (xs ≡ ys) × (r ≡ s)

@@ -11,7 +11,6 @@ use Rattle.seals.specs.declared.fault.SealFault.TheVariants.{TooLong, WrongTag, 
 use Rattle.seals.specs.declared.frame.TheConstants.{MOST_PIECE_BYTES, LENGTH_BYTES, TAG_BYTES}
 use Rattle.seals.specs.Frame.{with_length, tag_behind, frame, frames, said_length, IsPartOfFrame, IsEndFor}
 use Rattle.seals.specs.Opening.{OpenerView, StandsBehind, HasOpened}
-use Rattle.seals.specs.Keys.{handshake_text}
 use Rattle.seals.specs.Laws.{AreFirstOf, HadMemory, TakenIsTold, IsUnforged, TakenIsSent, SentIsTaken, PieceIsTold, HandshakeIsTold}
 use Rattle.seals.proofs.FrameLemmas.{same_fronts, length-tag_behind, length-with_length, length-frame, said_length-piece}
 

@@ -4,7 +4,7 @@ use Rattle.std.proofs.lemmas.List.{append_assoc, append-nil, length-append}
 use Rattle.std.proofs.lemmas.List.Elements.{All-nil, All-append}
 use Rattle.seals.specs.declared.fault.SealFault.{SealFault}
 use Rattle.seals.specs.declared.frame.TheConstants.{MOST_PIECE_BYTES, LENGTH_BYTES, TAG_BYTES}
-use Rattle.seals.specs.Frame.{frames, said_length, IsPartOfFrame, IsEndFor}
+use Rattle.seals.specs.Frame.{frames, said_length}
 use Rattle.seals.specs.Opening.{OpenerView, StandsBehind, IsPartIf, BeginsWithFrames, HasOpened, OpensMore}
 use Rattle.seals.specs.Taking.{TakesAll}
 use Rattle.seals.proofs.FrameLemmas.{IsEndFor-append, frames-append}

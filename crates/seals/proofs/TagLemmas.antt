@@ -1,5 +1,5 @@
 -- The bits in which bytes differ.
-use Rattle.std.proofs.Common.{◌≡◌, ℕ, ◌≤◌, bit_or, bit_xor, refl, sym, ap, ◌∙◌, arith}
+use Rattle.std.proofs.Common.{◌≡◌, ℕ, ◌≤◌, bit_or, bit_xor, sym, ap, ◌∙◌, arith}
 use Rattle.std.proofs.lemmas.Nat.{le_or_l, le_or_r}
 use lib.Bits.{xor_assoc, xor_self, xor_zero_l, xor_zero_r}
 

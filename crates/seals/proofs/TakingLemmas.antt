@@ -3,7 +3,7 @@ use Rattle.std.proofs.Common.{◌≡◌, ℕ, ◌+◌, ◌^◌, ◌<◌, ◌≤�
 use Rattle.std.proofs.lemmas.List.{append_assoc, append-nil, length_push, take-append-drop}
 use Rattle.std.proofs.lemmas.List.Elements.{All-nil, All-push}
 use Rattle.seals.specs.declared.fault.SealFault.{SealFault}
-use Rattle.seals.specs.declared.frame.TheConstants.{MOST_PIECE_BYTES, LENGTH_BYTES}
+use Rattle.seals.specs.declared.frame.TheConstants.{MOST_PIECE_BYTES}
 use Rattle.seals.specs.Frame.{frame, frames, IsPartOfFrame, IsEndFor}
 use Rattle.seals.specs.Taking.{TakesPart, TakesFrame, IsTaking, TakesAll}
 use Rattle.seals.proofs.FrameLemmas.{frames-push}

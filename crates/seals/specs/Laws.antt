@@ -1,7 +1,6 @@
 -- Laws of pieces that come.
 use Rattle.std.specs.Prelude.{◌≡◌, ◌≢◌, ℕ, ◌+◌, ◌^◌, ◌<◌, ◌≤◌, List, ◌++◌, length, Some, None, All, slice_get}
 use Rattle.std.specs.Int.{w64, to_be_bytes}
-use Rattle.seals.specs.declared.fault.SealFault.{SealFault}
 use Rattle.seals.specs.declared.fault.SealFault.TheVariants.{NoMemory}
 use Rattle.seals.specs.declared.frame.TheConstants.{MOST_PIECE_BYTES}
 use Rattle.seals.specs.Frame.{with_length, frame, frames}

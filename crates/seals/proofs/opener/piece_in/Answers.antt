@@ -1,4 +1,4 @@
-use Rattle.std.proofs.Common.{◌≡◌, ◌≤◌, ◌-◌, ℕ, Bool, true, false, List, length, take, drop, sym, ap, ◌∙◌, subst, arith}
+use Rattle.std.proofs.Common.{◌≡◌, ◌≤◌, ◌-◌, ℕ, true, false, List, length, take, drop, sym, ap, ◌∙◌, subst, arith}
 use Rattle.seals.specs.declared.frame.TheConstants.{MOST_PIECE_BYTES, LENGTH_BYTES, TAG_BYTES}
 use Rattle.seals.specs.Frame.{tag_behind, frame}
 use Rattle.seals.proofs.FrameLemmas.{right_tag, wrong_tag, piece_of_whole}
