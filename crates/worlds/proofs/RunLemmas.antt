@@ -28,7 +28,6 @@ use Rattle.exec_node.specs.Laws.{Plays, RunIsPlayed, gets_on, none, more}
 use Rattle.worlds.specs.Slot.{Slot}
 use Rattle.worlds.specs.declared.slot.Slot.TheVariants.{Up, Down, Gone}
 use Rattle.worlds.specs.Slots.{executor_kept, ExecutorSettles}
-use Rattle.worlds.specs.Steps.{KeepsMark}
 use Rattle.worlds.specs.Runs.{ExecutorRan, RunStops, ExecutorRuns, ExecutorSettlesAll, AllGetOn, RunIsSteps}
 
 -- ---- what the executor's call says

@@ -13,6 +13,7 @@ mod copies;
 mod executor_slot;
 mod kept_node;
 mod laws;
+mod node_slot;
 mod running;
 mod sending;
 mod slot;

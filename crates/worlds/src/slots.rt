@@ -1,14 +1,14 @@
 //! What becomes of a slot, whatever replica it is for.
 
-ghost use Rattle.std.specs.Prelude.{◌≡◌, IfOk, Some};
-ghost use Rattle.worlds.specs.Laws.{kept_at, is_gone as is_gone_from};
+ghost use Rattle.std.specs.Prelude.{◌≡◌, ◌<◌, ◌≤◌, ◌*◌};
 ghost use Rattle.worlds.specs.Slots.{crashed_slot, lost_slot};
 ghost use Rattle.worlds.specs.UpSlots.{IsUpAt};
 
 use crate::kept_node::{KeptNode, KeptSlot};
 use crate::slot::Slot;
+use decrees::Letter;
 use keeper::{MemKeeper, ToText};
-use std::alloc::AllocError;
+use std::alloc::Global;
 use std::mem;
 
 /// Ends what is there.
@@ -74,24 +74,25 @@ pub fn lose<N: KeptNode>(slot: &mut KeptSlot<N>)
     put(slot, lost(old));
 }
 
-/// A keeper that has what is kept of the replica, whether it is up, down or lost. The record is shared.
-pub fn kept<N: KeptNode>(slot: &KeptSlot<N>) -> Result<MemKeeper<N::Record>, AllocError>
-    ensures { IfOk result (λ keeper. keeper ≡ kept_at N.kept slot.now) }
+/// What is there after it was opened, and what that sends.
+pub fn reopened<N: KeptNode>(
+    slot: KeptSlot<N>,
+    alloc: Global,
+    u: u8,
+    id: u8,
+) -> (KeptSlot<N>, Vec<Letter<N::Body>>)
+    requires few { u < 4 }
+    requires member { id ≤ 2 * u }
+    requires up { IsUpAt N.up slot }
+    ensures opens { N.reopens u id slot result.0 result.1.items }
+    ensures up { IsUpAt N.up result.0 }
 {
     match slot {
-        Slot::Up(node) => node.share_kept(),
-        Slot::Down(keeper) => keeper.share(),
-        Slot::Gone(keeper) => keeper.share(),
-    }
-}
-
-/// Whether the replica is lost for good.
-pub fn is_gone<N: KeptNode>(slot: &KeptSlot<N>) -> bool
-    ensures { result ≡ is_gone_from (Some slot.now) }
-{
-    match slot {
-        Slot::Up(_) => false,
-        Slot::Down(_) => false,
-        Slot::Gone(_) => true,
+        Slot::Up(node) => (Slot::Up(node), Vec::new(alloc)),
+        Slot::Down(keeper) => match N::reopen(alloc, u, id, keeper) {
+            Ok((node, letters)) => (Slot::Up(node), letters),
+            Err(keeper) => (Slot::Down(keeper), Vec::new(alloc)),
+        },
+        Slot::Gone(keeper) => (Slot::Gone(keeper), Vec::new(alloc)),
     }
 }
