@@ -4,7 +4,7 @@ ghost use Rattle.std.specs.Prelude.{◌≡◌, ◌<◌, ◌≤◌, ◌*◌};
 
 use crate::kept_node::{KeptNode, KeptSlot};
 use crate::slot::Slot;
-use crate::slots::{crash, end, lose, put, reopened, taken};
+use crate::slots::{crash, end, lost, put, reopened, taken};
 use decrees::Letter;
 use keeper::MemKeeper;
 use std::alloc::Global;
@@ -43,9 +43,7 @@ impl<N: KeptNode> NodeSlot<N> {
     pub fn unopened() -> NodeSlot<N>
         ensures { result ≡ Down nothing_kept }
     {
-        NodeSlot {
-            slot: Slot::Down(MemKeeper::new()),
-        }
+        NodeSlot::down(MemKeeper::new())
     }
 
     /// One that is down, with this keeper.
@@ -104,7 +102,8 @@ impl<N: KeptNode> NodeSlot<N> {
     pub fn lose(&mut self)
         ensures { self.new ≡ lost_slot N.kept self.old }
     {
-        lose(&mut self.slot);
+        let slot = lost(taken(&mut self.slot));
+        put(&mut self.slot, slot);
     }
 
     /// Its next save will fail, if it is up.

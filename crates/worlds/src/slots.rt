@@ -45,7 +45,8 @@ fn crashed<N: KeptNode>(slot: KeptSlot<N>) -> KeptSlot<N>
     }
 }
 
-fn lost<N: KeptNode>(slot: KeptSlot<N>) -> KeptSlot<N>
+/// What is there once the replica is lost for good.
+pub fn lost<N: KeptNode>(slot: KeptSlot<N>) -> KeptSlot<N>
     ensures lost { result ≡ lost_slot N.kept slot }
     ensures up { IsUpAt N.up result }
 {
@@ -63,15 +64,6 @@ pub fn crash<N: KeptNode>(slot: &mut KeptSlot<N>)
 {
     let old = taken(slot);
     put(slot, crashed(old));
-}
-
-/// The replica is lost for good, up or down.
-pub fn lose<N: KeptNode>(slot: &mut KeptSlot<N>)
-    ensures lost { slot.new ≡ lost_slot N.kept slot.old }
-    ensures up { IsUpAt N.up slot.new }
-{
-    let old = taken(slot);
-    put(slot, lost(old));
 }
 
 /// What is there after it was opened, and what that sends.
