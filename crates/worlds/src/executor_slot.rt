@@ -3,16 +3,16 @@
 ghost use Rattle.std.specs.Prelude.{refl};
 ghost use Rattle.worlds.specs.Slots.{executor_kept, executor_told, ExecutorSettles, ExecutorReopens};
 ghost use Rattle.worlds.specs.UpSlots.{executor_up};
-ghost use Rattle.worlds.specs.Status.{executor_report};
 
 use crate::kept_node::KeptNode;
 use crate::node_slot::NodeSlot;
 use decrees::Letter;
-use exec_lines::{Body, ExecutorRecord, Input, Report};
+use exec_lines::{Body, ExecutorRecord, Input};
 use exec_node::{ExecNode, unfit_input_changes_nothing};
 use keeper::MemKeeper;
 use proto::Fault;
 use std::alloc::{AllocError, Global};
+use std::mem;
 
 /// An executor over a keeper in memory.
 pub type KeptExecutor = ExecNode<MemKeeper<ExecutorRecord>>;
@@ -27,15 +27,11 @@ impl KeptNode for ExecNode<MemKeeper<ExecutorRecord>> {
 
     type Body = Body;
 
-    type Report = Report;
-
     ghost kept = { executor_kept };
 
     ghost up = { executor_up };
 
     ghost told = { executor_told };
-
-    ghost reported = { executor_report };
 
     ghost settles = { ExecutorSettles };
 
@@ -57,10 +53,6 @@ impl KeptNode for ExecNode<MemKeeper<ExecutorRecord>> {
     #[tactic(auto, using(crate::proofs::StepLemmas::kept_is))]
     fn share_kept(&self) -> Result<MemKeeper<ExecutorRecord>, AllocError> {
         self.kept().share()
-    }
-
-    fn report(&self) -> Report {
-        self.state().report()
     }
 
     fn fail_next(&mut self) {
@@ -91,11 +83,14 @@ impl KeptNode for ExecNode<MemKeeper<ExecutorRecord>> {
         alloc: Global,
         u: u8,
         id: u8,
-        keeper: MemKeeper<ExecutorRecord>,
-    ) -> Result<(KeptExecutor, Vec<Letter<Body>>), MemKeeper<ExecutorRecord>> {
-        match ExecNode::open(alloc, u, id, keeper) {
-            Ok((node, letters)) => Ok((node, letters)),
-            Err((_, keeper)) => Err(keeper),
+        keeper: &mut MemKeeper<ExecutorRecord>,
+    ) -> Option<(KeptExecutor, Vec<Letter<Body>>)> {
+        match ExecNode::open(alloc, u, id, mem::replace(keeper, MemKeeper::new())) {
+            Ok(opened) => Some(opened),
+            Err((_, left)) => {
+                *keeper = left;
+                None
+            }
         }
     }
 }

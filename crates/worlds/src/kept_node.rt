@@ -1,6 +1,6 @@
 //! What a slot needs of its replica.
 
-ghost use Rattle.std.specs.Prelude.{◌≡◌, ◌<◌, ◌≤◌, ◌*◌, ℕ, Bool, List, [], IfSome, IfNone, OnSome, IfOk, IfErr, IsTrue};
+ghost use Rattle.std.specs.Prelude.{◌≡◌, ◌<◌, ◌≤◌, ◌*◌, ℕ, Bool, List, [], IfSome, IfNone, OnSome, IfOk, IsTrue};
 ghost use Rattle.keeper.specs.Kept.{Kept};
 ghost use Rattle.decrees.specs.declared.node.Letter as letter;
 ghost use Rattle.worlds.specs.Slot as of_world;
@@ -22,9 +22,6 @@ pub trait KeptNode {
     /// What its letters say.
     type Body;
 
-    /// What is shown of how far it is.
-    type Report;
-
     /// What its keeper has.
     ghost kept: { Self → Kept };
 
@@ -33,9 +30,6 @@ pub trait KeptNode {
 
     /// The same replica, with its next save set to fail.
     ghost told: { Self → Self };
-
-    /// How far it is.
-    ghost reported: { Self → Self.Report };
 
     /// What becomes of its slot when it is given an input, and what is sent.
     ghost settles: { of_world.Slot Self → Self.Input → of_world.Slot Self → List (letter.Letter Self.Body) → Type 0 };
@@ -50,10 +44,6 @@ pub trait KeptNode {
     /// A keeper that has the same as its own. The record is shared.
     fn share_kept(&self) -> Result<MemKeeper<Self::Record>, AllocError>
         ensures { IfOk result (λ keeper. keeper ≡ kept self.now) };
-
-    /// How far it is.
-    fn report(&self) -> Self::Report
-        ensures { result ≡ reported self.now };
 
     /// Its next save will fail.
     fn fail_next(&mut self)
@@ -70,19 +60,19 @@ pub trait KeptNode {
     /// Lets go of an input that no replica takes.
     fn spend(input: Self::Input);
 
-    /// Opens it as number `id` of `2u + 1` with its keeper, and gives what it sends. If that is refused
-    /// the keeper comes back.
+    /// Opens it as number `id` of `2u + 1` with what its keeper has, and gives what it sends. None: that was
+    /// refused, and the keeper has what is kept then.
     fn reopen(
         alloc: Global,
         u: u8,
         id: u8,
-        keeper: MemKeeper<Self::Record>,
-    ) -> Result<(Self, Vec<Letter<Self::Body>>), MemKeeper<Self::Record>>
+        keeper: &mut MemKeeper<Self::Record>,
+    ) -> Option<(Self, Vec<Letter<Self::Body>>)>
         requires few { u < 4 }
         requires member { id ≤ 2 * u }
-        ensures opened { IfOk result (λ opened. reopens u id (Down keeper) (Up opened.0) opened.1.items) }
-        ensures is_up { IfOk result (λ opened. IsTrue (up opened.0)) }
-        ensures refused { IfErr result (λ left. reopens u id (Down keeper) (Down left) []) };
+        ensures opened { IfSome result (λ opened. reopens u id (Down keeper.old) (Up opened.0) opened.1.items) }
+        ensures is_up { IfSome result (λ opened. IsTrue (up opened.0)) }
+        ensures refused { IfNone result (reopens u id (Down keeper.old) (Down keeper.new) []) };
 
     /// One that is down takes no input.
     ghost down_ignores: { (keeper : Kept) (input : Self.Input) → settles (Down keeper) input (Down keeper) [] };

@@ -4,7 +4,7 @@ ghost use Rattle.std.specs.Prelude.{◌≡◌, ◌<◌, ◌≤◌, ◌*◌};
 
 use crate::kept_node::{KeptNode, KeptSlot};
 use crate::slot::Slot;
-use crate::slots::{crash, end, lost, put, reopened, taken};
+use crate::slots::{crash, end, lost, put, taken};
 use decrees::Letter;
 use keeper::MemKeeper;
 use std::alloc::Global;
@@ -86,9 +86,17 @@ impl<N: KeptNode> NodeSlot<N> {
         requires member { id ≤ 2 * u }
         ensures { N.reopens u id self.old self.new result.items }
     {
-        let (slot, letters) = reopened(taken(&mut self.slot), alloc, u, id);
-        put(&mut self.slot, slot);
-        letters
+        match &mut self.slot {
+            Slot::Down(keeper) => match N::reopen(alloc, u, id, keeper) {
+                Some((node, letters)) => {
+                    put(&mut self.slot, Slot::Up(node));
+                    letters
+                }
+                None => Vec::new(alloc),
+            },
+            Slot::Up(_) => Vec::new(alloc),
+            Slot::Gone(_) => Vec::new(alloc),
+        }
     }
 
     /// It stops, if it is up.

@@ -1,14 +1,12 @@
 //! What becomes of a slot, whatever replica it is for.
 
-ghost use Rattle.std.specs.Prelude.{◌≡◌, ◌<◌, ◌≤◌, ◌*◌};
+ghost use Rattle.std.specs.Prelude.{◌≡◌};
 ghost use Rattle.worlds.specs.Slots.{crashed_slot, lost_slot};
 ghost use Rattle.worlds.specs.UpSlots.{IsUpAt};
 
 use crate::kept_node::{KeptNode, KeptSlot};
 use crate::slot::Slot;
-use decrees::Letter;
 use keeper::{MemKeeper, ToText};
-use std::alloc::Global;
 use std::mem;
 
 /// Ends what is there.
@@ -64,27 +62,4 @@ pub fn crash<N: KeptNode>(slot: &mut KeptSlot<N>)
 {
     let old = taken(slot);
     put(slot, crashed(old));
-}
-
-/// What is there after it was opened, and what that sends.
-pub fn reopened<N: KeptNode>(
-    slot: KeptSlot<N>,
-    alloc: Global,
-    u: u8,
-    id: u8,
-) -> (KeptSlot<N>, Vec<Letter<N::Body>>)
-    requires few { u < 4 }
-    requires member { id ≤ 2 * u }
-    requires up { IsUpAt N.up slot }
-    ensures opens { N.reopens u id slot result.0 result.1.items }
-    ensures up { IsUpAt N.up result.0 }
-{
-    match slot {
-        Slot::Up(node) => (Slot::Up(node), Vec::new(alloc)),
-        Slot::Down(keeper) => match N::reopen(alloc, u, id, keeper) {
-            Ok((node, letters)) => (Slot::Up(node), letters),
-            Err(keeper) => (Slot::Down(keeper), Vec::new(alloc)),
-        },
-        Slot::Gone(keeper) => (Slot::Gone(keeper), Vec::new(alloc)),
-    }
 }

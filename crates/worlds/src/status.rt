@@ -3,14 +3,15 @@
 ghost use Rattle.std.specs.Prelude.{◌≡◌, IfOk, Some};
 ghost use Rattle.std.specs.Option.{option_map};
 ghost use Rattle.worlds.specs.Laws.{kept_at, is_gone};
-ghost use Rattle.worlds.specs.Status.{status_of, node_at, WaitsFor, is_client_open};
+ghost use Rattle.worlds.specs.Status.{status_of, executor_report, verifier_report, node_at, WaitsFor, is_client_open};
 
 use crate::client_slot::ClientSlot;
 use crate::executor_slot::KeptExecutor;
 use crate::kept_node::KeptNode;
 use crate::node_slot::NodeSlot;
 use crate::slot::Slot;
-use exec_lines::NextWork;
+use crate::verifier_slot::KeptVerifier;
+use exec_lines::{NextWork, Report};
 use keeper::MemKeeper;
 use std::alloc::AllocError;
 
@@ -42,17 +43,6 @@ impl<N: KeptNode> NodeSlot<N> {
         }
     }
 
-    /// Whether the replica is there, and how far it is.
-    pub fn status(&self) -> Status<N::Report>
-        ensures { result ≡ status_of N.reported self.now }
-    {
-        match &self.slot {
-            Slot::Up(node) => Status::Up(node.report()),
-            Slot::Down(_) => Status::Down,
-            Slot::Gone(_) => Status::Lost,
-        }
-    }
-
     /// A keeper that has what is kept of the replica, whether it is up, down or lost. The record is shared.
     pub fn kept(&self) -> Result<MemKeeper<N::Record>, AllocError>
         ensures { IfOk result (λ keeper. keeper ≡ kept_at N.kept self.now) }
@@ -77,6 +67,17 @@ impl<N: KeptNode> NodeSlot<N> {
 }
 
 impl NodeSlot<KeptExecutor> {
+    /// Whether the executor is there, and how far it is.
+    pub fn status(&self) -> Status<Report>
+        ensures { result ≡ status_of executor_report self.now }
+    {
+        match &self.slot {
+            Slot::Up(node) => Status::Up(node.state().report()),
+            Slot::Down(_) => Status::Down,
+            Slot::Gone(_) => Status::Lost,
+        }
+    }
+
     /// What comes next of the work of an executor that is up and has work.
     pub fn next_work(&self) -> Option<NextWork>
         ensures { WaitsFor self.now result }
@@ -84,6 +85,22 @@ impl NodeSlot<KeptExecutor> {
         match &self.slot {
             Slot::Up(node) => node.state().next_work(),
             _ => None,
+        }
+    }
+}
+
+impl NodeSlot<KeptVerifier> {
+    /// Whether the verifier is there, and how far it is.
+    pub fn status(&self) -> Status<VerifierReport>
+        ensures { result ≡ status_of verifier_report self.now }
+    {
+        match &self.slot {
+            Slot::Up(node) => Status::Up(VerifierReport {
+                decrees: node.known(),
+                view: node.view(),
+            }),
+            Slot::Down(_) => Status::Down,
+            Slot::Gone(_) => Status::Lost,
         }
     }
 }

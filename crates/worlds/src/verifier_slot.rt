@@ -3,15 +3,14 @@
 ghost use Rattle.std.specs.Prelude.{refl};
 ghost use Rattle.worlds.specs.Slots.{verifier_kept, verifier_told, VerifierSettles, VerifierReopens};
 ghost use Rattle.worlds.specs.UpSlots.{verifier_up};
-ghost use Rattle.worlds.specs.Status.{verifier_report};
 
 use crate::kept_node::KeptNode;
 use crate::node_slot::NodeSlot;
-use crate::status::VerifierReport;
 use base::Text;
 use decrees::{Ballot, Letter};
 use keeper::MemKeeper;
 use std::alloc::{AllocError, Global};
+use std::mem;
 use verifier::{Input, Verifier};
 
 /// A verifier over a keeper in memory.
@@ -27,15 +26,11 @@ impl KeptNode for Verifier<MemKeeper<Text>> {
 
     type Body = Ballot;
 
-    type Report = VerifierReport;
-
     ghost kept = { verifier_kept };
 
     ghost up = { verifier_up };
 
     ghost told = { verifier_told };
-
-    ghost reported = { verifier_report };
 
     ghost settles = { VerifierSettles };
 
@@ -59,13 +54,6 @@ impl KeptNode for Verifier<MemKeeper<Text>> {
         self.kept().share()
     }
 
-    fn report(&self) -> VerifierReport {
-        VerifierReport {
-            decrees: self.known(),
-            view: self.view(),
-        }
-    }
-
     fn fail_next(&mut self) {
         self.keeper().fail_next();
     }
@@ -85,11 +73,14 @@ impl KeptNode for Verifier<MemKeeper<Text>> {
         alloc: Global,
         u: u8,
         id: u8,
-        keeper: MemKeeper<Text>,
-    ) -> Result<(KeptVerifier, Vec<Letter<Ballot>>), MemKeeper<Text>> {
-        match Verifier::open(alloc, u, id, keeper) {
-            Ok((node, letters)) => Ok((node, letters)),
-            Err((_, keeper)) => Err(keeper),
+        keeper: &mut MemKeeper<Text>,
+    ) -> Option<(KeptVerifier, Vec<Letter<Ballot>>)> {
+        match Verifier::open(alloc, u, id, mem::replace(keeper, MemKeeper::new())) {
+            Ok(opened) => Some(opened),
+            Err((_, left)) => {
+                *keeper = left;
+                None
+            }
         }
     }
 }
