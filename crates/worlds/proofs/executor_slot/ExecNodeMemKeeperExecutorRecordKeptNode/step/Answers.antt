@@ -28,8 +28,8 @@ returns-in_default c =
       done = tt;
       still_up = tt;
       stopped =
-        executor_stops e c.handle.new.self c.args.input
-        (fault_fits c.handle.result c.in-Err.fault (fits_a_line e.u e.id e.state c.args.input) (is_refused e.state c.args.input) c.in-Err.is (λ f r. c.handle.ensures.fits_none c.requires f r)
-            (λ r. c.in_default.not-Unfit (cc (c.in-Err.is, (c.handle.ensures.refused c.requires r).0))))
-        c.in-Err.ensures.old_record c.handle.ensures.counted c.handle.ensures.untried c.handle.ensures.spent;
+          executor_stops e c.handle.new.self c.args.input
+          (fault_fits c.handle.result c.in-Err.fault (fits_a_line e.u e.id e.state c.args.input) (is_refused e.state c.args.input) c.in-Err.is (λ f r. c.handle.ensures.fits_none c.requires f r)
+          (λ r. c.in_default.not-Unfit (cc (c.in-Err.is, (c.handle.ensures.refused c.requires r).0))))
+          c.in-Err.ensures.old_record c.handle.ensures.counted c.handle.ensures.untried c.handle.ensures.spent;
     }
