@@ -60,7 +60,7 @@ impl KeptNode for ExecNode<MemKeeper<ExecutorRecord>> {
     }
 
     /// If a tentative state is refused nothing changes, and nothing is sent.
-    #[tactic(auto, using(crate::proofs::StepLemmas::executor_settles, crate::proofs::StepLemmas::executor_stops))]
+    #[tactic(auto, using(crate::proofs::StepLemmas::ok_is_untold, crate::proofs::StepLemmas::executor_settles))]
     fn step(&mut self, alloc: Global, input: Input) -> Option<Vec<Letter<Body>>> {
         match self.handle(alloc, input) {
             Ok(letters) => Some(letters),

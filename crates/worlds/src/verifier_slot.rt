@@ -58,7 +58,7 @@ impl KeptNode for Verifier<MemKeeper<Text>> {
         self.keeper().fail_next();
     }
 
-    #[tactic(auto, using(crate::proofs::StepLemmas::verifier_settles, crate::proofs::StepLemmas::verifier_stops))]
+    #[tactic(auto, using(crate::proofs::StepLemmas::ok_is_untold, crate::proofs::StepLemmas::error_fits, crate::proofs::StepLemmas::verifier_settles, crate::proofs::StepLemmas::verifier_stops))]
     fn step(&mut self, alloc: Global, input: Input) -> Option<Vec<Letter<Ballot>>> {
         match self.handle(alloc, input) {
             Ok(letters) => Some(letters),

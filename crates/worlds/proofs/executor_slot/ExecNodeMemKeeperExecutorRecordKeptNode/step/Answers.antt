@@ -2,17 +2,10 @@ use Rattle.std.proofs.Common.{List, sym, subst}
 use Rattle.decrees.specs.declared.node.Letter.{Letter}
 use Rattle.exec_lines.specs.declared.body.Body.{Body}
 use Rattle.exec_lines.specs.Step.{fits_a_line, is_refused}
-use Rattle.exec_node.specs.Executor.{executor_outcome}
 use Rattle.worlds.specs.declared.slot.Slot.TheVariants.{Up}
 use Rattle.worlds.specs.Slots.{ExecutorSettles}
-use Rattle.worlds.proofs.StepLemmas.{ok_is_untold, fault_fits, refused_settles, executor_settles, executor_stops}
+use Rattle.worlds.proofs.StepLemmas.{fault_fits, refused_settles, executor_stops}
 use Rattle.worlds.proofs.executor_slot.ExecNodeMemKeeperExecutorRecordKeptNode.step.Goals as goal
-
-pub returns-in-Ok-clause-done : goal.returns-in-Ok-clause-done
-returns-in-Ok-clause-done c =
-    let e = c.args.self.now in
-    executor_settles e c.handle.new.self c.args.input c.in-Ok.letters.items
-    (ok_is_untold c.handle.result c.in-Ok.letters e.told (executor_outcome e c.args.input).saves c.in-Ok.is c.handle.ensures.as_told) c.in-Ok.ensures.done c.in-Ok.ensures.letters
 
 pub returns-in-Unfit-clause-done : goal.returns-in-Unfit-clause-done
 returns-in-Unfit-clause-done c =
