@@ -46,3 +46,17 @@ pub const FEW_ITEMS: [Command; 3] = [
     (100, b"set a 0 0 1", (b'1', 1), b"1----"),
     (100, b"delete a", NONE, b"-----"),
 ];
+
+/// The first, before an executor stops, and the others while it is down.
+pub const BEHIND: [Command; 3] = [
+    (100, b"set a 0 0 1", (b'1', 1), b"1----"),
+    (101, b"set b 0 0 1", (b'2', 1), b"12---"),
+    (102, b"delete a", NONE, b"-2---"),
+];
+
+/// The first beside many items that are due at moment 110, and the others when these are gone.
+pub const SHRINK: [Command; 3] = [
+    (101, b"get a", NONE, b"-----"),
+    (110, b"set a 0 0 1", (b'1', 1), b"1----"),
+    (111, b"set b 0 0 1", (b'2', 1), b"12---"),
+];

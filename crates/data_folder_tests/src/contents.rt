@@ -16,6 +16,14 @@ pub struct Content {
     pub others: u64,
 }
 
+impl Content {
+    /// No items.
+    pub const NONE: Content = Content {
+        first: *b"-----",
+        others: 0,
+    };
+}
+
 /// Which of the items `a` to `e` has this key. `None`: it is another one.
 fn place_of(key: &Key) -> Option<usize> {
     if key.as_slice().len() != 1 {
@@ -47,10 +55,7 @@ fn note_all(content: &mut Content, entries: &[Entry<Key, Item>]) {
 
 /// What items the state has.
 pub fn content_of(alloc: Global, state: &State) -> Result<Content, AllocError> {
-    let mut content = Content {
-        first: *b"-----",
-        others: 0,
-    };
+    let mut content = Content::NONE;
     for number in 0..PAGES {
         let entries = state.pages().entries(alloc, number)?;
         note_all(&mut content, &entries);

@@ -151,10 +151,27 @@ pub fn made(alloc: Global, layout: Layout, calls: Calls) -> Result<Option<TestSt
 }
 
 /// What a file has: bytes, and then zeros up to its length.
-#[derive(Drop)]
 pub struct Image {
     pub bytes: Vec<u8>,
     pub len: usize,
+}
+
+impl Drop for Image {
+    fn drop(self) {
+        let Image { bytes: _, len: _ } = self;
+    }
+}
+
+/// What the two files of a database have.
+pub struct Images {
+    pub log: Image,
+    pub db: Image,
+}
+
+impl Drop for Images {
+    fn drop(self) {
+        let Images { log: _, db: _ } = self;
+    }
 }
 
 /// How many bytes there are up to the last that is not zero.
@@ -169,7 +186,7 @@ fn used(bytes: &[u8]) -> usize {
 }
 
 /// What the file has now.
-pub fn image_of(alloc: Global, disk: &TestDisk) -> Result<Image, AllocError> {
+fn image_of(alloc: Global, disk: &TestDisk) -> Result<Image, AllocError> {
     let bytes = disk.inner().bytes();
     let used = used(bytes).min(bytes.len());
     Ok(Image {
@@ -178,13 +195,29 @@ pub fn image_of(alloc: Global, disk: &TestDisk) -> Result<Image, AllocError> {
     })
 }
 
+/// What both files have now.
+pub fn images_of(alloc: Global, files: &Files<TestDisk>) -> Result<Images, AllocError> {
+    let log = image_of(alloc, &files.log)?;
+    let db = image_of(alloc, &files.db)?;
+    Ok(Images { log, db })
+}
+
 /// The file with at most 4,096 zeros at its end: an open of it takes less time.
-pub fn short(image: Image) -> Image {
+fn short(image: Image) -> Image {
     let Image { bytes, len } = image;
     let used = bytes.len();
     Image {
         bytes,
-        len: len.min(used.saturating_add(4096)),
+        len: len.min(used.saturating_add(4096 - used % 4096)),
+    }
+}
+
+/// Both files with few zeros at their ends.
+pub fn shortened(images: Images) -> Images {
+    let Images { log, db } = images;
+    Images {
+        log: short(log),
+        db: short(db),
     }
 }
 
@@ -199,17 +232,16 @@ fn file_of(alloc: Global, image: &Image) -> Result<Memory, DataFault>
     Ok(file)
 }
 
-/// The database in a log and a file with this content. `None`: the open is refused.
+/// The database in files with this content. `None`: the open is refused.
 pub fn opened(
     alloc: Global,
-    log: &Image,
-    db: &Image,
+    images: &Images,
     layout: Layout,
 ) -> Result<Option<TestStore>, DataFault> {
     let unopened = unopened(
         alloc,
-        file_of(alloc, log)?,
-        file_of(alloc, db)?,
+        file_of(alloc, &images.log)?,
+        file_of(alloc, &images.db)?,
         layout,
         ALL,
     )?;

@@ -1,26 +1,20 @@
 //! A byte changed in one of the files of a folder: it is reported when they are opened or read, or the record of the last
 //! save is found, or that of the one before.
 
-use crate::files::{Image, LOGGED, TestStore, image_of, opened, short};
+use crate::files::{Image, Images, LOGGED, TestStore, images_of, shortened};
 use crate::saves::{
-    ALONE, TestFolder, WANTED, found_in, good_folder, is_old_or_new, save, save_all, saves_in,
+    ALONE, Opening, TestFolder, WANTED, good_folder, is_old_or_new, opening_in, save_all,
+    store_after,
 };
 use crate::services::{Moment, small_moments};
-use data_folder::DataFolder;
-use sqlite_disk::Files;
+use data_folder::{DataFault, DataFolder};
+use sqlite_trees::store::Store;
 use std::alloc::Global;
 use std::process::Abort;
 use std::test::Fail;
 
 /// So many bytes lie from one byte that is changed to the next.
 const STEP: usize = 127;
-
-/// The files after all saves. The last one is in the log alone, and all others are in the database alone.
-#[derive(Drop)]
-struct Saved {
-    log: Image,
-    db: Image,
-}
 
 /// Which file is damaged.
 #[derive(Clone, Copy, Debug)]
@@ -29,12 +23,15 @@ enum Damaged {
     Db,
 }
 
-/// A folder after these saves, with an empty log.
-fn settled(alloc: Global, moments: &[Moment]) -> Result<TestStore, Fail> {
-    let mut folder = good_folder(alloc, LOGGED)?;
+/// The store after all these saves.
+fn all_saved<S: Store + Drop>(
+    alloc: Global,
+    folder: DataFolder<S>,
+    moments: &[Moment],
+) -> Result<S, Fail> {
+    let mut folder = folder;
     let saved = save_all(alloc, &mut folder, moments);
-    let mut store = folder.into_store();
-    store.checkpoint()?;
+    let store = folder.into_store();
     if saved == moments.len() {
         Ok(store)
     } else {
@@ -43,30 +40,42 @@ fn settled(alloc: Global, moments: &[Moment]) -> Result<TestStore, Fail> {
     }
 }
 
+/// The store, with an empty log.
+fn settled(store: TestStore) -> Result<TestStore, DataFault> {
+    let mut store = store;
+    match store.checkpoint() {
+        Ok(()) => Ok(store),
+        Err(error) => Err(error.into()),
+    }
+}
+
 /// A folder with the data of a store.
-fn folder_of(alloc: Global, store: TestStore) -> Result<TestFolder, Fail> {
-    let (folder, found) = DataFolder::over(alloc, store, WANTED)?;
-    drop(found);
-    Ok(folder)
+fn folder_of<S: Store + Drop>(alloc: Global, store: S) -> Result<DataFolder<S>, DataFault> {
+    match DataFolder::over(alloc, store, WANTED) {
+        Ok((folder, found)) => {
+            drop(found);
+            Ok(folder)
+        }
+        Err(fault) => Err(fault),
+    }
 }
 
-/// The files of a store.
-fn files_of(alloc: Global, store: TestStore) -> Result<Saved, Fail> {
-    let Files { log, db } = store.close();
-    let log = short(image_of(alloc, &log)?);
-    let db = short(image_of(alloc, &db)?);
-    Ok(Saved { log, db })
+/// A folder after these saves, with an empty log.
+fn settled_folder(alloc: Global, moments: &[Moment]) -> Result<TestFolder, Fail> {
+    let store = all_saved(alloc, good_folder(alloc, LOGGED)?, moments)?;
+    let store = settled(store)?;
+    Ok(folder_of(alloc, store)?)
 }
 
-/// The files after all saves.
-fn saved_files(alloc: Global, moments: &[Moment]) -> Result<Saved, Fail> {
+/// The files after all saves. The last one is in the log alone, and all others are in the database alone.
+fn saved_files(alloc: Global, moments: &[Moment]) -> Result<Images, Fail> {
     let Some((last, others)) = moments.split_last() else {
         return Err("no saves".into());
     };
-    let store = settled(alloc, others)?;
-    let mut folder = folder_of(alloc, store)?;
-    save(alloc, &mut folder, ALONE, moments.len(), last)?;
-    files_of(alloc, folder.into_store())
+    let folder = settled_folder(alloc, others)?;
+    let store = store_after(alloc, folder, ALONE, moments.len(), last)?;
+    let files = store.close();
+    Ok(shortened(images_of(alloc, &files)?))
 }
 
 /// Whether it is reported that the byte at this place was changed. If not, one of the last two records is found.
@@ -74,21 +83,17 @@ fn is_told(
     rt: &impl Abort,
     alloc: Global,
     moments: &[Moment],
-    saved: &Saved,
+    images: &Images,
     damaged: Damaged,
     at: usize,
-) -> Result<bool, Fail> {
-    let Some(store) = opened(alloc, &saved.log, &saved.db, LOGGED)? else {
-        return Ok(true);
-    };
-    let found = found_in(alloc, store, WANTED);
-    if found.is_err() {
+) -> Result<bool, DataFault> {
+    let opening = opening_in(alloc, images, LOGGED, moments)?;
+    if opening == Opening::Refused {
         return Ok(true);
     }
-    let saves = saves_in(alloc, &found, moments);
     assert!(rt;
-        is_old_or_new(saves, moments.len().wrapping_sub(1)),
-        "{damaged:?} {at}: found {saves:?}"
+        is_old_or_new(opening, moments.len().wrapping_sub(1)),
+        "{damaged:?} {at}: {opening:?}"
     );
     Ok(false)
 }
@@ -100,18 +105,18 @@ fn flip(image: &mut Image, at: usize) {
     }
 }
 
-fn flip_in(saved: &mut Saved, damaged: Damaged, at: usize) {
+fn flip_in(images: &mut Images, damaged: Damaged, at: usize) {
     match damaged {
-        Damaged::Log => flip(&mut saved.log, at),
-        Damaged::Db => flip(&mut saved.db, at),
+        Damaged::Log => flip(&mut images.log, at),
+        Damaged::Db => flip(&mut images.db, at),
     }
 }
 
 /// How many bytes the file has up to its zeros.
-fn len_of(saved: &Saved, damaged: Damaged) -> usize {
+fn len_of(images: &Images, damaged: Damaged) -> usize {
     match damaged {
-        Damaged::Log => saved.log.bytes.len(),
-        Damaged::Db => saved.db.bytes.len(),
+        Damaged::Log => images.log.bytes.len(),
+        Damaged::Db => images.db.bytes.len(),
     }
 }
 
@@ -120,21 +125,32 @@ fn damage_each(
     rt: &impl Abort,
     alloc: Global,
     moments: &[Moment],
-    saved: &mut Saved,
+    images: &mut Images,
     damaged: Damaged,
-) -> Result<(u64, u64), Fail> {
+) -> Result<(u64, u64), DataFault> {
     let (mut told, mut untold) = (0u64, 0u64);
-    for row in 0..len_of(saved, damaged).div_ceil(STEP) {
+    for row in 0..len_of(images, damaged).div_ceil(STEP) {
         let at = row.wrapping_mul(STEP);
-        flip_in(saved, damaged, at);
-        if is_told(rt, alloc, moments, saved, damaged, at)? {
+        flip_in(images, damaged, at);
+        if is_told(rt, alloc, moments, images, damaged, at)? {
             told = told.wrapping_add(1);
         } else {
             untold = untold.wrapping_add(1);
         }
-        flip_in(saved, damaged, at);
+        flip_in(images, damaged, at);
     }
     Ok((told, untold))
+}
+
+/// Damages one of the files after all saves. How often it was told, and how often not.
+fn damage(
+    rt: &impl Abort,
+    alloc: Global,
+    moments: &[Moment],
+    damaged: Damaged,
+) -> Result<(u64, u64), Fail> {
+    let mut images = saved_files(alloc, moments)?;
+    Ok(damage_each(rt, alloc, moments, &mut images, damaged)?)
 }
 
 /// In the log it leaves the save before the last one, mostly.
@@ -142,10 +158,8 @@ fn damage_each(
 fn a_damaged_byte_of_the_log_leaves_the_last_save_or_the_one_before(
     rt: HostRuntime,
 ) -> Result<(), Fail> {
-    let alloc = rt.alloc();
-    let moments = small_moments(&rt, alloc, 0, 16)?;
-    let mut saved = saved_files(alloc, &moments)?;
-    let (told, untold) = damage_each(&rt, alloc, &moments, &mut saved, Damaged::Log)?;
+    let moments = small_moments(&rt, rt.alloc(), 0, 16)?;
+    let (told, untold) = damage(&rt, rt.alloc(), &moments, Damaged::Log)?;
     assert!(rt; untold > 20, "{told} {untold}");
     Ok(())
 }
@@ -155,10 +169,8 @@ fn a_damaged_byte_of_the_log_leaves_the_last_save_or_the_one_before(
 fn a_damaged_byte_of_the_database_is_told_or_leaves_the_last_save(
     rt: HostRuntime,
 ) -> Result<(), Fail> {
-    let alloc = rt.alloc();
-    let moments = small_moments(&rt, alloc, 0, 16)?;
-    let mut saved = saved_files(alloc, &moments)?;
-    let (told, untold) = damage_each(&rt, alloc, &moments, &mut saved, Damaged::Db)?;
+    let moments = small_moments(&rt, rt.alloc(), 0, 16)?;
+    let (told, untold) = damage(&rt, rt.alloc(), &moments, Damaged::Db)?;
     assert!(rt; told > 50, "{told} {untold}");
     Ok(())
 }

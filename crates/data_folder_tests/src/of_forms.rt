@@ -2,13 +2,13 @@
 //! the next one.
 
 use crate::files::{TestStore, USUAL};
-use crate::saves::{ALONE, TestFolder, WANTED, found_in, good_folder, save, save_all, saves_found};
+use crate::saves::{ALONE, Opening, WANTED, crashed, good_folder, opening_of, save_all, store_after};
 use crate::services::{
-    Moment, answer_of, few_moments, moments_before, moments_behind, moments_shrinking,
-    small_moments,
+    Moment, add_answer, few_moments, moments_behind, moments_shrinking, small_moments,
 };
-use data_folder::{DataFolder, Wanted};
-use sqlite_trees::store::Reopen;
+use data_folder::{DataFault, DataFolder, FoundCopy, Wanted};
+use service::ServiceRecord;
+use sqlite_trees::store::{Reopen, Store};
 use std::alloc::Global;
 use std::process::Abort;
 use std::test::Fail;
@@ -20,69 +20,60 @@ const OF_THREE: Wanted = Wanted {
     folders: 1,
 };
 
-/// Makes the save of this number, and crashes: the store, opened again.
-fn store_after(
+/// The folder of a store that is opened, and which of these saves is found.
+fn folder_of<S: Store + Drop>(
     alloc: Global,
-    folder: TestFolder,
-    number: usize,
-    moment: &Moment,
-) -> Result<TestStore, Fail> {
-    let mut folder = folder;
-    save(alloc, &mut folder, ALONE, number, moment)?;
-    let mut store = folder.into_store();
-    store.crash_and_reopen()?;
-    Ok(store)
-}
-
-/// Opens a folder that has to be found with so many saves.
-fn opened_after(
-    rt: &impl Abort,
-    alloc: Global,
-    store: TestStore,
+    store: S,
     moments: &[Moment],
-    number: usize,
     wanted: Wanted,
-) -> Result<TestFolder, Fail> {
-    let (folder, found) = DataFolder::over(alloc, store, wanted)?;
-    let saves = saves_found(alloc, &found, moments);
-    assert!(rt; saves == Some(number), "{number}: found {saves:?}");
-    Ok(folder)
+) -> Result<(DataFolder<S>, Opening), DataFault> {
+    match DataFolder::over(alloc, store, wanted) {
+        Ok((folder, found)) => Ok((folder, opening_of(alloc, &found, moments))),
+        Err(fault) => Err(fault),
+    }
 }
 
-/// Makes the save of this number, crashes, and opens the folder again.
-fn after_save(
-    rt: &impl Abort,
+/// Makes the save of this number, crashes, and opens the folder again: the folder, and which save is found.
+fn after_save<S: Reopen + Drop>(
     alloc: Global,
-    folder: TestFolder,
+    folder: DataFolder<S>,
     moments: &[Moment],
     row: (usize, &Moment),
     wanted: Wanted,
-) -> Result<TestFolder, Fail> {
+) -> Result<(DataFolder<S>, Opening), Fail> {
     let (number, moment) = row;
-    let store = store_after(alloc, folder, number, moment)?;
-    opened_after(rt, alloc, store, moments, number, wanted)
+    let store = store_after(alloc, folder, ALONE, number, moment)?;
+    let store = crashed(store)?;
+    Ok(folder_of(alloc, store, moments, wanted)?)
 }
 
 /// Makes each save, with a crash and an open after it.
-fn check_each(
-    rt: &impl Abort,
+fn save_and_crash<R: Abort, S: Reopen + Drop>(
+    rt: &R,
     alloc: Global,
+    folder: DataFolder<S>,
     moments: &[Moment],
     wanted: Wanted,
 ) -> Result<(), Fail> {
-    let mut folder = good_folder(alloc, USUAL)?;
+    let mut folder = folder;
     for (at, moment) in moments.iter().enumerate() {
-        let row = (at.wrapping_add(1), moment);
-        folder = after_save(rt, alloc, folder, moments, row, wanted)?;
+        let number = at.wrapping_add(1);
+        let (again, found) = after_save(alloc, folder, moments, (number, moment), wanted)?;
+        folder = again;
+        assert!(rt; found == Opening::Save(number), "{number}: {found:?}");
     }
     drop(folder);
     Ok(())
 }
 
-#[test]
-fn a_service_that_was_asked_nothing_is_found(rt: HostRuntime) -> Result<(), Fail> {
-    let moments = moments_before(rt.alloc())?;
-    check_each(&rt, rt.alloc(), &moments, WANTED)
+fn check_each<R: Abort>(
+    rt: &R,
+    alloc: Global,
+    moments: &[Moment],
+    wanted: Wanted,
+) -> Result<(), Fail> {
+    let folder = good_folder(alloc, USUAL)?;
+    save_and_crash(rt, alloc, folder, moments, wanted)
 }
 
 #[test]
@@ -116,16 +107,27 @@ fn a_state_that_shrinks_from_1025_items_is_found(rt: HostRuntime) -> Result<(), 
     check_each(&rt, rt.alloc(), &moments, WANTED)
 }
 
-/// The store after all saves.
-fn saved(alloc: Global, moments: &[Moment]) -> Result<TestStore, Fail> {
-    let mut folder = good_folder(alloc, USUAL)?;
-    let count = save_all(alloc, &mut folder, moments);
-    let store = folder.into_store();
-    if count == moments.len() {
-        Ok(store)
-    } else {
-        drop(store);
-        Err("not all saves succeeded".into())
+fn record_of(found: Option<FoundCopy>) -> Result<ServiceRecord, DataFault> {
+    match found {
+        Some(found) => Ok(found.into_service()),
+        None => Err(DataFault::NoData),
+    }
+}
+
+/// The record that is found after all saves.
+fn record_in<S: Store + Drop>(
+    alloc: Global,
+    folder: DataFolder<S>,
+    moments: &[Moment],
+) -> Result<ServiceRecord, DataFault> {
+    let mut folder = folder;
+    save_all(alloc, &mut folder, moments);
+    match DataFolder::over(alloc, folder.into_store(), WANTED) {
+        Ok((folder, found)) => {
+            drop(folder);
+            record_of(found)
+        }
+        Err(fault) => Err(fault),
     }
 }
 
@@ -134,9 +136,9 @@ fn saved(alloc: Global, moments: &[Moment]) -> Result<TestStore, Fail> {
 fn a_service_goes_on_from_what_is_found(rt: HostRuntime) -> Result<(), Fail> {
     let alloc = rt.alloc();
     let moments = small_moments(&rt, alloc, 0, 16)?;
-    let store = saved(alloc, &moments)?;
-    let found = found_in(alloc, store, WANTED)?.ok_or("it is not found")?;
-    let answer = answer_of(&rt, alloc, found.into_service(), b"get b c d\r\n")?;
+    let kept = record_in(alloc, good_folder(alloc, USUAL)?, &moments)?;
+    let mut answer = Vec::new(alloc);
+    add_answer(&rt, alloc, kept, b"get b c d\r\n", &mut answer)?;
     assert!(rt; answer.as_slice() == b"VALUE b 0 1\r\n9\r\nVALUE d 0 1\r\n8\r\nEND\r\n".as_slice());
     Ok(())
 }

@@ -1,11 +1,12 @@
 //! Copies in three folders, some of them of another site, or of an earlier save.
 
 use crate::files::{TestStore, USUAL};
-use crate::saves::{TestFolder, good_folder, is_record, save};
+use crate::saves::{TestFolder, good_folder, is_record, store_after};
 use crate::services::{Moment, small_moments};
-use data_folder::{CopyId, DataFault, DataFolder, Wanted};
-use data_folders::{FoldersFault, Opened};
+use data_folder::{CopyId, DataFault, DataFolder, SaveCopy, Wanted};
+use data_folders::{FolderCount, FolderCounts, FoldersFault, Opened};
 use service::ServiceRecord;
+use sqlite_trees::store::Store;
 use std::alloc::Global;
 use std::process::Abort;
 use std::test::Fail;
@@ -18,23 +19,18 @@ const OF_THREE: Wanted = Wanted {
     folders: 3,
 };
 
-/// Of three folders the site and the save of each, and what a start answers that opens them: the save that it goes on from,
-/// or a fault.
-type Row = ([(u64, usize); 3], Result<usize, FoldersFault>);
-
-const ROWS: [Row; 5] = [
-    ([(7, 1), (7, 1), (7, 1)], Ok(1)),
-    ([(7, 1), (7, 2), (7, 1)], Ok(2)),
-    ([(7, 2), (7, 1), (7, 2)], Ok(2)),
-    (
-        [(7, 2), (8, 1), (7, 1)],
-        Err(FoldersFault::At(0, DataFault::OtherSite)),
-    ),
-    (
-        [(7, 1), (7, 1), (8, 2)],
-        Err(FoldersFault::At(2, DataFault::OtherSite)),
-    ),
-];
+/// What one of three folders has.
+#[derive(Clone, Copy, Debug)]
+enum Has {
+    /// It cannot be opened.
+    NotOpen,
+    /// It is open, and nothing was saved in it.
+    Nothing,
+    /// The save of this number.
+    Save(usize),
+    /// The save of this number, of another site.
+    Other(usize),
+}
 
 /// The store of a folder after the save of this number.
 fn saved(
@@ -50,16 +46,46 @@ fn saved(
         folders: 3,
     };
     let moment = moments.get(number.wrapping_sub(1)).ok_or("no moment")?;
-    let mut folder = good_folder(alloc, USUAL)?;
-    save(alloc, &mut folder, id, number, moment)?;
-    Ok(folder.into_store())
+    let folder = good_folder(alloc, USUAL)?;
+    Ok(store_after(alloc, folder, id, number, moment)?)
+}
+
+/// The store of a folder. `None`: it cannot be opened.
+fn store_of(
+    alloc: Global,
+    at: usize,
+    has: Has,
+    moments: &[Moment],
+) -> Result<Option<TestStore>, Fail> {
+    match has {
+        Has::NotOpen => Ok(None),
+        Has::Nothing => Ok(Some(good_folder(alloc, USUAL)?.into_store())),
+        Has::Save(number) => Ok(Some(saved(alloc, at, 7, number, moments)?)),
+        Has::Other(number) => Ok(Some(saved(alloc, at, 8, number, moments)?)),
+    }
 }
 
 /// Opens one more folder.
-fn push(alloc: Global, opened: &mut Opened<TestFolder>, store: TestStore) -> Result<(), Fail> {
+fn push_open<S: Store + Drop>(
+    alloc: Global,
+    opened: &mut Opened<DataFolder<S>>,
+    store: S,
+) -> Result<(), DataFault> {
     match DataFolder::over(alloc, store, OF_THREE) {
         Ok((folder, found)) => Ok(opened.push(Some(folder), found)?),
-        Err(fault) => Err(fault.into()),
+        Err(fault) => Err(fault),
+    }
+}
+
+/// Opens one more folder, unless it cannot be opened.
+fn push<S: Store + Drop>(
+    alloc: Global,
+    opened: &mut Opened<DataFolder<S>>,
+    store: Option<S>,
+) -> Result<(), DataFault> {
+    match store {
+        Some(store) => push_open(alloc, opened, store),
+        None => Ok(opened.push(None, None)?),
     }
 }
 
@@ -67,11 +93,11 @@ fn push(alloc: Global, opened: &mut Opened<TestFolder>, store: TestStore) -> Res
 fn push_each(
     alloc: Global,
     opened: &mut Opened<TestFolder>,
-    folders: &[(u64, usize)],
+    row: &[Has],
     moments: &[Moment],
 ) -> Result<(), Fail> {
-    for (at, (site, number)) in folders.iter().enumerate() {
-        let store = saved(alloc, at, *site, *number, moments)?;
+    for (at, has) in row.iter().enumerate() {
+        let store = store_of(alloc, at, *has, moments)?;
         push(alloc, opened, store)?;
     }
     Ok(())
@@ -90,15 +116,17 @@ fn save_of(alloc: Global, kept: &Option<ServiceRecord>, moments: &[Moment]) -> u
     0
 }
 
-/// From which save a start goes on that opened these folders.
-fn begun<R: Threads + Sync>(
+/// From which save a start goes on that opened these folders. What is counted of each then is noted.
+fn begun<F: SaveCopy + Send + Drop, R: Threads + Sync>(
     rt: &R,
     alloc: Global,
-    opened: Opened<TestFolder>,
+    opened: Opened<F>,
     moments: &[Moment],
+    counts: &FolderCounts,
 ) -> Result<usize, FoldersFault> {
     match opened.begin(rt, alloc) {
         Ok((copies, record)) => {
+            counts.note(copies.slots());
             drop(copies);
             Ok(save_of(alloc, &record, moments))
         }
@@ -106,68 +134,49 @@ fn begun<R: Threads + Sync>(
     }
 }
 
+/// From which save a start goes on whose folders have this.
+fn start<R: Threads + Sync>(
+    rt: &R,
+    alloc: Global,
+    moments: &[Moment],
+    row: &[Has],
+    counts: &FolderCounts,
+) -> Result<Result<usize, FoldersFault>, Fail> {
+    let mut opened = Opened::new(alloc, 7);
+    push_each(alloc, &mut opened, row, moments)?;
+    Ok(begun(rt, alloc, opened, moments, counts))
+}
+
 fn check_row<R: Threads + Sync + Abort>(
     rt: &R,
     alloc: Global,
     moments: &[Moment],
-    row: &Row,
+    row: &[Has],
+    expected: Result<usize, FoldersFault>,
 ) -> Result<(), Fail> {
-    let (folders, expected) = *row;
-    let mut opened = Opened::new(alloc, 7);
-    push_each(alloc, &mut opened, &folders, moments)?;
-    let begun = begun(rt, alloc, opened, moments);
-    assert!(rt; begun == expected, "{folders:?}: {begun:?}");
+    let begun = start(rt, alloc, moments, row, &FolderCounts::none(alloc))?;
+    assert!(rt; begun == expected, "{row:?}: {begun:?}");
     Ok(())
 }
+
+/// The folder with the newest save is of one site, and another one is not.
+const OF_TWO_SITES: [([Has; 3], usize); 3] = [
+    ([Has::Save(2), Has::Other(1), Has::Save(1)], 0),
+    ([Has::Save(1), Has::Save(1), Has::Other(2)], 2),
+    ([Has::NotOpen, Has::Other(1), Has::Save(1)], 1),
+];
 
 #[test]
-fn a_start_goes_on_from_the_newest_save_of_one_site(rt: HostRuntime) -> Result<(), Fail> {
+fn a_start_takes_copies_of_one_site_alone(rt: HostRuntime) -> Result<(), Fail> {
     let moments = small_moments(&rt, rt.alloc(), 0, 2)?;
-    for row in &ROWS {
-        check_row(&rt, rt.alloc(), &moments, row)?;
+    for (row, at) in &OF_TWO_SITES {
+        let expected = Err(FoldersFault::At(*at, DataFault::OtherSite));
+        check_row(&rt, rt.alloc(), &moments, row, expected)?;
     }
     Ok(())
-}
-
-/// What one of three folders has.
-#[derive(Clone, Copy, Debug)]
-enum Has {
-    /// It cannot be opened.
-    NotOpen,
-    /// It is open, and nothing was saved in it.
-    Nothing,
-    Save(usize),
 }
 
 const CHOICES: [Has; 4] = [Has::NotOpen, Has::Nothing, Has::Save(1), Has::Save(2)];
-
-/// Opens one more folder, which has this.
-fn push_choice(
-    alloc: Global,
-    opened: &mut Opened<TestFolder>,
-    at: usize,
-    has: Has,
-    moments: &[Moment],
-) -> Result<(), Fail> {
-    match has {
-        Has::NotOpen => Ok(opened.push(None, None)?),
-        Has::Nothing => push(alloc, opened, good_folder(alloc, USUAL)?.into_store()),
-        Has::Save(number) => push(alloc, opened, saved(alloc, at, 7, number, moments)?),
-    }
-}
-
-/// Opens each folder.
-fn push_choices(
-    alloc: Global,
-    opened: &mut Opened<TestFolder>,
-    row: &[Has],
-    moments: &[Moment],
-) -> Result<(), Fail> {
-    for (at, has) in row.iter().enumerate() {
-        push_choice(alloc, opened, at, *has, moments)?;
-    }
-    Ok(())
-}
 
 /// In how many folders nothing was saved, in how many something was, and the last save in any of them.
 fn counts_of(row: &[Has]) -> (usize, usize, usize) {
@@ -176,7 +185,7 @@ fn counts_of(row: &[Has]) -> (usize, usize, usize) {
         match has {
             Has::NotOpen => {}
             Has::Nothing => empty = empty.wrapping_add(1),
-            Has::Save(number) => {
+            Has::Save(number) | Has::Other(number) => {
                 readable = readable.wrapping_add(1);
                 last = last.max(*number);
             }
@@ -200,29 +209,43 @@ fn expected_of(row: &[Has]) -> Result<usize, FoldersFault> {
     }
 }
 
-fn check_choices<R: Threads + Sync + Abort>(
-    rt: &R,
-    alloc: Global,
-    moments: &[Moment],
-    row: [Has; 3],
-) -> Result<(), Fail> {
-    let mut opened = Opened::new(alloc, 7);
-    push_choices(alloc, &mut opened, &row, moments)?;
-    let begun = begun(rt, alloc, opened, moments);
-    assert!(rt; begun == expected_of(&row), "{row:?}: {begun:?}");
-    Ok(())
-}
-
 #[test]
 fn a_start_needs_two_of_three_folders(rt: HostRuntime) -> Result<(), Fail> {
     let moments = small_moments(&rt, rt.alloc(), 0, 2)?;
-    for row in 0..64usize {
-        let choices = [
-            CHOICES[row % 4],
-            CHOICES[row / 4 % 4],
-            CHOICES[row / 16 % 4],
+    for at in 0..64usize {
+        let row = [
+            CHOICES[at % 4],
+            CHOICES[at / 4 % 4],
+            CHOICES[at / 16 % 4],
         ];
-        check_choices(&rt, rt.alloc(), &moments, choices)?;
+        check_row(&rt, rt.alloc(), &moments, &row, expected_of(&row))?;
     }
+    Ok(())
+}
+
+/// It is open and has the save with which the start begins, or it is not open.
+const OPEN: FolderCount = FolderCount {
+    is_open: true,
+    is_current: true,
+    made: 1,
+    failed: 0,
+};
+
+const NOT_OPEN: FolderCount = FolderCount {
+    is_open: false,
+    is_current: false,
+    made: 0,
+    failed: 1,
+};
+
+#[test]
+fn a_start_is_counted_in_each_folder(rt: HostRuntime) -> Result<(), Fail> {
+    let alloc = rt.alloc();
+    let moments = small_moments(&rt, alloc, 0, 2)?;
+    let counts = FolderCounts::new(alloc, 3)?;
+    let row = [Has::Save(2), Has::NotOpen, Has::Save(1)];
+    assert!(rt; start(&rt, alloc, &moments, &row, &counts)? == Ok(2));
+    assert!(rt; counts.count(0) == Some(OPEN) && counts.count(2) == Some(OPEN));
+    assert!(rt; counts.count(1) == Some(NOT_OPEN) && counts.count(3).is_none());
     Ok(())
 }

@@ -1,9 +1,10 @@
 //! What is asked of a folder, and what it has.
 
 use crate::files::{ALL, TestStore, USUAL, made};
-use crate::saves::{ALONE, NEW, WANTED, good_folder, save, stamp_of};
+use crate::saves::{ALONE, NEW, WANTED, good_folder, stamp_of, store_after};
 use crate::services::{Moment, small_moments};
 use data_folder::{CopyId, DataFault, DataFolder, FoundCopy, HostFolder, Wanted};
+use sqlite_trees::store::Store;
 use std::alloc::Global;
 use std::process::Abort;
 use std::test::Fail;
@@ -35,13 +36,12 @@ const ROWS: [Row; 8] = [
 
 /// The store after one save.
 fn saved(alloc: Global, id: CopyId, moment: &Moment) -> Result<TestStore, Fail> {
-    let mut folder = good_folder(alloc, USUAL)?;
-    save(alloc, &mut folder, id, 1, moment)?;
-    Ok(folder.into_store())
+    let folder = good_folder(alloc, USUAL)?;
+    Ok(store_after(alloc, folder, id, 1, moment)?)
 }
 
 /// The site of what was found. `NoData`: nothing was.
-fn site_of(found: Option<FoundCopy>) -> Result<u64, DataFault> {
+fn site_of(found: &Option<FoundCopy>) -> Result<u64, DataFault> {
     match found {
         Some(found) if found.stamp == stamp_of(1) => Ok(found.site),
         _ => Err(DataFault::NoData),
@@ -49,11 +49,11 @@ fn site_of(found: Option<FoundCopy>) -> Result<u64, DataFault> {
 }
 
 /// What an open of the store answers.
-fn opening_of(alloc: Global, store: TestStore, wanted: Wanted) -> Result<u64, DataFault> {
+fn site_in<S: Store + Drop>(alloc: Global, store: S, wanted: Wanted) -> Result<u64, DataFault> {
     match DataFolder::over(alloc, store, wanted) {
         Ok((folder, found)) => {
             drop(folder);
-            site_of(found)
+            site_of(&found)
         }
         Err(fault) => Err(fault),
     }
@@ -62,7 +62,7 @@ fn opening_of(alloc: Global, store: TestStore, wanted: Wanted) -> Result<u64, Da
 fn check_row(rt: &impl Abort, alloc: Global, moment: &Moment, row: &Row) -> Result<(), Fail> {
     let (id, (is_new, u, folders), expected) = *row;
     let store = saved(alloc, id, moment)?;
-    let answer = opening_of(alloc, store, wanted(is_new, u, folders));
+    let answer = site_in(alloc, store, wanted(is_new, u, folders));
     assert!(rt;
         answer == expected,
         "{id:?} {is_new} {u} {folders}: {answer:?}"
@@ -70,31 +70,40 @@ fn check_row(rt: &impl Abort, alloc: Global, moment: &Moment, row: &Row) -> Resu
     Ok(())
 }
 
-#[test]
-fn each_folder_that_is_not_as_wanted_has_its_fault(rt: HostRuntime) -> Result<(), Fail> {
-    let alloc = rt.alloc();
-    let moments = small_moments(&rt, alloc, 0, 1)?;
+fn check_rows(rt: &impl Abort, alloc: Global, moments: &[Moment]) -> Result<(), Fail> {
     let first = moments.first().ok_or("no moment")?;
     for row in &ROWS {
-        check_row(&rt, alloc, first, row)?;
+        check_row(rt, alloc, first, row)?;
     }
     Ok(())
+}
+
+#[test]
+fn each_folder_that_is_not_as_wanted_has_its_fault(rt: HostRuntime) -> Result<(), Fail> {
+    let moments = small_moments(&rt, rt.alloc(), 0, 1)?;
+    check_rows(&rt, rt.alloc(), &moments)
+}
+
+/// What an open of a store answers in which nothing was saved.
+fn site_in_new(alloc: Global, wanted: Wanted) -> Result<u64, DataFault> {
+    match made(alloc, USUAL, ALL)? {
+        Some(store) => site_in(alloc, store, wanted),
+        None => Err(DataFault::Disk),
+    }
 }
 
 /// Until something was saved a folder may be opened as new or not, with any u.
 #[test]
-fn a_folder_in_which_nothing_was_saved_has_nothing(rt: HostRuntime) -> Result<(), Fail> {
-    for row in [NEW, WANTED, wanted(false, 3, 5), wanted(true, 3, 5)] {
-        let store = made(rt.alloc(), USUAL, ALL)?.ok_or("it is not made")?;
-        let answer = opening_of(rt.alloc(), store, row);
+fn a_folder_in_which_nothing_was_saved_has_nothing(rt: HostRuntime) {
+    for row in &[NEW, WANTED, wanted(false, 3, 5), wanted(true, 3, 5)] {
+        let answer = site_in_new(rt.alloc(), *row);
         assert!(rt; answer == Err(DataFault::NoData), "{row:?}: {answer:?}");
     }
-    Ok(())
 }
 
-/// What an open of a folder of the file system answers that is not there.
-fn fault_of(rt: &HostRuntime, wanted: Wanted) -> Option<DataFault> {
-    match HostFolder::open(rt, "no/such/folder", wanted, true) {
+/// Why a folder of the file system is not opened.
+fn fault_of(opened: Result<(HostFolder, Option<FoundCopy>), DataFault>) -> Option<DataFault> {
+    match opened {
         Ok((folder, found)) => {
             drop(folder);
             drop(found);
@@ -105,8 +114,9 @@ fn fault_of(rt: &HostRuntime, wanted: Wanted) -> Option<DataFault> {
 }
 
 #[test]
-fn without_the_folder_there_is_no_data_and_no_new_file(rt: HostRuntime) -> Result<(), Fail> {
-    assert!(rt; fault_of(&rt, WANTED) == Some(DataFault::NoData));
-    assert!(rt; fault_of(&rt, NEW) == Some(DataFault::CannotOpen));
-    Ok(())
+fn without_the_folder_there_is_no_data_and_no_new_file(rt: HostRuntime) {
+    let old = fault_of(HostFolder::open(&rt, "no/such/folder", WANTED, true));
+    assert!(rt; old == Some(DataFault::NoData));
+    let new = fault_of(HostFolder::open(&rt, "no/such/folder", NEW, true));
+    assert!(rt; new == Some(DataFault::CannotOpen));
 }

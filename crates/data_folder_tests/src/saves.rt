@@ -1,12 +1,12 @@
 //! Saves in a folder, and which of them it is found with.
 
 use crate::contents::content_of;
-use crate::files::{ALL, Calls, Layout, TestStore, made};
+use crate::files::{ALL, Calls, Images, Layout, TestStore, made, opened};
 use crate::services::Moment;
 use data_folder::{CopyId, DataFault, DataFolder, FoundCopy, SaveCopy, StoredRecord, Wanted};
 use folders::SaveStamp;
-use server::SaveFault;
-use service::ServiceRecord;
+use service::{SaveFault, ServiceRecord};
+use sqlite_trees::error::StoreError;
 use sqlite_trees::store::{Reopen, Store};
 use std::alloc::Global;
 
@@ -34,11 +34,38 @@ pub const NEW: Wanted = Wanted {
     folders: 1,
 };
 
+/// What an open of a folder comes to.
+#[derive(Clone, Copy, Debug, PartialEq, Eq)]
+pub enum Opening {
+    /// It is refused.
+    Refused,
+    /// The record of the save of this number is found, or no record, if it is 0.
+    Save(usize),
+    /// Another record is found, or an allocation failed when it was compared.
+    Other,
+}
+
+/// Whether so many saves are found, or those and the next one.
+pub fn is_old_or_new(opening: Opening, saved: usize) -> bool {
+    opening == Opening::Save(saved) || opening == Opening::Save(saved.wrapping_add(1))
+}
+
 /// The stamp of the save of this number, from 1.
 pub fn stamp_of(number: usize) -> SaveStamp {
     SaveStamp {
         start: 1,
         save: number as u64,
+    }
+}
+
+/// The folder of a store without data. `None`: it cannot be opened.
+fn folder_over<S: Store + Drop>(alloc: Global, store: S) -> Option<DataFolder<S>> {
+    match DataFolder::over(alloc, store, NEW) {
+        Ok((folder, found)) => {
+            drop(found);
+            Some(folder)
+        }
+        Err(_) => None,
     }
 }
 
@@ -48,21 +75,18 @@ pub fn new_folder(
     layout: Layout,
     calls: Calls,
 ) -> Result<Option<TestFolder>, DataFault> {
-    let Some(store) = made(alloc, layout, calls)? else {
-        return Ok(None);
-    };
-    match DataFolder::over(alloc, store, NEW) {
-        Ok((folder, found)) => {
-            drop(found);
-            Ok(Some(folder))
-        }
-        Err(_) => Ok(None),
+    match made(alloc, layout, calls)? {
+        Some(store) => Ok(folder_over(alloc, store)),
+        None => Ok(None),
     }
 }
 
 /// A folder without data, whose files do not stop.
 pub fn good_folder(alloc: Global, layout: Layout) -> Result<TestFolder, DataFault> {
-    new_folder(alloc, layout, ALL)?.ok_or(DataFault::Disk)
+    match new_folder(alloc, layout, ALL)? {
+        Some(folder) => Ok(folder),
+        None => Err(DataFault::Disk),
+    }
 }
 
 /// Makes the save of this number.
@@ -89,18 +113,35 @@ pub fn save_all<F: SaveCopy>(alloc: Global, folder: &mut F, moments: &[Moment]) 
     count
 }
 
-/// What is found in a store that is opened.
-pub fn found_in<S: Store + Drop>(
+/// Makes the save of this number: the store after it.
+pub fn store_after<S: Store + Drop>(
     alloc: Global,
-    store: S,
-    wanted: Wanted,
-) -> Result<Option<FoundCopy>, DataFault> {
-    match DataFolder::over(alloc, store, wanted) {
-        Ok((folder, found)) => {
-            drop(folder);
-            Ok(found)
+    folder: DataFolder<S>,
+    id: CopyId,
+    number: usize,
+    moment: &Moment,
+) -> Result<S, SaveFault> {
+    let mut folder = folder;
+    let saved = save(alloc, &mut folder, id, number, moment);
+    let store = folder.into_store();
+    match saved {
+        Ok(()) => Ok(store),
+        Err(fault) => {
+            drop(store);
+            Err(fault)
         }
-        Err(fault) => Err(fault),
+    }
+}
+
+/// The machine stops, and the store is opened again.
+pub fn crashed<S: Reopen + Drop>(store: S) -> Result<S, StoreError> {
+    let mut store = store;
+    match store.crash_and_reopen() {
+        Ok(()) => Ok(store),
+        Err(error) => {
+            drop(store);
+            Err(error)
+        }
     }
 }
 
@@ -119,69 +160,64 @@ fn moment_at(moments: &[Moment], number: usize) -> Option<&Moment> {
     moments.get(number.checked_sub(1)?)
 }
 
-/// Which save this is of. `None`: of none of them, or an allocation failed.
-fn number_of(alloc: Global, found: &FoundCopy, moments: &[Moment]) -> Option<usize> {
-    let number = usize::try_from(found.stamp.save).ok()?;
-    let moment = moment_at(moments, number)?;
-    if found.stamp == stamp_of(number) && is_record(alloc, &found.service, moment) {
-        Some(number)
-    } else {
-        None
-    }
-}
-
-/// After how many of these saves this is found. `None`: after none of them, or an allocation failed.
-pub fn saves_found(alloc: Global, found: &Option<FoundCopy>, moments: &[Moment]) -> Option<usize> {
-    match found {
-        Some(found) => number_of(alloc, found, moments),
-        None => Some(0),
-    }
-}
-
-/// The same. `None` also if it cannot be opened.
-pub fn saves_in(
-    alloc: Global,
-    found: &Result<Option<FoundCopy>, DataFault>,
-    moments: &[Moment],
-) -> Option<usize> {
-    match found {
-        Ok(found) => saves_found(alloc, found, moments),
-        Err(_) => None,
-    }
-}
-
-/// After how many of these saves a store is found.
-pub fn saves_of<S: Store + Drop>(alloc: Global, store: S, moments: &[Moment]) -> Option<usize> {
-    let found = found_in(alloc, store, WANTED);
-    saves_in(alloc, &found, moments)
-}
-
-/// What is found in a folder after a crash.
-fn found_after_crash<S: Reopen + Drop>(
-    alloc: Global,
-    folder: DataFolder<S>,
-) -> Result<Option<FoundCopy>, DataFault> {
-    let mut store = folder.into_store();
-    match store.crash_and_reopen() {
-        Ok(()) => found_in(alloc, store, WANTED),
-        Err(error) => {
-            drop(store);
-            Err(error.into())
+/// Whether this is of the save of this number.
+fn is_save(alloc: Global, found: &FoundCopy, moments: &[Moment], number: usize) -> bool {
+    match moment_at(moments, number) {
+        Some(moment) => {
+            found.stamp == stamp_of(number) && is_record(alloc, &found.service, moment)
         }
+        None => false,
     }
 }
 
-/// After how many of these saves a folder is found after a crash.
-pub fn saves_after_crash<S: Reopen + Drop>(
+/// Which of these saves this is of.
+fn opening_with(alloc: Global, found: &FoundCopy, moments: &[Moment]) -> Opening {
+    match usize::try_from(found.stamp.save) {
+        Ok(number) if is_save(alloc, found, moments, number) => Opening::Save(number),
+        _ => Opening::Other,
+    }
+}
+
+/// Which of these saves is found.
+pub fn opening_of(alloc: Global, found: &Option<FoundCopy>, moments: &[Moment]) -> Opening {
+    match found {
+        Some(found) => opening_with(alloc, found, moments),
+        None => Opening::Save(0),
+    }
+}
+
+/// Which of these saves is found in a store that is opened.
+pub fn opening_over<S: Store + Drop>(alloc: Global, store: S, moments: &[Moment]) -> Opening {
+    match DataFolder::over(alloc, store, WANTED) {
+        Ok((folder, found)) => {
+            drop(folder);
+            opening_of(alloc, &found, moments)
+        }
+        Err(_) => Opening::Refused,
+    }
+}
+
+/// Which of these saves is found in files with this content.
+pub fn opening_in(
+    alloc: Global,
+    images: &Images,
+    layout: Layout,
+    moments: &[Moment],
+) -> Result<Opening, DataFault> {
+    match opened(alloc, images, layout)? {
+        Some(store) => Ok(opening_over(alloc, store, moments)),
+        None => Ok(Opening::Refused),
+    }
+}
+
+/// Which of these saves is found in a folder after a crash.
+pub fn opening_after_crash<S: Reopen + Drop>(
     alloc: Global,
     folder: DataFolder<S>,
     moments: &[Moment],
-) -> Option<usize> {
-    let found = found_after_crash(alloc, folder);
-    saves_in(alloc, &found, moments)
-}
-
-/// Whether so many saves, or those and the next one, are found.
-pub fn is_old_or_new(found: Option<usize>, saved: usize) -> bool {
-    found == Some(saved) || found == Some(saved.wrapping_add(1))
+) -> Opening {
+    match crashed(folder.into_store()) {
+        Ok(store) => opening_over(alloc, store, moments),
+        Err(_) => Opening::Refused,
+    }
 }

@@ -1,6 +1,6 @@
 //! Services that are asked commands, and what is saved of them.
 
-use crate::commands::{Command, FEW_ITEMS, LARGE_ITEMS, SMALL_ITEMS};
+use crate::commands::{BEHIND, Command, FEW_ITEMS, LARGE_ITEMS, SHRINK, SMALL_ITEMS};
 use crate::contents::Content;
 use data_folder::StoredRecord;
 use service::{Config, Dialect, Fault, Replica, Said, Service, ServiceRecord};
@@ -16,10 +16,33 @@ const PROXIES: u16 = 4;
 const MOST_TICKS: usize = 2000;
 
 /// What is saved of a service at some moment, and what items it has then.
-#[derive(Drop)]
 pub struct Moment {
     pub stored: StoredRecord,
     pub content: Content,
+}
+
+impl Drop for Moment {
+    fn drop(self) {
+        let Moment {
+            stored: _,
+            content: _,
+        } = self;
+    }
+}
+
+/// What is done with a service.
+#[derive(Clone, Copy)]
+enum Step<'a> {
+    /// What it has is noted.
+    Note,
+    /// Its one connection comes.
+    Come,
+    /// The connection asks each command, and what the service has is noted after each. It has so many other items.
+    Ask(&'a [Command], u64),
+    /// So many items are stored, which are due at moment 110.
+    Fill(u64),
+    /// The executor of this number stops.
+    Stop(u8),
 }
 
 /// The line, and the block if there is one.
@@ -28,16 +51,40 @@ fn piece_of(alloc: Global, command: &Command) -> Result<Vec<u8>, AllocError> {
     let mut piece = Vec::from_slice(alloc, line)?;
     piece.extend_from_slice(b"\r\n")?;
     if count > 0 {
-        let block = vec![in alloc; byte; count]?;
-        piece.extend_from_slice(&block)?;
+        let end = piece.len().saturating_add(count);
+        piece.resize(end, byte)?;
         piece.extend_from_slice(b"\r\n")?;
     }
     Ok(piece)
 }
 
-/// What the one connection of a service was given is written: else it is not asked for more.
+/// What a connection was given is written: else it is not asked for more.
 fn write(service: &mut Service, said: &Said) {
-    let _ = service.written(0, 1, said.bytes.len());
+    let _ = service.written(said.key, said.number, said.bytes.len());
+}
+
+fn write_all(service: &mut Service, given: &[Said]) {
+    for said in given {
+        write(service, said);
+    }
+}
+
+/// The connection of this number says this.
+fn hear(alloc: Global, service: &mut Service, number: u64, piece: Vec<u8>) -> Result<(), Fault> {
+    let said = service.hear(alloc, 0, number, piece)?;
+    write(service, &said);
+    Ok(())
+}
+
+/// The replicas work.
+fn work<R: Threads + Wait + Sync + Clock>(
+    rt: &R,
+    alloc: Global,
+    service: &mut Service,
+    moment: u32,
+) {
+    let given = service.work(rt, rt, alloc, moment);
+    write_all(service, &given);
 }
 
 /// The one connection of a service asks this, and the replicas work.
@@ -48,11 +95,8 @@ fn ask<R: Threads + Wait + Sync + Clock>(
     moment: u32,
     piece: Vec<u8>,
 ) -> Result<(), Fault> {
-    let said = service.hear(alloc, 0, 1, piece)?;
-    write(service, &said);
-    for said in service.work(rt, rt, alloc, moment) {
-        write(service, &said);
-    }
+    hear(alloc, service, 1, piece)?;
+    work(rt, alloc, service, moment);
     Ok(())
 }
 
@@ -65,29 +109,38 @@ fn moment_of(alloc: Global, service: &Service, content: Content) -> Result<Momen
     }
 }
 
-/// What the service has after this command.
-fn moment_after<R: Threads + Wait + Sync + Clock>(
+/// Notes what the service has now.
+fn note(
+    alloc: Global,
+    service: &Service,
+    content: Content,
+    moments: &mut Vec<Moment>,
+) -> Result<(), Fault> {
+    let moment = moment_of(alloc, service, content)?;
+    moments.push(moment)?;
+    Ok(())
+}
+
+/// The connection asks this, and what the service has is noted.
+fn ask_one<R: Threads + Wait + Sync + Clock>(
     rt: &R,
     alloc: Global,
     service: &mut Service,
     command: &Command,
     others: u64,
-) -> Result<Moment, Fault> {
+    moments: &mut Vec<Moment>,
+) -> Result<(), Fault> {
     let (moment, _, _, first) = *command;
     let piece = piece_of(alloc, command)?;
     ask(rt, alloc, service, moment, piece)?;
-    moment_of(
-        alloc,
-        service,
-        Content {
-            first: *first,
-            others,
-        },
-    )
+    let content = Content {
+        first: *first,
+        others,
+    };
+    note(alloc, service, content, moments)
 }
 
-/// Adds what the service has after each command, beside so many other items.
-fn push_each<R: Threads + Wait + Sync + Clock>(
+fn ask_each<R: Threads + Wait + Sync + Clock>(
     rt: &R,
     alloc: Global,
     service: &mut Service,
@@ -96,121 +149,15 @@ fn push_each<R: Threads + Wait + Sync + Clock>(
     moments: &mut Vec<Moment>,
 ) -> Result<(), Fault> {
     for command in commands {
-        let moment = moment_after(rt, alloc, service, command, others)?;
-        moments.push(moment)?;
+        ask_one(rt, alloc, service, command, others, moments)?;
     }
     Ok(())
 }
 
-/// A service of `2u + 1` executors.
-fn service_of(alloc: Global, u: u8) -> Result<Service, Fault> {
-    let config = Config::new(u, PROXIES)?;
-    Service::open(alloc, &config, Dialect::Profile)
-}
-
-fn play<R: Threads + Wait + Sync + Clock>(
-    rt: &R,
-    alloc: Global,
-    service: &mut Service,
-    commands: &[Command],
-    moments: &mut Vec<Moment>,
-) -> Result<(), Fault> {
-    service.come(alloc, 0, 1)?;
-    push_each(rt, alloc, service, commands, 0, moments)
-}
-
-/// What a service of `2u + 1` executors has after each command.
-fn moments_of<R: Threads + Wait + Sync + Clock>(
-    rt: &R,
-    alloc: Global,
-    u: u8,
-    commands: &[Command],
-) -> Result<Vec<Moment>, Fault> {
-    let mut moments = Vec::new(alloc);
-    let mut service = service_of(alloc, u)?;
-    let played = play(rt, alloc, &mut service, commands, &mut moments);
-    service.end();
-    played?;
-    Ok(moments)
-}
-
-/// What a service of `2u + 1` executors has after each of the first so many commands of `SMALL_ITEMS`.
-pub fn small_moments<R: Threads + Wait + Sync + Clock>(
-    rt: &R,
-    alloc: Global,
-    u: u8,
-    count: usize,
-) -> Result<Vec<Moment>, Fault> {
-    moments_of(rt, alloc, u, &SMALL_ITEMS[..count.min(SMALL_ITEMS.len())])
-}
-
-/// What a service of one executor has after each of `LARGE_ITEMS`.
-pub fn large_moments<R: Threads + Wait + Sync + Clock>(
-    rt: &R,
-    alloc: Global,
-) -> Result<Vec<Moment>, Fault> {
-    moments_of(rt, alloc, 0, &LARGE_ITEMS)
-}
-
-/// What a service of one executor has after each of `FEW_ITEMS`.
-pub fn few_moments<R: Threads + Wait + Sync + Clock>(
-    rt: &R,
-    alloc: Global,
-) -> Result<Vec<Moment>, Fault> {
-    moments_of(rt, alloc, 0, &FEW_ITEMS)
-}
-
-/// What a service of one executor has that was asked nothing.
-pub fn moments_before(alloc: Global) -> Result<Vec<Moment>, Fault> {
-    let mut moments = Vec::with_capacity(alloc, 1)?;
-    let service = service_of(alloc, 0)?;
-    let content = Content {
-        first: *b"-----",
-        others: 0,
-    };
-    let first = moment_of(alloc, &service, content);
-    service.end();
-    let first = first?;
-    moments.push(first)?;
-    Ok(moments)
-}
-
-/// Before the executor stops, and while it is down.
-const BEHIND: [Command; 3] = [
-    (100, b"set a 0 0 1", (b'1', 1), b"1----"),
-    (101, b"set b 0 0 1", (b'2', 1), b"12---"),
-    (102, b"delete a", (0, 0), b"-2---"),
-];
-
-fn play_behind<R: Threads + Wait + Sync + Clock>(
-    rt: &R,
-    alloc: Global,
-    service: &mut Service,
-    moments: &mut Vec<Moment>,
-) -> Result<(), Fault> {
-    service.come(alloc, 0, 1)?;
-    push_each(rt, alloc, service, &BEHIND[..1], 0, moments)?;
-    service.stop(Replica::Executor(2));
-    push_each(rt, alloc, service, &BEHIND[1..], 0, moments)
-}
-
-/// What a service of three executors has after each command, one of which is down from the second on.
-pub fn moments_behind<R: Threads + Wait + Sync + Clock>(
-    rt: &R,
-    alloc: Global,
-) -> Result<Vec<Moment>, Fault> {
-    let mut moments = Vec::new(alloc);
-    let mut service = service_of(alloc, 1)?;
-    let played = play_behind(rt, alloc, &mut service, &mut moments);
-    service.end();
-    played?;
-    Ok(moments)
-}
-
 /// An item of one byte under this number, which is due at moment 110.
-fn item_piece(alloc: Global, number: u64) -> Result<Vec<u8>, Fault> {
+fn item_piece(alloc: Global, number: u64) -> Result<Vec<u8>, AllocError> {
     let text = format!(in alloc; "set item{number} 0 10 1\r\n1\r\n")?;
-    Ok(Vec::from_slice(alloc, text.as_bytes())?)
+    Vec::from_slice(alloc, text.as_bytes())
 }
 
 /// Stores so many items.
@@ -227,85 +174,200 @@ fn fill<R: Threads + Wait + Sync + Clock>(
     Ok(())
 }
 
-/// Beside all the items, and when they are due.
-const SHRINK: [Command; 3] = [
-    (101, b"get a", (0, 0), b"-----"),
-    (110, b"set a 0 0 1", (b'1', 1), b"1----"),
-    (111, b"set b 0 0 1", (b'2', 1), b"12---"),
-];
-
-fn play_shrinking<R: Threads + Wait + Sync + Clock>(
+fn go<R: Threads + Wait + Sync + Clock>(
     rt: &R,
     alloc: Global,
     service: &mut Service,
-    count: u64,
+    step: Step<'_>,
     moments: &mut Vec<Moment>,
 ) -> Result<(), Fault> {
-    service.come(alloc, 0, 1)?;
-    fill(rt, alloc, service, count)?;
-    push_each(rt, alloc, service, &SHRINK[..1], count, moments)?;
-    push_each(rt, alloc, service, &SHRINK[1..], 0, moments)
+    match step {
+        Step::Note => note(alloc, service, Content::NONE, moments),
+        Step::Come => service.come(alloc, 0, 1),
+        Step::Ask(commands, others) => ask_each(rt, alloc, service, commands, others, moments),
+        Step::Fill(count) => fill(rt, alloc, service, count),
+        Step::Stop(executor) => {
+            service.stop(Replica::Executor(executor));
+            Ok(())
+        }
+    }
 }
 
-/// What a service has with so many items, and when they are gone.
+fn go_through<R: Threads + Wait + Sync + Clock>(
+    rt: &R,
+    alloc: Global,
+    service: &mut Service,
+    steps: &[Step<'_>],
+    moments: &mut Vec<Moment>,
+) -> Result<(), Fault> {
+    for step in steps {
+        go(rt, alloc, service, *step, moments)?;
+    }
+    Ok(())
+}
+
+/// A service of `2u + 1` executors.
+fn service_of(alloc: Global, u: u8) -> Result<Service, Fault> {
+    let config = Config::new(u, PROXIES)?;
+    Service::open(alloc, &config, Dialect::Profile)
+}
+
+/// Opens a service of `2u + 1` executors, and goes through these steps.
+fn play<R: Threads + Wait + Sync + Clock>(
+    rt: &R,
+    alloc: Global,
+    u: u8,
+    steps: &[Step<'_>],
+    moments: &mut Vec<Moment>,
+) -> Result<(), Fault> {
+    let mut service = service_of(alloc, u)?;
+    let played = go_through(rt, alloc, &mut service, steps, moments);
+    service.end();
+    played
+}
+
+/// What a service of `2u + 1` executors has when it is noted.
+fn moments_of<R: Threads + Wait + Sync + Clock>(
+    rt: &R,
+    alloc: Global,
+    u: u8,
+    steps: &[Step<'_>],
+) -> Result<Vec<Moment>, Fault> {
+    let mut moments = Vec::new(alloc);
+    play(rt, alloc, u, steps, &mut moments)?;
+    Ok(moments)
+}
+
+/// The first so many commands.
+fn first_of(commands: &[Command], count: usize) -> &[Command] {
+    &commands[..count.min(commands.len())]
+}
+
+/// What a service of `2u + 1` executors has after each of the first so many commands of `SMALL_ITEMS`.
+pub fn small_moments<R: Threads + Wait + Sync + Clock>(
+    rt: &R,
+    alloc: Global,
+    u: u8,
+    count: usize,
+) -> Result<Vec<Moment>, Fault> {
+    let steps = [Step::Come, Step::Ask(first_of(&SMALL_ITEMS, count), 0)];
+    moments_of(rt, alloc, u, &steps)
+}
+
+/// What a service of one executor has after each of `LARGE_ITEMS`.
+pub fn large_moments<R: Threads + Wait + Sync + Clock>(
+    rt: &R,
+    alloc: Global,
+) -> Result<Vec<Moment>, Fault> {
+    moments_of(rt, alloc, 0, &[Step::Come, Step::Ask(&LARGE_ITEMS, 0)])
+}
+
+/// What a service of one executor has that was asked nothing, when its connection has come, and after each of `FEW_ITEMS`.
+pub fn few_moments<R: Threads + Wait + Sync + Clock>(
+    rt: &R,
+    alloc: Global,
+) -> Result<Vec<Moment>, Fault> {
+    let steps = [
+        Step::Note,
+        Step::Come,
+        Step::Note,
+        Step::Ask(&FEW_ITEMS, 0),
+    ];
+    moments_of(rt, alloc, 0, &steps)
+}
+
+/// What a service of three executors has after each command, one of which is down from the second on.
+pub fn moments_behind<R: Threads + Wait + Sync + Clock>(
+    rt: &R,
+    alloc: Global,
+) -> Result<Vec<Moment>, Fault> {
+    let steps = [
+        Step::Come,
+        Step::Ask(&BEHIND[..1], 0),
+        Step::Stop(2),
+        Step::Ask(&BEHIND[1..], 0),
+    ];
+    moments_of(rt, alloc, 1, &steps)
+}
+
+/// What a service of one executor has with so many items, and when they are gone.
 pub fn moments_shrinking<R: Threads + Wait + Sync + Clock>(
     rt: &R,
     alloc: Global,
     count: u64,
 ) -> Result<Vec<Moment>, Fault> {
-    let mut moments = Vec::new(alloc);
-    let mut service = service_of(alloc, 0)?;
-    let played = play_shrinking(rt, alloc, &mut service, count, &mut moments);
-    service.end();
-    played?;
-    Ok(moments)
+    let steps = [
+        Step::Come,
+        Step::Fill(count),
+        Step::Ask(&SHRINK[..1], count),
+        Step::Ask(&SHRINK[1..], 0),
+    ];
+    moments_of(rt, alloc, 0, &steps)
 }
 
-/// What the service gives, in a tick and the work after it.
-fn tick<R: Threads + Wait + Sync + Clock>(
-    rt: &R,
-    alloc: Global,
-    service: &mut Service,
-    given: &mut Vec<u8>,
-) -> Result<(), Fault> {
-    service.tick(alloc);
-    for said in service.work(rt, rt, alloc, 200) {
-        given.extend_from_slice(said.bytes.as_slice())?;
+/// Adds what was given.
+fn add_all(given: &[Said], answer: &mut Vec<u8>) -> Result<(), AllocError> {
+    for said in given {
+        answer.extend_from_slice(said.bytes.as_slice())?;
     }
     Ok(())
 }
 
-/// The bytes that the connection of this number is given for these. They are empty if it is not answered.
-fn answer_to<R: Threads + Wait + Sync + Clock>(
+/// A tick, and the work after it, at moment 200: what is given is added.
+fn tick<R: Threads + Wait + Sync + Clock>(
+    rt: &R,
+    alloc: Global,
+    service: &mut Service,
+    answer: &mut Vec<u8>,
+) -> Result<(), AllocError> {
+    service.tick(alloc);
+    let given = service.work(rt, rt, alloc, 200);
+    add_all(&given, answer)
+}
+
+/// Ticks come until something was given.
+fn tick_until_given<R: Threads + Wait + Sync + Clock>(
+    rt: &R,
+    alloc: Global,
+    service: &mut Service,
+    answer: &mut Vec<u8>,
+) -> Result<(), AllocError> {
+    for _ in 0..MOST_TICKS {
+        if !answer.is_empty() {
+            return Ok(());
+        }
+        tick(rt, alloc, service, answer)?;
+    }
+    Ok(())
+}
+
+/// A connection of this number comes and says these bytes: what it is given is added.
+fn ask_for<R: Threads + Wait + Sync + Clock>(
     rt: &R,
     alloc: Global,
     service: &mut Service,
     number: u64,
     bytes: &[u8],
-) -> Result<Vec<u8>, Fault> {
-    let mut given = Vec::new(alloc);
+    answer: &mut Vec<u8>,
+) -> Result<(), Fault> {
     service.come(alloc, 0, number)?;
     let piece = Vec::from_slice(alloc, bytes)?;
-    let said = service.hear(alloc, 0, number, piece)?;
-    drop(said);
-    for _ in 0..MOST_TICKS {
-        if given.is_empty() {
-            tick(rt, alloc, service, &mut given)?;
-        }
-    }
-    Ok(given)
+    hear(alloc, service, number, piece)?;
+    tick_until_given(rt, alloc, service, answer)?;
+    Ok(())
 }
 
-/// What a service that goes on from this record answers to these bytes.
-pub fn answer_of<R: Threads + Wait + Sync + Clock>(
+/// What a service that goes on from this record answers to these bytes is added. It is nothing if it does not answer.
+pub fn add_answer<R: Threads + Wait + Sync + Clock>(
     rt: &R,
     alloc: Global,
     kept: ServiceRecord,
     bytes: &[u8],
-) -> Result<Vec<u8>, Fault> {
+    answer: &mut Vec<u8>,
+) -> Result<(), Fault> {
     let number = kept.next();
     let mut service = Service::reopen(alloc, kept, Dialect::Profile)?;
-    let answer = answer_to(rt, alloc, &mut service, number, bytes);
+    let asked = ask_for(rt, alloc, &mut service, number, bytes, answer);
     service.end();
-    answer
+    asked
 }
