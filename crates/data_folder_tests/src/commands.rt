@@ -8,7 +8,7 @@ pub type Command = (u32, &'static [u8], (u8, usize), &'static [u8; 5]);
 const NONE: (u8, usize) = (0, 0);
 
 /// Small items, one of some pages and a reply of as many, and two that are due: `c` at moment 110, and `e` at moment 112.
-pub const SMALL_ITEMS: [Command; 16] = [
+pub const SMALL_ITEMS: &[Command] = &[
     (100, b"set a 0 0 1", (b'1', 1), b"1----"),
     (100, b"set b 5 0 1", (b'2', 1), b"12---"),
     (100, b"set c 0 10 200", (b'3', 200), b"123--"),
@@ -28,7 +28,7 @@ pub const SMALL_ITEMS: [Command; 16] = [
 ];
 
 /// Items of 1 MiB. The first five are more than 4 MiB, so later saves write them to their rows.
-pub const LARGE_ITEMS: [Command; 9] = [
+pub const LARGE_ITEMS: &[Command] = &[
     (100, b"set a 0 0 1048576", (b'1', 1_048_576), b"1----"),
     (100, b"set b 0 0 1048576", (b'2', 1_048_576), b"12---"),
     (100, b"set c 0 0 1048576", (b'3', 1_048_576), b"123--"),
@@ -41,22 +41,26 @@ pub const LARGE_ITEMS: [Command; 9] = [
 ];
 
 /// No items, one, and none again.
-pub const FEW_ITEMS: [Command; 3] = [
+pub const FEW_ITEMS: &[Command] = &[
     (100, b"get a", NONE, b"-----"),
     (100, b"set a 0 0 1", (b'1', 1), b"1----"),
     (100, b"delete a", NONE, b"-----"),
 ];
 
-/// The first, before an executor stops, and the others while it is down.
-pub const BEHIND: [Command; 3] = [
-    (100, b"set a 0 0 1", (b'1', 1), b"1----"),
+/// Before an executor stops.
+pub const BEFORE_A_STOP: &[Command] = &[(100, b"set a 0 0 1", (b'1', 1), b"1----")];
+
+/// While it is down.
+pub const AFTER_A_STOP: &[Command] = &[
     (101, b"set b 0 0 1", (b'2', 1), b"12---"),
     (102, b"delete a", NONE, b"-2---"),
 ];
 
-/// The first beside many items that are due at moment 110, and the others when these are gone.
-pub const SHRINK: [Command; 3] = [
-    (101, b"get a", NONE, b"-----"),
+/// Beside many items that are due at moment 110.
+pub const BESIDE_MANY: &[Command] = &[(101, b"get a", NONE, b"-----")];
+
+/// When these are gone.
+pub const AFTER_MANY: &[Command] = &[
     (110, b"set a 0 0 1", (b'1', 1), b"1----"),
     (111, b"set b 0 0 1", (b'2', 1), b"12---"),
 ];

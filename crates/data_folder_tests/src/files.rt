@@ -28,6 +28,8 @@ pub struct Layout {
     pub pages: usize,
     /// After so many pages in the log they are copied into the file.
     pub log_pages: usize,
+    /// Whether each page has a sum.
+    pub has_sums: bool,
 }
 
 /// Small pages, few of them in memory. Some saves are copied into the file together.
@@ -35,6 +37,7 @@ pub const SMALL: Layout = Layout {
     page_bytes: 512,
     pages: 8,
     log_pages: 60,
+    has_sums: true,
 };
 
 /// The same, and almost each save is copied into the file.
@@ -42,6 +45,7 @@ pub const COPIED: Layout = Layout {
     page_bytes: 512,
     pages: 8,
     log_pages: 12,
+    has_sums: true,
 };
 
 /// The same, and no save is copied into the file.
@@ -49,6 +53,15 @@ pub const LOGGED: Layout = Layout {
     page_bytes: 512,
     pages: 8,
     log_pages: 100_000,
+    has_sums: true,
+};
+
+/// The same, of pages without sums.
+pub const UNSUMMED: Layout = Layout {
+    page_bytes: 512,
+    pages: 8,
+    log_pages: 100_000,
+    has_sums: false,
 };
 
 /// As in a folder, with fewer pages in memory: to make room for them takes time at each open.
@@ -56,6 +69,7 @@ pub const USUAL: Layout = Layout {
     page_bytes: 4096,
     pages: 16,
     log_pages: 1000,
+    has_sums: true,
 };
 
 /// How many calls the files pass on, and fail after them.
@@ -135,7 +149,12 @@ fn unopened(
         db: Fuse::new(db, calls.db),
     };
     let pager = Pager::new(alloc, files, size, options_of(layout))?;
-    Ok(Unopened::with_sums(alloc, pager, &tables(), true)?)
+    Ok(Unopened::with_sums(
+        alloc,
+        pager,
+        &tables(),
+        layout.has_sums,
+    )?)
 }
 
 /// An empty database. `None`: a file stopped before it was made.
@@ -162,6 +181,18 @@ impl Drop for Image {
     }
 }
 
+impl Image {
+    /// The file with at most 4,096 zeros at its end: an open of it takes less time.
+    fn shortened(self) -> Image {
+        let Image { bytes, len } = self;
+        let used = bytes.len();
+        Image {
+            bytes,
+            len: len.min(used.saturating_add(4096 - used % 4096)),
+        }
+    }
+}
+
 /// What the two files of a database have.
 pub struct Images {
     pub log: Image,
@@ -171,6 +202,17 @@ pub struct Images {
 impl Drop for Images {
     fn drop(self) {
         let Images { log: _, db: _ } = self;
+    }
+}
+
+impl Images {
+    /// Both files with few zeros at their ends.
+    pub fn shortened(self) -> Images {
+        let Images { log, db } = self;
+        Images {
+            log: log.shortened(),
+            db: db.shortened(),
+        }
     }
 }
 
@@ -200,25 +242,6 @@ pub fn images_of(alloc: Global, files: &Files<TestDisk>) -> Result<Images, Alloc
     let log = image_of(alloc, &files.log)?;
     let db = image_of(alloc, &files.db)?;
     Ok(Images { log, db })
-}
-
-/// The file with at most 4,096 zeros at its end: an open of it takes less time.
-fn short(image: Image) -> Image {
-    let Image { bytes, len } = image;
-    let used = bytes.len();
-    Image {
-        bytes,
-        len: len.min(used.saturating_add(4096 - used % 4096)),
-    }
-}
-
-/// Both files with few zeros at their ends.
-pub fn shortened(images: Images) -> Images {
-    let Images { log, db } = images;
-    Images {
-        log: short(log),
-        db: short(db),
-    }
 }
 
 /// A file with this content, all of it synced.

@@ -1,7 +1,7 @@
 //! A byte changed in one of the files of a folder: it is reported when they are opened or read, or the record of the last
 //! save is found, or that of the one before.
 
-use crate::files::{Image, Images, LOGGED, TestStore, images_of, shortened};
+use crate::files::{Image, Images, LOGGED, Layout, TestStore, UNSUMMED, images_of};
 use crate::saves::{
     ALONE, Opening, TestFolder, WANTED, good_folder, is_old_or_new, opening_in, save_all,
     store_after,
@@ -61,21 +61,21 @@ fn folder_of<S: Store + Drop>(alloc: Global, store: S) -> Result<DataFolder<S>, 
 }
 
 /// A folder after these saves, with an empty log.
-fn settled_folder(alloc: Global, moments: &[Moment]) -> Result<TestFolder, Fail> {
-    let store = all_saved(alloc, good_folder(alloc, LOGGED)?, moments)?;
+fn settled_folder(alloc: Global, layout: Layout, moments: &[Moment]) -> Result<TestFolder, Fail> {
+    let store = all_saved(alloc, good_folder(alloc, layout)?, moments)?;
     let store = settled(store)?;
     Ok(folder_of(alloc, store)?)
 }
 
 /// The files after all saves. The last one is in the log alone, and all others are in the database alone.
-fn saved_files(alloc: Global, moments: &[Moment]) -> Result<Images, Fail> {
+fn saved_files(alloc: Global, layout: Layout, moments: &[Moment]) -> Result<Images, Fail> {
     let Some((last, others)) = moments.split_last() else {
         return Err("no saves".into());
     };
-    let folder = settled_folder(alloc, others)?;
+    let folder = settled_folder(alloc, layout, others)?;
     let store = store_after(alloc, folder, ALONE, moments.len(), last)?;
     let files = store.close();
-    Ok(shortened(images_of(alloc, &files)?))
+    Ok(images_of(alloc, &files)?.shortened())
 }
 
 /// Whether it is reported that the byte at this place was changed. If not, one of the last two records is found.
@@ -149,8 +149,60 @@ fn damage(
     moments: &[Moment],
     damaged: Damaged,
 ) -> Result<(u64, u64), Fail> {
-    let mut images = saved_files(alloc, moments)?;
+    let mut images = saved_files(alloc, LOGGED, moments)?;
     Ok(damage_each(rt, alloc, moments, &mut images, damaged)?)
+}
+
+/// Whether some bytes from here on are this one.
+fn has_run(bytes: &[u8], at: usize, byte: u8) -> bool {
+    match bytes.get(at..at.saturating_add(3)) {
+        Some(run) => run == [byte; 3].as_slice(),
+        None => false,
+    }
+}
+
+/// Changes a byte of an item in the database, which has to be reported.
+fn damage_item(
+    rt: &impl Abort,
+    alloc: Global,
+    moments: &[Moment],
+    images: &mut Images,
+    at: usize,
+) -> Result<(), DataFault> {
+    flip(&mut images.db, at);
+    let opening = opening_in(alloc, images, UNSUMMED, moments)?;
+    flip(&mut images.db, at);
+    assert!(rt; opening == Opening::Refused, "{at}: {opening:?}");
+    Ok(())
+}
+
+/// Changes each so-manieth byte of an item of many such bytes. How many they were.
+fn damage_items(
+    rt: &impl Abort,
+    alloc: Global,
+    moments: &[Moment],
+    images: &mut Images,
+    byte: u8,
+) -> Result<u64, DataFault> {
+    let mut count = 0u64;
+    for row in 0..images.db.bytes.len().div_ceil(STEP) {
+        let at = row.wrapping_mul(STEP);
+        if has_run(&images.db.bytes, at, byte) {
+            damage_item(rt, alloc, moments, images, at)?;
+            count = count.wrapping_add(1);
+        }
+    }
+    Ok(count)
+}
+
+/// The pages have no sums, and the token of the state tells that the item is another one.
+#[test]
+fn a_damaged_byte_of_an_item_is_told_without_sums(rt: HostRuntime) -> Result<(), Fail> {
+    let moments = small_moments(&rt, rt.alloc(), 0, 7)?;
+    let mut images = saved_files(rt.alloc(), UNSUMMED, &moments)?;
+    let count = damage_items(&rt, rt.alloc(), &moments, &mut images, b'4')?;
+    assert!(rt; count > 40, "{count}");
+    Ok(())
 }
 
 /// In the log it leaves the save before the last one, mostly.

@@ -1,6 +1,9 @@
 //! Services that are asked commands, and what is saved of them.
 
-use crate::commands::{BEHIND, Command, FEW_ITEMS, LARGE_ITEMS, SHRINK, SMALL_ITEMS};
+use crate::commands::{
+    AFTER_A_STOP, AFTER_MANY, BEFORE_A_STOP, BESIDE_MANY, Command, FEW_ITEMS, LARGE_ITEMS,
+    SMALL_ITEMS,
+};
 use crate::contents::Content;
 use data_folder::StoredRecord;
 use service::{Config, Dialect, Fault, Replica, Said, Service, ServiceRecord};
@@ -45,16 +48,23 @@ enum Step<'a> {
     Stop(u8),
 }
 
-/// The line, and the block if there is one.
-fn piece_of(alloc: Global, command: &Command) -> Result<Vec<u8>, AllocError> {
+/// Adds the line, and the block if there is one.
+fn put_command(command: &Command, piece: &mut Vec<u8>) -> Result<(), AllocError> {
     let (_, line, (byte, count), _) = *command;
-    let mut piece = Vec::from_slice(alloc, line)?;
+    piece.extend_from_slice(line)?;
     piece.extend_from_slice(b"\r\n")?;
     if count > 0 {
         let end = piece.len().saturating_add(count);
         piece.resize(end, byte)?;
         piece.extend_from_slice(b"\r\n")?;
     }
+    Ok(())
+}
+
+/// What the connection says to ask this command.
+fn piece_of(alloc: Global, command: &Command) -> Result<Vec<u8>, AllocError> {
+    let mut piece = Vec::new(alloc);
+    put_command(command, &mut piece)?;
     Ok(piece)
 }
 
@@ -250,7 +260,7 @@ pub fn small_moments<R: Threads + Wait + Sync + Clock>(
     u: u8,
     count: usize,
 ) -> Result<Vec<Moment>, Fault> {
-    let steps = [Step::Come, Step::Ask(first_of(&SMALL_ITEMS, count), 0)];
+    let steps = [Step::Come, Step::Ask(first_of(SMALL_ITEMS, count), 0)];
     moments_of(rt, alloc, u, &steps)
 }
 
@@ -259,7 +269,7 @@ pub fn large_moments<R: Threads + Wait + Sync + Clock>(
     rt: &R,
     alloc: Global,
 ) -> Result<Vec<Moment>, Fault> {
-    moments_of(rt, alloc, 0, &[Step::Come, Step::Ask(&LARGE_ITEMS, 0)])
+    moments_of(rt, alloc, 0, &[Step::Come, Step::Ask(LARGE_ITEMS, 0)])
 }
 
 /// What a service of one executor has that was asked nothing, when its connection has come, and after each of `FEW_ITEMS`.
@@ -271,7 +281,7 @@ pub fn few_moments<R: Threads + Wait + Sync + Clock>(
         Step::Note,
         Step::Come,
         Step::Note,
-        Step::Ask(&FEW_ITEMS, 0),
+        Step::Ask(FEW_ITEMS, 0),
     ];
     moments_of(rt, alloc, 0, &steps)
 }
@@ -283,9 +293,9 @@ pub fn moments_behind<R: Threads + Wait + Sync + Clock>(
 ) -> Result<Vec<Moment>, Fault> {
     let steps = [
         Step::Come,
-        Step::Ask(&BEHIND[..1], 0),
+        Step::Ask(BEFORE_A_STOP, 0),
         Step::Stop(2),
-        Step::Ask(&BEHIND[1..], 0),
+        Step::Ask(AFTER_A_STOP, 0),
     ];
     moments_of(rt, alloc, 1, &steps)
 }
@@ -299,8 +309,8 @@ pub fn moments_shrinking<R: Threads + Wait + Sync + Clock>(
     let steps = [
         Step::Come,
         Step::Fill(count),
-        Step::Ask(&SHRINK[..1], count),
-        Step::Ask(&SHRINK[1..], 0),
+        Step::Ask(BESIDE_MANY, count),
+        Step::Ask(AFTER_MANY, 0),
     ];
     moments_of(rt, alloc, 0, &steps)
 }
