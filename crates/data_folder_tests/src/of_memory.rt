@@ -1,5 +1,5 @@
 //! Each call that allocates: with ample memory it succeeds, and if an allocation fails the folder has the last save that
-//! answered Ok. `scripts/refusals` has allocations fail in turn.
+//! answered Ok. `rt try --test --fail-alloc N` has the N-th one fail.
 
 use crate::contents::content_of;
 use crate::files::{Images, USUAL, images_of};
