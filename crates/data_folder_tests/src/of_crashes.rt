@@ -111,7 +111,7 @@ fn check(
 #[test]
 fn a_crash_at_each_call_leaves_the_last_save_or_the_next(rt: HostRuntime) -> Result<(), Fail> {
     let moments = small_moments(&rt, rt.alloc(), 0, 16)?;
-    check(&rt, rt.alloc(), &moments, SMALL, 1, (200, 50))?;
+    check(&rt, rt.alloc(), &moments, SMALL, 1, (150, 30))?;
     Ok(())
 }
 
