@@ -1,2 +1,1 @@
-mod TableLemmas
 mod RuleLemmas

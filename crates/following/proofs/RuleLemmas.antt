@@ -1,10 +1,9 @@
 -- What the tables leave no choice of.
 use Rattle.std.proofs.Common.{◌≡◌, ◌≢◌, ◌⊎◌, inl, inr, ℕ, ◌+◌, ◌<◌, ◌≤◌, Bool, true, false, List, [], ◌∷◌, length, Option, None, Some, refl, sym, ap, ◌∙◌, subst, arith}
-use Rattle.std.specs.Prelude.{◌&&◌, ◌==◌, not, is_some, IsSomeAnd, ⊤, nat_lt, slice_get, get_or, if◌then◌else◌}
+use Rattle.std.specs.Prelude.{◌&&◌, ◌==◌, not, IsSomeAnd, ⊤, nat_lt, slice_get, get_or, if◌then◌else◌}
 use Rattle.std.specs.List.{position}
 use Rattle.std.specs.Option.{option_map}
 use Rattle.std.proofs.lemmas.Bool.{and_parts, not-true, eqb-true, eqb-false, ltb-true, ltb-false}
-use Rattle.std.proofs.lemmas.Bool.Decides.{nat_tests}
 use Rattle.std.proofs.lemmas.List.{get_or_default}
 use Rattle.std.proofs.lemmas.List.Quantifiers.{position-Some}
 use Rattle.std.proofs.lemmas.Option.{slice_get_read}
@@ -102,9 +101,11 @@ other_after f many = by (peer_after f f.peer == f.id) refl
     within : (peer : ℕ) (b : Bool) → nat_lt peer f.last ≡ b → (if b then peer + 1 else 0) ≤ f.last
     within peer true e = let below = ltb-true peer f.last e in omega (arith, below)
     within peer false e = omega arith
+
     moves : (b : Bool) → nat_lt f.id f.last ≡ b → (if b then f.id + 1 else 0) ≢ f.id
     moves true e = λ same. omega (arith, same)
     moves false e = λ same. (let most = ltb-false f.id f.last e in omega (arith, most, many, same))
+
     by : (b : Bool) → (peer_after f f.peer == f.id) ≡ b → IsOther f (if b then peer_after f f.id else peer_after f f.peer)
     by true e = (moves (nat_lt f.id f.last) refl, within f.id (nat_lt f.id f.last) refl)
     by false e = (eqb-false (peer_after f f.peer) f.id e, within f.peer (nat_lt f.peer f.last) refl)
@@ -131,22 +132,38 @@ module _ (f : Following) (r : ExecutorReport) (held : List HeldLetter) where
       (both.0, other_after f (ltb-true 0 f.last both.1))
 
   fetching_suit : RowsSuit (Suits f r held) (fetching_rules f r held)
-  fetching_suit =
-      (held_suits (Suits f r held) HandInParcel (is_parcel_of r.standing) held parcel_suits,
-      (held_suits (Suits f r held) DropParcel (is_parcel_below r.standing) held (λ i at. at),
-      (if_suits (Suits f r held) (is_held is_any_parcel held) (with_held HandInDecree (is_next_decree r) held) (λ _. held_suits (Suits f r held) HandInDecree (is_next_decree r) held decree_suits),
-      (if_suits (Suits f r held) (is_held is_any_parcel held && not (is_asked_already f r)) (Some (Ask (next_decree_place r))) (λ e. ask_suits (and_parts (is_held is_any_parcel held) (not (is_asked_already f r)) e).1),
-      (if_suits (Suits f r held) (not (is_held is_any_parcel held) && (is_silent f && nat_lt 0 f.last)) (Some (Need (next_peer f))) (λ e. need_suits (and_parts (not (is_held is_any_parcel held)) (is_silent f && nat_lt 0 f.last) e).1),
-      tt)))))
+  fetching_suit = (
+    held_suits (Suits f r held) HandInParcel (is_parcel_of r.standing) held parcel_suits,
+    (
+      held_suits (Suits f r held) DropParcel (is_parcel_below r.standing) held (λ i at. at),
+      (
+        if_suits (Suits f r held) (is_held is_any_parcel held) (with_held HandInDecree (is_next_decree r) held) (λ _. held_suits (Suits f r held) HandInDecree (is_next_decree r) held decree_suits),
+        (
+          if_suits (Suits f r held) (is_held is_any_parcel held && not (is_asked_already f r)) (Some (Ask (next_decree_place r))) (λ e. ask_suits (and_parts (is_held is_any_parcel held) (not (is_asked_already f r)) e).1),
+          (
+            if_suits (Suits f r held) (not (is_held is_any_parcel held) && (is_silent f && nat_lt 0 f.last)) (Some (Need (next_peer f))) (λ e. need_suits (and_parts (not (is_held is_any_parcel held)) (is_silent f && nat_lt 0 f.last) e).1),
+            tt,
+          ),
+        ),
+      ),
+    ),
+  )
 
   following_suit : RowsSuit (Suits f r held) (following_rules f r held)
-  following_suit =
-      (held_suits (Suits f r held) HandInDecree (is_due_decree r) held due_suits,
-      (if_suits (Suits f r held) (has_room_for_batch r) (with_held HandInOrder (is_next_order r) held) (λ room. held_suits (Suits f r held) HandInOrder (is_next_order r) held (order_suits room)),
-      (if_suits (Suits f r held) (is_held (is_later_decree r) held && (not (is_held (is_next_decree r) held) && not (is_asked_already f r))) (Some (Ask (next_decree_place r)))
-      (λ e. ask_suits (and_parts (not (is_held (is_next_decree r) held)) (not (is_asked_already f r)) (and_parts (is_held (is_later_decree r) held) (not (is_held (is_next_decree r) held) && not (is_asked_already f r)) e).1).1),
-      (if_suits (Suits f r held) (not r.is_running && is_overdue f r) (with_held HandInDecree (is_next_decree r) held) (λ _. held_suits (Suits f r held) HandInDecree (is_next_decree r) held decree_suits),
-      tt))))
+  following_suit = (
+    held_suits (Suits f r held) HandInDecree (is_due_decree r) held due_suits,
+    (
+      if_suits (Suits f r held) (has_room_for_batch r) (with_held HandInOrder (is_next_order r) held) (λ room. held_suits (Suits f r held) HandInOrder (is_next_order r) held (order_suits room)),
+      (
+        if_suits (Suits f r held) (is_held (is_later_decree r) held && (not (is_held (is_next_decree r) held) && not (is_asked_already f r))) (Some (Ask (next_decree_place r)))
+            (λ e. ask_suits (and_parts (not (is_held (is_next_decree r) held)) (not (is_asked_already f r)) (and_parts (is_held (is_later_decree r) held) (not (is_held (is_next_decree r) held) && not (is_asked_already f r)) e).1).1),
+        (
+          if_suits (Suits f r held) (not r.is_running && is_overdue f r) (with_held HandInDecree (is_next_decree r) held) (λ _. held_suits (Suits f r held) HandInDecree (is_next_decree r) held decree_suits),
+          tt,
+        ),
+      ),
+    ),
+  )
 
   rules_suit : (b : Bool) → RowsSuit (Suits f r held) (if b then fetching_rules f r held else following_rules f r held)
   rules_suit true = fetching_suit

@@ -1,5 +1,5 @@
 -- What a member remembers of what it did with what it holds.
-use Rattle.std.specs.Prelude.{ℕ, ◌+◌, ◌-◌, ◌^◌, ◌*◌, ◌==◌, ◌&&◌, Bool, not, min, List, if◌then◌else◌}
+use Rattle.std.specs.Prelude.{ℕ, ◌+◌, ◌*◌, ◌==◌, ◌&&◌, Bool, not, min, List, if◌then◌else◌}
 use Rattle.following.specs.declared.action.Action.{Action}
 use Rattle.following.specs.declared.action.Action.TheVariants.{HandInOrder, HandInDecree, HandInParcel, DropParcel, Ask, Need, Wait}
 use Rattle.following.specs.declared.letter.HeldLetter.{HeldLetter}

@@ -1,5 +1,5 @@
 -- What an executor reports, and what a held letter is to it.
-use Rattle.std.specs.Prelude.{◌≡◌, ℕ, ◌+◌, ◌-◌, ◌^◌, ◌==◌, ◌&&◌, Bool, true, false, not, min, nat_lt, nat_le}
+use Rattle.std.specs.Prelude.{ℕ, ◌+◌, ◌-◌, ◌^◌, ◌==◌, ◌&&◌, Bool, true, false, not, min, nat_lt}
 use Rattle.following.specs.declared.letter.HeldLetter.{HeldLetter}
 use Rattle.following.specs.declared.letter.HeldLetter.TheVariants.{Order, Commit, Rollback, Parcel}
 use Rattle.following.specs.declared.report.ExecutorReport.{ExecutorReport}

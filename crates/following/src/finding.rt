@@ -110,14 +110,16 @@ pub fn next_decree(report: ExecutorReport, held: &[HeldLetter]) -> Option<usize>
 pub fn due_decree(report: ExecutorReport, held: &[HeldLetter]) -> Option<usize>
     ensures { result ≡ position (is_due report) held.now }
 {
-    held.iter().position(|letter| is_due_decree(report, *letter))
+    held.iter()
+        .position(|letter| is_due_decree(report, *letter))
 }
 
 /// The first that is the order of the number after the tip.
 fn next_order(report: ExecutorReport, held: &[HeldLetter]) -> Option<usize>
     ensures { result ≡ position (is_order report) held.now }
 {
-    held.iter().position(|letter| is_next_order(report, *letter))
+    held.iter()
+        .position(|letter| is_next_order(report, *letter))
 }
 
 /// The same, if it can be executed now.
@@ -146,20 +148,33 @@ pub fn parcel_below(standing: u64, held: &[HeldLetter]) -> Option<usize>
         .position(|letter| is_parcel_below(standing, *letter))
 }
 
+/// The first that is a parcel.
+fn first_parcel(held: &[HeldLetter]) -> Option<usize>
+    ensures { result ≡ position any_parcel held.now }
+{
+    held.iter().position(|letter| is_parcel(*letter))
+}
+
 /// Whether a parcel is held.
 pub fn has_parcel(held: &[HeldLetter]) -> bool
     ensures { result ≡ is_held any_parcel held.now }
 {
-    held.iter().position(|letter| is_parcel(*letter)).is_some()
+    first_parcel(held).is_some()
+}
+
+/// The first that is a decree of a place after the next one.
+fn first_later_decree(report: ExecutorReport, held: &[HeldLetter]) -> Option<usize>
+    ensures { result ≡ position (is_later report) held.now }
+{
+    held.iter()
+        .position(|letter| is_later_decree(report, *letter))
 }
 
 /// Whether a decree of a place after the next one is held.
 pub fn has_later_decree(report: ExecutorReport, held: &[HeldLetter]) -> bool
     ensures { result ≡ is_held (is_later report) held.now }
 {
-    held.iter()
-        .position(|letter| is_later_decree(report, *letter))
-        .is_some()
+    first_later_decree(report, held).is_some()
 }
 
 /// Whether the next decree is held while the executor follows and runs nothing, and nothing that is held leads to it.

@@ -9,6 +9,7 @@ use std::alloc::{AllocError, Global};
 
 /// The least time that a letter takes, and by how much it may be longer.
 const HOP: u64 = 105;
+
 const HOP_MORE: u32 = 91;
 
 /// How long the first two executors execute a batch, at least; it may take a fifth longer.
@@ -375,7 +376,11 @@ impl Model {
     fn look(&mut self) {
         let back = LEAVES.saturating_add(self.setting.away);
         let few = self.number_if_following(LAST).saturating_add(FEW);
-        if self.caught_up.is_none() && back < self.now && self.verifier.decided <= few && self.is_back() {
+        if self.caught_up.is_none()
+            && back < self.now
+            && self.verifier.decided <= few
+            && self.is_back()
+        {
             self.caught_up = Some(self.now.saturating_sub(back));
         }
     }

@@ -88,9 +88,7 @@ fn an_executor_that_was_away_fetches_once(rt: HostRuntime) -> Result<(), Fail> {
 }
 
 #[test]
-fn an_executor_that_was_away_fetches_once_if_that_takes_long(
-    rt: HostRuntime,
-) -> Result<(), Fail> {
+fn an_executor_that_was_away_fetches_once_if_that_takes_long(rt: HostRuntime) -> Result<(), Fail> {
     assert!(rt; away(rt.alloc(), 3000000, 7000000) == Ok(true));
     Ok(())
 }

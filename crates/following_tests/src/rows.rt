@@ -97,7 +97,9 @@ fn a_decree_is_handed_in_if_it_fits_the_chain(rt: HostRuntime) -> Result<(), Fai
     assert!(rt; first(with_chain(1, false), &held) == Action::HandInDecree(1));
     assert!(rt; first(with_chain(1, true), &held) == Action::HandInDecree(1));
     assert!(rt; first(with_chain(0, true), &held) == Action::Wait);
-    assert!(rt; first(with_chain(0, true), &[HeldLetter::Rollback { place: 10 }]) == Action::HandInDecree(0));
+    assert!(rt;
+        first(with_chain(0, true), &[HeldLetter::Rollback { place: 10 }]) == Action::HandInDecree(0)
+    );
     Ok(())
 }
 
@@ -112,7 +114,10 @@ fn an_order_is_handed_in_over_the_tip(rt: HostRuntime) -> Result<(), Fail> {
 
 #[test]
 fn other_orders_wait(rt: HostRuntime) -> Result<(), Fail> {
-    let other = HeldLetter::Order { epoch: 4, number: 8 };
+    let other = HeldLetter::Order {
+        epoch: 4,
+        number: 8,
+    };
     assert!(rt; first(with_chain(0, false), &[order(9), order(7), other]) == Action::Wait);
     assert!(rt; first(with_chain(0, false), &[]) == Action::Wait);
     Ok(())

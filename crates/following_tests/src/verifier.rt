@@ -40,7 +40,11 @@ impl Verifier {
 
     /// The batch that can be decided now, if one can: two executors told its token.
     pub fn next(&self) -> Option<u64> {
-        let tokens = self.told.iter().filter(|number| self.decided < **number).count();
+        let tokens = self
+            .told
+            .iter()
+            .filter(|number| self.decided < **number)
+            .count();
         if self.is_busy || tokens < 2 {
             return None;
         }

@@ -1,12 +1,12 @@
 -- Ten ticks after a suspicion.
 use Rattle.std.proofs.Common.{◌≡◌, ℕ, ◌+◌, ◌*◌, ◌<◌, ◌≤◌, Bool, true, false, List, [], ◌∷◌, length, refl, sym, ◌∙◌, subst, arith, eq-eqb}
-use Rattle.std.specs.Prelude.{◌&&◌, ◌||◌, ◌==◌, ◌^◌, ◌-◌, min, max, nat_lt, nat_le, if◌then◌else◌}
+use Rattle.std.specs.Prelude.{◌&&◌, ◌||◌, ◌==◌, max, nat_lt, nat_le, if◌then◌else◌}
 use Rattle.std.proofs.Math.Nat.{mul-le-mul_left}
 use Rattle.std.proofs.lemmas.Bool.{le-ltb, ne_eqb, or_from, and_right}
 use Rattle.suspicion.specs.declared.observed.Observed.{Observed}
 use Rattle.suspicion.specs.declared.suspicion.Suspicion.{Suspicion}
 use Rattle.suspicion.specs.declared.suspicion.TheConstants.{LEAST_PATIENCE, WAITS, STALLED_TURN, PERIOD}
-use Rattle.suspicion.specs.Suspicion.{longest_lately, patience_of, one_tick_more, with_tick, with_decree, with_period, observed, is_stalled, is_away, is_leaderless, may_again, may_suspect, backed_off}
+use Rattle.suspicion.specs.Suspicion.{longest_lately, patience_of, one_tick_more, with_tick, with_decree, with_period, observed, is_stalled, is_away, is_leaderless, may_again, may_suspect}
 use Rattle.suspicion.specs.Run.{suspects_at, after_tick_at, KnowsNoMore, SuspectsNever}
 
 -- no decree came, and the wait is one tick longer at most

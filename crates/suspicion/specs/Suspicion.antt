@@ -1,5 +1,5 @@
 -- When a member suspects the leader. Times are in ticks.
-use Rattle.std.specs.Prelude.{ℕ, ◌+◌, ◌-◌, ◌*◌, ◌^◌, ◌==◌, ◌&&◌, ◌||◌, Bool, true, false, min, max, nat_lt, nat_le, Option, None, Some, if◌then◌else◌}
+use Rattle.std.specs.Prelude.{ℕ, ◌+◌, ◌-◌, ◌*◌, ◌^◌, ◌==◌, ◌&&◌, ◌||◌, Bool, false, min, max, nat_lt, nat_le, Option, None, Some, if◌then◌else◌}
 use Rattle.suspicion.specs.declared.observed.Observed.{Observed}
 use Rattle.suspicion.specs.declared.suspicion.Suspicion.{Suspicion}
 use Rattle.suspicion.specs.declared.suspicion.TheConstants.{LEAST_PATIENCE, MOST_PATIENCE, WAITS, STALLED_TURN, AWAY_TURN, MOST_FACTOR, PERIOD}

@@ -106,7 +106,13 @@ fn suspects(alloc: Global, parts: &[Part], ticks: &[u32]) -> Result<bool, AllocE
 #[test]
 fn it_suspects_less_and_less_often(rt: HostRuntime) -> Result<(), Fail> {
     let alloc = rt.alloc();
-    assert!(rt; suspects(alloc, &[waits(700, 0)], &[10, 24, 48, 92, 176, 340, 504, 668]) == Ok(true));
+    assert!(rt;
+        suspects(
+            alloc,
+            &[waits(700, 0)],
+            &[10, 24, 48, 92, 176, 340, 504, 668]
+        ) == Ok(true)
+    );
     assert!(rt; suspects(alloc, &[waits_as(30, 0, 2)], &[13, 30]) == Ok(true));
     Ok(())
 }
