@@ -1,0 +1,4 @@
+pub mod Letters
+pub mod Rules
+pub mod After
+pub mod Holding

@@ -1,0 +1,2 @@
+pub mod Suspicion
+pub mod Run
