@@ -1,0 +1,102 @@
+//! The keys of a site.
+
+ghost use Rattle.std.specs.Prelude.{◌≡◌, ℕ, List, IfSome, IfNone, IfOk, IfErr};
+ghost use Rattle.site_file.specs.KeyText.{EndsLine, BeginsWithKey, BeginsWithLine, IsKeyText, IsKeyFault};
+
+use crate::limits::KEY_BYTES;
+use hex::FromHex;
+use thiserror::Error;
+
+/// The keys of a site. It cannot be shown, so that no log has a key.
+#[derive(Clone, Copy)]
+pub struct KeyFile {
+    /// The key with which a member seals what it says. What comes sealed with it is accepted.
+    pub first: [u8; KEY_BYTES],
+    /// What comes sealed with this key is accepted, too.
+    pub second: Option<[u8; KEY_BYTES]>,
+}
+
+/// Why a key file is refused. It has nothing of the file's text.
+#[derive(Clone, Copy, Debug, PartialEq, Eq, Error)]
+pub enum KeyFault {
+    #[error("line 1: a key is 64 hex digits, and nothing else is in its line")]
+    First,
+    #[error("line 2: a key is 64 hex digits, and nothing else is in its line")]
+    Second,
+    #[error("line 3: a key file has one or two lines")]
+    More,
+}
+
+/// The digits of a key.
+const KEY_DIGITS: usize = 2 * KEY_BYTES;
+
+/// The key at the front of a text, with what is behind it.
+fn front_key(text: &[u8]) -> Option<([u8; KEY_BYTES], &[u8])>
+    ensures some { IfSome result (λ found. BeginsWithKey text.now found.0 found.1.now) }
+    ensures none { IfNone result ((key rest : List ℕ) → BeginsWithKey text.now key rest → ⊥) }
+{
+    let Some((digits, rest)) = text.split_at_checked(KEY_DIGITS) else {
+        return None;
+    };
+    match <[u8; KEY_BYTES]>::from_hex(digits) {
+        Ok(key) => Some((key, rest)),
+        Err(_) => None,
+    }
+}
+
+/// What is behind the end of a line, if the text begins with one or is over.
+fn after_end(text: &[u8]) -> Option<&[u8]>
+    ensures some { IfSome result (λ rest. EndsLine text.now rest.now) }
+    ensures none { IfNone result ((rest : List ℕ) → EndsLine text.now rest → ⊥) }
+{
+    match text {
+        [] => Some(text),
+        [b'\n', rest @ ..] => Some(rest),
+        _ => None,
+    }
+}
+
+/// The key in the first line of a text, with the lines behind it.
+fn front_line(text: &[u8]) -> Option<([u8; KEY_BYTES], &[u8])>
+    ensures some { IfSome result (λ found. BeginsWithLine text.now found.0 found.1.now) }
+    ensures none { IfNone result ((key rest : List ℕ) → BeginsWithLine text.now key rest → ⊥) }
+{
+    let Some((key, behind)) = front_key(text) else {
+        return None;
+    };
+    match after_end(behind) {
+        Some(rest) => Some((key, rest)),
+        None => None,
+    }
+}
+
+impl KeyFile {
+    /// The keys that a text has: one or two lines of 64 hex digits each, in either case. Each line ends with a newline,
+    /// which may be missing at the end of the text. Nothing else is in it.
+    ///
+    /// First, Second: this line is not such a line. More: something is behind the second line.
+    pub fn read(text: &[u8]) -> Result<KeyFile, KeyFault>
+        ensures ok { IfOk result (IsKeyText text.now) }
+        ensures err { IfErr result (IsKeyFault text.now) }
+    {
+        let Some((first, rest)) = front_line(text) else {
+            return Err(KeyFault::First);
+        };
+        if rest.is_empty() {
+            return Ok(KeyFile {
+                first,
+                second: None,
+            });
+        }
+        let Some((second, more)) = front_line(rest) else {
+            return Err(KeyFault::Second);
+        };
+        if !more.is_empty() {
+            return Err(KeyFault::More);
+        }
+        Ok(KeyFile {
+            first,
+            second: Some(second),
+        })
+    }
+}
