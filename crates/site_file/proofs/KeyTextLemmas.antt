@@ -1,6 +1,6 @@
 -- The text of a key file.
 use Rattle.std.proofs.Common.{◌≡◌, ◌⊎◌, inl, inr, ℕ, ◌*◌, ◌<◌, List, [], ◌∷◌, ◌++◌, length, take, drop, Option, Some, None, Result, Ok, Err, refl, sym, ap, ◌∙◌, subst, arith}
-use Rattle.std.proofs.lemmas.List.{take_at, drop_at, length-append}
+use Rattle.std.proofs.lemmas.List.{take_at, drop_at, length-append, take-append-drop, nil_from_length}
 use Rattle.hex.specs.declared.error.FromHexError.{FromHexError}
 use Rattle.hex.specs.Hex.{decode_sized}
 use Rattle.hex.proofs.HexLemmas.{decode_sized-ok}
@@ -103,3 +103,46 @@ keys_same text a b (Some p) (Some q) h k =
 
 pub has_one : HasOne
 has_one text one other h k = keys_same text one.first other.first one.second other.second h k
+
+-- ---- what the reader has shown
+
+joined : (a b c d : List ℕ) → a ≡ b → c ≡ d → a ++ c ≡ b ++ d
+joined a b c d p q = λ i. p i ++ q i
+
+pub begins_with : (text digits key rest : List ℕ) → digits ≡ take 64 text → rest ≡ drop 64 text → Ok key ≡ decode_sized digits KEY_BYTES → BeginsWithKey text key rest
+begins_with text digits key rest front back is = record {
+  digits = digits;
+  key_is = sym is;
+  spelled = sym (take-append-drop 64 text) ∙ joined (take 64 text) digits (drop 64 text) rest (sym front) (sym back);
+}
+
+pub wrong_digits : (text digits key rest : List ℕ) (e : FromHexError) → digits ≡ take 64 text → Err e ≡ decode_sized digits KEY_BYTES → BeginsWithKey text key rest → ⊥
+wrong_digits text digits key rest e front bad h = not_hex text key rest e h (ap (λ d. decode_sized d KEY_BYTES) (sym front) ∙ sym bad)
+
+-- the end of a line
+pub ended : (text : List ℕ) → length text ≡ 0 → EndsLine text text
+ended text empty = let same = nil_from_length text empty in inl (same, same)
+
+pub newline : (text rest : List ℕ) (byte : ℕ) → text ≡ byte ∷ rest → byte ≡ 10 → EndsLine text rest
+newline text rest byte e is = inr (e ∙ ap (λ b. b ∷ rest) is)
+
+head_same : (x y : ℕ) (xs ys : List ℕ) → x ∷ xs ≡ y ∷ ys → x ≡ y
+head_same x y xs ys e = cc e
+
+pub no_newline : (text rest other : List ℕ) (byte : ℕ) → text ≡ byte ∷ rest → (byte ≡ 10 → ⊥) → EndsLine text other → ⊥
+no_newline text rest other byte e not_ten (inl h) = cons_no_nil byte rest (sym e ∙ h.0)
+no_newline text rest other byte e not_ten (inr h) = not_ten (head_same byte 10 rest other (sym e ∙ h))
+
+-- a line with a key
+pub line_with : (text key behind rest : List ℕ) → BeginsWithKey text key behind → EndsLine behind rest → BeginsWithLine text key rest
+line_with text key behind rest begins ends = record { behind = behind; begins = begins; ends = ends }
+
+pub no_key_no_line : (text key rest : List ℕ) → ((k r : List ℕ) → BeginsWithKey text k r → ⊥) → BeginsWithLine text key rest → ⊥
+no_key_no_line text key rest none h = none key h.behind h.begins
+
+pub no_end_no_line : (text key behind other rest : List ℕ) → BeginsWithKey text key behind → ((r : List ℕ) → EndsLine behind r → ⊥) → BeginsWithLine text other rest → ⊥
+no_end_no_line text key behind other rest begins none h =
+    none rest (subst (λ t. EndsLine t rest) (key_same text other key h.behind behind h.begins begins).1 h.ends)
+
+pub one_line : (text key rest : List ℕ) → BeginsWithLine text key rest → length rest ≡ 0 → BeginsWithLine text key []
+one_line text key rest h empty = subst (BeginsWithLine text key) (nil_from_length rest empty) h

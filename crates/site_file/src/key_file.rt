@@ -49,10 +49,15 @@ fn after_end(text: &[u8]) -> Option<&[u8]>
     ensures some { IfSome result (λ rest. EndsLine text.now rest.now) }
     ensures none { IfNone result ((rest : List ℕ) → EndsLine text.now rest → ⊥) }
 {
-    match text {
-        [] => Some(text),
-        [b'\n', rest @ ..] => Some(rest),
-        _ => None,
+    match text.split_first() {
+        Some((byte, rest)) => {
+            if *byte == b'\n' {
+                Some(rest)
+            } else {
+                None
+            }
+        }
+        None => Some(text),
     }
 }
 

@@ -56,13 +56,12 @@ fn not_toml(text: &[u8], reason: Error) -> SiteFault
     requires { ¬ IsMemory reason }
     ensures { result ≡ SiteFault.NotToml (line_at text.now (span_start reason)) reason }
 {
-    let start = match reason.span() {
-        Some(span) => span.start,
-        None => 0,
-    };
-    SiteFault::NotToml {
-        line: line_of(text, start),
-        reason,
+    match reason.span() {
+        Some(span) => SiteFault::NotToml {
+            line: line_of(text, span.start),
+            reason,
+        },
+        None => unreachable!(),
     }
 }
 
