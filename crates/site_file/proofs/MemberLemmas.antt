@@ -13,8 +13,8 @@ got_more [] x y (suc k) e = absurd (none-some y e)
 got_more (z ∷ xs) x y zero e = inl e
 got_more (z ∷ xs) x y (suc k) e = elim (got_more xs x y k e) [ inl h ↦ inl h | inr p ↦ inr (ap suc p.0, p.1) ]
 
-abbrev peer_of : SiteMember → SocketAddr
-peer_of member = member.peer
+abbrev its_peer : SiteMember → SocketAddr
+its_peer member = member.peer
 
 each_more : (document : Members) (members : List SiteMember) (member : SiteMember) → AreMembers document members → IsMember (length members) document member
     → (m : ℕ) (found : SiteMember) → slice_get (members ++ member ∷ []) m ≡ Some found → IsMember m document found
@@ -31,7 +31,7 @@ apart_more document members member are new m n one other below a b =
     elim (got_more members member one m a) [
       | inl h ↦ elim (got_more members member other n b) [
         | inl k ↦ are.apart m n one other below h k
-        | inr q ↦ λ same. new m one h (same ∙ ap peer_of (sym q.1))
+        | inr q ↦ λ same. new m one h (same ∙ ap its_peer (sym q.1))
       ]
       | inr p ↦ elim (got_more members member other n b) [
         | inl k ↦ (let less = slice_get_within members n other k in absurd (omega (arith, less, p.0, below)))

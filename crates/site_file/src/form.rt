@@ -20,7 +20,7 @@ pub fn site_name_in(value: &Value) -> Option<[u8; SITE_BYTES]>
     let Some(text) = value.as_str() else {
         return None;
     };
-    match <[u8; SITE_BYTES]>::from_hex(text) {
+    match <[u8; SITE_BYTES] as FromHex>::from_hex(text) {
         Ok(name) => Some(name),
         Err(_) => None,
     }

@@ -38,7 +38,7 @@ fn front_key(text: &[u8]) -> Option<([u8; KEY_BYTES], &[u8])>
     let Some((digits, rest)) = text.split_at_checked(KEY_DIGITS) else {
         return None;
     };
-    match <[u8; KEY_BYTES]>::from_hex(digits) {
+    match <[u8; KEY_BYTES] as FromHex>::from_hex(digits) {
         Ok(key) => Some((key, rest)),
         Err(_) => None,
     }

@@ -81,7 +81,7 @@ fn listen_of(
 }
 
 /// A member of the file.
-pub fn member_of(alloc: Global, document: &Table, member: usize) -> Result<SiteMember, SiteFault>
+pub fn read_member(alloc: Global, document: &Table, member: usize) -> Result<SiteMember, SiteFault>
     requires { IsThere (Some member) (table_view document.now) }
     ensures ok { IfOk result (IsMember member (table_view document.now)) }
     ensures err { IfErr result (IsWhyIn (table_view document.now)) }

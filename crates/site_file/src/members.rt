@@ -10,7 +10,7 @@ ghost use Rattle.site_file.specs.declared.site.SiteMember.{SiteMember};
 
 use crate::fault::SiteFault;
 use crate::limits::MOST_U;
-use crate::member::member_of;
+use crate::member::read_member;
 use crate::place::{Place, SiteKey};
 use crate::site::SiteMember;
 use crate::values::member_count_of;
@@ -52,7 +52,7 @@ fn add_members(
     ensures err { IfErr result (IsWhyIn (table_view document.now)) }
 {
     for at in 0..count {
-        let member = member_of(alloc, document, at)?;
+        let member = read_member(alloc, document, at)?;
         if let Some(other) = with_peer(members.as_slice(), &member.peer) {
             return Err(SiteFault::SamePeer(other, at));
         }
@@ -62,7 +62,7 @@ fn add_members(
 }
 
 /// The members of a file that says this `u`.
-pub fn members_of(alloc: Global, document: &Table, u: u8) -> Result<Vec<SiteMember>, SiteFault>
+pub fn read_members(alloc: Global, document: &Table, u: u8) -> Result<Vec<SiteMember>, SiteFault>
     requires { SaysAt (Place.OfSite SiteKey.U) (IsNumber 0 MOST_U) (table_view document.now) u }
     ensures members { IfOk result (λ members. AreMembers (table_view document.now) members.items) }
     ensures count { IfOk result (λ members. SaysAt (Place.OfSite SiteKey.Member) HasLength (table_view document.now) (length members.items)) }

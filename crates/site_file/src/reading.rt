@@ -1,6 +1,6 @@
 //! Reading a site file.
 
-ghost use Rattle.std.specs.Prelude.{◌≡◌, ◌+◌, ◌==◌, take, count_by, IfOk, IfErr};
+ghost use Rattle.std.specs.Prelude.{◌≡◌, IfOk, IfErr};
 ghost use Rattle.toml.specs.View.{table_view};
 ghost use Rattle.toml.specs.Errors.{IsMemory, span_start};
 ghost use Rattle.site_file.specs.Site.{IsSaid, Says};
@@ -9,7 +9,7 @@ ghost use Rattle.site_file.specs.Fault.{IsWhyIn, IsWhy, line_at};
 use crate::fault::SiteFault;
 use crate::keys::check_keys;
 use crate::limits::MOST_SITE_BYTES;
-use crate::members::members_of;
+use crate::members::read_members;
 use crate::site::SiteFile;
 use crate::values::{key_of, parcel_mib_of, proxies_of, site_of, u_of};
 use std::alloc::Global;
@@ -27,7 +27,7 @@ fn site_in(alloc: Global, document: &Table) -> Result<SiteFile, SiteFault>
     let proxies = proxies_of(document, u)?;
     let parcel_mib = parcel_mib_of(document)?;
     let key = key_of(alloc, document)?;
-    match members_of(alloc, document, u) {
+    match read_members(alloc, document, u) {
         Ok(members) => Ok(SiteFile {
             site,
             u,
