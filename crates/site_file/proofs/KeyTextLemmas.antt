@@ -9,7 +9,7 @@ use Rattle.site_file.specs.declared.key_file.KeyFile.{KeyFile}
 use Rattle.site_file.specs.declared.key_file.KeyFault.{KeyFault}
 use Rattle.site_file.specs.declared.key_file.KeyFault.TheVariants as fault
 use Rattle.site_file.specs.KeyText.{EndsLine, BeginsWithKey, BeginsWithLine, HasKeys, IsKeyText, IsKeyFault}
-use Rattle.site_file.specs.Laws.{RefusedHasNone, HasOne}
+use Rattle.site_file.specs.Laws.{RefusedHasNoKeys, KeysAreOne}
 
 ok_same : (a b : List ℕ) → ◌≡◌ {A = Result (List ℕ) FromHexError} (Ok a) (Ok b) → a ≡ b
 ok_same a b e = cc e
@@ -83,7 +83,7 @@ no_more text first (Some second) key rest other more line next long h =
     let same : h.0 ≡ rest = (line_same text first key h.0 rest h.1 line).1 in
     nothing_is_short more (line_same rest second other [] more (subst (λ t. BeginsWithLine t second []) same h.2) next).1 long
 
-pub refused_has_none : RefusedHasNone
+pub refused_has_none : RefusedHasNoKeys
 refused_has_none text fault.First keys why has = no_first text keys.first keys.second why has
 refused_has_none text fault.Second keys why has = no_second text keys.first keys.second why.0 why.1 why.2 why.3 why.4 has
 refused_has_none text fault.More keys why has = no_more text keys.first keys.second why.0 why.1 why.2 why.3 why.4 why.5 why.6 has
@@ -101,7 +101,7 @@ keys_same text a b (Some p) (Some q) h k =
     let next = line_same k.0 p q [] [] (subst (λ t. BeginsWithLine t p []) same.1 h.2) k.2 in
     (same.0, ap Some next.0)
 
-pub has_one : HasOne
+pub has_one : KeysAreOne
 has_one text one other h k = keys_same text one.first other.first one.second other.second h k
 
 -- ---- what the reader has shown

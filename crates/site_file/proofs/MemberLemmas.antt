@@ -5,7 +5,7 @@ use Rattle.std.specs.declared.net.socket_addr.SocketAddr.{SocketAddr}
 use Rattle.std.proofs.lemmas.Option.{same_Some, none-some, slice_get_within}
 use Rattle.toml.specs.Data.{Members}
 use Rattle.site_file.specs.declared.site.SiteMember.{SiteMember}
-use Rattle.site_file.specs.Site.{IsMember, AreMembers}
+use Rattle.site_file.specs.Site.{IsSiteMember, AreSiteMembers}
 
 got_more : (xs : List SiteMember) (x y : SiteMember) (k : ℕ) → slice_get (xs ++ x ∷ []) k ≡ Some y → (slice_get xs k ≡ Some y) ⊎ ((k ≡ length xs) × (x ≡ y))
 got_more [] x y zero e = inr (refl, same_Some x y e)
@@ -16,15 +16,15 @@ got_more (z ∷ xs) x y (suc k) e = elim (got_more xs x y k e) [ inl h ↦ inl h
 abbrev its_peer : SiteMember → SocketAddr
 its_peer member = member.peer
 
-each_more : (document : Members) (members : List SiteMember) (member : SiteMember) → AreMembers document members → IsMember (length members) document member
-    → (m : ℕ) (found : SiteMember) → slice_get (members ++ member ∷ []) m ≡ Some found → IsMember m document found
+each_more : (document : Members) (members : List SiteMember) (member : SiteMember) → AreSiteMembers document members → IsSiteMember (length members) document member
+    → (m : ℕ) (found : SiteMember) → slice_get (members ++ member ∷ []) m ≡ Some found → IsSiteMember m document found
 each_more document members member are is m found e =
     elim (got_more members member found m e) [
       | inl h ↦ are.each m found h
-      | inr p ↦ subst (λ n. IsMember n document found) (sym p.0) (subst (IsMember (length members) document) p.1 is)
+      | inr p ↦ subst (λ n. IsSiteMember n document found) (sym p.0) (subst (IsSiteMember (length members) document) p.1 is)
     ]
 
-apart_more : (document : Members) (members : List SiteMember) (member : SiteMember) → AreMembers document members
+apart_more : (document : Members) (members : List SiteMember) (member : SiteMember) → AreSiteMembers document members
     → ((k : ℕ) (other : SiteMember) → slice_get members k ≡ Some other → other.peer ≢ member.peer)
     → (m n : ℕ) (one other : SiteMember) → m < n → slice_get (members ++ member ∷ []) m ≡ Some one → slice_get (members ++ member ∷ []) n ≡ Some other → one.peer ≢ other.peer
 apart_more document members member are new m n one other below a b =
@@ -40,15 +40,15 @@ apart_more document members member are new m n one other below a b =
     ]
 
 -- one member more is read
-pub members_more : (document : Members) (members : List SiteMember) (member : SiteMember) → AreMembers document members → IsMember (length members) document member
-    → ((k : ℕ) (other : SiteMember) → slice_get members k ≡ Some other → other.peer ≢ member.peer) → AreMembers document (members ++ member ∷ [])
+pub members_more : (document : Members) (members : List SiteMember) (member : SiteMember) → AreSiteMembers document members → IsSiteMember (length members) document member
+    → ((k : ℕ) (other : SiteMember) → slice_get members k ≡ Some other → other.peer ≢ member.peer) → AreSiteMembers document (members ++ member ∷ [])
 members_more document members member are is new = record {
   each = each_more document members member are is;
   apart = apart_more document members member are new;
 }
 
-pub no_members_yet : (document : Members) (members : List SiteMember) → members ≡ [] → AreMembers document members
-no_members_yet document members e = subst (AreMembers document) (sym e) (record {
+pub no_members_yet : (document : Members) (members : List SiteMember) → members ≡ [] → AreSiteMembers document members
+no_members_yet document members e = subst (AreSiteMembers document) (sym e) (record {
   each = λ m found h. absurd (none-some found h);
   apart = λ m n one other below a b. absurd (none-some one a);
 })

@@ -18,7 +18,7 @@ use Rattle.site_file.specs.declared.site.SiteMember.{SiteMember}
 use Rattle.site_file.specs.declared.site.SiteFile.{SiteFile}
 use Rattle.site_file.specs.Form.{IsHex, IsNumber, IsPath, IsAddress, AreAddresses, HasLength, list_of}
 use Rattle.site_file.specs.Place.{value_at, SaysAt, MaySayAt}
-use Rattle.site_file.specs.Site.{IsMember, IsSaid, Says}
+use Rattle.site_file.specs.Site.{IsSiteMember, IsSaidBy, SaysSite}
 use Rattle.site_file.specs.Laws.{AreSameMember, AreSameFile, SaysOne}
 
 hex_ok : (a b : List ℕ) → ◌≡◌ {A = Result (List ℕ) FromHexError} (Ok a) (Ok b) → a ≡ b
@@ -84,14 +84,14 @@ may_say_one place document (Some x) (Some y) h k = ap Some (says_one IsAddress a
 
 -- ---- a site
 
-member_same : (m : ℕ) (document : Members) (a b : SiteMember) → IsMember m document a → IsMember m document b → AreSameMember a b
+member_same : (m : ℕ) (document : Members) (a b : SiteMember) → IsSiteMember m document a → IsSiteMember m document b → AreSameMember a b
 member_same m document a b h k = record {
   peer = says_one IsAddress address_same (OfMember m of_member.Peer) document a.peer b.peer h.peer k.peer;
   listen = says_one AreAddresses addresses_same (OfMember m of_member.Listen) document a.listen.items b.listen.items h.listen k.listen;
   status = may_say_one (OfMember m of_member.Status) document a.status b.status h.status k.status;
 }
 
-file_same : (document : Members) (one other : SiteFile) → IsSaid document one → IsSaid document other → AreSameFile one other
+file_same : (document : Members) (one other : SiteFile) → IsSaidBy document one → IsSaidBy document other → AreSameFile one other
 file_same document one other h k = record {
   site = says_one (IsHex SITE_BYTES) (hex_same SITE_BYTES) (OfSite of_site.Site) document one.site other.site h.site k.site;
   u = says_number _ _ _ _ (OfSite of_site.U) document one.u other.u h.u k.u;
@@ -104,4 +104,4 @@ file_same document one other h k = record {
 
 pub says_same : SaysOne
 says_same text one other h k =
-    file_same k.document one other (subst (λ (document : Members). IsSaid document one) (same_Some h.document k.document (sym h.parsed ∙ k.parsed)) h.said) k.said
+    file_same k.document one other (subst (λ (document : Members). IsSaidBy document one) (same_Some h.document k.document (sym h.parsed ∙ k.parsed)) h.said) k.said

@@ -15,7 +15,7 @@ use Rattle.site_file.specs.declared.site.SiteMember.{SiteMember}
 use Rattle.site_file.specs.declared.site.SiteFile.{SiteFile}
 use Rattle.site_file.specs.Form.{IsHex, IsNumber, IsPath, IsAddress, AreAddresses, HasLength, most_proxies}
 use Rattle.site_file.specs.Place.{value_at, is_known, SaysAt, MaySayAt, IsThere}
-use Rattle.site_file.specs.Site.{IsMember, IsSaid, Says}
+use Rattle.site_file.specs.Site.{IsSiteMember, IsSaidBy, SaysSite}
 use Rattle.site_file.specs.Fault.{IsUnknown, IsMissing, IsBad, IsBadProxies, IsOtherCount, HaveSamePeer, IsInDocument, IsWhyIn, IsWhy}
 use Rattle.site_file.specs.Laws.{RefusedSaysNone}
 use Rattle.site_file.proofs.MemberLemmas.{got_at}
@@ -25,9 +25,9 @@ use Rattle.site_file.proofs.OneLemmas.{address_same, length_same, said_by, says_
 record IsMemberOf (m : ℕ) (document : Members) (file : SiteFile) : Type 0 where
   member : SiteMember
   got : slice_get file.members.items m ≡ Some member
-  is : IsMember m document member
+  is : IsSiteMember m document member
 
-member_there : (m : ℕ) (document : Members) (file : SiteFile) → IsSaid document file → IsThere (Some m) document → IsMemberOf m document file
+member_there : (m : ℕ) (document : Members) (file : SiteFile) → IsSaidBy document file → IsThere (Some m) document → IsMemberOf m document file
 member_there m document file said there =
     let same : there.0 ≡ length file.members.items = says_one HasLength length_same (OfSite of_site.Member) document there.0 (length file.members.items) there.1 said.count in
     let got = got_at file.members.items m (omega (arith, same, there.2)) in
@@ -36,11 +36,11 @@ member_there m document file said there =
 both : (m : Option ℕ) (name : List ℕ) → is_known m name ≡ true → is_known m name ≡ false → ⊥
 both m name yes no' = cc (sym yes ∙ no')
 
-unknown : (m : Option ℕ) (name : List ℕ) (document : Members) (file : SiteFile) → IsUnknown m name document → IsSaid document file → ⊥
+unknown : (m : Option ℕ) (name : List ℕ) (document : Members) (file : SiteFile) → IsUnknown m name document → IsSaidBy document file → ⊥
 unknown None name document file w said = both None name (said.known w.table name w.there w.key) w.unknown
 unknown (Some m) name document file w said = both (Some m) name ((member_there m document file said w.member).is.known w.table name w.there w.key) w.unknown
 
-missing : (place : Place) (document : Members) (file : SiteFile) → IsMissing place document → IsSaid document file → ⊥
+missing : (place : Place) (document : Members) (file : SiteFile) → IsMissing place document → IsSaidBy document file → ⊥
 missing (OfSite of_site.Site) document file w said = says_nothing (IsHex SITE_BYTES) (OfSite of_site.Site) document file.site w.nothing said.site
 missing (OfSite of_site.U) document file w said = says_nothing (IsNumber 0 MOST_U) (OfSite of_site.U) document file.u w.nothing said.u
 missing (OfSite of_site.Proxies) document file w said = says_nothing (IsNumber 1 (most_proxies file.u)) (OfSite of_site.Proxies) document file.proxies w.nothing said.proxies
@@ -60,7 +60,7 @@ may_say : (place : Place) (document : Members) (address : Option SocketAddr) (va
 may_say place document None value there h = absurd (none-some value (sym h ∙ there))
 may_say place document (Some a) value there h = (a, said_by IsAddress place document a value there h)
 
-bad : (place : Place) (document : Members) (file : SiteFile) → IsBad place document → IsSaid document file → ⊥
+bad : (place : Place) (document : Members) (file : SiteFile) → IsBad place document → IsSaidBy document file → ⊥
 bad (OfSite of_site.Site) document file w said = w.unfit (file.site, said_by (IsHex SITE_BYTES) (OfSite of_site.Site) document file.site w.value w.there said.site)
 bad (OfSite of_site.U) document file w said = w.unfit (file.u, said_by (IsNumber 0 MOST_U) (OfSite of_site.U) document file.u w.value w.there said.u)
 bad (OfSite of_site.Proxies) document file w said =
@@ -80,19 +80,19 @@ bad (OfMember m of_member.Status) document file w said =
     let there = member_there m document file said w.member in
     w.unfit (may_say (OfMember m of_member.Status) document there.member.status w.value w.there there.is.status)
 
-bad_proxies : (u : ℕ) (document : Members) (file : SiteFile) → IsBadProxies u document → IsSaid document file → ⊥
+bad_proxies : (u : ℕ) (document : Members) (file : SiteFile) → IsBadProxies u document → IsSaidBy document file → ⊥
 bad_proxies u document file w said =
     let same : file.u ≡ u = says_number _ _ _ _ (OfSite of_site.U) document file.u u said.u w.u_is in
     let is = said_by (IsNumber 1 (most_proxies file.u)) (OfSite of_site.Proxies) document file.proxies w.value w.there said.proxies in
     w.unfit file.proxies (subst (λ (k : ℕ). IsNumber 1 (most_proxies k) w.value file.proxies) same is)
 
-other_count : (u members : ℕ) (document : Members) (file : SiteFile) → IsOtherCount u members document → IsSaid document file → ⊥
+other_count : (u members : ℕ) (document : Members) (file : SiteFile) → IsOtherCount u members document → IsSaidBy document file → ⊥
 other_count u members document file w said =
     let same : file.u ≡ u = says_number _ _ _ _ (OfSite of_site.U) document file.u u said.u w.u_is in
     let count : length file.members.items ≡ members = says_one HasLength length_same (OfSite of_site.Member) document (length file.members.items) members said.count w.count in
     w.other (sym count ∙ (said.whole ∙ ap (λ (k : ℕ). 2 * k + 1) same))
 
-same_peer : (m n : ℕ) (document : Members) (file : SiteFile) → HaveSamePeer m n document → IsSaid document file → ⊥
+same_peer : (m n : ℕ) (document : Members) (file : SiteFile) → HaveSamePeer m n document → IsSaidBy document file → ⊥
 same_peer m n document file w said =
     let there = w.member in
     let less : m < there.0 = omega (arith, w.apart, there.2) in
@@ -102,7 +102,7 @@ same_peer m n document file w said =
     let at_other : w.address ≡ other.member.peer = says_one IsAddress address_same (OfMember n of_member.Peer) document w.address other.member.peer w.other other.is.peer in
     said.members.apart m n one.member other.member w.apart one.got other.got (at_one ∙ at_other)
 
-refused_in : (why : SiteFault) (document : Members) (file : SiteFile) → why ≢ fault.NoMemory → IsWhyIn document why → IsSaid document file → ⊥
+refused_in : (why : SiteFault) (document : Members) (file : SiteFile) → why ≢ fault.NoMemory → IsWhyIn document why → IsSaidBy document file → ⊥
 refused_in fault.NoMemory document file reason w said = reason refl
 refused_in fault.TooLong document file reason w said = w
 refused_in (fault.NotToml line e) document file reason w said = w
@@ -113,7 +113,7 @@ refused_in (fault.BadProxies u) document file reason w said = bad_proxies u docu
 refused_in (fault.MemberCount u members) document file reason w said = other_count u members document file w said
 refused_in (fault.SamePeer m n) document file reason w said = same_peer m n document file w said
 
-in_document : (text : List ℕ) (why : SiteFault) (file : SiteFile) → why ≢ fault.NoMemory → IsInDocument text why → Says text file → ⊥
+in_document : (text : List ℕ) (why : SiteFault) (file : SiteFile) → why ≢ fault.NoMemory → IsInDocument text why → SaysSite text file → ⊥
 in_document text why file reason w says =
     refused_in why says.document file reason (subst (λ (document : Members). IsWhyIn document why) (same_Some w.document says.document (sym w.parsed ∙ says.parsed)) w.reason) says.said
 

@@ -12,19 +12,19 @@ use Rattle.site_file.specs.declared.place.Place.TheVariants.{OfSite, OfMember}
 use Rattle.site_file.specs.declared.fault.SiteFault.{SiteFault}
 use Rattle.site_file.specs.declared.fault.SiteFault.TheVariants as fault
 use Rattle.site_file.specs.Form.{IsHex, IsNumber, IsPath, IsAddress, AreAddresses, HasLength, most_proxies}
-use Rattle.site_file.specs.Place.{name_at, member_of, table_of, value_at, SaysAt, is_required, IsThere, is_known}
+use Rattle.site_file.specs.Place.{name_at, member_at, table_of, value_at, SaysAt, is_required, IsThere, is_known}
 
 -- the value says what it has to say at the place. Of proxies: with some u
-abbrev pub Fits : Place → Data → Type 0
-Fits (OfSite of_site.Site) value = (name : List ℕ) × IsHex SITE_BYTES value name
-Fits (OfSite of_site.U) value = (n : ℕ) × IsNumber 0 MOST_U value n
-Fits (OfSite of_site.Proxies) value = (u : ℕ) × (n : ℕ) × IsNumber 1 (most_proxies u) value n
-Fits (OfSite of_site.Key) value = (path : List ℕ) × IsPath value path
-Fits (OfSite of_site.ParcelMib) value = (n : ℕ) × IsNumber 1 MOST_PARCEL_MIB value n
-Fits (OfSite of_site.Member) value = (n : ℕ) × HasLength value n
-Fits (OfMember m of_member.Peer) value = (address : SocketAddr) × IsAddress value address
-Fits (OfMember m of_member.Listen) value = (addresses : List SocketAddr) × AreAddresses value addresses
-Fits (OfMember m of_member.Status) value = (address : SocketAddr) × IsAddress value address
+abbrev pub FitsAt : Place → Data → Type 0
+FitsAt (OfSite of_site.Site) value = (name : List ℕ) × IsHex SITE_BYTES value name
+FitsAt (OfSite of_site.U) value = (n : ℕ) × IsNumber 0 MOST_U value n
+FitsAt (OfSite of_site.Proxies) value = (u : ℕ) × (n : ℕ) × IsNumber 1 (most_proxies u) value n
+FitsAt (OfSite of_site.Key) value = (path : List ℕ) × IsPath value path
+FitsAt (OfSite of_site.ParcelMib) value = (n : ℕ) × IsNumber 1 MOST_PARCEL_MIB value n
+FitsAt (OfSite of_site.Member) value = (n : ℕ) × HasLength value n
+FitsAt (OfMember m of_member.Peer) value = (address : SocketAddr) × IsAddress value address
+FitsAt (OfMember m of_member.Listen) value = (addresses : List SocketAddr) × AreAddresses value addresses
+FitsAt (OfMember m of_member.Status) value = (address : SocketAddr) × IsAddress value address
 
 -- the table of the file, or of this member, has a key that is not known
 pub record IsUnknown (m : Option ℕ) (name : List ℕ) (document : Members) : Type 0 where
@@ -36,16 +36,16 @@ pub record IsUnknown (m : Option ℕ) (name : List ℕ) (document : Members) : T
 
 -- nothing is at a place where something has to be
 pub record IsMissing (place : Place) (document : Members) : Type 0 where
-  pub member : IsThere (member_of place) document
+  pub member : IsThere (member_at place) document
   pub required : is_required place ≡ true
   pub nothing : value_at place document ≡ None
 
 -- what is at the place does not fit
 pub record IsBad (place : Place) (document : Members) : Type 0 where
-  pub member : IsThere (member_of place) document
+  pub member : IsThere (member_at place) document
   pub value : Data
   pub there : value_at place document ≡ Some value
-  pub unfit : ¬ Fits place value
+  pub unfit : ¬ FitsAt place value
 
 -- no member has so many proxies with the file's u
 pub record IsBadProxies (u : ℕ) (document : Members) : Type 0 where

@@ -6,7 +6,7 @@ use Rattle.site_file.specs.declared.fault.SiteFault.{SiteFault}
 use Rattle.site_file.specs.declared.fault.SiteFault.TheVariants.{NoMemory}
 use Rattle.site_file.specs.declared.key_file.KeyFile.{KeyFile}
 use Rattle.site_file.specs.declared.key_file.KeyFault.{KeyFault}
-use Rattle.site_file.specs.Site.{Says}
+use Rattle.site_file.specs.Site.{SaysSite}
 use Rattle.site_file.specs.Fault.{IsWhy}
 use Rattle.site_file.specs.KeyText.{IsKeyText, IsKeyFault}
 
@@ -27,13 +27,13 @@ pub record AreSameFile (one other : SiteFile) : Type 0 where
   pub members : (m : ℕ) (a b : SiteMember) → slice_get one.members.items m ≡ Some a → slice_get other.members.items m ≡ Some b → AreSameMember a b
 
 abbrev pub RefusedSaysNone : Type 0
-RefusedSaysNone = (text : List ℕ) (why : SiteFault) (file : SiteFile) → why ≢ NoMemory → IsWhy text why → ¬ Says text file
+RefusedSaysNone = (text : List ℕ) (why : SiteFault) (file : SiteFile) → why ≢ NoMemory → IsWhy text why → ¬ SaysSite text file
 
 abbrev pub SaysOne : Type 0
-SaysOne = (text : List ℕ) (one other : SiteFile) → Says text one → Says text other → AreSameFile one other
+SaysOne = (text : List ℕ) (one other : SiteFile) → SaysSite text one → SaysSite text other → AreSameFile one other
 
-abbrev pub RefusedHasNone : Type 0
-RefusedHasNone = (text : List ℕ) (why : KeyFault) (keys : KeyFile) → IsKeyFault text why → ¬ IsKeyText text keys
+abbrev pub RefusedHasNoKeys : Type 0
+RefusedHasNoKeys = (text : List ℕ) (why : KeyFault) (keys : KeyFile) → IsKeyFault text why → ¬ IsKeyText text keys
 
-abbrev pub HasOne : Type 0
-HasOne = (text : List ℕ) (one other : KeyFile) → IsKeyText text one → IsKeyText text other → (one.first ≡ other.first) × (one.second ≡ other.second)
+abbrev pub KeysAreOne : Type 0
+KeysAreOne = (text : List ℕ) (one other : KeyFile) → IsKeyText text one → IsKeyText text other → (one.first ≡ other.first) × (one.second ≡ other.second)

@@ -28,9 +28,9 @@ name_at (OfSite key) = site_key_name key
 name_at (OfMember m key) = member_key_name key
 
 -- the member that a place is of
-abbrev pub member_of : Place → Option ℕ
-member_of (OfSite key) = None
-member_of (OfMember m key) = Some m
+abbrev pub member_at : Place → Option ℕ
+member_at (OfSite key) = None
+member_at (OfMember m key) = Some m
 
 -- the table of the whole file, or of a member
 abbrev pub table_of : Option ℕ → Members → Option Members
@@ -38,7 +38,7 @@ table_of None document = Some document
 table_of (Some m) document = option_and_then as_table (option_and_then (item_at m) (get_member (codes "member") document))
 
 abbrev pub value_at : Place → Members → Option Data
-value_at place document = option_and_then (get_member (name_at place)) (table_of (member_of place) document)
+value_at place document = option_and_then (get_member (name_at place)) (table_of (member_at place) document)
 
 -- the value at the place says x, by its form
 pub record SaysAt {X : Type 0} (place : Place) (Form : Data → X → Type 0) (document : Members) (x : X) : Type 0 where

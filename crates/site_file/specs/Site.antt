@@ -12,19 +12,19 @@ use Rattle.site_file.specs.Form.{IsHex, IsNumber, IsPath, IsAddress, AreAddresse
 use Rattle.site_file.specs.Place.{SaysAt, MaySayAt, HasKnownKeys}
 
 -- a document says this of its member m
-pub record IsMember (m : ℕ) (document : Members) (member : SiteMember) : Type 0 where
+pub record IsSiteMember (m : ℕ) (document : Members) (member : SiteMember) : Type 0 where
   pub known : HasKnownKeys (Some m) document
   pub peer : SaysAt (OfMember m of_member.Peer) IsAddress document member.peer
   pub listen : SaysAt (OfMember m of_member.Listen) AreAddresses document member.listen.items
   pub status : MaySayAt (OfMember m of_member.Status) IsAddress document member.status
 
 -- it says this of its first members, and no two of them have the same address for their peers
-pub record AreMembers (document : Members) (members : List SiteMember) : Type 0 where
-  pub each : (m : ℕ) (member : SiteMember) → slice_get members m ≡ Some member → IsMember m document member
+pub record AreSiteMembers (document : Members) (members : List SiteMember) : Type 0 where
+  pub each : (m : ℕ) (member : SiteMember) → slice_get members m ≡ Some member → IsSiteMember m document member
   pub apart : (m n : ℕ) (one other : SiteMember) → m < n → slice_get members m ≡ Some one → slice_get members n ≡ Some other → one.peer ≢ other.peer
 
 -- a document says this of a site
-pub record IsSaid (document : Members) (file : SiteFile) : Type 0 where
+pub record IsSaidBy (document : Members) (file : SiteFile) : Type 0 where
   pub known : HasKnownKeys None document
   pub site : SaysAt (OfSite of_site.Site) (IsHex SITE_BYTES) document file.site
   pub u : SaysAt (OfSite of_site.U) (IsNumber 0 MOST_U) document file.u
@@ -33,12 +33,12 @@ pub record IsSaid (document : Members) (file : SiteFile) : Type 0 where
   pub parcel_mib : SaysAt (OfSite of_site.ParcelMib) (IsNumber 1 MOST_PARCEL_MIB) document file.parcel_mib
   pub count : SaysAt (OfSite of_site.Member) HasLength document (length file.members.items)
   pub whole : length file.members.items ≡ 2 * file.u + 1
-  pub members : AreMembers document file.members.items
+  pub members : AreSiteMembers document file.members.items
 
 -- the bytes of a site file say this
-pub record Says (text : List ℕ) (file : SiteFile) : Type 0 where
+pub record SaysSite (text : List ℕ) (file : SiteFile) : Type 0 where
   pub short : length text ≤ MOST_SITE_BYTES
   pub utf8 : IsUtf8 text
   pub document : Members
   pub parsed : parse_document text ≡ Some document
-  pub said : IsSaid document file
+  pub said : IsSaidBy document file

@@ -7,7 +7,7 @@
 //! It is built on `toml`, whose `parse_document` says what a TOML text is, on `hex`, and on `events`, which says how many
 //! clients there may be. It opens no file: the program reads both.
 //!
-//! The layer above uses the contracts of `SiteFile::read` and `KeyFile::read`. What is read is what the text says (`Says`,
+//! The layer above uses the contracts of `SiteFile::read` and `KeyFile::read`. What is read is what the text says (`SaysSite`,
 //! `IsKeyText`), and each error has its reason (`IsWhy`, `IsKeyFault`); by a law no text has a reason and says something,
 //! and none says two things. No program uses it yet.
 #![tactic(auto)]

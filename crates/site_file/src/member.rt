@@ -5,7 +5,7 @@ ghost use Rattle.std.specs.declared.net.socket_addr.SocketAddr.{SocketAddr};
 ghost use Rattle.toml.specs.View.{view, table_view};
 ghost use Rattle.site_file.specs.Place.{SaysAt, MaySayAt, IsThere};
 ghost use Rattle.site_file.specs.Form.{IsAddress, AreAddresses};
-ghost use Rattle.site_file.specs.Site.{IsMember};
+ghost use Rattle.site_file.specs.Site.{IsSiteMember};
 ghost use Rattle.site_file.specs.Fault.{IsWhyIn};
 
 use crate::fault::SiteFault;
@@ -83,7 +83,7 @@ fn listen_of(
 /// A member of the file.
 pub fn read_member(alloc: Global, document: &Table, member: usize) -> Result<SiteMember, SiteFault>
     requires { IsThere (Some member) (table_view document.now) }
-    ensures ok { IfOk result (IsMember member (table_view document.now)) }
+    ensures ok { IfOk result (IsSiteMember member (table_view document.now)) }
     ensures err { IfErr result (IsWhyIn (table_view document.now)) }
 {
     check_keys(alloc, document, Some(member))?;

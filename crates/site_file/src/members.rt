@@ -4,7 +4,7 @@ ghost use Rattle.std.specs.Prelude.{◌≡◌, ◌≢◌, ◌+◌, ◌*◌, ℕ,
 ghost use Rattle.toml.specs.View.{table_view};
 ghost use Rattle.site_file.specs.Place.{SaysAt};
 ghost use Rattle.site_file.specs.Form.{IsNumber, HasLength};
-ghost use Rattle.site_file.specs.Site.{AreMembers};
+ghost use Rattle.site_file.specs.Site.{AreSiteMembers};
 ghost use Rattle.site_file.specs.Fault.{IsWhyIn};
 ghost use Rattle.site_file.specs.declared.site.SiteMember.{SiteMember};
 
@@ -47,7 +47,7 @@ fn add_members(
 ) -> Result<(), SiteFault>
     requires none { members.old.items ≡ [] }
     requires count { SaysAt (Place.OfSite SiteKey.Member) HasLength (table_view document.now) count }
-    ensures members { OnOk result (AreMembers (table_view document.now) members.new.items) }
+    ensures members { OnOk result (AreSiteMembers (table_view document.now) members.new.items) }
     ensures all { OnOk result (length members.new.items ≡ count) }
     ensures err { IfErr result (IsWhyIn (table_view document.now)) }
 {
@@ -64,7 +64,7 @@ fn add_members(
 /// The members of a file that says this `u`.
 pub fn read_members(alloc: Global, document: &Table, u: u8) -> Result<Vec<SiteMember>, SiteFault>
     requires { SaysAt (Place.OfSite SiteKey.U) (IsNumber 0 MOST_U) (table_view document.now) u }
-    ensures members { IfOk result (λ members. AreMembers (table_view document.now) members.items) }
+    ensures members { IfOk result (λ members. AreSiteMembers (table_view document.now) members.items) }
     ensures count { IfOk result (λ members. SaysAt (Place.OfSite SiteKey.Member) HasLength (table_view document.now) (length members.items)) }
     ensures whole { IfOk result (λ members. length members.items ≡ 2 * u + 1) }
     ensures err { IfErr result (IsWhyIn (table_view document.now)) }

@@ -1,7 +1,7 @@
 //! Where in a site file a value is.
 
 ghost use Rattle.std.specs.Prelude.{◌≡◌};
-ghost use Rattle.site_file.specs.Place.{site_key_name, member_key_name, name_at, member_of};
+ghost use Rattle.site_file.specs.Place.{site_key_name, member_key_name, name_at, member_at};
 
 use std::fmt;
 
@@ -74,7 +74,7 @@ impl Place {
 
     /// The member that it is of, if it is of one.
     pub fn member(self) -> Option<usize>
-        ensures { result ≡ member_of self }
+        ensures { result ≡ member_at self }
     {
         match self {
             Place::OfSite(_) => None,

@@ -3,7 +3,7 @@
 ghost use Rattle.std.specs.Prelude.{◌≡◌, IfOk, IfErr};
 ghost use Rattle.toml.specs.View.{table_view};
 ghost use Rattle.toml.specs.Errors.{IsMemory, span_start};
-ghost use Rattle.site_file.specs.Site.{IsSaid, Says};
+ghost use Rattle.site_file.specs.Site.{IsSaidBy, SaysSite};
 ghost use Rattle.site_file.specs.Fault.{IsWhyIn, IsWhy, line_at};
 
 use crate::fault::SiteFault;
@@ -18,7 +18,7 @@ use toml::de::Error;
 
 /// What a document says of a site.
 fn site_in(alloc: Global, document: &Table) -> Result<SiteFile, SiteFault>
-    ensures ok { IfOk result (IsSaid (table_view document.now)) }
+    ensures ok { IfOk result (IsSaidBy (table_view document.now)) }
     ensures err { IfErr result (IsWhyIn (table_view document.now)) }
 {
     check_keys(alloc, document, None)?;
@@ -73,7 +73,7 @@ impl SiteFile {
     /// SamePeer: the document does not say what a site file says, and this is one place where it does not. NoMemory: an
     /// allocation failed. As an error is shown it names the line or the key, and what is expected there.
     pub fn read(alloc: Global, text: &[u8]) -> Result<SiteFile, SiteFault>
-        ensures ok { IfOk result (Says text.now) }
+        ensures ok { IfOk result (SaysSite text.now) }
         ensures err { IfErr result (IsWhy text.now) }
     {
         if text.len() > MOST_SITE_BYTES {

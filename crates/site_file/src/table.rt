@@ -3,7 +3,7 @@
 ghost use Rattle.std.specs.Prelude.{◌≡◌, Some, None, true, option_map, IfOk, IfErr};
 ghost use Rattle.toml.specs.Data.{get_member};
 ghost use Rattle.toml.specs.View.{view, table_view};
-ghost use Rattle.site_file.specs.Place.{table_of, value_at, member_of, is_required, IsThere};
+ghost use Rattle.site_file.specs.Place.{table_of, value_at, member_at, is_required, IsThere};
 ghost use Rattle.site_file.specs.Fault.{IsWhyIn};
 
 use crate::fault::SiteFault;
@@ -52,7 +52,7 @@ pub fn value_in(document: &Table, place: Place) -> Option<&Value>
 
 /// The value at a place where there has to be one.
 pub fn required(document: &Table, place: Place) -> Result<&Value, SiteFault>
-    requires there { IsThere (member_of place) (table_view document.now) }
+    requires there { IsThere (member_at place) (table_view document.now) }
     requires required { is_required place ≡ true }
     ensures ok { IfOk result (λ value. value_at place (table_view document.now) ≡ Some (view value.now)) }
     ensures err { IfErr result (IsWhyIn (table_view document.now)) }
