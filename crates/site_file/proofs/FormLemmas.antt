@@ -1,6 +1,7 @@
 -- Numbers, and lists of addresses.
-use Rattle.std.proofs.Common.{◌≡◌, ℕ, zero, suc, ◌+◌, ◌<◌, ◌≤◌, ◌^◌, ℤ, pos, negsuc, List, [], ◌∷◌, ◌++◌, length, get_or, take, map, Option, Some, None, Result, Ok, Err, refl, sym, ap, ◌∙◌, subst, arith}
-use Rattle.std.specs.Prelude.{unsigned_abs}
+use Rattle.std.proofs.Common.{◌≡◌, ℕ, zero, suc, ◌+◌, ◌<◌, ◌≤◌, ◌^◌, ℤ, pos, negsuc, List, [], ◌∷◌, ◌++◌, length, get_or, take, map, Option, Some, None, Global, Result, Ok, Err, refl, sym, ap, ◌∙◌, subst, arith}
+use Rattle.std.specs.Prelude.{unsigned_abs, Bool, true, false, ◌==◌, Vec, IfOk, IfSome, IfNone}
+use Rattle.std.proofs.lemmas.Bool.Decides.{nat_tests}
 use Rattle.std.specs.List.{AllZip}
 use Rattle.std.specs.Int.{FitsUnsignedBits}
 use Rattle.std.specs.Net.Grammar.{IsSocketText}
@@ -134,3 +135,23 @@ has_length value vs is = record { items = items_view vs; is = sym is; long = len
 
 pub no_length : (value : Data) (n : ℕ) → None ≡ as_array value → HasLength value n → ⊥
 no_length value n none h = none-some h.items (none ∙ h.is)
+
+-- ---- what `addresses_in` gives, as `listed` does
+
+pub some_listed : {E : Type 0} (value : Data) (vs us : List Value) (r : Result (Option (Vec SocketAddr Global)) E) → Some (items_view vs) ≡ as_array value → 0 < length vs → us ≡ vs
+    → IfOk r (λ found. IfSome found (λ bs. AllZip IsAddress (map view us) bs.items)) → IfOk r (λ found. IfSome found (λ bs. AreAddresses value bs.items))
+some_listed value vs us (Ok (Some bs)) is long same h = full_list value vs bs.items is long (subst (λ (xs : List Value). AllZip IsAddress (map view xs) bs.items) same h)
+some_listed value vs us (Ok None) is long same h = tt
+some_listed value vs us (Err e) is long same h = tt
+
+pub none_listed : {E : Type 0} (value : Data) (vs us : List Value) (r : Result (Option (Vec SocketAddr Global)) E) → Some (items_view vs) ≡ as_array value → us ≡ vs
+    → IfOk r (λ found. IfNone found ((bs : List SocketAddr) → AllZip IsAddress (map view us) bs → ⊥)) → IfOk r (λ found. IfNone found ((bs : List SocketAddr) → AreAddresses value bs → ⊥))
+none_listed value vs us (Ok (Some bs)) is same h = tt
+none_listed value vs us (Ok None) is same h = λ bs are. other_list value vs bs is (λ cs k. h cs (subst (λ (xs : List Value). AllZip IsAddress (map view xs) cs) (sym same) k)) are
+none_listed value vs us (Err e) is same h = tt
+
+pub empty_is : (n : ℕ) → true ≡ (n == 0) → n ≡ 0
+empty_is n e = grind (arith, nat_tests)
+
+pub filled_is : (n : ℕ) → false ≡ (n == 0) → 0 < n
+filled_is n e = grind (arith, nat_tests)

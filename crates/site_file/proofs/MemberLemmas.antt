@@ -5,7 +5,7 @@ use Rattle.std.specs.declared.net.socket_addr.SocketAddr.{SocketAddr}
 use Rattle.std.proofs.lemmas.Option.{same_Some, none-some, slice_get_within}
 use Rattle.toml.specs.Data.{Members}
 use Rattle.site_file.specs.declared.site.SiteMember.{SiteMember}
-use Rattle.site_file.specs.Site.{IsSiteMember, AreSiteMembers}
+use Rattle.site_file.specs.Site.{IsMemberSaid, AreSiteMembers}
 
 got_more : (xs : List SiteMember) (x y : SiteMember) (k : ℕ) → slice_get (xs ++ x ∷ []) k ≡ Some y → (slice_get xs k ≡ Some y) ⊎ ((k ≡ length xs) × (x ≡ y))
 got_more [] x y zero e = inr (refl, same_Some x y e)
@@ -16,12 +16,12 @@ got_more (z ∷ xs) x y (suc k) e = elim (got_more xs x y k e) [ inl h ↦ inl h
 abbrev its_peer : SiteMember → SocketAddr
 its_peer member = member.peer
 
-each_more : (document : Members) (members : List SiteMember) (member : SiteMember) → AreSiteMembers document members → IsSiteMember (length members) document member
-    → (m : ℕ) (found : SiteMember) → slice_get (members ++ member ∷ []) m ≡ Some found → IsSiteMember m document found
+each_more : (document : Members) (members : List SiteMember) (member : SiteMember) → AreSiteMembers document members → IsMemberSaid (length members) document member
+    → (m : ℕ) (found : SiteMember) → slice_get (members ++ member ∷ []) m ≡ Some found → IsMemberSaid m document found
 each_more document members member are is m found e =
     elim (got_more members member found m e) [
       | inl h ↦ are.each m found h
-      | inr p ↦ subst (λ n. IsSiteMember n document found) (sym p.0) (subst (IsSiteMember (length members) document) p.1 is)
+      | inr p ↦ subst (λ n. IsMemberSaid n document found) (sym p.0) (subst (IsMemberSaid (length members) document) p.1 is)
     ]
 
 apart_more : (document : Members) (members : List SiteMember) (member : SiteMember) → AreSiteMembers document members
@@ -40,7 +40,7 @@ apart_more document members member are new m n one other below a b =
     ]
 
 -- one member more is read
-pub members_more : (document : Members) (members : List SiteMember) (member : SiteMember) → AreSiteMembers document members → IsSiteMember (length members) document member
+pub members_more : (document : Members) (members : List SiteMember) (member : SiteMember) → AreSiteMembers document members → IsMemberSaid (length members) document member
     → ((k : ℕ) (other : SiteMember) → slice_get members k ≡ Some other → other.peer ≢ member.peer) → AreSiteMembers document (members ++ member ∷ [])
 members_more document members member are is new = record {
   each = each_more document members member are is;

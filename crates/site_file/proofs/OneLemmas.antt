@@ -18,7 +18,7 @@ use Rattle.site_file.specs.declared.site.SiteMember.{SiteMember}
 use Rattle.site_file.specs.declared.site.SiteFile.{SiteFile}
 use Rattle.site_file.specs.Form.{IsHex, IsNumber, IsPath, IsAddress, AreAddresses, HasLength, list_of}
 use Rattle.site_file.specs.Place.{value_at, SaysAt, MaySayAt}
-use Rattle.site_file.specs.Site.{IsSiteMember, IsSaidBy, SaysSite}
+use Rattle.site_file.specs.Site.{IsMemberSaid, IsSaidBy, SaysSite}
 use Rattle.site_file.specs.Laws.{AreSameMember, AreSameFile, SaysOne}
 
 hex_ok : (a b : List ℕ) → ◌≡◌ {A = Result (List ℕ) FromHexError} (Ok a) (Ok b) → a ≡ b
@@ -84,7 +84,7 @@ may_say_one place document (Some x) (Some y) h k = ap Some (says_one IsAddress a
 
 -- ---- a site
 
-member_same : (m : ℕ) (document : Members) (a b : SiteMember) → IsSiteMember m document a → IsSiteMember m document b → AreSameMember a b
+member_same : (m : ℕ) (document : Members) (a b : SiteMember) → IsMemberSaid m document a → IsMemberSaid m document b → AreSameMember a b
 member_same m document a b h k = record {
   peer = says_one IsAddress address_same (OfMember m of_member.Peer) document a.peer b.peer h.peer k.peer;
   listen = says_one AreAddresses addresses_same (OfMember m of_member.Listen) document a.listen.items b.listen.items h.listen k.listen;

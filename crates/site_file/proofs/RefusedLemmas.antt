@@ -15,7 +15,7 @@ use Rattle.site_file.specs.declared.site.SiteMember.{SiteMember}
 use Rattle.site_file.specs.declared.site.SiteFile.{SiteFile}
 use Rattle.site_file.specs.Form.{IsHex, IsNumber, IsPath, IsAddress, AreAddresses, HasLength, most_proxies}
 use Rattle.site_file.specs.Place.{value_at, is_known, SaysAt, MaySayAt, IsThere}
-use Rattle.site_file.specs.Site.{IsSiteMember, IsSaidBy, SaysSite}
+use Rattle.site_file.specs.Site.{IsMemberSaid, IsSaidBy, SaysSite}
 use Rattle.site_file.specs.Fault.{IsUnknown, IsMissing, IsBad, IsBadProxies, IsOtherCount, HaveSamePeer, IsInDocument, IsWhyIn, IsWhy}
 use Rattle.site_file.specs.Laws.{RefusedSaysNone}
 use Rattle.site_file.proofs.MemberLemmas.{got_at}
@@ -25,7 +25,7 @@ use Rattle.site_file.proofs.OneLemmas.{address_same, length_same, said_by, says_
 record IsMemberOf (m : ℕ) (document : Members) (file : SiteFile) : Type 0 where
   member : SiteMember
   got : slice_get file.members.items m ≡ Some member
-  is : IsSiteMember m document member
+  is : IsMemberSaid m document member
 
 member_there : (m : ℕ) (document : Members) (file : SiteFile) → IsSaidBy document file → IsThere (Some m) document → IsMemberOf m document file
 member_there m document file said there =
@@ -34,7 +34,7 @@ member_there m document file said there =
     record { member = got.0; got = got.1; is = said.members.each m got.0 got.1 }
 
 both : (m : Option ℕ) (name : List ℕ) → is_known m name ≡ true → is_known m name ≡ false → ⊥
-both m name yes no' = cc (sym yes ∙ no')
+both m name known unknown = cc (sym known ∙ unknown)
 
 unknown : (m : Option ℕ) (name : List ℕ) (document : Members) (file : SiteFile) → IsUnknown m name document → IsSaidBy document file → ⊥
 unknown None name document file w said = both None name (said.known w.table name w.there w.key) w.unknown

@@ -12,7 +12,7 @@ use Rattle.site_file.specs.Form.{IsHex, IsNumber, IsPath, IsAddress, AreAddresse
 use Rattle.site_file.specs.Place.{SaysAt, MaySayAt, HasKnownKeys}
 
 -- a document says this of its member m
-pub record IsSiteMember (m : ℕ) (document : Members) (member : SiteMember) : Type 0 where
+pub record IsMemberSaid (m : ℕ) (document : Members) (member : SiteMember) : Type 0 where
   pub known : HasKnownKeys (Some m) document
   pub peer : SaysAt (OfMember m of_member.Peer) IsAddress document member.peer
   pub listen : SaysAt (OfMember m of_member.Listen) AreAddresses document member.listen.items
@@ -20,7 +20,7 @@ pub record IsSiteMember (m : ℕ) (document : Members) (member : SiteMember) : T
 
 -- it says this of its first members, and no two of them have the same address for their peers
 pub record AreSiteMembers (document : Members) (members : List SiteMember) : Type 0 where
-  pub each : (m : ℕ) (member : SiteMember) → slice_get members m ≡ Some member → IsSiteMember m document member
+  pub each : (m : ℕ) (member : SiteMember) → slice_get members m ≡ Some member → IsMemberSaid m document member
   pub apart : (m n : ℕ) (one other : SiteMember) → m < n → slice_get members m ≡ Some one → slice_get members n ≡ Some other → one.peer ≢ other.peer
 
 -- a document says this of a site

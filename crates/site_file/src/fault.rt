@@ -101,10 +101,16 @@ impl fmt::Display for SiteFault {
             SiteFault::BadProxies(u) => write_proxies(f, *u),
             SiteFault::MemberCount { u, members } => {
                 let all = 2 * u32::from(*u) + 1;
-                write!(f, "member: there are {members}, and with u = {u} there have to be {all}")
+                write!(
+                    f,
+                    "member: there are {members}, and with u = {u} there have to be {all}"
+                )
             }
             SiteFault::SamePeer(one, other) => {
-                write!(f, "peer of member {other}: member {one} has the same address")
+                write!(
+                    f,
+                    "peer of member {other}: member {one} has the same address"
+                )
             }
             SiteFault::NoMemory => f.write_str("out of memory"),
         }

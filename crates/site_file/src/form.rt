@@ -73,10 +73,7 @@ pub fn address_in(value: &Value) -> Option<SocketAddr>
 }
 
 /// The addresses that all of these are, if each is one.
-pub fn addresses_in(
-    alloc: Global,
-    values: &[Value],
-) -> Result<Option<Vec<SocketAddr>>, AllocError>
+pub fn addresses_in(alloc: Global, values: &[Value]) -> Result<Option<Vec<SocketAddr>>, AllocError>
     ensures some { IfOk result (λ found. IfSome found (λ addresses. AllZip IsAddress (map view values.now) addresses.items)) }
     ensures none { IfOk result (λ found. IfNone found ((addresses : List SocketAddr) → AllZip IsAddress (map view values.now) addresses → ⊥)) }
 {

@@ -30,16 +30,24 @@ pub enum KeyFault {
 /// The digits of a key.
 const KEY_DIGITS: usize = 2 * KEY_BYTES;
 
-/// The key at the front of a text, with what is behind it.
-fn front_key(text: &[u8]) -> Option<([u8; KEY_BYTES], &[u8])>
-    ensures some { IfSome result (λ found. BeginsWithKey text.now found.0 found.1.now) }
+/// A key at the front of a text.
+#[derive(Clone, Copy)]
+struct Front<'a> {
+    key: [u8; KEY_BYTES],
+    /// What is behind it.
+    rest: &'a [u8],
+}
+
+/// The key at the front of a text.
+fn front_key(text: &[u8]) -> Option<Front<'_>>
+    ensures some { IfSome result (λ front. BeginsWithKey text.now front.key front.rest.now) }
     ensures none { IfNone result ((key rest : List ℕ) → BeginsWithKey text.now key rest → ⊥) }
 {
     let Some((digits, rest)) = text.split_at_checked(KEY_DIGITS) else {
         return None;
     };
     match <[u8; KEY_BYTES] as FromHex>::from_hex(digits) {
-        Ok(key) => Some((key, rest)),
+        Ok(key) => Some(Front { key, rest }),
         Err(_) => None,
     }
 }
@@ -50,27 +58,22 @@ fn after_end(text: &[u8]) -> Option<&[u8]>
     ensures none { IfNone result ((rest : List ℕ) → EndsLine text.now rest → ⊥) }
 {
     match text.split_first() {
-        Some((byte, rest)) => {
-            if *byte == b'\n' {
-                Some(rest)
-            } else {
-                None
-            }
-        }
+        Some((byte, rest)) => { if *byte == b'\n' { Some(rest) } else { None } }
         None => Some(text),
     }
 }
 
 /// The key in the first line of a text, with the lines behind it.
-fn front_line(text: &[u8]) -> Option<([u8; KEY_BYTES], &[u8])>
-    ensures some { IfSome result (λ found. BeginsWithLine text.now found.0 found.1.now) }
+fn front_line(text: &[u8]) -> Option<Front<'_>>
+    ensures some { IfSome result (λ front. BeginsWithLine text.now front.key front.rest.now) }
     ensures none { IfNone result ((key rest : List ℕ) → BeginsWithLine text.now key rest → ⊥) }
 {
-    let Some((key, behind)) = front_key(text) else {
+    let Some(front) = front_key(text) else {
         return None;
     };
-    match after_end(behind) {
-        Some(rest) => Some((key, rest)),
+    let key = front.key;
+    match after_end(front.rest) {
+        Some(rest) => Some(Front { key, rest }),
         None => None,
     }
 }
@@ -84,19 +87,21 @@ impl KeyFile {
         ensures ok { IfOk result (IsKeyText text.now) }
         ensures err { IfErr result (IsKeyFault text.now) }
     {
-        let Some((first, rest)) = front_line(text) else {
+        let Some(line) = front_line(text) else {
             return Err(KeyFault::First);
         };
-        if rest.is_empty() {
+        let first = line.key;
+        if line.rest.is_empty() {
             return Ok(KeyFile {
                 first,
                 second: None,
             });
         }
-        let Some((second, more)) = front_line(rest) else {
+        let Some(next) = front_line(line.rest) else {
             return Err(KeyFault::Second);
         };
-        if !more.is_empty() {
+        let second = next.key;
+        if !next.rest.is_empty() {
             return Err(KeyFault::More);
         }
         Ok(KeyFile {

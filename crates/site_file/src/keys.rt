@@ -55,11 +55,7 @@ fn unknown_key(table: &Table, member: Option<usize>) -> Option<&String>
 }
 
 /// Refuses keys that this member, or with none the file, does not have.
-pub fn check_keys(
-    alloc: Global,
-    document: &Table,
-    member: Option<usize>,
-) -> Result<(), SiteFault>
+pub fn check_keys(alloc: Global, document: &Table, member: Option<usize>) -> Result<(), SiteFault>
     requires { IsThere member (table_view document.now) }
     ensures ok { OnOk result (HasKnownKeys member (table_view document.now)) }
     ensures err { IfErr result (IsWhyIn (table_view document.now)) }

@@ -5,7 +5,7 @@ ghost use Rattle.std.specs.declared.net.socket_addr.SocketAddr.{SocketAddr};
 ghost use Rattle.toml.specs.View.{view, table_view};
 ghost use Rattle.site_file.specs.Place.{SaysAt, MaySayAt, IsThere};
 ghost use Rattle.site_file.specs.Form.{IsAddress, AreAddresses};
-ghost use Rattle.site_file.specs.Site.{IsSiteMember};
+ghost use Rattle.site_file.specs.Site.{IsMemberSaid};
 ghost use Rattle.site_file.specs.Fault.{IsWhyIn};
 
 use crate::fault::SiteFault;
@@ -63,11 +63,7 @@ fn listed(alloc: Global, value: &Value) -> Result<Option<Vec<SocketAddr>>, Alloc
 }
 
 /// `listen` of a member.
-fn listen_of(
-    alloc: Global,
-    document: &Table,
-    member: usize,
-) -> Result<Vec<SocketAddr>, SiteFault>
+fn listen_of(alloc: Global, document: &Table, member: usize) -> Result<Vec<SocketAddr>, SiteFault>
     requires { IsThere (Some member) (table_view document.now) }
     ensures ok { IfOk result (λ addresses. SaysAt (Place.OfMember member MemberKey.Listen) AreAddresses (table_view document.now) addresses.items) }
     ensures err { IfErr result (IsWhyIn (table_view document.now)) }
@@ -83,7 +79,7 @@ fn listen_of(
 /// A member of the file.
 pub fn read_member(alloc: Global, document: &Table, member: usize) -> Result<SiteMember, SiteFault>
     requires { IsThere (Some member) (table_view document.now) }
-    ensures ok { IfOk result (IsSiteMember member (table_view document.now)) }
+    ensures ok { IfOk result (IsMemberSaid member (table_view document.now)) }
     ensures err { IfErr result (IsWhyIn (table_view document.now)) }
 {
     check_keys(alloc, document, Some(member))?;

@@ -1,6 +1,6 @@
 //! Reading a site file.
 
-ghost use Rattle.std.specs.Prelude.{◌≡◌, IfOk, IfErr};
+ghost use Rattle.std.specs.Prelude.{◌≡◌, ◌≤◌, ◌==◌, length, count_by, IfOk, IfErr};
 ghost use Rattle.toml.specs.View.{table_view};
 ghost use Rattle.toml.specs.Errors.{IsMemory, span_start};
 ghost use Rattle.site_file.specs.Site.{IsSaidBy, SaysSite};
@@ -40,15 +40,20 @@ fn site_in(alloc: Global, document: &Table) -> Result<SiteFile, SiteFault>
     }
 }
 
+/// How many lines end in a text.
+fn newlines(text: &[u8]) -> usize
+    ensures count { result ≡ count_by (λ b. b == 10) text.now }
+    ensures few { result ≤ length text.now }
+{
+    text.iter().filter(|byte| **byte == b'\n').count()
+}
+
 /// The number of the line, from 1, in which the byte at `start` is.
 fn line_of(text: &[u8], start: usize) -> usize
     ensures { result ≡ line_at text.now start }
 {
-    text.iter()
-        .take(start)
-        .filter(|byte| **byte == b'\n')
-        .count()
-        + 1
+    let (before, _) = text.split_at(start.min(text.len()));
+    newlines(before) + 1
 }
 
 /// That a text is no TOML, with the line of the reason.

@@ -3,11 +3,11 @@ use Rattle.toml.specs.View.{view}
 use Rattle.site_file.specs.Form.{IsPath}
 use Rattle.site_file.proofs.values.key_of.Goals as goal
 
-pub returns-in-Some-clause-ok : goal.returns-in-Some-clause-ok
-returns-in-Some-clause-ok c = record {
+pub returns-in_ok-from_str-in-Some-clause-ok : goal.returns-in_ok-from_str-in-Some-clause-ok
+returns-in_ok-from_str-in-Some-clause-ok c = record {
   value = view c.in_ok-value.value.now;
   there = c.in_ok-value.ensures.ok;
-  says = subst (λ (path : List ℕ). IsPath (view c.in_ok-value.value.now) path) (sym c.in_ok-from_str.ensures) c.in-Some.ensures.some;
+  says = subst (λ (path : List ℕ). IsPath (view c.in_ok-value.value.now) path) (sym c.in_ok-from_str-in-Some.ensures.ok) c.in-Some.ensures.some;
 }
 
 pub returns-in-None-clause-err : goal.returns-in-None-clause-err
