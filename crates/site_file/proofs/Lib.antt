@@ -1,0 +1,6 @@
+mod UnknownLemmas
+mod FormLemmas
+mod MemberLemmas
+mod KeyTextLemmas
+mod OneLemmas
+mod RefusedLemmas
