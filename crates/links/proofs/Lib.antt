@@ -1,0 +1,6 @@
+mod HeldLemmas
+mod LaneLemmas
+mod MessageLemmas
+mod ReadingLemmas
+mod MessageLawLemmas
+mod PieceLemmas
