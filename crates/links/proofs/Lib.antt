@@ -1,6 +1,7 @@
 mod HeldLemmas
 mod LaneLemmas
 mod MessageLemmas
-mod ReadingLemmas
 mod MessageLawLemmas
 mod PieceLemmas
+mod ReadingLemmas
+mod SendingLemmas

@@ -1,7 +1,8 @@
 -- Bytes are read, step by step.
-use Rattle.std.proofs.Common.{◌≡◌, ℕ, ◌+◌, ◌<◌, ◌≤◌, List, [], ◌∷◌, ◌++◌, length, take, drop, Option, Some, None, All, refl, sym, ap, ◌∙◌, subst, arith}
+use Rattle.std.proofs.Common.{◌≡◌, ℕ, ◌+◌, ◌-◌, ◌<◌, ◌≤◌, List, [], ◌∷◌, ◌++◌, length, take, drop, Option, Some, None, inl, inr, refl, sym, ap, ◌∙◌, subst, arith}
 use Rattle.std.specs.List.{flat_map}
-use Rattle.std.proofs.lemmas.List.{append_assoc, append-nil, length-append, take-append-drop}
+use Rattle.std.proofs.lemmas.Bool.{cases_lt}
+use Rattle.std.proofs.lemmas.List.{append_assoc, append-nil, take-append-drop}
 use Rattle.std.proofs.lemmas.List.Concat.{flat_map-append}
 use Rattle.std.proofs.lemmas.List.Elements.{All-nil, All-append, All-push}
 use Rattle.links.specs.declared.message_fault.MessageFault.{MessageFault}
@@ -135,3 +136,42 @@ kept_within None most kept part = by (length kept) (said_size kept) part
     by : (n size : ℕ) → (HEADER_BYTES ≤ n → (size ≤ most) × (n < HEADER_BYTES + size)) → n < HEADER_BYTES + most
     by n size h = grind (arith, h)
 kept_within (Some fault) most kept nothing = omega (arith, ap length nothing)
+
+-- ---- one step
+
+-- bytes are missing of what is not whole
+pub some_missing : (most : ℕ) (kept : List ℕ) (missing : ℕ) → IsPartOfMessage most kept → (length kept < HEADER_BYTES → missing ≡ HEADER_BYTES - length kept) → (HEADER_BYTES ≤ length kept → missing ≡ HEADER_BYTES + said_size kept - length kept) → 0 < missing
+some_missing most kept missing part to_header to_end =
+    elim (cases_lt (length kept) HEADER_BYTES) [
+      | inl lt ↦ omega (arith, to_header lt, lt)
+      | inr le ↦ omega (arith, to_end le, (part le).1)
+    ]
+
+module _ (most : ℕ) (kept unread now : List ℕ) (n : ℕ) (some : 0 < n) (there : n ≤ length unread) (now_is : now ≡ kept ++ take n unread) where
+  -- the header is not there
+  pub header_comes : length now < HEADER_BYTES → TakesPartOfMessage most kept unread n now
+  header_comes short = record {
+    some = some;
+    there = there;
+    now_is = now_is;
+    part = λ whole. absurd (omega (arith, whole, short));
+  }
+
+  -- the header is there, and not the text
+  pub text_comes : said_size now ≤ most → length now < HEADER_BYTES + said_size now → TakesPartOfMessage most kept unread n now
+  text_comes within short = record {
+    some = some;
+    there = there;
+    now_is = now_is;
+    part = λ whole. (within, short);
+  }
+
+  -- both are there
+  pub message_comes : (m : Numbered) (after : List ℕ) → now ≡ message_text m → IsMessage most m → after ≡ [] → TakesMessage most kept unread m n after
+  message_comes m after e is_message empty = record {
+    some = some;
+    there = there;
+    text_is = sym now_is ∙ e;
+    message = is_message;
+    now_is = empty;
+  }

@@ -2,7 +2,6 @@
 
 ghost use Rattle.std.specs.Prelude.{◌≡◌, ◌≤◌, ◌^◌, ◌↔◌, length, drop, Err, IfOk};
 ghost use Rattle.links.specs.Message.{message_text, said_number, said_size};
-ghost use Rattle.links.specs.declared.message.TheConstants.{HEADER_BYTES};
 
 use crate::message_fault::MessageFault;
 use base::Text;

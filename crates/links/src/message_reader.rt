@@ -4,7 +4,6 @@ ghost use Rattle.std.specs.Prelude.{◌≡◌, ◌≤◌, ◌<◌, ◌+◌, ◌-
 ghost use Rattle.links.specs.Numbered.{Numbered};
 ghost use Rattle.links.specs.Message.{said_size, IsPartOfMessage, HasLongText, EndsReading};
 ghost use Rattle.links.specs.Reading.{HasReadMessages, ReadsMore, StepReads, ReadsAll};
-ghost use Rattle.links.specs.declared.message.TheConstants.{HEADER_BYTES};
 
 use crate::message::{HEADER_BYTES, Message, message_in, size_of};
 use crate::message_fault::MessageFault;
