@@ -22,7 +22,7 @@ messages_apart : (most : ℕ) (p q : Numbered) (r s : List ℕ) → IsMessage mo
 unfolding message_text
 messages_apart most p q r s is_p is_q e =
     let regroup = λ (m : Numbered) (rest : List ℕ).
-        append_assoc (to_be_bytes w64 m.0) (to_be_bytes w32 (length m.1) ++ m.1) rest ∙ ap (λ xs. to_be_bytes w64 m.0 ++ xs) (append_assoc (to_be_bytes w32 (length m.1)) m.1 rest) in
+    append_assoc (to_be_bytes w64 m.0) (to_be_bytes w32 (length m.1) ++ m.1) rest ∙ ap (λ xs. to_be_bytes w64 m.0 ++ xs) (append_assoc (to_be_bytes w32 (length m.1)) m.1 rest) in
     let numbers = same_fronts (to_be_bytes w64 p.0) (to_be_bytes w64 q.0) (to_be_bytes w32 (length p.1) ++ (p.1 ++ r)) (to_be_bytes w32 (length q.1) ++ (q.1 ++ s)) refl (sym (regroup p r) ∙ (e ∙ regroup q s)) in
     let number : p.0 ≡ q.0 = sym (from_be_bytes-to_be_bytes_8 p.0 is_p.number) ∙ (ap (from_be_bytes w64) numbers.0 ∙ from_be_bytes-to_be_bytes_8 q.0 is_q.number) in
     let sizes = same_fronts (to_be_bytes w32 (length p.1)) (to_be_bytes w32 (length q.1)) (p.1 ++ r) (q.1 ++ s) refl numbers.1 in

@@ -10,7 +10,7 @@ use Rattle.links.specs.declared.message_fault.MessageFault.{MessageFault}
 use Rattle.links.specs.declared.message_fault.MessageFault.TheVariants.{TooLong, NoMemory}
 use Rattle.links.specs.declared.message.TheConstants.{NUMBER_BYTES, SIZE_BYTES, HEADER_BYTES}
 use Rattle.links.specs.Numbered.{Numbered}
-use Rattle.links.specs.Message.{message_text, said_number, said_size, IsMessage, IsPartOfMessage, HasWholeMessage, HasLongText, EndsReading}
+use Rattle.links.specs.Message.{message_text, said_number, said_size, EndsReading}
 
 -- lists of one length at the front of one text are one list
 pub same_fronts : {X : Type 0} (xs ys r s : List X) → length xs ≡ length ys → xs ++ r ≡ ys ++ s → (xs ≡ ys) × (r ≡ s)
@@ -50,38 +50,31 @@ are_bytes-take n bytes h i =
 are_bytes-drop : (n : ℕ) (bytes : List ℕ) → ((i : ℕ) → get_or bytes i 0 < 256) → (i : ℕ) → get_or (drop n bytes) i 0 < 256
 are_bytes-drop n bytes h i = rw (get_or-drop n bytes i 0) (h (n + i))
 
-module _ (most : ℕ) (bytes : List ℕ) (are_bytes : (i : ℕ) → get_or bytes i 0 < 256) (w : HasWholeMessage most bytes) where
-  text_of_whole : length (drop HEADER_BYTES bytes) ≡ said_size bytes
-  text_of_whole = omega (arith, w.whole, length-drop HEADER_BYTES bytes)
+-- bytes that are a header and just as much text as it says are the message that they say
+module _ (bytes : List ℕ) (are_bytes : (i : ℕ) → get_or bytes i 0 < 256) (whole : length bytes ≡ HEADER_BYTES + said_size bytes) where
+  pub text_of_whole : length (drop HEADER_BYTES bytes) ≡ said_size bytes
+  text_of_whole = omega (arith, whole, length-drop HEADER_BYTES bytes)
 
   front_of_whole : to_be_bytes w64 (said_number bytes) ≡ take NUMBER_BYTES bytes
   unfolding said_number
-  front_of_whole = be_bytes_8 (take NUMBER_BYTES bytes) (said_number bytes) (length-take-le NUMBER_BYTES bytes (omega (arith, w.there))) (are_bytes-take NUMBER_BYTES bytes are_bytes) refl
+  front_of_whole = be_bytes_8 (take NUMBER_BYTES bytes) (said_number bytes) (length-take-le NUMBER_BYTES bytes (omega (arith, whole))) (are_bytes-take NUMBER_BYTES bytes are_bytes) refl
 
   size_of_whole : to_be_bytes w32 (said_size bytes) ≡ take SIZE_BYTES (drop NUMBER_BYTES bytes)
   unfolding said_size
   size_of_whole =
-      be_bytes_4 (take SIZE_BYTES (drop NUMBER_BYTES bytes)) (said_size bytes) (length-take-le SIZE_BYTES (drop NUMBER_BYTES bytes) (omega (arith, w.there, length-drop NUMBER_BYTES bytes)))
+      be_bytes_4 (take SIZE_BYTES (drop NUMBER_BYTES bytes)) (said_size bytes) (length-take-le SIZE_BYTES (drop NUMBER_BYTES bytes) (omega (arith, whole, length-drop NUMBER_BYTES bytes)))
       (are_bytes-take SIZE_BYTES (drop NUMBER_BYTES bytes) (are_bytes-drop NUMBER_BYTES bytes are_bytes)) refl
 
-  -- they are the text of what they say
   pub whole_is : bytes ≡ message_text (said_number bytes, drop HEADER_BYTES bytes)
   unfolding message_text
   whole_is =
-      let behind : drop HEADER_BYTES bytes ≡ drop SIZE_BYTES (drop NUMBER_BYTES bytes) = sym (drop-drop SIZE_BYTES NUMBER_BYTES bytes) in
+      let behind : drop SIZE_BYTES (drop NUMBER_BYTES bytes) ≡ drop HEADER_BYTES bytes = drop-drop SIZE_BYTES NUMBER_BYTES bytes in
       sym (take-append-drop NUMBER_BYTES bytes)
       ∙ (ap (λ xs. take NUMBER_BYTES bytes ++ xs) (sym (take-append-drop SIZE_BYTES (drop NUMBER_BYTES bytes)))
       ∙ (ap (λ xs. xs ++ (take SIZE_BYTES (drop NUMBER_BYTES bytes) ++ drop SIZE_BYTES (drop NUMBER_BYTES bytes))) (sym front_of_whole)
       ∙ (ap (λ xs. to_be_bytes w64 (said_number bytes) ++ (xs ++ drop SIZE_BYTES (drop NUMBER_BYTES bytes))) (sym size_of_whole)
-      ∙ (ap (λ xs. to_be_bytes w64 (said_number bytes) ++ (to_be_bytes w32 (said_size bytes) ++ xs)) (sym behind)
+      ∙ (ap (λ xs. to_be_bytes w64 (said_number bytes) ++ (to_be_bytes w32 (said_size bytes) ++ xs)) behind
       ∙ ap (λ n. to_be_bytes w64 (said_number bytes) ++ (to_be_bytes w32 n ++ drop HEADER_BYTES bytes)) (sym text_of_whole)))))
-
-  pub whole_fits : said_number bytes < 2 ^ 64 → said_size bytes < 2 ^ 32 → IsMessage most (said_number bytes, drop HEADER_BYTES bytes)
-  whole_fits number size = record {
-    number = number;
-    within = omega (arith, w.within, text_of_whole);
-    sized = omega (arith, size, text_of_whole);
-  }
 
 -- ---- bytes that come behind a part of a message
 

@@ -28,12 +28,6 @@ pub record IsMessage (most : ℕ) (m : Numbered) : Type 0 where
 abbrev pub IsPartOfMessage : ℕ → List ℕ → Type 0
 IsPartOfMessage most bytes = HEADER_BYTES ≤ length bytes → (said_size bytes ≤ most) × (length bytes < HEADER_BYTES + said_size bytes)
 
--- a header, and just as much text as it says, which is within the limit
-pub record HasWholeMessage (most : ℕ) (bytes : List ℕ) : Type 0 where
-  pub there : HEADER_BYTES ≤ length bytes
-  pub within : said_size bytes ≤ most
-  pub whole : length bytes ≡ HEADER_BYTES + said_size bytes
-
 -- a header is there, and the text that it says is above the limit
 abbrev pub HasLongText : ℕ → List ℕ → Type 0
 HasLongText most bytes = (HEADER_BYTES ≤ length bytes) × (most < said_size bytes)

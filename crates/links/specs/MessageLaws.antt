@@ -1,5 +1,5 @@
 -- Laws of messages that come.
-use Rattle.std.specs.Prelude.{◌≡◌, ◌≢◌, ℕ, List, Some, All, flat_map}
+use Rattle.std.specs.Prelude.{◌≡◌, ◌≢◌, ℕ, List, Some, None, All, flat_map}
 use Rattle.seals.specs.Laws.{AreFirstOf}
 use Rattle.links.specs.declared.message_fault.MessageFault.TheVariants.{NoMemory}
 use Rattle.links.specs.Numbered.{Numbered, IsBeginningOf}

@@ -1,6 +1,6 @@
 //! What is said on a connection: messages.
 
-ghost use Rattle.std.specs.Prelude.{◌≡◌, ◌≤◌, ◌^◌, ◌↔◌, length, drop, Err, IfOk};
+ghost use Rattle.std.specs.Prelude.{◌≡◌, ◌≤◌, ◌<◌, ◌+◌, ◌^◌, ◌↔◌, length, Err, IfOk};
 ghost use Rattle.links.specs.Message.{message_text, said_number, said_size};
 
 use crate::message_fault::MessageFault;
@@ -78,7 +78,7 @@ pub fn to_bytes(alloc: Global, number: u64, text: &Text) -> Result<Vec<u8>, Mess
     ensures ok { IfOk result (λ bytes. bytes.items ≡ message_text (number, text.now)) }
     ensures too_long { (result ≡ Err MessageFault.TooLong) ↔ (2 ^ 32 ≤ length text.now) }
 {
-    if u32::MAX as usize < text.len() {
+    if (u32::MAX as usize) < text.len() {
         return Err(MessageFault::TooLong);
     }
     let size = text.len() as u32;
@@ -112,10 +112,12 @@ pub fn size_of(bytes: &[u8]) -> usize
     }
 }
 
-/// The message of bytes that are a header and its text.
+/// The message of bytes that are a header and just as much text as it says.
 pub fn message_in(alloc: Global, bytes: &[u8]) -> Result<Message, AllocError>
-    requires { HEADER_BYTES ≤ length bytes.now }
-    ensures { IfOk result (λ m. m ≡ (said_number bytes.now, drop HEADER_BYTES bytes.now)) }
+    requires { length bytes.now ≡ HEADER_BYTES + said_size bytes.now }
+    ensures text { IfOk result (λ m. bytes.now ≡ message_text m) }
+    ensures number { IfOk result (λ m. m.0 < 2 ^ 64) }
+    ensures size { IfOk result (λ m. length m.1 ≡ said_size bytes.now) }
 {
     let (_, text) = bytes.split_at(HEADER_BYTES);
     let text = Vec::from_slice(alloc, text)?;

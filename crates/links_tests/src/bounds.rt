@@ -101,7 +101,9 @@ fn an_acknowledgement_makes_room(rt: HostRuntime) {
 
 #[test]
 fn the_lanes_have_the_bounds_of_their_letters(rt: HostRuntime) {
-    assert!(rt; LaneBounds::QUICK.most_letter_bytes == 65_536 && LaneBounds::QUICK.most_letters == 65_536);
+    assert!(rt;
+        LaneBounds::QUICK.most_letter_bytes == 65_536 && LaneBounds::QUICK.most_letters == 65_536
+    );
     assert!(rt; LaneBounds::QUICK.most_bytes == 33_554_432);
     assert!(rt; LaneBounds::BULK.most_letter_bytes == 71_303_168);
     assert!(rt; LaneBounds::BULK.most_bytes == 268_435_456);

@@ -38,7 +38,10 @@ impl Way {
 
     /// The next bytes come, at most so many.
     fn come(&mut self, alloc: Global, count: usize, messages: &mut Vec<Message>) -> Option<()> {
-        let (_, behind) = self.sent.as_slice().split_at(self.came.min(self.sent.len()));
+        let (_, behind) = self
+            .sent
+            .as_slice()
+            .split_at(self.came.min(self.sent.len()));
         let (front, _) = behind.split_at(count.min(behind.len()));
         let mut pieces = Vec::new(alloc);
         self.opener.feed(alloc, front, &mut pieces).ok()?;
@@ -94,7 +97,11 @@ impl Run {
     /// The connection ends, and there is a new one, with other keys.
     fn connect(&mut self, alloc: Global) -> Option<()> {
         self.connections = self.connections.wrapping_add(1);
-        self.there = Way::new(alloc, [self.connections; 32], LaneBounds::BULK.most_letter_bytes);
+        self.there = Way::new(
+            alloc,
+            [self.connections; 32],
+            LaneBounds::BULK.most_letter_bytes,
+        );
         self.back = Way::new(alloc, [self.connections; 32], 0);
         self.sending.connect(1).ok()?;
         self.receiving.connect(1).ok()
@@ -198,7 +205,10 @@ fn comes_through(alloc: Global, seed: u32, steps: usize) -> Option<bool> {
 #[test]
 fn letters_come_through_whatever_is_lost(rt: HostRuntime) {
     for seed in 0..20u32 {
-        assert!(rt; comes_through(rt.alloc(), seed, 500) == Some(true), "{seed}");
+        assert!(rt;
+            comes_through(rt.alloc(), seed, 500) == Some(true),
+            "{seed}"
+        );
     }
 }
 
