@@ -1,0 +1,7 @@
+mod HeldLemmas
+mod LaneLemmas
+mod MessageLemmas
+mod MessageLawLemmas
+mod PieceLemmas
+mod ReadingLemmas
+mod SendingLemmas
