@@ -114,7 +114,10 @@ fn is_kept_secret(alloc: Global) -> Result<bool, AllocError> {
         Ok(_) => Ok(false),
         Err(fault) => {
             let message = format!(in alloc; "{fault}")?;
-            Ok(message.as_str() == "line 1: a key is 64 hex digits, and nothing else is in its line")
+            Ok(
+                message.as_str()
+                    == "line 1: a key is 64 hex digits, and nothing else is in its line",
+            )
         }
     }
 }
