@@ -109,7 +109,8 @@ fn all_else_is_refused(rt: HostRuntime) -> Result<(), Fail> {
 /// Whether a line with a digit changed is refused, and the message has nothing of the text.
 fn is_kept_secret(alloc: Global) -> Result<bool, AllocError> {
     let mut text = text_of(alloc, &[1])?;
-    text.as_mut_slice()[63] = b'g';
+    text.pop();
+    text.push(b'g')?;
     match KeyFile::read(text.as_slice()) {
         Ok(_) => Ok(false),
         Err(fault) => {
