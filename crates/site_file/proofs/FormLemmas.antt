@@ -1,6 +1,6 @@
 -- Numbers, and lists of addresses.
 use Rattle.std.proofs.Common.{◌≡◌, ℕ, zero, suc, ◌+◌, ◌<◌, ◌≤◌, ◌^◌, ℤ, pos, negsuc, List, [], ◌∷◌, ◌++◌, length, get_or, take, map, Option, Some, None, Global, Result, Ok, Err, refl, sym, ap, ◌∙◌, subst, arith}
-use Rattle.std.specs.Prelude.{unsigned_abs, Bool, true, false, ◌==◌, Vec, IfOk, IfSome, IfNone}
+use Rattle.std.specs.Prelude.{unsigned_abs, true, false, ◌==◌, Vec, IfOk, IfSome, IfNone}
 use Rattle.std.proofs.lemmas.Bool.Decides.{nat_tests}
 use Rattle.std.specs.List.{AllZip}
 use Rattle.std.specs.Int.{FitsUnsignedBits}

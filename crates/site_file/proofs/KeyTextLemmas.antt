@@ -1,14 +1,12 @@
 -- The text of a key file.
-use Rattle.std.proofs.Common.{◌≡◌, ◌⊎◌, inl, inr, ℕ, ◌*◌, ◌<◌, List, [], ◌∷◌, ◌++◌, length, take, drop, Option, Some, None, Result, Ok, Err, refl, sym, ap, ◌∙◌, subst, arith}
+use Rattle.std.proofs.Common.{◌≡◌, inl, inr, ℕ, ◌<◌, List, [], ◌∷◌, ◌++◌, length, take, drop, Option, Some, None, Result, Ok, Err, refl, sym, ap, ◌∙◌, subst, arith}
 use Rattle.std.proofs.lemmas.List.{take_at, drop_at, length-append, take-append-drop, nil_from_length}
 use Rattle.hex.specs.declared.error.FromHexError.{FromHexError}
 use Rattle.hex.specs.Hex.{decode_sized}
 use Rattle.hex.proofs.HexLemmas.{decode_sized-ok}
 use Rattle.site_file.specs.declared.limits.TheConstants.{KEY_BYTES}
-use Rattle.site_file.specs.declared.key_file.KeyFile.{KeyFile}
-use Rattle.site_file.specs.declared.key_file.KeyFault.{KeyFault}
 use Rattle.site_file.specs.declared.key_file.KeyFault.TheVariants as fault
-use Rattle.site_file.specs.KeyText.{EndsLine, BeginsWithKey, BeginsWithLine, HasKeys, IsKeyText, IsKeyFault}
+use Rattle.site_file.specs.KeyText.{EndsLine, BeginsWithKey, BeginsWithLine, HasKeys}
 use Rattle.site_file.specs.Laws.{RefusedHasNoKeys, KeysAreOne}
 
 ok_same : (a b : List ℕ) → ◌≡◌ {A = Result (List ℕ) FromHexError} (Ok a) (Ok b) → a ≡ b

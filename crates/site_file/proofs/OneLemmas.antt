@@ -1,6 +1,5 @@
 -- A text says one thing.
-use Rattle.std.proofs.Common.{◌≡◌, ℕ, ℤ, pos, List, [], ◌∷◌, length, Option, Some, None, Result, Ok, Err, refl, sym, ap, ◌∙◌, subst, string_bytes}
-use Rattle.std.specs.Prelude.{slice_get}
+use Rattle.std.proofs.Common.{◌≡◌, ℕ, pos, List, [], ◌∷◌, length, Option, Some, None, Result, Ok, refl, sym, ap, ◌∙◌, subst, string_bytes}
 use Rattle.std.specs.List.{AllZip}
 use Rattle.std.specs.Net.Grammar.{IsSocketText}
 use Rattle.std.specs.declared.net.socket_addr.SocketAddr.{SocketAddr}
@@ -18,7 +17,7 @@ use Rattle.site_file.specs.declared.site.SiteMember.{SiteMember}
 use Rattle.site_file.specs.declared.site.SiteFile.{SiteFile}
 use Rattle.site_file.specs.Form.{IsHex, IsNumber, IsPath, IsAddress, AreAddresses, HasLength, list_of}
 use Rattle.site_file.specs.Place.{value_at, SaysAt, MaySayAt}
-use Rattle.site_file.specs.Site.{IsMemberSaid, IsSaidBy, SaysSite}
+use Rattle.site_file.specs.Site.{IsMemberSaid, IsSaidBy}
 use Rattle.site_file.specs.Laws.{AreSameMember, AreSameFile, SaysOne}
 
 hex_ok : (a b : List ℕ) → ◌≡◌ {A = Result (List ℕ) FromHexError} (Ok a) (Ok b) → a ≡ b

@@ -4,7 +4,7 @@ use Rattle.std.specs.Prelude.{slice_get}
 use Rattle.std.specs.declared.net.socket_addr.SocketAddr.{SocketAddr}
 use Rattle.std.proofs.lemmas.Option.{same_Some, none-some}
 use Rattle.toml.specs.Data.{Data, Members}
-use Rattle.site_file.specs.declared.limits.TheConstants.{MOST_SITE_BYTES, MOST_U, MOST_PARCEL_MIB, SITE_BYTES}
+use Rattle.site_file.specs.declared.limits.TheConstants.{MOST_U, MOST_PARCEL_MIB, SITE_BYTES}
 use Rattle.site_file.specs.declared.place.SiteKey.TheVariants as of_site
 use Rattle.site_file.specs.declared.place.MemberKey.TheVariants as of_member
 use Rattle.site_file.specs.declared.place.Place.{Place}
@@ -14,7 +14,7 @@ use Rattle.site_file.specs.declared.fault.SiteFault.TheVariants as fault
 use Rattle.site_file.specs.declared.site.SiteMember.{SiteMember}
 use Rattle.site_file.specs.declared.site.SiteFile.{SiteFile}
 use Rattle.site_file.specs.Form.{IsHex, IsNumber, IsPath, IsAddress, AreAddresses, HasLength, most_proxies}
-use Rattle.site_file.specs.Place.{value_at, is_known, SaysAt, MaySayAt, IsThere}
+use Rattle.site_file.specs.Place.{value_at, is_known, MaySayAt, IsThere}
 use Rattle.site_file.specs.Site.{IsMemberSaid, IsSaidBy, SaysSite}
 use Rattle.site_file.specs.Fault.{IsUnknown, IsMissing, IsBad, IsBadProxies, IsOtherCount, HaveSamePeer, IsInDocument, IsWhyIn, IsWhy}
 use Rattle.site_file.specs.Laws.{RefusedSaysNone}

@@ -1,5 +1,5 @@
 -- Why a text says no site.
-use Rattle.std.specs.Prelude.{◌≡◌, ◌≢◌, ℕ, ◌+◌, ◌*◌, ◌<◌, ◌==◌, Bool, true, false, List, length, take, count_by, Option, Some, None, IsSome, IsUtf8, string_bytes}
+use Rattle.std.specs.Prelude.{◌≡◌, ◌≢◌, ℕ, ◌+◌, ◌*◌, ◌<◌, ◌==◌, true, false, List, length, take, count_by, Option, Some, None, IsSome, IsUtf8, string_bytes}
 use Rattle.std.specs.declared.net.socket_addr.SocketAddr.{SocketAddr}
 use Rattle.toml.specs.Data.{Data, Members, get_member}
 use Rattle.toml.specs.Parse.{parse_document}
@@ -12,7 +12,7 @@ use Rattle.site_file.specs.declared.place.Place.TheVariants.{OfSite, OfMember}
 use Rattle.site_file.specs.declared.fault.SiteFault.{SiteFault}
 use Rattle.site_file.specs.declared.fault.SiteFault.TheVariants as fault
 use Rattle.site_file.specs.Form.{IsHex, IsNumber, IsPath, IsAddress, AreAddresses, HasLength, most_proxies}
-use Rattle.site_file.specs.Place.{name_at, member_at, table_of, value_at, SaysAt, is_required, IsThere, is_known}
+use Rattle.site_file.specs.Place.{member_at, table_of, value_at, SaysAt, is_required, IsThere, is_known}
 
 -- the value says what it has to say at the place. Of proxies: with some u
 abbrev pub FitsAt : Place → Data → Type 0

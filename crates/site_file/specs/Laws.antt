@@ -1,5 +1,5 @@
 -- No text is refused for a reason and says something, and none says two things.
-use Rattle.std.specs.Prelude.{◌≡◌, ◌≢◌, ℕ, List, length, slice_get, Option, Some, string_bytes}
+use Rattle.std.specs.Prelude.{◌≡◌, ◌≢◌, ℕ, List, length, slice_get, Some, string_bytes}
 use Rattle.site_file.specs.declared.site.SiteMember.{SiteMember}
 use Rattle.site_file.specs.declared.site.SiteFile.{SiteFile}
 use Rattle.site_file.specs.declared.fault.SiteFault.{SiteFault}

@@ -1,6 +1,6 @@
 -- Where in a site file a value is, and what is there. What a document has is said in the words of `toml`.
-use Rattle.std.specs.Prelude.{◌≡◌, ℕ, ◌<◌, Bool, true, false, ◌||◌, List, length, codes, bytes_eq, Option, Some, None, IsSome, option_and_then}
-use Rattle.toml.specs.Data.{Data, Items, Members, get_member, at as item_at, as_array, as_table}
+use Rattle.std.specs.Prelude.{◌≡◌, ℕ, ◌<◌, Bool, true, false, ◌||◌, List, codes, bytes_eq, Option, Some, None, IsSome, option_and_then}
+use Rattle.toml.specs.Data.{Data, Members, get_member, at as item_at, as_table}
 use Rattle.site_file.specs.declared.place.SiteKey.{SiteKey}
 use Rattle.site_file.specs.declared.place.SiteKey.TheVariants as of_site
 use Rattle.site_file.specs.declared.place.MemberKey.{MemberKey}

@@ -1,5 +1,5 @@
 -- What a text says of a site.
-use Rattle.std.specs.Prelude.{◌≡◌, ◌≢◌, ℕ, ◌+◌, ◌*◌, ◌<◌, ◌≤◌, List, length, slice_get, Option, Some, None, IsUtf8, string_bytes}
+use Rattle.std.specs.Prelude.{◌≡◌, ◌≢◌, ℕ, ◌+◌, ◌*◌, ◌<◌, ◌≤◌, List, length, slice_get, Some, None, IsUtf8, string_bytes}
 use Rattle.toml.specs.Data.{Members}
 use Rattle.toml.specs.Parse.{parse_document}
 use Rattle.site_file.specs.declared.limits.TheConstants.{MOST_SITE_BYTES, MOST_U, MOST_PARCEL_MIB, SITE_BYTES}

@@ -37,8 +37,8 @@ pub enum SiteFault {
 fn write_form<W: fmt::Write>(f: &mut fmt::Formatter<W>, place: Place) -> fmt::Result {
     match place {
         Place::OfSite(SiteKey::Site) => f.write_str("a site is named by 32 hex digits, in quotes"),
-        Place::OfSite(SiteKey::U) => f.write_str("so many members may fail, 0 to 3"),
-        Place::OfSite(SiteKey::Proxies) => f.write_str("a member has a number of proxies"),
+        Place::OfSite(SiteKey::U) => f.write_str("0 to 3 members may fail, of 2u + 1"),
+        Place::OfSite(SiteKey::Proxies) => f.write_str("each member has one client proxy or more"),
         Place::OfSite(SiteKey::Key) => f.write_str("the path of a key file is expected, in quotes"),
         Place::OfSite(SiteKey::ParcelMib) => {
             let most = MOST_PARCEL_MIB;

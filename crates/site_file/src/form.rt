@@ -1,6 +1,6 @@
 //! What the values of a site file say.
 
-ghost use Rattle.std.specs.Prelude.{◌≡◌, ℕ, List, map, length, ◌<◌, IfSome, IfNone, IfOk};
+ghost use Rattle.std.specs.Prelude.{ℕ, List, map, IfSome, IfNone, IfOk};
 ghost use Rattle.std.specs.List.{AllZip};
 ghost use Rattle.std.specs.declared.net.socket_addr.SocketAddr.{SocketAddr};
 ghost use Rattle.toml.specs.View.{view};

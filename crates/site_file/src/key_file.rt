@@ -1,6 +1,6 @@
 //! The keys of a site.
 
-ghost use Rattle.std.specs.Prelude.{◌≡◌, ℕ, List, IfSome, IfNone, IfOk, IfErr};
+ghost use Rattle.std.specs.Prelude.{ℕ, List, IfSome, IfNone, IfOk, IfErr};
 ghost use Rattle.site_file.specs.KeyText.{EndsLine, BeginsWithKey, BeginsWithLine, IsKeyText, IsKeyFault};
 
 use crate::limits::KEY_BYTES;

@@ -1,6 +1,6 @@
 //! What a site file says of a member.
 
-ghost use Rattle.std.specs.Prelude.{◌≡◌, List, Some, IfSome, IfNone, IfOk, IfErr};
+ghost use Rattle.std.specs.Prelude.{List, Some, IfSome, IfNone, IfOk, IfErr};
 ghost use Rattle.std.specs.declared.net.socket_addr.SocketAddr.{SocketAddr};
 ghost use Rattle.toml.specs.View.{view, table_view};
 ghost use Rattle.site_file.specs.Place.{SaysAt, MaySayAt, IsThere};

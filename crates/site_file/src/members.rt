@@ -1,6 +1,6 @@
 //! All members of a site file.
 
-ghost use Rattle.std.specs.Prelude.{◌≡◌, ◌≢◌, ◌+◌, ◌*◌, ℕ, List, [], length, slice_get, IsTrue, ◌↔◌, IfSome, IfNone, IfOk, OnOk, IfErr};
+ghost use Rattle.std.specs.Prelude.{◌≡◌, ◌≢◌, ◌+◌, ◌*◌, ℕ, [], length, slice_get, IsTrue, ◌↔◌, IfSome, IfNone, IfOk, OnOk, IfErr};
 ghost use Rattle.toml.specs.View.{table_view};
 ghost use Rattle.site_file.specs.Place.{SaysAt};
 ghost use Rattle.site_file.specs.Form.{IsNumber, HasLength};

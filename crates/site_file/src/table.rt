@@ -1,6 +1,6 @@
 //! What is at a place of a document.
 
-ghost use Rattle.std.specs.Prelude.{◌≡◌, Some, None, true, option_map, IfOk, IfErr};
+ghost use Rattle.std.specs.Prelude.{◌≡◌, Some, true, option_map, IfOk, IfErr};
 ghost use Rattle.toml.specs.Data.{get_member};
 ghost use Rattle.toml.specs.View.{view, table_view};
 ghost use Rattle.site_file.specs.Place.{table_of, value_at, member_at, is_required, IsThere};

@@ -1,6 +1,6 @@
 //! What a site file says at each of its keys.
 
-ghost use Rattle.std.specs.Prelude.{◌≡◌, ◌≤◌, string_bytes, IfOk, IfErr};
+ghost use Rattle.std.specs.Prelude.{string_bytes, IfOk, IfErr};
 ghost use Rattle.toml.specs.View.{table_view};
 ghost use Rattle.site_file.specs.Place.{SaysAt};
 ghost use Rattle.site_file.specs.Form.{IsHex, IsNumber, IsPath, HasLength, most_proxies};

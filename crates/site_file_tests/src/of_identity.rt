@@ -30,7 +30,12 @@ fn is_compared_so(alloc: Global, row: &Row) -> Result<bool, SiteFault> {
 #[test]
 fn what_never_changes_is_compared(rt: HostRuntime) -> Result<(), Fail> {
     for row in &ROWS {
-        assert!(rt; is_compared_so(rt.alloc(), row)?, "{} in place of {}", row.1, row.0);
+        assert!(rt;
+            is_compared_so(rt.alloc(), row)?,
+            "{} in place of {}",
+            row.1,
+            row.0
+        );
     }
     Ok(())
 }

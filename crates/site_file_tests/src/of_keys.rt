@@ -109,12 +109,16 @@ fn all_else_is_refused(rt: HostRuntime) -> Result<(), Fail> {
 /// Whether a line with a digit changed is refused, and the message has nothing of the text.
 fn is_kept_secret(alloc: Global) -> Result<bool, AllocError> {
     let mut text = text_of(alloc, &[1])?;
-    text.as_mut_slice()[63] = b'g';
+    text.pop();
+    text.push(b'g')?;
     match KeyFile::read(text.as_slice()) {
         Ok(_) => Ok(false),
         Err(fault) => {
             let message = format!(in alloc; "{fault}")?;
-            Ok(message.as_str() == "line 1: a key is 64 hex digits, and nothing else is in its line")
+            Ok(
+                message.as_str()
+                    == "line 1: a key is 64 hex digits, and nothing else is in its line",
+            )
         }
     }
 }

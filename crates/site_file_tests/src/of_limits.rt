@@ -10,7 +10,7 @@ use std::test::Fail;
 fn padded(alloc: Global, bytes: usize) -> Result<Vec<u8>, SiteFault> {
     let mut text = Vec::from_slice(alloc, SAMPLE.as_bytes())?;
     text.push(b'#')?;
-    while text.len() < bytes {
+    for _ in text.len()..bytes {
         text.push(b'x')?;
     }
     Ok(text)

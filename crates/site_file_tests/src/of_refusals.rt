@@ -17,8 +17,16 @@ const NOT_TOML: [Row; 5] = [
         "line 3: invalid value, expected a string, number, boolean, date-time, array or inline table",
     ),
     ("u = 1\n", "u = 1\nu = 1\n", "line 4: duplicate key"),
-    ("[[member]]", "[[member]", "line 8: unclosed array table, expected `]]`"),
-    ("127.0.0.1:11280\"", "127.0.0.1:11280", "line 11: invalid string"),
+    (
+        "[[member]]",
+        "[[member]",
+        "line 8: unclosed array table, expected `]]`",
+    ),
+    (
+        "127.0.0.1:11280\"",
+        "127.0.0.1:11280",
+        "line 11: invalid string",
+    ),
 ];
 
 /// Keys that are not known.
@@ -47,14 +55,26 @@ const MISSING: [Row; 7] = [
         "",
         "site is missing: a site is named by 32 hex digits, in quotes",
     ),
-    ("u = 1\n", "", "u is missing: so many members may fail, 0 to 3"),
-    ("proxies = 21\n", "", "proxies is missing: a member has a number of proxies"),
+    (
+        "u = 1\n",
+        "",
+        "u is missing: 0 to 3 members may fail, of 2u + 1",
+    ),
+    (
+        "proxies = 21\n",
+        "",
+        "proxies is missing: each member has one client proxy or more",
+    ),
     (
         "key = \"/etc/eve/site.key\"\n",
         "",
         "key is missing: the path of a key file is expected, in quotes",
     ),
-    ("parcel_mib = 4096\n", "", "parcel_mib is missing: a parcel has 1 to 1048576 MiB"),
+    (
+        "parcel_mib = 4096\n",
+        "",
+        "parcel_mib is missing: a parcel has 1 to 1048576 MiB",
+    ),
     (
         "peer = \"10.0.0.1:21211\"\n",
         "",
@@ -68,14 +88,21 @@ const MISSING: [Row; 7] = [
 ];
 
 const SITE: &str = "site: a site is named by 32 hex digits, in quotes";
-const U: &str = "u: so many members may fail, 0 to 3";
+
+const U: &str = "u: 0 to 3 members may fail, of 2u + 1";
+
 const PROXIES: &str = "proxies: with u = 1 a member has 1 to 21";
+
 const KEY: &str = "key: the path of a key file is expected, in quotes";
+
 const PARCEL: &str = "parcel_mib: a parcel has 1 to 1048576 MiB";
+
 const PEER: &str =
     "peer of member 1: an address is of the form \"10.0.0.1:21211\" or \"[::1]:21211\"; names are not looked up";
+
 const LISTEN: &str =
     "listen of member 1: a list of addresses is of the form [\"10.0.0.1:11211\"], with one or more; names are not looked up";
+
 const STATUS: &str =
     "status of member 0: an address is of the form \"10.0.0.1:21211\" or \"[::1]:21211\"; names are not looked up";
 
@@ -108,7 +135,11 @@ const BAD_MEMBER: [Row; 10] = [
     ("\"10.0.0.2:21211\"", "\"10.0.0.2:65536\"", PEER),
     ("[\"127.0.0.1:11211\"]\n", "[]\n", LISTEN),
     ("[\"127.0.0.1:11211\"]\n", "\"127.0.0.1:11211\"\n", LISTEN),
-    ("[\"127.0.0.1:11211\"]\n", "[\"127.0.0.1:11211\", 11211]\n", LISTEN),
+    (
+        "[\"127.0.0.1:11211\"]\n",
+        "[\"127.0.0.1:11211\", 11211]\n",
+        LISTEN,
+    ),
     ("[\"127.0.0.1:11211\"]\n", "[\"localhost:11211\"]\n", LISTEN),
     ("\"127.0.0.1:11280\"", "11280", STATUS),
     ("\"127.0.0.1:11280\"", "\"\"", STATUS),
@@ -136,11 +167,7 @@ const MEMBERS: [Row; 5] = [
         "10.0.0.2:021211",
         "peer of member 2: member 1 has the same address",
     ),
-    (
-        "u = 1",
-        "u = 2",
-        "proxies: with u = 2 a member has 1 to 12",
-    ),
+    ("u = 1", "u = 2", "proxies: with u = 2 a member has 1 to 12"),
 ];
 
 /// The keys of a file but for its one member.
@@ -155,7 +182,10 @@ const ALONE: [(&str, &str); 5] = [
         "[member]\npeer = \"10.0.0.1:1\"\nlisten = [\"10.0.0.1:2\"]",
         "member: each machine has a [[member]]",
     ),
-    ("member = []", "member: there are 0, and with u = 0 there have to be 1"),
+    (
+        "member = []",
+        "member: there are 0, and with u = 0 there have to be 1",
+    ),
     (
         "member = [3]",
         "peer of member 0 is missing: an address is of the form \"10.0.0.1:21211\" or \"[::1]:21211\"; names are not looked up",

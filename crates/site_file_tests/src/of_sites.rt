@@ -3,7 +3,7 @@
 use crate::sample::SAMPLE;
 use events::MOST_CLIENTS;
 use site_file::{SiteFault, SiteFile, SiteMember};
-use std::alloc::Global;
+use std::alloc::{AllocError, Global};
 use std::net::SocketAddr;
 use std::test::Fail;
 
@@ -90,13 +90,13 @@ fn another_form_of_it_is_read(rt: HostRuntime) -> Result<(), Fail> {
     Ok(())
 }
 
-/// The text of a site with this `u`, whose members have as many proxies as they may.
-fn text_of(alloc: Global, u: u16) -> Result<String, SiteFault> {
-    let most = MOST_CLIENTS / (2 * u + 1);
+/// The text of a site of so many members with this `u`, which have as many proxies as they may.
+fn text_of(alloc: Global, u: u8, members: u16) -> Result<String, SiteFault> {
+    let most = MOST_CLIENTS / members.max(1);
     let mut text = format!(in alloc;
         "site = \"6f1c8a0e5d3b4c2f9a7e1d2c3b4a5968\"\nu = {u}\nproxies = {most}\nkey = \"k\"\nparcel_mib = 1\n"
     )?;
-    for member in 0..2 * u + 1 {
+    for member in 0..members {
         let lines = format!(in alloc;
             "[[member]]\npeer = \"10.0.0.{member}:1\"\nlisten = [\"10.0.0.{member}:2\"]\n"
         )?;
@@ -105,24 +105,33 @@ fn text_of(alloc: Global, u: u16) -> Result<String, SiteFault> {
     Ok(text)
 }
 
-/// Whether the text of this `u` is read, with the peers in order.
-fn is_read(alloc: Global, u: u16) -> Result<bool, SiteFault> {
-    let text = text_of(alloc, u)?;
-    let file = SiteFile::read(alloc, text.as_bytes())?;
-    let mut are_right = u16::from(file.u) == u
-        && file.proxies == MOST_CLIENTS / (2 * u + 1)
-        && file.members.len() == usize::from(2 * u + 1);
-    for (at, member) in file.members.iter().enumerate() {
+/// Whether the peers of these members are in order.
+fn are_in_order(alloc: Global, members: &[SiteMember]) -> Result<bool, AllocError> {
+    let mut are_right = true;
+    for (at, member) in members.iter().enumerate() {
         let peer = format!(in alloc; "10.0.0.{at}:1")?;
         are_right = are_right && is_at(&member.peer, peer.as_str());
     }
     Ok(are_right)
 }
 
+/// Whether the text of a site of this size is read.
+fn is_read(alloc: Global, u: u8, members: u16) -> Result<bool, SiteFault> {
+    let text = text_of(alloc, u, members)?;
+    let file = SiteFile::read(alloc, text.as_bytes())?;
+    let is_so = file.u == u
+        && file.proxies == MOST_CLIENTS / members.max(1)
+        && file.members.len() == usize::from(members);
+    Ok(is_so && are_in_order(alloc, file.members.as_slice())?)
+}
+
+/// How many members a site has, by `u`.
+const SIZES: [(u8, u16); 4] = [(0, 1), (1, 3), (2, 5), (3, 7)];
+
 #[test]
 fn a_site_of_each_size_is_read(rt: HostRuntime) -> Result<(), Fail> {
-    for u in 0..4u16 {
-        assert!(rt; is_read(rt.alloc(), u)?, "u {u}");
+    for (u, members) in &SIZES {
+        assert!(rt; is_read(rt.alloc(), *u, *members)?, "u {u}");
     }
     Ok(())
 }

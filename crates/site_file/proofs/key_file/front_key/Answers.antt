@@ -1,4 +1,3 @@
-use Rattle.std.proofs.Common.{sym}
 use Rattle.site_file.proofs.KeyTextLemmas.{has_room, begins_with, wrong_digits}
 use Rattle.site_file.proofs.key_file.front_key.Goals as goal
 

@@ -1,4 +1,4 @@
-use Rattle.std.proofs.Common.{◌≡◌, ◌<◌, length, sym, ◌∙◌, arith}
+use Rattle.std.proofs.Common.{sym, ◌∙◌, arith}
 use Rattle.toml.specs.View.{view}
 use Rattle.site_file.proofs.FormLemmas.{no_list, empty_list, some_listed, none_listed, empty_is, filled_is}
 use Rattle.site_file.proofs.member.listed.Goals as goal
