@@ -7,6 +7,7 @@ use std::alloc::Global;
 use std::test::Fail;
 
 /// A message, and its bytes by hand.
+#[derive(Clone, Copy)]
 struct Row {
     name: &'static str,
     number: u64,
@@ -127,6 +128,6 @@ fn is_joined(alloc: Global) -> Option<bool> {
 fn a_shared_text_is_written_whole(rt: HostRuntime) -> Result<(), Fail> {
     assert!(rt; is_joined(rt.alloc()) == Some(true));
     let message = Message::new(1, Vec::from_slice(rt.alloc(), b"abc")?);
-    assert!(rt; message.into_text().as_slice() == b"abc");
+    assert!(rt; message.into_text().as_slice() == b"abc".as_slice());
     Ok(())
 }
