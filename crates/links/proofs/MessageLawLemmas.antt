@@ -1,18 +1,17 @@
 -- What is read is what was written.
-use Rattle.std.proofs.Common.{◌≡◌, ◌≢◌, ℕ, ◌+◌, ◌<◌, ◌≤◌, List, [], ◌∷◌, ◌++◌, length, Option, Some, None, All, refl, sym, ap, ◌∙◌, subst, arith}
+use Rattle.std.proofs.Common.{◌≡◌, ◌≢◌, ℕ, ◌+◌, List, [], ◌∷◌, ◌++◌, length, Option, Some, None, All, refl, sym, ap, ◌∙◌, subst, arith}
 use Rattle.std.specs.List.{flat_map}
 use Rattle.std.specs.Int.{w32, w64, from_be_bytes, to_be_bytes}
 use Rattle.std.proofs.lemmas.Nat.{from_be_bytes-to_be_bytes_4, from_be_bytes-to_be_bytes_8}
 use Rattle.std.proofs.lemmas.List.{append_assoc, append-nil, append_cancel_left, length-append}
 use Rattle.std.proofs.lemmas.List.Concat.{flat_map-append}
 use Rattle.std.proofs.lemmas.List.Elements.{All-head, All-tail}
-use Rattle.seals.specs.Laws.{AreFirstOf}
 use Rattle.links.specs.declared.message_fault.MessageFault.{MessageFault}
 use Rattle.links.specs.declared.message_fault.MessageFault.TheVariants.{TooLong, NoMemory}
 use Rattle.links.specs.declared.message.TheConstants.{HEADER_BYTES}
 use Rattle.links.specs.Numbered.{Numbered, IsBeginningOf}
-use Rattle.links.specs.Message.{message_text, said_size, IsMessage, EndsReading}
-use Rattle.links.specs.Reading.{MessageReaderView, IsKeptOrEnds, HasReadMessages}
+use Rattle.links.specs.Message.{message_text, said_size, IsMessage}
+use Rattle.links.specs.Reading.{MessageReaderView, IsKeptOrEnds}
 use Rattle.links.specs.Pieces.{bytes_of_pieces}
 use Rattle.links.specs.MessageLaws.{ReadIsWritten, WrittenIsRead, PiecesCarryMessages}
 use Rattle.links.proofs.MessageLemmas.{same_fronts, length-message_text, said_size-message_text}

@@ -1,9 +1,9 @@
 -- What always holds of the letters of a lane.
-use Rattle.std.proofs.Common.{◌≡◌, ℕ, ◌+◌, ◌-◌, ◌^◌, ◌<◌, ◌≤◌, max, List, [], ◌∷◌, ◌++◌, length, drop, All, sym, subst, arith}
+use Rattle.std.proofs.Common.{◌≡◌, ℕ, ◌+◌, ◌-◌, ◌^◌, ◌<◌, ◌≤◌, max, List, [], ◌∷◌, ◌++◌, length, drop, sym, subst, arith}
 use Rattle.std.proofs.lemmas.List.{length-drop, length_push}
 use Rattle.std.proofs.lemmas.List.Elements.{All-nil, All-push, All-drop}
 use Rattle.links.specs.declared.bounds.LaneBounds.{LaneBounds}
-use Rattle.links.specs.Sending.{SendingView, IsSending, HasRoomFor, bytes_held, last_number, new_sending, with_said, with_acknowledged, on_new_connection, for_new_life}
+use Rattle.links.specs.Sending.{SendingView, IsSending, HasRoomFor, last_number, new_sending, with_said, on_new_connection, for_new_life}
 use Rattle.links.proofs.HeldLemmas.{bytes_held-push, bytes_held-drop}
 
 pub sending_new : (bounds : LaneBounds) (held : List (List ℕ)) → held ≡ [] → IsSending (record (new_sending bounds) { held = held })

@@ -1,5 +1,5 @@
 -- A message as bytes, and bytes that begin with no message.
-use Rattle.std.specs.Prelude.{◌≡◌, ⊤, ℕ, ◌+◌, ◌^◌, ◌<◌, ◌≤◌, List, ◌++◌, length, take, drop}
+use Rattle.std.specs.Prelude.{⊤, ℕ, ◌+◌, ◌^◌, ◌<◌, ◌≤◌, List, ◌++◌, length, take, drop}
 use Rattle.std.specs.Int.{w32, w64, from_be_bytes, to_be_bytes}
 use Rattle.links.specs.declared.message_fault.MessageFault.{MessageFault}
 use Rattle.links.specs.declared.message_fault.MessageFault.TheVariants.{TooLong, NoMemory}

@@ -1,7 +1,7 @@
 //! The letters of a lane to one peer.
 
-ghost use Rattle.std.specs.Prelude.{◌≡◌, ◌≤◌, ◌<◌, ◌+◌, ◌-◌, ◌^◌, ◌↔◌, [], length, min, Err, IsTrue, IfOk, OnOk, OnErr, IfErr};
-ghost use Rattle.links.specs.Sending.{SendingView, IsSending, HasRoomFor, HandsOutNext, last_number, with_letter, with_acknowledged, on_new_connection, for_new_life, new_sending};
+ghost use Rattle.std.specs.Prelude.{◌≡◌, ◌≤◌, ◌<◌, ◌+◌, ◌-◌, ◌^◌, ◌↔◌, length, min, Err, IsTrue, IfOk, OnOk, OnErr, IfErr};
+ghost use Rattle.links.specs.Sending.{IsSending, HasRoomFor, HandsOutNext, last_number, with_letter, with_acknowledged, on_new_connection, for_new_life, new_sending};
 
 use crate::bounds::LaneBounds;
 use crate::fault::LinkFault;
