@@ -5,6 +5,6 @@ use Rattle.base.specs.declared.shared_list.Held.{Held}
 use Rattle.base.specs.declared.shared_list.Held.TheVariants.{Own, Shared}
 
 module _ {T : Type 0} where
-  abbrev pub items_held : Held T → List T
-  items_held (Own items) = items.items
-  items_held (Shared items) = (arc_value items).items
+  abbrev pub elements_held : Held T → List T
+  elements_held (Own items) = items.items
+  elements_held (Shared items) = (arc_value items).items

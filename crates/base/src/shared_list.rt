@@ -1,5 +1,5 @@
 ghost use Rattle.std.specs.Prelude.{◌≡◌, ◌↔◌, [], length, IsTrue};
-ghost use Rattle.base.specs.Shared.{items_held};
+ghost use Rattle.base.specs.Shared.{elements_held};
 
 use std::alloc::{AllocError, Global};
 use std::marker::Model;
@@ -15,7 +15,7 @@ enum Held<T> {
 
 impl<T> Held<T> {
     fn as_slice(&self) -> &[T]
-        ensures { result.now ≡ items_held self.now }
+        ensures { result.now ≡ elements_held self.now }
     {
         match self {
             Held::Shared(items) => items.as_slice(),
@@ -33,13 +33,13 @@ pub struct SharedList<T, const LEAST: usize, const MOST: usize> {
 impl<T, const LEAST: usize, const MOST: usize> Model for SharedList<T, LEAST, MOST> {
     ghost use Rattle.std.specs.Prelude.{List};
     ghost use Rattle.base.specs.Limits.{IsWithin};
-    ghost use Rattle.base.specs.Shared.{items_held};
+    ghost use Rattle.base.specs.Shared.{elements_held};
 
     ghost Value = { List T };
 
-    ghost view = { λ a. items_held a.held };
+    ghost view = { λ a. elements_held a.held };
 
-    ghost invariant = { λ a. IsWithin LEAST MOST (items_held a.held) };
+    ghost invariant = { λ a. IsWithin LEAST MOST (elements_held a.held) };
 }
 
 impl<T: Drop, const LEAST: usize, const MOST: usize> SharedList<T, LEAST, MOST> {
