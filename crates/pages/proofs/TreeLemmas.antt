@@ -1,8 +1,8 @@
 -- A tree in branches: its root is that over all leaves, and how it is made and renewed.
-use Rattle.std.proofs.Common.{◌≡◌, ◌≢◌, ℕ, zero, suc, ◌+◌, ◌*◌, ◌<◌, ◌/◌, ◌%◌, List, [], ◌∷◌, ◌++◌, map, length, take, drop, get_or, set, refl, sym, ap, ◌∙◌, arith}
+use Rattle.std.proofs.Common.{◌≡◌, ◌≢◌, ℕ, zero, suc, ◌+◌, ◌*◌, ◌<◌, ◌/◌, ◌%◌, Bool, false, List, [], ◌∷◌, ◌++◌, map, length, take, drop, get_or, set, refl, sym, ap, ◌∙◌, arith}
 use Rattle.std.specs.Prelude.{◌^◌}
 use Rattle.std.proofs.Math.Nat.{pow-succ'}
-use Rattle.std.proofs.lemmas.List.{ext_get_or, length-set, map-set, get_or-set_same, get_or-set_other, length-take-le, length-drop, take-take, drop-take, take-append-drop, get_or-take, get_or-drop, flat_map_more, length_push}
+use Rattle.std.proofs.lemmas.List.{ext_get_or, length-set, get_or-set_same, get_or-set_other, length-take-le, length-drop, take-take, drop-take, take-append-drop, get_or-take, get_or-drop, flat_map_more, length_push}
 use Rattle.token.specs.declared.tree.TheConstants.{HEIGHT}
 use Rattle.token.specs.Digest.{level, levels, only, root_of}
 use Rattle.token.proofs.Levels.{length-level, levels-append}
@@ -66,12 +66,13 @@ made-next digests branches n branch made few many is = record {
 
 -- ---- other digests of one group
 
-module _ (branches : List (List (List ℕ))) (top digests : List (List ℕ)) (group : ℕ) (are : AreBranches branches top) (long : length digests ≡ GROUP_PAGES) where
-  pub renewed-are : (new : List (List ℕ)) (root : List ℕ) → root ≡ branch_root digests → new ≡ set top group root → AreBranches (set branches group digests) new
-  renewed-are new root is made = record {
+module _ (branches : List (List (List ℕ))) (top digests : List (List ℕ)) (group : ℕ) (right : Bool) (are : AreBranches branches top right) (long : length digests ≡ GROUP_PAGES) where
+  -- then the top is not right any more
+  pub renewed-are : AreBranches (set branches group digests) top false
+  renewed-are = record {
     count = length-set branches group digests ∙ are.count;
     each = long-set branches group digests are.each long;
-    over = made ∙ (λ i. set (are.over i) group (is i)) ∙ sym (map-set branch_root branches group digests);
+    over = λ is. absurd (cc is);
   }
 
   pub renewed-count : length (leaves_of (set branches group digests)) ≡ page_count

@@ -5,10 +5,11 @@ ghost use Rattle.pages.specs.Tree.{leaves, branch_root, IsTree, IsAboveSame};
 ghost use Rattle.pages.specs.declared.group.TheConstants.{GROUP_PAGES};
 
 use crate::group::GROUP_PAGES;
+use sha_lanes::Pair;
 use std::alloc::{AllocError, Global};
 use std::marker::Model;
 use std::sync::Arc;
-use token::inner_digest;
+use token::{inner_digest, inner_digest4};
 
 /// The places of a tree over as many digests as a group has pages. Place 0 is not used.
 const NODES: usize = 2 * GROUP_PAGES;
@@ -55,18 +56,69 @@ fn set_leaves(nodes: &mut [[u8; 32]; NODES], digests: &[[u8; 32]; GROUP_PAGES]) 
     changed
 }
 
+/// The two digests below a node.
+fn below(nodes: &[[u8; 32]; NODES], node: usize) -> Pair {
+    Pair {
+        left: nodes[2 * node],
+        right: nodes[2 * node + 1],
+    }
+}
+
+fn is_above_change(changed: &[bool; NODES], node: usize) -> bool {
+    changed[2 * node] || changed[2 * node + 1]
+}
+
+/// How many of four nodes are above a changed one.
+fn changes_below(changed: &[bool; NODES], first: usize) -> usize {
+    (first..first + 4)
+        .filter(|node| is_above_change(changed, *node))
+        .count()
+}
+
+/// Makes four nodes new, side by side.
+fn renew_four(nodes: &mut [[u8; 32]; NODES], changed: &mut [bool; NODES], first: usize) {
+    let made = inner_digest4(
+        &below(nodes, first),
+        &below(nodes, first + 1),
+        &below(nodes, first + 2),
+        &below(nodes, first + 3),
+    );
+    for place in 0..4 {
+        nodes[first + place] = made[place];
+        changed[first + place] = true;
+    }
+}
+
+/// Makes each of the nodes from `first` to before `end` new that is above a changed one, from the last one on.
+fn renew_each(
+    nodes: &mut [[u8; 32]; NODES],
+    changed: &mut [bool; NODES],
+    first: usize,
+    end: usize,
+) {
+    for node in (first..end).rev() {
+        if is_above_change(changed, node) {
+            nodes[node] = inner_digest(&nodes[2 * node], &nodes[2 * node + 1]);
+            changed[node] = true;
+        }
+    }
+}
+
 /// Makes each inner node new that is above a changed one.
 fn renew_above(nodes: &mut [[u8; 32]; NODES], changed: &mut [bool; NODES])
     requires { (k : ℕ) → 0 < k → k < GROUP_PAGES → IsAboveSame nodes.old changed.old k }
     ensures tree { IsTree nodes.new }
     ensures leaves { leaves nodes.new ≡ leaves nodes.old }
 {
-    for node in (1..GROUP_PAGES).rev() {
-        if changed[2 * node] || changed[2 * node + 1] {
-            nodes[node] = inner_digest(&nodes[2 * node], &nodes[2 * node + 1]);
-            changed[node] = true;
+    for quarter in (1..4).rev() {
+        let first = 4 * quarter;
+        if changes_below(changed, first) < 2 {
+            renew_each(nodes, changed, first, first + 4);
+        } else {
+            renew_four(nodes, changed, first);
         }
     }
+    renew_each(nodes, changed, 1, 4);
 }
 
 /// Whether these are the leaves.
