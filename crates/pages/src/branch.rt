@@ -1,7 +1,9 @@
 //! A branch of the tree over the digests of all pages: the tree over those of one group.
 
-ghost use Rattle.std.specs.Prelude.{◌≡◌, ◌*◌, ◌<◌, ℕ, length, true, false, slice_index_or, [], IfOk, OnOk, OnErr};
-ghost use Rattle.pages.specs.Tree.{leaves, branch_root, IsTree, IsAboveSame};
+ghost use Rattle.std.specs.Prelude.{◌≡◌, ◌≢◌, ◌+◌, ◌*◌, ◌<◌, ◌≤◌, ℕ, List, length, true, false, slice_index_or, [], IfOk, OnOk, OnErr};
+ghost use Rattle.wire.specs.Token.{inner_text};
+ghost use Rattle.token.specs.Digest.{digest as digest_of};
+ghost use Rattle.pages.specs.Tree.{leaves, branch_root, IsTree, IsAboveSame, IsRenewed};
 ghost use Rattle.pages.specs.declared.group.TheConstants.{GROUP_PAGES};
 
 use crate::group::GROUP_PAGES;
@@ -57,36 +59,72 @@ fn set_leaves(nodes: &mut [[u8; 32]; NODES], digests: &[[u8; 32]; GROUP_PAGES]) 
 }
 
 /// The two digests below a node.
-fn below(nodes: &[[u8; 32]; NODES], node: usize) -> Pair {
+fn below(nodes: &[[u8; 32]; NODES], node: usize) -> Pair
+    requires { node < GROUP_PAGES }
+    ensures left { result.left ≡ slice_index_or nodes.now (2 * node) [] }
+    ensures right { result.right ≡ slice_index_or nodes.now (2 * node + 1) [] }
+{
     Pair {
         left: nodes[2 * node],
         right: nodes[2 * node + 1],
     }
 }
 
-fn is_above_change(changed: &[bool; NODES], node: usize) -> bool {
+/// Whether one of the two nodes below is marked as changed.
+fn is_above_change(changed: &[bool; NODES], node: usize) -> bool
+    requires { node < GROUP_PAGES }
+    ensures left { result ≡ false → slice_index_or changed.now (2 * node) false ≡ false }
+    ensures right { result ≡ false → slice_index_or changed.now (2 * node + 1) false ≡ false }
+{
     changed[2 * node] || changed[2 * node + 1]
 }
 
-/// How many of four nodes are above a changed one.
-fn changes_below(changed: &[bool; NODES], first: usize) -> usize {
-    (first..first + 4)
-        .filter(|node| is_above_change(changed, *node))
-        .count()
+/// How many of four neighbours are above a changed node.
+fn changes_below(changed: &[bool; NODES], first: usize) -> usize
+    requires { first ≤ 12 }
+{
+    let mut count = 0;
+    for place in 0..4 {
+        if is_above_change(changed, first + place) {
+            count += 1;
+        }
+    }
+    count
 }
 
-/// Makes four nodes new, side by side.
-fn renew_four(nodes: &mut [[u8; 32]; NODES], changed: &mut [bool; NODES], first: usize) {
+/// Sets a node that is made of the two below it, and marks it as changed.
+fn set_node(
+    nodes: &mut [[u8; 32]; NODES],
+    changed: &mut [bool; NODES],
+    node: usize,
+    digest: [u8; 32],
+)
+    requires some { 0 < node }
+    requires few { node < GROUP_PAGES }
+    ensures renewed { (first : List (List ℕ)) → digest ≡ digest_of (inner_text (record { left = slice_index_or nodes.old (2 * node) []; right = slice_index_or nodes.old (2 * node + 1) [] }))
+        → IsRenewed first nodes.old changed.old (node + 1) → IsRenewed first nodes.new changed.new node }
+    ensures others { (k : ℕ) → k ≢ node → slice_index_or nodes.new k [] ≡ slice_index_or nodes.old k [] }
+{
+    nodes[node] = digest;
+    changed[node] = true;
+}
+
+/// Makes four neighbours new, side by side.
+fn renew_four(nodes: &mut [[u8; 32]; NODES], changed: &mut [bool; NODES], first: usize)
+    requires low { 4 ≤ first }
+    requires high { first ≤ 12 }
+    ensures { (before : List (List ℕ)) → IsRenewed before nodes.old changed.old (first + 4) → IsRenewed before nodes.new changed.new first }
+{
     let made = inner_digest4(
         &below(nodes, first),
         &below(nodes, first + 1),
         &below(nodes, first + 2),
         &below(nodes, first + 3),
     );
-    for place in 0..4 {
-        nodes[first + place] = made[place];
-        changed[first + place] = true;
-    }
+    set_node(nodes, changed, first + 3, made[3]);
+    set_node(nodes, changed, first + 2, made[2]);
+    set_node(nodes, changed, first + 1, made[1]);
+    set_node(nodes, changed, first, made[0]);
 }
 
 /// Makes each of the nodes from `first` to before `end` new that is above a changed one, from the last one on.
@@ -95,12 +133,30 @@ fn renew_each(
     changed: &mut [bool; NODES],
     first: usize,
     end: usize,
-) {
+)
+    requires some { 0 < first }
+    requires rising { first ≤ end }
+    requires few { end ≤ GROUP_PAGES }
+    ensures { (before : List (List ℕ)) → IsRenewed before nodes.old changed.old end → IsRenewed before nodes.new changed.new first }
+{
     for node in (first..end).rev() {
         if is_above_change(changed, node) {
-            nodes[node] = inner_digest(&nodes[2 * node], &nodes[2 * node + 1]);
-            changed[node] = true;
+            let digest = inner_digest(&nodes[2 * node], &nodes[2 * node + 1]);
+            set_node(nodes, changed, node, digest);
         }
+    }
+}
+
+/// Makes four neighbours new where they are above a changed node.
+fn renew_quarter(nodes: &mut [[u8; 32]; NODES], changed: &mut [bool; NODES], first: usize)
+    requires low { 4 ≤ first }
+    requires high { first ≤ 12 }
+    ensures { (before : List (List ℕ)) → IsRenewed before nodes.old changed.old (first + 4) → IsRenewed before nodes.new changed.new first }
+{
+    if changes_below(changed, first) < 2 {
+        renew_each(nodes, changed, first, first + 4);
+    } else {
+        renew_four(nodes, changed, first);
     }
 }
 
@@ -110,14 +166,9 @@ fn renew_above(nodes: &mut [[u8; 32]; NODES], changed: &mut [bool; NODES])
     ensures tree { IsTree nodes.new }
     ensures leaves { leaves nodes.new ≡ leaves nodes.old }
 {
-    for quarter in (1..4).rev() {
-        let first = 4 * quarter;
-        if changes_below(changed, first) < 2 {
-            renew_each(nodes, changed, first, first + 4);
-        } else {
-            renew_four(nodes, changed, first);
-        }
-    }
+    renew_quarter(nodes, changed, 12);
+    renew_quarter(nodes, changed, 8);
+    renew_quarter(nodes, changed, 4);
     renew_each(nodes, changed, 1, 4);
 }
 
