@@ -265,14 +265,6 @@ impl Ensemble {
         self.nodes.epoch()
     }
 
-    /// Whether nothing is to be done at once: no letter is under way, no executor has a job, and no order is held
-    /// that an executor could obey now.
-    pub fn is_idle(&self) -> bool
-        ensures { result ≡ is_quiet self.now.nodes }
-    {
-        self.nodes.is_quiet()
-    }
-
     /// How often something was not done for want of memory, or since a bound was reached: letters or an order were
     /// lost, a replica that was to be opened is down, or `work` left something to be done. It stays at 2^64 - 1.
     pub fn refused(&self) -> u64
