@@ -61,7 +61,7 @@ impl Ensemble {
     ghost use Rattle.verifier.specs.declared.input.Input.TheVariants.{Suspect};
     ghost use Rattle.proto.specs.declared.command.Command.{Command};
     ghost use Rattle.ensemble.specs.Nodes.{IsFree, VerifierMoves, VerifierGets, size_of};
-    ghost use Rattle.ensemble.specs.Shown.{is_free_at, is_up_at, latest_epoch, is_quiet};
+    ghost use Rattle.ensemble.specs.Shown.{is_free_at, is_up_at, latest_epoch};
     ghost use Rattle.events.specs.declared.event.Replica.TheVariants as replica;
     ghost use Rattle.ensemble.specs.Calls.{RefusedNothing, IsReopened, IsReopenedAndPosts, AllCollected};
     ghost use Rattle.ensemble.specs.Served.{IsUnderWay, letters_again, VerifierPosts};
