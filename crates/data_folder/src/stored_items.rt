@@ -9,7 +9,6 @@ ghost use Rattle.data_folder.specs.Items.{AreRowsOf, AreStatesTold};
 
 use base::Entry;
 use item_rows::changes_since;
-use item_tree::ItemTree;
 use items::{Item, Store};
 use pages::{Layout, Page};
 use process_text::ProcessText;
@@ -18,10 +17,13 @@ use shelf::{FoundItems, are_all};
 use states::{State, layout_of};
 use std::alloc::{AllocError, Global};
 use token::PAGES;
-use wire::Record;
+use wire::put_list;
 
 /// From page to page the row numbers of items are so far apart.
 const PAGE_ROW_NUMBERS: u64 = 1 << 55;
+
+/// What the text of a page that is a tree begins with, as `item_tree` writes it.
+const TREE_MARK: u8 = 6;
 
 /// Adds entries, which are shared.
 fn share_all(
@@ -69,17 +71,14 @@ fn put_sorted(
     page.put_text(text)
 }
 
-/// Writes the text of a page that is a tree.
-fn put_tree(
-    alloc: Global,
-    entries: &[Entry<Key, Item>],
-    text: &mut Vec<u8>,
-) -> Result<(), AllocError> {
-    let tree = ItemTree::of_entries(alloc, entries)?;
-    if tree.len() >= 1 << 32 {
+/// Writes the text of a page that is a tree. It has the entries in the order of the paths of their keys, which is that of
+/// rows: so no tree is made for it. If they have another order the text is that of no page.
+fn put_tree(entries: &[Entry<Key, Item>], text: &mut Vec<u8>) -> Result<(), AllocError> {
+    if entries.len() >= 1 << 32 {
         return Err(AllocError);
     }
-    tree.put(text)
+    text.push(TREE_MARK)?;
+    put_list(entries, text)
 }
 
 /// Writes the text of each page, in the order of their numbers.
@@ -93,7 +92,7 @@ fn put_pages(
         let entries = page_entries(alloc, found, number)?;
         match layout {
             Layout::Sorted => put_sorted(alloc, &entries, text)?,
-            Layout::Tree => put_tree(alloc, &entries, text)?,
+            Layout::Tree => put_tree(&entries, text)?,
         }
     }
     Ok(())
