@@ -2,6 +2,7 @@
 
 ghost use Rattle.std.specs.Prelude.{◌≡◌, ◌<◌, IsTrue, IfOk};
 ghost use Rattle.pages.specs.Page.{page_count};
+ghost use Rattle.pages.specs.Joined.{IsOwn};
 ghost use Rattle.states.specs.State.{initial_state};
 ghost use Rattle.process_text.specs.StateOf.{IsStateOf};
 ghost use Rattle.shelf.specs.Found.{rows_found};
@@ -9,21 +10,17 @@ ghost use Rattle.data_folder.specs.Items.{AreRowsOf, AreStatesTold};
 
 use base::Entry;
 use item_rows::changes_since;
-use items::{Item, Store};
-use pages::{Layout, Page};
+use items::Item;
+use pages::{Layout, Page, Pages};
 use process_text::ProcessText;
 use proto::{Fault, Key};
 use shelf::{FoundItems, are_all};
 use states::{State, layout_of};
 use std::alloc::{AllocError, Global};
 use token::PAGES;
-use wire::put_list;
 
 /// From page to page the row numbers of items are so far apart.
 const PAGE_ROW_NUMBERS: u64 = 1 << 55;
-
-/// What the text of a page that is a tree begins with, as `item_tree` writes it.
-const TREE_MARK: u8 = 6;
 
 /// Adds entries, which are shared.
 fn share_all(
@@ -52,50 +49,32 @@ fn page_entries(
     Ok(entries)
 }
 
-/// Puts entries into a page.
-fn put_all(page: &mut Page, entries: &[Entry<Key, Item>]) -> Result<(), AllocError> {
-    for entry in entries {
-        page.put(entry.key().clone()?, entry.value().clone()?)?;
-    }
-    Ok(())
-}
-
-/// Writes the text of a page that is sorted.
-fn put_sorted(
-    alloc: Global,
-    entries: &[Entry<Key, Item>],
-    text: &mut Vec<u8>,
-) -> Result<(), AllocError> {
-    let mut page = Page::new(alloc)?;
-    put_all(&mut page, entries)?;
-    page.put_text(text)
-}
-
-/// Writes the text of a page that is a tree. It has the entries in the order of the paths of their keys, which is that of
-/// rows: so no tree is made for it. If they have another order the text is that of no page.
-fn put_tree(entries: &[Entry<Key, Item>], text: &mut Vec<u8>) -> Result<(), AllocError> {
-    if entries.len() >= 1 << 32 {
-        return Err(AllocError);
-    }
-    text.push(TREE_MARK)?;
-    put_list(entries, text)
-}
-
-/// Writes the text of each page, in the order of their numbers.
-fn put_pages(
+/// The page of this number that has its entries. `BadRecord`: some are of another page. `NoMemory` is the only other error.
+fn page_of(
     alloc: Global,
     layout: Layout,
     found: &FoundItems,
-    text: &mut Vec<u8>,
-) -> Result<(), AllocError> {
-    for number in 0..PAGES {
-        let entries = page_entries(alloc, found, number)?;
-        match layout {
-            Layout::Sorted => put_sorted(alloc, &entries, text)?,
-            Layout::Tree => put_tree(&entries, text)?,
-        }
+    number: usize,
+) -> Result<Page, Fault>
+    requires { number < page_count }
+    ensures { IfOk result (λ page. IsOwn number page.items) }
+{
+    let entries = page_entries(alloc, found, number)?;
+    let page = Page::of_entries(alloc, layout, &entries)?;
+    if page.is_own(alloc, number)? {
+        Ok(page)
+    } else {
+        Err(Fault::BadRecord)
     }
-    Ok(())
+}
+
+/// The pages that have these items. The errors are those of `page_of`.
+fn pages_of(alloc: Global, layout: Layout, found: &FoundItems) -> Result<Pages, Fault> {
+    let mut pages = Vec::with_capacity(alloc, PAGES)?;
+    for number in 0..PAGES {
+        pages.push(page_of(alloc, layout, found, number)?)?;
+    }
+    Ok(Pages::join(pages))
 }
 
 /// The state of this text that has these items. `BadRecord`: they are not the items of this state, since the token is not
@@ -103,9 +82,8 @@ fn put_pages(
 pub fn state_with(alloc: Global, text: &ProcessText, found: &FoundItems) -> Result<State, Fault>
     ensures { IfOk result (λ state. IsStateOf text.now state) }
 {
-    let mut bytes = text.front(alloc)?;
-    put_pages(alloc, layout_of(text.head.origin.form), found, &mut bytes)?;
-    text.state(alloc, &bytes)
+    let pages = pages_of(alloc, layout_of(text.head.origin.form), found)?;
+    text.state_with(alloc, pages)
 }
 
 /// Whether these are the items of the state, each in its row. It takes them.

@@ -125,6 +125,25 @@ impl Page {
         }
     }
 
+    /// A page in this layout of these entries, which are shared. Of two entries with one key the first one counts. Refused
+    /// if an allocation fails, or in the same way if there are 2^32 entries or more.
+    pub fn of_entries(
+        alloc: Global,
+        layout: Layout,
+        entries: &[Entry<Key, Item>],
+    ) -> Result<Page, AllocError>
+        ensures { IfOk result (λ page. page ≡ record { items = map.from_entries entries.now; layout = layout; sealed = false }) }
+    {
+        let tree = ItemTree::of_entries(alloc, entries)?;
+        if MOST_ENTRIES as u64 < tree.len() {
+            return Err(AllocError);
+        }
+        match layout {
+            Layout::Sorted => Page::of_store(alloc, tree.to_plain(alloc)?),
+            Layout::Tree => Ok(Page::of_tree(alloc, tree)),
+        }
+    }
+
     /// How its items are kept.
     pub fn layout(&self) -> Layout
         ensures { result ≡ self.now.layout }
