@@ -268,7 +268,7 @@ impl Page {
     pub(crate) fn hash_ahead(&mut self, hasher: &mut ForkHasher)
         ensures { self.new ≡ self.old }
     {
-        if !self.sealed {
+        if self.is_written() {
             self.kept.hash_ahead(hasher);
         }
     }
