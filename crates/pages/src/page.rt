@@ -135,7 +135,7 @@ impl Page {
         ensures { IfOk result (λ page. page ≡ record { items = map.from_entries entries.now; layout = layout; sealed = false }) }
     {
         let tree = ItemTree::of_entries(alloc, entries)?;
-        if MOST_ENTRIES as u64 < tree.len() {
+        if tree.len() > MOST_ENTRIES as u64 {
             return Err(AllocError);
         }
         match layout {
