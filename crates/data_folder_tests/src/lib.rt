@@ -1,5 +1,5 @@
-//! Tests of `data_folder` by its public calls, over files in memory, with a process as a value: a service is asked
-//! commands, and saved after each of them.
+//! Tests of `data_folder`, and of how `data_folders` begins, by their public calls, over files in memory. A service is
+//! asked commands, and saved after each of them.
 //!
 //! What items a folder has to have after so many saves is written beside each command (`commands`). A record that is found
 //! has these items, and the text that was saved.

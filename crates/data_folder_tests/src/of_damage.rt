@@ -120,7 +120,7 @@ fn len_of(images: &Images, damaged: Damaged) -> usize {
     }
 }
 
-/// Changes each so-manieth byte of a file, and looks what comes of it. How often it was told, and how often not.
+/// Changes a bit in each `STEP`-th byte of a file, one at a time: how often that is reported, and how often not.
 fn damage_each(
     rt: &impl Abort,
     alloc: Global,
@@ -142,7 +142,7 @@ fn damage_each(
     Ok((told, untold))
 }
 
-/// Damages one of the files after all saves. How often it was told, and how often not.
+/// Damages one of the files after all saves, so: how often that is reported, and how often not.
 fn damage(
     rt: &impl Abort,
     alloc: Global,
@@ -176,7 +176,7 @@ fn damage_item(
     Ok(())
 }
 
-/// Changes each so-manieth byte of an item of many such bytes. How many they were.
+/// Changes a bit in each `STEP`-th byte of the database that lies in an item of many such bytes. How many they are.
 fn damage_items(
     rt: &impl Abort,
     alloc: Global,
@@ -195,7 +195,7 @@ fn damage_items(
     Ok(count)
 }
 
-/// The pages have no sums, and the token of the state tells that the item is another one.
+/// The pages have no sums: that the item is another one is seen by the token of the state.
 #[test]
 fn a_damaged_byte_of_an_item_is_told_without_sums(rt: HostRuntime) -> Result<(), Fail> {
     let moments = small_moments(&rt, rt.alloc(), 0, 7)?;
@@ -205,7 +205,7 @@ fn a_damaged_byte_of_an_item_is_told_without_sums(rt: HostRuntime) -> Result<(),
     Ok(())
 }
 
-/// In the log it leaves the save before the last one, mostly.
+/// Most bytes of the log belong to the last save: without it the one before is found.
 #[test]
 fn a_damaged_byte_of_the_log_leaves_the_last_save_or_the_one_before(
     rt: HostRuntime,
@@ -216,7 +216,7 @@ fn a_damaged_byte_of_the_log_leaves_the_last_save_or_the_one_before(
     Ok(())
 }
 
-/// In the database it is told, mostly.
+/// Most bytes of the database are reported.
 #[test]
 fn a_damaged_byte_of_the_database_is_told_or_leaves_the_last_save(
     rt: HostRuntime,

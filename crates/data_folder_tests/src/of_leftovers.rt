@@ -1,4 +1,4 @@
-//! All that a crash may leave: of what was written since the last sync of a file, any blocks may be on the disk.
+//! What a crash may leave: of what was written since the last sync of a file, any blocks may be on the disk.
 
 use crate::files::{ALL, COPIED, Calls, Image, Images, TestDisk, images_of};
 use crate::saves::{TestFolder, is_old_or_new, new_folder, opening_in, save_all};
@@ -244,7 +244,7 @@ fn open_left(
     }
 }
 
-/// Stops both files at each so-manieth call, one at a time. How many blocks differ in all.
+/// Stops each file at each `STEP`-th call, one at a time. How many blocks differ in all.
 fn open_all_left(rt: &impl Abort, alloc: Global, moments: &[Moment]) -> Result<usize, DataFault> {
     let mut differing = 0usize;
     for row in 0..MOST_ROWS {

@@ -134,6 +134,17 @@ fn begun<F: SaveCopy + Send + Drop, R: Threads + Sync>(
     }
 }
 
+/// The folders of a start that have this, opened.
+fn opened_of(
+    alloc: Global,
+    moments: &[Moment],
+    row: &[Has],
+) -> Result<Opened<TestFolder>, Fail> {
+    let mut opened = Opened::new(alloc, 7);
+    push_each(alloc, &mut opened, row, moments)?;
+    Ok(opened)
+}
+
 /// From which save a start goes on whose folders have this.
 fn start<R: Threads + Sync>(
     rt: &R,
@@ -142,8 +153,7 @@ fn start<R: Threads + Sync>(
     row: &[Has],
     counts: &FolderCounts,
 ) -> Result<Result<usize, FoldersFault>, Fail> {
-    let mut opened = Opened::new(alloc, 7);
-    push_each(alloc, &mut opened, row, moments)?;
+    let opened = opened_of(alloc, moments, row)?;
     Ok(begun(rt, alloc, opened, moments, counts))
 }
 
@@ -166,14 +176,22 @@ const OF_TWO_SITES: [([Has; 3], usize); 3] = [
     ([Has::NotOpen, Has::Other(1), Has::Save(1)], 1),
 ];
 
+fn check_two_sites<R: Threads + Sync + Abort>(
+    rt: &R,
+    alloc: Global,
+    moments: &[Moment],
+) -> Result<(), Fail> {
+    for (row, at) in &OF_TWO_SITES {
+        let expected = Err(FoldersFault::At(*at, DataFault::OtherSite));
+        check_row(rt, alloc, moments, row, expected)?;
+    }
+    Ok(())
+}
+
 #[test]
 fn a_start_takes_copies_of_one_site_alone(rt: HostRuntime) -> Result<(), Fail> {
     let moments = small_moments(&rt, rt.alloc(), 0, 2)?;
-    for (row, at) in &OF_TWO_SITES {
-        let expected = Err(FoldersFault::At(*at, DataFault::OtherSite));
-        check_row(&rt, rt.alloc(), &moments, row, expected)?;
-    }
-    Ok(())
+    check_two_sites(&rt, rt.alloc(), &moments)
 }
 
 const CHOICES: [Has; 4] = [Has::NotOpen, Has::Nothing, Has::Save(1), Has::Save(2)];
@@ -209,18 +227,31 @@ fn expected_of(row: &[Has]) -> Result<usize, FoldersFault> {
     }
 }
 
+/// What three folders have in the row of this number, from 0 to 63.
+fn row_at(number: usize) -> [Has; 3] {
+    [
+        CHOICES[number % 4],
+        CHOICES[number / 4 % 4],
+        CHOICES[number / 16 % 4],
+    ]
+}
+
+fn check_choices<R: Threads + Sync + Abort>(
+    rt: &R,
+    alloc: Global,
+    moments: &[Moment],
+) -> Result<(), Fail> {
+    for number in 0..64usize {
+        let row = row_at(number);
+        check_row(rt, alloc, moments, &row, expected_of(&row))?;
+    }
+    Ok(())
+}
+
 #[test]
 fn a_start_needs_two_of_three_folders(rt: HostRuntime) -> Result<(), Fail> {
     let moments = small_moments(&rt, rt.alloc(), 0, 2)?;
-    for at in 0..64usize {
-        let row = [
-            CHOICES[at % 4],
-            CHOICES[at / 4 % 4],
-            CHOICES[at / 16 % 4],
-        ];
-        check_row(&rt, rt.alloc(), &moments, &row, expected_of(&row))?;
-    }
-    Ok(())
+    check_choices(&rt, rt.alloc(), &moments)
 }
 
 /// It is open and has the save with which the start begins, or it is not open.
@@ -249,12 +280,30 @@ fn are_counted(counts: &FolderCounts) -> bool {
     true
 }
 
+/// Whether a start of three folders goes on from the save of one of them, and each is counted rightly.
+fn is_counted<R: Threads + Sync>(
+    rt: &R,
+    alloc: Global,
+    moments: &[Moment],
+    counts: &FolderCounts,
+) -> Result<bool, Fail> {
+    let row = [Has::Save(2), Has::NotOpen, Has::Save(1)];
+    let begun = start(rt, alloc, moments, &row, counts)?;
+    Ok(begun == Ok(2) && are_counted(counts))
+}
+
+fn check_counts<R: Threads + Sync + Abort>(
+    rt: &R,
+    alloc: Global,
+    moments: &[Moment],
+) -> Result<(), Fail> {
+    let counts = FolderCounts::new(alloc, 3)?;
+    assert!(rt; is_counted(rt, alloc, moments, &counts)?);
+    Ok(())
+}
+
 #[test]
 fn a_start_is_counted_in_each_folder(rt: HostRuntime) -> Result<(), Fail> {
     let moments = small_moments(&rt, rt.alloc(), 0, 2)?;
-    let counts = FolderCounts::new(rt.alloc(), 3)?;
-    let row = [Has::Save(2), Has::NotOpen, Has::Save(1)];
-    let begun = start(&rt, rt.alloc(), &moments, &row, &counts)?;
-    assert!(rt; begun == Ok(2) && are_counted(&counts));
-    Ok(())
+    check_counts(&rt, rt.alloc(), &moments)
 }
