@@ -1,4 +1,4 @@
--- A folder over files in memory goes to the thread that saves in it.
+-- A store over files in memory goes to the thread that saves in it.
 use denote.RattleType.{RattleType}
 use denote.Param.Send.{IsSend}
 use Rattle.sqlite_disk.proofs.memory.Memory.TheSendSync as memory
@@ -8,19 +8,10 @@ use Rattle.sqlite_disk.specs.declared.Disk as disk
 use Rattle.sqlite_disk.specs.contracts.memory.Memory as of_memory
 use Rattle.sqlite_disk.specs.contracts.fuse.Fuse as of_fuse
 use Rattle.sqlite_store.specs.contracts.store.FileStore as of_store
-use Rattle.sqlite_trees.specs.declared.store.Store as store
-use Rattle.data_folder.specs.contracts.folder.DataFolder as folder
-use Rattle.data_folder.proofs.Crossing.{folder_send}
 
 -- a file in memory that may stop at some call
-abbrev file : RattleType
+abbrev pub file : RattleType
 file = of_fuse.the_row of_memory.the_row
 
-file_send : IsSend file
-file_send = fuse.the_send of_memory.the_row memory.the_send
-
-store_send : (f : disk.Ghosts file.Denot) → IsSend (of_store.the_row file f)
-store_send f = file_store.the_send file f file_send
-
-pub test_folder_send : (f : disk.Ghosts file.Denot) (g : store.Ghosts (of_store.the_row file f).Denot) → IsSend (folder.the_row (of_store.the_row file f) g)
-test_folder_send f g = folder_send (of_store.the_row file f) g (store_send f)
+pub store_send : (g : disk.Ghosts file.Denot) → IsSend (of_store.the_row file g)
+store_send g = file_store.the_send file g (fuse.the_send of_memory.the_row memory.the_send)

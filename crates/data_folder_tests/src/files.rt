@@ -149,12 +149,7 @@ fn unopened(
         db: Fuse::new(db, calls.db),
     };
     let pager = Pager::new(alloc, files, size, options_of(layout))?;
-    Ok(Unopened::with_sums(
-        alloc,
-        pager,
-        &tables(),
-        layout.has_sums,
-    )?)
+    Ok(Unopened::with_sums(alloc, pager, &tables(), layout.has_sums)?)
 }
 
 /// An empty database. `None`: a file stopped before it was made.

@@ -2,7 +2,9 @@
 //! the next one.
 
 use crate::files::{TestStore, USUAL};
-use crate::saves::{ALONE, Opening, WANTED, crashed, good_folder, opening_of, save_all, store_after};
+use crate::saves::{
+    ALONE, Opening, WANTED, crashed, good_folder, opening_of, save_all, store_after,
+};
 use crate::services::{
     Moment, add_answer, few_moments, moments_behind, moments_shrinking, small_moments,
 };

@@ -59,11 +59,7 @@ fn crash(files: &mut Files<TestDisk>) {
     files.db.crash();
 }
 
-fn left_in(
-    alloc: Global,
-    files: &mut Files<TestDisk>,
-    saved: usize,
-) -> Result<Left, AllocError> {
+fn left_in(alloc: Global, files: &mut Files<TestDisk>, saved: usize) -> Result<Left, AllocError> {
     let written = images_of(alloc, files)?;
     crash(files);
     let synced = images_of(alloc, files)?;

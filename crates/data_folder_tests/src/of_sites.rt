@@ -1,7 +1,7 @@
 //! Copies in three folders, some of them of another site, or of an earlier save.
 
 use crate::files::{TestStore, USUAL};
-use crate::saves::{TestFolder, good_folder, is_record, store_after};
+use crate::saves::{good_folder, is_record, store_after};
 use crate::services::{Moment, small_moments};
 use data_folder::{CopyId, DataFault, DataFolder, SaveCopy, Wanted};
 use data_folders::{FolderCount, FolderCounts, FoldersFault, Opened};
@@ -89,15 +89,16 @@ fn push<S: Store + Drop>(
     }
 }
 
-/// Opens each folder.
-fn push_each(
+/// Opens each of three folders, whose stores these are.
+fn push_each<S: Store + Drop, F: Fn(usize) -> Result<Option<S>, Fail>>(
     alloc: Global,
-    opened: &mut Opened<TestFolder>,
-    row: &[Has],
-    moments: &[Moment],
-) -> Result<(), Fail> {
-    for (at, has) in row.iter().enumerate() {
-        let store = store_of(alloc, at, *has, moments)?;
+    opened: &mut Opened<DataFolder<S>>,
+    store_at: &F,
+) -> Result<(), Fail>
+    requires { F.IsAlwaysCallable store_at.now }
+{
+    for at in 0..3usize {
+        let store = store_at(at)?;
         push(alloc, opened, store)?;
     }
     Ok(())
@@ -134,15 +135,30 @@ fn begun<F: SaveCopy + Send + Drop, R: Threads + Sync>(
     }
 }
 
-/// The folders of a start that have this, opened.
-fn opened_of(
+/// The folders of a start whose stores these are, opened.
+fn opened_of<S: Store + Drop, F: Fn(usize) -> Result<Option<S>, Fail>>(
+    alloc: Global,
+    store_at: &F,
+) -> Result<Opened<DataFolder<S>>, Fail>
+    requires { F.IsAlwaysCallable store_at.now }
+{
+    let mut opened = Opened::new(alloc, 7);
+    push_each(alloc, &mut opened, store_at)?;
+    Ok(opened)
+}
+
+/// From which save a start goes on with folders whose stores these are.
+fn start_with<S: Store + Send + Drop, F: Fn(usize) -> Result<Option<S>, Fail>, R: Threads + Sync>(
+    rt: &R,
     alloc: Global,
     moments: &[Moment],
-    row: &[Has],
-) -> Result<Opened<TestFolder>, Fail> {
-    let mut opened = Opened::new(alloc, 7);
-    push_each(alloc, &mut opened, row, moments)?;
-    Ok(opened)
+    store_at: &F,
+    counts: &FolderCounts,
+) -> Result<Result<usize, FoldersFault>, Fail>
+    requires { F.IsAlwaysCallable store_at.now }
+{
+    let opened = opened_of(alloc, store_at)?;
+    Ok(begun(rt, alloc, opened, moments, counts))
 }
 
 /// From which save a start goes on whose folders have this.
@@ -150,18 +166,20 @@ fn start<R: Threads + Sync>(
     rt: &R,
     alloc: Global,
     moments: &[Moment],
-    row: &[Has],
+    row: &[Has; 3],
     counts: &FolderCounts,
 ) -> Result<Result<usize, FoldersFault>, Fail> {
-    let opened = opened_of(alloc, moments, row)?;
-    Ok(begun(rt, alloc, opened, moments, counts))
+    let store_at = |at: usize| -> Result<Option<TestStore>, Fail> {
+        store_of(alloc, at, row[at % 3], moments)
+    };
+    start_with(rt, alloc, moments, &store_at, counts)
 }
 
 fn check_row<R: Threads + Sync + Abort>(
     rt: &R,
     alloc: Global,
     moments: &[Moment],
-    row: &[Has],
+    row: &[Has; 3],
     expected: Result<usize, FoldersFault>,
 ) -> Result<(), Fail> {
     let begun = start(rt, alloc, moments, row, &FolderCounts::none(alloc))?;

@@ -277,12 +277,7 @@ pub fn few_moments<R: Threads + Wait + Sync + Clock>(
     rt: &R,
     alloc: Global,
 ) -> Result<Vec<Moment>, Fault> {
-    let steps = [
-        Step::Note,
-        Step::Come,
-        Step::Note,
-        Step::Ask(FEW_ITEMS, 0),
-    ];
+    let steps = [Step::Note, Step::Come, Step::Note, Step::Ask(FEW_ITEMS, 0)];
     moments_of(rt, alloc, 0, &steps)
 }
 
