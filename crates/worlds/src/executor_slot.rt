@@ -9,7 +9,7 @@ use crate::kept_node::{KeptNode, KeptSlot};
 use crate::slot::Slot;
 use crate::slots::{crash, end, lose, put, taken};
 use decrees::Letter;
-use exec_lines::{Body, ExecutorRecord, Input};
+use exec_lines::{Body, Errand, ExecutorRecord, Input};
 use exec_node::{ExecNode, unfit_input_changes_nothing};
 use keeper::MemKeeper;
 use proto::Fault;
@@ -183,6 +183,14 @@ impl ExecutorSlot {
     {
         if let Slot::Up(node) = &mut self.slot {
             node.keeper().fail_next();
+        }
+    }
+
+    /// What is to be executed elsewhere, once.
+    pub fn take_errand(&mut self) -> Option<Errand> {
+        match &mut self.slot {
+            Slot::Up(node) => node.take_errand(),
+            _ => None,
         }
     }
 
