@@ -26,7 +26,7 @@ use std::{io, mem};
 const WAKER: Token = Token(usize::MAX);
 
 /// So many events are taken in one wait, at most.
-const MOST_EVENTS: usize = 1024;
+const MOST_EVENTS: usize = 16;
 
 /// So many connections of each listener are accepted before the sockets are visited.
 const MOST_ACCEPTS: usize = 64;
